@@ -1,0 +1,180 @@
+-- The text of a night is the text of `jiff`'s date with that day number, and what reads as a night is what `jiff` reads.
+use Rattle.std.proofs.Common.{◌≡◌, ℕ, zero, suc, ◌+◌, ◌-◌, ◌*◌, ◌/◌, ◌%◌, ◌<◌, ◌≤◌, Bool, true, false, cond, ◌==◌, List, [], ◌∷◌, ◌++◌, refl, sym, ap, subst, ◌∙◌, arith, ℤ, pos, Option, Some, None, Ok, Err}
+use Rattle.std.proofs.lemmas.Bool.Decides.{nat_tests}
+use Rattle.jiff_core.specs.declared.civil.date.Date.{Date}
+use Rattle.jiff_core.specs.declared.error.Error.{Error}
+use Rattle.jiff_core.specs.Date.{epoch_day}
+use Rattle.jiff_core.specs.Calendar.{is_leap_year, days_in_month, days_of_months, day_count, days_from_civil}
+use Rattle.jiff_core.proofs.SignedLemmas.{signed_arith}
+use Rattle.jiff_core.proofs.MarchLemmas.{days_of_years-march_days}
+use Rattle.jiff_core.proofs.CalendarLemmas.{days_from_civil-day_count}
+use Rattle.jiff_core.proofs.DateLemmas.{epoch_day_injective, epoch_day_same}
+use Rattle.jiff_fmt.specs.Text.{pad2, year_text, date_text}
+use Rattle.jiff_fmt.specs.Temporal.{parse_date, date_parts}
+use Rattle.jiff_fmt.proofs.RoundTrip.{parse_date-date_text}
+use Rattle.allotment.specs.Limits.{first_night, is_night}
+use Rattle.allotment.specs.Nights.{year_of, days_before, months_if, months, days_of, month_and_day, night_text, night_in}
+use Rattle.allotment.proofs.NightLemmas.{is_civil, night_range, night_in-night_text, night_text-night_in}
+
+-- the year y from 2000 on, as `jiff` counts
+abbrev year_at : ℕ → ℤ
+year_at y = pos (2000 + y)
+
+-- in these hundred years each fourth is a leap year
+leap_of : (y : ℕ) → y ≤ 99 → is_leap_year (year_at y) ≡ (y % 4 == 0)
+leap_of y within = grind (arith, nat_tests)
+
+-- each month is as long as `jiff` says
+month_days : (y : ℤ) (b : Bool) (j : ℕ) → j < 12 → is_leap_year y ≡ b
+    → days_of (suc j) (months_if b) ≡ days_of j (months_if b) + days_in_month y (suc j)
+month_days y b zero l e = refl
+month_days y true (suc zero) l e = rw e refl
+month_days y false (suc zero) l e = rw e refl
+month_days y b (suc (suc zero)) l e = grind arith
+month_days y b (suc (suc (suc zero))) l e = grind arith
+month_days y b (suc (suc (suc (suc zero)))) l e = grind arith
+month_days y b (suc (suc (suc (suc (suc zero))))) l e = grind arith
+month_days y b (suc (suc (suc (suc (suc (suc zero)))))) l e = grind arith
+month_days y b (suc (suc (suc (suc (suc (suc (suc zero))))))) l e = grind arith
+month_days y b (suc (suc (suc (suc (suc (suc (suc (suc zero)))))))) l e = grind arith
+month_days y b (suc (suc (suc (suc (suc (suc (suc (suc (suc zero))))))))) l e = grind arith
+month_days y b (suc (suc (suc (suc (suc (suc (suc (suc (suc (suc zero)))))))))) l e = grind arith
+month_days y b (suc (suc (suc (suc (suc (suc (suc (suc (suc (suc (suc zero))))))))))) l e = grind arith
+month_days y b (suc (suc (suc (suc (suc (suc (suc (suc (suc (suc (suc (suc j)))))))))))) l e = absurd (omega arith)
+
+-- so are the first so many of them together
+months_days : (y : ℤ) (b : Bool) (j : ℕ) → j ≤ 12 → is_leap_year y ≡ b → days_of_months y j ≡ days_of j (months_if b)
+unfolding days_of_months
+months_days y b zero l e = refl
+months_days y b (suc j) l e = omega (arith, months_days y b j (omega arith) e, month_days y b j (omega arith) e)
+
+-- the leap days before a year: `jiff` counts from a March, and the year's own leap day comes after its start
+leap_count : (y : ℕ) → y ≤ 99 → cond (is_leap_year (pos (2000 + y + 10000))) 1 0 + (y + 3) / 4 ≡ y / 4 + 1
+leap_count y within = grind (arith, nat_tests)
+
+-- the count of days that `jiff` makes for a date in these years
+count_of : (y m d over : ℕ) → y ≤ 99 → 1 ≤ m → m ≤ 12 → 1 ≤ d → days_of (m - 1) (months y) + d ≡ over + 1
+    → day_count (year_at y) m d ≡ 4382910 + 365 * y + (y + 3) / 4 + over
+unfolding day_count
+count_of y m d over within low high first sums =
+    let n = 2000 + y + 10000 in
+    let years = days_of_years-march_days n in
+    let before = months_days (year_at y) (y % 4 == 0) (m - 1) (omega arith) (leap_of y within) in
+    let leap = leap_count y within in
+    omega (arith, signed_arith, years, before, leap)
+
+-- so a date in these years has the day number that is counted here
+night_day : (y m d over n : ℕ) → y ≤ 99 → 1 ≤ m → m ≤ 12 → 1 ≤ d → days_of (m - 1) (months y) + d ≡ over + 1
+    → n ≡ first_night + days_before y + over → days_from_civil (year_at y) m d ≡ pos n
+night_day y m d over n within low high first sums is =
+    omega (arith, signed_arith, days_from_civil-day_count (year_at y) m d, count_of y m d over within low high first sums)
+
+-- the date of a night has its day number and its text
+pub record IsDateOf (n : ℕ) (d : Date) : Type 0 where
+  pub day : epoch_day d ≡ pos n
+  pub shown : night_text n ≡ date_text d
+
+-- each night has such a date
+pub night_date : (n : ℕ) → is_night n ≡ true → (d : Date) × IsDateOf n d
+night_date n e =
+    let range = night_range n e in
+    let low : first_night ≤ n = range.0 in
+    let k : ℕ = n - first_night in
+    let c = is_civil k (omega (arith, range.1)) in
+    let y = year_of k in
+    let over = k - days_before y in
+    let r = month_and_day 1 (months y) over in
+    let m_low : 1 ≤ r.0 = c.place.from in
+    let m_high : r.0 ≤ 12 = omega (arith, c.place.to) in
+    let next : suc (r.0 - 1) ≡ r.0 = omega arith in
+    let is_now : n ≡ first_night + days_before y + over = omega (arith, c.starts) in
+    let month = month_days (year_at y) (y % 4 == 0) (r.0 - 1) (omega arith) (leap_of y c.year) in
+    let in_month : r.1 ≤ days_in_month (year_at y) (suc (r.0 - 1)) = omega (arith, c.place.sums, c.place.before_next, month) in (
+      record {
+        year = year_at y;
+        month = r.0;
+        day = r.1;
+        year_in = (omega (arith, signed_arith, c.year), omega (arith, signed_arith, c.year));
+        month_in = (m_low, m_high);
+        day_in = (c.place.day, subst (λ z. r.1 ≤ days_in_month (year_at y) z) next in_month);
+      },
+      record { day = night_day y r.0 r.1 over n c.year m_low m_high c.place.day c.place.sums is_now; shown = refl },
+    )
+
+-- dates of the same year, month and day have the same text
+date_text-same : (a b : Date) → a.year ≡ b.year → a.month ≡ b.month → a.day ≡ b.day → date_text a ≡ date_text b
+date_text-same a b year month day =
+    ap (λ z. year_text z ++ 45 ∷ [] ++ pad2 a.month ++ 45 ∷ [] ++ pad2 a.day) year
+    ∙ ap (λ z. year_text b.year ++ 45 ∷ [] ++ pad2 z ++ 45 ∷ [] ++ pad2 a.day) month
+    ∙ ap (λ z. year_text b.year ++ 45 ∷ [] ++ pad2 b.month ++ 45 ∷ [] ++ pad2 z) day
+
+-- a date with the day number of a night has the text of that night
+pub night_text-date_text : (d : Date) (n : ℕ) → is_night n ≡ true → epoch_day d ≡ pos n → night_text n ≡ date_text d
+night_text-date_text d n e is =
+    let here = night_date n e in
+    let one = epoch_day_injective here.0 d (here.1.day ∙ sym is) in
+    here.1.shown ∙ date_text-same here.0 d one.0 one.1 one.2
+
+-- What `jiff` reads, and what is read here.
+
+-- the text of a date that has a night's day number is read as that night
+pub night_of_date : (t : List ℕ) (d : Date) (n : ℕ) → date_text d ≡ t → epoch_day d ≡ pos n → is_night n ≡ true
+    → night_in t ≡ Some n
+night_of_date t d n shown day e =
+    ap night_in (sym shown ∙ sym (night_text-date_text d n e day)) ∙ night_in-night_text n e
+
+-- a text that is read as a night is that of a date which `jiff` reads
+pub record Comes (t : List ℕ) (n : ℕ) : Type 0 where
+  pub date : Date
+  pub night : is_night n ≡ true
+  pub day : epoch_day date ≡ pos n
+  pub text : t ≡ date_text date
+  pub parsed : parse_date t ≡ Ok (date_parts date)
+
+-- each such text is
+pub comes_from : (t : List ℕ) (n : ℕ) → night_in t ≡ Some n → Comes t n
+comes_from t n e =
+    let both = night_text-night_in t n e in
+    let d = night_date n both.0 in
+    let spelled : t ≡ date_text d.0 = sym both.1 ∙ d.1.shown in
+    record {
+      date = d.0;
+      night = both.0;
+      day = d.1.day;
+      text = spelled;
+      parsed = ap parse_date spelled ∙ parse_date-date_text d.0;
+    }
+
+-- where a text is not read as any night, it is not read
+none_if : (o : Option ℕ) → ((n : ℕ) → o ≡ Some n → ⊥) → o ≡ None
+none_if None h = refl
+none_if (Some n) h = absurd (h n refl)
+
+-- what `jiff` does not read is not read
+pub unread : (t : List ℕ) (e : Error) → Err e ≡ parse_date t → night_in t ≡ None
+unread t e h =
+    none_if (night_in t)
+    (λ n is. let c = comes_from t n is in let p = c.parsed in let no_error : Err e ≡ Ok (date_parts c.date) = h ∙ p in cc)
+
+-- what it reads is the date that the text is of
+pub same_date : (t : List ℕ) (found : Date) (n : ℕ) → Ok (date_parts found) ≡ parse_date t → Comes t n
+    → (epoch_day found ≡ pos n) × (date_text found ≡ t)
+same_date t found n h c =
+    let both = h ∙ c.parsed in
+    let parts : date_parts found ≡ date_parts c.date = cc in
+    let year : found.year ≡ c.date.year = ap (λ z. z.year) parts in
+    let month : found.month ≡ c.date.month = ap (λ z. z.month) parts in
+    let day : found.day ≡ c.date.day = ap (λ z. z.day) parts in
+    (epoch_day_same found c.date year month day ∙ c.day, date_text-same found c.date year month day ∙ sym c.text)
+
+-- a date that is out of range is not read as a night
+pub out_of_range : (t : List ℕ) (found : Date) → Ok (date_parts found) ≡ parse_date t
+    → ((n : ℕ) → epoch_day found ≡ pos n → is_night n ≡ true → ⊥) → night_in t ≡ None
+out_of_range t found h far =
+    none_if (night_in t) (λ n is. let c = comes_from t n is in far n (same_date t found n h c).0 c.night)
+
+-- another spelling of a date is not read as a night
+pub other_text : (t : List ℕ) (found : Date) → Ok (date_parts found) ≡ parse_date t → (date_text found ≡ t → ⊥)
+    → night_in t ≡ None
+other_text t found h apart =
+    none_if (night_in t) (λ n is. let c = comes_from t n is in apart (same_date t found n h c).1)

@@ -1,0 +1,9 @@
+pub mod TestLemmas
+pub mod ShortLemmas
+pub mod CodeLemmas
+pub mod NightLemmas
+pub mod JiffLemmas
+pub mod MakingLemmas
+pub mod RangeLemmas
+pub mod CutLemmas
+pub mod CellLemmas

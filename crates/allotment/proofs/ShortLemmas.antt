@@ -1,0 +1,43 @@
+-- Texts of ASCII that lie in place.
+use Rattle.std.proofs.Common.{◌≡◌, ℕ, ◌≤◌, ◌<◌, ◌++◌, true, List, length, take, drop, Decides, refl, sym, ap, ◌∙◌, arith, length-append, length-drop}
+use Rattle.std.specs.Prelude.{replicate, nat_lt, nat_le, Some}
+use Rattle.std.specs.Str.{IsAscii, IsUtf8}
+use Rattle.std.proofs.Math.Seq.{take-append_seam, drop-append_seam}
+use Rattle.std.proofs.lemmas.List.{drop-replicate, length-replicate}
+use Rattle.std.proofs.lemmas.Bool.{le-leb}
+use Rattle.std.proofs.lemmas.Bool.Decides.{Decides-by_and, Decides-like, Decides-ltb}
+use Rattle.std.proofs.lemmas.Str.{IsUtf8-from_ascii}
+use Rattle.std.proofs.lemmas.Str.Ascii.{IsAscii-from_all, All-from_ascii}
+use Rattle.allotment.specs.Short.{is_ascii, is_short, IsPadded}
+use Rattle.allotment.specs.Texts.{keep_if}
+use Rattle.allotment.proofs.TestLemmas.{and_make, keep_if_yes}
+
+-- the test of a text says whether each byte is ASCII
+pub is_ascii-Decides : (text : List ℕ) → Decides (is_ascii text) (IsAscii text)
+is_ascii-Decides text =
+    Decides-like (is_ascii text) (IsAscii-from_all text) (All-from_ascii text)
+    (Decides-by_and (λ byte. nat_lt byte 128) (λ byte. byte < 128) is_ascii (λ byte. Decides-ltb byte 128) refl (λ _ _. refl) text)
+
+-- ASCII is UTF-8
+pub is_utf8 : (text : List ℕ) → is_ascii text ≡ true → IsUtf8 text
+is_utf8 text e = IsUtf8-from_ascii text ((is_ascii-Decides text).0 e)
+
+-- a text that was written over the first of so many zeros is padded by the others
+pub is_padded : (most : ℕ) (text kept : List ℕ) → kept ≡ text → length text ≤ most → IsAscii text
+    → IsPadded most (length text) (kept ++ drop (length text) (replicate most 0))
+is_padded most text kept e within ascii =
+    let zeros : List ℕ = drop (length text) (replicate most 0) in
+    rw e (record {
+      within = within;
+      whole = simp (length-append, length-drop, length-replicate) (omega arith);
+      zeros = drop-append_seam text zeros ∙ drop-replicate (length text) most 0;
+      ascii = ap is_ascii (take-append_seam text zeros) ∙ ((is_ascii-Decides text).1 ascii);
+    })
+
+-- and it is the text that was asked for
+pub keep_if-is_short : (most : ℕ) (text kept rest : List ℕ) → kept ≡ text → length text ≤ most → IsAscii text
+    → Some (take (length text) (kept ++ rest)) ≡ keep_if (is_short most) text
+keep_if-is_short most text kept rest e within ascii =
+    let short = and_make (nat_le (length text) most) (is_ascii text) (le-leb (length text) most within) ((is_ascii-Decides text).1 ascii) in
+    ap (λ front. Some (take (length text) (front ++ rest))) e ∙ ap Some (take-append_seam text rest)
+    ∙ sym (keep_if_yes (is_short most) text short)

@@ -1,0 +1,9 @@
+pub mod Want
+pub mod Cells
+pub mod Limits
+pub mod Making
+pub mod Nights
+pub mod Places
+pub mod Rows
+pub mod Short
+pub mod Texts

@@ -1,0 +1,34 @@
+//! What suppliers allot: cells, wants, and the places of one cell.
+//!
+//! A *cell* is one night of a supplier's product; a *want* is so many places of a product for some nights in a row.
+//! It promises that every value keeps its limits; that a text is read exactly where it is the one way in which its
+//! value is written; that `Want::new` tells the first fault in the order of `Bad`; that `Want::cells` gives a cell for
+//! each night of the want; and that `fits`, `take`, `give` and `set` are the sums on one cell.
+//!
+//! Words: *allotted* is what the supplier gave, *held* what journeys have taken, *free* the rest.
+#![tactic(auto)]
+
+mod cells;
+mod codes;
+mod cuts;
+mod faults;
+mod kinds;
+mod nights;
+mod places;
+mod shorts;
+mod sums;
+#[cfg(test)]
+mod tests;
+mod want_cells;
+mod wants;
+
+pub use cells::{Cell, Row};
+pub use codes::Code;
+pub use faults::Bad;
+pub use kinds::Kind;
+pub use nights::Night;
+pub use places::Held;
+pub use shorts::Short;
+pub use sums::{BelowHeld, fits, give, set, take};
+pub use want_cells::WantCells;
+pub use wants::Want;

@@ -1,0 +1,104 @@
+//! Short texts that lie in place, so that they are copied and take no memory.
+use std::marker::Model;
+use std::{fmt, str};
+
+/// A text of at most `N` bytes of ASCII. To a contract it is its bytes.
+#[derive(Clone, Copy)]
+pub struct Short<const N: usize> {
+    /// The text, and zeros behind it.
+    bytes: [u8; N],
+    /// How many bytes the text has.
+    len: usize,
+}
+
+impl<const N: usize> Model for Short<N> {
+    ghost use Rattle.std.specs.Prelude.{ℕ, List, length, take};
+    ghost use Rattle.allotment.specs.Short.{padded, IsPadded, padded-take, length_of};
+
+    ghost Value = { List ℕ };
+
+    ghost view = { λ a. take a.len a.bytes };
+
+    ghost invariant = { λ a. IsPadded N a.len a.bytes };
+
+    ghost inverse = { λ text. record { bytes = padded N text; len = length text } };
+
+    ghost inverse_ok = { λ a h i. record {
+      bytes = padded-take N a.len a.bytes h i;
+      len = length_of N a.len a.bytes h i;
+    } };
+}
+
+impl<const N: usize> Short<N> {
+    ghost use Rattle.std.specs.Prelude.{◌≡◌, ◌↔◌, [], length, IsTrue};
+    ghost use Rattle.allotment.specs.Short.{is_short};
+    ghost use Rattle.allotment.specs.Texts.{keep_if};
+
+    /// The text, where it has at most `N` bytes, all of ASCII.
+    pub fn new(text: &str) -> Option<Short<N>>
+        ensures { result ≡ keep_if (is_short N) text.now }
+    {
+        let given = text.as_bytes();
+        if given.len() > N || !given.is_ascii() {
+            return None;
+        }
+        let mut bytes = [0; N];
+        bytes[..given.len()].copy_from_slice(given);
+        Some(Short {
+            bytes,
+            len: given.len(),
+        })
+    }
+
+    /// The text.
+    pub fn as_str(&self) -> &str
+        ensures text { result.now ≡ self.now }
+        ensures limits { IsTrue (is_short N self.now) }
+    {
+        match str::from_utf8(&self.bytes[..self.len]) {
+            Ok(text) => text,
+            Err(_) => unreachable!(),
+        }
+    }
+
+    /// How many bytes the text has.
+    pub fn len(&self) -> usize
+        ensures { result ≡ length self.now }
+    {
+        self.len
+    }
+
+    /// Whether the text has no byte.
+    pub fn is_empty(&self) -> bool
+        ensures { IsTrue result ↔ self.now ≡ [] }
+    {
+        self.len == 0
+    }
+}
+
+impl<const N: usize> PartialEq for Short<N> {
+    ghost use Rattle.std.specs.Prelude.{bytes_eq};
+    ghost use Rattle.std.proofs.Common.{rules};
+    ghost use Rattle.std.specs.Cmp.Rules.{comparing};
+
+    ghost eq = { λ a b. bytes_eq a b };
+
+    ghost laws = { Prim.search (comparing, rules) };
+
+    fn eq(&self, other: &Short<N>) -> bool {
+        self.as_str() == other.as_str()
+    }
+}
+
+impl<const N: usize> Eq for Short<N> {
+    ghost use Rattle.std.proofs.Common.{rules};
+    ghost use Rattle.std.specs.Cmp.Rules.{comparing};
+
+    ghost laws = { Prim.search (comparing, rules) };
+}
+
+impl<const N: usize> fmt::Debug for Short<N> {
+    fn fmt<W: fmt::Write>(&self, f: &mut fmt::Formatter<W>) -> fmt::Result {
+        fmt::Debug::fmt(self.as_str(), f)
+    }
+}

@@ -1,0 +1,4 @@
+pub mod ByteLemmas
+pub mod LineLemmas
+pub mod AnswerLemmas
+pub mod ServeLemmas

@@ -1,0 +1,77 @@
+-- What a run over the lines of a reader did: what it wrote, and where it left the book.
+use Rattle.std.specs.Prelude.{◌≡◌, ◌⊎◌, ℕ, List, [], ◌∷◌, ◌++◌, length, take, Option}
+use Rattle.std.specs.Io.KnownBytes.{Appends}
+use Rattle.commands.specs.declared.faults.Fault.{Fault}
+use Rattle.commands.specs.declared.faults.Fault.TheVariants as fault
+use Rattle.ledger.specs.Answer.{State}
+use Rattle.cli.specs.Lines.{lines, answer_line, answer_lines, state_after_lines, ended, written}
+use Rattle.cli.specs.declared.faults.ServeFault.{ServeFault}
+use Rattle.cli.specs.declared.faults.ServeFault.TheVariants.{Memory, Store, Read, Write}
+
+-- the fault of a book, as one of the run
+abbrev pub served_fault : Fault → ServeFault
+served_fault fault.Memory = Memory
+served_fault fault.Store = Store
+
+-- what a writer held and holds, for which states a book stands, and for which two of them a stop may
+-- leave it
+pub record Scene : Type 1 where
+  pub held : Option (List ℕ)
+  pub holds : Option (List ℕ)
+  pub stands : State → Type 0
+  pub leaves : State → State → Type 0
+
+-- the same, in a row
+abbrev pub scene : Option (List ℕ) → Option (List ℕ) → (State → Type 0) → (State → State → Type 0)
+    → Scene
+scene held holds stands leaves =
+    record { held = held; holds = holds; stands = stands; leaves = leaves }
+
+-- these bytes were written behind what the writer held
+abbrev pub Wrote : Scene → List ℕ → Type 0
+Wrote x bytes = Appends x.held x.holds bytes
+
+-- a beginning of these bytes was written behind what the writer held
+abbrev pub WroteFront : Option (List ℕ) → Option (List ℕ) → List ℕ → Type 0
+WroteFront held holds bytes = (part : ℕ) × Appends held holds (take part bytes)
+
+-- the answers to these lines were written
+abbrev pub WroteAll : Scene → State → List (List ℕ) → Type 0
+WroteAll x s answered = Wrote x (written (answer_lines s answered))
+
+-- all lines of the input were answered, and the book stands where they lead
+pub record AnswersAll (x : Scene) (s : State) (input : List ℕ) (count : ℕ) : Type 0 where
+  pub sent : WroteAll x s (lines input)
+  pub left : x.stands (state_after_lines s (lines input))
+  pub counted : count ≡ length (lines input)
+
+-- there is a next line, and this holds of it
+abbrev pub ForNext : List (List ℕ) → (List ℕ → Type 0) → Type 0
+ForNext [] So = ⊥
+ForNext (line ∷ later) So = So line
+
+-- besides, a beginning of the answer to this line was written, and the book stands where it leads
+abbrev pub IsCut : Scene → State → List (List ℕ) → List ℕ → Type 0
+IsCut x s answered line =
+    let answer = answer_line (state_after_lines s answered) line in
+    (part : ℕ) × Wrote x (written (answer_lines s answered) ++ take part (ended answer.text))
+    × x.stands answer.after
+
+-- what each fault leaves, where these lines were answered and these come later
+abbrev pub Leaves : ServeFault → Scene → State → List (List ℕ) → List (List ℕ) → Type 0
+Leaves Read x s answered later = WroteAll x s answered × x.stands (state_after_lines s answered)
+Leaves Write x s answered later = ForNext later (IsCut x s answered)
+Leaves Memory x s answered later =
+    let t = state_after_lines s answered in
+    WroteAll x s answered
+    × (x.stands t ⊎ ForNext later (λ line. x.stands (answer_line t line).after))
+Leaves Store x s answered later =
+    let t = state_after_lines s answered in
+    WroteAll x s answered × ForNext later (λ line. x.leaves t (answer_line t line).after)
+
+-- the first lines of the input were answered, and then came a fault
+pub record AnswersSome (x : Scene) (s : State) (input : List ℕ) (fault : ServeFault) : Type 0 where
+  pub answered : List (List ℕ)
+  pub later : List (List ℕ)
+  pub cut : lines input ≡ answered ++ later
+  pub leaves : Leaves fault x s answered later

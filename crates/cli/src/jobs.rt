@@ -1,0 +1,29 @@
+//! The jobs of the program, and why there is none.
+ghost use Rattle.std.specs.Prelude.{◌≡◌};
+ghost use Rattle.cli.specs.declared.jobs.JobFault.TheVariants.{Memory};
+
+use std::alloc::AllocError;
+
+/// What the program is to do.
+#[derive(Debug, Drop)]
+pub enum Job {
+    /// Answer the lines of standard input, over this file.
+    Run { file: String },
+}
+
+/// Why the words are no job.
+#[derive(Debug, Drop)]
+pub enum JobFault {
+    /// They are refused, or ask for help; the text is for who wrote them.
+    Usage(String),
+    /// Memory ran out.
+    Memory,
+}
+
+impl From<AllocError> for JobFault {
+    ghost from_gives = { λ _ fault. fault ≡ Memory };
+
+    fn from(_error: AllocError) -> JobFault {
+        JobFault::Memory
+    }
+}

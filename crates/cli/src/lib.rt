@@ -1,0 +1,26 @@
+//! The program `desk`: the jobs that its words name, and the lines that it answers.
+//!
+//! `job` gives what the words of the command line ask for, by the rules of `clap`. `run_lines` answers
+//! the lines of a reader over a book: it writes the answers of all lines, in order, and nothing else.
+//! `End` is how the program ends: its exit status, and what it tells.
+#![tactic(auto)]
+
+mod answers;
+mod ends;
+mod faults;
+mod jobs;
+mod lines;
+mod outputs;
+mod programs;
+mod runs;
+#[cfg(test)]
+mod tests;
+mod unread;
+mod words;
+
+pub use ends::{End, ProgramFault};
+pub use faults::ServeFault;
+pub use jobs::{Job, JobFault};
+pub use programs::perform;
+pub use runs::run_lines;
+pub use words::job;

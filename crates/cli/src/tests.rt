@@ -1,0 +1,3 @@
+//! What no clause says: texts, values from outside, and what failing readers and writers do.
+mod ends;
+mod jobs;

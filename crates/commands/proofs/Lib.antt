@@ -1,0 +1,9 @@
+pub mod NameLemmas
+pub mod NumberLemmas
+pub mod StepLemmas
+pub mod ItemLemmas
+pub mod ReplyLemmas
+pub mod WordLemmas
+pub mod BlankLemmas
+pub mod LineLemmas
+pub mod OneLineLemmas

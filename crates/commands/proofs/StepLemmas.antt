@@ -1,0 +1,24 @@
+-- Where the text of a step and its option is cut. For the reader of steps.
+use Rattle.std.specs.Prelude.{◌≡◌, ℕ, List, decimal, Option, MatchOption, IsTrue}
+use Rattle.std.specs.Borrow.{Bor}
+use Rattle.std.proofs.Common.{arith}
+use Rattle.std.proofs.lemmas.Bool.{and_parts}
+use Rattle.std.proofs.lemmas.Str.Pattern.{IsSplitOnceResult, split_after}
+use Rattle.allotment.specs.Limits.{is_between}
+use Rattle.commands.specs.Readings.{is_step_pair, step_pair_text}
+use Rattle.commands.proofs.NumberLemmas.{between_parts, decimal_lacks}
+
+-- a step and an option keep their limits
+pub step_limits : (pair : ℕ × ℕ) → IsTrue (is_step_pair pair)
+    → IsTrue (is_between 1 24 pair.0) × IsTrue (is_between 1 8 pair.1)
+step_limits pair good = and_parts (is_between 1 24 pair.0) (is_between 1 8 pair.1) good
+
+-- the text of a step and an option is cut at its first dot into the two
+pub step_cut : (text : List ℕ) (r : Option (Bor (List ℕ) × Bor (List ℕ)))
+    → IsSplitOnceResult 46 text r
+    → (pair : ℕ × ℕ) → IsTrue (is_step_pair pair) → text ≡ step_pair_text pair
+    → MatchOption r ⊥ (λ x. (x.0.now ≡ decimal pair.0) × (x.1.now ≡ decimal pair.1))
+step_cut text r cut pair good spelled =
+    let limits = between_parts 1 24 pair.0 (step_limits pair good).0 in
+    split_after 46 text (decimal pair.0) (decimal pair.1) r cut (omega arith) spelled
+    (decimal_lacks 46 pair.0 (omega arith) (λ range. omega arith))

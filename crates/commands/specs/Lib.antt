@@ -1,0 +1,6 @@
+pub mod Request
+pub mod Asked
+pub mod Names
+pub mod Orders
+pub mod Texts
+pub mod Readings

@@ -1,0 +1,33 @@
+//! What is asked of the desk and what it answers: commands, asks, items, replies and refusals.
+//!
+//! A *command* may come with an *ask*: who asks, under which key, with which text. Without one
+//! the house asks. The answer is a *reply*; want of memory and trouble with the store are *faults*,
+//! and no replies. Each reply has one line, and an accepted one is found again by it.
+#![tactic(auto)]
+
+mod agents;
+mod asks;
+mod faults;
+mod items;
+mod keys;
+mod laws;
+mod names;
+mod orders;
+mod readings;
+mod refusals;
+mod replies;
+#[cfg(test)]
+mod tests;
+mod texts;
+mod words;
+
+pub use agents::Agent;
+pub use asks::Ask;
+pub use faults::Fault;
+pub use items::{Cause, Cursor, Item, Phase};
+pub use keys::Key;
+pub use laws::replies_have_one_line;
+pub use names::Name;
+pub use orders::Command;
+pub use refusals::{CsvCause, Refusal};
+pub use replies::Reply;

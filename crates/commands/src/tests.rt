@@ -1,0 +1,305 @@
+// Values from outside: the tables of refusals, items, states and lines in the formats.
+use crate::{
+    Agent, Ask, Cause, CsvCause, Cursor, Item, Key, Name, Phase, Refusal, Reply,
+    replies_have_one_line,
+};
+use plan::{BadPlan, PlanCause};
+use std::test::Fail;
+
+const BAD_NIGHT: BadPlan = BadPlan {
+    step: 2,
+    cause: PlanCause::Night,
+};
+
+const MANY_ROWS: Refusal = Refusal::BadCsv {
+    row: 2001,
+    cause: CsvCause::Many,
+};
+
+// the refusal, its number, its name, its line
+#[rattlefmt::skip]
+const REFUSALS: [(Refusal, u8, &str, &str); 20] = [
+    (Refusal::BadHead,                      1,  "BadHead",       "refused 1 BadHead"),
+    (Refusal::NoAgent,                      2,  "NoAgent",       "refused 2 NoAgent"),
+    (Refusal::NoKey,                        3,  "NoKey",         "refused 3 NoKey"),
+    (Refusal::BadBody,                      4,  "BadBody",       "refused 4 BadBody"),
+    (Refusal::BadPlan(BAD_NIGHT),           5,  "BadPlan",       "refused 5 BadPlan 2 night"),
+    (MANY_ROWS,                             6,  "BadCsv",        "refused 6 BadCsv 2001 many"),
+    (Refusal::UnknownPath,                  7,  "UnknownPath",   "refused 7 UnknownPath"),
+    (Refusal::WrongMethod,                  8,  "WrongMethod",   "refused 8 WrongMethod"),
+    (Refusal::NoJourney,                    9,  "NoJourney",     "refused 9 NoJourney"),
+    (Refusal::Finished,                     10, "Finished",      "refused 10 Finished"),
+    (Refusal::NoSavePoint,                  11, "NoSavePoint",   "refused 11 NoSavePoint"),
+    (Refusal::BelowHeld { row: 2 },         12, "BelowHeld",     "refused 12 BelowHeld 2"),
+    (Refusal::BatchDiffers,                 13, "BatchDiffers",  "refused 13 BatchDiffers"),
+    (Refusal::KeyReused,                    14, "KeyReused",     "refused 14 KeyReused"),
+    (Refusal::TooLarge,                     15, "TooLarge",      "refused 15 TooLarge"),
+    (Refusal::Limit,                        16, "Limit",         "refused 16 Limit"),
+    (Refusal::NoLength,                     19, "NoLength",      "refused 19 NoLength"),
+    (Refusal::UnknownSchema { version: 1 }, 20, "UnknownSchema", "refused 20 UnknownSchema 1"),
+    (Refusal::AlreadyNew,                   23, "AlreadyNew",    "refused 23 AlreadyNew"),
+    (Refusal::NoSave,                       28, "NoSave",        "refused 28 NoSave"),
+];
+
+#[test]
+fn a_refusal_is_known_by_number_name_and_line(rt: HostRuntime) -> Result<(), Fail> {
+    let alloc = rt.alloc();
+    for (refusal, number, name, line) in REFUSALS {
+        assert_eq!(rt; refusal.number(), number);
+        assert!(rt; refusal.name() == name, "{number}");
+        assert_eq!(rt; refusal.line(alloc)?.as_str(), line);
+        assert_eq!(rt; Reply::Refused(refusal).line(alloc)?.as_str(), line);
+        assert_eq!(rt; Reply::from_line(alloc, line)?, None, "{number}");
+    }
+    Ok(())
+}
+
+#[rattlefmt::skip]
+const CSV_CAUSES: [(CsvCause, &str); 10] = [
+    (CsvCause::Size,   "size"),
+    (CsvCause::Header, "header"),
+    (CsvCause::Many,   "many"),
+    (CsvCause::Shape,  "shape"),
+    (CsvCause::Kind,   "kind"),
+    (CsvCause::Code,   "code"),
+    (CsvCause::Night,  "night"),
+    (CsvCause::Places, "places"),
+    (CsvCause::Twice,  "twice"),
+    (CsvCause::Empty,  "empty"),
+];
+
+#[test]
+fn a_cause_is_one_word(rt: HostRuntime) {
+    for (cause, word) in CSV_CAUSES {
+        assert_eq!(rt; cause.word(), word);
+    }
+}
+
+#[rattlefmt::skip]
+const ITEMS: [(Item, &str); 9] = [
+    (Item::Transaction { step: 1, option: 1 },        "T1.1"),
+    (Item::Transaction { step: 24, option: 8 },       "T24.8"),
+    (Item::Compensation { step: 1, option: 1 },       "C1.1"),
+    (Item::Compensation { step: 12, option: 3 },      "C12.3"),
+    (Item::Turn { target: 0, cause: Cause::Stop },    "B0s"),
+    (Item::Turn { target: 1, cause: Cause::Refused }, "B1r"),
+    (Item::Turn { target: 24, cause: Cause::Asked },  "B24a"),
+    (Item::Save { position: 0 },                      "S0"),
+    (Item::Save { position: 24 },                     "S24"),
+];
+
+#[test]
+fn an_item_has_its_text(rt: HostRuntime) -> Result<(), Fail> {
+    for (item, text) in ITEMS {
+        assert_eq!(rt; item.text(rt.alloc())?.as_str(), text);
+    }
+    Ok(())
+}
+
+// the position, the phase, the state, its first word
+#[rattlefmt::skip]
+const STATES: [(usize, Phase, &str, &str); 6] = [
+    (0,  Phase::Run,     "run 0",        "run"),
+    (24, Phase::Run,     "run 24",       "run"),
+    (5,  Phase::Back(2), "back 5 to 2",  "back"),
+    (1,  Phase::Back(0), "back 1 to 0",  "back"),
+    (6,  Phase::Ended,   "ended 6",      "ended"),
+    (0,  Phase::Undone,  "undone 0",     "undone"),
+];
+
+#[test]
+fn a_state_tells_where_a_journey_is(rt: HostRuntime) -> Result<(), Fail> {
+    for (pos, phase, state, word) in STATES {
+        let cursor = Cursor {
+            pos,
+            phase,
+            used: 3,
+        };
+        assert_eq!(rt; cursor.state(rt.alloc())?.as_str(), state);
+        assert_eq!(rt; phase.word(), word);
+    }
+    Ok(())
+}
+
+#[rattlefmt::skip]
+const LINES: [&str; 18] = [
+    "loaded a 1",
+    "loaded b1 2",
+    "loaded -09-az 1999",
+    "loaded abcdefghijklmnopqrstuvwx 2000",
+    "journey 1 begun",
+    "journey 999999999999 begun",
+    "journey 1 T1.1 ended 1",
+    "journey 1 T1.1 run 1",
+    "journey 1 T24.8 run 24",
+    "journey 2 B0r back 1 to 0",
+    "journey 2 C1.1 undone 0",
+    "journey 1 B0r undone 0",
+    "journey 1 B1r run 1",
+    "journey 1 B2a back 5 to 2",
+    "journey 1 C5.1 back 4 to 2",
+    "journey 1 B24s back 24 to 24",
+    "journey 1 S2 run 2",
+    "journey 999999999999 S0 ended 24",
+];
+
+#[test]
+fn a_line_is_read_and_written_back(rt: HostRuntime) -> Result<(), Fail> {
+    let alloc = rt.alloc();
+    for line in LINES {
+        let reply = Reply::from_line(alloc, line)?.ok_or("no reply")?;
+        assert_eq!(rt; reply.line(alloc)?.as_str(), line);
+    }
+    Ok(())
+}
+
+#[rattlefmt::skip]
+const NO_LINES: [(&str, &str); 46] = [
+    ("nothing",                      ""),
+    ("a blank",                      " "),
+    ("one word",                     "loaded"),
+    ("no number of rows",            "loaded a"),
+    ("no name",                      "loaded  1"),
+    ("a capital in a name",          "loaded A 1"),
+    ("a name of 25 bytes",           "loaded abcdefghijklmnopqrstuvwxy 1"),
+    ("no row",                       "loaded a 0"),
+    ("2,001 rows",                   "loaded a 2001"),
+    ("a zero in front",              "loaded a 01"),
+    ("a sign",                       "loaded a +1"),
+    ("two blanks",                   "loaded a  1"),
+    ("a blank in front",             " loaded a 1"),
+    ("a blank behind",               "loaded a 1 "),
+    ("a line feed",                  "loaded a 1\n"),
+    ("a carriage return",            "loaded a 1\r"),
+    ("journey 0",                    "journey 0 begun"),
+    ("thirteen digits",              "journey 1000000000000 begun"),
+    ("a journey with a zero",        "journey 01 begun"),
+    ("a number past 64 bits",        "journey 18446744073709551617 begun"),
+    ("another word",                 "journey 1 began"),
+    ("a capital",                    "Journey 1 begun"),
+    ("an item and no state",         "journey 1 T1.1"),
+    ("step 0",                       "journey 1 T0.1 run 0"),
+    ("step 25",                      "journey 1 T25.1 run 1"),
+    ("option 0",                     "journey 1 T1.0 run 1"),
+    ("option 9",                     "journey 1 C1.9 run 1"),
+    ("a step with a zero",           "journey 1 T01.1 run 1"),
+    ("no dot",                       "journey 1 T11 run 1"),
+    ("two dots",                     "journey 1 C1.1.1 run 1"),
+    ("a small letter",               "journey 1 t1.1 run 1"),
+    ("target 25",                    "journey 1 B25a run 1"),
+    ("no cause",                     "journey 1 B1 run 1"),
+    ("another cause",                "journey 1 B1x run 1"),
+    ("no target",                    "journey 1 Bs run 1"),
+    ("save-point 25",                "journey 1 S25 run 1"),
+    ("no save-point",                "journey 1 S run 1"),
+    ("position 25",                  "journey 1 T1.1 run 25"),
+    ("another phase",                "journey 1 T1.1 runs 1"),
+    ("undone above 0",               "journey 1 C2.1 undone 1"),
+    ("undone at two zeros",          "journey 1 C1.1 undone 00"),
+    ("a target past the last step",  "journey 1 C1.1 back 1 to 25"),
+    ("back to nowhere",              "journey 1 C1.1 back 1"),
+    ("another word before a target", "journey 1 C1.1 back 1 at 0"),
+    ("a target with a zero",         "journey 1 C1.1 back 1 to 00"),
+    ("a word behind",                "journey 1 T1.1 ended 1 1"),
+];
+
+#[test]
+fn another_line_is_no_reply(rt: HostRuntime) -> Result<(), Fail> {
+    for (case, line) in NO_LINES {
+        assert_eq!(rt; Reply::from_line(rt.alloc(), line)?, None, "{case}");
+    }
+    Ok(())
+}
+
+#[test]
+fn a_reply_is_read_with_all_its_parts(rt: HostRuntime) -> Result<(), Fail> {
+    let alloc = rt.alloc();
+    let name = Name::parse("b1").ok_or("no name")?;
+    let loaded = Reply::Loaded { name, rows: 2 };
+    assert_eq!(rt; Reply::from_line(alloc, "loaded b1 2")?, Some(loaded));
+    let begun = Reply::Begun { id: 7 };
+    assert_eq!(rt; Reply::from_line(alloc, "journey 7 begun")?, Some(begun));
+    for (item, text) in ITEMS {
+        for (pos, phase, state, _) in STATES {
+            let line = format!(in alloc; "journey 3 {text} {state}")?;
+            let moved = Reply::Moved {
+                id: 3,
+                item,
+                pos,
+                phase,
+            };
+            assert_eq!(rt; moved.line(alloc)?.as_str(), line.as_str());
+            assert_eq!(rt;
+                Reply::from_line(alloc, line.as_str())?,
+                Some(moved),
+                "{line}"
+            );
+        }
+    }
+    replies_have_one_line();
+    Ok(())
+}
+
+// what is tried, the text, and whether it is a batch's name, an agent, a key
+#[rattlefmt::skip]
+const NAMES: [(&str, &str, bool, bool, bool); 16] = [
+    ("nothing",            "",                                  false, false, false),
+    ("one letter",         "a",                                 true,  true,  true),
+    ("the last ones",      "az09",                              true,  true,  true),
+    ("a dash",             "-",                                 true,  false, true),
+    ("capitals",           "AZ",                                false, false, true),
+    ("another sign",       "a_b",                               false, false, false),
+    ("a blank",            "a b",                               false, false, false),
+    ("beyond ASCII",       "é",                                 false, false, false),
+    ("bytes beside a-z",   "`{/:",                              false, false, false),
+    ("bytes beside A-Z",   "@[",                                false, false, false),
+    ("sixteen bytes",      "abcdefghijklmnop",                  true,  true,  true),
+    ("seventeen bytes",    "abcdefghijklmnopq",                 true,  false, true),
+    ("twenty-four bytes",  "abcdefghijklmnopqrstuvwx",          true,  false, true),
+    ("twenty-five bytes",  "abcdefghijklmnopqrstuvwxy",         false, false, true),
+    ("thirty-two bytes",   "abcdefghijklmnopqrstuvwxyzABCDEF",  false, false, true),
+    ("thirty-three bytes", "abcdefghijklmnopqrstuvwxyzABCDEFG", false, false, false),
+];
+
+#[test]
+fn names_agents_and_keys_have_their_forms(rt: HostRuntime) {
+    for (case, text, is_name, is_agent, is_key) in NAMES {
+        let name = Name::parse(text);
+        assert!(rt; name.is_some() == is_name, "{case}");
+        if let Some(name) = name {
+            assert!(rt; name.as_str() == text, "{case}");
+        }
+        let agent = Agent::parse(text);
+        assert!(rt; agent.is_some() == is_agent, "{case}");
+        if let Some(agent) = agent {
+            assert!(rt; agent.as_str() == text, "{case}");
+        }
+        let key = Key::parse(text);
+        assert!(rt; key.is_some() == is_key, "{case}");
+        if let Some(key) = key {
+            assert!(rt; key.as_str() == text, "{case}");
+        }
+    }
+}
+
+#[test]
+fn names_are_equal_where_their_texts_are(rt: HostRuntime) {
+    assert_eq!(rt; Name::parse("a-1"), Name::parse("a-1"));
+    assert!(rt; Name::parse("a-1") != Name::parse("a-2"));
+    assert_eq!(rt; Agent::parse("ann"), Agent::parse("ann"));
+    assert!(rt; Agent::parse("ann") != Agent::parse("anne"));
+    assert_eq!(rt; Key::parse("K"), Key::parse("K"));
+    assert!(rt; Key::parse("K") != Key::parse("k"));
+}
+
+#[test]
+fn an_ask_keeps_its_parts(rt: HostRuntime) -> Result<(), Fail> {
+    let house = Agent::house();
+    assert_eq!(rt; house.as_str(), "desk");
+    let key = Key::parse("k1").ok_or("no key")?;
+    let ask = Ask::new(house, key, Vec::from_slice(rt.alloc(), b"/journeys\n")?);
+    assert_eq!(rt; ask.agent(), house);
+    assert_eq!(rt; ask.key(), key);
+    assert_eq!(rt; ask.text(), b"/journeys\n".as_slice());
+    Ok(())
+}

@@ -1,0 +1,84 @@
+-- What a query on one table of the desk finds.
+use Rattle.std.proofs.Common.{◌≡◌, ◌≢◌, ◌⊎◌, inl, inr, ℕ, List, [], ◌∷◌, Some, None, Option, Ok, Err, Result, IsTrue, refl, sym, ap, subst, ◌∙◌}
+use Rattle.sqlite.specs.declared.types.Value.TheVariants.{Null}
+use Rattle.sqlite.specs.declared.error.Error.{Error}
+use Rattle.sqlite.specs.declared.error.Error.TheVariants.{QueryReturnedNoRows}
+use Rattle.sqlite.specs.Order.{Row}
+use Rattle.sqlite.specs.Query.{Query, IsAnswer}
+use Rattle.sqlite.specs.Program.{overlay}
+use Rattle.sqlite_schema.specs.declared.program.Program.{Program}
+use Rattle.sqlite.specs.Command.TheVariants.{Select}
+use Rattle.sqlite_trees.specs.declared.error.StoreError.{StoreError}
+use Rattle.sqlite_trees.specs.declared.error.StoreError.TheVariants.{OutOfMemory, Io, Corrupt, Full, Broken, Unstorable}
+use Rattle.sqlite.specs.Effect.{Database, RefusesToRead}
+use Rattle.sqlite.specs.Listing.{understood}
+use Rattle.sqlite.specs.State.{State, QueriesRow, FailsToQuery, FailsToShow, IsNotRun, Shown, IsUnchanged, store_error}
+use Rattle.sqlite.specs.Clock.{timed}
+use Rattle.sqlite.proofs.Callers.{command_of, first_as, reads_as}
+use Rattle.desk_sql.specs.Schema.{desk_schema}
+use Rattle.desk_sql.specs.Meanings.{select}
+use Rattle.desk_sql.proofs.Meaning.{MeansQuery}
+use Rattle.desk_sql.proofs.Selecting.{understood_bare, shown_same, row_same}
+
+not_store : (cause : StoreError) → store_error cause ≢ QueryReturnedNoRows
+not_store OutOfMemory e = cc
+not_store Io e = cc
+not_store Corrupt e = cc
+not_store Full e = cc
+not_store Broken e = cc
+not_store Unstorable e = cc
+
+-- a statement that was not run gives another error than that it found no row
+not_run : (old new : State) (text : List ℕ) (params : Row) (e : Error) → e ≡ QueryReturnedNoRows → ¬ IsNotRun old new text params e
+unfolding IsNotRun
+not_run old new text params e is (inl (inl h, _)) = let other = sym is ∙ h.2 in absurd cc
+not_run old new text params e is (inl (inr (c, known, inl h), _)) = let other = sym is ∙ h.1 in absurd cc
+not_run old new text params e is (inl (inr (c, known, inr (inl h)), _)) = let other = sym is ∙ h.1 in absurd cc
+not_run old new text params e is (inl (inr (c, known, inr (inr h)), _)) = let other = sym is ∙ h.1 in absurd cc
+not_run old new text params e is (inr h) = not_store h.0 (sym h.1 ∙ is)
+
+-- nor does a query that was stopped
+not_refused : (q : Program) (names : List (List ℕ)) (limit : Option ℕ) (db : Database) (params : Row) (e : Error)
+    → e ≡ QueryReturnedNoRows → ¬ RefusesToRead limit (Select q names) db params e
+not_refused q names limit db params e is (inl h) = let other = sym is ∙ h.0 in absurd cc
+not_refused q names limit db params e is (inr (inl h)) = let other = sym is ∙ h.0 in absurd cc
+not_refused q names limit db params e is (inr (inr h)) = let other = sym is ∙ h.0 in absurd cc
+
+module _ (text : List ℕ) (q : Query) (names : List (List ℕ)) (m : MeansQuery text q names) (params : Row) (old new : State)
+    (has : IsTrue old.is_open → old.now.schema ≡ desk_schema) where
+  abbrev program : Program
+  program = record { lets = []; body = q }
+
+  -- the row that was given begins an answer, and nothing has changed
+  pub first_row : (row : Row) → QueriesRow text params old new (Ok row)
+      → IsUnchanged old new × ((tail : List Row) × IsAnswer q (overlay old.now.trees []) params (row ∷ tail))
+  first_row row h =
+      let same = row_same text m.selects params old new row h in
+      let got = (first_as text params old new desk_schema (has same.0.was_open) (Select program names) m.is m.plain m.unlisted row h).1 in
+      (same, (got.0, got.1 Null))
+
+  -- the rows that were given are an answer, and nothing has changed
+  pub whole_answer : (rows : List Row) → Shown text params old new rows
+      → IsUnchanged old new × IsAnswer q (overlay old.now.trees []) params rows
+  whole_answer rows h =
+      let same = shown_same text m.selects params old new rows h in
+      (same, (reads_as text params old new desk_schema (has same.0.was_open) (Select program names) m.is m.plain m.unlisted rows h).answer Null)
+
+  no_fault : (e : Error) → e ≡ QueryReturnedNoRows → ¬ FailsToQuery text params old new e
+  unfolding FailsToQuery
+  no_fault e none (inl h) = not_run old new text params e none h
+  no_fault e none (inr h) =
+      let bare = understood_bare text m.selects old.now.schema h.0 h.1.is in
+      let full = timed params h.0.formats h.1.now in
+      let why = subst (λ r. FailsToShow old new text h.0 full e r) bare h.2 in
+      let known : h.0.command ≡ Select program names
+      = ap command_of (sym h.1.is ∙ ap (λ s. understood s text) (has why.3.0.was_open)) ∙ m.is in
+      not_refused program names old.step_limit why.0 full e none
+      (subst (λ k. RefusesToRead old.step_limit k why.0 full e) known why.2)
+
+  -- the answer has no row
+  pub no_row : (e : Error) → e ≡ QueryReturnedNoRows → QueriesRow text params old new (Err e)
+      → IsUnchanged old new × IsAnswer q (overlay old.now.trees []) params []
+  unfolding QueriesRow
+  no_row e none (inl h) = absurd (no_fault e none h)
+  no_row e none (inr h) = whole_answer [] h.1

@@ -1,0 +1,169 @@
+-- An edit of one table leaves all others as they are.
+use Rattle.std.proofs.Common.{◌≡◌, ◌≢◌, ◌==◌, if◌then◌else◌, eqb-true, ℕ, List, Bool, true, false, IsTrue, refl, sym, ap, subst, ◌∙◌}
+use Rattle.std.proofs.lemmas.Bool.{eqb-false}
+use Rattle.sqlite.specs.Order.{Row}
+use Rattle.sqlite.specs.Tree.{Trees, with_tree}
+use Rattle.sqlite.specs.Edit.{Edit, edited}
+use Rattle.sqlite.specs.State.{State}
+use Rattle.desk_sql.specs.Lists.{IsTableOf, IsNumbered}
+use Rattle.desk_sql.specs.Rows.{MetaRow, StockRow, BatchRow, JourneyRow, StepRow, AnswerRow, EntryRow, MarkRow, meta_row, stock_columns, batch_columns, journey_row, step_columns, answer_columns, entry_row, mark_columns, Tables, Shows}
+use Rattle.desk_sql.specs.Calls.{IsReady, MayRun, Makes}
+use Rattle.desk_sql.proofs.Writing.{Edits}
+
+-- an open transaction is ready
+pub ready_of : (s : State) (t : Tables) → MayRun s t → IsTrue s.is_open → IsReady s
+ready_of s t may here = record { inside = may.inside; schema = (may.sees here).schema }
+
+-- rows are shown alike where trees are the same
+pub shows_same : (f g : Trees) (t : Tables) → f 0 ≡ g 0 → f 1 ≡ g 1 → f 3 ≡ g 3 → f 6 ≡ g 6 → f 8 ≡ g 8 → f 11 ≡ g 11 → f 13 ≡ g 13
+    → f 14 ≡ g 14 → Shows g t → Shows f t
+shows_same f g t m s b j p a e k it = record {
+  meta = rw m it.meta;
+  stock = rw s it.stock;
+  batch = rw b it.batch;
+  journey = rw j it.journey;
+  step = rw p it.step;
+  answer = rw a it.answer;
+  entry2 = rw e it.entry2;
+  mark = rw k it.mark;
+}
+
+module _ (old new : State) (edit : Edit) (it : Edits old new edit) where
+  abbrev next : Trees
+  next = new.now.trees
+
+  abbrev db : Trees
+  db = old.now.trees
+
+  -- a tree of another table is as it was
+  tree_is : (t : ℕ) (rows : List Row) → edited db edit ≡ rows → (t ≢ edit.table.tree → next t ≡ db t)
+      → next t ≡ with_tree db edit.table.tree rows t
+  tree_is t rows is other = go (t == edit.table.tree) refl
+    where
+      go : (v : Bool) → (t == edit.table.tree) ≡ v → next t ≡ (if v then rows else db t)
+      go true e = ap next (eqb-true _ _ e) ∙ it.applies.rows ∙ is
+      go false e = other (eqb-false _ _ e)
+
+  shows_next : (rows : List Row) (after : Tables) → edited db edit ≡ rows → Shows (with_tree db edit.table.tree rows) after
+      → Shows next after
+  shows_next rows after is =
+      let o = it.applies.tables in
+      shows_same next (with_tree db edit.table.tree rows) after (tree_is 0 rows is o.0) (tree_is 1 rows is o.1.0)
+      (tree_is 3 rows is o.1.1.0) (tree_is 6 rows is o.1.1.1.0) (tree_is 8 rows is o.1.1.1.1.0)
+      (tree_is 11 rows is o.1.1.1.1.1.1.0) (tree_is 13 rows is o.1.1.1.1.1.1.1.0)
+      (tree_is 14 rows is o.1.1.1.1.1.1.1.1.0)
+
+  -- of all tables the one that was edited has these rows
+  pub makes_at : (tree : ℕ) (rows : List Row) (after : Tables) → edit.table.tree ≡ tree → edited db edit ≡ rows
+      → Shows (with_tree db tree rows) after → Makes old new after
+  makes_at tree rows after at is shown = record {
+    was_open = it.shown.was_open;
+    is_open = it.shown.is_open;
+    inside = it.shown.mode;
+    sees = record {
+      schema = it.schema;
+      rows = shows_next rows after is (subst (λ t. Shows (with_tree db t rows) after) (sym at) shown);
+    };
+    committed = it.shown.committed_is;
+  }
+
+-- One table has other rows.
+
+module _ (db : Trees) (t : Tables) (s : Shows db t) (rows : List Row) where
+  pub with_meta : (xs : List MetaRow) → IsNumbered (λ _. 1) meta_row rows xs → Shows (with_tree db 0 rows) (record t { meta = xs })
+  with_meta xs is = record {
+    meta = is;
+    stock = s.stock;
+    batch = s.batch;
+    journey = s.journey;
+    step = s.step;
+    answer = s.answer;
+    entry2 = s.entry2;
+    mark = s.mark;
+  }
+
+  pub with_stock : (xs : List StockRow) → IsTableOf stock_columns rows xs → Shows (with_tree db 1 rows) (record t { stock = xs })
+  with_stock xs is = record {
+    meta = s.meta;
+    stock = is;
+    batch = s.batch;
+    journey = s.journey;
+    step = s.step;
+    answer = s.answer;
+    entry2 = s.entry2;
+    mark = s.mark;
+  }
+
+  pub with_batch : (xs : List BatchRow) → IsTableOf batch_columns rows xs → Shows (with_tree db 3 rows) (record t { batch = xs })
+  with_batch xs is = record {
+    meta = s.meta;
+    stock = s.stock;
+    batch = is;
+    journey = s.journey;
+    step = s.step;
+    answer = s.answer;
+    entry2 = s.entry2;
+    mark = s.mark;
+  }
+
+  pub with_journey : (xs : List JourneyRow) → IsNumbered (λ (j : JourneyRow). j.id) journey_row rows xs
+      → Shows (with_tree db 6 rows) (record t { journey = xs })
+  with_journey xs is = record {
+    meta = s.meta;
+    stock = s.stock;
+    batch = s.batch;
+    journey = is;
+    step = s.step;
+    answer = s.answer;
+    entry2 = s.entry2;
+    mark = s.mark;
+  }
+
+  pub with_step : (xs : List StepRow) → IsTableOf step_columns rows xs → Shows (with_tree db 8 rows) (record t { step = xs })
+  with_step xs is = record {
+    meta = s.meta;
+    stock = s.stock;
+    batch = s.batch;
+    journey = s.journey;
+    step = is;
+    answer = s.answer;
+    entry2 = s.entry2;
+    mark = s.mark;
+  }
+
+  pub with_answer : (xs : List AnswerRow) → IsTableOf answer_columns rows xs → Shows (with_tree db 11 rows) (record t { answer = xs })
+  with_answer xs is = record {
+    meta = s.meta;
+    stock = s.stock;
+    batch = s.batch;
+    journey = s.journey;
+    step = s.step;
+    answer = is;
+    entry2 = s.entry2;
+    mark = s.mark;
+  }
+
+  pub with_entry2 : (xs : List EntryRow) → IsNumbered (λ (e : EntryRow). e.num) entry_row rows xs
+      → Shows (with_tree db 13 rows) (record t { entry2 = xs })
+  with_entry2 xs is = record {
+    meta = s.meta;
+    stock = s.stock;
+    batch = s.batch;
+    journey = s.journey;
+    step = s.step;
+    answer = s.answer;
+    entry2 = is;
+    mark = s.mark;
+  }
+
+  pub with_mark : (xs : List MarkRow) → IsTableOf mark_columns rows xs → Shows (with_tree db 14 rows) (record t { mark = xs })
+  with_mark xs is = record {
+    meta = s.meta;
+    stock = s.stock;
+    batch = s.batch;
+    journey = s.journey;
+    step = s.step;
+    answer = s.answer;
+    entry2 = s.entry2;
+    mark = is;
+  }

@@ -1,0 +1,110 @@
+-- The queries on journeys.
+use Rattle.std.proofs.Common.{◌≡◌, ◌⊎◌, inl, inr, ℕ, ◌<◌, ◌≤◌, ◌&&◌, pos, List, [], ◌∷◌, map, filter, Bool, true, false, Some, None, Option, IsTrue, refl, sym, ap, subst, ◌∙◌, arith}
+use Rattle.std.specs.Prelude.{string_bytes, option_map, nat_lt, nat_le}
+use Rattle.sqlite.specs.declared.types.Value.TheVariants.{Null, Text}
+use Rattle.sqlite.specs.Order.{Row}
+use Rattle.sqlite.specs.Term.{col}
+use Rattle.sqlite.specs.Query.{Output, IsAnswer}
+use Rattle.sqlite.specs.Program.{overlay}
+use Rattle.sqlite.specs.State.{State, IsUnchanged}
+use Rattle.sqlite_rules.specs.Lists.{Has}
+use Rattle.desk_sql.specs.Rows.{whole, Tables, JourneyRow, journey_row}
+use Rattle.desk_sql.specs.Calls.{MaySee}
+use Rattle.desk_sql.specs.Queries.{GivesRow}
+use Rattle.desk_sql.specs.Found.{journey_of, is_numbered, is_unfinished_after, FindsJourney, FindsUnfinished, shows_journey, nine_of}
+use Rattle.desk_sql.specs.Texts.{find_journey_text, first_unfinished_text}
+use Rattle.desk_sql.specs.Meanings.{find_journey_query, first_unfinished_query, journey_names, journey_project, rising}
+use Rattle.desk_sql.specs.declared.journeys.JourneyFound.{JourneyFound}
+use Rattle.desk_sql.proofs.Meaning.{find_journey_means, first_unfinished_means}
+use Rattle.desk_sql.proofs.Testing.{eq_whole, gt_whole, le_whole, and_true}
+use Rattle.desk_sql.proofs.Ordered.{whole_last}
+use Rattle.desk_sql.proofs.Reading.{passes}
+use Rattle.desk_sql.proofs.Finding.{first_row, no_row}
+use Rattle.desk_sql.proofs.Answering.{Answers, numbered_answers, first_of, none_of}
+
+abbrev shown : JourneyRow → Row
+shown j =
+    whole j.id ∷ whole j.num ∷ Text j.agent ∷ whole j.steps ∷ whole j.tries ∷ whole j.cursor.pos ∷ whole j.cursor.phase
+    ∷ whole j.cursor.target ∷ whole j.cursor.used ∷ []
+
+-- what was read of a journey's row is that journey
+same_journey : (f : JourneyFound) (j : JourneyRow) → shows_journey f ≡ shown j → journey_of f ≡ j
+same_journey f j e =
+    let id : f.id ≡ j.id = cc in
+    let num : f.num ≡ j.num = cc in
+    let agent : string_bytes f.agent ≡ j.agent = cc in
+    let steps : f.steps ≡ j.steps = cc in
+    let tries : f.tries ≡ j.tries = cc in
+    let at : f.cursor.pos ≡ j.cursor.pos = cc in
+    let phase : f.cursor.phase ≡ j.cursor.phase = cc in
+    let target : f.cursor.target ≡ j.cursor.target = cc in
+    let used : f.cursor.used ≡ j.cursor.used = cc in
+    rw (id, num, agent, steps, tries, at, phase, target, used) refl
+
+id_test : (id : ℕ) (j : JourneyRow) → passes find_journey_query.filter (whole id ∷ []) (journey_row j) ≡ is_numbered id j
+id_test id j = and_true _ ∙ eq_whole j.id id
+
+unfinished_test : (after : ℕ) (j : JourneyRow)
+    → passes first_unfinished_query.filter (whole after ∷ []) (journey_row j) ≡ is_unfinished_after after j
+unfinished_test after j = simp (gt_whole, le_whole) (simp and_true)
+
+abbrev plain_out : JourneyRow → Output
+plain_out j = ([], shown j)
+
+abbrev sorted_out : JourneyRow → Output
+sorted_out j = (whole j.id ∷ [], shown j)
+
+module _ (old new : State) (t : Tables) (sees : MaySee old t) where
+  journeys_found : (id : ℕ) (rows : List Row) → IsTrue old.is_open → IsAnswer find_journey_query (overlay old.now.trees []) (whole id ∷ []) rows
+      → Answers find_journey_query plain_out (filter (is_numbered id) t.journey) rows
+  journeys_found id rows here a =
+      numbered_answers 6 find_journey_query.filter journey_project [] old.now.trees (whole id ∷ []) rows a refl
+      (λ (j : JourneyRow). j.id) journey_row t.journey (sees here).rows.journey (is_numbered id) (id_test id)
+
+  pub finds_journey : (id : ℕ) (row : Row) (f : JourneyFound) → shows_journey f ≡ nine_of row
+      → GivesRow find_journey_text (whole id ∷ []) old new (Some row) → IsUnchanged old new × FindsJourney id t (Some f)
+  finds_journey id row f read given =
+      let got = first_row find_journey_text find_journey_query journey_names find_journey_means (whole id ∷ []) old new
+      (λ h. (sees h).schema) row given.1 in
+      let it = first_of find_journey_query plain_out (filter (is_numbered id) t.journey) row got.1.0
+      (journeys_found id (row ∷ got.1.0) given.0.0.was_open got.1.1) in
+      (given.0, subst (Has (filter (is_numbered id) t.journey)) (sym (same_journey f it.0 (read ∙ ap nine_of it.2))) it.1)
+
+  pub finds_no_journey : (id : ℕ) → GivesRow find_journey_text (whole id ∷ []) old new None
+      → IsUnchanged old new × FindsJourney id t None
+  finds_no_journey id given =
+      let got = no_row find_journey_text find_journey_query journey_names find_journey_means (whole id ∷ []) old new
+      (λ h. (sees h).schema) _ refl given.1 in
+      (given.0, none_of find_journey_query plain_out (filter (is_numbered id) t.journey) (journeys_found id [] given.0.0.was_open got.1))
+
+  unfinished_found : (after : ℕ) (rows : List Row) → IsTrue old.is_open
+      → IsAnswer first_unfinished_query (overlay old.now.trees []) (whole after ∷ []) rows
+      → Answers first_unfinished_query sorted_out (filter (is_unfinished_after after) t.journey) rows
+  unfinished_found after rows here a =
+      numbered_answers 6 first_unfinished_query.filter journey_project ((col 1 0, rising) ∷ []) old.now.trees (whole after ∷ []) rows a refl
+      (λ (j : JourneyRow). j.id) journey_row t.journey (sees here).rows.journey (is_unfinished_after after) (unfinished_test after)
+
+  pub finds_unfinished : (after : ℕ) (row : Row) (f : JourneyFound) → shows_journey f ≡ nine_of row
+      → GivesRow first_unfinished_text (whole after ∷ []) old new (Some row) → IsUnchanged old new × FindsUnfinished after t (Some f)
+  finds_unfinished after row f read given =
+      let some = filter (is_unfinished_after after) t.journey in
+      let got = first_row first_unfinished_text first_unfinished_query journey_names first_unfinished_means (whole after ∷ []) old new
+      (λ h. (sees h).schema) row given.1 in
+      let it = first_of first_unfinished_query sorted_out some row got.1.0
+      (unfinished_found after (row ∷ got.1.0) given.0.0.was_open got.1.1) in
+      let same = same_journey f it.0 (read ∙ ap nine_of it.2) in
+      let least : (y : JourneyRow) → Has some y → it.0.id ≤ y.id = λ y h. elim (it.3 y h) [
+        | inl is ↦ (let e = ap (λ (j : JourneyRow). j.id) is in omega (arith, e))
+        | inr up ↦ whole_last it.0.id y.id up
+      ] in
+      (given.0, subst (λ (j : JourneyRow). Has some j × ((y : JourneyRow) → Has some y → j.id ≤ y.id)) (sym same) (it.1, least))
+
+  pub finds_none_unfinished : (after : ℕ) → GivesRow first_unfinished_text (whole after ∷ []) old new None
+      → IsUnchanged old new × FindsUnfinished after t None
+  finds_none_unfinished after given =
+      let got = no_row first_unfinished_text first_unfinished_query journey_names first_unfinished_means (whole after ∷ []) old new
+      (λ h. (sees h).schema) _ refl given.1 in (
+        given.0,
+        none_of first_unfinished_query sorted_out (filter (is_unfinished_after after) t.journey)
+            (unfinished_found after [] given.0.0.was_open got.1),
+      )

@@ -1,0 +1,15 @@
+-- One row more was read.
+use Rattle.std.proofs.Common.{◌≡◌, ◌+◌, ◌<◌, ℕ, List, [], ◌∷◌, ◌++◌, map, length, get_or, take, refl, sym, ap, ◌∙◌}
+use Rattle.std.proofs.lemmas.List.{take_more}
+
+map-last : {A B : Type 0} (f : A → B) (xs : List A) (x : A) → map f (xs ++ x ∷ []) ≡ map f xs ++ f x ∷ []
+map-last f [] x = refl
+map-last f (y ∷ xs) x = ap (λ rest. f y ∷ rest) (map-last f xs x)
+
+-- what was read so far, and one row more
+pub one_more : {V R C : Type 0} (show : V → C) (read : R → C) (found : List V) (rows : List R) (i : ℕ) (v : V) (row : R)
+    → i < length rows → row ≡ get_or rows i row → map show found ≡ map read (take i rows) → show v ≡ read row
+    → map show (found ++ v ∷ []) ≡ map read (take (i + 1) rows)
+one_more show read found rows i v row low is so_far new =
+    map-last show found v ∙ ap (λ ys. ys ++ show v ∷ []) so_far ∙ ap (λ y. map read (take i rows) ++ y ∷ []) (new ∙ ap read is)
+    ∙ sym (map-last read (take i rows) (get_or rows i row)) ∙ ap (map read) (sym (take_more rows i row low))

@@ -1,0 +1,26 @@
+-- What ORDER BY says of columns that are numbers or texts.
+use Rattle.std.proofs.Common.{◌≡◌, ◌⊎◌, inl, inr, ℕ, ◌<◌, ◌≤◌, pos, List, Bool, true, false, Ordering, Less, Equal, Greater, is_lt, nat_cmp, refl, sym, ap, subst, ◌∙◌, arith}
+use Rattle.std.specs.Ordering.{ordering_then, int_cmp}
+use Rattle.std.proofs.lemmas.Int.{ints}
+use Rattle.std.proofs.lemmas.Bool.Decides.{nat_tests}
+use Rattle.sqlite.specs.Order.{value_cmp}
+use Rattle.sqlite_value.proofs.OrderLemmas.{value_cmp-Int, then-Equal}
+use Rattle.desk_sql.specs.Rows.{whole}
+
+number_then : (a b : ℕ) (rest : Ordering) → is_lt (ordering_then (int_cmp (pos b) (pos a)) rest) ≡ false
+    → (a < b) ⊎ ((a ≡ b) × (is_lt rest ≡ false))
+number_then a b rest e = go (int_cmp (pos b) (pos a)) refl e
+  where
+    go : (o : Ordering) → int_cmp (pos b) (pos a) ≡ o → is_lt (ordering_then o rest) ≡ false → (a < b) ⊎ ((a ≡ b) × (is_lt rest ≡ false))
+    go Less f g = absurd (cc)
+    go Equal f g = inr (grind (arith, ints, nat_tests, f), g)
+    go Greater f g = inl (grind (arith, ints, nat_tests, f))
+
+-- first by a number, then by the rest
+pub whole_then : (a b : ℕ) (rest : Ordering) → is_lt (ordering_then (value_cmp (whole b) (whole a)) rest) ≡ false
+    → (a < b) ⊎ ((a ≡ b) × (is_lt rest ≡ false))
+whole_then a b rest e = number_then a b rest (rw (value_cmp-Int (pos b) (pos a)) at e)
+
+-- by a number alone
+pub whole_last : (a b : ℕ) → is_lt (ordering_then (value_cmp (whole b) (whole a)) Equal) ≡ false → a ≤ b
+whole_last a b e = elim (whole_then a b Equal e) [ inl low ↦ omega (arith, low) | inr same ↦ omega (arith, same.0) ]

@@ -1,0 +1,215 @@
+-- The upsert of a cell.
+use Rattle.std.proofs.Common.{◌≡◌, ◌≢◌, ◌⊎◌, inl, inr, ◌<ℤ◌, ℕ, ℤ, ◌/◌, ◌==◌, ◌&&◌, ◌||◌, eq-eqb, eqb-true, pos, List, [], ◌∷◌, ◌++◌, length, map, Bool, true, false, if◌then◌else◌, Some, None, Ok, Err, Result, OnOk, is_eq, refl, sym, ap, ap₂, subst, ◌∙◌, arith}
+use Rattle.std.specs.Prelude.{bytes_eq}
+use Rattle.std.specs.List.{list_any}
+use Rattle.std.specs.Ordering.{int_cmp}
+use Rattle.std.proofs.lemmas.Int.{ints}
+use Rattle.std.proofs.lemmas.Bool.{cases_Bool, and_parts, and_from, false_from_ne_true}
+use Rattle.std.proofs.lemmas.Slice.Eq.{bytes_eq-Decides}
+use Rattle.sqlite.specs.declared.types.Value.TheVariants.{Null, Int, Text}
+use Rattle.sqlite.specs.declared.error.Error.{Error}
+use Rattle.sqlite.specs.Ops.{binary, is_true}
+use Rattle.sqlite_sql.specs.declared.ops.BinaryOp.TheVariants.{Compare}
+use Rattle.sqlite_sql.specs.declared.ops.CompareOp.TheVariants.{Eq}
+use Rattle.sqlite_value.specs.declared.keys.Collation.TheVariants.{Binary}
+use Rattle.sqlite_value.proofs.OrderLemmas.{value_cmp-Int}
+use Rattle.sqlite_value.proofs.KeyLemmas.{first_key-plain}
+use Rattle.sqlite.specs.Order.{Row, value_cmp}
+use Rattle.sqlite.specs.Tree.{Trees, put_row}
+use Rattle.sqlite.specs.Program.{overlay}
+use Rattle.sqlite.specs.Query.{IsAnswer}
+use Rattle.sqlite.specs.Cast.{cast_row}
+use Rattle.sqlite.specs.Edit.{Edit, edit_of, edited, next_rowid, with_rowid}
+use Rattle.sqlite.specs.Rowids.TheVariants.{Chosen, Given}
+use Rattle.sqlite.specs.Rows.{shown}
+use Rattle.sqlite.specs.State.{State, ExecutesInside}
+use Rattle.sqlite_rules.specs.Lists.{Has}
+use Rattle.sqlite_rules.specs.Keys.{AreConflicts, conflicts}
+use Rattle.sqlite_rules.specs.Edit.{are_fresh, left_by}
+use Rattle.sqlite_rules.specs.Calls.{ids_of}
+use Rattle.sqlite_rules.proofs.ListLemmas.{all_has, some_from}
+use Rattle.sqlite_rules.proofs.ProbeLemmas.{has_mapped, mapped_has}
+use Rattle.sqlite_trees.specs.Tree.{IsAscending, rowid}
+use Rattle.sqlite_trees.proofs.ListLemmas.{ascending_from_map}
+use Rattle.desk_sql.specs.Schema.{desk_schema, stock_at}
+use Rattle.desk_sql.specs.Lists.{numbered_row, IsTableOf, changed}
+use Rattle.desk_sql.specs.Rows.{whole, Tables, StockRow, stock_columns}
+use Rattle.desk_sql.specs.Calls.{MayRun, Makes}
+use Rattle.desk_sql.specs.Stock.{is_cell, with_places, put, puts_cell, AreApart}
+use Rattle.desk_sql.specs.Texts.{put_cell_text}
+use Rattle.desk_sql.specs.Meanings.{put_cell_query, put_cell_terms}
+use Rattle.desk_sql.proofs.Meaning.{put_cell_means}
+use Rattle.desk_sql.proofs.Writing.{cast_null}
+use Rattle.desk_sql.proofs.Inserting.{cast_int}
+use Rattle.desk_sql.proofs.Testing.{truth_is, eq_whole, eq_text, and_true, or_false}
+use Rattle.desk_sql.proofs.Framing.{ready_of, makes_at, with_stock}
+use Rattle.desk_sql.proofs.Tables.{id_of, value_of, appended, replaced_values}
+use Rattle.desk_sql.proofs.Updating.{updated}
+use Rattle.desk_sql.proofs.Upserting.{target, IsPut, Replaces, upserts, put_tree}
+
+-- Keys of cells.
+
+bytes_same : (a : List ℕ) → bytes_eq a a ≡ true
+bytes_same a = (bytes_eq-Decides a a).1 refl
+
+-- two rows of one cell have the same key
+record SameKey (a b : StockRow) : Type 0 where
+  pub kind : b.kind ≡ a.kind
+  pub supplier : b.supplier ≡ a.supplier
+  pub product : b.product ≡ a.product
+  pub night : b.night ≡ a.night
+
+key_of : (a b : StockRow) → is_cell a b ≡ true → SameKey a b
+key_of a b e =
+    let one = and_parts _ _ e in
+    let two = and_parts _ _ one.1 in
+    let three = and_parts _ _ two.1 in
+    record {
+      kind = eqb-true _ _ one.0;
+      supplier = (bytes_eq-Decides _ _).0 two.0;
+      product = (bytes_eq-Decides _ _).0 three.0;
+      night = eqb-true _ _ three.1;
+    }
+
+cell_of : (a b : StockRow) → SameKey a b → is_cell a b ≡ true
+cell_of a b k =
+    and_from _ _ (eq-eqb _ _ k.kind) (and_from _ _ ((bytes_eq-Decides _ _).1 k.supplier)
+    (and_from _ _ ((bytes_eq-Decides _ _).1 k.product) (eq-eqb _ _ k.night)))
+
+-- two rows of a third one's cell are of one cell
+both_cells : (s a b : StockRow) → is_cell s a ≡ true → is_cell s b ≡ true → is_cell a b ≡ true
+both_cells s a b e f =
+    let k = key_of s a e in
+    let l = key_of s b f in
+    cell_of a b (record {
+      kind = l.kind ∙ sym k.kind;
+      supplier = l.supplier ∙ sym k.supplier;
+      product = l.product ∙ sym k.product;
+      night = l.night ∙ sym k.night;
+    })
+
+-- Rows apart.
+
+-- where of two elements of a list the first is never apart from the second, they are one
+one_element : {X : Type 0} (R : X → X → Type 0) (xs : List X) (x y : X) → IsAscending R xs → Has xs x → Has xs y → ¬ R x y → ¬ R y x → x ≡ y
+one_element R [] x y up h g not_xy not_yx = absurd h
+one_element R (z ∷ xs) x y up (inl e) (inl f) not_xy not_yx = e ∙ sym f
+one_element R (z ∷ xs) x y up (inl e) (inr g) not_xy not_yx = absurd (not_xy (subst (λ w. R w y) (sym e) (all_has _ xs y up.0 g)))
+one_element R (z ∷ xs) x y up (inr h) (inl f) not_xy not_yx = absurd (not_yx (subst (λ w. R w x) (sym f) (all_has _ xs x up.0 h)))
+one_element R (z ∷ xs) x y up (inr h) (inr g) not_xy not_yx = one_element R xs x y up.1 h g not_xy not_yx
+
+same_changed : {X : Type 0} (p q : X → Bool) (g : X → X) (xs : List X) → ((x : X) → Has xs x → p x ≡ q x) → changed p g xs ≡ changed q g xs
+same_changed p q g [] same = refl
+same_changed p q g (x ∷ xs) same =
+    ap₂ ◌∷◌ (ap (λ b. if b then g x else x) (same x (inl refl))) (same_changed p q g xs (λ y h. same y (inr h)))
+
+has_none : (s : StockRow) (cells : List StockRow) → ((x : StockRow) → Has cells x → is_cell s x ≡ false) → list_any (is_cell s) cells ≡ false
+has_none s [] none = refl
+has_none s (c ∷ cells) none = rw (none c (inl refl)) (has_none s cells (λ x h. none x (inr h)))
+
+-- Conflicts.
+
+abbrev pub put_params : StockRow → Row
+put_params s = whole s.kind ∷ Text s.supplier ∷ Text s.product ∷ whole s.night ∷ whole s.allot ∷ whole s.free ∷ []
+
+-- a row conflicts where it is the cell's
+conflict_is : (id : ℤ) (s : StockRow) (p : ℤ × StockRow)
+    → conflicts (Some target) desk_schema.indexes (stock_at 1) (numbered_row stock_columns (id, s)) (numbered_row stock_columns p) ≡ is_cell s p.1
+conflict_is id s p = rw first_key-plain (simp (eq_whole, eq_text) (simp (and_true, or_false)))
+
+equal_id : (a b : ℤ) → is_true (binary (Compare Eq Binary) (Int a) (Int b)) ≡ is_eq (int_cmp a b)
+unfolding binary
+equal_id a b = truth_is _ ∙ ap is_eq (value_cmp-Int a b)
+
+id_eq : (a b : ℤ) → is_eq (int_cmp a b) ≡ true → a ≡ b
+id_eq a b e = grind (arith, ints, e)
+
+eq_id : (a b : ℤ) → a ≡ b → is_eq (int_cmp a b) ≡ true
+eq_id a b e = grind (arith, ints, e)
+
+source_is : (rows : List Row) (s : StockRow)
+    → with_rowid Chosen rows (cast_row (stock_at 1) (Null ∷ put_params s)) ≡ numbered_row stock_columns (next_rowid rows, s)
+source_is rows s = simp (cast_int, cast_null)
+
+module _ (db : Trees) (cells : List StockRow) (it : IsTableOf stock_columns (db 1) cells) (s : StockRow) where
+  abbrev new_row : Row
+  new_row = numbered_row stock_columns (next_rowid (db 1), s)
+
+  value_has : (p : ℤ × StockRow) → Has it.numbered p → Has cells p.1
+  value_has p h = subst (λ ys. Has ys p.1) (sym it.values_are) (mapped_has value_of it.numbered p h)
+
+  row_has : (p : ℤ × StockRow) → Has it.numbered p → Has (db 1) (numbered_row stock_columns p)
+  row_has p h = subst (λ rs. Has rs (numbered_row stock_columns p)) (sym it.rows_are) (mapped_has (numbered_row stock_columns) it.numbered p h)
+
+  put_new : edited db (edit_of db (stock_at 1) [] Given 0 (new_row ∷ [])) ≡ put_row new_row (db 1)
+  put_new = simp (cast_int, cast_null)
+
+  module _ (apart : IsAscending (λ (a b : StockRow). is_cell a b ≡ false) cells) (q : ℤ × StockRow) (there : Has it.numbered q)
+      (here : is_cell s q.1 ≡ true) where
+    -- the row of the cell is the one under this rowid
+    one_row : (p : ℤ × StockRow) → Has it.numbered p → is_eq (int_cmp p.0 q.0) ≡ is_cell s p.1
+    one_row p h = elim (cases_Bool (is_cell s p.1)) [
+      | inl e ↦ (
+          let pairs = ascending_from_map (λ (a b : StockRow). is_cell a b ≡ false) value_of it.numbered
+          (subst (λ ys. IsAscending (λ (a b : StockRow). is_cell a b ≡ false) ys) it.values_are apart) in
+          let same = one_element _ it.numbered p q pairs h there
+          (λ off. let on = both_cells s p.1 q.1 e here in cc) (λ off. let on = both_cells s q.1 p.1 here e in cc) in
+          eq_id p.0 q.0 (ap id_of same) ∙ sym e)
+      | inr e ↦ false_from_ne_true (is_eq (int_cmp p.0 q.0)) (λ tied.
+          let at = id_eq p.0 q.0 tied in
+          let same = one_element _ it.numbered p q it.rise h there (λ low. omega (arith, ints, low, at)) (λ low. omega (arith, ints, low, at)) in
+          let on : is_cell s p.1 ≡ true = ap (λ (x : ℤ × StockRow). is_cell s x.1) same ∙ here in cc) ∙ sym e
+    ]
+
+    put_there : (rows : List Row) → IsAnswer put_cell_query (overlay db []) (put_params s ++ Int q.0 ∷ shown (stock_at 1) new_row) rows
+        → are_fresh (left_by db (edit_of db (stock_at 1) (ids_of rows) Given 1 rows)) (edit_of db (stock_at 1) (ids_of rows) Given 1 rows).news ≡ true
+        → IsTableOf stock_columns (edited db (edit_of db (stock_at 1) (ids_of rows) Given 1 rows)) (changed (is_cell s) (with_places s) cells)
+    put_there rows answer fresh =
+        let params = put_params s ++ Int q.0 ∷ shown (stock_at 1) new_row in
+        let test : ℤ × StockRow → Bool = λ p. is_eq (int_cmp p.0 q.0) in
+        let change : ℤ × StockRow → ℤ × StockRow = λ p. (p.0, with_places s p.1) in
+        let all = updated (numbered_row stock_columns) id_of (λ _. refl) db (stock_at 1) it.numbered it.rise it.rows_are refl
+        put_cell_query.filter put_cell_query.project params rows test change (λ p. and_true _ ∙ equal_id p.0 q.0) (λ _. refl) (λ _. refl)
+        (λ p _ _. simp cast_int) answer fresh in
+        replaced_values stock_columns (db 1) _ cells (is_cell s) (with_places s) it
+        (all ∙ ap (map (numbered_row stock_columns)) (same_changed test (λ p. is_cell s p.1) change it.numbered one_row))
+
+-- what the upsert makes of the cells
+puts_table : (db : Trees) (cells : List StockRow) (s : StockRow) (edit : Edit) → IsTableOf stock_columns (db 1) cells
+    → IsAscending (λ (a b : StockRow). is_cell a b ≡ false) cells
+    → IsPut db (put_params s) put_cell_query (numbered_row stock_columns (next_rowid (db 1), s)) edit
+    → are_fresh (left_by db edit) edit.news ≡ true → IsTableOf stock_columns (edited db edit) (put s cells)
+puts_table db cells s edit it apart (found, they, inl (none, is)) fresh =
+    let no : list_any (is_cell s) cells ≡ false = has_none s cells (λ x h. false_from_ne_true (is_cell s x) (λ e.
+    let p = has_mapped value_of it.numbered x (subst (λ ys. Has ys x) it.values_are h) in
+    let on : is_cell s p.0.1 ≡ true = ap (is_cell s) (sym p.2) ∙ e in
+    let bad = they.complete (numbered_row stock_columns p.0) (row_has db cells it s p.0 p.1) (conflict_is (next_rowid (db 1)) s p.0 ∙ on) in
+    subst (λ rs. Has rs (Int p.0.0 ∷ [])) none bad)) in
+    rw no (subst (λ rs. IsTableOf stock_columns rs (cells ++ s ∷ [])) (sym (ap (edited db) is ∙ put_new db cells it s))
+    (appended stock_columns (db 1) cells s it))
+puts_table db cells s edit it apart (found, they, inr (first, more, several, rows, answer, is)) fresh =
+    let row = they.sound first (subst (λ rs. Has rs first) (sym several) (inl refl)) in
+    let q = has_mapped (numbered_row stock_columns) it.numbered row.0 (subst (λ rs. Has rs row.0) it.rows_are row.1) in
+    let new = numbered_row stock_columns (next_rowid (db 1), s) in
+    let here : is_cell s q.0.1 ≡ true
+    = sym (conflict_is (next_rowid (db 1)) s q.0) ∙ ap (conflicts (Some target) desk_schema.indexes (stock_at 1) new) (sym q.2) ∙ row.2 in
+    let at : rowid first ≡ Int q.0.0 = ap rowid row.3 ∙ ap rowid q.2 in
+    let asked = subst (λ v. IsAnswer put_cell_query (overlay db []) (put_params s ++ v ∷ shown (stock_at 1) new) rows) at answer in
+    let fresh_at = subst (λ (e : Edit). are_fresh (left_by db e) e.news ≡ true) is fresh in
+    let some : list_any (is_cell s) cells ≡ true = some_from (is_cell s) cells q.0.1 (value_has db cells it s q.0 q.1) here in
+    rw some (subst (λ (e : Edit). IsTableOf stock_columns (edited db e) (changed (is_cell s) (with_places s) cells)) (sym is)
+    (put_there db cells it s apart q.0 q.1 here rows asked fresh_at))
+
+pub puts : (old new : State) (t : Tables) (s : StockRow) (r : Result ℕ Error) → AreApart t → MayRun old t
+    → ExecutesInside 0 put_cell_text (put_params s) old new r → OnOk r (Makes old new (puts_cell s t))
+puts old new t s (Err e) apart may ran = tt
+puts old new t s (Ok count) apart may ran =
+    let here = ran.1.was_open in
+    let db = old.now.trees in
+    let shown_rows = (may.sees here).rows in
+    let it = upserts put_cell_text (put_params s) old new put_cell_terms 7 put_cell_query (Null ∷ put_params s) count put_cell_means.is
+    put_cell_means.plain refl refl (ready_of old t may here) ran.0 in
+    let is_put = subst (λ n. IsPut db (put_params s) put_cell_query n it.0) (source_is (db 1) s) it.1 in
+    makes_at old new it.0 it.2 1 (edited db it.0) (puts_cell s t) (put_tree db (put_params s) put_cell_query _ it.0 it.1) refl
+    (with_stock db t shown_rows (edited db it.0) (put s t.stock)
+    (puts_table db t.stock s it.0 shown_rows.stock apart is_put it.2.applies.fresh))

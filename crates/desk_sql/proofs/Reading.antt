@@ -1,0 +1,56 @@
+-- What a query over one table answers.
+use Rattle.std.proofs.Common.{◌≡◌, ◌⊎◌, inl, inr, ℕ, pos, negsuc, List, [], ◌∷◌, ◌++◌, map, Bool, true, false, cond, Some, None, Option, Ok, Err, Result, refl, sym, ap, subst, ◌∙◌}
+use Rattle.std.specs.List.{flat_map, filter, list_all}
+use Rattle.std.specs.List.Sorted.{IsPermutation, IsSorted}
+use Rattle.std.proofs.lemmas.List.Sorted.{IsPermutation-map}
+use Rattle.sqlite.specs.declared.types.Value.TheVariants.{Null}
+use Rattle.sqlite.specs.Order.{Row}
+use Rattle.sqlite.specs.Term.{Term, Env, eval_all, holds}
+use Rattle.sqlite.specs.Query.{Query, IsAnswer, IsAnswerAs, inner, end, matches_as, output, Output, output_cmp}
+use Rattle.sqlite.specs.Tree.{Trees}
+use Rattle.sqlite_value.specs.declared.keys.Key.{Key}
+use Rattle.desk_sql.specs.Meanings.{sorted_rows, every_row}
+
+-- the row passes each test of WHERE
+abbrev pub passes : List Term → Row → Row → Bool
+passes tests params r = list_all (holds (params ∷ r ∷ [])) tests
+
+abbrev pub shown_of : List Term → Row → Row → Row
+shown_of project params r = eval_all project (params ∷ r ∷ [])
+
+abbrev pub env_of : Row → Row → Env
+env_of params r = params ∷ r ∷ []
+
+some_match : (b : Bool) (x : Env) (r : Row) (ys : List Env) (rs : List Row) (f : Row → Env) → f r ≡ x → ys ≡ map f rs → cond b (x ∷ []) [] ++ ys ≡ map f (cond b (r ∷ rs) rs)
+some_match true x r ys rs f one more = cc
+some_match false x r ys rs f one more = more
+
+matching : (tests : List Term) (params : Row) (db : Trees) (rows : List Row)
+    → flat_map (λ r. matches_as Null db tests end (params ∷ r ∷ [])) rows ≡ map (env_of params) (filter (passes tests params) rows)
+matching tests params db [] = refl
+matching tests params db (r ∷ rows) = some_match (passes tests params r) (params ∷ r ∷ []) r _ (filter (passes tests params) rows) (env_of params) refl (matching tests params db rows)
+
+abbrev pub outputs_of : Query → Row → List Row → List Output
+outputs_of q params rows = map (output q) (map (env_of params) rows)
+
+map_shown : (q : Query) (params : Row) (rows : List Row) → map (λ (o : Output). o.1) (outputs_of q params rows) ≡ map (shown_of q.project params) rows
+map_shown q params [] = refl
+map_shown q params (r ∷ rows) = ap (λ more. shown_of q.project params r ∷ more) (map_shown q params rows)
+
+-- what the query shows of the rows that pass, in an order that ORDER BY allows
+pub record Lists (q : Query) (params : Row) (found : List Row) (rows : List Row) : Type 0 where
+  pub ordered : List Output
+  pub same : IsPermutation (outputs_of q params found) ordered
+  pub sorted : IsSorted (output_cmp q) ordered
+  pub shown : rows ≡ map (λ (o : Output). o.1) ordered
+
+pub lists : (tree : ℕ) (tests project : List Term) (order : List (Term × Key)) (db : Trees) (params : Row) (rows : List Row) → IsAnswer (sorted_rows tree tests project order) db params rows
+    → Lists (sorted_rows tree tests project order) params (filter (passes tests params) (db tree)) rows
+lists tree tests project order db params rows a =
+    let q = sorted_rows tree tests project order in
+    let kept : a.kept ≡ outputs_of q params (filter (passes tests params) (db tree)) = a.distinct ∙ ap (map (output q)) (a.grouped ∙ matching tests params db (db tree)) in
+    record { ordered = a.ordered; same = subst (λ k. IsPermutation k a.ordered) kept a.same; sorted = a.sorted; shown = a.shown }
+
+pub lists_any : (q : Query) (params : Row) (found rows : List Row) → Lists q params found rows → IsPermutation (map (shown_of q.project params) found) rows
+lists_any q params found rows l =
+    subst (λ xs. IsPermutation xs rows) (map_shown q params found) (subst (IsPermutation (map (λ (o : Output). o.1) (outputs_of q params found))) (sym l.shown) (IsPermutation-map (λ (o : Output). o.1) (outputs_of q params found) l.ordered l.same))

@@ -1,0 +1,159 @@
+-- A SELECT commits nothing and changes nothing, whatever the schema is, so also on a connection that is shut.
+use Rattle.std.proofs.Common.{◌≡◌, ◌≢◌, ◌⊎◌, inl, inr, ℕ, ◌+◌, List, [], ◌∷◌, Bool, true, false, Some, None, Option, Ok, Err, Result, IfOk, IfErr, IsTrue, refl, sym, ap, subst, ◌∙◌, slice_get}
+use Rattle.std.proofs.lemmas.Bool.{cases_Bool}
+use Rattle.sqlite_ast.specs.declared.Statement.{Statement}
+use Rattle.sqlite_ast.specs.declared.Statement.TheVariants as written
+use Rattle.sqlite_syntax.specs.declared.statement.Parsed.{Parsed}
+use Rattle.sqlite_schema.specs.declared.schema.Schema.{Schema}
+use Rattle.sqlite.specs.Command.{Command}
+use Rattle.sqlite_schema.specs.declared.command.Returning.{Returning}
+use Rattle.sqlite_resolve.specs.declared.compiled.Compiled.{Compiled}
+use Rattle.sqlite_resolve.specs.declared.error.CompileError.{CompileError}
+use Rattle.sqlite_resolve.specs.declared.error.CompileError.TheVariants.{NoSuchTable}
+use Rattle.sqlite_resolve.specs.Lowering.{Checked, and_then}
+use Rattle.sqlite_resolve.specs.Compile.{first, compiled, planned, meaning, returning, command, timed, small, with_command}
+use Rattle.sqlite.specs.Listing.{understood, reads_listing, if_select, listing_schema, is_select}
+use Rattle.sqlite.specs.declared.error.Error.{Error}
+use Rattle.sqlite.specs.declared.error.Error.TheVariants.{QueryReturnedNoRows}
+use Rattle.sqlite_trees.specs.declared.error.StoreError.{StoreError}
+use Rattle.sqlite_trees.specs.declared.error.StoreError.TheVariants.{OutOfMemory, Io, Corrupt, Full, Broken, Unstorable}
+use Rattle.sqlite.specs.Order.{Row}
+use Rattle.sqlite.specs.Tree.{Trees}
+use Rattle.sqlite.specs.State.{State, store_error, QueriesRow, FailsToQuery, FailsToShow, IsNotRun, Shown, ShowsRows, IsUnchanged, IsRolledBack, Survives, CommitsShowing}
+use Rattle.sqlite.specs.Clock.{timed as timed_params}
+use Rattle.sqlite.proofs.StateLemmas.{survives_weaker}
+use Rattle.desk_sql.specs.Queries.{is_query, reads, IsSelect, GivesRow, GivesRows}
+use Rattle.desk_sql.proofs.Writing.{same_value}
+
+shows_none : (schema : Schema) (base : ℕ) (s : Statement) → is_query s ≡ true → returning schema base s ≡ Ok None
+unfolding returning
+shows_none schema base (written.Select s) is = refl
+shows_none schema base _ is = absurd (cc)
+
+abbrev plan_of : Parsed → List (List ℕ) → Checked Command → Checked Compiled
+plan_of p formats r =
+    and_then (and_then (and_then r (λ k. Ok (k, None))) (λ found. Ok (formats, found))) (λ plan. Ok (with_command p plan))
+
+planned_bare : (p : Parsed) (formats : List (List ℕ)) (r : Checked Command) (c : Compiled) → plan_of p formats r ≡ Ok c
+    → c.returning ≡ None
+planned_bare p formats (Ok k) c e = ap (λ (x : Compiled). x.returning) (sym (same_value e))
+planned_bare p formats (Err why) c e = absurd (cc)
+
+parsed_bare : (schema : Schema) (r : Checked Parsed) (c : Compiled) → reads r ≡ true
+    → and_then r (λ p. and_then (planned schema p) (λ plan. Ok (with_command p plan))) ≡ Ok c → c.returning ≡ None
+unfolding planned meaning
+parsed_bare schema (Err why) c is e = absurd (cc)
+parsed_bare schema (Ok p) c is e =
+    planned_bare p (timed schema p.formats p.statement) (command schema p.formats (small p.names + small (timed schema p.formats p.statement)) p.statement) c
+    (rw (shows_none schema (small p.names + small (timed schema p.formats p.statement)) p.statement is) at e)
+
+compiled_bare : (text : List ℕ) → reads (first text) ≡ true → (schema : Schema) (c : Compiled) → compiled schema text ≡ Ok c
+    → c.returning ≡ None
+unfolding compiled
+compiled_bare text is schema c e = parsed_bare schema (first text) c is e
+
+listed_bare : (text : List ℕ) → reads (first text) ≡ true → (r : Checked Compiled)
+    → ((c : Compiled) → r ≡ Ok c → c.returning ≡ None) → (c : Compiled) → if_select r ≡ Ok c → c.returning ≡ None
+listed_bare text is (Err why) none c e = absurd (cc)
+listed_bare text is (Ok k) none c e = elim (cases_Bool (is_select k.command)) [
+  | inl query ↦ none c (rw query at e)
+  | inr other ↦ absurd (let bad : Err NoSuchTable ≡ Ok c = rw other at e in cc)
+]
+
+-- no schema makes it a statement that shows what it writes
+pub understood_bare : (text : List ℕ) → reads (first text) ≡ true → (schema : Schema) (c : Compiled) → understood schema text ≡ Ok c
+    → c.returning ≡ None
+unfolding understood
+understood_bare text is schema c e = elim (cases_Bool (reads_listing schema text)) [
+  | inl listed ↦ listed_bare text is (compiled listing_schema text) (compiled_bare text is listing_schema) c (rw listed at e)
+  | inr named ↦ compiled_bare text is schema c (rw named at e)
+]
+
+module _ (text : List ℕ) (selects : reads (first text) ≡ true) (params : Row) (old new : State) where
+  commits_never : (db : Trees) → ¬ CommitsShowing text params old db
+  unfolding CommitsShowing
+  commits_never db may = let bare = understood_bare text selects old.now.schema may.0 may.1.is in absurd (let some = rw bare at may.2 in cc)
+
+  -- it never commits
+  pub leaves_no_more : Survives old new (CommitsShowing text params old) → Survives old new (λ _. ⊥)
+  leaves_no_more = survives_weaker old new _ _ (λ _ db may. commits_never db may)
+
+  -- the query was run, and changed nothing
+  pub shown_same : (rows : List Row) → Shown text params old new rows → IsUnchanged old new
+  unfolding Shown
+  shown_same rows h =
+      let bare = understood_bare text selects old.now.schema h.0 h.1.is in
+      (subst (ShowsRows old new text h.0 (timed_params params h.0.formats h.1.now) rows) bare h.2).3
+
+  pub row_same : (row : Row) → QueriesRow text params old new (Ok row) → IsUnchanged old new
+  unfolding QueriesRow
+  row_same row (inl h) = h.1
+  row_same row (inr h) = shown_same h.0 h.1
+
+  not_run_quiet : (e : Error) → IsNotRun old new text params e → IsUnchanged old new ⊎ IsRolledBack old new
+  unfolding IsNotRun
+  not_run_quiet e (inl h) = inl h.1
+  not_run_quiet e (inr h) = inr h.3
+
+  -- a query that fails changes nothing, or rolls back
+  pub fails_quietly : (e : Error) → FailsToQuery text params old new e → IsUnchanged old new ⊎ IsRolledBack old new
+  unfolding FailsToQuery
+  fails_quietly e (inl h) = not_run_quiet e h
+  fails_quietly e (inr h) =
+      let bare = understood_bare text selects old.now.schema h.0 h.1.is in
+      inl (subst (λ r. FailsToShow old new text h.0 (timed_params params h.0.formats h.1.now) e r) bare h.2).3
+
+  pub row_fails_quietly : (e : Error) → QueriesRow text params old new (Err e) → IsUnchanged old new ⊎ IsRolledBack old new
+  unfolding QueriesRow
+  row_fails_quietly e (inl h) = fails_quietly e h
+  row_fails_quietly e (inr h) = inl (shown_same [] h.1)
+
+not_store : (cause : StoreError) → store_error cause ≢ QueryReturnedNoRows
+not_store OutOfMemory e = cc
+not_store Io e = cc
+not_store Corrupt e = cc
+not_store Full e = cc
+not_store Broken e = cc
+not_store Unstorable e = cc
+
+module _ (text : List ℕ) (selects : IsSelect text) (params : Row) (old new : State) where
+  not_run_same : (e : Error) → e ≡ QueryReturnedNoRows → IsNotRun old new text params e → IsUnchanged old new
+  unfolding IsNotRun
+  not_run_same e none (inl h) = h.1
+  not_run_same e none (inr h) = absurd (not_store h.0 (sym h.1 ∙ none))
+
+  fails_same : (e : Error) → e ≡ QueryReturnedNoRows → FailsToQuery text params old new e → IsUnchanged old new
+  unfolding FailsToQuery
+  fails_same e none (inl h) = not_run_same e none h
+  fails_same e none (inr h) =
+      let bare = understood_bare text selects old.now.schema h.0 h.1.is in
+      (subst (λ r. FailsToShow old new text h.0 (timed_params params h.0.formats h.1.now) e r) bare h.2).3
+
+  none_same : (e : Error) → e ≡ QueryReturnedNoRows → QueriesRow text params old new (Err e) → IsUnchanged old new
+  unfolding QueriesRow
+  none_same e none (inl h) = fails_same e none h
+  none_same e none (inr h) = shown_same text selects params old new [] h.1
+
+  pub gives_row : (row : Row) → QueriesRow text params old new (Ok row) → GivesRow text params old new (Some row)
+  gives_row row h = (row_same text selects params old new row h, h)
+
+  pub gives_no_row : (e : Error) → e ≡ QueryReturnedNoRows → QueriesRow text params old new (Err e)
+      → GivesRow text params old new None
+  gives_no_row e is h = (none_same e is h, subst (λ x. QueriesRow text params old new (Err x)) is h)
+
+  pub gives_rows : (rows : List Row) → Shown text params old new rows → GivesRows text params old new rows
+  gives_rows rows h = (shown_same text selects params old new rows h, h)
+
+-- what was given is what was found of it
+pub given_as : (text : List ℕ) (params : Row) (old new : State) (found row : Option Row) → found ≡ row
+    → GivesRow text params old new found → GivesRow text params old new row
+given_as text params old new found row is given = subst (GivesRow text params old new) is given
+
+-- from one fact of a value to another
+pub ok_then : {V E : Type 0} (P Q : V → Type 0) (r : Result V E) → ((v : V) → P v → Q v) → IfOk r P → IfOk r Q
+ok_then P Q (Ok v) step h = step v h
+ok_then P Q (Err e) step h = h
+
+pub err_then : {V E : Type 0} (P Q : E → Type 0) (r : Result V E) → ((e : E) → P e → Q e) → IfErr r P → IfErr r Q
+err_then P Q (Ok v) step h = h
+err_then P Q (Err e) step h = step e h

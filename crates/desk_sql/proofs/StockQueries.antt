@@ -1,0 +1,117 @@
+-- The queries on cells.
+use Rattle.std.proofs.Common.{◌≡◌, ◌⊎◌, inl, inr, ℕ, ℤ, ◌<◌, ◌≤◌, ◌==◌, ◌&&◌, eqb-true, pos, List, [], ◌∷◌, map, filter, Bool, true, false, Ordering, Equal, Less, Greater, is_lt, nat_cmp, refl, sym, ap, subst, ◌∙◌, arith}
+use Rattle.std.specs.Prelude.{bytes_eq, string_bytes}
+use Rattle.std.specs.Ordering.{ordering_then, int_cmp}
+use Rattle.std.specs.Cmp.Lexicographic.{slice_cmp}
+use Rattle.std.proofs.lemmas.Int.{ints}
+use Rattle.std.proofs.lemmas.Bool.{and_parts}
+use Rattle.std.proofs.lemmas.Bool.Decides.{nat_tests}
+use Rattle.std.proofs.lemmas.Slice.Eq.{bytes_eq-Decides}
+use Rattle.sqlite.specs.declared.types.Value.TheVariants.{Text}
+use Rattle.sqlite.specs.Order.{Row, value_cmp}
+use Rattle.sqlite.specs.Query.{Output, output_cmp}
+use Rattle.sqlite.specs.State.{State, IsUnchanged}
+use Rattle.sqlite_value.proofs.OrderLemmas.{value_cmp-Int, value_cmp-Text, then-Equal}
+use Rattle.sqlite_rules.specs.Lists.{Has}
+use Rattle.sqlite_rules.proofs.ListLemmas.{has_filtered}
+use Rattle.desk_sql.specs.Lists.{numbered_row, IsListed}
+use Rattle.desk_sql.specs.Rows.{whole, Tables, StockRow, stock_columns}
+use Rattle.desk_sql.specs.Calls.{MaySee}
+use Rattle.desk_sql.specs.Queries.{GivesRows}
+use Rattle.desk_sql.specs.Found.{three_of, six_of}
+use Rattle.desk_sql.specs.Stock.{is_within, night_of, IsByNight, FindsNights, shows_night, stock_of, cell_cmp, IsByCell, FindsStock, shows_cell}
+use Rattle.desk_sql.specs.Texts.{find_nights_text, find_stock_text}
+use Rattle.desk_sql.specs.Meanings.{find_nights_query, find_nights_names, find_stock_query, find_stock_names}
+use Rattle.desk_sql.specs.declared.stock.NightRange.{NightRange}
+use Rattle.desk_sql.specs.declared.stock.NightFound.{NightFound}
+use Rattle.desk_sql.specs.declared.stock.CellFound.{CellFound}
+use Rattle.desk_sql.proofs.Meaning.{find_nights_means, find_stock_means}
+use Rattle.desk_sql.proofs.Testing.{eq_whole, eq_text, ge_whole, le_whole, and_true}
+use Rattle.desk_sql.proofs.Ordered.{whole_last}
+use Rattle.desk_sql.proofs.Reading.{passes}
+use Rattle.desk_sql.proofs.Finding.{whole_answer}
+use Rattle.desk_sql.proofs.Answering.{Answers, table_answers, listed}
+
+abbrev pub range_params : NightRange → Row
+range_params r = whole r.kind ∷ Text r.supplier.now ∷ Text r.product.now ∷ whole r.first ∷ whole r.last ∷ []
+
+abbrev night_out : StockRow → Output
+night_out s = (whole s.night ∷ [], whole s.night ∷ whole s.allot ∷ whole s.free ∷ [])
+
+range_test : (r : NightRange) (p : ℤ × StockRow)
+    → passes find_nights_query.filter (range_params r) (numbered_row stock_columns p) ≡ is_within r p.1
+range_test r p = simp (eq_whole, eq_text, ge_whole, le_whole) (simp and_true)
+
+-- a cell that passes is of the product, so its night and places tell it
+same_night : (r : NightRange) (n : NightFound) (s : StockRow) → is_within r s ≡ true → shows_night n ≡ (night_out s).1 → night_of r n ≡ s
+same_night r n s is e =
+    let one = and_parts _ _ is in
+    let two = and_parts _ _ one.1 in
+    let three = and_parts _ _ two.1 in
+    let kind : s.kind ≡ r.kind = eqb-true _ _ one.0 in
+    let supplier : s.supplier ≡ r.supplier.now = (bytes_eq-Decides _ _).0 two.0 in
+    let product : s.product ≡ r.product.now = (bytes_eq-Decides _ _).0 three.0 in
+    let night : n.night ≡ s.night = cc in
+    let allot : n.allot ≡ s.allot = cc in
+    let free : n.free ≡ s.free = cc in
+    rw (← kind, ← supplier, ← product, night, allot, free) refl
+
+abbrev cell_out : StockRow → Output
+cell_out s = (
+  whole s.kind ∷ Text s.supplier ∷ Text s.product ∷ whole s.night ∷ [],
+  whole s.kind ∷ Text s.supplier ∷ Text s.product ∷ whole s.night ∷ whole s.allot ∷ whole s.free ∷ [],
+)
+
+same_cell : (c : CellFound) (s : StockRow) → shows_cell c ≡ (cell_out s).1 → stock_of c ≡ s
+same_cell c s e =
+    let kind : c.kind ≡ s.kind = cc in
+    let supplier : string_bytes c.supplier ≡ s.supplier = cc in
+    let product : string_bytes c.product ≡ s.product = cc in
+    let night : c.night ≡ s.night = cc in
+    let allot : c.allot ≡ s.allot = cc in
+    let free : c.free ≡ s.free = cc in
+    rw (kind, supplier, product, night, allot, free) refl
+
+number_cmp : (a b : ℕ) → value_cmp (whole a) (whole b) ≡ nat_cmp a b
+number_cmp a b = value_cmp-Int (pos a) (pos b) ∙ same a b
+  where
+    same : (a b : ℕ) → int_cmp (pos a) (pos b) ≡ nat_cmp a b
+    same a b = grind (arith, ints, nat_tests)
+
+-- the order of the query is that of the cells
+order_is : (a b : StockRow) → output_cmp find_stock_query (cell_out a) (cell_out b) ≡ cell_cmp a b
+order_is a b = simp (number_cmp, value_cmp-Text, then-Equal)
+
+all_pass : (xs : List StockRow) → filter (λ _. true) xs ≡ xs
+all_pass [] = refl
+all_pass (x ∷ xs) = ap (λ rest. x ∷ rest) (all_pass xs)
+
+module _ (old new : State) (t : Tables) (sees : MaySee old t) (rows : List Row) where
+  pub finds_nights : (r : NightRange) (found : List NightFound) → map shows_night found ≡ map three_of rows
+      → GivesRows find_nights_text (range_params r) old new rows → IsUnchanged old new × FindsNights r t found
+  finds_nights r found was given =
+      let some = filter (is_within r) t.stock in
+      let got = whole_answer find_nights_text find_nights_query find_nights_names find_nights_means (range_params r) old new
+      (λ h. (sees h).schema) rows given.1 in
+      let it = table_answers 1 find_nights_query.filter find_nights_query.project find_nights_query.order old.now.trees
+      (range_params r) rows got.1 refl stock_columns t.stock (sees given.0.0.was_open).rows.stock night_out (λ _. refl)
+      (is_within r) (range_test r) in (
+        given.0,
+        listed find_nights_query night_out some rows it (night_of r) shows_night three_of found was
+            (λ n s h e. same_night r n s (has_filtered (is_within r) t.stock s h).1 e)
+            IsByNight (λ a b up. whole_last a.night b.night up),
+      )
+
+  pub finds_stock : (found : List CellFound) → map shows_cell found ≡ map six_of rows
+      → GivesRows find_stock_text [] old new rows → IsUnchanged old new × FindsStock t found
+  finds_stock found was given =
+      let got = whole_answer find_stock_text find_stock_query find_stock_names find_stock_means [] old new
+      (λ h. (sees h).schema) rows given.1 in
+      let it = table_answers 1 [] find_stock_query.project find_stock_query.order old.now.trees
+      [] rows got.1 refl stock_columns t.stock (sees given.0.0.was_open).rows.stock cell_out (λ _. refl)
+      (λ _. true) (λ _. refl) in (
+        given.0,
+        subst (λ xs. IsListed IsByCell xs (map stock_of found)) (all_pass t.stock)
+            (listed find_stock_query cell_out (filter (λ _. true) t.stock) rows it stock_of shows_cell six_of found was
+            (λ c s h e. same_cell c s e) IsByCell (λ a b up. subst (λ o. is_lt o ≡ false) (order_is b a) up)),
+      )

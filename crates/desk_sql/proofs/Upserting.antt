@@ -1,0 +1,139 @@
+-- What an upsert on stock does, for any query of its DO UPDATE.
+use Rattle.std.proofs.Common.{◌≡◌, ◌≢◌, ℤ, if◌then◌else◌, ◌⊎◌, inl, inr, ℕ, ◌/◌, pos, List, [], ◌∷◌, ◌++◌, length, map, fold, slice_get, Bool, true, false, cond, MatchBool, Some, None, Option, Ok, Err, Result, OnOk, IsTrue, refl, sym, ap, subst, subst₂, ◌∙◌, arith}
+use Rattle.sqlite.specs.declared.types.Value.{Value}
+use Rattle.sqlite.specs.declared.types.Value.TheVariants.{Null, Int, Text}
+use Rattle.sqlite.specs.Order.{Row}
+use Rattle.sqlite.specs.Term.{Term}
+use Rattle.sqlite.specs.Table.{Table}
+use Rattle.sqlite.specs.Tree.{Trees, rowid}
+use Rattle.sqlite.specs.Source.TheVariants.{Values}
+use Rattle.sqlite.specs.Command.{Command}
+use Rattle.sqlite.specs.Command.TheVariants.{InsertOr}
+use Rattle.sqlite_schema.specs.declared.command.Conflict.TheVariants.{Abort}
+use Rattle.sqlite_schema.specs.declared.command.Upsert.{Upsert}
+use Rattle.sqlite_schema.specs.declared.program.Program.{Program}
+use Rattle.sqlite.specs.Edit.{Edit, edit_of, edited, taken_by, Applies, with_rowid, next_rowid}
+use Rattle.sqlite.specs.Cast.{cast_row}
+use Rattle.sqlite_rules.specs.Keys.{AreConflicts}
+use Rattle.sqlite.specs.Rowids.TheVariants.{Chosen, Given}
+use Rattle.sqlite.specs.Query.{Query, IsAnswer}
+use Rattle.sqlite.specs.Program.{overlay}
+use Rattle.sqlite_rules.specs.Calls.{ids_of}
+use Rattle.sqlite_schema.specs.declared.schema.Keys.TheVariants.{Enforced}
+use Rattle.sqlite_rules.specs.declared.error.Refusal.{Refusal}
+use Rattle.sqlite.specs.Does.{Tally, Does}
+use Rattle.sqlite.specs.Rows.{Written, Task, Puts, Clears, Upserts, Meets, Resolves, Judged, Tries, TriesEach, InsertsOr, Counts, Part, Gives, stamped, shown, nothing, joined, count_of}
+use Rattle.sqlite.specs.declared.error.Error.{Error}
+use Rattle.sqlite.specs.Effect.{Database, value_rows, edit_error}
+use Rattle.sqlite.specs.Listing.{understood}
+use Rattle.sqlite.specs.State.{State, mode_of, Executes, ExecutesInside, Shows}
+use Rattle.sqlite.proofs.Callers.{IsPlain, command_of, statement_of, runs_as, one_step}
+use Rattle.desk_sql.specs.Schema.{desk_schema, stock_at}
+use Rattle.desk_sql.specs.Calls.{IsReady}
+use Rattle.desk_sql.proofs.Writing.{went, same_value, on_rows, task_for, idle, Edits}
+
+-- the columns of the key
+abbrev pub target : List ℕ
+target = 1 ∷ 2 ∷ 3 ∷ 4 ∷ []
+
+-- the row that is there, by its rowid, is replaced by what the query shows
+abbrev pub Replaces : Trees → Row → Query → Row → List Row → Edit → Type 0
+Replaces db params q new found edit =
+    (there : Row) × (more : List Row) × (found ≡ there ∷ more) × (rows : List Row)
+    × IsAnswer q (overlay db []) (params ++ rowid there ∷ shown (stock_at 1) new) rows
+    × (edit ≡ edit_of db (stock_at 1) (ids_of rows) Given 1 rows)
+
+-- the row goes in, or replaces what has its key
+abbrev pub IsPut : Trees → Row → Query → Row → Edit → Type 0
+IsPut db params q new edit =
+    (found : List Row) × AreConflicts (Some target) desk_schema.indexes (stock_at 1) (db 1) new found
+    × (((found ≡ []) × (edit ≡ edit_of db (stock_at 1) [] Given 0 (new ∷ []))) ⊎ Replaces db params q new found edit)
+
+abbrev pub task_of : State → Row → Task
+task_of old params = task_for old (stock_at 1) params
+
+module _ (old : State) (params : Row) (q : Program) where
+  abbrev clause : Upsert
+  clause = record { target = Some target; update = Some q }
+
+  -- the row goes in, or the query's rows do in place of those that have its key
+  abbrev pub Ends : Row → Trees → Part Written
+  Ends new db out =
+      (found : List Row) × AreConflicts (Some target) desk_schema.indexes (stock_at 1) (db 1) new found
+      × Meets (task_of old params) (Puts (task_of old params) new db) new db clause found out
+
+  clears : (new : Row) (db : Trees) (found : List Row) (out : Result Written (Option Error)) → Clears (task_of old params) Abort new db found out → Puts (task_of old params) new db out
+  clears new db [] out h = h
+  clears new db (x ∷ more) out h = h
+
+  ends : (new : Row) (db : Trees) (w : Written) → Upserts (task_of old params) Abort new db (clause ∷ []) (Ok w) → Ends new db (Ok w)
+  ends new db w ([], conflicts, h) = ([], conflicts, clears new db h.0 (Ok w) h.2)
+  ends new db w (there ∷ more, conflicts, h) = (there ∷ more, conflicts, h)
+
+  judged : (new : Row) (db : Trees) (w : Written) (verdict : Option Refusal) → Judged (task_of old params) Abort (clause ∷ []) new db verdict (Ok w) → Ends new db (Ok w)
+  judged new db w None h = ends new db w h
+  judged new db w (Some why) h = absurd (let e : ◌≡◌ {A = Result Written (Option Error)} (Ok w) (Err (Some (edit_error why))) = h in cc)
+
+  tried : (new : Row) (db : Trees) (w : Written) → Tries (task_of old params) Abort (clause ∷ []) new db (Ok w) → Ends new db (Ok w)
+  tried new db w (inl h) = absurd (let e = h.1 in cc)
+  tried new db w (inr h) = judged new db w h.0 h.2
+
+-- one row of VALUES is tried, and no count is kept
+pub tries_one : (old : State) (params : Row) (q : Program) (terms : List Term) (width : ℕ) (db : Trees) (source : Row) (w : Written)
+    → stamped (stock_at 1) params ≡ params → value_rows params width (length terms / width) terms ≡ source ∷ []
+    → InsertsOr (task_of old params) Abort (clause old params q ∷ []) (Values terms width) db (Ok w)
+    → (one : Written) × Ends old params q (with_rowid Chosen (db 1) (cast_row (stock_at 1) source)) db (Ok one) × (w.trees ≡ one.trees)
+tries_one old params q terms width db source w unstamped rows h =
+    let given = went h in
+    let counted = went given.2 in
+    let each = went counted.2 in
+    let noted = went each.2 in
+    let first : given.0 ≡ source ∷ [] = given.1.1 ∙ ap (λ ps. value_rows ps width (length terms / width) terms) unstamped ∙ rows in
+    let tries = went (subst (λ rs. TriesEach (task_of old params) Abort (clause old params q ∷ []) rs (count_of counted.0) (nothing db) (Ok each.0)) first each.1) in
+    let new = with_rowid Chosen (db 1) (cast_row (stock_at 1) source) in
+    let trees : w.trees ≡ tries.0.trees = ap (λ (it : Written). it.trees) (same_value noted.2) ∙ same_value noted.1 ∙ ap (λ (p : Written × ℤ). p.0.trees) (same_value tries.2) in
+    (tries.0, tried old params q new db tries.0 tries.1, trees)
+
+ends_in : (old : State) (params : Row) (q : Query) (new : Row) (w : Written) → Ends old params (record { lets = []; body = q }) new old.now.trees (Ok w)
+    → (edit : Edit) × IsPut old.now.trees params q new edit × Applies desk_schema Enforced old.now.trees edit w.trees
+ends_in old params q new w ([], conflicts, h) =
+    let edit = edit_of old.now.trees (stock_at 1) [] Given 0 (new ∷ []) in
+    let all = went h in
+    let step : Applies desk_schema Enforced old.now.trees edit all.0 = one_step desk_schema Enforced old.now.trees all.0 edit (idle 0 1 (taken_by old.now.trees edit) edit.news) all.1 in
+    (edit, ([], conflicts, inl (refl, refl)), subst (λ (t : Trees). Applies desk_schema Enforced old.now.trees edit t) (sym (ap (λ (it : Written). it.trees) (same_value all.2))) step)
+ends_in old params q new w (there ∷ more, conflicts, h) =
+    let found = went h in
+    let written = went found.2 in
+    let edit = edit_of old.now.trees (stock_at 1) (ids_of found.0) Given 1 found.0 in
+    let step : Applies desk_schema Enforced old.now.trees edit written.0 = one_step desk_schema Enforced old.now.trees written.0 edit (idle 0 1 (taken_by old.now.trees edit) edit.news) written.1 in (
+      edit,
+      (there ∷ more, conflicts, inr (there, more, refl, found.0, found.1.answer Null, refl)),
+      subst (λ (t : Trees). Applies desk_schema Enforced old.now.trees edit t) (sym (ap (λ (it : Written). it.trees) (same_value written.2))) step,
+    )
+
+pub upserts : (sql : List ℕ) (params : Row) (old new : State) (terms : List Term) (width : ℕ) (q : Query) (source : Row) (count : ℕ)
+    → command_of (understood desk_schema sql) ≡ InsertOr 1 Abort (Values terms width) (clause old params (record { lets = []; body = q }) ∷ []) → IsPlain (understood desk_schema sql)
+    → stamped (stock_at 1) params ≡ params → value_rows params width (length terms / width) terms ≡ source ∷ []
+    → IsReady old → Executes sql params old new (Ok count)
+    → (edit : Edit) × IsPut old.now.trees params q (with_rowid Chosen (old.now.trees 1) (cast_row (stock_at 1) source)) edit × Edits old new edit
+upserts sql params old new terms width q source count is plain unstamped rows ready h =
+    let command = InsertOr 1 Abort (Values terms width) (clause old params (record { lets = []; body = q }) ∷ []) in
+    let w = runs_as sql params old new desk_schema ready.schema command is plain count h in
+    let text = statement_of sql (understood desk_schema sql) in
+    let all : Does old.step_limit (mode_of old) params (record { schema = desk_schema; trees = old.now.trees }) text None command (Ok (w.tally, new.now))
+    = subst (λ s. Does old.step_limit (mode_of old) params (record old.now { schema = s }) text None command (Ok (w.tally, new.now))) ready.schema w.changed in
+    let done = on_rows old params text (stock_at 1) w.tally new.now command all in
+    let one = tries_one old params (record { lets = []; body = q }) terms width old.now.trees source done.0 unstamped rows done.1 in
+    let put = ends_in old params q (with_rowid Chosen (old.now.trees 1) (cast_row (stock_at 1) source)) one.0 one.1 in (
+      put.0,
+      put.1,
+      record {
+        schema = ap (λ (d : Database). d.schema) done.2;
+        applies = subst (λ (t : Trees). Applies desk_schema Enforced old.now.trees put.0 t) (sym (ap (λ (d : Database). d.trees) done.2 ∙ one.2)) put.2;
+        shown = subst (λ b. Shows old new new.now (if b then old.committed else new.now) b) ready.inside w.shown;
+      },
+    )
+
+pub put_tree : (db : Trees) (params : Row) (q : Query) (new : Row) (edit : Edit) → IsPut db params q new edit → edit.table.tree ≡ 1
+put_tree db params q new edit (found, conflicts, inl h) = ap (λ (e : Edit). e.table.tree) h.1
+put_tree db params q new edit (found, conflicts, inr h) = ap (λ (e : Edit). e.table.tree) h.5

@@ -1,0 +1,176 @@
+-- What a statement that writes does to the desk's tables, from its meaning on.
+use Rattle.std.proofs.Common.{◌≡◌, ◌≢◌, ◌<◌, ◌^◌, pos, to_z, w64, fold, MatchBool, if◌then◌else◌, ◌==◌, eqb-true, subst₂, ◌⊎◌, inl, inr, ℕ, ◌/◌, List, [], ◌∷◌, length, slice_get, Bool, true, false, cond, Some, None, Ok, Err, Result, IsTrue, refl, sym, ap, subst, ◌∙◌, arith}
+use Rattle.sqlite.specs.declared.types.Value.{Value}
+use Rattle.sqlite.specs.declared.types.Value.TheVariants.{Null, Int, Text}
+use Rattle.std.proofs.lemmas.Int.{ints}
+use Rattle.std.proofs.lemmas.Bool.{eqb-false}
+use Rattle.sqlite.specs.Kind.TheVariants.{Integer}
+use Rattle.sqlite.specs.Cast.{cast}
+use Rattle.sqlite.specs.Ops.{unary}
+use Rattle.sqlite.specs.Order.{Row}
+use Rattle.sqlite.specs.Term.{Term}
+use Rattle.sqlite.specs.Table.{Table}
+use Rattle.std.specs.Ordering.{is_lt, int_cmp}
+use Rattle.sqlite.specs.Tree.{Trees, with_tree}
+use Rattle.sqlite.specs.Source.TheVariants.{Values}
+use Rattle.sqlite.specs.Command.{Command}
+use Rattle.sqlite.specs.Command.TheVariants.{Insert, Update, Delete}
+use Rattle.sqlite.specs.Edit.{Edit, edit_of, edited, taken_by, Applies}
+use Rattle.sqlite.specs.Rowids.TheVariants.{Chosen, Above, Given}
+use Rattle.sqlite.specs.Query.{Query, IsAnswer}
+use Rattle.sqlite.specs.Program.{overlay}
+use Rattle.sqlite_rules.specs.Calls.{ids_of}
+use Rattle.sqlite_schema.specs.declared.schema.Action.TheVariants.{NoAction}
+use Rattle.sqlite_schema.specs.declared.schema.Keys.TheVariants.{Enforced}
+use Rattle.sqlite_rules.specs.Action.{works}
+use Rattle.sqlite.specs.Does.{Tally, Does, OnRows, WritesRows, Concludes}
+use Rattle.sqlite.specs.declared.run.Mode.{Mode}
+use Rattle.sqlite.specs.Rows.{Written, Task, Inserts, Edited, CountsIn, Gives, stamped, sequence, count_of, higher, rowids_for}
+use Rattle.sqlite.specs.Effect.{Database, value_rows}
+use Rattle.sqlite.specs.Listing.{understood}
+use Rattle.sqlite.specs.State.{State, mode_of, Writes, Executes, Shows}
+use Rattle.sqlite.proofs.Callers.{IsPlain, command_of, statement_of, runs_as, one_step}
+use Rattle.desk_sql.specs.Schema.{desk_schema}
+use Rattle.desk_sql.specs.Calls.{IsReady}
+
+either : (b : Bool) (x : Value) → cond b x x ≡ x
+either true x = refl
+either false x = refl
+
+-- an integer is stored as it is, whatever its sign
+pub cast_null : cast Integer Null ≡ Null
+unfolding unary
+cast_null = either _ Null
+
+-- an unsigned number as the signed one that it is passed as
+pub pos_is : (n : ℕ) → n < 2 ^ 63 → to_z w64 n ≡ pos n
+pos_is n low = omega (arith, ints)
+
+-- a part that gave a value did not stop on the way
+pub went : {B E R : Type 0} {b : B} {Stops : E → Type 0} → ((stop : E) × Stops stop × (Ok b ≡ Err stop)) ⊎ R → R
+went (inl stopped) = absurd (let e = stopped.2 in cc)
+went (inr on) = on
+
+pub same_value : {B E : Type 0} {a b : B} → ◌≡◌ {A = Result B E} (Ok a) (Ok b) → a ≡ b
+same_value e = cc
+
+-- one table was edited, and no other
+pub record Edits (old new : State) (edit : Edit) : Type 0 where
+  pub schema : new.now.schema ≡ desk_schema
+  pub applies : Applies desk_schema Enforced old.now.trees edit new.now.trees
+  pub shown : Shows old new new.now old.committed true
+
+abbrev pub source_edit : Table → List Term → ℕ → Row → Trees → Edit
+source_edit table terms width params db = edit_of db table [] Chosen 0 (value_rows params width (length terms / width) terms)
+
+abbrev pub task_for : State → Table → Row → Task
+task_for old table params = record { limit = old.step_limit; keys = Enforced; schema = desk_schema; table = table; params = params }
+
+concludes : (task : Task) (mode : Mode) (w : Written) (tally : Tally) (after : Database) → Concludes task mode None w (Ok (tally, after)) → after ≡ record { schema = task.schema; trees = w.trees }
+concludes task mode w tally after h = ap (λ (p : Tally × Database). p.1) (same_value (went (went h).2).2)
+
+-- a statement on the rows of a table writes them, and then nothing
+pub on_rows : (old : State) (params : Row) (text : List ℕ) (table : Table) (tally : Tally) (after : Database) (command : Command)
+    → OnRows (task_for old table params) (mode_of old) None command old.now.trees (Ok (tally, after))
+    → (w : Written) × WritesRows (task_for old table params) old.now.trees command (Ok w) × (after ≡ record { schema = desk_schema; trees = w.trees })
+on_rows old params text table tally after command h = let all = went h in (all.0, all.1, concludes (task_for old table params) (mode_of old) all.0 tally after all.2)
+
+-- the rows of VALUES go in by one edit
+insert_edits : (task : Task) (terms : List Term) (width : ℕ) (db : Trees) (w : Written) → task.table.is_counted ≡ false → stamped task.table task.params ≡ task.params
+    → Inserts task (Values terms width) db (Ok w) → Edited task.schema task.keys db (source_edit task.table terms width task.params db) (Ok w.trees)
+insert_edits task terms width db w uncounted unstamped h =
+    let given = went h in
+    let counted = went given.2 in
+    let written = went counted.2 in
+    let done = went written.2 in
+    let first : given.0 ≡ value_rows task.params width (length terms / width) terms = given.1.1 ∙ ap (λ ps. value_rows ps width (length terms / width) terms) unstamped in
+    let done1 = subst (λ b. MatchBool (if b then is_lt (int_cmp (count_of counted.0) (fold higher (count_of counted.0) (edit_of db task.table [] (rowids_for task.table (count_of counted.0)) 0 given.0).news)) else false) (CountsIn task written.0 counted.0 (fold higher (count_of counted.0) (edit_of db task.table [] (rowids_for task.table (count_of counted.0)) 0 given.0).news) (sequence task.schema) (Ok done.0)) (Gives written.0 (Ok done.0))) uncounted done.1 in
+    let trees : w.trees ≡ written.0 = ap (λ (it : Written). it.trees) (same_value done.2) ∙ same_value done1 in
+    let edit : edit_of db task.table [] (rowids_for task.table (count_of counted.0)) 0 given.0 ≡ source_edit task.table terms width task.params db
+    = ap (λ b. edit_of db task.table [] (if b then Above (count_of counted.0) else Chosen) 0 given.0) uncounted ∙ ap (λ rows. edit_of db task.table [] Chosen 0 rows) first in
+    subst₂ (λ e t. Edited task.schema task.keys db e (Ok t)) edit (sym trees) written.1
+
+pub inserts : (sql : List ℕ) (params : Row) (old new : State) (at : ℕ) (table : Table) (terms : List Term) (width count : ℕ)
+    → command_of (understood desk_schema sql) ≡ Insert at (Values terms width) → IsPlain (understood desk_schema sql)
+    → slice_get desk_schema.tables at ≡ Some table → table.is_counted ≡ false → stamped table params ≡ params
+    → works desk_schema Enforced 0 table.tree [] (source_edit table terms width params old.now.trees).news ≡ []
+    → IsReady old → Executes sql params old new (Ok count) → Edits old new (source_edit table terms width params old.now.trees)
+inserts sql params old new at table terms width count is plain there uncounted unstamped idle ready h =
+    let w = runs_as sql params old new desk_schema ready.schema (Insert at (Values terms width)) is plain count h in
+    let text = statement_of sql (understood desk_schema sql) in
+    let all : Does old.step_limit (mode_of old) params (record { schema = desk_schema; trees = old.now.trees }) text None (Insert at (Values terms width)) (Ok (w.tally, new.now))
+    = subst (λ s. Does old.step_limit (mode_of old) params (record old.now { schema = s }) text None (Insert at (Values terms width)) (Ok (w.tally, new.now))) ready.schema w.changed in
+    let done = on_rows old params text table w.tally new.now (Insert at (Values terms width)) (rw there at all) in
+    let edited : Edited desk_schema Enforced old.now.trees (source_edit table terms width params old.now.trees) (Ok done.0.trees)
+    = insert_edits (task_for old table params) terms width old.now.trees done.0 uncounted unstamped done.1 in
+    let step : Applies desk_schema Enforced old.now.trees (source_edit table terms width params old.now.trees) done.0.trees
+    = one_step desk_schema Enforced old.now.trees done.0.trees (source_edit table terms width params old.now.trees) idle edited in
+    record {
+      schema = ap (λ (d : Database). d.schema) done.2;
+      applies = subst (λ (t : Trees). Applies desk_schema Enforced old.now.trees (source_edit table terms width params old.now.trees) t) (sym (ap (λ (d : Database). d.trees) done.2)) step;
+      shown = subst (λ b. Shows old new new.now (if b then old.committed else new.now) b) ready.inside w.shown;
+    }
+
+no_action : (b : Bool) → (if b then NoAction else NoAction) ≡ NoAction
+no_action true = refl
+no_action false = refl
+
+-- no foreign key of the desk acts
+pub idle : (depth tree : ℕ) (olds news : List Row) → works desk_schema Enforced depth tree olds news ≡ []
+idle depth tree olds news = simp no_action
+
+-- an UPDATE takes out the rows that its query names, and puts in those that it shows
+pub updates : (sql : List ℕ) (params : Row) (old new : State) (at : ℕ) (table : Table) (q : Query) (count : ℕ)
+    → command_of (understood desk_schema sql) ≡ Update at (record { lets = []; body = q }) → IsPlain (understood desk_schema sql)
+    → slice_get desk_schema.tables at ≡ Some table
+    → IsReady old → Executes sql params old new (Ok count)
+    → (rows : List Row) × IsAnswer q (overlay old.now.trees []) params rows × Edits old new (edit_of old.now.trees table (ids_of rows) Given 1 rows)
+updates sql params old new at table q count is plain there ready h =
+    let command = Update at (record { lets = []; body = q }) in
+    let w = runs_as sql params old new desk_schema ready.schema command is plain count h in
+    let text = statement_of sql (understood desk_schema sql) in
+    let all : Does old.step_limit (mode_of old) params (record { schema = desk_schema; trees = old.now.trees }) text None command (Ok (w.tally, new.now))
+    = subst (λ s. Does old.step_limit (mode_of old) params (record old.now { schema = s }) text None command (Ok (w.tally, new.now))) ready.schema w.changed in
+    let done = on_rows old params text table w.tally new.now command (rw there at all) in
+    let found = went done.1 in
+    let written = went found.2 in
+    let edit = edit_of old.now.trees table (ids_of found.0) Given 1 found.0 in
+    let trees : done.0.trees ≡ written.0 = ap (λ (it : Written). it.trees) (same_value written.2) in
+    let step : Applies desk_schema Enforced old.now.trees edit written.0
+    = one_step desk_schema Enforced old.now.trees written.0 edit (idle 0 table.tree (taken_by old.now.trees edit) edit.news) written.1 in (
+      found.0,
+      found.1.answer Null,
+      record {
+        schema = ap (λ (d : Database). d.schema) done.2;
+        applies = subst (λ (t : Trees). Applies desk_schema Enforced old.now.trees edit t) (sym (ap (λ (d : Database). d.trees) done.2 ∙ trees)) step;
+        shown = subst (λ b. Shows old new new.now (if b then old.committed else new.now) b) ready.inside w.shown;
+      },
+    )
+
+-- a DELETE takes out the rows that its query names
+pub deletes : (sql : List ℕ) (params : Row) (old new : State) (at : ℕ) (table : Table) (q : Query) (count : ℕ)
+    → command_of (understood desk_schema sql) ≡ Delete at (record { lets = []; body = q }) → IsPlain (understood desk_schema sql)
+    → slice_get desk_schema.tables at ≡ Some table
+    → IsReady old → Executes sql params old new (Ok count)
+    → (rows : List Row) × IsAnswer q (overlay old.now.trees []) params rows × Edits old new (edit_of old.now.trees table (ids_of rows) Given 0 [])
+deletes sql params old new at table q count is plain there ready h =
+    let command = Delete at (record { lets = []; body = q }) in
+    let w = runs_as sql params old new desk_schema ready.schema command is plain count h in
+    let text = statement_of sql (understood desk_schema sql) in
+    let all : Does old.step_limit (mode_of old) params (record { schema = desk_schema; trees = old.now.trees }) text None command (Ok (w.tally, new.now))
+    = subst (λ s. Does old.step_limit (mode_of old) params (record old.now { schema = s }) text None command (Ok (w.tally, new.now))) ready.schema w.changed in
+    let done = on_rows old params text table w.tally new.now command (rw there at all) in
+    let found = went done.1 in
+    let written = went found.2 in
+    let edit = edit_of old.now.trees table (ids_of found.0) Given 0 [] in
+    let trees : done.0.trees ≡ written.0 = ap (λ (it : Written). it.trees) (same_value written.2) in
+    let step : Applies desk_schema Enforced old.now.trees edit written.0
+    = one_step desk_schema Enforced old.now.trees written.0 edit (idle 0 table.tree (taken_by old.now.trees edit) edit.news) written.1 in (
+      found.0,
+      found.1.answer Null,
+      record {
+        schema = ap (λ (d : Database). d.schema) done.2;
+        applies = subst (λ (t : Trees). Applies desk_schema Enforced old.now.trees edit t) (sym (ap (λ (d : Database). d.trees) done.2 ∙ trees)) step;
+        shown = subst (λ b. Shows old new new.now (if b then old.committed else new.now) b) ready.inside w.shown;
+      },
+    )

@@ -1,0 +1,23 @@
+-- The row that is read is one of the name; where none is given, there is none.
+use Rattle.std.proofs.Common.{Some, None}
+use Rattle.sqlite.specs.Held.{state}
+use Rattle.desk_sql.proofs.Selecting.{given_as}
+use Rattle.desk_sql.proofs.Meaning.{find_batch_means}
+use Rattle.desk_sql.proofs.LoadedBatches.{finds_batch, finds_no_batch}
+use Rattle.desk_sql.proofs.batches.find_batch.Goals as goal
+
+pub first_row-requires : goal.first_row-requires
+first_row-requires g c = find_batch_means.selects
+
+pub returns-in_ok-batch-in-Some-clause-found : goal.returns-in_ok-batch-in-Some-clause-found
+returns-in_ok-batch-in-Some-clause-found g c clean t sees =
+    let given = simp c.as_bytes.ensures.value at (c.in_ok-row.ensures.row clean) in
+    finds_batch (state g.S.Store c.args.conn.now) (state g.S.Store c.first_row.new.conn) t sees c.args.name.now c.in-Some.row
+    c.in_ok-batch-in-Some.batch c.in_ok-batch-in-Some.ensures
+    (given_as _ _ _ _ c.in_ok-row.field-0 (Some c.in-Some.row) c.in-Some.is given)
+
+pub returns-in-None-clause-found : goal.returns-in-None-clause-found
+returns-in-None-clause-found g c clean t sees =
+    let given = simp c.as_bytes.ensures.value at (c.in_ok-row.ensures.row clean) in
+    finds_no_batch (state g.S.Store c.args.conn.now) (state g.S.Store c.first_row.new.conn) t sees c.args.name.now
+    (given_as _ _ _ _ c.in_ok-row.field-0 None c.in-None.is given)

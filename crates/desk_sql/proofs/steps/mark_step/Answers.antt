@@ -1,0 +1,15 @@
+-- Each number is passed as the integer that it is.
+use Rattle.sqlite.specs.Held.{state}
+use Rattle.desk_sql.proofs.Writing.{pos_is}
+use Rattle.desk_sql.proofs.Changing.{changes_step}
+use Rattle.desk_sql.proofs.steps.mark_step.Goals as goal
+
+pub returns-clause-made : goal.returns-clause-made
+returns-clause-made g c clean t may fits =
+    let journey = c.requires.journey in
+    let place = c.requires.place in
+    let opt = c.requires.opt in
+    let taken = c.requires.taken in
+    changes_step (state g.S.Store c.args.tx.now.conn.now) (state g.S.Store c.execute.new.self.conn.now) t
+    c.args.journey c.args.place c.args.opt c.args.taken c.execute.result may
+    (simp pos_is at (c.execute.ensures.runs clean may.inside))

@@ -1,0 +1,11 @@
+-- The option that was read is that of the row after those so far.
+use Rattle.std.proofs.Common.{sym, ap, ◌∙◌, map}
+use Rattle.desk_sql.specs.Found.{shows_step, ten_of}
+use Rattle.desk_sql.proofs.OneMore.{one_more}
+use Rattle.desk_sql.proofs.steps.read_steps.Goals as goal
+
+pub loop-row-preserved : goal.loop-row-preserved
+loop-row-preserved c =
+    ap (map shows_step) c.in_ok-push.ensures.items
+    ∙ one_more shows_step ten_of c.loop-row.steps.items c.args.rows.now c.loop-row.row-index c.in_ok-step.step c.row-item.result
+    c.loop-row-test.true c.row-item.is c.loop-row.invariant c.in_ok-step.ensures

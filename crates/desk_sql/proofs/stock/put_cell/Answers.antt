@@ -1,0 +1,16 @@
+-- Each number is passed as the integer that it is.
+use Rattle.sqlite.specs.Held.{state}
+use Rattle.desk_sql.specs.Stock.{placed}
+use Rattle.desk_sql.proofs.Writing.{pos_is}
+use Rattle.desk_sql.proofs.Putting.{puts}
+use Rattle.desk_sql.proofs.stock.put_cell.Goals as goal
+
+pub returns-clause-made : goal.returns-clause-made
+returns-clause-made g c clean t may apart =
+    let kind = c.requires.0 in
+    let night = c.requires.1.0 in
+    let allot = c.requires.1.1.0 in
+    let free = c.requires.1.1.1.0 in
+    puts (state g.S.Store c.args.tx.now.conn.now) (state g.S.Store c.execute.new.self.conn.now) t (placed c.args.cell)
+    c.execute.result apart may
+    (simp (pos_is, c.as_bytes.ensures.value, c.as_bytes-2.ensures.value) at (c.execute.ensures.runs clean may.inside))

@@ -1,0 +1,15 @@
+-- Each number is passed as the integer that it is.
+use Rattle.sqlite.specs.Held.{state}
+use Rattle.desk_sql.proofs.Writing.{pos_is}
+use Rattle.desk_sql.proofs.Changing.{changes_fewer}
+use Rattle.desk_sql.proofs.stock.take_nights.Goals as goal
+
+pub returns-clause-made : goal.returns-clause-made
+returns-clause-made g c clean t may room =
+    let count = c.requires.count in
+    let kind = c.requires.range.0 in
+    let first = c.requires.range.1.0 in
+    let last = c.requires.range.1.1.0 in
+    changes_fewer (state g.S.Store c.args.tx.now.conn.now) (state g.S.Store c.execute.new.self.conn.now) t
+    c.args.range c.args.count c.execute.result room may
+    (simp (pos_is, c.as_bytes.ensures.value, c.as_bytes-2.ensures.value) at (c.execute.ensures.runs clean may.inside))

@@ -1,0 +1,107 @@
+-- What a statement may say of the connection that it ran on.
+use Rattle.std.specs.Prelude.{◌≡◌, ◌⊎◌, ℕ, List, [], Result, OnOk, IfOk, IfErr, IsTrue, ⊤}
+use Rattle.std.specs.List.{AllByRecursion}
+use Rattle.sqlite_schema.specs.declared.schema.Schema.{Schema}
+use Rattle.sqlite.specs.Store.{Ghosts}
+use Rattle.sqlite.specs.Held.{Held, state}
+use Rattle.sqlite.specs.State.{State, HasCleanDisk, IsUnchanged, IsRolledBack, Survives, KeepsCommit}
+use Rattle.sqlite.specs.declared.error.Error.{Error}
+use Rattle.desk_sql.specs.Schema.{no_schema, desk_schema}
+use Rattle.desk_sql.specs.Rows.{Tables, Shows}
+
+-- the connection sees these rows
+pub record Sees (s : State) (t : Tables) : Type 0 where
+  pub schema : s.now.schema ≡ desk_schema
+  pub rows : Shows s.now.trees t
+
+-- the same, as far as the connection is open: a shut one shows nothing, and each call on it fails
+abbrev pub MaySee : State → Tables → Type 0
+MaySee s t = IsTrue s.is_open → Sees s t
+
+-- the connection is in a transaction over the desk's tables
+pub record IsReady (s : State) : Type 0 where
+  pub inside : IsTrue s.in_transaction
+  pub schema : s.now.schema ≡ desk_schema
+
+-- the connection is in a transaction, and sees these rows as far as it is open
+pub record MayRun (s : State) (t : Tables) : Type 0 where
+  pub inside : IsTrue s.in_transaction
+  pub sees : MaySee s t
+
+-- the transaction was open, goes on, and sees these rows now; nothing was committed
+pub record Makes (old new : State) (after : Tables) : Type 0 where
+  pub was_open : IsTrue old.is_open
+  pub is_open : IsTrue new.is_open
+  pub inside : IsTrue new.in_transaction
+  pub sees : Sees new after
+  pub committed : new.committed ≡ old.committed
+
+-- the database has these tables, none of which has a row
+pub record IsEmptyWith (schema : Schema) (s : State) : Type 0 where
+  pub is : s.now.schema ≡ schema
+  pub empty : AllByRecursion (λ t. s.now.trees t.tree ≡ []) schema.tables
+
+-- the connection is in a transaction, and as far as it is open it has these tables, empty
+pub record MayBuild (schema : Schema) (s : State) : Type 0 where
+  pub inside : IsTrue s.in_transaction
+  pub empty : IsTrue s.is_open → IsEmptyWith schema s
+
+-- the transaction was open, goes on, and has these tables, empty; nothing was committed
+pub record Builds (old new : State) (after : Schema) : Type 0 where
+  pub was_open : IsTrue old.is_open
+  pub is_open : IsTrue new.is_open
+  pub inside : IsTrue new.in_transaction
+  pub made : IsEmptyWith after new
+  pub committed : new.committed ≡ old.committed
+
+module _ {S : Type 0} (g : Ghosts S) (old new : Held S) where
+  -- A write in a transaction: where the rows fit, a success leaves what it makes of them.
+  abbrev pub WritesWhere : (Tables → Type 0) → Result ℕ Error → (Tables → Tables) → Type 0
+  WritesWhere Fits result after =
+      HasCleanDisk (state g new) → (t : Tables) → MayRun (state g old) t → Fits t
+      → OnOk result (Makes (state g old) (state g new) (after t))
+
+  -- the same, whatever the rows are
+  abbrev pub Writes : Result ℕ Error → (Tables → Tables) → Type 0
+  Writes result after = WritesWhere (λ _. ⊤) result after
+
+  -- texts that make tables: on these tables, empty, a success leaves those, empty
+  abbrev pub BuildsOn : Schema → {V : Type 0} → Result V Error → Schema → Type 0
+  BuildsOn before result after =
+      HasCleanDisk (state g new) → MayBuild before (state g old) → OnOk result (Builds (state g old) (state g new) after)
+
+  -- on a store without tables a success leaves all tables, with these rows
+  abbrev pub Founds : {V : Type 0} → Result V Error → Tables → Type 0
+  Founds result rows =
+      HasCleanDisk (state g new) → MayBuild no_schema (state g old) → OnOk result (Makes (state g old) (state g new) rows)
+
+  -- after a success the transaction goes on
+  abbrev pub StaysInside : {V : Type 0} → Result V Error → Type 0
+  StaysInside result =
+      HasCleanDisk (state g new) → IsTrue (state g old).in_transaction → OnOk result (IsTrue (state g new).in_transaction)
+
+  -- a success tells that the connection was open
+  abbrev pub WasOpen : {V : Type 0} → Result V Error → Type 0
+  WasOpen result =
+      HasCleanDisk (state g new) → IsTrue (state g old).in_transaction → OnOk result (IsTrue (state g old).is_open)
+
+  -- a call in a transaction commits nothing
+  abbrev pub CommitsNothing : Type 0
+  CommitsNothing =
+      HasCleanDisk (state g new) → IsTrue (state g old).in_transaction → KeepsCommit (state g old) (state g new)
+
+  -- what a stop may leave does not grow
+  abbrev pub LeavesNoMore : Type 0
+  LeavesNoMore = Survives (state g old) (state g new) (λ _. ⊥)
+
+  -- A read: a success changes nothing, and what it found fits the rows.
+  abbrev pub Reads : {V : Type 0} → Result V Error → (Tables → V → Type 0) → Type 0
+  Reads result Finds =
+      HasCleanDisk (state g new) → (t : Tables) → MaySee (state g old) t
+      → IfOk result (λ found. IsUnchanged (state g old) (state g new) × Finds t found)
+
+  -- a read that fails changes nothing, or rolls back the transaction that it stands in
+  abbrev pub FailsQuietly : {V : Type 0} → Result V Error → Type 0
+  FailsQuietly result =
+      HasCleanDisk (state g new)
+      → IfErr result (λ _. IsUnchanged (state g old) (state g new) ⊎ IsRolledBack (state g old) (state g new))

@@ -1,0 +1,10 @@
+pub mod Calls
+pub mod Changes
+pub mod Found
+pub mod Lists
+pub mod Meanings
+pub mod Queries
+pub mod Rows
+pub mod Schema
+pub mod Stock
+pub mod Texts

@@ -1,0 +1,81 @@
+//! Replies that are kept under an agent's key.
+
+ghost use Rattle.std.specs.Prelude.{◌≡◌, false, IfOk};
+ghost use Rattle.desk_sql.specs.Calls.{Writes, StaysInside, WasOpen, CommitsNothing, LeavesNoMore, Reads, FailsQuietly};
+ghost use Rattle.desk_sql.specs.Changes.{adds_answer, kept};
+ghost use Rattle.desk_sql.specs.Found.{FindsAnswer, shows_answer, two_of};
+
+use crate::queries::first_row;
+use sqlite::types::ValueRef;
+use sqlite::{Alter, Connection, Error, Row, Transaction};
+
+/// A reply that is kept, and what was asked for it.
+#[derive(Debug, Drop)]
+pub struct KeptAnswer {
+    /// The bytes that were asked under the key.
+    pub ask: Vec<u8>,
+    /// The reply's line.
+    pub reply: String,
+}
+
+fn answer_of(row: &Row) -> Result<KeptAnswer, Error>
+    ensures { IfOk result (λ k. shows_answer k ≡ two_of row.now) }
+{
+    let ask = row.get(0)?;
+    let reply = row.get(1)?;
+    Ok(KeptAnswer { ask, reply })
+}
+
+/// What is kept under an agent's key, if anything is.
+pub fn find_answer<'x, S: Alter>(
+    conn: &mut Connection<S>,
+    agent: &'x str,
+    mark: &'x str,
+) -> Result<Option<KeptAnswer>, Error>
+    ensures found { Reads S.Store conn.old conn.new result (FindsAnswer agent.now mark.now) }
+    ensures failed { FailsQuietly S.Store conn.old conn.new result }
+    ensures mode { conn.old.in_transaction ≡ false → conn.new.in_transaction ≡ false }
+    ensures survives { LeavesNoMore S.Store conn.old conn.new }
+{
+    match first_row(
+        conn,
+        "SELECT ask, reply FROM answer WHERE agent = ?1 AND mark = ?2",
+        &[
+            ValueRef::Text(agent.as_bytes()),
+            ValueRef::Text(mark.as_bytes()),
+        ],
+    )? {
+        Some(row) => {
+            let answer = answer_of(&row)?;
+            Ok(Some(answer))
+        }
+        None => Ok(None),
+    }
+}
+
+/// Keeps a reply: `mark` is the key that the agent gave, `ask` what was asked under it. Answers how many rows.
+pub fn insert_answer<'x, S: Alter>(
+    tx: &mut Transaction<'_, S>,
+    agent: &'x str,
+    mark: &'x str,
+    ask: &'x [u8],
+    reply: &'x str,
+) -> Result<usize, Error>
+    ensures same_reference { tx.new.conn.ghost_name ≡ tx.old.conn.ghost_name }
+    ensures made { Writes S.Store tx.old.conn.now tx.new.conn.now result
+        (adds_answer (kept agent.now mark.now ask.now reply.now)) }
+    ensures inside { StaysInside S.Store tx.old.conn.now tx.new.conn.now result }
+    ensures live { WasOpen S.Store tx.old.conn.now tx.new.conn.now result }
+    ensures commit { CommitsNothing S.Store tx.old.conn.now tx.new.conn.now }
+    ensures survives { LeavesNoMore S.Store tx.old.conn.now tx.new.conn.now }
+{
+    tx.execute(
+        "INSERT INTO answer VALUES (?1, ?2, ?3, ?4)",
+        &[
+            ValueRef::Text(agent.as_bytes()),
+            ValueRef::Text(mark.as_bytes()),
+            ValueRef::Blob(ask),
+            ValueRef::Text(reply.as_bytes()),
+        ],
+    )
+}

@@ -1,0 +1,77 @@
+//! Batches that were loaded.
+
+ghost use Rattle.std.specs.Prelude.{◌≡◌, ◌<◌, ◌^◌, false, IfOk};
+ghost use Rattle.desk_sql.specs.Calls.{Writes, StaysInside, WasOpen, CommitsNothing, LeavesNoMore, Reads, FailsQuietly};
+ghost use Rattle.desk_sql.specs.Changes.{adds_batch};
+ghost use Rattle.desk_sql.specs.Found.{FindsBatch, shows_batch, two_of};
+
+use crate::queries::first_row;
+use sqlite::types::ValueRef;
+use sqlite::{Alter, Connection, Error, Row, Transaction};
+
+/// A batch that was loaded.
+#[derive(Debug, Drop)]
+pub struct BatchFound {
+    /// The number of its event.
+    pub num: u64,
+    /// The texts of its rows, each ended by a line feed.
+    pub content: Vec<u8>,
+}
+
+fn read_batch(row: &Row) -> Result<BatchFound, Error>
+    ensures { IfOk result (λ b. shows_batch b ≡ two_of row.now) }
+{
+    let num = row.get(0)?;
+    let content = row.get(1)?;
+    Ok(BatchFound { num, content })
+}
+
+/// The batch with a name, if there is one.
+pub fn find_batch<S: Alter>(
+    conn: &mut Connection<S>,
+    name: &str,
+) -> Result<Option<BatchFound>, Error>
+    ensures found { Reads S.Store conn.old conn.new result (FindsBatch name.now) }
+    ensures failed { FailsQuietly S.Store conn.old conn.new result }
+    ensures mode { conn.old.in_transaction ≡ false → conn.new.in_transaction ≡ false }
+    ensures survives { LeavesNoMore S.Store conn.old conn.new }
+{
+    match first_row(
+        conn,
+        "SELECT num, content FROM batch WHERE name = ?1",
+        &[ValueRef::Text(name.as_bytes())],
+    )? {
+        Some(row) => {
+            let batch = read_batch(&row)?;
+            Ok(Some(batch))
+        }
+        None => Ok(None),
+    }
+}
+
+/// Adds a batch: its name, the number of its event, and its text.
+pub fn insert_batch<'x, S: Alter>(
+    tx: &mut Transaction<'_, S>,
+    name: &'x str,
+    num: u64,
+    content: &'x [u8],
+) -> Result<usize, Error>
+    requires { num < 2 ^ 63 }
+
+    ensures same_reference { tx.new.conn.ghost_name ≡ tx.old.conn.ghost_name }
+    ensures made { Writes S.Store tx.old.conn.now tx.new.conn.now result
+        (adds_batch (record { name = name.now; num = num; content = content.now })) }
+    ensures inside { StaysInside S.Store tx.old.conn.now tx.new.conn.now result }
+    ensures live { WasOpen S.Store tx.old.conn.now tx.new.conn.now result }
+    ensures commit { CommitsNothing S.Store tx.old.conn.now tx.new.conn.now }
+    ensures survives { LeavesNoMore S.Store tx.old.conn.now tx.new.conn.now }
+{
+    tx.execute(
+        "INSERT INTO batch VALUES (?1, ?2, ?3)",
+        &[
+            ValueRef::Text(name.as_bytes()),
+            ValueRef::Int(num as i64),
+            ValueRef::Blob(content),
+        ],
+    )
+}

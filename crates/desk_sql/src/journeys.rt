@@ -1,0 +1,188 @@
+//! Journeys, each with its cursor.
+
+ghost use Rattle.std.specs.Prelude.{◌≡◌, ◌<◌, ◌^◌, false, IfOk};
+ghost use Rattle.desk_sql.specs.Calls.{Writes, WritesWhere, StaysInside, WasOpen, CommitsNothing, LeavesNoMore, Reads, FailsQuietly};
+ghost use Rattle.desk_sql.specs.Changes.{AreJourneysBelow, adds_journey, begun, IsSmallCursor, moves_journey};
+ghost use Rattle.desk_sql.specs.Found.{FindsJourney, FindsUnfinished, shows_cursor, cursor_of, shows_journey, nine_of};
+
+use crate::queries::first_row;
+use sqlite::types::ValueRef;
+use sqlite::{Alter, Connection, Error, Row, Transaction};
+
+/// Where a journey stands.
+#[derive(Clone, Copy, Debug, PartialEq, Eq)]
+pub struct Cursor {
+    /// How many steps stand.
+    pub pos: u64,
+    /// 0 running, 1 going back, 2 ended, 3 undone.
+    pub phase: u64,
+    /// The position that a turn leads to, 0 where the journey is not going back.
+    pub target: u64,
+    /// How many tries or options were used up.
+    pub used: u64,
+}
+
+/// A journey.
+#[derive(Debug, Drop)]
+pub struct JourneyFound {
+    /// The journey's number.
+    pub id: u64,
+    /// The number of the event that began it.
+    pub num: u64,
+    pub agent: String,
+    /// How many steps its plan has.
+    pub steps: u64,
+    /// How many tries its plan has.
+    pub tries: u64,
+    pub cursor: Cursor,
+}
+
+fn read_cursor(row: &Row) -> Result<Cursor, Error>
+    ensures { IfOk result (λ c. shows_cursor c ≡ cursor_of row.now) }
+{
+    let pos = row.get(5)?;
+    let phase = row.get(6)?;
+    let target = row.get(7)?;
+    let used = row.get(8)?;
+    Ok(Cursor {
+        pos,
+        phase,
+        target,
+        used,
+    })
+}
+
+fn read_journey(row: &Row) -> Result<JourneyFound, Error>
+    ensures { IfOk result (λ j. shows_journey j ≡ nine_of row.now) }
+{
+    let id = row.get(0)?;
+    let num = row.get(1)?;
+    let agent = row.get(2)?;
+    let steps = row.get(3)?;
+    let tries = row.get(4)?;
+    let cursor = read_cursor(row)?;
+    Ok(JourneyFound {
+        id,
+        num,
+        agent,
+        steps,
+        tries,
+        cursor,
+    })
+}
+
+/// The journey with a number, if there is one.
+pub fn find_journey<S: Alter>(
+    conn: &mut Connection<S>,
+    id: u64,
+) -> Result<Option<JourneyFound>, Error>
+    requires { id < 2 ^ 63 }
+
+    ensures found { Reads S.Store conn.old conn.new result (FindsJourney id) }
+    ensures failed { FailsQuietly S.Store conn.old conn.new result }
+    ensures mode { conn.old.in_transaction ≡ false → conn.new.in_transaction ≡ false }
+    ensures survives { LeavesNoMore S.Store conn.old conn.new }
+{
+    match first_row(
+        conn,
+        "SELECT id, num, agent, steps, tries, pos, phase, target, used FROM journey WHERE id = ?1",
+        &[ValueRef::Int(id as i64)],
+    )? {
+        Some(row) => {
+            let journey = read_journey(&row)?;
+            Ok(Some(journey))
+        }
+        None => Ok(None),
+    }
+}
+
+/// The first journey above a number that has not ended, if there is one.
+pub fn first_unfinished<S: Alter>(
+    conn: &mut Connection<S>,
+    after: u64,
+) -> Result<Option<JourneyFound>, Error>
+    requires { after < 2 ^ 63 }
+
+    ensures found { Reads S.Store conn.old conn.new result (FindsUnfinished after) }
+    ensures failed { FailsQuietly S.Store conn.old conn.new result }
+    ensures mode { conn.old.in_transaction ≡ false → conn.new.in_transaction ≡ false }
+    ensures survives { LeavesNoMore S.Store conn.old conn.new }
+{
+    match first_row(
+        conn,
+        "SELECT id, num, agent, steps, tries, pos, phase, target, used FROM journey WHERE id > ?1 AND phase <= 1 ORDER BY id",
+        &[ValueRef::Int(after as i64)],
+    )? {
+        Some(row) => {
+            let journey = read_journey(&row)?;
+            Ok(Some(journey))
+        }
+        None => Ok(None),
+    }
+}
+
+/// Begins a journey, with the cursor at the start of its plan. Its number is above all others.
+pub fn insert_journey<S: Alter>(
+    tx: &mut Transaction<'_, S>,
+    id: u64,
+    num: u64,
+    agent: &str,
+    steps: u64,
+    tries: u64,
+) -> Result<usize, Error>
+    requires id { id < 2 ^ 63 }
+    requires num { num < 2 ^ 63 }
+    requires steps { steps < 2 ^ 63 }
+    requires tries { tries < 2 ^ 63 }
+
+    ensures same_reference { tx.new.conn.ghost_name ≡ tx.old.conn.ghost_name }
+    ensures made { WritesWhere S.Store tx.old.conn.now tx.new.conn.now (AreJourneysBelow id) result
+        (adds_journey (begun id num agent.now steps tries)) }
+    ensures inside { StaysInside S.Store tx.old.conn.now tx.new.conn.now result }
+    ensures live { WasOpen S.Store tx.old.conn.now tx.new.conn.now result }
+    ensures commit { CommitsNothing S.Store tx.old.conn.now tx.new.conn.now }
+    ensures survives { LeavesNoMore S.Store tx.old.conn.now tx.new.conn.now }
+{
+    tx.execute(
+        "INSERT INTO journey VALUES (?1, ?2, ?3, ?4, ?5, ?6, ?7, ?8, ?9)",
+        &[
+            ValueRef::Int(id as i64),
+            ValueRef::Int(num as i64),
+            ValueRef::Text(agent.as_bytes()),
+            ValueRef::Int(steps as i64),
+            ValueRef::Int(tries as i64),
+            ValueRef::Int(0),
+            ValueRef::Int(0),
+            ValueRef::Int(0),
+            ValueRef::Int(0),
+        ],
+    )
+}
+
+/// Sets where a journey stands.
+pub fn move_journey<S: Alter>(
+    tx: &mut Transaction<'_, S>,
+    id: u64,
+    cursor: Cursor,
+) -> Result<usize, Error>
+    requires id { id < 2 ^ 63 }
+    requires cursor { IsSmallCursor cursor }
+
+    ensures same_reference { tx.new.conn.ghost_name ≡ tx.old.conn.ghost_name }
+    ensures made { Writes S.Store tx.old.conn.now tx.new.conn.now result (moves_journey id cursor) }
+    ensures inside { StaysInside S.Store tx.old.conn.now tx.new.conn.now result }
+    ensures live { WasOpen S.Store tx.old.conn.now tx.new.conn.now result }
+    ensures commit { CommitsNothing S.Store tx.old.conn.now tx.new.conn.now }
+    ensures survives { LeavesNoMore S.Store tx.old.conn.now tx.new.conn.now }
+{
+    tx.execute(
+        "UPDATE journey SET pos = ?2, phase = ?3, target = ?4, used = ?5 WHERE id = ?1",
+        &[
+            ValueRef::Int(id as i64),
+            ValueRef::Int(cursor.pos as i64),
+            ValueRef::Int(cursor.phase as i64),
+            ValueRef::Int(cursor.target as i64),
+            ValueRef::Int(cursor.used as i64),
+        ],
+    )
+}

@@ -1,0 +1,36 @@
+//! The statements of the desk: one function for each, whose contract names the rows that it reads or changes.
+//!
+//! Each runs over any store. A write stands in a transaction, and says what the rows are afterwards; a read stands
+//! outside of one, changes nothing and hands out typed rows. The tables are made here too.
+//!
+//! Words: a *row* is one of a table, as a typed value; a connection *sees* rows where its tables show them.
+#![tactic(auto)]
+
+mod answers;
+mod batches;
+mod founding;
+mod items;
+mod journeys;
+mod marks;
+mod meta;
+mod queries;
+mod steps;
+mod stock;
+
+pub use answers::{KeptAnswer, find_answer, insert_answer};
+pub use batches::{BatchFound, find_batch, insert_batch};
+pub use founding::make_tables;
+pub use items::{ItemFound, find_items, insert_item};
+pub use journeys::{
+    Cursor, JourneyFound, find_journey, first_unfinished, insert_journey, move_journey,
+};
+pub use marks::{delete_mark, find_marks, insert_mark};
+pub use meta::{Meta, read_meta, update_meta};
+pub use steps::{StepFound, StepOption, find_steps, insert_step, mark_step};
+pub use stock::{
+    CellFound, CellPlaces, NightFound, NightRange, find_nights, find_stock, give_nights, put_cell,
+    take_nights,
+};
+
+#[cfg(test)]
+mod tests;

@@ -1,0 +1,91 @@
+//! Save-points that were taken at run time and still stand.
+
+ghost use Rattle.std.specs.Prelude.{◌≡◌, ◌<◌, ◌^◌, false, map, IfOk, ◌∷◌, []};
+ghost use Rattle.sqlite.specs.Order.{column};
+ghost use Rattle.desk_sql.specs.Calls.{Writes, StaysInside, WasOpen, CommitsNothing, LeavesNoMore, Reads, FailsQuietly};
+ghost use Rattle.desk_sql.specs.Changes.{adds_mark, drops_mark};
+ghost use Rattle.desk_sql.specs.Found.{FindsMarks};
+ghost use Rattle.desk_sql.specs.Rows.{whole};
+
+use crate::queries::all_rows;
+use sqlite::types::ValueRef;
+use sqlite::{Alter, Connection, Error, Row, Transaction};
+use std::alloc::Global;
+
+fn read_marks(alloc: Global, rows: &[Row]) -> Result<Vec<u64>, Error>
+    ensures { IfOk result (λ marks. map whole marks.items ≡ map (λ r. column r 0) rows.now) }
+{
+    let mut marks = Vec::new(alloc);
+    for row in rows {
+        let mark = row.get(0)?;
+        marks.push(mark)?;
+    }
+    Ok(marks)
+}
+
+/// The positions of the save-points of a journey, the lowest first.
+pub fn find_marks<S: Alter>(
+    alloc: Global,
+    conn: &mut Connection<S>,
+    journey: u64,
+) -> Result<Vec<u64>, Error>
+    requires { journey < 2 ^ 63 }
+
+    ensures found { Reads S.Store conn.old conn.new result
+        (λ t found. FindsMarks journey t found.items) }
+    ensures failed { FailsQuietly S.Store conn.old conn.new result }
+    ensures mode { conn.old.in_transaction ≡ false → conn.new.in_transaction ≡ false }
+    ensures survives { LeavesNoMore S.Store conn.old conn.new }
+{
+    let rows = all_rows(
+        conn,
+        "SELECT pos FROM mark WHERE journey = ?1 ORDER BY pos",
+        &[ValueRef::Int(journey as i64)],
+    )?;
+    let marks = read_marks(alloc, rows.as_slice())?;
+    Ok(marks)
+}
+
+/// Adds a save-point to a journey.
+pub fn insert_mark<S: Alter>(
+    tx: &mut Transaction<'_, S>,
+    journey: u64,
+    pos: u64,
+) -> Result<usize, Error>
+    requires journey { journey < 2 ^ 63 }
+    requires pos { pos < 2 ^ 63 }
+
+    ensures same_reference { tx.new.conn.ghost_name ≡ tx.old.conn.ghost_name }
+    ensures made { Writes S.Store tx.old.conn.now tx.new.conn.now result (adds_mark journey pos) }
+    ensures inside { StaysInside S.Store tx.old.conn.now tx.new.conn.now result }
+    ensures live { WasOpen S.Store tx.old.conn.now tx.new.conn.now result }
+    ensures commit { CommitsNothing S.Store tx.old.conn.now tx.new.conn.now }
+    ensures survives { LeavesNoMore S.Store tx.old.conn.now tx.new.conn.now }
+{
+    tx.execute(
+        "INSERT INTO mark VALUES (?1, ?2)",
+        &[ValueRef::Int(journey as i64), ValueRef::Int(pos as i64)],
+    )
+}
+
+/// Takes a save-point away from a journey, if it is there.
+pub fn delete_mark<S: Alter>(
+    tx: &mut Transaction<'_, S>,
+    journey: u64,
+    pos: u64,
+) -> Result<usize, Error>
+    requires journey { journey < 2 ^ 63 }
+    requires pos { pos < 2 ^ 63 }
+
+    ensures same_reference { tx.new.conn.ghost_name ≡ tx.old.conn.ghost_name }
+    ensures made { Writes S.Store tx.old.conn.now tx.new.conn.now result (drops_mark journey pos) }
+    ensures inside { StaysInside S.Store tx.old.conn.now tx.new.conn.now result }
+    ensures live { WasOpen S.Store tx.old.conn.now tx.new.conn.now result }
+    ensures commit { CommitsNothing S.Store tx.old.conn.now tx.new.conn.now }
+    ensures survives { LeavesNoMore S.Store tx.old.conn.now tx.new.conn.now }
+{
+    tx.execute(
+        "DELETE FROM mark WHERE journey = ?1 AND pos = ?2",
+        &[ValueRef::Int(journey as i64), ValueRef::Int(pos as i64)],
+    )
+}

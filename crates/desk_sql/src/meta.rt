@@ -1,0 +1,101 @@
+//! The one row of `meta`: the schema's version, how many events there are, and the last journey's number.
+
+ghost use Rattle.std.specs.Prelude.{◌≡◌, ◌<◌, ◌^◌, false, IfOk};
+ghost use Rattle.desk_sql.specs.Calls.{Writes, WritesWhere, StaysInside, WasOpen, CommitsNothing, LeavesNoMore, Reads, FailsQuietly};
+ghost use Rattle.desk_sql.specs.Changes.{LacksMeta, adds_meta, at_first, counts};
+ghost use Rattle.desk_sql.specs.Found.{IsMeta, shows_meta, three_of};
+
+use crate::queries::first_row;
+use sqlite::types::ValueRef;
+use sqlite::{Alter, Connection, Error, Row, Transaction};
+
+/// The numbers of `meta`.
+#[derive(Clone, Copy, Debug, PartialEq, Eq)]
+pub struct Meta {
+    /// The version of the schema.
+    pub version: u64,
+    /// How many events there are.
+    pub events: u64,
+    /// The last journey's number, 0 where there is none.
+    pub journeys: u64,
+}
+
+fn meta_of(row: &Row) -> Result<Meta, Error>
+    ensures { IfOk result (λ m. shows_meta m ≡ three_of row.now) }
+{
+    let version = row.get(0)?;
+    let events = row.get(1)?;
+    let journeys = row.get(2)?;
+    Ok(Meta {
+        version,
+        events,
+        journeys,
+    })
+}
+
+/// The numbers of the one row. A `meta` without a row is an error.
+pub fn read_meta<S: Alter>(conn: &mut Connection<S>) -> Result<Meta, Error>
+    ensures found { Reads S.Store conn.old conn.new result IsMeta }
+    ensures failed { FailsQuietly S.Store conn.old conn.new result }
+    ensures mode { conn.old.in_transaction ≡ false → conn.new.in_transaction ≡ false }
+    ensures survives { LeavesNoMore S.Store conn.old conn.new }
+{
+    match first_row(
+        conn,
+        "SELECT version, events, journeys FROM meta WHERE one = 1",
+        &[],
+    )? {
+        Some(row) => meta_of(&row),
+        None => Err(Error::QueryReturnedNoRows),
+    }
+}
+
+/// Adds the row of a desk that has no event yet.
+pub(crate) fn insert_meta<S: Alter>(
+    tx: &mut Transaction<'_, S>,
+    version: u64,
+) -> Result<usize, Error>
+    requires { version < 2 ^ 63 }
+
+    ensures same_reference { tx.new.conn.ghost_name ≡ tx.old.conn.ghost_name }
+    ensures made { WritesWhere S.Store tx.old.conn.now tx.new.conn.now LacksMeta result
+        (adds_meta (at_first version)) }
+    ensures inside { StaysInside S.Store tx.old.conn.now tx.new.conn.now result }
+    ensures live { WasOpen S.Store tx.old.conn.now tx.new.conn.now result }
+    ensures commit { CommitsNothing S.Store tx.old.conn.now tx.new.conn.now }
+    ensures survives { LeavesNoMore S.Store tx.old.conn.now tx.new.conn.now }
+{
+    tx.execute(
+        "INSERT INTO meta VALUES (1, ?1, 0, 0)",
+        &[ValueRef::Int(version as i64)],
+    )
+}
+
+/// Sets all three numbers.
+pub fn update_meta<S: Alter>(
+    tx: &mut Transaction<'_, S>,
+    version: u64,
+    events: u64,
+    journeys: u64,
+) -> Result<usize, Error>
+    requires version { version < 2 ^ 63 }
+    requires events { events < 2 ^ 63 }
+    requires journeys { journeys < 2 ^ 63 }
+
+    ensures same_reference { tx.new.conn.ghost_name ≡ tx.old.conn.ghost_name }
+    ensures made { Writes S.Store tx.old.conn.now tx.new.conn.now result
+        (counts (record { version = version; events = events; journeys = journeys })) }
+    ensures inside { StaysInside S.Store tx.old.conn.now tx.new.conn.now result }
+    ensures live { WasOpen S.Store tx.old.conn.now tx.new.conn.now result }
+    ensures commit { CommitsNothing S.Store tx.old.conn.now tx.new.conn.now }
+    ensures survives { LeavesNoMore S.Store tx.old.conn.now tx.new.conn.now }
+{
+    tx.execute(
+        "UPDATE meta SET version = ?1, events = ?2, journeys = ?3 WHERE one = 1",
+        &[
+            ValueRef::Int(version as i64),
+            ValueRef::Int(events as i64),
+            ValueRef::Int(journeys as i64),
+        ],
+    )
+}

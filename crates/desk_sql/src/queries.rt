@@ -1,0 +1,49 @@
+//! A SELECT outside of a transaction: it changes nothing, whatever the store does.
+
+ghost use Rattle.std.specs.Prelude.{◌≡◌, false, IfOk};
+ghost use Rattle.sqlite.specs.Values.{bound};
+ghost use Rattle.sqlite.specs.Held.{state};
+ghost use Rattle.sqlite.specs.State.{HasCleanDisk};
+ghost use Rattle.desk_sql.specs.Calls.{FailsQuietly, LeavesNoMore};
+ghost use Rattle.desk_sql.specs.Queries.{IsSelect, GivesRow, GivesRows};
+
+use sqlite::types::ValueRef;
+use sqlite::{Alter, Connection, Error, Row};
+
+/// The first row that a SELECT gives, if there is one.
+pub(crate) fn first_row<S: Alter>(
+    conn: &mut Connection<S>,
+    text: &str,
+    params: &[ValueRef<'_>],
+) -> Result<Option<Row>, Error>
+    requires { IsSelect text.now }
+
+    ensures row { HasCleanDisk (state S.Store conn.new) → IfOk result (λ found.
+        GivesRow text.now (bound params.now) (state S.Store conn.old) (state S.Store conn.new) found) }
+    ensures failed { FailsQuietly S.Store conn.old conn.new result }
+    ensures mode { conn.old.in_transaction ≡ false → conn.new.in_transaction ≡ false }
+    ensures survives { LeavesNoMore S.Store conn.old conn.new }
+{
+    match conn.query_row(text, params) {
+        Ok(row) => Ok(Some(row)),
+        Err(Error::QueryReturnedNoRows) => Ok(None),
+        Err(error) => Err(error),
+    }
+}
+
+/// All rows that a SELECT gives.
+pub(crate) fn all_rows<S: Alter>(
+    conn: &mut Connection<S>,
+    text: &str,
+    params: &[ValueRef<'_>],
+) -> Result<Vec<Row>, Error>
+    requires { IsSelect text.now }
+
+    ensures rows { HasCleanDisk (state S.Store conn.new) → IfOk result (λ rows.
+        GivesRows text.now (bound params.now) (state S.Store conn.old) (state S.Store conn.new) rows.items) }
+    ensures failed { FailsQuietly S.Store conn.old conn.new result }
+    ensures mode { conn.old.in_transaction ≡ false → conn.new.in_transaction ≡ false }
+    ensures survives { LeavesNoMore S.Store conn.old conn.new }
+{
+    conn.query_all(text, params)
+}

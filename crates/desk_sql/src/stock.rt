@@ -1,0 +1,251 @@
+//! The places of each cell.
+
+ghost use Rattle.std.specs.Prelude.{◌≡◌, ◌<◌, ◌^◌, false, map, pos, neg_ℤ, IfOk};
+ghost use Rattle.desk_sql.specs.Calls.{WritesWhere, StaysInside, WasOpen, CommitsNothing, LeavesNoMore, Reads, FailsQuietly};
+ghost use Rattle.desk_sql.specs.Stock.{IsSmallRange, FindsNights, FindsStock, shows_night, shows_cell, HaveFree, HaveRoom, takes_nights, gives_nights, IsSmallCell, AreApart, placed, puts_cell};
+ghost use Rattle.desk_sql.specs.Found.{three_of, six_of};
+
+use crate::queries::all_rows;
+use sqlite::types::ValueRef;
+use sqlite::{Alter, Connection, Error, Row, Transaction};
+use std::alloc::Global;
+
+/// The nights of a supplier's product from one to another, both included.
+#[derive(Clone, Copy)]
+pub struct NightRange<'x> {
+    pub kind: u64,
+    pub supplier: &'x str,
+    pub product: &'x str,
+    pub first: u64,
+    pub last: u64,
+}
+
+/// One night of a range, and its places.
+#[derive(Clone, Copy, Debug, PartialEq, Eq)]
+pub struct NightFound {
+    pub night: u64,
+    /// How many places the supplier allotted.
+    pub allot: u64,
+    /// How many of them are free.
+    pub free: u64,
+}
+
+fn read_night(row: &Row) -> Result<NightFound, Error>
+    ensures { IfOk result (λ n. shows_night n ≡ three_of row.now) }
+{
+    let night = row.get(0)?;
+    let allot = row.get(1)?;
+    let free = row.get(2)?;
+    Ok(NightFound { night, allot, free })
+}
+
+fn read_nights(alloc: Global, rows: &[Row]) -> Result<Vec<NightFound>, Error>
+    ensures { IfOk result (λ nights. map shows_night nights.items ≡ map three_of rows.now) }
+{
+    let mut nights = Vec::new(alloc);
+    for row in rows {
+        let night = read_night(row)?;
+        nights.push(night)?;
+    }
+    Ok(nights)
+}
+
+/// The nights of a range that have a row, in order.
+pub fn find_nights<S: Alter>(
+    alloc: Global,
+    conn: &mut Connection<S>,
+    range: NightRange<'_>,
+) -> Result<Vec<NightFound>, Error>
+    requires { IsSmallRange range }
+
+    ensures found { Reads S.Store conn.old conn.new result
+        (λ t found. FindsNights range.entry t found.items) }
+    ensures failed { FailsQuietly S.Store conn.old conn.new result }
+    ensures mode { conn.old.in_transaction ≡ false → conn.new.in_transaction ≡ false }
+    ensures survives { LeavesNoMore S.Store conn.old conn.new }
+{
+    let rows = all_rows(
+        conn,
+        "SELECT night, allot, free FROM stock WHERE kind = ?1 AND supplier = ?2 AND product = ?3 AND night BETWEEN ?4 AND ?5 ORDER BY night",
+        &[
+            ValueRef::Int(range.kind as i64),
+            ValueRef::Text(range.supplier.as_bytes()),
+            ValueRef::Text(range.product.as_bytes()),
+            ValueRef::Int(range.first as i64),
+            ValueRef::Int(range.last as i64),
+        ],
+    )?;
+    let nights = read_nights(alloc, rows.as_slice())?;
+    Ok(nights)
+}
+
+/// One cell, and its places.
+#[derive(Debug, Drop)]
+pub struct CellFound {
+    pub kind: u64,
+    pub supplier: String,
+    pub product: String,
+    pub night: u64,
+    /// How many places the supplier allotted.
+    pub allot: u64,
+    /// How many of them are free.
+    pub free: u64,
+}
+
+fn read_cell(row: &Row) -> Result<CellFound, Error>
+    ensures { IfOk result (λ c. shows_cell c ≡ six_of row.now) }
+{
+    let kind = row.get(0)?;
+    let supplier = row.get(1)?;
+    let product = row.get(2)?;
+    let night = row.get(3)?;
+    let allot = row.get(4)?;
+    let free = row.get(5)?;
+    Ok(CellFound {
+        kind,
+        supplier,
+        product,
+        night,
+        allot,
+        free,
+    })
+}
+
+fn read_cells(alloc: Global, rows: &[Row]) -> Result<Vec<CellFound>, Error>
+    ensures { IfOk result (λ cells. map shows_cell cells.items ≡ map six_of rows.now) }
+{
+    let mut cells = Vec::new(alloc);
+    for row in rows {
+        let cell = read_cell(row)?;
+        cells.push(cell)?;
+    }
+    Ok(cells)
+}
+
+/// All cells, by kind, supplier, product and night.
+pub fn find_stock<S: Alter>(
+    alloc: Global,
+    conn: &mut Connection<S>,
+) -> Result<Vec<CellFound>, Error>
+    ensures found { Reads S.Store conn.old conn.new result (λ t found. FindsStock t found.items) }
+    ensures failed { FailsQuietly S.Store conn.old conn.new result }
+    ensures mode { conn.old.in_transaction ≡ false → conn.new.in_transaction ≡ false }
+    ensures survives { LeavesNoMore S.Store conn.old conn.new }
+{
+    let rows = all_rows(
+        conn,
+        "SELECT kind, supplier, product, night, allot, free FROM stock ORDER BY kind, supplier, product, night",
+        &[],
+    )?;
+    let cells = read_cells(alloc, rows.as_slice())?;
+    Ok(cells)
+}
+
+/// Takes so many places of each night of a range that has a row.
+pub fn take_nights<S: Alter>(
+    tx: &mut Transaction<'_, S>,
+    range: NightRange<'_>,
+    count: u64,
+) -> Result<usize, Error>
+    requires range { IsSmallRange range }
+    requires count { count < 2 ^ 63 }
+
+    ensures same_reference { tx.new.conn.ghost_name ≡ tx.old.conn.ghost_name }
+    ensures made { WritesWhere S.Store tx.old.conn.now tx.new.conn.now
+        (HaveFree range.entry count) result
+        (takes_nights range.entry count) }
+    ensures inside { StaysInside S.Store tx.old.conn.now tx.new.conn.now result }
+    ensures live { WasOpen S.Store tx.old.conn.now tx.new.conn.now result }
+    ensures commit { CommitsNothing S.Store tx.old.conn.now tx.new.conn.now }
+    ensures survives { LeavesNoMore S.Store tx.old.conn.now tx.new.conn.now }
+{
+    tx.execute(
+        "UPDATE stock SET free = free - ?4 WHERE kind = ?1 AND supplier = ?2 AND product = ?3 AND night BETWEEN ?5 AND ?6",
+        &[
+            ValueRef::Int(range.kind as i64),
+            ValueRef::Text(range.supplier.as_bytes()),
+            ValueRef::Text(range.product.as_bytes()),
+            ValueRef::Int(count as i64),
+            ValueRef::Int(range.first as i64),
+            ValueRef::Int(range.last as i64),
+        ],
+    )
+}
+
+// A count below zero, as one that is taken away in order to give it back.
+fn below_zero(count: u64) -> i64
+    requires { count < 2 ^ 63 }
+
+    ensures { result ≡ neg_ℤ (pos count) }
+{
+    -(count as i64)
+}
+
+/// Gives back so many places of each night of a range that has a row.
+pub fn give_nights<S: Alter>(
+    tx: &mut Transaction<'_, S>,
+    range: NightRange<'_>,
+    count: u64,
+) -> Result<usize, Error>
+    requires range { IsSmallRange range }
+    requires count { count < 2 ^ 63 }
+
+    ensures same_reference { tx.new.conn.ghost_name ≡ tx.old.conn.ghost_name }
+    ensures made { WritesWhere S.Store tx.old.conn.now tx.new.conn.now
+        (HaveRoom range.entry count) result
+        (gives_nights range.entry count) }
+    ensures inside { StaysInside S.Store tx.old.conn.now tx.new.conn.now result }
+    ensures live { WasOpen S.Store tx.old.conn.now tx.new.conn.now result }
+    ensures commit { CommitsNothing S.Store tx.old.conn.now tx.new.conn.now }
+    ensures survives { LeavesNoMore S.Store tx.old.conn.now tx.new.conn.now }
+{
+    tx.execute(
+        "UPDATE stock SET free = free - ?4 WHERE kind = ?1 AND supplier = ?2 AND product = ?3 AND night BETWEEN ?5 AND ?6",
+        &[
+            ValueRef::Int(range.kind as i64),
+            ValueRef::Text(range.supplier.as_bytes()),
+            ValueRef::Text(range.product.as_bytes()),
+            ValueRef::Int(below_zero(count)),
+            ValueRef::Int(range.first as i64),
+            ValueRef::Int(range.last as i64),
+        ],
+    )
+}
+
+/// One cell, as its places are set.
+#[derive(Clone, Copy)]
+pub struct CellPlaces<'x> {
+    pub kind: u64,
+    pub supplier: &'x str,
+    pub product: &'x str,
+    pub night: u64,
+    /// How many places the supplier allotted.
+    pub allot: u64,
+    /// How many of them are free.
+    pub free: u64,
+}
+
+/// Sets the places of a cell, whether it has a row or not.
+pub fn put_cell<S: Alter>(tx: &mut Transaction<'_, S>, cell: CellPlaces<'_>) -> Result<usize, Error>
+    requires { IsSmallCell cell }
+
+    ensures same_reference { tx.new.conn.ghost_name ≡ tx.old.conn.ghost_name }
+    ensures made { WritesWhere S.Store tx.old.conn.now tx.new.conn.now AreApart result
+        (puts_cell (placed cell.entry)) }
+    ensures inside { StaysInside S.Store tx.old.conn.now tx.new.conn.now result }
+    ensures live { WasOpen S.Store tx.old.conn.now tx.new.conn.now result }
+    ensures commit { CommitsNothing S.Store tx.old.conn.now tx.new.conn.now }
+    ensures survives { LeavesNoMore S.Store tx.old.conn.now tx.new.conn.now }
+{
+    tx.execute(
+        "INSERT INTO stock VALUES (?1, ?2, ?3, ?4, ?5, ?6) ON CONFLICT(kind, supplier, product, night) DO UPDATE SET allot = excluded.allot, free = excluded.free",
+        &[
+            ValueRef::Int(cell.kind as i64),
+            ValueRef::Text(cell.supplier.as_bytes()),
+            ValueRef::Text(cell.product.as_bytes()),
+            ValueRef::Int(cell.night as i64),
+            ValueRef::Int(cell.allot as i64),
+            ValueRef::Int(cell.free as i64),
+        ],
+    )
+}

@@ -1,0 +1,114 @@
+-- How a legal ledger grows by one event, and proofs by its events one after another. For what holds
+-- of all legal ledgers.
+use Rattle.std.proofs.Common.{◌≡◌, ℕ, List, [], ◌∷◌, ◌++◌, ap, sym, ◌∙◌, append_assoc, subst, append-nil}
+use Rattle.std.proofs.lemmas.List.Elements.{filter_map-append}
+use Rattle.std.specs.Prelude.{Bool, true, false, ◌==◌, Some, None, option_map, unwrap_or, if◌then◌else◌, IsTrue}
+use Rattle.std.specs.List.{cons_option}
+use Rattle.commands.specs.declared.items.Item.{Item}
+use Rattle.ledger.specs.Ledger.{Event, Loaded, Began, Did, Journey, journeys, journey_at, begun_by, history, item_of, is_allowed, is_item_allowed, may_do, AreAllowedAfter, IsLegal}
+
+-- Legality.
+
+-- events that are allowed, and one more that they allow
+AreAllowedAfter-append : (before es : List Event) (e : Event) → AreAllowedAfter before es
+    → IsTrue (is_allowed (before ++ es) e) → AreAllowedAfter before (es ++ e ∷ [])
+AreAllowedAfter-append before [] e all one =
+    (subst (λ l. IsTrue (is_allowed l e)) (append-nil before) one, tt)
+AreAllowedAfter-append before (d ∷ es) e all one = (
+  all.0,
+  AreAllowedAfter-append (before ++ d ∷ []) es e all.1
+      (subst (λ l. IsTrue (is_allowed l e)) (sym (append_assoc before (d ∷ []) es)) one),
+)
+
+-- a legal ledger stays legal with an event that is allowed
+pub IsLegal-append : (l : List Event) (e : Event) → IsLegal l → IsTrue (is_allowed l e)
+    → IsLegal (l ++ e ∷ [])
+IsLegal-append l e legal one = AreAllowedAfter-append [] l e legal one
+
+-- what each allowed event keeps of a legal ledger
+abbrev pub Keeps : (List Event → Type 0) → Type 0
+Keeps P = (l : List Event) (e : Event) → IsLegal l → IsTrue (is_allowed l e) → P l
+    → P (l ++ e ∷ [])
+
+-- the same from a legal ledger on, event by event
+induct-from : (P : List Event → Type 0) → Keeps P → (before es : List Event) → IsLegal before
+    → P before → AreAllowedAfter before es → P (before ++ es)
+induct-from P more before [] legal p all = subst P (sym (append-nil before)) p
+induct-from P more before (e ∷ es) legal p all =
+    subst P (append_assoc before (e ∷ []) es)
+    (induct-from P more (before ++ e ∷ []) es (IsLegal-append before e legal all.0)
+    (more before e legal all.0 p) all.1)
+
+-- what holds of no event, and is kept by each allowed event, holds of every legal ledger
+pub induct : (P : List Event → Type 0) → P [] → Keeps P → (l : List Event) → IsLegal l → P l
+induct P none more l legal = induct-from P more [] l tt none legal
+
+-- Journeys and histories.
+
+-- a begun journey comes last
+pub journeys-began : (l : List Event) (agent : List ℕ) (plan : _)
+    → journeys (l ++ Began agent plan ∷ [])
+    ≡ journeys l ++ record { agent = agent; plan = plan } ∷ []
+journeys-began l agent plan = filter_map-append begun_by l (Began agent plan ∷ [])
+
+-- a batch begins no journey
+pub journeys-loaded : (l : List Event) (name : List ℕ) (rows : _)
+    → journeys (l ++ Loaded name rows ∷ []) ≡ journeys l
+journeys-loaded l name rows =
+    filter_map-append begun_by l (Loaded name rows ∷ []) ∙ append-nil (journeys l)
+
+-- nor does an item
+pub journeys-did : (l : List Event) (k : ℕ) (item : Item)
+    → journeys (l ++ Did k item ∷ []) ≡ journeys l
+journeys-did l k item =
+    filter_map-append begun_by l (Did k item ∷ []) ∙ append-nil (journeys l)
+
+-- a begun journey leaves each history
+pub history-began : (l : List Event) (agent : List ℕ) (plan : _) (j : ℕ)
+    → history (l ++ Began agent plan ∷ []) j ≡ history l j
+history-began l agent plan j =
+    filter_map-append (item_of j) l (Began agent plan ∷ []) ∙ append-nil (history l j)
+
+-- so does a batch
+pub history-loaded : (l : List Event) (name : List ℕ) (rows : _) (j : ℕ)
+    → history (l ++ Loaded name rows ∷ []) j ≡ history l j
+history-loaded l name rows j =
+    filter_map-append (item_of j) l (Loaded name rows ∷ []) ∙ append-nil (history l j)
+
+-- an item goes to the end of its journey's history, and of no other
+history-item : (l : List Event) (k : ℕ) (item : Item) (j : ℕ) (v : Bool) → (j == k) ≡ v
+    → history (l ++ Did k item ∷ []) j
+    ≡ history l j ++ cons_option (if v then Some item else None) []
+history-item l k item j v e =
+    filter_map-append (item_of j) l (Did k item ∷ [])
+    ∙ ap (λ b. history l j ++ cons_option (if b then Some item else None) []) e
+
+-- to the end of the history of its own journey
+pub history-did_same : (l : List Event) (k : ℕ) (item : Item) (j : ℕ) → (j == k) ≡ true
+    → history (l ++ Did k item ∷ []) j ≡ history l j ++ item ∷ []
+history-did_same l k item j e = history-item l k item j true e
+
+-- and of no other
+pub history-did_other : (l : List Event) (k : ℕ) (item : Item) (j : ℕ) → (j == k) ≡ false
+    → history (l ++ Did k item ∷ []) j ≡ history l j
+history-did_other l k item j e = history-item l k item j false e ∙ append-nil (history l j)
+
+-- Items that are allowed.
+
+-- an allowed item is one that its journey may do
+pub is_item_allowed-may_do : (l : List Event) (k : ℕ) (item : Item) (a : Journey)
+    → journey_at l k ≡ Some a → is_item_allowed l k item ≡ may_do l k item a
+is_item_allowed-may_do l k item a at =
+    ap (λ o. unwrap_or (option_map (may_do l k item) o) false) at
+
+-- no item is allowed where there is no journey
+pub is_item_allowed-none : (l : List Event) (k : ℕ) (item : Item) → journey_at l k ≡ None
+    → is_item_allowed l k item ≡ false
+is_item_allowed-none l k item absent =
+    ap (λ o. unwrap_or (option_map (may_do l k item) o) false) absent
+
+-- so an item that is allowed where there is none can't be
+pub absurd_item : {X : Type 0} (l : List Event) (k : ℕ) (item : Item) → journey_at l k ≡ None
+    → is_item_allowed l k item ≡ true → X
+absurd_item l k item absent may =
+    let bad : true ≡ false = sym may ∙ is_item_allowed-none l k item absent in cc

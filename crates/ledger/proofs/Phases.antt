@@ -1,0 +1,81 @@
+-- In which phases the journeys of a ledger are: what the items of others leave, and what it says
+-- that none is in one. For the parts that recovery adds.
+use Rattle.std.proofs.Common.{◌≡◌, ℕ, zero, suc, ◌+◌, ◌<◌, ◌≤◌, List, [], ◌∷◌, ◌++◌, length, refl, ap, sym, ◌∙◌, arith, append_assoc, append-nil, eqb-true}
+use Rattle.std.proofs.lemmas.Bool.{and_parts, ltb-true, ltb-false, eqb-false, or_parts, ne_eqb}
+use Rattle.std.proofs.lemmas.Option.{slice_get_past}
+use Rattle.std.specs.Prelude.{Bool, true, false, ◌==◌, not, nat_lt, Option, option_map, unwrap_or}
+use Rattle.std.specs.List.{list_all, list_any}
+use Rattle.allotment.specs.Cells.{numbers_from}
+use Rattle.plan.specs.Planned.{numbered}
+use Rattle.commands.specs.declared.items.Item.{Item}
+use Rattle.commands.specs.declared.items.Phase.{Phase}
+use Rattle.ledger.specs.History.{phase}
+use Rattle.ledger.specs.Ledger.{Event, Loaded, Began, Did, Journey, journeys, journey_at, history, is_in}
+use Rattle.ledger.specs.Recovery.{journey_of, are_items, has_none}
+use Rattle.ledger.proofs.Growing.{journeys-did, history-did_other}
+
+-- What other journeys do.
+
+-- with this history the journey, if there is one, is in a phase that passes
+abbrev pub passing : (Phase → Bool) → List Item → Option Journey → Bool
+passing passes h o =
+    unwrap_or (option_map passes (option_map (λ (a : Journey). phase a.plan h) o)) false
+
+-- an item of another journey leaves the phase of this one
+is_in-did_other : (passes : Phase → Bool) (l : List Event) (k : ℕ) (item : Item) (j : ℕ)
+    → (j == k) ≡ false → is_in passes (l ++ Did k item ∷ []) j ≡ is_in passes l j
+is_in-did_other passes l k item j other =
+    ap (λ h. passing passes h (journey_at (l ++ Did k item ∷ []) j))
+    (history-did_other l k item j other)
+    ∙ ap (λ js. passing passes (history l j) (numbered js j)) (journeys-did l k item)
+
+-- so do items of later journeys, as many as there are
+pub is_in-later : (passes : Phase → Bool) (test : Item → Bool) (j : ℕ) (l p : List Event)
+    → list_all (are_items test) p ≡ true → list_all (λ d. nat_lt j (journey_of d)) p ≡ true
+    → is_in passes (l ++ p) j ≡ is_in passes l j
+is_in-later passes test j l [] items later = ap (λ m. is_in passes m j) (append-nil l)
+is_in-later passes test j l (Loaded name rows ∷ p) items later = cc
+is_in-later passes test j l (Began agent plan ∷ p) items later = cc
+is_in-later passes test j l (Did k item ∷ p) items later =
+    let rest = and_parts (test item) (list_all (are_items test) p) items in
+    let above = and_parts (nat_lt j k) (list_all (λ d. nat_lt j (journey_of d)) p) later in
+    let higher = ltb-true j k above.0 in
+    ap (λ m. is_in passes m j) (sym (append_assoc l (Did k item ∷ []) p))
+    ∙ is_in-later passes test j (l ++ Did k item ∷ []) p rest.1 above.1
+    ∙ is_in-did_other passes l k item j (ne_eqb j k (λ e. omega arith))
+
+-- Numbers.
+
+-- a test that no number in a row passes fails at each of them
+none-numbered : (test : ℕ → Bool) (first n j : ℕ) → list_any test (numbers_from first n) ≡ false
+    → first ≤ j → j < first + n → test j ≡ false
+none-numbered test first zero j none low high = absurd (omega arith)
+none-numbered test first (suc n) j none low high =
+    let both = or_parts (test first) (list_any test (numbers_from (suc first) n)) none in
+    go both.0 (λ above. none-numbered test (suc first) n j both.1 above (omega arith))
+    (first == j) refl
+  where
+    go : test first ≡ false → (suc first ≤ j → test j ≡ false) → (v : Bool) → (first == j) ≡ v
+        → test j ≡ false
+    go fails rest true e = ap test (sym (eqb-true _ _ e)) ∙ fails
+    go fails rest false e = let ne = eqb-false _ _ e in rest (omega arith)
+
+-- what is not true is false
+not-true_is_false : (b : Bool) → not b ≡ true → b ≡ false
+not-true_is_false true e = cc
+not-true_is_false false e = refl
+
+-- where no journey is in such a phase, this one is not
+pub has_none-at : (passes : Phase → Bool) (l : List Event) (j : ℕ) → has_none passes l ≡ true
+    → is_in passes l j ≡ false
+has_none-at passes l zero none = refl
+has_none-at passes l (suc i) none = go (nat_lt i (length (journeys l))) refl
+  where
+    go : (v : Bool) → nat_lt i (length (journeys l)) ≡ v → is_in passes l (suc i) ≡ false
+    go true e =
+        let within = ltb-true _ _ e in
+        none-numbered (is_in passes l) 1 (length (journeys l)) (suc i) (not-true_is_false _ none)
+        (omega arith) (omega arith)
+    go false e =
+        ap (passing passes (history l (suc i)))
+        (slice_get_past (journeys l) i (ltb-false _ _ e))

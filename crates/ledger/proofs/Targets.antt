@@ -1,0 +1,64 @@
+-- Where a turn leads: to the start, or to a save-point that stands. Lemmas on the rules by numbers.
+use Rattle.std.proofs.Common.{◌≡◌, ℕ, ◌⊎◌, List, [], ◌∷◌, refl, ap, ◌∙◌, arith, eqb-true, inl, inr}
+use Rattle.std.proofs.lemmas.Bool.{ltb-true, ltb-false, and_parts, or_cases}
+use Rattle.std.specs.Prelude.{Bool, true, false, ◌||◌, filter, ◌==◌, nat_lt, max, Option, if◌then◌else◌, cond, IsTrue}
+use Rattle.allotment.specs.Cells.{numbers_from}
+use Rattle.plan.specs.Planned.{Planned, step_count}
+use Rattle.savepoints.specs.Rules.{is_save_point, greatest, last_save, refused_target, is_below_going, may_turn}
+
+-- p is the start, or a save-point that stands
+abbrev pub IsTarget : Planned → (ℕ → Bool) → ℕ → ℕ → Type 0
+IsTarget plan taken pos p = (p ≡ 0) ⊎ IsTrue (is_save_point plan taken pos p)
+
+-- the greater of two numbers is one of them
+max-is : (a b : ℕ) → (max a b ≡ a) ⊎ (max a b ≡ b)
+max-is a b = go (nat_lt a b) refl
+  where
+    go : (v : Bool) → nat_lt a b ≡ v → (max a b ≡ a) ⊎ (max a b ≡ b)
+    go true e = let h = ltb-true _ _ e in inr (omega arith)
+    go false e = let h = ltb-false _ _ e in inl (omega arith)
+
+-- one number more at the head is the greatest, or the greatest is the same
+greatest-more : (test : ℕ → Bool) (p : ℕ) (rest : List ℕ) (v : Bool) → test p ≡ v
+    → (greatest rest ≡ 0) ⊎ IsTrue (test (greatest rest))
+    → (greatest (cond v (p ∷ rest) rest) ≡ 0) ⊎ IsTrue (test (greatest (cond v (p ∷ rest) rest)))
+greatest-more test p rest false e before = before
+greatest-more test p rest true e before = elim (max-is p (greatest rest)) [
+  | inl m ↦ inr (ap test m ∙ e)
+  | inr m ↦ elim before [ inl z ↦ inl (m ∙ z) | inr t ↦ inr (ap test m ∙ t) ]
+]
+
+-- the greatest of the numbers that pass passes, unless there is none
+greatest-passes : (test : ℕ → Bool) (ps : List ℕ)
+    → (greatest (filter test ps) ≡ 0) ⊎ IsTrue (test (greatest (filter test ps)))
+greatest-passes test [] = inl refl
+greatest-passes test (p ∷ ps) =
+    greatest-more test p (filter test ps) (test p) refl (greatest-passes test ps)
+
+-- the last save-point is a target: the greatest of those that stand
+pub last_save-target : (plan : Planned) (taken : ℕ → Bool) (pos p : ℕ)
+    → p ≡ last_save plan taken pos → IsTarget plan taken pos p
+last_save-target plan taken pos p e =
+    elim (greatest-passes (is_save_point plan taken pos) (numbers_from 1 (step_count plan))) [
+      | inl z ↦ inl (e ∙ z)
+      | inr t ↦ inr (ap (is_save_point plan taken pos) e ∙ t)
+    ]
+
+-- a refused step leads to a target: the last save-point, or the start
+pub refused-target : (plan : Planned) (taken : ℕ → Bool) (pos used p : ℕ)
+    → p ≡ refused_target plan taken pos used → IsTarget plan taken pos p
+refused-target plan taken pos used p e = go (nat_lt used plan.tries) e
+  where
+    go : (v : Bool) → p ≡ (if v then last_save plan taken pos else 0) → IsTarget plan taken pos p
+    go true e = last_save-target plan taken pos p e
+    go false e = inl e
+
+-- one who asks may turn to a target alone
+pub asked-target : (plan : Planned) (taken : ℕ → Bool) (pos p : ℕ) (going : Option ℕ)
+    → may_turn plan taken pos going p ≡ true → IsTarget plan taken pos p
+asked-target plan taken pos p going e =
+    let both = and_parts ((p == 0) || is_save_point plan taken pos p) (is_below_going going p) e in
+    elim (or_cases (p == 0) (is_save_point plan taken pos p) both.0) [
+      | inl z ↦ inl (eqb-true _ _ z)
+      | inr s ↦ inr s
+    ]

@@ -1,0 +1,12 @@
+pub mod History
+pub mod Ledger
+pub mod Replies
+pub mod Answer
+pub mod Word
+pub mod World
+pub mod Recovery
+pub mod Laws
+pub mod Examples
+pub mod JourneyExamples
+pub mod KeyExamples
+pub mod RecoveryExamples

@@ -1,0 +1,36 @@
+//! What holds of each legal ledger, and of each world, whatever was asked.
+//!
+//! A law is the contract of a function that does nothing: who calls it may use the law.
+ghost use Rattle.std.specs.Prelude.{List};
+ghost use Rattle.ledger.specs.Laws.{AtMostOneIsRecovered};
+ghost use Rattle.ledger.specs.Laws.{EachOpenJourneyHasOneStep, EachPlainJourneyIsAllOrNothing};
+ghost use Rattle.ledger.specs.Laws.{EveryJourneyIsUpAndDown, IsSound, NoCellIsOverfull};
+ghost use Rattle.ledger.specs.Laws.{NoFinishedJourneyGoesOn};
+ghost use Rattle.ledger.specs.Ledger.{Event, IsLegal};
+ghost use Rattle.ledger.specs.World.{IsWorld, Moment};
+
+/// In each legal ledger no cell holds more than its allotment, each journey reads as an up-and-down
+/// word, and a journey without save-points is all or nothing.
+pub fn words()
+    ensures places { (l : List Event) → IsLegal l → NoCellIsOverfull l }
+    ensures words { (l : List Event) → IsLegal l → EveryJourneyIsUpAndDown l }
+    ensures plain { (l : List Event) → IsLegal l → EachPlainJourneyIsAllOrNothing l }
+{}
+
+/// In each legal ledger a journey that runs or goes back has just one step, and one that has ended
+/// or is undone does not go on.
+pub fn steps()
+    ensures one { (l : List Event) → IsLegal l → EachOpenJourneyHasOneStep l }
+    ensures finished { (l : List Event) → NoFinishedJourneyGoesOn l }
+{}
+
+/// Recovery has no choice: of each ledger at most one is the recovered one.
+pub fn recoveries()
+    ensures unique { (l : List Event) → AtMostOneIsRecovered l }
+{}
+
+/// After each world, with any stops and reopenings, the ledger is legal and is the events that were
+/// made, and no key has acted twice.
+pub fn worlds()
+    ensures sound { (w : List Moment) → IsWorld w → IsSound w }
+{}

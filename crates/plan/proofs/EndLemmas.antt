@@ -1,0 +1,196 @@
+-- The mark at the end of a step, and the tries at the end of a line. For what cuts them off.
+use Rattle.std.proofs.Common.{◌≡◌, ◌≢◌, ℕ, zero, suc, ◌+◌, ◌-◌, ◌<◌, ◌≤◌, ◌⊎◌, inl, inr, Bool, true, false, List, [], ◌∷◌, ◌++◌, length, take, drop, refl, sym, ap, subst, ◌∙◌, arith, Option, Some, None}
+use Rattle.std.specs.Prelude.{bytes_eq, decimal, is_some, if◌then◌else◌, MatchOption, IfNone}
+use Rattle.std.specs.Fmt.{digits}
+use Rattle.std.specs.List.{slice_get}
+use Rattle.std.specs.Str.Pattern.{FindsCharSuffix}
+use Rattle.std.proofs.Math.Seq.{drop-append_seam, take-append_seam}
+use Rattle.std.proofs.lemmas.Fmt.{decimal_digit}
+use Rattle.std.proofs.lemmas.List.{length-append, take-append-drop}
+use Rattle.std.proofs.lemmas.Str.Pattern.{strip_suffix_char}
+use Rattle.allotment.specs.Texts.{star}
+use Rattle.plan.specs.Drafts.{number_or_none}
+use Rattle.plan.specs.PlanLine.{has_mark, without_mark, tries_text, tries_in, front_of, end_of}
+use Rattle.allotment.proofs.TestLemmas.{same_bytes}
+use Rattle.plan.proofs.ReadLemmas.{tries_read}
+use denote.Ref.{Bor}
+
+-- The mark.
+
+-- where the last byte begins
+pub seam : (front : List ℕ) (c : ℕ) → length (front ++ c ∷ []) - 1 ≡ length front
+seam front c = omega (arith, length-append front (c ∷ []))
+
+-- a text with a `*` at its end has a mark
+pub marked : (front : List ℕ) → has_mark (front ++ star ∷ []) ≡ true
+marked front =
+    ap (λ z. bytes_eq (star ∷ []) z)
+    (ap (λ z. drop z (front ++ star ∷ [])) (seam front star) ∙ drop-append_seam front (star ∷ []))
+
+-- and without it is what stands before the `*`
+pub marked_front : (front : List ℕ) → without_mark (front ++ star ∷ []) ≡ front
+marked_front front =
+    let text = front ++ star ∷ [] in
+    ap (λ b. if b then take (length text - 1) text else text) (marked front)
+    ∙ ap (λ z. take z text) (seam front star) ∙ take-append_seam front (star ∷ [])
+
+-- where no front with a `*` behind it is the text, there is no mark
+unmarked_by : (text : List ℕ) (b : Bool) → has_mark text ≡ b
+    → ((front : List ℕ) → text ≢ front ++ star ∷ []) → has_mark text ≡ false
+unmarked_by text true e none =
+    let end : drop (length text - 1) text ≡ star ∷ [] =
+    sym (same_bytes (star ∷ []) (drop (length text - 1) text) e) in
+    absurd (none (take (length text - 1) text)
+    (sym (take-append-drop (length text - 1) text) ∙ ap (λ z. take (length text - 1) text ++ z) end))
+unmarked_by text false e none = e
+
+-- a text that ends with no `*` has no mark
+pub unmarked : (text : List ℕ) → ((front : List ℕ) → text ≢ front ++ star ∷ []) → has_mark text ≡ false
+unmarked text none = unmarked_by text (has_mark text) refl none
+
+-- and is what it is without a mark
+pub unmarked_front : (text : List ℕ) → ((front : List ℕ) → text ≢ front ++ star ∷ []) → without_mark text ≡ text
+unmarked_front text none = ap (λ b. if b then take (length text - 1) text else text) (unmarked text none)
+
+-- The tries.
+
+-- where the last two bytes begin
+two_seam : (front : List ℕ) (c d : ℕ) → length ((front ++ c ∷ []) ++ d ∷ []) - 2 ≡ length front
+two_seam front c d = omega (arith, length-append (front ++ c ∷ []) (d ∷ []), length-append front (c ∷ []))
+
+-- two bytes, one after another
+two_behind : (front : List ℕ) (c d : ℕ) → (front ++ c ∷ []) ++ d ∷ [] ≡ front ++ c ∷ d ∷ []
+two_behind [] c d = refl
+two_behind (x ∷ front) c d = ap (λ z. x ∷ z) (two_behind front c d)
+
+-- the two bytes behind a front are the end
+pub end_of_two : (front : List ℕ) (c d : ℕ) → end_of ((front ++ c ∷ []) ++ d ∷ []) ≡ c ∷ d ∷ []
+end_of_two front c d =
+    ap (λ z. drop z ((front ++ c ∷ []) ++ d ∷ [])) (two_seam front c d)
+    ∙ ap (drop (length front)) (two_behind front c d) ∙ drop-append_seam front (c ∷ d ∷ [])
+
+-- and what stands before them is the front
+pub front_of_two : (front : List ℕ) (c d : ℕ) → front_of ((front ++ c ∷ []) ++ d ∷ []) ≡ front
+front_of_two front c d =
+    ap (λ z. take z ((front ++ c ∷ []) ++ d ∷ [])) (two_seam front c d)
+    ∙ ap (take (length front)) (two_behind front c d) ∙ take-append_seam front (c ∷ d ∷ [])
+
+-- what is printed of few tries is read as them
+pub tries_again : (n : ℕ) → n ≤ 9 → tries_in (tries_text n) ≡ Some n
+unfolding tries_in digits
+tries_again zero l = refl
+tries_again (suc zero) l = refl
+tries_again (suc (suc zero)) l = refl
+tries_again (suc (suc (suc zero))) l = refl
+tries_again (suc (suc (suc (suc zero)))) l = refl
+tries_again (suc (suc (suc (suc (suc zero))))) l = refl
+tries_again (suc (suc (suc (suc (suc (suc zero)))))) l = refl
+tries_again (suc (suc (suc (suc (suc (suc (suc zero))))))) l = refl
+tries_again (suc (suc (suc (suc (suc (suc (suc (suc zero)))))))) l = refl
+tries_again (suc (suc (suc (suc (suc (suc (suc (suc (suc zero))))))))) l = refl
+tries_again (suc (suc (suc (suc (suc (suc (suc (suc (suc (suc n)))))))))) l = absurd (omega arith)
+
+-- `!` and a digit are the tries
+pub tries_found : (text front body : List ℕ) (d : ℕ) → text ≡ front ++ d ∷ [] → front ≡ body ++ 33 ∷ []
+    → 48 ≤ d → d ≤ 57 → tries_in (end_of text) ≡ Some (d - 48)
+tries_found text front body d e f low high =
+    let n = d - 48 in
+    let digit : 48 + n ≡ d = omega arith in
+    let few : n ≤ 9 = omega arith in
+    let two : decimal n ≡ d ∷ [] = decimal_digit n (omega arith) ∙ ap (λ z. z ∷ []) digit in
+    ap (λ z. tries_in (end_of z)) (e ∙ ap (λ z. z ++ d ∷ []) f)
+    ∙ ap tries_in (end_of_two body 33 d)
+    ∙ ap (λ z. tries_in (33 ∷ z)) (sym two)
+    ∙ tries_again n few
+
+-- a line that ends with tries
+record EndsInTries (text : List ℕ) : Type 0 where
+  pub front : List ℕ
+  pub digit : ℕ
+  pub low : 48 ≤ digit
+  pub high : digit ≤ 57
+  pub whole : text ≡ (front ++ 33 ∷ []) ++ digit ∷ []
+
+-- a line that has tries ends in them
+ends_in_tries : (text : List ℕ) → is_some (tries_in (end_of text)) ≡ true → EndsInTries text
+ends_in_tries text e =
+    let read = tries_read (end_of text) e in
+    let n = number_or_none (tries_in (end_of text)) in
+    let end : end_of text ≡ 33 ∷ (48 + n) ∷ [] =
+    sym read.spelled ∙ ap (λ z. 33 ∷ z) (decimal_digit n (omega (arith, read.few))) in
+    record {
+      front = front_of text;
+      digit = 48 + n;
+      low = omega arith;
+      high = omega (arith, read.few);
+      whole = sym (take-append-drop (length text - 2) text) ∙ ap (λ z. front_of text ++ z) end
+          ∙ sym (two_behind (front_of text) 33 (48 + n));
+    }
+
+-- a line has tries, or none
+none_by : (text : List ℕ) (o : Option ℕ) → tries_in (end_of text) ≡ o → (EndsInTries text → ⊥) → tries_in (end_of text) ≡ None
+none_by text None e none = e
+none_by text (Some n) e none = absurd (none (ends_in_tries text (ap is_some e)))
+
+-- a line that ends in no tries has none
+tries_none : (text : List ℕ) → (EndsInTries text → ⊥) → tries_in (end_of text) ≡ None
+tries_none text none = none_by text (tries_in (end_of text)) refl none
+
+-- the byte behind a front
+behind_front : (front : List ℕ) (d : ℕ) → slice_get (front ++ d ∷ []) (length front) ≡ Some d
+behind_front [] d = refl
+behind_front (x ∷ front) d = behind_front front d
+
+-- the last byte
+last_byte : (text front : List ℕ) (d : ℕ) → text ≡ front ++ d ∷ [] → slice_get text (length text - 1) ≡ Some d
+last_byte text front d e =
+    ap (λ z. slice_get z (length z - 1)) e
+    ∙ ap (slice_get (front ++ d ∷ [])) (seam front d) ∙ behind_front front d
+
+-- what stands before the last byte
+before_last : (front : List ℕ) (d : ℕ) → take (length (front ++ d ∷ []) - 1) (front ++ d ∷ []) ≡ front
+before_last front d = ap (λ z. take z (front ++ d ∷ [])) (seam front d) ∙ take-append_seam front (d ∷ [])
+
+-- an empty line has no tries
+pub tries_empty : (text : List ℕ) → slice_get text (length text - 1) ≡ None → tries_in (end_of text) ≡ None
+tries_empty text e =
+    tries_none text (λ ends. let last = last_byte text (ends.front ++ 33 ∷ []) ends.digit ends.whole in cc)
+
+-- nor has one that ends with no digit
+pub tries_no_digit : (text : List ℕ) (d : ℕ) → slice_get text (length text - 1) ≡ Some d → (d < 48) ⊎ (57 < d)
+    → tries_in (end_of text) ≡ None
+tries_no_digit text d e out =
+    tries_none text (λ ends.
+    let last = last_byte text (ends.front ++ 33 ∷ []) ends.digit ends.whole in
+    let same : d ≡ ends.digit = cc in
+    elim out [
+      | inl below ↦ absurd (omega (arith, ends.low))
+      | inr above ↦ absurd (omega (arith, ends.high))
+    ])
+
+-- nor one with no `!` before the digit
+pub tries_no_mark : (text front : List ℕ) (d : ℕ) → text ≡ front ++ d ∷ []
+    → ((body : List ℕ) → front ≢ body ++ 33 ∷ []) → tries_in (end_of text) ≡ None
+tries_no_mark text front d e none =
+    tries_none text (λ ends.
+    let same : front ++ d ∷ [] ≡ (ends.front ++ 33 ∷ []) ++ ends.digit ∷ [] = sym e ∙ ends.whole in
+    none ends.front
+    (sym (before_last front d) ∙ ap (λ z. take (length z - 1) z) same
+    ∙ before_last (ends.front ++ 33 ∷ []) ends.digit))
+
+-- What is not cut off.
+
+-- what is said of both cases is said of the one
+none_only : {X : Type 0} (P : Type 0) (Q : X → Type 0) (r : Option X) → MatchOption r P Q → IfNone r P
+none_only P Q None h = h
+none_only P Q (Some x) h = tt
+
+-- where nothing was cut off, the text does not end so
+pub not_cut : (c last : ℕ) (text : List ℕ) (r : Option (Bor (List ℕ))) → c ≡ last → c < 128
+    → MatchOption r (FindsCharSuffix c text None)
+    (λ x. (n : ℕ) × FindsCharSuffix c text (Some n) × (x.now ≡ take (length text - n) text)
+    × (length x.now + n ≡ length text))
+    → IfNone r ((front : List ℕ) → text ≢ front ++ last ∷ [])
+not_cut c last text r same small h =
+    let P : ℕ → Type 0 = λ z. IfNone r ((front : List ℕ) → text ≢ front ++ z ∷ []) in
+    subst P same (none_only _ _ r (strip_suffix_char c text r h small))

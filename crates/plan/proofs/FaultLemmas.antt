@@ -1,0 +1,112 @@
+-- At which step a fault may be. For the reader of lines.
+use Rattle.std.proofs.Common.{◌≡◌, ℕ, ◌+◌, ◌≤◌, ◌&&◌, ◌==◌, not, Bool, true, false, List, [], ◌∷◌, ◌++◌, length, refl, subst, arith, Option, Some, None, Err}
+use Rattle.std.specs.Prelude.{flat_map, is_some, nat_le}
+use Rattle.std.specs.List.{AllByRecursion, enumerate_from}
+use Rattle.std.proofs.lemmas.Bool.{leb-true}
+use Rattle.allotment.specs.Limits.{is_between, is_code, is_count, are_nights}
+use Rattle.allotment.specs.Making.{unless, first_fault}
+use Rattle.plan.specs.declared.causes.PlanCause.{PlanCause}
+use Rattle.plan.specs.declared.causes.PlanCause.TheVariants as cause
+use Rattle.plan.specs.declared.faults.BadPlan.{BadPlan}
+use Rattle.plan.specs.Drafts.{Draft, StepDraft, OptionDraft, at, kind_or_any, number_or_none, option_faults, step_faults}
+use Rattle.plan.specs.PlanLine.{line_draft, plan_in}
+use Rattle.allotment.proofs.TestLemmas.{and_both}
+
+-- a fact of two lists
+all_append : {X : Type 0} (P : X → Type 0) (xs ys : List X) → AllByRecursion P xs → AllByRecursion P ys → AllByRecursion P (xs ++ ys)
+all_append P [] ys p q = q
+all_append P (x ∷ xs) ys p q = (p.0, all_append P xs ys p.1 q)
+
+-- a fact of what may be wrong
+all_unless : {X : Type 0} (P : X → Type 0) (b : Bool) (x : X) → P x → AllByRecursion P (unless b x)
+all_unless P true x p = tt
+all_unless P false x p = (p, tt)
+
+-- the first fault is one of the faults
+first_of_all : {X F : Type 0} (P : F → Type 0) (x : X) (fs : List F) (f : F) → first_fault x fs ≡ Err f → AllByRecursion P fs → P f
+first_of_all P x [] f e all = cc
+first_of_all P x (g ∷ fs) f e all = let same : g ≡ f = cc in subst P same all.0
+
+-- a fault is at a step up to this one
+abbrev up_to : ℕ → BadPlan → Type 0
+up_to n bad = bad.step ≤ n
+
+-- what may be wrong at a step, whatever passes
+wrong_step : (n i : ℕ) (b : Bool) (cause : PlanCause) → i ≤ n → AllByRecursion (up_to n) (unless b (at i cause))
+wrong_step n i b cause l = all_unless (up_to n) b (at i cause) l
+
+-- all that may be wrong with the parts of an option
+parts_step : (n i : ℕ) (k c f m q : Bool) → i ≤ n → AllByRecursion (up_to n)
+    (unless k (at i cause.Kind) ++ unless c (at i cause.Code) ++ unless f (at i cause.Night)
+    ++ unless m (at i cause.Nights) ++ unless q (at i cause.Count))
+parts_step n i k c f m q l =
+    let kind = unless k (at i cause.Kind) in
+    let code = unless c (at i cause.Code) in
+    let night = unless f (at i cause.Night) in
+    let nights = unless m (at i cause.Nights) in
+    let count = unless q (at i cause.Count) in
+    all_append (up_to n) (kind ++ code ++ night ++ nights) count
+    (all_append (up_to n) (kind ++ code ++ night) nights
+    (all_append (up_to n) (kind ++ code) night
+    (all_append (up_to n) kind code (wrong_step n i k cause.Kind l) (wrong_step n i c cause.Code l))
+    (wrong_step n i f cause.Night l))
+    (wrong_step n i m cause.Nights l))
+    (wrong_step n i q cause.Count l)
+
+-- and with an option
+option_step : (n i : ℕ) (o : Option OptionDraft) → i ≤ n → AllByRecursion (up_to n) (option_faults i o)
+option_step n i None l = (l, tt)
+option_step n i (Some o) l =
+    parts_step n i (is_some o.kind) (is_code o.supplier && is_code o.product) (is_some o.first)
+    (is_some o.nights && are_nights (kind_or_any o.kind) (number_or_none o.first) (number_or_none o.nights))
+    (is_some o.count && is_count (number_or_none o.count)) l
+
+-- and with options
+options_step : (n i : ℕ) (os : List (Option OptionDraft)) → i ≤ n → AllByRecursion (up_to n) (flat_map (option_faults i) os)
+options_step n i [] l = tt
+options_step n i (o ∷ os) l = all_append (up_to n) (option_faults i o) _ (option_step n i o l) (options_step n i os l)
+
+-- and with a step
+step_step : (n last i : ℕ) (s : Option StepDraft) → i ≤ n → AllByRecursion (up_to n) (step_faults last (i, s))
+step_step n last i None l = (l, tt)
+step_step n last i (Some s) l =
+    let mark = not (s.is_marked && i == last) in
+    let many = is_between 1 8 (length s.options) in
+    let save = unless mark (at i cause.Save) in
+    let options = unless many (at i cause.Options) in
+    all_append (up_to n) (save ++ options) (flat_map (option_faults i) s.options)
+    (all_append (up_to n) save options (wrong_step n i mark cause.Save l) (wrong_step n i many cause.Options l))
+    (options_step n i s.options l)
+
+-- and with steps
+steps_step : (n last i : ℕ) (ss : List (Option StepDraft)) → i + length ss ≤ n + 1
+    → AllByRecursion (up_to n) (flat_map (step_faults last) (enumerate_from i ss))
+steps_step n last i [] l = tt
+steps_step n last i (s ∷ ss) l =
+    all_append (up_to n) (step_faults last (i, s)) _ (step_step n last i s (omega arith)) (steps_step n last (i + 1) ss (omega arith))
+
+-- where there are too many steps, that is told, or the tries
+told_at_0 : (a : Bool) (fs : List BadPlan) (f : BadPlan) {X : Type 0} (x : X)
+    → first_fault x (unless a (at 0 cause.Tries) ++ unless false (at 0 cause.Steps) ++ fs) ≡ Err f → f.step ≤ 24
+told_at_0 false fs f x e = let same : at 0 cause.Tries ≡ f = cc in subst (up_to 24) same (omega arith)
+told_at_0 true fs f x e = let same : at 0 cause.Steps ≡ f = cc in subst (up_to 24) same (omega arith)
+
+-- what is told of a line is at step 0 to 24, however many steps it has
+told_up_to_24 : (a b : Bool) (d : Draft) (f : BadPlan) {X : Type 0} (x : X) → is_between 1 24 (length d.steps) ≡ b
+    → first_fault x (unless a (at 0 cause.Tries) ++ unless b (at 0 cause.Steps)
+    ++ flat_map (step_faults (length d.steps)) (enumerate_from 1 d.steps)) ≡ Err f → f.step ≤ 24
+told_up_to_24 a false d f x e h = told_at_0 a (flat_map (step_faults (length d.steps)) (enumerate_from 1 d.steps)) f x h
+told_up_to_24 a true d f x e h =
+    let n = length d.steps in
+    let few : n ≤ 24 = leb-true n 24 (and_both (nat_le 1 n) (nat_le n 24) e).1 in
+    let tries = unless a (at 0 cause.Tries) in
+    let steps = flat_map (step_faults n) (enumerate_from 1 d.steps) in
+    first_of_all (up_to 24) x (tries ++ [] ++ steps) f h
+    (all_append (up_to 24) (tries ++ []) steps
+    (all_append (up_to 24) tries [] (wrong_step 24 0 a cause.Tries (omega arith)) tt)
+    (steps_step 24 n 1 d.steps (omega arith)))
+
+-- a fault of a line is at step 0 to 24
+pub fault_step : (text : List ℕ) (f : BadPlan) → plan_in text ≡ Err f → f.step ≤ 24
+unfolding plan_in
+fault_step text f e = told_up_to_24 _ _ (line_draft text) f _ refl e

@@ -1,0 +1,17 @@
+pub mod StepLemmas
+pub mod ListFacts
+pub mod ReadLemmas
+pub mod CutLemmas
+pub mod EndLemmas
+pub mod NumberLemmas
+pub mod OptionLemmas
+pub mod EachLemmas
+pub mod LevelLemmas
+pub mod LineLemmas
+pub mod FaultLemmas
+pub mod KeptLemmas
+pub mod MadeLemmas
+pub mod PrintLemmas
+pub mod PlainLemmas
+pub mod JoinLemmas
+pub mod SpellLemmas

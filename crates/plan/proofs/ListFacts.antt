@@ -1,0 +1,40 @@
+-- Facts on lists of faults and on searches. For reading a line and for its spelling.
+use Rattle.std.proofs.Common.{◌≡◌, Bool, true, false, List, [], ◌∷◌, ◌++◌, cond, refl, sym, ap, ◌∙◌, Option, Some, None, Ok}
+use Rattle.std.specs.Prelude.{flat_map, find, is_some, unwrap_or}
+use Rattle.std.specs.List.{AllByRecursion}
+use Rattle.allotment.specs.Making.{unless, first_fault}
+
+-- two lists that are empty together
+pub append_none : {X : Type 0} (xs ys : List X) → xs ++ ys ≡ [] → (xs ≡ []) × (ys ≡ [])
+append_none [] ys e = (refl, e)
+append_none (x ∷ xs) ys e = cc
+
+-- where nothing is wrong, the test holds
+pub unless_none : {F : Type 0} (b : Bool) (f : F) → unless b f ≡ [] → b ≡ true
+unless_none true f e = refl
+unless_none false f e = cc
+
+-- where nothing is wrong with all, nothing is wrong with each
+pub flat_map_none : {X Y : Type 0} (f : X → List Y) (xs : List X) → flat_map f xs ≡ [] → AllByRecursion (λ x. f x ≡ []) xs
+flat_map_none f [] e = tt
+flat_map_none f (x ∷ xs) e = let both = append_none (f x) (flat_map f xs) e in (both.0, flat_map_none f xs both.1)
+
+-- what is answered Ok has no fault
+pub first_fault_ok : {X F : Type 0} (x y : X) (fs : List F) → first_fault x fs ≡ Ok y → (fs ≡ []) × (x ≡ y)
+first_fault_ok x y [] e = (refl, cc)
+first_fault_ok x y (f ∷ fs) e = cc
+
+-- the first element passes, or one behind it does
+find_if : {X : Type 0} (test : X → Bool) (y x : X) (xs : List X) (b : Bool) → test y ≡ b → (find test xs ≡ Some x → test x ≡ true) → cond b (Some y) (find test xs) ≡ Some x → test x ≡ true
+find_if test y x xs true t h e = let same : y ≡ x = cc in ap test (sym same) ∙ t
+find_if test y x xs false t h e = h e
+
+-- what a search finds passes
+pub find_passes : {X : Type 0} (test : X → Bool) (xs : List X) (x : X) → find test xs ≡ Some x → test x ≡ true
+find_passes test [] x e = cc
+find_passes test (y ∷ ys) x e = find_if test y x ys (test y) refl (find_passes test ys x) e
+
+-- an option that is there
+pub some_is : {X : Type 0} (o : Option X) (d : X) → is_some o ≡ true → o ≡ Some (unwrap_or o d)
+some_is (Some x) d e = refl
+some_is None d e = cc

@@ -1,0 +1,27 @@
+-- What the fields of a plan say of its steps. For the readers of a plan and its copy.
+use Rattle.std.proofs.Common.{◌≡◌, ℕ, zero, suc, ◌-◌, ◌≤◌, List, map, length, refl, sym, ap, ◌∙◌, arith, get_or, Some}
+use Rattle.std.proofs.lemmas.List.{length-map}
+use Rattle.std.specs.Prelude.{option_map}
+use Rattle.std.proofs.lemmas.Option.{slice_get_read, slice_get-map}
+use Rattle.plan.specs.declared.steps.PlanStep.{PlanStep}
+use Rattle.plan.specs.Planned.{Planned, step_said, plan_said, numbered, step_count}
+
+-- what stands before a number from 1 is what has the number
+pub numbered_read : {X : Type 0} (xs : List X) (i : ℕ) (x : X)
+    → 1 ≤ i → i ≤ length xs → x ≡ get_or xs (i - 1) x → numbered xs i ≡ Some x
+numbered_read xs zero x low high e = absurd (omega arith)
+numbered_read xs (suc i) x low high e =
+    let before : suc i - 1 ≡ i = omega arith in
+    slice_get_read xs (length xs) i x refl (omega arith) (e ∙ ap (λ k. get_or xs k x) before)
+
+-- the step with a number, where the plan is made of these steps
+pub step_read : (items : List PlanStep) (tries i : ℕ) (plan : Planned) (x : PlanStep)
+    → plan_said items tries ≡ plan → 1 ≤ i → i ≤ step_count plan → x ≡ get_or items (i - 1) x
+    → numbered plan.steps i ≡ Some (step_said x)
+step_read items tries zero plan x said low high e = absurd (omega arith)
+step_read items tries (suc i) plan x said low high e =
+    let steps : map step_said items ≡ plan.steps = ap (λ (p : Planned). p.steps) said in
+    let many : suc i ≤ length items = omega (arith, ap length steps, length-map items step_said) in
+    ap (λ z. numbered z (suc i)) (sym steps)
+    ∙ slice_get-map step_said items i
+    ∙ ap (option_map step_said) (numbered_read items (suc i) x low many e)

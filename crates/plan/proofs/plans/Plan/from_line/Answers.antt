@@ -1,0 +1,67 @@
+use Rattle.std.proofs.Common.{◌≡◌, sym, ap, ◌∙◌, Ok, Err}
+use Rattle.std.proofs.lemmas.Result.{err_from_is_err_and}
+use Rattle.plan.specs.Planned.{plan_said}
+use Rattle.plan.specs.PlanLine.{plan_in}
+use Rattle.plan.proofs.ReadLemmas.{read_is_spelled}
+use Rattle.plan.proofs.LevelLemmas.{IfBad-weaker}
+use Rattle.plan.proofs.LineLemmas.{line_no_tries, line_too_long, line_by_steps}
+use Rattle.plan.proofs.FaultLemmas.{fault_step}
+use Rattle.plan.proofs.plans.Plan.from_line.Goals as goal
+
+-- the line ends in no tries
+pub returns-in_default-clause-refused : goal.returns-in_default-clause-refused
+returns-in_default-clause-refused c =
+    line_no_tries c.args.text.now c.in_default.ensures.none ∙ ap Err (sym c.bad.ensures.bad)
+
+-- it has more than 24 steps
+pub returns-then-count-gt-MOST_STEPS-clause-refused : goal.returns-then-count-gt-MOST_STEPS-clause-refused
+returns-then-count-gt-MOST_STEPS-clause-refused c =
+    line_too_long c.args.text.now c.in-Some.front.now c.in-Some.tries c.count_steps-count.result
+    c.in-Some.ensures.rest c.in-Some.ensures.tries c.count_steps-count.ensures.count c.if-count-gt-MOST_STEPS.true
+    ∙ ap Err (sym c.bad-then-count-gt-MOST_STEPS.ensures.bad)
+
+-- a step has a fault
+pub returns-in_err-steps-clause-refused : goal.returns-in_err-steps-clause-refused
+returns-in_err-steps-clause-refused c =
+    let p = err_from_is_err_and c.from_residual.result c.from_residual.ensures.1 in
+    rw (p.1, p.2)
+    (IfBad-weaker c.in_err-steps.field-0.0 _ _
+    (λ bad same. line_by_steps c.args.text.now c.in-Some.front.now c.in-Some.tries c.count_steps-count.result (Err bad)
+    c.in-Some.ensures.rest c.in-Some.ensures.tries c.count_steps-count.ensures.count c.if-count-gt-MOST_STEPS.false same)
+    c.in_err-steps.ensures.refused)
+
+-- which is at a step up to the last
+pub returns-in_err-steps-clause-step : goal.returns-in_err-steps-clause-step
+returns-in_err-steps-clause-step c =
+    let p = err_from_is_err_and c.from_residual.result c.from_residual.ensures.1 in
+    rw (p.1, p.2)
+    (IfBad-weaker c.in_err-steps.field-0.0 _ _
+    (λ bad same. fault_step c.args.text.now bad
+    (line_by_steps c.args.text.now c.in-Some.front.now c.in-Some.tries c.count_steps-count.result (Err bad)
+    c.in-Some.ensures.rest c.in-Some.ensures.tries c.count_steps-count.ensures.count c.if-count-gt-MOST_STEPS.false same))
+    c.in_err-steps.ensures.refused)
+
+-- what is read keeps the limits
+pub invariant_of-result : goal.invariant_of-result
+invariant_of-result c =
+    let read : plan_in c.args.text.now ≡ Ok (plan_said c.in_ok-steps.steps.items c.in-Some.tries) =
+    line_by_steps c.args.text.now c.in-Some.front.now c.in-Some.tries c.count_steps-count.result _
+    c.in-Some.ensures.rest c.in-Some.ensures.tries c.count_steps-count.ensures.count c.if-count-gt-MOST_STEPS.false
+    c.in_ok-steps.ensures.read in
+    (read_is_spelled c.args.text.now _ read).keeps_limits
+
+-- the plan is the one that is read
+pub returns-clause-read : goal.returns-clause-read
+returns-clause-read c =
+    line_by_steps c.args.text.now c.in-Some.front.now c.in-Some.tries c.count_steps-count.result _
+    c.in-Some.ensures.rest c.in-Some.ensures.tries c.count_steps-count.ensures.count c.if-count-gt-MOST_STEPS.false
+    c.in_ok-steps.ensures.read
+
+-- and what is read is the line of the plan
+pub returns-clause-spelled : goal.returns-clause-spelled
+returns-clause-spelled c =
+    let read : plan_in c.args.text.now ≡ Ok (plan_said c.in_ok-steps.steps.items c.in-Some.tries) =
+    line_by_steps c.args.text.now c.in-Some.front.now c.in-Some.tries c.count_steps-count.result _
+    c.in-Some.ensures.rest c.in-Some.ensures.tries c.count_steps-count.ensures.count c.if-count-gt-MOST_STEPS.false
+    c.in_ok-steps.ensures.read in
+    read_is_spelled c.args.text.now _ read

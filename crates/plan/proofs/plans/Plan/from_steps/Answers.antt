@@ -1,0 +1,62 @@
+use Rattle.std.proofs.Common.{◌≡◌, ◌<◌, ◌⊎◌, List, map, length, sym, ap, subst, ◌∙◌, arith, inl, inr, Ok, Err, true}
+use Rattle.std.specs.List.{list_all}
+use Rattle.std.proofs.lemmas.List.{length-map}
+use Rattle.std.proofs.lemmas.Result.{err_from_is_err_and}
+use Rattle.plan.specs.declared.steps.PlanStep.{PlanStep}
+use Rattle.plan.specs.Planned.{step_said, plan_said, is_step}
+use Rattle.plan.specs.Levels.{steps_kept}
+use Rattle.plan.proofs.MadeLemmas.{made_tries, made_miscounted, made_by_steps, made_keeps}
+use Rattle.plan.proofs.plans.Plan.from_steps.Goals as goal
+use Rattle.plan.proofs.plans.Plan.from_steps.Goals.{then-count-eq0-via-then-count-eq0, then-count-eq0-via-else-count-eq0+then-count-gt-MOST_STEPS}
+
+-- there are more than nine tries
+pub returns-then-tries-gt-MOST_TRIES-clause-refused : goal.returns-then-tries-gt-MOST_TRIES-clause-refused
+returns-then-tries-gt-MOST_TRIES-clause-refused c =
+    made_tries (plan_said c.args.steps.items c.args.tries) c.if-tries-gt-MOST_TRIES.true ∙ ap Err (sym c.bad.ensures.bad)
+
+-- there is no step, or there are more than 24
+pub returns-then-count-eq0-clause-refused : goal.returns-then-count-eq0-clause-refused
+returns-then-count-eq0-clause-refused c =
+    let n = length c.args.steps.items in
+    let many : (n ≡ 0) ⊎ (24 < n) = elim c.then-count-eq0.branch [
+      | then-count-eq0-via-then-count-eq0 w ↦ inl (omega (arith, w.if-count-eq0.true, c.len-count.ensures))
+      | then-count-eq0-via-else-count-eq0+then-count-gt-MOST_STEPS w ↦
+          inr (omega (arith, w.if-count-gt-MOST_STEPS.true, c.len-count.ensures))
+    ] in
+    made_miscounted (plan_said c.args.steps.items c.args.tries) n (sym (length-map c.args.steps.items step_said))
+    c.if-tries-gt-MOST_TRIES.false many
+    ∙ ap Err (sym c.bad-then-count-eq0.ensures.bad)
+
+-- a step does not keep a limit
+pub returns-in_err-check_steps-clause-refused : goal.returns-in_err-check_steps-clause-refused
+returns-in_err-check_steps-clause-refused c =
+    let items = c.args.steps.items in
+    let told : List PlanStep → Type 0 = λ z. steps_kept (length z) (map step_said z) ≡ Err c.in_err-check_steps.field-0.0 in
+    let refused = subst told c.as_slice.ensures.value c.in_err-check_steps.ensures.refused in
+    let p = err_from_is_err_and c.from_residual.result c.from_residual.ensures.1 in
+    rw (p.1, p.2)
+    (made_by_steps (plan_said items c.args.tries) (length items) _ (sym (length-map items step_said))
+    c.if-tries-gt-MOST_TRIES.false (omega (arith, c.if-count-eq0.false, c.len-count.ensures))
+    (omega (arith, c.if-count-gt-MOST_STEPS.false, c.len-count.ensures)) refused)
+
+-- all keep all limits
+pub invariant_of-result : goal.invariant_of-result
+invariant_of-result c =
+    let items = c.args.steps.items in
+    let told : List PlanStep → Type 0 = λ z. steps_kept (length z) (map step_said z) ≡ Ok (map step_said z) in
+    let limits : List PlanStep → Type 0 = λ z. list_all is_step (map step_said z) ≡ true in
+    made_keeps (plan_said items c.args.tries) (length items) (sym (length-map items step_said))
+    c.if-tries-gt-MOST_TRIES.false (omega (arith, c.if-count-eq0.false, c.len-count.ensures))
+    (omega (arith, c.if-count-gt-MOST_STEPS.false, c.len-count.ensures))
+    (subst told c.as_slice.ensures.value c.in_ok-check_steps.ensures.kept)
+    (subst limits c.as_slice.ensures.value c.in_ok-check_steps.ensures.limits)
+
+-- the plan is that of the steps
+pub returns-clause-made : goal.returns-clause-made
+returns-clause-made c =
+    let items = c.args.steps.items in
+    let told : List PlanStep → Type 0 = λ z. steps_kept (length z) (map step_said z) ≡ Ok (map step_said z) in
+    made_by_steps (plan_said items c.args.tries) (length items) _ (sym (length-map items step_said))
+    c.if-tries-gt-MOST_TRIES.false (omega (arith, c.if-count-eq0.false, c.len-count.ensures))
+    (omega (arith, c.if-count-gt-MOST_STEPS.false, c.len-count.ensures))
+    (subst told c.as_slice.ensures.value c.in_ok-check_steps.ensures.kept)

@@ -1,0 +1,28 @@
+//! Plans of journeys, and their texts.
+//!
+//! A *plan* is 1 to 24 steps and a number of *tries*. A *step* has 1 to 8 *options*, each a want, in order of
+//! preference; a *marked* step leaves a save-point behind it. The last step is never marked.
+//!
+//! Every plan keeps these limits. A plan has one *line*: a text is read as a plan exactly where it is the line of that
+//! plan, and any other text is told the first thing that is wrong with it, in one order.
+#![tactic(auto)]
+
+mod causes;
+mod faults;
+mod laws;
+mod limits;
+mod lines;
+mod options;
+mod parts;
+mod plans;
+mod printing;
+mod steps;
+
+pub use causes::PlanCause;
+pub use faults::{BadPlan, PlanFault};
+pub use laws::one_spelling;
+pub use plans::Plan;
+pub use steps::PlanStep;
+
+#[cfg(test)]
+mod tests;

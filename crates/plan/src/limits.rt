@@ -1,0 +1,64 @@
+//! The limits that the steps of a plan keep.
+ghost use Rattle.std.specs.Prelude.{◌≡◌, ◌≤◌, Ok, Err, map, length, IsTrue, OnOk, IfErr};
+ghost use Rattle.std.specs.List.{list_all};
+ghost use Rattle.allotment.specs.Limits.{is_want};
+ghost use Rattle.plan.specs.Planned.{step_said, is_step};
+ghost use Rattle.plan.specs.Levels.{step_checked, steps_checked};
+
+use crate::causes::PlanCause;
+use crate::faults::{BadPlan, bad};
+use crate::steps::PlanStep;
+use allotment::Want;
+
+/// The most steps that a plan may have.
+pub const MOST_STEPS: usize = 24;
+
+/// The most options that a step may have.
+pub const MOST_OPTIONS: usize = 8;
+
+/// The most tries that a plan may have.
+pub const MOST_TRIES: u8 = 9;
+
+/// The first limit that one of the steps does not keep.
+pub fn check_steps(steps: &[PlanStep]) -> Result<(), BadPlan>
+    requires few { length steps.now ≤ 24 }
+
+    ensures kept { OnOk result (steps_checked steps.now ≡ Ok (map step_said steps.now)) }
+    ensures limits { OnOk result (IsTrue (list_all is_step (map step_said steps.now))) }
+
+    ensures refused { IfErr result (λ bad. steps_checked steps.now ≡ Err bad) }
+{
+    let mut number = 1;
+    for step in steps {
+        check_step(steps.len(), number, step)?;
+        number += 1;
+    }
+    Ok(())
+}
+
+/// The first limit that the step of this number does not keep, where so many is the last one's.
+fn check_step(last: usize, number: usize, step: &PlanStep) -> Result<(), BadPlan>
+    ensures kept { OnOk result (step_checked last number step.now ≡ Ok (step_said step.now)) }
+    ensures limits { OnOk result (IsTrue (is_step (step_said step.now))) }
+
+    ensures refused { IfErr result (λ bad. step_checked last number step.now ≡ Err bad) }
+{
+    know_limits(step.options.as_slice());
+    if step.save && number == last {
+        return Err(bad(number, PlanCause::Save));
+    }
+    let count = step.options.len();
+    if count == 0 || count > MOST_OPTIONS {
+        return Err(bad(number, PlanCause::Options));
+    }
+    Ok(())
+}
+
+/// Each want keeps the limits: there is no other.
+fn know_limits(wants: &[Want])
+    ensures limits { IsTrue (list_all is_want wants.now) }
+{
+    for want in wants {
+        let _kind = want.kind();
+    }
+}

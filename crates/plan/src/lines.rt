@@ -1,0 +1,79 @@
+//! The steps of a plan line, read one after another up to the first fault.
+//!
+//! A text is cut where it stands, and each list is allocated once.
+ghost use Rattle.std.specs.Prelude.{◌≡◌, ◌≤◌, Ok, Err, length, IfOk, IfErr};
+ghost use Rattle.allotment.specs.Texts.{parts, bar, semicolon};
+ghost use Rattle.plan.specs.Planned.{step_said};
+ghost use Rattle.plan.specs.Faults.{IfBad};
+ghost use Rattle.plan.specs.Levels.{options_in as wants_in, step_in as step_read, steps_in as steps_read, AreStepsOf};
+
+use crate::causes::PlanCause;
+use crate::faults::{PlanFault, bad};
+use crate::limits::MOST_OPTIONS;
+use crate::options::option_in;
+use crate::parts::split_mark;
+use crate::steps::PlanStep;
+use allotment::Want;
+use std::alloc::Global;
+
+/// The steps that a line spells before its tries: `last` of them.
+pub fn steps_in(alloc: Global, last: usize, text: &str) -> Result<Vec<PlanStep>, PlanFault>
+    requires whole { last ≡ length (parts semicolon text.now) }
+    requires few { last ≤ 24 }
+
+    ensures read { IfOk result (λ steps. AreStepsOf last text.now steps.items) }
+    ensures refused { IfErr result (IfBad (λ bad. steps_read last text.now ≡ Err bad)) }
+{
+    let mut steps = Vec::with_capacity(alloc, last)?;
+    let mut step = 1;
+    for part in text.split(';') {
+        let read = step_in(alloc, last, step, part)?;
+        steps.push(read)?;
+        step += 1;
+    }
+    Ok(steps)
+}
+
+/// The step of this number that a text spells, where so many is the last one's.
+fn step_in(alloc: Global, last: usize, step: usize, text: &str) -> Result<PlanStep, PlanFault>
+    ensures read { IfOk result (λ read. step_read last step text.now ≡ Ok (step_said read)) }
+    ensures refused { IfErr result (IfBad (λ bad. step_read last step text.now ≡ Err bad)) }
+{
+    let (rest, save) = split_mark(text);
+    if save && step == last {
+        return Err(PlanFault::Bad(bad(step, PlanCause::Save)));
+    }
+    let count = count_options(rest);
+    if count > MOST_OPTIONS {
+        return Err(PlanFault::Bad(bad(step, PlanCause::Options)));
+    }
+    let options = options_in(alloc, step, count, rest)?;
+    Ok(PlanStep { options, save })
+}
+
+/// The wants of so many options of a step, which a text spells.
+fn options_in(alloc: Global, step: usize, count: usize, text: &str) -> Result<Vec<Want>, PlanFault>
+    ensures read { IfOk result (λ options. wants_in step text.now ≡ Ok options.items) }
+    ensures refused { IfErr result (IfBad (λ bad. wants_in step text.now ≡ Err bad)) }
+{
+    let mut options = Vec::with_capacity(alloc, count)?;
+    for part in text.split('|') {
+        let want = option_in(step, part)?;
+        options.push(want)?;
+    }
+    Ok(options)
+}
+
+/// How many options stand in the text of a step.
+fn count_options(text: &str) -> usize
+    ensures count { result ≡ length (parts bar text.now) }
+{
+    text.split('|').count()
+}
+
+/// How many steps stand in a line before its tries.
+pub fn count_steps(text: &str) -> usize
+    ensures count { result ≡ length (parts semicolon text.now) }
+{
+    text.split(';').count()
+}

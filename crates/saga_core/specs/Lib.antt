@@ -1,0 +1,5 @@
+pub mod Books
+pub mod Shown
+pub mod Runs
+pub mod Memory
+pub mod Worlds

@@ -1,0 +1,21 @@
+//! The book of a desk: what it answers, what a stop leaves of it, and runs of commands over any book.
+//!
+//! `Book` is the one contract that all else stands on: a book stands for a ledger with its kept replies, answers each
+//! command as the definitions say, and leaves the old state or the new one, whatever happens.
+#![tactic(auto)]
+
+mod books;
+mod memory;
+mod records;
+mod runs;
+#[cfg(test)]
+mod tests;
+
+pub use books::Book;
+pub use commands::{
+    Agent, Ask, Cause, Command, CsvCause, Cursor, Fault, Item, Key, Name, Phase, Refusal, Reply,
+};
+pub use ledger;
+pub use memory::MemBook;
+pub use records::{Brief, Record};
+pub use runs::run;

@@ -1,0 +1,54 @@
+//! Runs of commands over any book.
+ghost use Rattle.std.specs.Prelude.{◌≡◌, IfOk, OnOk, IfErr, IsTrue};
+ghost use Rattle.commands.specs.Orders.{request_of};
+ghost use Rattle.ledger.specs.Answer.{is_request};
+ghost use Rattle.saga_core.specs.Runs.{AreReplies, MovesOnBy, Stops};
+ghost use Rattle.saga_core.specs.Worlds.{GoesOnWith, GoesOnAmong};
+
+use crate::books::Book;
+use commands::{Ask, Command, Fault, Reply};
+use std::alloc::Global;
+
+/// A command keeps the limits, as each value of its type does. This does nothing when it runs.
+fn keep_limits(command: &Command)
+    ensures limits { IsTrue (is_request (request_of command.now)) }
+{
+    let Command::Begin(plan) = command;
+    let _steps = plan.steps();
+}
+
+/// Answers commands in order. At a fault, the replies so far come with it.
+pub fn run<B: Book>(
+    alloc: Global,
+    book: &mut B,
+    commands: &[(Command, Option<Ask>)],
+) -> Result<Vec<Reply>, (Vec<Reply>, Fault)>
+    ensures replies { B.is_sound book.new →
+        IfOk result (λ replies. AreReplies (B.stands book.old) commands.now replies.items) }
+    ensures after { B.is_sound book.new →
+        OnOk result (MovesOnBy (B.stands book.old) (B.stands book.new) commands.now) }
+
+    ensures fault { B.is_sound book.new → IfErr result (λ e.
+        Stops (B.stands book.old) (B.stands book.new) (B.leaves book.new) commands.now e.0.items e.1) }
+    ensures failed { IfErr result (λ e. e.1 ≡ Fault.Store → IsTrue (B.has_failed book.new)) }
+
+    ensures world { B.is_sound book.new →
+        OnOk result (GoesOnWith (B.stands book.old) (B.stands book.new) commands.now) }
+    ensures world_at_fault { B.is_sound book.new → IfErr result (λ e.
+        GoesOnAmong (B.stands book.old) (B.stands book.new) (B.leaves book.new) commands.now e.0.items e.1) }
+
+    ensures sound { B.is_sound book.new → B.is_sound book.old }
+{
+    let mut replies = match Vec::with_capacity(alloc, commands.len()) {
+        Ok(replies) => replies,
+        Err(_) => return Err((Vec::new(alloc), Fault::Memory)),
+    };
+    for (command, ask) in commands {
+        keep_limits(command);
+        match book.act(command, ask.as_ref()) {
+            Ok(reply) => replies.push_reserved(reply),
+            Err(fault) => return Err((replies, fault)),
+        }
+    }
+    Ok(replies)
+}

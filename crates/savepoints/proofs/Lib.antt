@@ -1,0 +1,4 @@
+pub mod FlagsLemmas
+pub mod OptionLemmas
+pub mod WalkLemmas
+pub mod LandingLemmas

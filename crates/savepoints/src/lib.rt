@@ -1,0 +1,20 @@
+//! Where a journey turns, and which option its next step takes.
+//!
+//! Each call answers just what the rules of journeys say, from the plan, the save-points that were taken, the position
+//! and how often a step was refused. Nothing here allocates, and each call answers under its conditions.
+//!
+//! Words: a *position* is how many steps stand; a *save-point* stands at a marked position that was reached, or where
+//! one was taken while the journey ran; a *turn* sends a journey back to its *target*.
+#![tactic(auto)]
+
+mod marks;
+mod options;
+mod save_points;
+#[cfg(test)]
+mod tests;
+mod turns;
+
+pub use marks::Marks;
+pub use options::option_at;
+pub use save_points::{is_save_point, last_save};
+pub use turns::{NoSavePoint, Turn, target};

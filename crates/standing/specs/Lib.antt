@@ -1,0 +1,4 @@
+pub mod Called
+pub mod Standing
+pub mod Beginning
+pub mod Reading

@@ -1,0 +1,10 @@
+pub mod AnswerLemmas
+pub mod CommitLemmas
+pub mod KeepLemmas
+pub mod OpenFounded
+pub mod OpenKept
+pub mod ReadJourneys
+pub mod ReadLemmas
+pub mod ReadPlans
+pub mod ReadStock
+pub mod WritingLemmas

@@ -1,0 +1,137 @@
+-- What a connection keeps once it is opened, and what a failed opening leaves. For found_tables and read_version.
+use Rattle.std.proofs.Common.{◌≡◌, ◌⊎◌, inl, inr, ◌↔◌, ℕ, List, Bool, true, false, [], ◌∷◌, length, IsTrue, Ok, refl, sym, ap, subst, ◌∙◌, arith}
+use Rattle.std.specs.List.{AllByRecursion}
+use Rattle.sqlite.specs.Store.{Ghosts}
+use Rattle.sqlite.specs.Tree.{Trees}
+use Rattle.sqlite.specs.Effect.{Database}
+use Rattle.sqlite_schema.specs.declared.schema.Schema.{Schema}
+use Rattle.sqlite.specs.Held.{Held, state}
+use Rattle.sqlite.specs.State.{State as Connected, HasCleanDisk, IsUnchanged, Shows as ShowsNow}
+use Rattle.desk_sql.specs.Calls.{Sees, MaySee, MayBuild, Founds, WasOpen, LeavesNoMore}
+use Rattle.desk_sql.specs.Changes.{founded}
+use Rattle.desk_sql.specs.Found.{IsMeta, meta_of}
+use Rattle.desk_sql.specs.Rows.{Tables, MetaRow, Shows}
+use Rattle.desk_sql.specs.Schema.{no_schema, desk_schema}
+use Rattle.desk_sql.specs.declared.meta.Meta.{Meta}
+use Rattle.commands.specs.declared.faults.Fault.{Fault}
+use Rattle.commands.specs.declared.faults.Fault.TheVariants as fault
+use Rattle.ledger.specs.Answer.{State, start}
+use Rattle.standing.specs.Called.{meta_called}
+use Rattle.standing.specs.Standing.{StandsFor}
+use Rattle.tables.specs.declared.faults.OpenFault.{OpenFault}
+use Rattle.tables.specs.declared.faults.OpenFault.TheVariants.{Store, Memory}
+use Rattle.tables.specs.Keeping.{Means, SeesDesk, IsKept, IsFound}
+use Rattle.tables.specs.Opening.{Tells, AreOfVersion}
+use Rattle.tables.proofs.OpenFounded.{founded_stands}
+
+-- While a store is open, a stop leaves its last commit and nothing else: a law that each store keeps.
+abbrev pub LeavesCommitted : {S : Type 0} → Ghosts S → Type 0
+LeavesCommitted {S} g = (s : S) (db : Trees) → IsTrue (g.view s).is_open → g.recovers s db → db ≡ (g.view s).committed
+
+-- the desk's tables are some
+not_bare : desk_schema ≡ no_schema → ⊥
+not_bare e = let n : ◌≡◌ {A = ℕ} 9 0 = ap (λ (s : Schema). length s.tables) e in omega arith
+
+-- a connection without tables that stood for a state stood for a new desk
+pub was_new : (c : Connected) (s : State) → IsFound c s → c.now.schema ≡ no_schema → IsTrue c.is_open → s ≡ start
+was_new c s found bare open_now = elim (found.sees open_now) [
+  | inl desk ↦ absurd (not_bare (sym desk.schema ∙ bare))
+  | inr fresh ↦ fresh.new
+]
+
+-- a connection with tables that stood for a state shows it
+pub was_desk : (c : Connected) (s : State) → IsFound c s → (c.now.schema ≡ no_schema → ⊥) → IsTrue c.is_open → SeesDesk c s
+was_desk c s found filled open_now = elim (found.sees open_now) [
+  | inl desk ↦ desk
+  | inr fresh ↦ absurd (filled fresh.schema)
+]
+
+module _ {S : Type 0} (g : Ghosts S) (old late : Held S) where
+  -- where the tables were made the connection was open, and sees a new desk's rows
+  pub has_founded : (state g old).now.schema ≡ no_schema → HasCleanDisk (state g late)
+      → Founds g (record old { in_transaction = true }) late {V = Unit {0}} (Ok tt) founded
+      → WasOpen g (record old { in_transaction = true }) late {V = Unit {0}} (Ok tt)
+      → IsTrue (state g old).is_open × Sees (state g late) founded
+  has_founded bare clean made live =
+      let may : MayBuild no_schema (state g (record old { in_transaction = true })) =
+      record { inside = refl; empty = λ _. record { is = bare; empty = tt } } in
+      (live clean refl, (made clean may).sees)
+
+  -- the commit of these rows keeps a new desk
+  pub keeps_founded : LeavesCommitted g → (end : Held S) → Sees (state g late) founded
+      → ShowsNow (state g late) (state g end) (state g late).now (state g late).now false → IsKept (state g end) start
+  keeps_founded law end sees shown = record {
+    sees = λ _. record {
+      schema = ap (λ (d : Database). d.schema) shown.now_is ∙ sees.schema;
+      committed = shown.now_is ∙ sym shown.committed_is;
+      tables = founded;
+      shown = subst (λ (d : Database). Shows d.trees founded) (sym shown.now_is) sees.rows;
+      stands = founded_stands;
+    };
+    leaves = λ db may. inl (record {
+      tables = founded;
+      shown = subst (λ (t : Trees). Shows t founded)
+          (sym (law end.store db shown.is_open may ∙ ap (λ (d : Database). d.trees) shown.committed_is)) sees.rows;
+      stands = founded_stands;
+    });
+  }
+
+  -- trees that were there before, or a new desk's, stand for a state for which the connection stood
+  pub either_means : (s : State) → IsFound (state g old) s → s ≡ start → Sees (state g late) founded → (db : Trees)
+      → (state g old).may_leave db ⊎ (db ≡ (state g late).now.trees) → Means db s
+  either_means s found new sees db (inl may) = found.leaves db may
+  either_means s found new sees db (inr is) = inl (record {
+    tables = founded;
+    shown = subst (λ (t : Trees). Shows t founded) (sym is) sees.rows;
+    stands = subst (λ (x : State). StandsFor founded x) (sym new) founded_stands;
+  })
+
+module _ {S : Type 0} (g : Ghosts S) (old new : Held S) where
+  -- a fault of the store tells no version
+  pub tells_fault : (f : Fault) (r : OpenFault) → (r ≡ Memory ↔ f ≡ fault.Memory) → (r ≡ Store ↔ f ≡ fault.Store)
+      → LeavesNoMore g old new → Tells g old new r
+  tells_fault fault.Memory r memory store less = subst (λ (x : OpenFault). Tells g old new x) (sym (memory.1 refl)) less
+  tells_fault fault.Store r memory store less = subst (λ (x : OpenFault). Tells g old new x) (sym (store.1 refl)) tt
+
+-- the one row that was read has its version
+pub has_version : (t : Tables) (m : Meta) → IsMeta t m → AreOfVersion m.version t
+has_version t m is = subst (λ (rows : List MetaRow). AllByRecursion (λ (r : MetaRow). r.version ≡ m.version) rows) (sym is) (refl, tt)
+
+module _ (old new : Connected) (m : Meta) (seen : (t : Tables) → MaySee old t → IsUnchanged old new × IsMeta t m) where
+  -- a version that was read tells that the connection was open
+  pub was_open : IsTrue old.is_open
+  was_open = go old.is_open refl
+    where
+      go : (b : Bool) → old.is_open ≡ b → IsTrue old.is_open
+      go true e = e
+      go false e = (seen founded (λ here. absurd (let never : true ≡ false = sym here ∙ e in cc))).0.0.was_open
+
+  module _ (s : State) (found : IsFound old s) (filled : old.now.schema ≡ no_schema → ⊥) where
+    -- the desk that was there
+    pub desk : SeesDesk old s
+    desk = was_desk old s found filled was_open
+
+    -- what was read of it
+    pub read : IsUnchanged old new × IsMeta desk.tables m
+    read = seen desk.tables (λ _. record { schema = desk.schema; rows = desk.shown })
+
+    -- the rows of a desk have the second version
+    pub second : m.version ≡ 2
+    second = let same : meta_of m ∷ [] ≡ meta_called s.ledger ∷ [] = sym read.1 ∙ desk.stands.meta in
+        let one : meta_of m ≡ meta_called s.ledger = cc in
+        ap (λ (r : MetaRow). r.version) one
+
+    -- a connection that was read keeps what it stood for
+    pub keeps_read : ((db : Trees) → new.may_leave db → old.may_leave db) → IsKept new s
+    keeps_read less =
+        let is = read.0.0 in
+        record {
+          sees = λ _. record {
+            schema = ap (λ (d : Database). d.schema) is.now_is ∙ desk.schema;
+            committed = is.now_is ∙ desk.committed ∙ sym is.committed_is;
+            tables = desk.tables;
+            shown = subst (λ (d : Database). Shows d.trees desk.tables) (sym is.now_is) desk.shown;
+            stands = desk.stands;
+          };
+          leaves = λ db may. found.leaves db (less db may);
+        }

@@ -1,0 +1,60 @@
+-- The tables of a new desk are committed at once; before the commit nothing is left that was not there.
+use Rattle.std.proofs.Common.{◌≡◌, ◌⊎◌, inl, inr, true, sym, subst, arith, rules}
+use Rattle.sqlite.specs.State.{HasCleanDisk}
+use Rattle.sqlite.specs.Held.{state}
+use Rattle.sqlite.proofs.StateLemmas.{survives_then}
+use Rattle.sqlite.proofs.Callers.{survives_begin}
+use Rattle.desk_sql.specs.Calls.{LeavesNoMore}
+use Rattle.ledger.specs.Answer.{State}
+use Rattle.tables.specs.Keeping.{IsKept, IsFound}
+use Rattle.tables.proofs.OpenKept.{was_new, has_founded, keeps_founded, either_means, tells_fault}
+use Rattle.tables.proofs.opening.found_tables.Goals as goal
+
+pub returns-in-Ok-clause-finds : goal.returns-in-Ok-clause-finds
+returns-in-Ok-clause-finds g c clean s stood =
+    let old = c.args.conn.now in
+    let begun = c.transaction-tx.result.conn.now in
+    let late = c.make_tables.new.tx.conn.now in
+    let end = c.commit.new.self.0 in
+    let same : end ≡ c.conn-2-1.given.0 = search rules in
+    let at_end : HasCleanDisk (state g.S.Store end) = search rules in
+    let at_late : HasCleanDisk (state g.S.Store late) = omega (arith, c.commit.ensures.survives.clean) in
+    let at_begun : HasCleanDisk (state g.S.Store begun) = omega (arith, c.make_tables.ensures.survives.clean) in
+    let from : begun ≡ record old { in_transaction = true } = c.transaction-tx.ensures.begun in
+    let at_old : HasCleanDisk (state g.S.Store old) = rw from at at_begun in
+    let found : IsFound (state g.S.Store old) s = stood at_old in
+    let has = has_founded g.S.Store old late c.requires.bare at_late (rw from at c.in_default.ensures.made) (rw from at c.in_default.ensures.live) in
+    let new : s ≡ _ = was_new (state g.S.Store old) s found c.requires.bare has.0 in
+    let kept = keeps_founded g.S.Store old late g.met.S.Store.settled end has.1 (c.in-Ok.ensures.ok at_end).1 in
+    rw (← same) (subst (λ (x : State). IsKept (state g.S.Store end) x) (sym new) kept)
+
+pub returns-in-Err-clause-told : goal.returns-in-Err-clause-told
+returns-in-Err-clause-told g c =
+    let end = c.rollback.new.self.0 in
+    let same : end ≡ c.conn-1.given.0 = search rules in
+    let from : c.transaction-tx.result.conn.now ≡ record c.args.conn.now { in_transaction = true } = c.transaction-tx.ensures.begun in
+    let made : LeavesNoMore g.S.Store (record c.args.conn.now { in_transaction = true }) c.make_tables.new.tx.conn.now = rw from at c.in-Err.ensures.survives in
+    let less : LeavesNoMore g.S.Store c.args.conn.now end = survives_begin g.S.Store c.args.conn.now (state g.S.Store end) (λ _. ⊥) (survives_then _ _ _ (λ _. ⊥) (λ _. ⊥) (λ _. ⊥) (λ _ db h. h) (λ _ db h. h) made c.rollback.ensures.survives) in
+    rw (← same) (tells_fault g.S.Store c.args.conn.now end c.fault_of.result c.opening_fault.result c.opening_fault.ensures.memory c.opening_fault.ensures.store less)
+
+pub returns-in-Err-commit-clause-left : goal.returns-in-Err-commit-clause-left
+returns-in-Err-commit-clause-left g c clean s stood =
+    let old = c.args.conn.now in
+    let begun = c.transaction-tx.result.conn.now in
+    let late = c.make_tables.new.tx.conn.now in
+    let end = c.commit.new.self.0 in
+    let same : end ≡ c.conn-2-1.given.0 = search rules in
+    let at_end : HasCleanDisk (state g.S.Store end) = search rules in
+    let at_late : HasCleanDisk (state g.S.Store late) = omega (arith, c.commit.ensures.survives.clean) in
+    let at_begun : HasCleanDisk (state g.S.Store begun) = omega (arith, c.make_tables.ensures.survives.clean) in
+    let from : begun ≡ record old { in_transaction = true } = c.transaction-tx.ensures.begun in
+    let at_old : HasCleanDisk (state g.S.Store old) = rw from at at_begun in
+    let found : IsFound (state g.S.Store old) s = stood at_old in
+    let has = has_founded g.S.Store old late c.requires.bare at_late (rw from at c.in_default.ensures.made) (rw from at c.in_default.ensures.live) in
+    let new : s ≡ _ = was_new (state g.S.Store old) s found c.requires.bare has.0 in
+    rw (← same) (λ db left.
+    let came : g.S.Store.recovers old.store db ⊎ (db ≡ (g.S.Store.view late.store).trees) = elim (c.commit.ensures.survives.crash at_end db left) [
+      | inl before ↦ elim (c.make_tables.ensures.survives.crash at_late db before) [ inl first ↦ inl (rw from at first) | inr none ↦ absurd none ]
+      | inr is ↦ inr is
+    ] in
+    either_means g.S.Store old late s found new has.1 db came)

@@ -1,0 +1,35 @@
+-- What a book over tables answers, keeps and leaves: the words of every book, at its fields.
+use Rattle.std.specs.Prelude.{Option, Result}
+use Rattle.sqlite.specs.Store.{Ghosts}
+use Rattle.sqlite.specs.Held.{Held, state}
+use Rattle.sqlite.specs.State.{HasCleanDisk}
+use Rattle.commands.specs.Asked.{Asked}
+use Rattle.commands.specs.Request.{Request}
+use Rattle.commands.specs.declared.faults.Fault.{Fault}
+use Rattle.commands.specs.declared.replies.Reply.{Reply}
+use Rattle.ledger.specs.Answer.{State}
+use Rattle.saga_core.specs.Books as books
+use Rattle.tables.specs.Keeping.{Stands, MayLeave}
+use Rattle.tables.specs.declared.books.TableBook.{TableBook}
+
+module _ {S : Type 0} (g : Ghosts S) where
+  -- the book stands for this state
+  abbrev pub StandsBook : TableBook S g → State → Type 0
+  StandsBook b s = Stands b.failed (state g b.conn) s
+
+  module _ (old new : TableBook S g) where
+    abbrev pub Answers : Option Asked → Request → Result Reply Fault → Type 0
+    Answers ask asked result = HasCleanDisk (state g new.conn) → books.Replies (StandsBook old) ask asked result
+
+    abbrev pub MovesOn : Option Asked → Request → Result Reply Fault → Type 0
+    MovesOn ask asked result = HasCleanDisk (state g new.conn) → books.MovesOn (StandsBook old) (StandsBook new) ask asked result
+
+    abbrev pub KeepsAtMemory : Result Reply Fault → Type 0
+    KeepsAtMemory result = HasCleanDisk (state g new.conn) → books.KeepsAtMemory (StandsBook old) (StandsBook new) result
+
+    abbrev pub LeavesAtStore : Option Asked → Request → Result Reply Fault → Type 0
+    LeavesAtStore ask asked result =
+        HasCleanDisk (state g new.conn) → books.LeavesAtStore (StandsBook old) (MayLeave (state g new.conn)) ask asked result
+
+    abbrev pub LeavesNoMore : Type 0
+    LeavesNoMore = books.LeavesNoMore (MayLeave (state g old.conn)) (MayLeave (state g new.conn))

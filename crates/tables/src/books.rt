@@ -1,0 +1,180 @@
+//! The book over tables.
+ghost use Rattle.std.specs.Prelude.{◌≡◌, ◌↔◌, false, IfOk, IsOk, IsErrOf, IsTrue};
+ghost use Rattle.std.specs.Option.{option_copied};
+ghost use Rattle.sqlite.specs.Held.{state};
+ghost use Rattle.commands.specs.Request as request;
+
+use crate::answering::answer;
+use crate::faults::OpenFault;
+use crate::opening::Opened;
+use crate::reading::{read_cells, read_first_unfinished, read_history, read_journey, read_stock};
+use allotment::{Cell, Held, Night, Want};
+use commands::{Ask, Command, Fault, Item, Reply};
+use plan::Plan;
+use saga_core::{Book, Brief, Record};
+use sqlite::{Alter, Connection};
+use std::alloc::Global;
+
+/// The desk over one connection.
+pub struct TableBook<S: Alter> {
+    conn: Connection<S>,
+    alloc: Global,
+    failed: bool,
+    ghost outside: { conn.in_transaction ≡ false },
+}
+
+impl<S: Alter> TableBook<S> {
+    /// The connection, as it is.
+    pub fn into_store(self) -> Connection<S>
+        ensures same { result ≡ self.conn }
+    {
+        let TableBook {
+            conn,
+            alloc: _,
+            failed: _,
+        } = self;
+        conn
+    }
+}
+
+impl<S: Alter> TableBook<S> {
+    ghost use Rattle.sqlite.specs.State.{HasCleanDisk};
+    ghost use Rattle.tables.specs.Booked.{Answers, MovesOn, KeepsAtMemory, LeavesAtStore, LeavesNoMore};
+
+    /// Answers a begin. Once the store has failed nothing is asked of it any more.
+    fn begin(&mut self, plan: &Plan, ask: Option<&Ask>) -> Result<Reply, Fault>
+        ensures reply { Answers S.Store self.old self.new (option_copied ask.entry) (request.Begin plan.now) result }
+        ensures after { MovesOn S.Store self.old self.new (option_copied ask.entry) (request.Begin plan.now) result }
+        ensures memory { KeepsAtMemory S.Store self.old self.new result }
+        ensures store { LeavesAtStore S.Store self.old self.new (option_copied ask.entry) (request.Begin plan.now) result }
+        ensures fails { IsErrOf result Fault.Store ↔ IsTrue self.new.failed }
+        ensures stays_failed { IsTrue self.old.failed → IsTrue self.new.failed }
+        ensures stays_left { IsTrue self.old.failed → LeavesNoMore S.Store self.old self.new }
+        ensures sound { HasCleanDisk (state S.Store self.new.conn) → HasCleanDisk (state S.Store self.old.conn) }
+    {
+        if self.failed {
+            return Err(Fault::Store);
+        }
+        match answer(self.alloc, &mut self.conn, plan, ask) {
+            Ok(reply) => Ok(reply),
+            Err(Fault::Memory) => Err(Fault::Memory),
+            Err(Fault::Store) => {
+                self.failed = true;
+                Err(Fault::Store)
+            }
+        }
+    }
+}
+
+impl<S: Alter> Opened<S> {
+    /// The book over what was opened.
+    pub fn into_book(self, alloc: Global) -> Result<TableBook<S>, (Opened<S>, OpenFault)>
+        ensures book { IfOk result (λ b. b.conn ≡ self.conn) }
+        ensures working { IfOk result (λ b. b.failed ≡ false) }
+        ensures ready { IsOk result }
+    {
+        let conn = self.into_connection();
+        Ok(TableBook {
+            conn,
+            alloc,
+            failed: false,
+        })
+    }
+}
+
+impl<S: Alter> Book for TableBook<S> {
+    ghost use Rattle.sqlite.specs.State.{HasCleanDisk};
+    ghost use Rattle.sqlite.specs.Held.{state};
+    ghost use Rattle.tables.specs.Keeping.{MayLeave, Stands, settles};
+
+    ghost is_sound = { λ b. HasCleanDisk (state S.Store b.conn) };
+
+    ghost stands = { λ b s. Stands b.failed (state S.Store b.conn) s };
+
+    ghost leaves = { λ b s t. MayLeave (state S.Store b.conn) s t };
+
+    ghost has_failed = { λ b. b.failed };
+
+    ghost legal = { λ b s h. h.desk.legal };
+
+    ghost settled = { λ b s h. settles h };
+
+    fn act(&mut self, command: &Command, ask: Option<&Ask>) -> Result<Reply, Fault> {
+        let Command::Begin(plan) = command;
+        match self.begin(plan, ask) {
+            Ok(reply) => Ok(reply),
+            Err(Fault::Memory) => Err(Fault::Memory),
+            Err(Fault::Store) => Err(Fault::Store),
+        }
+    }
+
+    fn journey(&mut self, id: u64) -> Result<Option<Record>, Fault> {
+        if self.failed {
+            return Err(Fault::Store);
+        }
+        match read_journey(self.alloc, &mut self.conn, id) {
+            Ok(shown) => Ok(shown),
+            Err(Fault::Memory) => Err(Fault::Memory),
+            Err(Fault::Store) => {
+                self.failed = true;
+                Err(Fault::Store)
+            }
+        }
+    }
+
+    fn history(&mut self, id: u64) -> Result<Vec<Item>, Fault> {
+        if self.failed {
+            return Err(Fault::Store);
+        }
+        match read_history(self.alloc, &mut self.conn, id) {
+            Ok(shown) => Ok(shown),
+            Err(Fault::Memory) => Err(Fault::Memory),
+            Err(Fault::Store) => {
+                self.failed = true;
+                Err(Fault::Store)
+            }
+        }
+    }
+
+    fn first_unfinished(&mut self, after: u64) -> Result<Option<Brief>, Fault> {
+        if self.failed {
+            return Err(Fault::Store);
+        }
+        match read_first_unfinished(&mut self.conn, after) {
+            Ok(shown) => Ok(shown),
+            Err(Fault::Memory) => Err(Fault::Memory),
+            Err(Fault::Store) => {
+                self.failed = true;
+                Err(Fault::Store)
+            }
+        }
+    }
+
+    fn cells(&mut self, want: &Want) -> Result<Vec<(Night, Held)>, Fault> {
+        if self.failed {
+            return Err(Fault::Store);
+        }
+        match read_cells(self.alloc, &mut self.conn, want) {
+            Ok(shown) => Ok(shown),
+            Err(Fault::Memory) => Err(Fault::Memory),
+            Err(Fault::Store) => {
+                self.failed = true;
+                Err(Fault::Store)
+            }
+        }
+    }
+
+    fn stock(&mut self) -> Result<Vec<(Cell, Held)>, Fault> {
+        if self.failed {
+            return Err(Fault::Store);
+        }
+        match read_stock(self.alloc, &mut self.conn) {
+            Ok(shown) => Ok(shown),
+            Err(Fault::Memory) => Err(Fault::Memory),
+            Err(Fault::Store) => {
+                self.failed = true;
+                Err(Fault::Store)
+            }
+        }
+    }
+}

@@ -1,0 +1,31 @@
+//! How many events and journeys there are.
+ghost use Rattle.std.specs.Prelude.{◌≡◌, ◌≤◌, false, IfOk};
+ghost use Rattle.tables.specs.Answering.{Counts, KeepsOn, KeepsAtMemory, LeavesLess, Reads};
+ghost use Rattle.tables.specs.Opening.{WasSound};
+
+use crate::faults::fault_of;
+use commands::Fault;
+use desk_sql::{Meta, read_meta};
+use sqlite::{Alter, Connection};
+
+/// How many events a ledger may have.
+pub(crate) const MOST_EVENTS: u64 = 999_999_999_999;
+
+/// The numbers of `meta`. More than a ledger may have is a fault of the store.
+pub(crate) fn read_counts<S: Alter>(conn: &mut Connection<S>) -> Result<Meta, Fault>
+    requires outside { conn.old.in_transaction ≡ false }
+
+    ensures outside { conn.new.in_transaction ≡ false }
+    ensures counts { Reads S.Store conn.old conn.new result Counts }
+    ensures small { IfOk result (λ m. (m.events ≤ MOST_EVENTS) × (m.journeys ≤ MOST_EVENTS)) }
+    ensures same { KeepsOn S.Store conn.old conn.new result }
+    ensures memory { KeepsAtMemory S.Store conn.old conn.new result }
+    ensures left { LeavesLess S.Store conn.old conn.new }
+    ensures sound { WasSound S.Store conn.old conn.new }
+{
+    match read_meta(conn) {
+        Ok(meta) if meta.events <= MOST_EVENTS && meta.journeys <= MOST_EVENTS => Ok(meta),
+        Ok(_) => Err(Fault::Store),
+        Err(error) => Err(fault_of(&error)),
+    }
+}

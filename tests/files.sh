@@ -1,0 +1,49 @@
+#!/usr/bin/env bash
+# A file that is no desk of this version is told by name and left as it is; wrong words tell how the program is used.
+. "$(dirname "${BASH_SOURCE[0]}")/helping.bash"
+
+head -c 5000 /dev/zero | tr '\0' x >text.db
+refuses_file "a text file" text.db "" "fault 21 Store"
+mkdir folder
+refuses_file "a folder" folder "" "fault 21 Store"
+refuses_file "a folder that is absent" absent/x.db "" "fault 21 Store"
+
+meta='CREATE TABLE meta(one INTEGER PRIMARY KEY CHECK(one = 1), version INTEGER NOT NULL,
+  events INTEGER NOT NULL, journeys INTEGER NOT NULL) STRICT'
+sqlite3 old.db "$meta; INSERT INTO meta VALUES(1, 1, 0, 0)"
+refuses_file "version 1" old.db "refused 20 UnknownSchema 1" ""
+sqlite3 other.db "CREATE TABLE other(a)"
+refuses_file "another program's tables" other.db "" "fault 21 Store"
+
+# what a kill leaves: after each answer the file opens, and stands for the answered journeys at least
+for n in 1 2 3; do
+  mkfifo line reply
+  "$DESK" run trips.db <line >reply 2>err &
+  desk=$!
+  exec 3>line 4<reply
+  echo "begin F/AL/A1/2030-06-01/1/1!0" >&3
+  read -r answer <&4
+  same "before the kill" "journey $n begun" "$answer"
+  kill -9 "$desk"
+  wait "$desk" 2>/dev/null
+  exec 3>&- 4<&-
+  rm line reply
+done
+answers "after the kills" "begin F/AL/A1/2030-06-01/1/1!0\n" "journey 4 begun"
+same "meta" "1|2|4|4" "$(rows 'SELECT * FROM meta')"
+same "the file is sound" "ok" "$(rows 'PRAGMA integrity_check')"
+
+# usage <WORDS>: status 2, nothing on standard output
+usage() {
+  local found status
+  found=$("$DESK" "$@" 2>err </dev/null)
+  status=$?
+  same "the words '$*': the status" 2 "$status"
+  same "the words '$*': the answer" "" "$found"
+  same "the words '$*': told" yes "$([ -s err ] && echo yes)"
+}
+usage
+usage run
+usage run a.db b.db
+usage walk a.db
+finish

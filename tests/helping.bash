@@ -1,0 +1,50 @@
+# What the scripts here share. Each works in a folder of its own, which is gone at its end.
+set -u
+: "${DESK:?the program to drive}"
+work=$(mktemp -d)
+trap 'rm -rf "$work"' EXIT
+cd "$work" || exit 2
+wrong=0
+
+# same WHAT EXPECTED FOUND
+same() {
+  if [ "$2" != "$3" ]; then
+    printf '%s: %s\n  expected: %s\n  found:    %s\n' "$(basename "$0")" "$1" "$2" "$3" >&2
+    wrong=$((wrong + 1))
+  fi
+}
+
+# answers WHAT INPUT OUTPUT: the program answers these lines over trips.db, and ends with 0
+answers() {
+  local found status
+  found=$(printf '%b' "$2" | "$DESK" run trips.db 2>err)
+  status=$?
+  same "$1: the answer" "$3" "$found"
+  same "$1: the status" 0 "$status"
+  same "$1: standard error" "" "$(cat err)"
+}
+
+# refuses_file WHAT FILE OUT ERR: the program does not open the file, and leaves it as it was
+refuses_file() {
+  local found status before
+  before=$(sum "$2")
+  found=$(printf 'begin F/AL/A1/2030-06-01/1/1!0\n' | "$DESK" run "$2" 2>err)
+  status=$?
+  same "$1: the answer" "$3" "$found"
+  same "$1: standard error" "$4" "$(cat err)"
+  same "$1: the status" 1 "$status"
+  same "$1: the file" "$before" "$(sum "$2")"
+}
+
+sum() { if [ -f "$1" ]; then cksum <"$1"; fi; }
+
+rows() { sqlite3 trips.db "$1" | tr '\n' ' ' | sed 's/ $//'; }
+
+# repeated N TEXT SEPARATOR
+repeated() {
+  local text=$2 n
+  for ((n = 1; n < $1; n++)); do text=$text$3$2; done
+  printf '%s' "$text"
+}
+
+finish() { [ "$wrong" -eq 0 ]; }
