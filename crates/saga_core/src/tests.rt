@@ -118,10 +118,10 @@ fn nothing_is_allotted(rt: HostRuntime) -> Result<(), Fail> {
     let alloc = rt.alloc();
     let mut book = MemBook::new(alloc);
     let plan = Plan::from_line(alloc, FLIGHT)?;
-    if plan.steps() == 1 {
-        let want = plan.want(1, 1);
-        assert!(rt; book.cells(&want)?.is_empty());
-    }
+    assert_eq!(rt; plan.steps(), 1);
+    assert_eq!(rt; plan.options(1), 1);
+    let want = plan.want(1, 1);
+    assert!(rt; book.cells(&want)?.is_empty());
     assert!(rt; book.stock()?.is_empty());
     Ok(())
 }
