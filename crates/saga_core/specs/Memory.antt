@@ -57,3 +57,7 @@ pub record KeepsReply (old new : List KeptAnswer) (reply : Reply) (ask : Asked) 
 pub record StandsFor (m : MemBook) (s : State) : Type 0 where
   pub state : s ≡ state_of m.journeys.items m.answers.items
   pub legal : IsLegal s.ledger
+
+-- the book stands for each state for which it stood before
+abbrev pub StandsAsBefore : MemBook → MemBook → Type 0
+StandsAsBefore old new = (s : State) → StandsFor old s → StandsFor new s

@@ -6,7 +6,7 @@ ghost use Rattle.commands.specs.Request as request;
 ghost use Rattle.plan.specs.Planned.{is_plan};
 ghost use Rattle.ledger.specs.Ledger.{journey_at};
 ghost use Rattle.ledger.specs.Answer.{State, start, answered_again};
-ghost use Rattle.saga_core.specs.Memory.{kept_of, kept_said, asked_of, ledger_of, journey_of, Begins, KeepsReply, StandsFor};
+ghost use Rattle.saga_core.specs.Memory.{kept_of, kept_said, asked_of, ledger_of, journey_of, Begins, KeepsReply, StandsAsBefore, StandsFor};
 ghost use Rattle.saga_core.specs.Books.{Replies, MovesOn};
 ghost use Rattle.saga_core.specs.Shown.{record_of_journey};
 
@@ -40,7 +40,8 @@ struct KeptAnswer {
 impl KeptAnswer {
     /// Whether it is kept under this agent and key.
     fn is_under(&self, agent: &Agent, key: &Key) -> bool
-        ensures under { result ≡ (bytes_eq agent.now self.now.agent && bytes_eq key.now self.now.key) }
+        ensures under { result ≡
+            (bytes_eq agent.now self.now.agent && bytes_eq key.now self.now.key) }
     {
         *agent == self.agent && *key == self.key
     }
@@ -56,7 +57,8 @@ pub struct MemBook {
 
 /// The latest reply that is kept under the agent and the key of the ask.
 fn kept_under<'a>(answers: &'a [KeptAnswer], agent: &Agent, key: &Key) -> Option<&'a KeptAnswer>
-    ensures kept { option_map (λ k. kept_said k.now) result ≡ kept_of answers.now agent.now key.now }
+    ensures kept { option_map (λ k. kept_said k.now) result ≡
+        kept_of answers.now agent.now key.now }
 {
     let mut found = None;
     for answer in answers {
@@ -69,7 +71,8 @@ fn kept_under<'a>(answers: &'a [KeptAnswer], agent: &Agent, key: &Key) -> Option
 
 /// What a known key is answered: its kept reply, where the text is the same.
 fn again(answer: &KeptAnswer, text: &[u8]) -> Reply
-    ensures reply { (s : State) → result ≡ (answered_again s text.now (kept_said answer.now)).reply }
+    ensures reply { (s : State) →
+        result ≡ (answered_again s text.now (kept_said answer.now)).reply }
 {
     if answer.text.as_slice() == text {
         answer.reply
@@ -99,7 +102,7 @@ fn begin(alloc: Global, journeys: &mut Vec<Begun>, plan: &Plan) -> Result<Reply,
     ensures begun { OnOk result (Begins journeys.old.items journeys.new.items plan.now None) }
     ensures limits { IsTrue (is_plan plan.now) }
 
-    ensures memory { OnErr result (journeys.new.items ≡ journeys.old.items) }
+    ensures same_journeys { OnErr result (journeys.new.items ≡ journeys.old.items) }
 {
     let _steps = plan.steps();
     let id = journeys.len() as u64 + 1;
@@ -120,11 +123,14 @@ fn begin_for(
     requires room { length journeys.old.items < MOST_EVENTS }
 
     ensures reply { IfOk result (λ reply. reply ≡ Reply.Begun (length journeys.old.items + 1)) }
-    ensures begun { OnOk result (Begins journeys.old.items journeys.new.items plan.now (Some ask.now)) }
-    ensures kept { IfOk result (λ reply. KeepsReply answers.old.items answers.new.items reply ask.now) }
+    ensures begun { OnOk result
+        (Begins journeys.old.items journeys.new.items plan.now (Some ask.now)) }
+    ensures kept { IfOk result (λ reply.
+        KeepsReply answers.old.items answers.new.items reply ask.now) }
     ensures limits { IsTrue (is_plan plan.now) }
 
-    ensures memory { OnErr result ((journeys.new.items ≡ journeys.old.items) × (answers.new.items ≡ answers.old.items)) }
+    ensures same_journeys { OnErr result (journeys.new.items ≡ journeys.old.items) }
+    ensures same_answers { OnErr result (answers.new.items ≡ answers.old.items) }
 {
     let _steps = plan.steps();
     let id = journeys.len() as u64 + 1;
@@ -173,7 +179,8 @@ impl MemBook {
     fn carry_out(&mut self, plan: &Plan) -> Result<Reply, Fault>
         ensures reply { Replies (StandsFor self.old) None (request.Begin plan.now) result }
         ensures after { MovesOn (StandsFor self.old) (StandsFor self.new) None (request.Begin plan.now) result }
-        ensures memory { OnErr result ((result ≡ Err Fault.Memory) × ((s : State) → StandsFor self.old s → StandsFor self.new s)) }
+        ensures memory { OnErr result (result ≡ Err Fault.Memory) }
+        ensures same { OnErr result (StandsAsBefore self.old self.new) }
     {
         if self.journeys.len() >= MOST_EVENTS {
             return Ok(Reply::Refused(Refusal::Limit));
@@ -187,8 +194,10 @@ impl MemBook {
     /// The same for who asks, unless the key is known.
     fn carry_out_for(&mut self, plan: &Plan, ask: &Ask) -> Result<Reply, Fault>
         ensures reply { Replies (StandsFor self.old) (Some ask.now) (request.Begin plan.now) result }
-        ensures after { MovesOn (StandsFor self.old) (StandsFor self.new) (Some ask.now) (request.Begin plan.now) result }
-        ensures memory { OnErr result ((result ≡ Err Fault.Memory) × ((s : State) → StandsFor self.old s → StandsFor self.new s)) }
+        ensures after { MovesOn (StandsFor self.old) (StandsFor self.new) (Some ask.now) (request.Begin plan.now)
+            result }
+        ensures memory { OnErr result (result ≡ Err Fault.Memory) }
+        ensures same { OnErr result (StandsAsBefore self.old self.new) }
     {
         match kept_under(&self.answers, &ask.agent(), &ask.key()) {
             Some(answer) => Ok(again(answer, ask.text())),
@@ -206,7 +215,8 @@ impl MemBook {
 
     /// The journey with this number, if there is one.
     fn begun(&self, id: u64) -> Option<&Begun>
-        ensures begun { option_map (λ b. journey_of b.now) result ≡ journey_at (ledger_of self.now.journeys.items) id }
+        ensures begun { option_map (λ b. journey_of b.now) result ≡
+            journey_at (ledger_of self.now.journeys.items) id }
     {
         if id == 0 || id > self.journeys.len() as u64 {
             return None;

@@ -29,13 +29,15 @@ pub fn run<B: Book>(
         OnOk result (MovesOnBy (B.stands book.old) (B.stands book.new) commands.now) }
 
     ensures fault { B.is_sound book.new → IfErr result (λ e.
-        Stops (B.stands book.old) (B.stands book.new) (B.leaves book.new) commands.now e.0.items e.1) }
+        Stops (B.stands book.old) (B.stands book.new) (B.leaves book.new)
+        commands.now e.0.items e.1) }
     ensures failed { IfErr result (λ e. e.1 ≡ Fault.Store → IsTrue (B.has_failed book.new)) }
 
     ensures world { B.is_sound book.new →
         OnOk result (GoesOnWith (B.stands book.old) (B.stands book.new) commands.now) }
     ensures world_at_fault { B.is_sound book.new → IfErr result (λ e.
-        GoesOnAmong (B.stands book.old) (B.stands book.new) (B.leaves book.new) commands.now e.0.items e.1) }
+        GoesOnAmong (B.stands book.old) (B.stands book.new) (B.leaves book.new)
+        commands.now e.0.items e.1) }
 
     ensures sound { B.is_sound book.new → B.is_sound book.old }
 {
