@@ -1,5 +1,5 @@
--- The turns of recovery, and the steps that are left after them, are within the bound of the ledger.
--- For the law of recovery.
+-- The turns of recovery, and the steps that are left after them, are within the bound of the
+-- ledger. For the law of recovery.
 use Rattle.std.proofs.Common.{◌≡◌, ℕ, zero, suc, ◌+◌, ◌*◌, ◌<◌, ◌≤◌, List, ◌∷◌, ◌++◌, length, refl, ap, ◌∙◌, arith}
 use Rattle.std.proofs.lemmas.List.{length-map}
 use Rattle.std.proofs.lemmas.List.Sums.{sum_by-cons}
@@ -86,8 +86,8 @@ journey-within l legal j low high = go (journey_at l j) refl
         ≡ need_of a.plan (is_open (phase a.plan (history l j))) =
         ap (λ v. if v then bound_of l j else 0) is_open_too
         ∙ ap (λ n. if is_open (phase a.plan (history l j)) then n else 0) needs in
-        let within = stop-within a.plan (history l j) (last_save_of l j) ((all_go l legal).go j a at)
-        in
+        let goes = (all_go l legal).go j a at in
+        let within = stop-within a.plan (history l j) (last_save_of l j) goes in
         omega arith
 
 -- so the turns, and what is left after them, are within the bound

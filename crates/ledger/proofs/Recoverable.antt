@@ -20,7 +20,7 @@ use Rattle.ledger.proofs.Coming.{step-comes, refused-comes}
 use Rattle.ledger.proofs.Deciding.{run_or_back, each_open_has_one}
 use Rattle.ledger.proofs.Growing.{journeys-did, is_item_allowed-may_do}
 use Rattle.ledger.proofs.Phases.{passing}
-use Rattle.ledger.proofs.Recovering.{compensation-forward}
+use Rattle.ledger.proofs.Recovering.{compensation-forward, AreAllowedAfter-split}
 use Rattle.ledger.proofs.Stopping.{stops-allowed}
 use Rattle.ledger.proofs.Working.{steps-within}
 
@@ -152,6 +152,8 @@ recovered-exists l legal =
     carries-all is_forward is_open forward-stage
     (length (journeys ((l ++ stops l) ++ back.events))) 1 ((l ++ stops l) ++ back.events)
     returned in
+    let whole : IsLegal (((l ++ stops l) ++ back.events) ++ on.events) =
+    AreAllowedAfter-join [] ((l ++ stops l) ++ back.events) on.events returned on.allowed in
     let first = stops-within l legal in
     let second = steps-within back.events (l ++ stops l) turned back.allowed
     (compensations-forward back.events back.items) in
@@ -166,8 +168,7 @@ recovered-exists l legal =
         backward = back.events;
         forward = on.events;
         whole = refl;
-        legal =
-            AreAllowedAfter-join [] ((l ++ stops l) ++ back.events) on.events returned on.allowed;
+        legal = whole;
         compensations = back.items;
         by_number = back.sorted;
         none_back = carried-none is_compensation is_going_back (l ++ stops l) back;
@@ -177,4 +178,5 @@ recovered-exists l legal =
             carried-none is_forward is_open ((l ++ stops l) ++ back.events) on;
       };
       within = omega arith;
+      cut_off = λ front rest is. (AreAllowedAfter-split [] front rest (subst IsLegal is whole)).0;
     }

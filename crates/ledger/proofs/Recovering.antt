@@ -189,7 +189,7 @@ compensation-needs_back l j (Save p) is may = cc
 -- Recovery.
 
 -- events that are allowed are allowed front and rest
-AreAllowedAfter-split : (before xs ys : List Event) → AreAllowedAfter before (xs ++ ys)
+pub AreAllowedAfter-split : (before xs ys : List Event) → AreAllowedAfter before (xs ++ ys)
     → AreAllowedAfter before xs × AreAllowedAfter (before ++ xs) ys
 AreAllowedAfter-split before [] ys all =
     (tt, subst (λ l. AreAllowedAfter l ys) (sym (append-nil before)) all)

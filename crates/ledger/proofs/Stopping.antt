@@ -242,7 +242,8 @@ stop-within plan h p g = go (phase plan h) refl
         let below = (running-rises plan h g.mode (ap is_running e)).1 in
         let here = position_of-turn h p Stop in
         let same = way-other plan h (Turn p Stop) refl in
-        let after = left_in-most plan (h ++ Turn p Stop ∷ []) (phase plan (h ++ Turn p Stop ∷ [])) in
+        let after = left_in-most plan (h ++ Turn p Stop ∷ [])
+        (phase plan (h ++ Turn p Stop ∷ [])) in
         let all = most in
         omega arith
     go (Back q) e =

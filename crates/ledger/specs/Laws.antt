@@ -80,12 +80,13 @@ NoFinishedJourneyGoesOn l =
 abbrev pub AtMostOneIsRecovered : List Event → Type 0
 AtMostOneIsRecovered l = (r s : List Event) → IsRecovered l r → IsRecovered l s → r ≡ s
 
--- recovery comes to its end: there is this ledger, recovered, and it is longer by no more events than
--- the bound; how many events a ledger may have plays no part
+-- recovery comes to its end: this is the ledger, recovered, with no more new events than the bound,
+-- however many events that makes; where they run out, or a stop comes, what is left is legal
 pub record IsRecoverable (l : List Event) : Type 0 where
   pub recovered : List Event
   pub is_recovered : IsRecovered l recovered
   pub within : length recovered ≤ length l + bound l
+  pub cut_off : (front rest : List Event) → recovered ≡ front ++ rest → IsLegal front
 
 -- Worlds.
 
