@@ -11,7 +11,7 @@ all=0
 kill_after() {
   "$DESK" run trips.db <lines >out 2>err &
   local desk=$!
-  sleep "$(printf '0.%03d' "$1")"
+  sleep "$(printf '%d.%03d' $(($1 / 1000)) $(($1 % 1000)))"
   kill -9 "$desk"
   wait "$desk" 2>/dev/null
 }
@@ -57,9 +57,12 @@ begins_next() {
 
 # a file that grows; every second time sqlite3 opens it before the program does
 least=0 most=0
+started=$(date +%s%N)
 begins_next "before the kills"
+# how many milliseconds it took to open the file, answer a line and look: so long the program runs, at most
+span=$(((($(date +%s%N) - started) / 1000000) + 50))
 for round in {1..40}; do
-  kill_after $((RANDOM % 60))
+  kill_after $((RANDOM % span))
   answers_go_on "kill $round" "$next"
   if [ $((round % 2)) -eq 0 ]; then
     now=$(rows 'SELECT journeys FROM meta')
@@ -72,7 +75,7 @@ done
 # a new file each time
 for round in {1..20}; do
   rm -f trips.db trips.db-*
-  kill_after $((RANDOM % 12))
+  kill_after $((RANDOM % (span / 4)))
   answers_go_on "kill $round of a new file" 0
   begins_next "kill $round of a new file"
 done
