@@ -7,9 +7,9 @@
 
 use plan::Plan;
 use std::alloc::{AllocError, Global};
+use std::env;
 use std::io::{self, ErrorKind};
 use std::time::{Clock, Duration, Instant};
-use std::env;
 
 /// How often a line is read before the clock is looked at again.
 const ROUNDS: u32 = 500;
