@@ -73,7 +73,8 @@ completes test passes stage before part number legal reached =
       rest = c.events;
       allowed = c.allowed;
       items = list_all-append (are_items test) part c.events ∙ and_from _ _ reached.items c.items;
-      sorted = by_number-join part c.events number reached.by_number reached.up_to c.sorted c.behind;
+      sorted =
+          by_number-join part c.events number reached.by_number reached.up_to c.sorted c.behind;
       none =
           ap (λ js. not (list_any (is_in passes ((before ++ part) ++ c.events))
           (numbers_from 1 (length js))))
@@ -170,8 +171,8 @@ from-forward l back part last number turned reached none on =
     let so_far : IsLegal (((l ++ stops l) ++ back) ++ part) =
     AreAllowedAfter-join [] ((l ++ stops l) ++ back) part
     (AreAllowedAfter-join [] (l ++ stops l) back turned reached.allowed) on.allowed in
-    let c = completes is_forward is_open forward-stage ((l ++ stops l) ++ back) part number so_far on
-    in
+    let c = completes is_forward is_open forward-stage ((l ++ stops l) ++ back) part number
+    so_far on in
     record {
       rest = c.rest;
       recovered = record {

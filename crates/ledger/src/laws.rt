@@ -26,8 +26,8 @@ pub fn steps()
 {}
 
 /// Recovery has no choice, and it comes to its end: of each ledger at most one is the recovered
-/// one, and of each legal ledger there is one, with no more new events than its bound. However far it
-/// has come, it goes on to that one.
+/// one, and of each legal ledger there is one, with no more new events than its bound. However far
+/// it has come, it goes on to that one.
 pub fn recoveries()
     ensures unique { (l : List Event) → AtMostOneIsRecovered l }
     ensures exists { (l : List Event) → IsLegal l → IsRecoverable l }

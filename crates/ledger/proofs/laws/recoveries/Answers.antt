@@ -6,4 +6,8 @@ use Rattle.ledger.proofs.UnderWay.{recovery-goes_on}
 use Rattle.ledger.proofs.laws.recoveries.Goals as goal
 
 pub returns : goal.returns
-returns c = record { unique = recovered-unique; exists = recovered-exists; under_way = recovery-goes_on }
+returns c = record {
+  unique = recovered-unique;
+  exists = recovered-exists;
+  under_way = recovery-goes_on;
+}
