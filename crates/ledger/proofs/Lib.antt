@@ -24,6 +24,7 @@ pub mod Working
 pub mod Carrying
 pub mod Bounding
 pub mod Recoverable
+pub mod UnderWay
 pub mod Cells
 pub mod Held
 pub mod Allotted

@@ -47,7 +47,7 @@ back-compensates plan h fits (Turn p Asked) back forward may = cc
 back-compensates plan h fits (Save p) back forward may = cc
 
 -- compensations carry those that go back
-back-stage : IsStage is_compensation is_going_back
+pub back-stage : IsStage is_compensation is_going_back
 back-stage = record { steps = compensation-forward; has = has }
   where
     has : (l : List Event) (j : ℕ) → IsLegal l → is_in is_going_back l j ≡ true
@@ -74,7 +74,7 @@ back-stage = record { steps = compensation-forward; has = has }
             )
 
 -- steps carry those that are open
-forward-stage : IsStage is_forward is_open
+pub forward-stage : IsStage is_forward is_open
 forward-stage = record {
   steps = λ x e. e;
   has = λ l j legal in_it.
@@ -84,7 +84,7 @@ forward-stage = record {
 -- Parts.
 
 -- items begin no journey
-journeys-items : (test : Item → Bool) (p l : List Event) → list_all (are_items test) p ≡ true
+pub journeys-items : (test : Item → Bool) (p l : List Event) → list_all (are_items test) p ≡ true
     → journeys (l ++ p) ≡ journeys l
 journeys-items test [] l items = ap journeys (append-nil l)
 journeys-items test (Loaded name rows ∷ p) l items = cc
@@ -95,7 +95,7 @@ journeys-items test (Did k x ∷ p) l items =
     ∙ journeys-items test p (l ++ Did k x ∷ []) both.1 ∙ journeys-did l k x
 
 -- a test that fails at each number of a row is passed by none
-none-pass : (test : ℕ → Bool) (n first : ℕ)
+pub none-pass : (test : ℕ → Bool) (n first : ℕ)
     → ((j : ℕ) → first ≤ j → j < first + n → test j ≡ false)
     → list_any test (numbers_from first n) ≡ false
 none-pass test zero first each = refl
@@ -104,11 +104,11 @@ none-pass test (suc n) first each =
     (none-pass test n (suc first) (λ j low high. each j (omega arith) (omega arith)))
 
 -- what carries all journeys of a ledger
-abbrev CarriesAll : (Item → Bool) → (Phase → Bool) → List Event → Type 0
+abbrev pub CarriesAll : (Item → Bool) → (Phase → Bool) → List Event → Type 0
 CarriesAll test passes l = Carries test passes 1 (length (journeys l)) l
 
 -- leaves none of them in such a phase
-carried-none : (test : Item → Bool) (passes : Phase → Bool) (l : List Event)
+pub carried-none : (test : Item → Bool) (passes : Phase → Bool) (l : List Event)
     (c : CarriesAll test passes l) → has_none passes (l ++ c.events) ≡ true
 carried-none test passes l c =
     ap (λ js. not (list_any (is_in passes (l ++ c.events)) (numbers_from 1 (length js))))
@@ -128,7 +128,7 @@ compensations-forward (Did k x ∷ p) items =
 -- Recovery.
 
 -- events that are allowed, and others that these allow, are allowed together
-AreAllowedAfter-join : (before xs ys : List Event) → AreAllowedAfter before xs
+pub AreAllowedAfter-join : (before xs ys : List Event) → AreAllowedAfter before xs
     → AreAllowedAfter (before ++ xs) ys → AreAllowedAfter before (xs ++ ys)
 AreAllowedAfter-join before [] ys first rest =
     subst (λ l. AreAllowedAfter l ys) (append-nil before) rest

@@ -10,7 +10,7 @@ use Rattle.commands.specs.declared.refusals.Refusal.TheVariants.{NoSavePoint}
 use Rattle.ledger.specs.Answer.{step_choices, answer_move, start}
 use Rattle.ledger.specs.History.{is_save, net, phase, is_open, is_finished}
 use Rattle.ledger.specs.Ledger.{Event, Did, Journey, journey_at, history, allotment, held, is_item_allowed, is_in, IsLegal}
-use Rattle.ledger.specs.Recovery.{is_forward, IsRecovered, bound}
+use Rattle.ledger.specs.Recovery.{is_forward, IsRecovered, HasComeTo, BeginsRecovered, bound}
 use Rattle.ledger.specs.Word.{word, up, down, BeginsUpAndDown, GoesToEnd, GoesToStart}
 use Rattle.ledger.specs.World.{Moment, after, events_of, times_acted}
 
@@ -87,6 +87,10 @@ pub record IsRecoverable (l : List Event) : Type 0 where
   pub is_recovered : IsRecovered l recovered
   pub within : length recovered ≤ length l + bound l
   pub cut_off : (front rest : List Event) → recovered ≡ front ++ rest → IsLegal front
+
+-- however far recovery has come, it goes on to the recovered ledger
+abbrev pub EachRecoveryGoesOn : List Event → Type 0
+EachRecoveryGoesOn l = (begun : List Event) → HasComeTo l begun → BeginsRecovered l begun
 
 -- Worlds.
 

@@ -4,6 +4,7 @@
 ghost use Rattle.std.specs.Prelude.{List};
 ghost use Rattle.ledger.specs.Laws.{AtMostOneIsRecovered};
 ghost use Rattle.ledger.specs.Laws.{EachOpenJourneyHasOneStep, EachPlainJourneyIsAllOrNothing};
+ghost use Rattle.ledger.specs.Laws.{EachRecoveryGoesOn};
 ghost use Rattle.ledger.specs.Laws.{EveryJourneyIsUpAndDown, IsRecoverable, IsSound};
 ghost use Rattle.ledger.specs.Laws.{NoCellIsOverfull, NoFinishedJourneyGoesOn};
 ghost use Rattle.ledger.specs.Ledger.{Event, IsLegal};
@@ -25,10 +26,12 @@ pub fn steps()
 {}
 
 /// Recovery has no choice, and it comes to its end: of each ledger at most one is the recovered
-/// one, and of each legal ledger there is one, with no more new events than its bound.
+/// one, and of each legal ledger there is one, with no more new events than its bound. However far
+/// it has come, it goes on to that one.
 pub fn recoveries()
     ensures unique { (l : List Event) → AtMostOneIsRecovered l }
     ensures exists { (l : List Event) → IsLegal l → IsRecoverable l }
+    ensures under_way { (l : List Event) → IsLegal l → EachRecoveryGoesOn l }
 {}
 
 /// After each world, with any stops and reopenings, the ledger is legal and is the events that were

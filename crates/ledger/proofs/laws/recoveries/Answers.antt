@@ -2,7 +2,12 @@
 -- found, journey by journey, since each step leaves fewer.
 use Rattle.ledger.proofs.Recoverable.{recovered-exists}
 use Rattle.ledger.proofs.Recovering.{recovered-unique}
+use Rattle.ledger.proofs.UnderWay.{recovery-goes_on}
 use Rattle.ledger.proofs.laws.recoveries.Goals as goal
 
 pub returns : goal.returns
-returns c = record { unique = recovered-unique; exists = recovered-exists }
+returns c = record {
+  unique = recovered-unique;
+  exists = recovered-exists;
+  under_way = recovery-goes_on;
+}
