@@ -4,3 +4,4 @@ pub mod Histories
 pub mod Items
 pub mod Taken
 pub mod Places
+pub mod Answering

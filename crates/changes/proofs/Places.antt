@@ -1,18 +1,18 @@
 -- What one more event changes of the places that are held of a cell, and of those that are allotted. For each desk
 -- that stores how many are free.
-use Rattle.std.proofs.Common.{◌≡◌, ℕ, zero, suc, ◌+◌, ◌<◌, ◌≤◌, List, [], ◌∷◌, ◌++◌, length, refl, ap, sym, ◌∙◌, arith, subst, append-nil, eqb-true, eq-eqb}
+use Rattle.std.proofs.Common.{◌≡◌, ℕ, zero, suc, ◌+◌, ◌<◌, ◌≤◌, List, [], ◌∷◌, ◌++◌, length, refl, ap, ◌∙◌, arith, subst, append-nil, eqb-true}
 use Rattle.std.proofs.lemmas.Bool.{and_parts, eqb-false, or_parts}
 use Rattle.std.proofs.lemmas.Grind.{flat_map-append}
 use Rattle.std.proofs.lemmas.List.Elements.{filter-append}
 use Rattle.std.proofs.lemmas.List.Sums.{sum_by-cons, sum_by_push}
-use Rattle.std.specs.Prelude.{Bool, true, false, not, ◌==◌, ◌&&◌, ◌||◌, cond, if◌then◌else◌, filter, find, flat_map, sum_by, Option, Some, None, option_map, option_to_list, unwrap_or, slice_get, nat_le, IsTrue}
+use Rattle.std.specs.Prelude.{Bool, true, false, not, ◌==◌, ◌&&◌, cond, if◌then◌else◌, filter, find, flat_map, sum_by, Option, Some, None, option_map, option_to_list, unwrap_or, slice_get, IsTrue}
 use Rattle.std.specs.List.{list_any, list_all}
 use Rattle.allotment.specs.Cells.{is_cell, wants_cell, numbers_from}
 use Rattle.allotment.specs.Limits.{is_between}
 use Rattle.allotment.specs.Want.{Wanted}
 use Rattle.allotment.specs.declared.cells.Cell.{Cell}
 use Rattle.allotment.specs.declared.cells.Row.{Row}
-use Rattle.plan.specs.Planned.{Planned, numbered, want_at}
+use Rattle.plan.specs.Planned.{Planned, want_at}
 use Rattle.commands.specs.Names.{is_batch_name}
 use Rattle.commands.specs.declared.items.Cause.{Cause}
 use Rattle.commands.specs.declared.items.Item.{Item}
@@ -50,12 +50,16 @@ sum_by-changed : (f g : ℕ → ℕ) (k first n : ℕ) → ((j : ℕ) → (j ≡
     → first ≤ k → k < first + n
     → sum_by g (numbers_from first n) + f k ≡ sum_by f (numbers_from first n) + g k
 sum_by-changed f g k first zero same low high = absurd (omega arith)
-sum_by-changed f g k first (suc n) same low high = go (first == k) refl
+sum_by-changed f g k first (suc n) same low high =
+    go (first == k) refl
+    (λ other. sum_by-changed f g k (suc first) n same (omega arith) (omega arith))
   where
     go : (v : Bool) → (first == k) ≡ v
+        → ((first ≡ k → ⊥) → sum_by g (numbers_from (suc first) n) + f k
+        ≡ sum_by f (numbers_from (suc first) n) + g k)
         → sum_by g (first ∷ numbers_from (suc first) n) + f k
         ≡ sum_by f (first ∷ numbers_from (suc first) n) + g k
-    go true e =
+    go true e later =
         let is = eqb-true _ _ e in
         let a = sum_by-cons g first (numbers_from (suc first) n) in
         let b = sum_by-cons f first (numbers_from (suc first) n) in
@@ -63,12 +67,12 @@ sum_by-changed f g k first (suc n) same low high = go (first == k) refl
         let old : f first ≡ f k = ap f is in
         let rest = sum_by-behind f g k (suc first) n same (omega arith) in
         omega arith
-    go false e =
+    go false e later =
         let other = eqb-false _ _ e in
         let a = sum_by-cons g first (numbers_from (suc first) n) in
         let b = sum_by-cons f first (numbers_from (suc first) n) in
         let one = same first other in
-        let rest = sum_by-changed f g k (suc first) n same (omega arith) (omega arith) in
+        let rest = later other in
         omega arith
 
 -- Held places.
