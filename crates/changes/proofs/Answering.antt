@@ -2,128 +2,27 @@
 -- want fits. For each desk that stores these.
 use Rattle.std.proofs.Common.{◌≡◌, ℕ, ◌+◌, List, [], ◌∷◌, refl, ap, sym, ◌∙◌, eq-eqb, map}
 use Rattle.std.proofs.lemmas.Bool.{false_from_ne_true}
-use Rattle.std.specs.Prelude.{Bool, true, false, not, ◌==◌, ◌&&◌, nat_lt, if◌then◌else◌, cond, find, Option, Some, None, option_map, option_and_then, option_to_list, unwrap_or}
+use Rattle.std.specs.Prelude.{Bool, true, false, not, ◌==◌, ◌&&◌, nat_lt, if◌then◌else◌, find, Some, option_to_list}
 use Rattle.plan.specs.Planned.{Planned}
 use Rattle.savepoints.specs.Marks.{is_taken_in}
-use Rattle.savepoints.specs.Rules as rules
 use Rattle.savepoints.specs.Turns.{may_be_made}
 use Rattle.savepoints.specs.declared.turns.Turn.TheVariants as turn
-use Rattle.commands.specs.declared.items.Cursor.{Cursor}
 use Rattle.commands.specs.declared.items.Cause.TheVariants.{Stop, Refused, Asked}
 use Rattle.commands.specs.declared.items.Item.{Item}
 use Rattle.commands.specs.declared.items.Item.TheVariants.{Transaction, Compensation, Turn, Save}
 use Rattle.commands.specs.declared.items.Phase.{Phase}
 use Rattle.commands.specs.declared.items.Phase.TheVariants.{Run, Back, Ended, Undone}
-use Rattle.commands.specs.declared.refusals.Refusal.{Refusal}
-use Rattle.commands.specs.declared.refusals.Refusal.TheVariants.{NoJourney, Finished, NoSavePoint, NoSave}
-use Rattle.commands.specs.declared.replies.Reply.TheVariants as reply
-use Rattle.ledger.specs.History.{net, position_of, refusals, is_taken, is_save_point, last_save, refused_target, next_option, next_want, phase, is_running, is_going_back, is_finished, may_turn, last_of}
-use Rattle.ledger.specs.Ledger.{Event, Did, Journey, journey_at, history, fits, may_do, IsLegal}
-use Rattle.ledger.specs.Replies.{Answer, refused, sees, seen_journey, compensation, step_choices, abort_choices, stop_choices, save_choices, moved, answer_choices, answer_move}
+use Rattle.commands.specs.declared.refusals.Refusal.TheVariants.{NoSavePoint, NoSave}
+use Rattle.ledger.specs.History.{net, position_of, is_taken, is_save_point, last_save, refused_target, next_option, next_want, phase, is_running, is_going_back, is_finished, may_turn, last_of}
+use Rattle.ledger.specs.Ledger.{Event, Journey, journey_at, history, fits, IsLegal}
+use Rattle.ledger.specs.Replies.{refused, compensation, step_choices, abort_choices, stop_choices, save_choices, answer_move}
 use Rattle.ledger.proofs.Coming.{step-comes, step-may_come, refused-comes, refused-may_come, compensation-may_come}
 use Rattle.changes.specs.Answered.{moves}
 use Rattle.changes.specs.Changed.{target_of}
 use Rattle.changes.specs.Cursors.{cursor_of, marks_of}
-use Rattle.changes.proofs.Histories.{Follows, follows}
-use Rattle.changes.proofs.Items.{cursor_of-more}
-use Rattle.changes.proofs.Taken.{is_taken_in-marks_of}
-
--- Journeys that are seen.
-
--- whoever sees the journey has it
-pub seen : (l : List Event) (who : Option (List ℕ)) (j : ℕ) (a : Journey) → journey_at l j ≡ Some a
-    → sees who a ≡ true → seen_journey l who j ≡ Some a
-seen l who j a at e =
-    ap (λ o. option_and_then (λ (b : Journey). if sees who b then Some b else None) o) at
-    ∙ ap (λ v. if v then Some a else None) e
-
--- another agent's journey is as if there were none
-pub unseen : (l : List Event) (who : Option (List ℕ)) (j : ℕ) (a : Journey) → journey_at l j ≡ Some a
-    → sees who a ≡ false → seen_journey l who j ≡ None
-unseen l who j a at e =
-    ap (λ o. option_and_then (λ (b : Journey). if sees who b then Some b else None) o) at
-    ∙ ap (λ v. if v then Some a else None) e
-
--- where there is no journey none is seen
-pub seen-none : (l : List Event) (who : Option (List ℕ)) (j : ℕ) → journey_at l j ≡ None
-    → seen_journey l who j ≡ None
-seen-none l who j absent =
-    ap (λ o. option_and_then (λ (b : Journey). if sees who b then Some b else None) o) absent
-
--- Moves.
-
--- to a request about no journey
-pub move-none : (l : List Event) (j : ℕ) (choices : Planned → List Item → List Item) (otherwise : Refusal)
-    → answer_move l j choices otherwise None ≡ refused NoJourney
-move-none l j choices otherwise = refl
-
--- to a request about a journey that has ended or is undone
-pub move-finished : (l : List Event) (j : ℕ) (choices : Planned → List Item → List Item) (otherwise : Refusal)
-    (a : Journey) → is_finished (phase a.plan (history l j)) ≡ true
-    → answer_move l j choices otherwise (Some a) ≡ refused Finished
-move-finished l j choices otherwise a finished =
-    ap (λ v. if v then refused Finished
-    else answer_choices l j a (choices a.plan (history l j)) otherwise) finished
-
--- the test of a journey's next item
-abbrev may : List Event → ℕ → Journey → Item → Bool
-may l j a next = may_do l j next a
-
--- what is answered where this is the first choice that is allowed
-move-first : (l : List Event) (j : ℕ) (choices : Planned → List Item → List Item) (otherwise : Refusal)
-    (a : Journey) (o : Option Item) → is_finished (phase a.plan (history l j)) ≡ false
-    → find (may l j a) (choices a.plan (history l j)) ≡ o
-    → answer_move l j choices otherwise (Some a)
-    ≡ unwrap_or (option_map (moved a.plan (history l j) j) o) (refused otherwise)
-move-first l j choices otherwise a o unfinished found =
-    ap (λ v. if v then refused Finished
-    else answer_choices l j a (choices a.plan (history l j)) otherwise) unfinished
-    ∙ ap (λ p. unwrap_or (option_map (moved a.plan (history l j) j) p) (refused otherwise)) found
-
--- the reply to an item says where the journey is then
-moved-moves : (l : List Event) (j : ℕ) (a : Journey) (x : Item) → IsLegal l → journey_at l j ≡ Some a
-    → may l j a x ≡ true
-    → moved a.plan (history l j) j x ≡ moves j a.plan (cursor_of a.plan (history l j)) x
-moved-moves l j a x legal at comes =
-    ap (λ c. answered c)
-    (cursor_of-more a.plan (history l j) (fits l (next_want a.plan (history l j))) x
-    (follows l legal j a at) comes)
-  where
-    answered : Cursor → Answer
-    answered c = record { event = Some (Did j x); reply = reply.Moved j x c.pos c.phase }
-
--- the item that is found is made
-move-found : (l : List Event) (j : ℕ) (choices : Planned → List Item → List Item) (otherwise : Refusal)
-    (a : Journey) (x : Item) → IsLegal l → journey_at l j ≡ Some a
-    → is_finished (phase a.plan (history l j)) ≡ false
-    → find (may l j a) (choices a.plan (history l j)) ≡ Some x → may l j a x ≡ true
-    → answer_move l j choices otherwise (Some a) ≡ moves j a.plan (cursor_of a.plan (history l j)) x
-move-found l j choices otherwise a x legal at unfinished found comes =
-    move-first l j choices otherwise a (Some x) unfinished found ∙ moved-moves l j a x legal at comes
-
--- where the first does not pass, the search goes on
-find-next : {X : Type 0} (test : X → Bool) (x : X) (xs : List X) → test x ≡ false
-    → find test (x ∷ xs) ≡ find test xs
-find-next test x xs e = ap (λ b. cond b (Some x) (find test xs)) e
-
--- where the first passes, it is found
-find-first : {X : Type 0} (test : X → Bool) (x : X) (xs : List X) → test x ≡ true
-    → find test (x ∷ xs) ≡ Some x
-find-first test x xs e = ap (λ b. cond b (Some x) (find test xs)) e
-
--- an only choice is made where it is allowed, else the request is refused
-move-only : (l : List Event) (j : ℕ) (choices : Planned → List Item → List Item) (otherwise : Refusal)
-    (a : Journey) (x : Item) (allowed : Bool) → IsLegal l → journey_at l j ≡ Some a
-    → is_finished (phase a.plan (history l j)) ≡ false
-    → choices a.plan (history l j) ≡ x ∷ [] → may l j a x ≡ allowed
-    → answer_move l j choices otherwise (Some a)
-    ≡ (if allowed then moves j a.plan (cursor_of a.plan (history l j)) x else refused otherwise)
-move-only l j choices otherwise a x true legal at unfinished only comes =
-    move-found l j choices otherwise a x legal at unfinished
-    (ap (find (may l j a)) only ∙ find-first (may l j a) x [] comes) comes
-move-only l j choices otherwise a x false legal at unfinished only fails =
-    move-first l j choices otherwise a None unfinished
-    (ap (find (may l j a)) only ∙ find-next (may l j a) x [] fails)
+use Rattle.changes.proofs.Histories.{follows}
+use Rattle.changes.proofs.Moves.{may, move-found, move-only, find-next, find-first}
+use Rattle.changes.proofs.Taken.{taken_by-marks}
 
 -- Phases.
 
@@ -208,11 +107,6 @@ step-back l j a p i c legal at back last =
 
 -- Turns.
 
--- the tests of the save-points that were taken are those of the set
-pub taken_by-marks : (plan : Planned) (h : List Item) → Follows plan h
-    → is_taken h ≡ is_taken_in (marks_of h)
-taken_by-marks plan h f = λ i p. sym (is_taken_in-marks_of plan h p f) i
-
 -- an open journey runs or goes back
 pub data Open (p : Phase) : Type 0 where
   runs : p ≡ Run → Open p
@@ -280,23 +174,6 @@ stop-answer l j a legal at o =
     ∙ ap (λ taken. may_be_made a.plan taken (position_of (history l j))
     (target_of (phase a.plan (history l j))) turn.Stop)
     (taken_by-marks a.plan (history l j) (follows l legal j a at)))
-
--- the last save-point, by the set
-pub last_save_by-marks : (plan : Planned) (h : List Item) → Follows plan h
-    → last_save plan h ≡ rules.last_save plan (is_taken_in (marks_of h)) (position_of h)
-last_save_by-marks plan h f = ap (λ taken. rules.last_save plan taken (position_of h)) (taken_by-marks plan h f)
-
--- where a refused step leads, by the set
-pub refused_target_by-marks : (plan : Planned) (h : List Item) → Follows plan h
-    → refused_target plan h ≡ rules.refused_target plan (is_taken_in (marks_of h)) (position_of h) (refusals h)
-refused_target_by-marks plan h f =
-    ap (λ taken. rules.refused_target plan taken (position_of h) (refusals h)) (taken_by-marks plan h f)
-
--- whether a save-point stands, by the set
-pub is_save_point_by-marks : (plan : Planned) (h : List Item) (p : ℕ) → Follows plan h
-    → is_save_point plan h p ≡ rules.is_save_point plan (is_taken_in (marks_of h)) (position_of h) p
-is_save_point_by-marks plan h p f =
-    ap (λ taken. rules.is_save_point plan taken (position_of h) p) (taken_by-marks plan h f)
 
 -- Save-points.
 

@@ -28,7 +28,8 @@ use Rattle.ledger.proofs.Standing as standing
 use Rattle.changes.specs.Changed.{phase_up, phase_down, phase_back, used_after, cursor_after}
 use Rattle.changes.specs.Cursors.{cursor_of}
 use Rattle.changes.proofs.Events as events
-use Rattle.changes.proofs.Histories.{Follows, follows, may_come-allowed}
+use Rattle.changes.proofs.Histories.{Follows, follows}
+use Rattle.changes.proofs.Inductions.{may_come-allowed}
 
 -- Refusals.
 

@@ -29,7 +29,8 @@ use Rattle.ledger.proofs.Lists.{last_of-append}
 use Rattle.ledger.proofs.Places.{no_cell_overfull}
 use Rattle.changes.specs.Changed.{places_in_rows, newer}
 use Rattle.changes.proofs.Events as events
-use Rattle.changes.proofs.Histories.{follows, may_come-allowed}
+use Rattle.changes.proofs.Histories.{follows}
+use Rattle.changes.proofs.Inductions.{may_come-allowed}
 use Rattle.changes.proofs.Items as items
 
 -- Sums.

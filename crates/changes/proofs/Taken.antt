@@ -14,7 +14,8 @@ use Rattle.savepoints.specs.Marks.{is_taken_in, same_marks}
 use Rattle.commands.specs.declared.items.Cause.{Cause}
 use Rattle.commands.specs.declared.items.Item.{Item}
 use Rattle.commands.specs.declared.items.Item.TheVariants.{Transaction, Compensation, Turn, Save}
-use Rattle.ledger.specs.History.{position_of, is_taken, may_come}
+use Rattle.ledger.specs.History.{position_of, is_taken, is_save_point, last_save, refused_target, refusals, may_come}
+use Rattle.savepoints.specs.Rules as rules
 use Rattle.changes.specs.Cursors.{marks_of}
 use Rattle.changes.proofs.Histories.{Follows, follows-more}
 use Rattle.changes.proofs.Items.{compensation-step, compensation_above}
@@ -96,6 +97,30 @@ marks_of-begin marks none =
     same_marks marks (marks_of [])
     (λ p. none p ∙ sym (contains-from_list_nat (filter (is_taken []) (numbers_from 1 23)) p
     ∙ list_any-none 1 23 p))
+
+-- The rules by the set.
+
+-- the tests of the save-points that were taken are those of the set
+pub taken_by-marks : (plan : Planned) (h : List Item) → Follows plan h
+    → is_taken h ≡ is_taken_in (marks_of h)
+taken_by-marks plan h f = λ i p. sym (is_taken_in-marks_of plan h p f) i
+
+-- the last save-point, by the set
+pub last_save_by-marks : (plan : Planned) (h : List Item) → Follows plan h
+    → last_save plan h ≡ rules.last_save plan (is_taken_in (marks_of h)) (position_of h)
+last_save_by-marks plan h f = ap (λ taken. rules.last_save plan taken (position_of h)) (taken_by-marks plan h f)
+
+-- where a refused step leads, by the set
+pub refused_target_by-marks : (plan : Planned) (h : List Item) → Follows plan h
+    → refused_target plan h ≡ rules.refused_target plan (is_taken_in (marks_of h)) (position_of h) (refusals h)
+refused_target_by-marks plan h f =
+    ap (λ taken. rules.refused_target plan taken (position_of h) (refusals h)) (taken_by-marks plan h f)
+
+-- whether a save-point stands, by the set
+pub is_save_point_by-marks : (plan : Planned) (h : List Item) (p : ℕ) → Follows plan h
+    → is_save_point plan h p ≡ rules.is_save_point plan (is_taken_in (marks_of h)) (position_of h) p
+is_save_point_by-marks plan h p f =
+    ap (λ taken. rules.is_save_point plan taken (position_of h) p) (taken_by-marks plan h f)
 
 -- One more item.
 
