@@ -1,7 +1,7 @@
 -- What is answered to each request about a journey, by its cursor, the save-points that it took, and whether its next
 -- want fits. For each desk that stores these.
 use Rattle.std.proofs.Common.{◌≡◌, ℕ, ◌+◌, List, [], ◌∷◌, refl, ap, sym, ◌∙◌, eq-eqb, map}
-use Rattle.std.proofs.lemmas.Bool.{false_from_ne_true}
+use Rattle.std.proofs.lemmas.Bool.{false_from_ne_true, not-true}
 use Rattle.std.specs.Prelude.{Bool, true, false, not, ◌==◌, ◌&&◌, nat_lt, if◌then◌else◌, find, Some, option_to_list}
 use Rattle.plan.specs.Planned.{Planned}
 use Rattle.savepoints.specs.Marks.{is_taken_in}
@@ -16,7 +16,8 @@ use Rattle.commands.specs.declared.refusals.Refusal.TheVariants.{NoSavePoint, No
 use Rattle.ledger.specs.History.{net, position_of, is_taken, is_save_point, last_save, refused_target, next_option, next_want, phase, is_running, is_going_back, is_finished, may_turn, last_of}
 use Rattle.ledger.specs.Ledger.{Event, Journey, journey_at, history, fits, IsLegal}
 use Rattle.ledger.specs.Replies.{refused, compensation, step_choices, abort_choices, stop_choices, save_choices, answer_move}
-use Rattle.ledger.proofs.Coming.{step-comes, step-may_come, refused-comes, refused-may_come, compensation-may_come}
+use Rattle.ledger.specs.Recovery.{is_forward}
+use Rattle.ledger.proofs.Coming.{compensation-comes, step-comes, step-may_come, refused-comes, refused-may_come, compensation-may_come}
 use Rattle.changes.specs.Answered.{moves}
 use Rattle.changes.specs.Changed.{target_of}
 use Rattle.changes.specs.Cursors.{cursor_of, marks_of}
@@ -208,3 +209,40 @@ save-back l j a p legal at back =
     (back-unfinished _ p back) refl
     (ap (λ b. b && (position_of (history l j) == position_of (history l j)) && nat_lt 0 (position_of (history l j))
     && not (is_save_point a.plan (history l j) (position_of (history l j)))) (ap is_running back))
+
+-- Any step.
+
+-- the phase that runs
+running-is : (p : Phase) → is_running p ≡ true → p ≡ Run
+running-is Run e = refl
+running-is (Back q) e = cc
+running-is Ended e = cc
+running-is Undone e = cc
+
+-- a phase that goes back goes back to some position
+going_back-is : (p : Phase) → is_going_back p ≡ true → (q : ℕ) × (p ≡ Back q)
+going_back-is Run e = cc
+going_back-is (Back q) e = (q, refl)
+going_back-is Ended e = cc
+going_back-is Undone e = cc
+
+-- to a step: of the items that a step makes, the one that may come next
+pub step-answer : (l : List Event) (j : ℕ) (a : Journey) (x : Item) → IsLegal l → journey_at l j ≡ Some a
+    → is_forward x ≡ true → may l j a x ≡ true
+    → answer_move l j step_choices NoSavePoint (Some a) ≡ moves j a.plan (cursor_of a.plan (history l j)) x
+step-answer l j a (Transaction i c) legal at forward comes =
+    let k = step-comes a.plan (history l j) (fits l (next_want a.plan (history l j))) i c comes in
+    step-fits l j a legal at (running-is _ k.running) k.fitting
+    ∙ sym (ap (moves j a.plan (cursor_of a.plan (history l j)))
+    (ap (λ n. Transaction n c) k.step ∙ ap (Transaction (position_of (history l j) + 1)) k.option))
+step-answer l j a (Compensation i c) legal at forward comes =
+    let k = compensation-comes a.plan (history l j) (fits l (next_want a.plan (history l j))) i c comes in
+    let back = going_back-is _ k.back in
+    step-back l j a back.0 i c legal at back.1 k.last
+step-answer l j a (Turn p Stop) legal at forward comes = cc
+step-answer l j a (Turn p Refused) legal at forward comes =
+    let k = refused-comes a.plan (history l j) (fits l (next_want a.plan (history l j))) p comes in
+    step-refused l j a legal at (running-is _ k.running) (not-true _ k.unfitting)
+    ∙ sym (ap (λ n. moves j a.plan (cursor_of a.plan (history l j)) (Turn n Refused)) k.target)
+step-answer l j a (Turn p Asked) legal at forward comes = cc
+step-answer l j a (Save p) legal at forward comes = cc
