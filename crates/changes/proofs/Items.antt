@@ -84,7 +84,9 @@ phase-going plan h p short turned going =
     let pos : ℕ = position_of h in
     ap (λ b. phase_at (step_count plan) pos b (going_to h)) turned
     ∙ ap (phase_at (step_count plan) pos (0 == p)) going
-    ∙ ap (λ b. if b then Ended else if (0 == p) && (pos == 0) then Undone else back_or_run pos (Some p))
+    ∙ ap (λ b. if b then Ended
+    else if (0 == p) && (pos == 0) then Undone
+    else back_or_run pos (Some p))
     (ne_eqb pos (step_count plan) short)
     ∙ going_by-tests p (0 == p) (p == 0) (pos == 0) (nat_lt p pos) (start_test p)
     (λ above. ne_eqb pos 0 (λ e. let k = ltb-true _ _ above in omega arith))
@@ -125,7 +127,8 @@ asked-turn plan h p g may = by_mode g.mode
     ]
     by_mode (falls f) =
         let back = at (Back f.target) (phase-falling plan h f) in
-        let lower = ltb-true _ _ (and_parts ((p == 0) || is_save_point plan h p) (nat_lt p f.target) back).1 in
+        let lower = ltb-true _ _ (and_parts ((p == 0) || is_save_point plan h p)
+        (nat_lt p f.target) back).1 in
         let top = f.falls in
         let below = f.short in
         record {
@@ -159,7 +162,8 @@ same_cursor n m p q u v same_pos same_phase same_used =
 -- a transaction is a step further
 cursor_of-transaction : (plan : Planned) (h : List Item) (may_fit : Bool) (i c : ℕ) → Follows plan h
     → IsTrue (may_come plan h may_fit (Transaction i c))
-    → cursor_of plan (h ++ Transaction i c ∷ []) ≡ cursor_after plan (cursor_of plan h) (Transaction i c)
+    → cursor_of plan (h ++ Transaction i c ∷ [])
+    ≡ cursor_after plan (cursor_of plan h) (Transaction i c)
 cursor_of-transaction plan h may_fit i c f may =
     let comes = step-comes plan h may_fit i c may in
     let up = running-rises plan h f.goes.mode comes.running in
@@ -170,9 +174,11 @@ cursor_of-transaction plan h may_fit i c f may =
     (refusals-other h (Transaction i c) refl)
 
 -- the compensation of the last transaction is a step back
-cursor_of-compensation : (plan : Planned) (h : List Item) (may_fit : Bool) (i c : ℕ) → Follows plan h
+cursor_of-compensation : (plan : Planned) (h : List Item) (may_fit : Bool) (i c : ℕ)
+    → Follows plan h
     → IsTrue (may_come plan h may_fit (Compensation i c))
-    → cursor_of plan (h ++ Compensation i c ∷ []) ≡ cursor_after plan (cursor_of plan h) (Compensation i c)
+    → cursor_of plan (h ++ Compensation i c ∷ [])
+    ≡ cursor_after plan (cursor_of plan h) (Compensation i c)
 cursor_of-compensation plan h may_fit i c f may =
     let g = f.goes in
     let comes = compensation-comes plan h may_fit i c may in
@@ -190,7 +196,8 @@ cursor_of-compensation plan h may_fit i c f may =
     (refusals-other h (Compensation i c) refl)
 
 -- a turn stays at the position
-cursor_of-turn : (plan : Planned) (h : List Item) (may_fit : Bool) (p : ℕ) (cause : Cause) → Follows plan h
+cursor_of-turn : (plan : Planned) (h : List Item) (may_fit : Bool) (p : ℕ) (cause : Cause)
+    → Follows plan h
     → IsTrue (may_come plan h may_fit (Turn p cause))
     → cursor_of plan (h ++ Turn p cause ∷ []) ≡ cursor_after plan (cursor_of plan h) (Turn p cause)
 cursor_of-turn plan h may_fit p cause f may =
@@ -208,7 +215,8 @@ cursor_of-save : (plan : Planned) (h : List Item) (p : ℕ)
 cursor_of-save plan h p =
     let pos = position_of-save h p in
     same_cursor _ _ _ _ _ _ pos
-    (ap (λ n. phase_at (step_count plan) n (has_turned_to_start (h ++ Save p ∷ [])) (going_to (h ++ Save p ∷ [])))
+    (ap (λ n. phase_at (step_count plan) n (has_turned_to_start (h ++ Save p ∷ []))
+    (going_to (h ++ Save p ∷ [])))
     pos
     ∙ ap (λ b. phase_at (step_count plan) (position_of h) b (going_to (h ++ Save p ∷ [])))
     (turned-other h (Save p) refl)
@@ -219,8 +227,10 @@ cursor_of-save plan h p =
 pub cursor_of-more : (plan : Planned) (h : List Item) (may_fit : Bool) (x : Item) → Follows plan h
     → IsTrue (may_come plan h may_fit x)
     → cursor_of plan (h ++ x ∷ []) ≡ cursor_after plan (cursor_of plan h) x
-cursor_of-more plan h may_fit (Transaction i c) f may = cursor_of-transaction plan h may_fit i c f may
-cursor_of-more plan h may_fit (Compensation i c) f may = cursor_of-compensation plan h may_fit i c f may
+cursor_of-more plan h may_fit (Transaction i c) f may =
+    cursor_of-transaction plan h may_fit i c f may
+cursor_of-more plan h may_fit (Compensation i c) f may =
+    cursor_of-compensation plan h may_fit i c f may
 cursor_of-more plan h may_fit (Turn p cause) f may = cursor_of-turn plan h may_fit p cause f may
 cursor_of-more plan h may_fit (Save p) f may = cursor_of-save plan h p
 
@@ -265,7 +275,8 @@ compensation-step plan h may_fit i c f may =
     (compensates h i c f.stands (compensation-comes plan h may_fit i c may).last).is_last
 
 -- so the journey was above its start
-pub compensation_above : (plan : Planned) (h : List Item) (may_fit : Bool) (i c : ℕ) → Follows plan h
+pub compensation_above : (plan : Planned) (h : List Item) (may_fit : Bool) (i c : ℕ)
+    → Follows plan h
     → IsTrue (may_come plan h may_fit (Compensation i c)) → 1 ≤ position_of h
 compensation_above plan h may_fit i c f may =
     let k = compensates h i c f.stands (compensation-comes plan h may_fit i c may).last in
