@@ -19,6 +19,7 @@ use Rattle.ledger.proofs.Standing.{compensates, net-transaction, net-compensatio
 use Rattle.changes.specs.Legal.{HasHistory}
 use Rattle.changes.proofs.Taking.{is_taken-more}
 use Rattle.changes.proofs.Inductions.{AtBegin, AtItem, each_history}
+pub use Rattle.changes.proofs.Inductions.{may_come-allowed}
 
 -- the plan has this option of this step
 abbrev pub is_option_of : Planned → ℕ × ℕ → Bool

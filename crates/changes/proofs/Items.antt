@@ -1,8 +1,7 @@
 -- What one more item changes of where a journey is: its position, its phase, and how many of its steps were refused.
 -- For each desk that stores a cursor.
-use Rattle.std.proofs.Common.{◌≡◌, ℕ, zero, suc, ◌+◌, ◌-◌, ◌≤◌, List, [], ◌∷◌, ◌++◌, length, map, refl, ap, sym, ◌∙◌, arith, append-nil, length-append, eqb-true, eq-eqb}
-use Rattle.std.proofs.lemmas.Bool.{and_parts, ltb-true, ltb-false, eqb-false, ne_eqb, not_from_false}
-use Rattle.std.proofs.lemmas.List.{map-append}
+use Rattle.std.proofs.Common.{◌≡◌, ℕ, ◌+◌, ◌-◌, ◌≤◌, List, [], ◌∷◌, ◌++◌, length, map, refl, ap, sym, ◌∙◌, arith, append-nil, length-append, eqb-true, eq-eqb}
+use Rattle.std.proofs.lemmas.Bool.{and_parts, ltb-true, ltb-false, eqb-false, ne_eqb}
 use Rattle.std.proofs.lemmas.List.Elements.{filter-append}
 use Rattle.std.proofs.lemmas.List.Sums.{sum_by_push}
 use Rattle.std.specs.Prelude.{Bool, true, false, not, ◌==◌, ◌||◌, ◌&&◌, nat_lt, filter, cond, if◌then◌else◌, Some, IsTrue}
@@ -19,9 +18,8 @@ use Rattle.ledger.specs.History.{net, position_of, refusals, phase, phase_at, ba
 use Rattle.ledger.specs.Ledger.{Event, Did, Journey, journey_at, history, fits, is_allowed, IsLegal}
 use Rattle.ledger.proofs.Coming.{step-comes, compensation-comes, stop-comes, refused-comes}
 use Rattle.ledger.proofs.Going.{going_to-turn, going_to-compensation, going_to-save, turned-other, turned-turn}
-use Rattle.ledger.proofs.Lists.{last_of-is, front_of, front_of-snoc}
+use Rattle.ledger.proofs.Lists.{last_of-is}
 use Rattle.ledger.proofs.Modes.{Goes, Mode, rises, falls, fell, Rising, upward, runs, ended, phase-falling, phase-fallen, running-rises, going_back-falls}
-use Rattle.ledger.proofs.Numbers.{numbers_from-append}
 use Rattle.ledger.proofs.Rising.{rising-transaction}
 use Rattle.ledger.proofs.Standing.{compensates, position_of-transaction, position_of-turn, position_of-save}
 use Rattle.ledger.proofs.Standing as standing
@@ -30,6 +28,7 @@ use Rattle.changes.specs.Cursors.{cursor_of}
 use Rattle.changes.proofs.Events as events
 use Rattle.changes.proofs.Histories.{Follows, follows}
 use Rattle.changes.proofs.Inductions.{may_come-allowed}
+use Rattle.changes.proofs.Numbered.{filter-above, front-numbered}
 
 -- Refusals.
 
@@ -245,28 +244,6 @@ cursor_of-did l j a x legal at may =
     (follows l legal j a at) (may_come-allowed l j a x at may)
 
 -- What stands.
-
--- to leave out a number above all of these leaves them all
-filter-above : (ts : List (ℕ × ℕ)) (first n m : ℕ) → map (λ t. t.0) ts ≡ numbers_from first n
-    → first + n ≤ m → filter (λ t. not (t.0 == m)) ts ≡ ts
-filter-above [] first n m e above = refl
-filter-above (t ∷ ts) first zero m e above = cc
-filter-above (t ∷ ts) first (suc n) m e above =
-    let is : t.0 ≡ first = cc in
-    let rest : map (λ s. s.0) ts ≡ numbers_from (suc first) n = cc in
-    let differs : not (t.0 == m) ≡ true = not_from_false _ (ne_eqb t.0 m (λ same. omega arith)) in
-    ap (λ b. cond b (t ∷ filter (λ s. not (s.0 == m)) ts) (filter (λ s. not (s.0 == m)) ts)) differs
-    ∙ ap (λ ys. t ∷ ys) (filter-above ts (suc first) n m rest (omega arith))
-
--- where the steps of a list are numbered in a row, so are those in front of the last
-front-numbered : (front : List (ℕ × ℕ)) (i c : ℕ)
-    → map (λ t. t.0) (front ++ (i, c) ∷ []) ≡ numbers_from 1 (length front + 1)
-    → map (λ t. t.0) front ≡ numbers_from 1 (length front)
-front-numbered front i c e =
-    sym (front_of-snoc (map (λ t. t.0) front) i)
-    ∙ ap front_of
-    (sym (map-append (λ t. t.0) front ((i, c) ∷ [])) ∙ e ∙ numbers_from-append 1 (length front) 1)
-    ∙ front_of-snoc (numbers_from 1 (length front)) (1 + length front)
 
 -- the step that is compensated is that of the position
 pub compensation-step : (plan : Planned) (h : List Item) (may_fit : Bool) (i c : ℕ) → Follows plan h

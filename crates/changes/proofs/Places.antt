@@ -1,33 +1,23 @@
--- What one more event changes of the places that are held of a cell, and of those that are allotted. For each desk
--- that stores how many are free.
-use Rattle.std.proofs.Common.{◌≡◌, ℕ, zero, suc, ◌+◌, ◌<◌, ◌≤◌, List, [], ◌∷◌, ◌++◌, length, refl, ap, ◌∙◌, arith, subst, append-nil, eqb-true}
-use Rattle.std.proofs.lemmas.Bool.{and_parts, eqb-false, or_parts}
-use Rattle.std.proofs.lemmas.Grind.{flat_map-append}
-use Rattle.std.proofs.lemmas.List.Elements.{filter-append}
+-- What one more event changes of the places that are held of a cell. For each desk that stores how many are free.
+use Rattle.std.proofs.Common.{◌≡◌, ℕ, zero, suc, ◌+◌, ◌<◌, ◌≤◌, List, [], ◌∷◌, ◌++◌, length, refl, ap, ◌∙◌, arith, subst, eqb-true}
+use Rattle.std.proofs.lemmas.Bool.{eqb-false}
 use Rattle.std.proofs.lemmas.List.Sums.{sum_by-cons, sum_by_push}
-use Rattle.std.specs.Prelude.{Bool, true, false, not, ◌==◌, ◌&&◌, cond, if◌then◌else◌, filter, find, flat_map, sum_by, Option, Some, None, option_map, option_to_list, unwrap_or, slice_get, IsTrue}
-use Rattle.std.specs.List.{list_any, list_all}
-use Rattle.allotment.specs.Cells.{is_cell, wants_cell, numbers_from}
-use Rattle.allotment.specs.Limits.{is_between}
+use Rattle.std.specs.Prelude.{Bool, true, false, ◌==◌, if◌then◌else◌, sum_by, Option, Some, None, option_map, unwrap_or, slice_get, IsTrue}
+use Rattle.allotment.specs.Cells.{wants_cell, numbers_from}
 use Rattle.allotment.specs.Want.{Wanted}
 use Rattle.allotment.specs.declared.cells.Cell.{Cell}
 use Rattle.allotment.specs.declared.cells.Row.{Row}
 use Rattle.plan.specs.Planned.{Planned, want_at}
-use Rattle.commands.specs.Names.{is_batch_name}
 use Rattle.commands.specs.declared.items.Cause.{Cause}
 use Rattle.commands.specs.declared.items.Item.{Item}
 use Rattle.commands.specs.declared.items.Item.TheVariants.{Transaction, Compensation, Turn, Save}
-use Rattle.ledger.specs.History.{net, position_of, next_want, last_of}
-use Rattle.ledger.specs.Ledger.{Event, Loaded, Began, Did, Journey, journeys, journey_at, numbers, history, rows_of, allotment, places_in, held_by, held_by_journey, held, fits, are_distinct, is_good_row, is_not_below_held, is_batch, batches_named, is_allowed, IsLegal}
-use Rattle.ledger.proofs.Allotted.{allotment-same}
-use Rattle.ledger.proofs.Cells.{is_cell-same}
+use Rattle.ledger.specs.History.{net, position_of, next_want}
+use Rattle.ledger.specs.Ledger.{Event, Loaded, Began, Did, Journey, journeys, journey_at, numbers, history, allotment, places_in, held_by, held_by_journey, held, fits, is_allowed, IsLegal}
 use Rattle.ledger.proofs.Coming.{step-comes}
-use Rattle.ledger.proofs.Growing.{IsLegal-append}
 use Rattle.ledger.proofs.Held as held_before
 use Rattle.ledger.proofs.Ledgers.{all_go}
-use Rattle.ledger.proofs.Lists.{last_of-append}
 use Rattle.ledger.proofs.Places.{no_cell_overfull}
-use Rattle.changes.specs.Changed.{places_in_rows, newer}
+pub use Rattle.changes.proofs.Allotments.{allotment-began, allotment-did, allotment-loaded}
 use Rattle.changes.proofs.Events as events
 use Rattle.changes.proofs.Histories.{follows}
 use Rattle.changes.proofs.Inductions.{may_come-allowed}
@@ -206,97 +196,3 @@ held_none l x legal absent =
     let none : held l x ≤ 0 = subst (λ o. held l x ≤ unwrap_or o 0) absent
     (no_cell_overfull l legal x) in
     omega arith
-
--- Allotments.
-
--- a begin leaves each allotment
-pub allotment-began : (l : List Event) (agent : List ℕ) (plan : Planned) (x : Cell)
-    → allotment (l ++ Began agent plan ∷ []) x ≡ allotment l x
-allotment-began l agent plan x = allotment-same l (Began agent plan) x refl
-
--- so does an item
-pub allotment-did : (l : List Event) (k : ℕ) (item : Item) (x : Cell)
-    → allotment (l ++ Did k item ∷ []) x ≡ allotment l x
-allotment-did l k item x = allotment-same l (Did k item) x refl
-
--- of rows that are not of this cell, none is
-filter-none : (x y : Cell) (rows : List Row) → x ≡ y
-    → list_any (λ (s : Row). is_cell y s.cell) rows ≡ false
-    → filter (λ (s : Row). is_cell x s.cell) rows ≡ []
-filter-none x y [] same none = refl
-filter-none x y (r ∷ rows) same none =
-    let both = or_parts (is_cell y r.cell) (list_any (λ (s : Row). is_cell y s.cell) rows) none in
-    let rest = filter-none x y rows same both.1 in
-    ap (λ b. cond b (r ∷ filter (λ (s : Row). is_cell x s.cell) rows)
-    (filter (λ (s : Row). is_cell x s.cell) rows))
-    (ap (λ z. is_cell z r.cell) same ∙ both.0)
-    ∙ rest
-
--- of rows that name each cell once, those of a cell are the first one, if there is one
-filter-distinct : (x : Cell) (rows : List Row) → are_distinct rows ≡ true
-    → filter (λ (s : Row). is_cell x s.cell) rows
-    ≡ option_to_list (find (λ (s : Row). is_cell x s.cell) rows)
-filter-distinct x [] distinct = refl
-filter-distinct x (r ∷ rows) distinct =
-    let both = and_parts (not (list_any (λ (s : Row). is_cell r.cell s.cell) rows))
-    (are_distinct rows) distinct in
-    go (is_cell x r.cell) refl (not-true-is _ both.0) (filter-distinct x rows both.1)
-  where
-    not-true-is : (b : Bool) → not b ≡ true → b ≡ false
-    not-true-is true e = cc
-    not-true-is false e = refl
-
-    go : (v : Bool) → is_cell x r.cell ≡ v
-        → list_any (λ (s : Row). is_cell r.cell s.cell) rows ≡ false
-        → filter (λ (s : Row). is_cell x s.cell) rows
-        ≡ option_to_list (find (λ (s : Row). is_cell x s.cell) rows)
-        → cond v (r ∷ filter (λ (s : Row). is_cell x s.cell) rows)
-        (filter (λ (s : Row). is_cell x s.cell) rows)
-        ≡ option_to_list (cond v (Some r) (find (λ (s : Row). is_cell x s.cell) rows))
-    go true e none rest =
-        ap (λ rs. r ∷ rs) (filter-none x r.cell rows (is_cell-same x r.cell e) none)
-    go false e none rest = rest
-
--- the last of some rows and at most one more is that one, if there is one
-last-newer : (rows : List Row) (o : Option Row)
-    → option_map (λ (r : Row). r.places) (last_of (rows ++ option_to_list o))
-    ≡ newer (option_map (λ (r : Row). r.places) o)
-    (option_map (λ (r : Row). r.places) (last_of rows))
-last-newer rows None = ap (λ rs. option_map (λ (r : Row). r.places) (last_of rs)) (append-nil rows)
-last-newer rows (Some r) = ap (option_map (λ (s : Row). s.places)) (last_of-append rows r [])
-
--- a batch that names each cell once gives its cells their places, and leaves the others
-pub allotment-loaded : (l : List Event) (name : List ℕ) (rows : List Row) (x : Cell)
-    → are_distinct rows ≡ true
-    → allotment (l ++ Loaded name rows ∷ []) x ≡ newer (places_in_rows rows x) (allotment l x)
-allotment-loaded l name rows x distinct =
-    ap (λ rs. option_map (λ (r : Row). r.places)
-    (last_of (filter (λ (r : Row). is_cell x r.cell) rs)))
-    (flat_map-append rows_of l (Loaded name rows ∷ [])
-    ∙ ap (λ rs. flat_map rows_of l ++ rs) (append-nil rows))
-    ∙ ap (λ rs. option_map (λ (r : Row). r.places) (last_of rs))
-    (filter-append (λ (r : Row). is_cell x r.cell) (flat_map rows_of l) rows
-    ∙ ap (λ rs. filter (λ (r : Row). is_cell x r.cell) (flat_map rows_of l) ++ rs)
-    (filter-distinct x rows distinct))
-    ∙ last-newer (filter (λ (r : Row). is_cell x r.cell) (flat_map rows_of l))
-    (find (λ (r : Row). is_cell x r.cell) rows)
-
--- a batch that is allowed names each cell once
-pub loaded_distinct : (l : List Event) (name : List ℕ) (rows : List Row)
-    → IsTrue (is_allowed l (Loaded name rows)) → are_distinct rows ≡ true
-loaded_distinct l name rows may =
-    let new = and_parts (is_batch name rows && list_all (is_not_below_held l) rows)
-    (length (batches_named l name) == 0) may in
-    let held_too = and_parts (is_batch name rows) (list_all (is_not_below_held l) rows) new.0 in
-    (and_parts (is_batch_name name && is_between 1 2000 (length rows) && list_all is_good_row rows)
-    (are_distinct rows) held_too.0).1
-
--- and none of its rows is below what is held
-pub loaded_above_held : (l : List Event) (name : List ℕ) (rows : List Row) (x : Cell) (n : ℕ)
-    → IsLegal l
-    → IsTrue (is_allowed l (Loaded name rows)) → places_in_rows rows x ≡ Some n → held l x ≤ n
-loaded_above_held l name rows x n legal may found =
-    subst (λ m. m ≤ n) (held-loaded l name rows x)
-    (held_within (l ++ Loaded name rows ∷ []) x n (IsLegal-append l (Loaded name rows) legal may)
-    (allotment-loaded l name rows x (loaded_distinct l name rows may)
-    ∙ ap (λ o. newer o (allotment l x)) found))
