@@ -1,3 +1,4 @@
 pub mod RunLemmas
 pub mod MemoryLemmas
+pub mod DecidingLemmas
 mod WorldLemmas
