@@ -1,15 +1,12 @@
 -- What one item of a journey changes in the rows that a ledger calls for, whatever the item.
-use Rattle.std.proofs.Common.{◌≡◌, ℕ, suc, ◌+◌, ◌<◌, ◌==◌, List, [], ◌∷◌, ◌++◌, length, map, Bool, true, false, if◌then◌else◌, Some, refl, sym, ap, ap₂, ◌∙◌, arith, append-nil, length-append, eqb-true, inl, inr}
+use Rattle.std.proofs.Common.{◌≡◌, ℕ, suc, ◌+◌, ◌==◌, List, [], ◌∷◌, ◌++◌, length, map, Bool, true, false, if◌then◌else◌, Some, refl, sym, ap, ap₂, ◌∙◌, arith, append-nil, length-append, eqb-true, inl, inr}
 use Rattle.std.specs.Prelude.{flat_map, ◌&&◌}
-use Rattle.std.specs.List.{AllByRecursion}
 use Rattle.std.specs.List.Sorted.{IsPermutation}
-use Rattle.std.proofs.lemmas.List.Sorted.{IsPermutation-map, IsPermutation-append_left}
-use Rattle.std.proofs.lemmas.Grind.{flat_map-append}
+use Rattle.std.proofs.lemmas.List.Sorted.{IsPermutation-map}
 use Rattle.sqlite_trees.proofs.ListLemmas.{map-map, map-flat_map}
 use Rattle.sqlite_rules.specs.Lists.{Has}
 use Rattle.allotment.specs.Want.{Wanted}
-use Rattle.plan.specs.Planned.{Planned, StepPlan, step_count}
-use Rattle.commands.specs.declared.items.Cursor.{Cursor}
+use Rattle.plan.specs.Planned.{Planned, StepPlan}
 use Rattle.commands.specs.declared.items.Item.{Item}
 use Rattle.commands.specs.declared.items.Item.TheVariants.{Transaction, Compensation, Turn, Save}
 use Rattle.ledger.specs.Ledger.{Event, Did, Journey, journeys, journey_at, history}
@@ -17,13 +14,13 @@ use Rattle.ledger.proofs.Growing.{journeys-did, history-did_same, history-did_ot
 use Rattle.saga_core.specs.Shown.{cursor_of}
 use Rattle.desk_sql.specs.Lists.{changed}
 use Rattle.desk_sql.specs.Found.{is_numbered, item_of}
-use Rattle.desk_sql.specs.Rows.{JourneyRow, StepRow, EntryRow}
+use Rattle.desk_sql.specs.Rows.{JourneyRow, StepRow}
 use Rattle.desk_sql.specs.Changes.{with_cursor, is_option, with_taken}
 use Rattle.standing.specs.Called.{counted_from, meta_called, batches_called, Begun, begun, journey_row_of, journeys_called, is_standing, flag, option_row, option_rows, step_rows, steps_called, entry_row_of, entries_called}
 use Rattle.standing.specs.Beginning.{meta_row_at}
 use Rattle.standing.proofs.Lists.{map-same, flat_map-same}
 use Rattle.standing.proofs.Events.{batches_called-more, entries_called-more, begun-more}
-use Rattle.standing.proofs.Numbering.{StandsAt, counted_stands}
+use Rattle.standing.proofs.Numbering.{counted_stands}
 use Rattle.standing.proofs.JourneyRows.{row_in, begun_there}
 use Rattle.moving.specs.Moving.{cursor_written, item_written}
 

@@ -1,3 +1,5 @@
 pub mod Items
-pub mod Turning
 pub mod Marks
+pub mod Moves
+pub mod Turning
+pub mod Saving

@@ -1,7 +1,7 @@
 -- One row of a save-point more, or one less, follows the save-points that stand.
-use Rattle.std.proofs.Common.{◌≡◌, ℕ, ◌==◌, List, [], ◌∷◌, ◌++◌, Bool, true, false, filter, eqb-true, eq-eqb, refl, sym, ap, ap₂, ◌∙◌, arith}
+use Rattle.std.proofs.Common.{◌≡◌, ℕ, ◌==◌, List, [], ◌∷◌, ◌++◌, Bool, true, false, filter, eqb-true, refl, sym, ap, ap₂, ◌∙◌, arith}
 use Rattle.std.specs.Prelude.{◌&&◌, ◌||◌, not}
-use Rattle.std.specs.List.{list_any, AllByRecursion}
+use Rattle.std.specs.List.{list_any}
 use Rattle.std.proofs.lemmas.Bool.{and_parts, false_from_ne_true}
 use Rattle.std.proofs.lemmas.Bool.Decides.{nat_tests}
 use Rattle.std.proofs.lemmas.List.Folds.{list_any-append}
@@ -55,11 +55,11 @@ module _ (l : List Event) (j : ℕ) (item : Item) (rows : List MarkRow) (stand :
       other m h =
           false_from_ne_true (is_same_mark m (mark_at_pos j p))
           (λ on.
-            let here : is_mark_at j p m ≡ true =
-            ap₂ (λ a b. a && b) (turned m.journey j) (turned m.pos p) ∙ on in
-            let bad : true ≡ false =
-            sym (some_from (is_mark_at j p) rows m h here) ∙ stand.each j p ∙ none in
-            cc)
+          let here : is_mark_at j p m ≡ true =
+          ap₂ (λ a b. a && b) (turned m.journey j) (turned m.pos p) ∙ on in
+          let bad : true ≡ false =
+          sym (some_from (is_mark_at j p) rows m h here) ∙ stand.each j p ∙ none in
+          cc)
 
   -- where the save-point at a position stands no more, its row is gone
   pub marks-drop : (p : ℕ)

@@ -1,155 +1,43 @@
--- The rows that a turn writes, and those that a save-point writes, stand for the ledger with it.
-use Rattle.std.proofs.Common.{◌≡◌, ℕ, ◌+◌, ◌-◌, ◌==◌, List, [], ◌∷◌, ◌++◌, length, map, Bool, true, false, eqb-true, if◌then◌else◌, Option, Some, None, IsTrue, refl, sym, ap, subst, ◌∙◌, arith}
-use Rattle.std.specs.Prelude.{option_map, ◌&&◌, ◌||◌}
-use Rattle.std.specs.List.{list_any, AllByRecursion}
-use Rattle.std.specs.List.Sorted.{IsPermutation}
-use Rattle.std.proofs.lemmas.List.Sorted.{IsPermutation-append_left}
+-- The rows that a turn writes stand for the ledger with it.
+use Rattle.std.proofs.Common.{◌≡◌, ℕ, ◌+◌, length, Option, Some, None, IsTrue, refl}
 use Rattle.commands.specs.Asked.{Asked}
 use Rattle.commands.specs.declared.items.Cause.{Cause}
-use Rattle.commands.specs.declared.items.Item.{Item}
-use Rattle.commands.specs.declared.items.Item.TheVariants.{Transaction, Compensation, Turn, Save}
+use Rattle.commands.specs.declared.items.Item.TheVariants.{Turn}
 use Rattle.commands.specs.declared.replies.Reply.{Reply}
-use Rattle.allotment.specs.declared.cells.Cell.{Cell}
 use Rattle.ledger.specs.Answer.{State, state_with, kept_for}
-use Rattle.ledger.specs.History.{net, is_taken}
-use Rattle.ledger.specs.Ledger.{Event, Did, Journey, journeys, journey_at, history, held, allotment}
-use Rattle.ledger.proofs.Allotted.{allotment-same}
-use Rattle.ledger.proofs.Growing.{history-did_same, history-did_other}
-use Rattle.ledger.proofs.Going.{is_taken-other}
-use Rattle.ledger.proofs.Standing.{net-turn, net-save}
-use Rattle.saga_core.specs.Shown.{Places, places_of, cursor_of}
-use Rattle.desk_sql.specs.Lists.{changed}
-use Rattle.desk_sql.specs.Found.{is_numbered, item_of, mark_at_pos}
-use Rattle.desk_sql.specs.Rows.{Tables, MetaRow, StockRow, JourneyRow, StepRow, MarkRow}
-use Rattle.desk_sql.specs.Changes.{with_cursor, moves_journey}
-use Rattle.standing.specs.Called.{meta_called, batches_called, journeys_called, is_standing, steps_called, entries_called}
-use Rattle.standing.specs.Standing.{StockStands, MarksStand, AnswersStand, StandsFor}
-use Rattle.standing.specs.Beginning.{meta_row_at, with_answer}
-use Rattle.standing.proofs.Answering.{answer_stands}
-use Rattle.moving.specs.Moving.{cursor_written, item_written, with_item, with_turn, with_save}
-use Rattle.moving.proofs.Items.{changed-permutation, meta-did, batches-did, entries-did, journeys_called-did, journeys_called-stays, steps_called-stays}
+use Rattle.ledger.specs.Ledger.{Did, Journey, journeys, journey_at, history, is_allowed}
+use Rattle.ledger.proofs.Standing.{net-turn}
+use Rattle.changes.specs.Changed.{cursor_after}
+use Rattle.changes.proofs.Places.{held-turn}
+use Rattle.changes.proofs.Taking.{is_taken-more}
+use Rattle.saga_core.specs.Shown.{cursor_of}
+use Rattle.desk_sql.specs.Rows.{Tables}
+use Rattle.desk_sql.specs.Changes.{moves_journey}
+use Rattle.standing.specs.Standing.{StandsFor, IsDesk}
+use Rattle.standing.specs.Beginning.{with_answer}
+use Rattle.moving.specs.Moving.{cursor_written, with_turn}
+use Rattle.moving.proofs.Moves.{item_stands_answered, stock-stays, marks-stay, steps-stay, journeys-move, cursor_next}
 
--- rows that stand for a ledger, with those that one item changed, stand for the ledger with it
-pub record ItemStands (t u : Tables) (l : List Event) (j : ℕ) (item : Item) : Type 0 where
-  pub meta : u.meta ≡ t.meta
-  pub stock : StockStands (l ++ Did j item ∷ []) u.stock
-  pub batch : u.batch ≡ t.batch
-  pub journey : IsPermutation (journeys_called (l ++ Did j item ∷ [])) u.journey
-  pub step : IsPermutation (steps_called (l ++ Did j item ∷ [])) u.step
-  pub answer : u.answer ≡ t.answer
-  pub entry2 : u.entry2 ≡ t.entry2
-  pub mark : MarksStand (l ++ Did j item ∷ []) u.mark
-
-module _ (t u : Tables) (s : State) (j : ℕ) (item : Item) (st : StandsFor t s)
-    (now : ItemStands t u s.ledger j item) where
-  abbrev l : List Event
-  l = s.ledger
-
-  -- the item and its number in meta come last
-  item_stands : StandsFor (with_item (length l + 1) (length (journeys l)) j item u)
-      (record { ledger = l ++ Did j item ∷ []; kept = s.kept })
-  item_stands = record {
-    meta =
-        ap (map (λ (m : MetaRow). meta_row_at (length l + 1) (length (journeys l))))
-        (now.meta ∙ st.meta)
-        ∙ ap (λ m. m ∷ []) (sym (meta-did l j item));
-    stock = now.stock;
-    batch =
-        subst (λ rows. IsPermutation rows u.batch) (sym (batches-did l j item))
-        (subst (IsPermutation (batches_called l)) (sym now.batch) st.batch);
-    journey = now.journey;
-    step = now.step;
-    answer = subst (AnswersStand s.kept) (sym now.answer) st.answer;
-    entry2 =
-        subst
-        (λ rows. IsPermutation rows (u.entry2 ++ item_of j (item_written (length l + 1) item) ∷ []))
-        (sym (entries-did l j item))
-        (IsPermutation-append_left (item_of j (item_written (length l + 1) item) ∷ []) (entries_called l) u.entry2
-        (subst (IsPermutation (entries_called l)) (sym now.entry2) st.entry2));
-    mark = now.mark;
-  }
-
-  -- and the reply is kept, where there is an ask
-  pub item_stands_answered : (ask : Option Asked) (reply : Reply) → kept_for s ask ≡ None
-      → StandsFor (with_answer ask reply (with_item (length l + 1) (length (journeys l)) j item u)) (state_with s ask reply (Some (Did j item)))
-  item_stands_answered ask reply new =
-      answer_stands (with_item (length l + 1) (length (journeys l)) j item u)
-      (record { ledger = l ++ Did j item ∷ []; kept = s.kept }) ask reply item_stands new
-
-module _ (l : List Event) (j : ℕ) (item : Item) where
-  -- what an item leaves of its own journey's history, it leaves of all journeys' histories
-  histories_same : {Y : Type 0} (f : List Item → Y) → f (history l j ++ item ∷ []) ≡ f (history l j)
-      → (k : ℕ) → f (history (l ++ Did j item ∷ []) k) ≡ f (history l k)
-  histories_same f same k = go (k == j) refl
-    where
-      go : (v : Bool) → (k == j) ≡ v → f (history (l ++ Did j item ∷ []) k) ≡ f (history l k)
-      go true e =
-          let is = eqb-true k j e in
-          ap f (history-did_same l j item k e) ∙ ap (λ i. f (history l i ++ item ∷ [])) is ∙ same
-          ∙ ap (λ i. f (history l i)) (sym is)
-      go false e = ap f (history-did_other l j item k e)
-
-  -- where as much is held, the rows of stock stand still
-  pub stock-stays : (rows : List StockRow) → ((x : Cell) → held (l ++ Did j item ∷ []) x ≡ held l x)
-      → StockStands l rows → StockStands (l ++ Did j item ∷ []) rows
-  stock-stays rows same stand = record {
-    each =
-        λ x. stand.each x
-        ∙ ap (λ n. option_map (λ (m : ℕ). record { allot = m; free = m - n }) (allotment l x)) (sym (same x))
-        ∙ ap (option_map (λ (m : ℕ). record { allot = m; free = m - held (l ++ Did j item ∷ []) x }))
-        (sym (allotment-same l (Did j item) x refl));
-    once = stand.once;
-    known = stand.known;
-  }
-
-  -- where as many save-points stand, their rows stand still
-  pub marks-stay : (rows : List MarkRow)
-      → ((p : ℕ) → is_taken (history l j ++ item ∷ []) p ≡ is_taken (history l j) p)
-      → MarksStand l rows → MarksStand (l ++ Did j item ∷ []) rows
-  marks-stay rows same stand = record {
-    each = λ k p. stand.each k p ∙ sym (histories_same (λ h. is_taken h p) (same p) k);
-    once = stand.once;
-  }
-
-  -- where the same transactions stand, the rows of steps stand still
-  pub steps-stay : (rows : List StepRow) → net (history l j ++ item ∷ []) ≡ net (history l j)
-      → IsPermutation (steps_called l) rows
-      → IsPermutation (steps_called (l ++ Did j item ∷ [])) rows
-  steps-stay rows same stand =
-      subst (λ called. IsPermutation called rows)
-      (sym (steps_called-stays l j item (λ k step option. histories_same (λ h. is_standing h step option) (ap (λ ts. list_any (λ (t : ℕ × ℕ). (t.0 == step) && (t.1 == option)) ts) same) k)))
-      stand
-
-  -- the row of the journey follows it to its new cursor
-  pub journeys-move : (rows : List JourneyRow) (a : Journey) → journey_at l j ≡ Some a
-      → IsPermutation (journeys_called l) rows
-      → IsPermutation (journeys_called (l ++ Did j item ∷ [])) (changed (is_numbered j) (with_cursor (cursor_written (cursor_of a.plan (history l j ++ item ∷ [])))) rows)
-  journeys-move rows a at stand =
-      subst
-      (λ called. IsPermutation called (changed (is_numbered j) (with_cursor (cursor_written (cursor_of a.plan (history l j ++ item ∷ [])))) rows))
-      (sym (journeys_called-did l j item a at))
-      (changed-permutation (is_numbered j) (with_cursor (cursor_written (cursor_of a.plan (history l j ++ item ∷ [])))) (journeys_called l) rows stand)
-
--- the rows that a turn writes stand for the ledger with it
+-- where the journey turns back, its row alone follows, since as much is held, and the same
+-- transactions and save-points stand
 pub turn_stands : (t : Tables) (s : State) (ask : Option Asked) (reply : Reply) (j p : ℕ) (cause : Cause)
-    (a : Journey) → StandsFor t s → journey_at s.ledger j ≡ Some a
-    → ((x : Cell) → held (s.ledger ++ Did j (Turn p cause) ∷ []) x ≡ held s.ledger x)
-    → kept_for s ask ≡ None
-    → StandsFor (with_answer ask reply (with_turn (length s.ledger + 1) (length (journeys s.ledger)) j p cause (cursor_of a.plan (history s.ledger j ++ Turn p cause ∷ [])) t)) (state_with s ask reply (Some (Did j (Turn p cause))))
-turn_stands t s ask reply j p cause a st at held_same new =
+    (a : Journey) → StandsFor t s → IsDesk s → journey_at s.ledger j ≡ Some a
+    → IsTrue (is_allowed s.ledger (Did j (Turn p cause))) → kept_for s ask ≡ None
+    → StandsFor (with_answer ask reply (with_turn (length s.ledger + 1) (length (journeys s.ledger)) j p cause (cursor_after a.plan (cursor_of a.plan (history s.ledger j)) (Turn p cause)) t)) (state_with s ask reply (Some (Did j (Turn p cause))))
+turn_stands t s ask reply j p cause a st desk at may new =
     let l = s.ledger in
-    let item = Turn p cause in
-    let cursor = cursor_of a.plan (history l j ++ item ∷ []) in
-    item_stands_answered t (moves_journey j (cursor_written cursor) t) s j item st
+    let cursor = cursor_after a.plan (cursor_of a.plan (history l j)) (Turn p cause) in
+    item_stands_answered t (moves_journey j (cursor_written cursor) t) s j (Turn p cause) st
     (record {
       meta = refl;
-      stock = stock-stays l j item t.stock held_same st.stock;
+      stock = stock-stays l j (Turn p cause) t.stock (λ x. held-turn l j p cause a x at) st.stock;
       batch = refl;
-      journey = journeys-move l j item t.journey a at st.journey;
-      step = steps-stay l j item t.step (net-turn (history l j) p cause) st.step;
+      journey =
+          journeys-move l j (Turn p cause) t.journey a cursor at
+          (cursor_next l j a (Turn p cause) desk.legal at may) st.journey;
+      step = steps-stay l j (Turn p cause) t.step (net-turn (history l j) p cause) st.step;
       answer = refl;
       entry2 = refl;
       mark =
-          marks-stay l j item t.mark
-          (λ q. is_taken-other (history l j) item q refl refl) st.mark;
+          marks-stay l j (Turn p cause) t.mark (is_taken-more (history l j) (Turn p cause)) st.mark;
     }) ask reply new
