@@ -3,3 +3,4 @@ pub mod Marks
 pub mod Moves
 pub mod Turning
 pub mod Saving
+pub mod Wants

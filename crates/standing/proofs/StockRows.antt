@@ -75,7 +75,7 @@ row-stock_at rows x p e = go (find (is_stock_of x) rows) refl
 -- Nights.
 
 -- a row that is wanted is that of the want's cell at its night
-wanted_cell : (w : Wanted) (r : StockRow) → 1 ≤ w.nights → is_wanted_row w r ≡ true
+pub wanted_cell : (w : Wanted) (r : StockRow) → 1 ≤ w.nights → is_wanted_row w r ≡ true
     → (is_stock_of (cell_at w r.night) r ≡ true) × (w.first ≤ r.night) × (r.night < w.first + w.nights)
 wanted_cell w r some e =
     let one = and_parts _ _ e in
@@ -95,7 +95,7 @@ night_within : (w : Wanted) (n m : ℕ) → n ≡ m → w.first ≤ n → n < w.
 night_within w n m same low high = (omega arith, omega arith)
 
 -- and the row of a want's cell is wanted
-cell_wanted : (w : Wanted) (n : ℕ) (r : StockRow) → is_stock_of (cell_at w n) r ≡ true → w.first ≤ n
+pub cell_wanted : (w : Wanted) (n : ℕ) (r : StockRow) → is_stock_of (cell_at w n) r ≡ true → w.first ≤ n
     → n < w.first + w.nights → (is_wanted_row w r ≡ true) × (r.night ≡ n)
 cell_wanted w n r e low high =
     let three = and_parts _ _ e in
