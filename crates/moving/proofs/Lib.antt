@@ -4,3 +4,6 @@ pub mod Moves
 pub mod Turning
 pub mod Saving
 pub mod Wants
+pub mod Plans
+pub mod Options
+pub mod Taking
