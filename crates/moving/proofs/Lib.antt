@@ -7,3 +7,4 @@ pub mod Wants
 pub mod Plans
 pub mod Options
 pub mod Taking
+pub mod GivingBack
