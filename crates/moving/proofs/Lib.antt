@@ -3,8 +3,10 @@ pub mod Marks
 pub mod Moves
 pub mod Turning
 pub mod Saving
+pub mod Alike
 pub mod Wants
 pub mod Plans
 pub mod Options
 pub mod Taking
 pub mod GivingBack
+pub mod Puts

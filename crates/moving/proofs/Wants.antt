@@ -20,6 +20,7 @@ use Rattle.standing.specs.Standing.{is_stock_of, is_same_stock, IsOfCell, places
 use Rattle.standing.specs.Reading.{is_wanted_row}
 use Rattle.standing.proofs.Orders.{ascending_where}
 use Rattle.standing.proofs.StockRows.{wanted_cell, cell_wanted}
+use Rattle.moving.proofs.Alike.{same-turned, same-same, row_of_cell}
 
 -- two tests that hold together are one
 same_test : (a b : Bool) → (a ≡ true → b ≡ true) → (b ≡ true → a ≡ true) → a ≡ b
@@ -51,18 +52,7 @@ within_numbers first (suc k) n low high =
 one_row : (x y : Cell) (r : StockRow) → is_stock_of x r ≡ true → is_stock_of y r ≡ true
     → is_cell x y ≡ true
 one_row x y r p q =
-    let p3 = and_parts _ _ p in
-    let p2 = and_parts _ _ p3.0 in
-    let p1 = and_parts _ _ p2.0 in
-    let q3 = and_parts _ _ q in
-    let q2 = and_parts _ _ q3.0 in
-    let q1 = and_parts _ _ q2.0 in
-    and_from _ _
-    (and_from _ _
-    (and_from _ _ (eq-eqb _ _ (eqb-true _ _ p1.0 ∙ sym (eqb-true _ _ q1.0)))
-    ((bytes_eq-Decides x.supplier y.supplier).1 ((bytes_eq-Decides x.supplier r.supplier).0 p1.1 ∙ sym ((bytes_eq-Decides y.supplier r.supplier).0 q1.1))))
-    ((bytes_eq-Decides x.product y.product).1 ((bytes_eq-Decides x.product r.product).0 p2.1 ∙ sym ((bytes_eq-Decides y.product r.product).0 q2.1))))
-    (eq-eqb _ _ (eqb-true _ _ p3.1 ∙ sym (eqb-true _ _ q3.1)))
+    same-same (row_of_cell x) r (row_of_cell y) p (same-turned (row_of_cell y) r q)
 
 -- the row of a cell is wanted just where the cell is
 pub wanted_row : (w : Wanted) (x : Cell) (r : StockRow) → 1 ≤ w.nights → is_stock_of x r ≡ true

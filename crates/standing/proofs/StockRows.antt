@@ -226,7 +226,7 @@ nights_found l rows found w some stand same sorted =
 
 -- All cells.
 
-same_back : (r s : StockRow) → is_same_stock r s ≡ false → is_same_stock s r ≡ false
+pub same_back : (r s : StockRow) → is_same_stock r s ≡ false → is_same_stock s r ≡ false
 same_back r s off = false_from_ne_true (is_same_stock s r) (λ on.
     let three = and_parts _ _ on in
     let two = and_parts _ _ three.0 in
