@@ -10,3 +10,4 @@ pub mod Options
 pub mod Taking
 pub mod GivingBack
 pub mod Puts
+pub mod Loading
