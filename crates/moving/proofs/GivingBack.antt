@@ -1,14 +1,13 @@
 -- The rows that a compensation writes stand for the ledger with it.
-use Rattle.std.proofs.Common.{◌≡◌, ℕ, ◌+◌, ◌≤◌, List, [], ◌∷◌, ◌++◌, length, false, filter, Option, Some, None, IsTrue, refl, sym, ap, ◌∙◌}
+use Rattle.std.proofs.Common.{◌≡◌, ℕ, ◌+◌, [], ◌∷◌, ◌++◌, length, false, Option, Some, None, IsTrue, refl, ap, ◌∙◌}
 use Rattle.allotment.specs.Want.{Wanted}
-use Rattle.allotment.specs.declared.cells.Cell.{Cell}
 use Rattle.plan.specs.Planned.{want_at}
 use Rattle.commands.specs.Asked.{Asked}
 use Rattle.commands.specs.declared.items.Item.TheVariants.{Compensation}
 use Rattle.commands.specs.declared.replies.Reply.{Reply}
 use Rattle.ledger.specs.Answer.{State, state_with, kept_for}
 use Rattle.ledger.specs.History.{next_want}
-use Rattle.ledger.specs.Ledger.{Event, Did, Journey, journeys, journey_at, history, held, places_in, fits, is_allowed}
+use Rattle.ledger.specs.Ledger.{Did, Journey, journeys, journey_at, history, held, places_in, fits, is_allowed}
 use Rattle.changes.specs.Changed.{cursor_after}
 use Rattle.changes.proofs.Histories.{follows, may_come-allowed}
 use Rattle.changes.proofs.Places.{held-compensation, held_within, allotment-did}

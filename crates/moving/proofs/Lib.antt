@@ -11,3 +11,8 @@ pub mod Taking
 pub mod GivingBack
 pub mod Puts
 pub mod Loading
+pub mod Keeping
+pub mod Ranges
+pub mod Conditions
+pub mod Fitting
+pub mod Taken

@@ -1,5 +1,5 @@
 -- The rows that a load writes stand for the ledger with it.
-use Rattle.std.proofs.Common.{◌≡◌, ℕ, ◌+◌, ◌-◌, List, [], ◌∷◌, ◌++◌, length, map, find, true, Option, Some, None, IsTrue, refl, sym, ap, subst, ◌∙◌, append-nil}
+use Rattle.std.proofs.Common.{◌≡◌, ℕ, ◌+◌, ◌-◌, List, [], ◌∷◌, ◌++◌, length, map, find, Option, Some, None, IsTrue, refl, sym, ap, subst, ◌∙◌, append-nil}
 use Rattle.std.specs.Prelude.{option_map, flat_map}
 use Rattle.std.specs.List.Sorted.{IsPermutation}
 use Rattle.std.proofs.lemmas.List.Sorted.{IsPermutation-append_left}
@@ -16,10 +16,10 @@ use Rattle.ledger.proofs.Cells.{is_cell-same}
 use Rattle.changes.specs.Changed.{newer, places_in_rows}
 use Rattle.changes.proofs.Events.{length-more, journeys-loaded, history-loaded}
 use Rattle.changes.proofs.Places.{held-loaded, allotment-loaded, loaded_distinct}
-use Rattle.saga_core.specs.Shown.{Places, places_of}
-use Rattle.desk_sql.specs.Rows.{Tables, MetaRow, BatchRow, StepRow, StockRow, JourneyRow}
-use Rattle.standing.specs.Called.{counted_from, meta_called, batch_text, batches_called, Begun, begun, journey_row_of, journeys_called, is_standing, step_rows, steps_called, entries_called}
-use Rattle.standing.specs.Standing.{StockStands, StandsFor, IsDesk}
+use Rattle.saga_core.specs.Shown.{places_of}
+use Rattle.desk_sql.specs.Rows.{Tables, MetaRow, StepRow, StockRow}
+use Rattle.standing.specs.Called.{counted_from, meta_called, batch_text, batches_called, begun, journey_row_of, journeys_called, is_standing, step_rows, steps_called, entries_called}
+use Rattle.standing.specs.Standing.{StockStands, StandsFor}
 use Rattle.standing.specs.Beginning.{meta_row_at, with_answer}
 use Rattle.standing.proofs.Lists.{map-same, flat_map-same}
 use Rattle.standing.proofs.Events.{batches_called-more, entries_called-more, begun-more}

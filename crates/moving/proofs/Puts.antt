@@ -1,14 +1,12 @@
 -- The rows of stock, once cells got other places, each in its own row or in a new one.
-use Rattle.std.proofs.Common.{◌≡◌, ℕ, ◌-◌, ◌==◌, List, [], ◌∷◌, ◌++◌, map, find, cond, Bool, true, false, if◌then◌else◌, Option, Some, None, IsTrue, refl, sym, ap, ap₂, ◌∙◌, eqb-true, eq-eqb}
+use Rattle.std.proofs.Common.{◌≡◌, ℕ, ◌-◌, ◌==◌, List, [], ◌∷◌, ◌++◌, map, find, cond, Bool, true, false, if◌then◌else◌, Option, Some, None, refl, sym, ap, ap₂, ◌∙◌}
 use Rattle.std.specs.Prelude.{option_map, bytes_eq, ◌&&◌, not}
 use Rattle.std.specs.List.{AllByRecursion, list_any}
-use Rattle.std.proofs.lemmas.Bool.{and_parts, and_from, false_from_ne_true}
-use Rattle.std.proofs.lemmas.Slice.Eq.{bytes_eq-Decides}
-use Rattle.sqlite_trees.specs.Tree.{IsAscending}
+use Rattle.std.proofs.lemmas.Bool.{and_parts, false_from_ne_true}
 use Rattle.sqlite_trees.proofs.ListLemmas.{ascending-map, all-map, all-append, all_weaker}
 use Rattle.sqlite_rules.specs.Lists.{Has}
-use Rattle.sqlite_rules.proofs.ListLemmas.{all_has, all_from, some_has, some_from, has_found, has_kept}
-use Rattle.allotment.specs.Cells.{is_cell, kind_number}
+use Rattle.sqlite_rules.proofs.ListLemmas.{all_has, all_from, some_has, some_from, has_found}
+use Rattle.allotment.specs.Cells.{is_cell}
 use Rattle.allotment.specs.declared.cells.Cell.{Cell}
 use Rattle.allotment.specs.declared.cells.Row.{Row}
 use Rattle.ledger.specs.Ledger.{are_distinct}
@@ -84,7 +82,7 @@ module _ (s : StockRow) (cells : List StockRow) where
       go false e =
           false_from_ne_true (is_row_of s r)
           (λ on.
-            let bad : true ≡ false = sym (same-same (row_of_cell x) r s of (sym (same_cell s r) ∙ on)) ∙ e in cc)
+          let bad : true ≡ false = sym (same-same (row_of_cell x) r s of (sym (same_cell s r) ∙ on)) ∙ e in cc)
 
   -- the places of the new row where it is of the cell, else those that were there
   abbrev places_now : Bool → Option Places → Option Places
@@ -107,12 +105,12 @@ module _ (s : StockRow) (cells : List StockRow) where
           ap (λ v. places_now v None)
           (sym
           (false_from_ne_true (is_stock_of x s) (λ on.
-            let there = some_has (is_row_of s) cells some in
-            let of = same-same (row_of_cell x) s there.0 on
-            (same-turned there.0 s (sym (same_cell s there.0) ∙ there.2)) in
-            let bad : true ≡ false =
-            sym of ∙ all_has (λ r. is_stock_of x r ≡ false) cells there.0 (find-none (is_stock_of x) cells e) there.1 in
-            cc)))
+          let there = some_has (is_row_of s) cells some in
+          let of = same-same (row_of_cell x) s there.0 on
+          (same-turned there.0 s (sym (same_cell s there.0) ∙ there.2)) in
+          let bad : true ≡ false =
+          sym of ∙ all_has (λ r. is_stock_of x r ≡ false) cells there.0 (find-none (is_stock_of x) cells e) there.1 in
+          cc)))
       go (Some r) e =
           ap (λ v. Some (places_told (if v then with_places s r else r))) (of_new x r (has_found (is_stock_of x) cells r e).1)
           ∙ told (is_stock_of x s) r
@@ -152,9 +150,9 @@ module _ (s : StockRow) (cells : List StockRow) where
           → is_same_stock r s ≡ false
       other r h none =
           false_from_ne_true (is_same_stock r s) (λ on.
-            let bad : true ≡ false =
-            sym (some_from (is_row_of s) cells r h (same_cell s r ∙ on)) ∙ none in
-            cc)
+          let bad : true ≡ false =
+          sym (some_from (is_row_of s) cells r h (same_cell s r ∙ on)) ∙ none in
+          cc)
 
       go : (v : Bool) → list_any (is_row_of s) cells ≡ v
           → AreApart is_same_stock (if v then changed (is_row_of s) (with_places s) cells else cells ++ s ∷ [])

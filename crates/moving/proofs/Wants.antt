@@ -1,8 +1,7 @@
 -- The rows of stock, once the nights of a want have fewer free places, or more.
-use Rattle.std.proofs.Common.{◌≡◌, ℕ, zero, suc, ◌+◌, ◌-◌, ◌<◌, ◌≤◌, ◌==◌, List, [], ◌∷◌, map, find, cond, Bool, true, false, if◌then◌else◌, Option, Some, None, inl, inr, refl, sym, ap, ap₂, ◌∙◌, arith, eqb-true, eq-eqb}
+use Rattle.std.proofs.Common.{◌≡◌, ℕ, zero, suc, ◌+◌, ◌-◌, ◌<◌, ◌≤◌, ◌==◌, List, [], ◌∷◌, map, find, cond, Bool, true, false, if◌then◌else◌, Option, Some, None, inl, inr, refl, sym, ap, ap₂, ◌∙◌, arith, eqb-true}
 use Rattle.std.specs.Prelude.{option_map}
-use Rattle.std.proofs.lemmas.Bool.{and_parts, and_from, eqb-false}
-use Rattle.std.proofs.lemmas.Slice.Eq.{bytes_eq-Decides}
+use Rattle.std.proofs.lemmas.Bool.{eqb-false}
 use Rattle.sqlite_trees.proofs.ListLemmas.{ascending-map, all-map, all_weaker}
 use Rattle.sqlite_rules.specs.Lists.{Has}
 use Rattle.sqlite_rules.proofs.ListLemmas.{some_has, some_from, has_found}
@@ -23,13 +22,13 @@ use Rattle.standing.proofs.StockRows.{wanted_cell, cell_wanted}
 use Rattle.moving.proofs.Alike.{same-turned, same-same, row_of_cell}
 
 -- two tests that hold together are one
-same_test : (a b : Bool) → (a ≡ true → b ≡ true) → (b ≡ true → a ≡ true) → a ≡ b
+pub same_test : (a b : Bool) → (a ≡ true → b ≡ true) → (b ≡ true → a ≡ true) → a ≡ b
 same_test true b forth back = sym (forth refl)
 same_test false true forth back = back refl
 same_test false false forth back = refl
 
 -- so many numbers from one on are those from it to the last
-numbers_within : (first count n : ℕ) → Has (numbers_from first count) n → (first ≤ n) × (n < first + count)
+pub numbers_within : (first count n : ℕ) → Has (numbers_from first count) n → (first ≤ n) × (n < first + count)
 numbers_within first zero n h = absurd h
 numbers_within first (suc k) n (inl e) = (omega arith, omega arith)
 numbers_within first (suc k) n (inr h) =
@@ -38,7 +37,7 @@ numbers_within first (suc k) n (inr h) =
     let high = rest.1 in
     (omega arith, omega arith)
 
-within_numbers : (first count n : ℕ) → first ≤ n → n < first + count → Has (numbers_from first count) n
+pub within_numbers : (first count n : ℕ) → first ≤ n → n < first + count → Has (numbers_from first count) n
 within_numbers first zero n low high = absurd (omega arith)
 within_numbers first (suc k) n low high =
     go (n == first) refl (λ above. within_numbers (suc first) k n above (omega arith))

@@ -117,7 +117,7 @@ shown_from l w n k =
 
 -- whether something is shown of a night
 module _ (l : List Event) (w : Wanted) where
-  shown_has : (n k : ℕ) (p : ℕ × Places) → Has (shown_from l w n k) p
+  pub shown_has : (n k : ℕ) (p : ℕ × Places) → Has (shown_from l w n k) p
       → (n ≤ p.0) × (p.0 < n + k) × (places_of l (cell_at w p.0) ≡ Some p.1)
   shown_has n zero p h = absurd h
   shown_has n (suc k) p h = go (places_of l (cell_at w n)) refl h (shown_has (suc n) k p)
@@ -134,7 +134,7 @@ module _ (l : List Event) (w : Wanted) where
       go (Some places) e (inr later) rest =
           let r = rest later in let low = r.0 in let high = r.1 in (omega arith, omega arith, r.2)
 
-  has_shown : (n k : ℕ) (p : ℕ × Places) → n ≤ p.0 → p.0 < n + k
+  pub has_shown : (n k : ℕ) (p : ℕ × Places) → n ≤ p.0 → p.0 < n + k
       → places_of l (cell_at w p.0) ≡ Some p.1 → Has (shown_from l w n k) p
   has_shown n zero p low high e = absurd (omega arith)
   has_shown n (suc k) p low high e = go (p.0 == n) refl (has_shown (suc n) k p)
