@@ -15,3 +15,6 @@ pub mod PrintLemmas
 pub mod PlainLemmas
 pub mod JoinLemmas
 pub mod SpellLemmas
+pub mod MemberLemmas
+pub mod JsonOptionLemmas
+pub mod JsonEachLemmas

@@ -25,7 +25,7 @@ kind_read : (k : List ℕ) → is_some (kind_of_letter k) ≡ true → kind_lett
 kind_read k e = same_bytes _ k (find_passes (λ kind. bytes_eq (kind_letter kind) k) kinds _ (some_is (kind_of_letter k) Flight e))
 
 -- a night that is read has that text
-night_read : (t : List ℕ) → is_some (night_in t) ≡ true → (is_night (number_or_none (night_in t)) ≡ true) × (night_text (number_or_none (night_in t)) ≡ t)
+pub night_read : (t : List ℕ) → is_some (night_in t) ≡ true → (is_night (number_or_none (night_in t)) ≡ true) × (night_text (number_or_none (night_in t)) ≡ t)
 night_read t e =
     let kept = keep_if_some (λ night. is_night night && bytes_eq (night_text night) t) (named_night t) (number_or_none (night_in t)) (some_is (night_in t) 0 e) in
     let both = and_both (is_night (number_or_none (night_in t))) (bytes_eq (night_text (number_or_none (night_in t))) t) kept.1 in

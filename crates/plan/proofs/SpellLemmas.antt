@@ -274,7 +274,7 @@ kept_again n i (s ∷ steps) l u e =
     ∙ ap (onto (Ok s)) (kept_again n (i + 1) steps (omega arith) (rest_unmarked s steps u) both.1)
 
 -- a plan that keeps the limits is made as it is
-made_again : (p : Planned) → is_plan p ≡ true → plan_made p ≡ Ok p
+pub made_again : (p : Planned) → is_plan p ≡ true → plan_made p ≡ Ok p
 made_again p e =
     let all = and_both _ (nat_le p.tries 9) e in
     let marks = and_both _ (is_last_unmarked p.steps) all.0 in
@@ -286,7 +286,7 @@ made_again p e =
     made_by_steps p n (Ok p.steps) refl (leb-true p.tries 9 all.1) (leb-true 1 n count.0) (leb-true n 24 count.1) kept
 
 -- what is made of a plan is what is told of its draft
-made_is : (p : Planned) → judged (Some (drafted_plan p)) ≡ plan_made p
+pub made_is : (p : Planned) → judged (Some (drafted_plan p)) ≡ plan_made p
 unfolding plan_made
 made_is p = refl
 

@@ -5,3 +5,5 @@ pub mod Drafts
 pub mod PlanLine
 pub mod Cuts
 pub mod Levels
+pub mod PlanJson
+pub mod JsonLevels

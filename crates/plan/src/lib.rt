@@ -9,9 +9,11 @@
 
 mod causes;
 mod faults;
+mod json;
 mod laws;
 mod limits;
 mod lines;
+mod members;
 mod options;
 mod parts;
 mod plans;
