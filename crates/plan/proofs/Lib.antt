@@ -18,3 +18,6 @@ pub mod SpellLemmas
 pub mod MemberLemmas
 pub mod JsonOptionLemmas
 pub mod JsonEachLemmas
+pub mod JsonPlanLemmas
+pub mod JsonKeptLemmas
+pub mod JsonAgainLemmas

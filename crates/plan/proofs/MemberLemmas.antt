@@ -19,7 +19,7 @@ member_count-members_view [] = refl
 member_count-members_view (e ∷ es) = ap (λ z. suc z) (member_count-members_view es)
 
 -- a list shows its values
-values_of-items_of : (ds : List Data) → values_of (items_of ds) ≡ ds
+pub values_of-items_of : (ds : List Data) → values_of (items_of ds) ≡ ds
 values_of-items_of [] = refl
 values_of-items_of (d ∷ ds) = ap (λ z. d ∷ z) (values_of-items_of ds)
 

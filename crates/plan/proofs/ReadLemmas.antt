@@ -173,7 +173,7 @@ record ReadsSteps (ts : List (List ℕ)) : Type 0 where
   pub good : list_all is_step (steps_of ts) ≡ true
 
 -- where the second holds and not both, the first does not hold
-not_left : (a b : Bool) → b ≡ true → not (a && b) ≡ true → not a ≡ true
+pub not_left : (a b : Bool) → b ≡ true → not (a && b) ≡ true → not a ≡ true
 not_left true b p e = cc
 not_left false b p e = refl
 

@@ -7,3 +7,4 @@ pub mod Cuts
 pub mod Levels
 pub mod PlanJson
 pub mod JsonLevels
+pub mod PlanData

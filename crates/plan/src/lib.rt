@@ -22,9 +22,11 @@ mod steps;
 
 pub use causes::PlanCause;
 pub use faults::{BadPlan, PlanFault};
-pub use laws::one_spelling;
+pub use laws::{json_is_read_back, one_spelling};
 pub use plans::Plan;
 pub use steps::PlanStep;
 
+#[cfg(test)]
+mod json_tests;
 #[cfg(test)]
 mod tests;
