@@ -11,8 +11,8 @@ use Rattle.plan.specs.Planned.{Planned, StepPlan, is_step, is_last_unmarked, is_
 use Rattle.plan.specs.Drafts.{OptionDraft, StepDraft, option_faults, step_faults, faults, want_of, step_of, plan_of, judged}
 use Rattle.plan.specs.PlanJson.{has_just, in_member, list_of, text_of, option_members, option_said, json_option, step_with, step_from, step_members, json_step, json_steps, json_tries, draft_with, plan_in_json}
 use Rattle.allotment.proofs.TestLemmas.{and_both, and_make}
-use Rattle.plan.proofs.ListFacts.{append_none, unless_none, flat_map_none, first_fault_ok}
-use Rattle.plan.proofs.ReadLemmas.{night_read, not_left}
+use Rattle.plan.proofs.ListFacts.{append_none, not_left, unless_none, flat_map_none, first_fault_ok}
+use Rattle.plan.proofs.ReadLemmas.{night_read}
 
 -- Options.
 

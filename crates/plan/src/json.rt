@@ -61,8 +61,10 @@ pub fn steps_of(alloc: Global, values: &[Value]) -> Result<Vec<PlanStep>, PlanFa
 
 /// The step of this number that a value spells, where so many is the last one's.
 fn step_of(alloc: Global, last: usize, step: usize, value: &Value) -> Result<PlanStep, PlanFault>
-    ensures read { IfOk result (λ read. step_of_json last step (view value.now) ≡ Ok (step_said read)) }
-    ensures refused { IfErr result (IfBad (λ bad. step_of_json last step (view value.now) ≡ Err bad)) }
+    ensures read { IfOk result
+        (λ read. step_of_json last step (view value.now) ≡ Ok (step_said read)) }
+    ensures refused { IfErr result
+        (IfBad (λ bad. step_of_json last step (view value.now) ≡ Err bad)) }
 {
     let Some((options, save)) = step_parts(value) else {
         return Err(PlanFault::Bad(bad(step, PlanCause::Shape)));
@@ -74,7 +76,8 @@ fn step_of(alloc: Global, last: usize, step: usize, value: &Value) -> Result<Pla
 
 /// The options of a step and whether it is marked, if the value has the shape of a step.
 fn step_parts(value: &Value) -> Option<(&[Value], bool)>
-    ensures parts { option_map (λ p. step_with (views p.0.now) p.1) result ≡ json_step (view value.now) }
+    ensures parts { option_map (λ p. step_with (views p.0.now) p.1) result
+        ≡ json_step (view value.now) }
 {
     if !has_just(value, &["options", "save"]) {
         return None;
@@ -99,8 +102,10 @@ fn check_limits(last: usize, step: usize, save: bool, options: usize) -> Result<
 
 /// The wants of the options of a step, which these values spell.
 fn options_of(alloc: Global, step: usize, values: &[Value]) -> Result<Vec<Want>, PlanFault>
-    ensures read { IfOk result (λ options. wants_of_json step (views values.now) ≡ Ok options.items) }
-    ensures refused { IfErr result (IfBad (λ bad. wants_of_json step (views values.now) ≡ Err bad)) }
+    ensures read { IfOk result
+        (λ options. wants_of_json step (views values.now) ≡ Ok options.items) }
+    ensures refused { IfErr result
+        (IfBad (λ bad. wants_of_json step (views values.now) ≡ Err bad)) }
 {
     let mut options = Vec::with_capacity(alloc, values.len())?;
     for value in values {
@@ -114,7 +119,10 @@ fn options_of(alloc: Global, step: usize, values: &[Value]) -> Result<Vec<Want>,
 fn option_of(step: usize, value: &Value) -> Result<Want, BadPlan>
     ensures want { result ≡ want_of_json step (view value.now) }
 {
-    if !has_just(value, &["count", "first", "kind", "nights", "product", "supplier"]) {
+    if !has_just(
+        value,
+        &["count", "first", "kind", "nights", "product", "supplier"],
+    ) {
         return Err(bad(step, PlanCause::Shape));
     }
     let Some(kind) = Kind::from_word(text_in(value, "kind")) else {

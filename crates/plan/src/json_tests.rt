@@ -8,7 +8,10 @@ use std::test::Fail;
 fn option(alloc: Global, members: [&str; 6]) -> Result<String, AllocError> {
     let [kind, supplier, product, first, nights, count] = members;
     let mut text = format!(in alloc; "{{\"count\":{count},\"first\":{first},\"kind\":{kind},")?;
-    write!(text, "\"nights\":{nights},\"product\":{product},\"supplier\":{supplier}}}")?;
+    write!(
+        text,
+        "\"nights\":{nights},\"product\":{product},\"supplier\":{supplier}}}"
+    )?;
     Ok(text)
 }
 
@@ -34,6 +37,30 @@ fn listed(alloc: Global, text: &str, count: u8) -> Result<String, AllocError> {
     Ok(list)
 }
 
+/// A plan of one step, of these options.
+fn one_step(alloc: Global, options: &str) -> Result<String, AllocError> {
+    let only = step(alloc, options, false)?;
+    plan(alloc, only.as_str(), 0)
+}
+
+/// A plan of so many marked steps, and of a last one.
+fn marked_steps(alloc: Global, marked: u8, save: bool) -> Result<String, AllocError> {
+    let flight = option(alloc, [FLIGHT, AL, A1, DAY, "1", "1"])?;
+    let front = step(alloc, flight.as_str(), true)?;
+    let mut steps = listed(alloc, front.as_str(), marked)?;
+    steps.push_str(",")?;
+    let last = step(alloc, flight.as_str(), save)?;
+    steps.push_str(last.as_str())?;
+    plan(alloc, steps.as_str(), 9)
+}
+
+/// The line of the plan that this text spells.
+fn line_of(alloc: Global, text: &str) -> Result<String, Fail> {
+    let value = Value::from_str(alloc, text)?;
+    let plan = Plan::from_json(alloc, &value)?;
+    Ok(plan.line(alloc)?)
+}
+
 /// What is told of this text.
 fn told(alloc: Global, text: &str) -> Result<Option<PlanFault>, Error> {
     let value = Value::from_str(alloc, text)?;
@@ -46,63 +73,70 @@ fn wrong(step: usize, cause: PlanCause) -> Option<PlanFault> {
 }
 
 const FLIGHT: &str = "\"flight\"";
+
 const ROOM: &str = "\"room\"";
+
 const TRANSFER: &str = "\"transfer\"";
+
 const COVER: &str = "\"cover\"";
+
 const AL: &str = "\"AL\"";
+
 const A1: &str = "\"A1\"";
+
 const DAY: &str = "\"2030-06-01\"";
+
+// a value, and the line of its plan
+#[rattlefmt::skip]
+const VALUES: [(&str, &str, &str); 3] = [
+    ("one step",
+     "{\"steps\":[{\"options\":[{\"count\":1,\"first\":\"2030-06-01\",\"kind\":\"flight\",\
+      \"nights\":1,\"product\":\"A1\",\"supplier\":\"AL\"}],\"save\":false}],\"tries\":0}",
+     "F/AL/A1/2030-06-01/1/1!0"),
+    ("members in any order, of which the last of a name counts, blanks, an escape",
+     " { \"tries\" : 10 , \"steps\" : [ { \"save\" : false , \"options\" : [ { \"supplier\" : \"AL\" , \
+      \"product\" : \"A1\" , \"nights\" : 1 , \"kind\" : \"fl\\u0069ght\" , \"first\" : \"2030-06-01\" , \
+      \"count\" : 0 , \"count\" : 50 } ] } ] , \"tries\" : 9 } ",
+     "F/AL/A1/2030-06-01/1/50!9"),
+    ("a mark and two options",
+     "{\"steps\":[{\"options\":[{\"count\":1,\"first\":\"2030-06-01\",\"kind\":\"flight\",\
+      \"nights\":1,\"product\":\"A1\",\"supplier\":\"AL\"}],\"save\":true},\
+      {\"options\":[{\"count\":1,\"first\":\"2030-06-01\",\"kind\":\"room\",\
+      \"nights\":1,\"product\":\"A\",\"supplier\":\"INN\"},{\"count\":2,\"first\":\"2030-06-01\",\
+      \"kind\":\"room\",\"nights\":1,\"product\":\"B\",\"supplier\":\"INN\"}],\"save\":false}],\"tries\":2}",
+     "F/AL/A1/2030-06-01/1/1*;R/INN/A/2030-06-01/1/1|R/INN/B/2030-06-01/1/2!2"),
+];
 
 #[test]
 fn a_value_is_read_as_the_plan_of_a_line(rt: HostRuntime) -> Result<(), Fail> {
-    let text = "{\"steps\":[{\"options\":[{\"count\":1,\"first\":\"2030-06-01\",\"kind\":\"flight\",\
-                \"nights\":1,\"product\":\"A1\",\"supplier\":\"AL\"}],\"save\":false}],\"tries\":0}";
-    let value = Value::from_str(rt.alloc(), text)?;
-    let plan = Plan::from_json(rt.alloc(), &value)?;
-    assert_eq!(rt; plan.line(rt.alloc())?.as_str(), "F/AL/A1/2030-06-01/1/1!0");
+    for (case, text, line) in VALUES {
+        let read = line_of(rt.alloc(), text)?;
+        assert_eq!(rt; read.as_str(), line, "{case}");
+    }
     Ok(())
 }
 
-#[test]
-fn members_stand_in_any_order_and_the_last_of_a_name_counts(rt: HostRuntime) -> Result<(), Fail> {
-    let text = " { \"tries\" : 10 , \"steps\" : [ { \"save\" : false , \"options\" : [ { \"supplier\" : \"AL\" , \
-                \"product\" : \"A1\" , \"nights\" : 1 , \"kind\" : \"fl\\u0069ght\" , \"first\" : \"2030-06-01\" , \
-                \"count\" : 0 , \"count\" : 50 } ] } ] , \"tries\" : 9 } ";
-    let value = Value::from_str(rt.alloc(), text)?;
-    let plan = Plan::from_json(rt.alloc(), &value)?;
-    assert_eq!(rt; plan.line(rt.alloc())?.as_str(), "F/AL/A1/2030-06-01/1/50!9");
-    Ok(())
-}
-
-// an option, and its text in a line
+// an option, and the line of a plan that has no other
 #[rattlefmt::skip]
 const OPTIONS: [(&str, [&str; 6], &str); 9] = [
-    ("the most places",        [FLIGHT, AL, A1, DAY, "1", "50"],                          "F/AL/A1/2030-06-01/1/50"),
-    ("a transfer",             [TRANSFER, "\"BUS\"", "\"X\"", DAY, "1", "9"],             "T/BUS/X/2030-06-01/1/9"),
-    ("the most of a room",     [ROOM, "\"INN\"", "\"DBL\"", DAY, "30", "1"],              "R/INN/DBL/2030-06-01/30/1"),
-    ("the most of cover",      [COVER, "\"CO\"", "\"P\"", DAY, "60", "1"],                "C/CO/P/2030-06-01/60/1"),
-    ("codes of one and eight", [FLIGHT, "\"A\"", "\"1234WXYZ\"", DAY, "1", "1"],          "F/A/1234WXYZ/2030-06-01/1/1"),
-    ("the first night",        [ROOM, "\"INN\"", "\"DBL\"", "\"2000-01-01\"", "1", "1"],  "R/INN/DBL/2000-01-01/1/1"),
-    ("the last night",         [ROOM, "\"INN\"", "\"DBL\"", "\"2099-12-31\"", "1", "1"],  "R/INN/DBL/2099-12-31/1/1"),
-    ("up to the last night",   [ROOM, "\"INN\"", "\"DBL\"", "\"2099-12-30\"", "2", "1"],  "R/INN/DBL/2099-12-30/2/1"),
-    ("a day in a leap year",   [COVER, "\"CO\"", "\"P\"", "\"2028-02-29\"", "1", "1"],    "C/CO/P/2028-02-29/1/1"),
+    ("the most places",      [FLIGHT, AL, A1, DAY, "1", "50"],                         "F/AL/A1/2030-06-01/1/50!0"),
+    ("a transfer",           [TRANSFER, "\"BUS\"", "\"X\"", DAY, "1", "9"],            "T/BUS/X/2030-06-01/1/9!0"),
+    ("the most of a room",   [ROOM, "\"INN\"", "\"DBL\"", DAY, "30", "1"],             "R/INN/DBL/2030-06-01/30/1!0"),
+    ("the most of cover",    [COVER, "\"CO\"", "\"P\"", DAY, "60", "1"],               "C/CO/P/2030-06-01/60/1!0"),
+    ("a code of eight",      [FLIGHT, "\"A\"", "\"1234WXYZ\"", DAY, "1", "1"],         "F/A/1234WXYZ/2030-06-01/1/1!0"),
+    ("the first night",      [ROOM, "\"INN\"", "\"DBL\"", "\"2000-01-01\"", "1", "1"], "R/INN/DBL/2000-01-01/1/1!0"),
+    ("the last night",       [ROOM, "\"INN\"", "\"DBL\"", "\"2099-12-31\"", "1", "1"], "R/INN/DBL/2099-12-31/1/1!0"),
+    ("up to the last night", [ROOM, "\"INN\"", "\"DBL\"", "\"2099-12-30\"", "2", "1"], "R/INN/DBL/2099-12-30/2/1!0"),
+    ("a day in a leap year", [COVER, "\"CO\"", "\"P\"", "\"2028-02-29\"", "1", "1"],   "C/CO/P/2028-02-29/1/1!0"),
 ];
 
 #[test]
 fn an_option_is_read_as_that_of_a_line(rt: HostRuntime) -> Result<(), Fail> {
-    for (case, members, spelled) in OPTIONS {
-        let first = option(rt.alloc(), members)?;
-        let first = step(rt.alloc(), first.as_str(), true)?;
-        let last = option(rt.alloc(), [FLIGHT, AL, A1, DAY, "1", "1"])?;
-        let both = listed(rt.alloc(), last.as_str(), 2)?;
-        let last = step(rt.alloc(), both.as_str(), false)?;
-        let (first, last) = (first.as_str(), last.as_str());
-        let steps = format!(in rt.alloc(); "{first},{last}")?;
-        let text = plan(rt.alloc(), steps.as_str(), 2)?;
-        let value = Value::from_str(rt.alloc(), text.as_str())?;
-        let read = Plan::from_json(rt.alloc(), &value)?;
-        let line = format!(in rt.alloc(); "{spelled}*;F/AL/A1/2030-06-01/1/1|F/AL/A1/2030-06-01/1/1!2")?;
-        assert_eq!(rt; read.line(rt.alloc())?.as_str(), line.as_str(), "{case}");
+    for (case, members, line) in OPTIONS {
+        let option = option(rt.alloc(), members)?;
+        let text = one_step(rt.alloc(), option.as_str())?;
+        let read = line_of(rt.alloc(), text.as_str())?;
+        assert_eq!(rt; read.as_str(), line, "{case}");
     }
     Ok(())
 }
@@ -160,19 +194,25 @@ const FIRST: [(&str, [&str; 6], PlanCause); 5] = [
     ("nights, a count",      [FLIGHT, AL, A1, DAY, "2", "51"],                  PlanCause::Nights),
 ];
 
+/// What is told of a plan with this option alone.
+fn told_of(alloc: Global, members: [&str; 6]) -> Result<Option<PlanFault>, Fail> {
+    let option = option(alloc, members)?;
+    let text = one_step(alloc, option.as_str())?;
+    Ok(told(alloc, text.as_str())?)
+}
+
 #[test]
-fn a_wrong_option_is_told_its_first_fault(rt: HostRuntime) -> Result<(), Fail> {
+fn a_wrong_option_is_told_its_fault(rt: HostRuntime) -> Result<(), Fail> {
     for (case, members, cause) in WRONG {
-        let option = option(rt.alloc(), members)?;
-        let steps = step(rt.alloc(), option.as_str(), false)?;
-        let text = plan(rt.alloc(), steps.as_str(), 0)?;
-        assert_eq!(rt; told(rt.alloc(), text.as_str())?, wrong(1, cause), "{case}");
+        assert_eq!(rt; told_of(rt.alloc(), members)?, wrong(1, cause), "{case}");
     }
+    Ok(())
+}
+
+#[test]
+fn the_first_fault_of_an_option_is_told(rt: HostRuntime) -> Result<(), Fail> {
     for (case, members, cause) in FIRST {
-        let option = option(rt.alloc(), members)?;
-        let steps = step(rt.alloc(), option.as_str(), false)?;
-        let text = plan(rt.alloc(), steps.as_str(), 0)?;
-        assert_eq!(rt; told(rt.alloc(), text.as_str())?, wrong(1, cause), "{case}");
+        assert_eq!(rt; told_of(rt.alloc(), members)?, wrong(1, cause), "{case}");
     }
     Ok(())
 }
@@ -203,25 +243,31 @@ const PLANS: [(&str, &str, usize, PlanCause); 40] = [
     ("a step without members",      "{\"steps\":[{}],\"tries\":0}", 1, PlanCause::Shape),
     ("a step without save",         "{\"steps\":[{\"options\":[]}],\"tries\":0}", 1, PlanCause::Shape),
     ("a step without options",      "{\"steps\":[{\"save\":true}],\"tries\":0}", 1, PlanCause::Shape),
-    ("a third member of a step",    "{\"steps\":[{\"n\":1,\"options\":[],\"save\":true}],\"tries\":0}", 1, PlanCause::Shape),
+    ("a third member of a step",
+     "{\"steps\":[{\"n\":1,\"options\":[],\"save\":true}],\"tries\":0}", 1, PlanCause::Shape),
     ("options that are no list",    "{\"steps\":[{\"options\":{},\"save\":true}],\"tries\":0}", 1, PlanCause::Shape),
     ("a number for save",           "{\"steps\":[{\"options\":[],\"save\":1}],\"tries\":0}", 1, PlanCause::Shape),
-    ("a text for save",             "{\"steps\":[{\"options\":[],\"save\":\"true\"}],\"tries\":0}", 1, PlanCause::Shape),
+    ("a text for save",
+     "{\"steps\":[{\"options\":[],\"save\":\"true\"}],\"tries\":0}", 1, PlanCause::Shape),
     ("a null for save",             "{\"steps\":[{\"options\":[],\"save\":null}],\"tries\":0}", 1, PlanCause::Shape),
     ("a mark before no option",     "{\"steps\":[{\"options\":[],\"save\":true}],\"tries\":0}", 1, PlanCause::Save),
     ("a mark before a shape",       "{\"steps\":[{\"options\":[{}],\"save\":true}],\"tries\":0}", 1, PlanCause::Save),
     ("no option",                   "{\"steps\":[{\"options\":[],\"save\":false}],\"tries\":0}", 1, PlanCause::Options),
-    ("no option before a step",     "{\"steps\":[{\"options\":[],\"save\":true},1],\"tries\":0}", 1, PlanCause::Options),
-    ("an option that is null",      "{\"steps\":[{\"options\":[null],\"save\":false}],\"tries\":0}", 1, PlanCause::Shape),
+    ("no option before a step",
+     "{\"steps\":[{\"options\":[],\"save\":true},1],\"tries\":0}", 1, PlanCause::Options),
+    ("an option that is null",
+     "{\"steps\":[{\"options\":[null],\"save\":false}],\"tries\":0}", 1, PlanCause::Shape),
     ("an option that is a list",    "{\"steps\":[{\"options\":[[]],\"save\":false}],\"tries\":0}", 1, PlanCause::Shape),
-    ("an option that is a text",    "{\"steps\":[{\"options\":[\"\"],\"save\":true},1],\"tries\":0}", 1, PlanCause::Shape),
-    ("an option without members",   "{\"steps\":[{\"options\":[{}],\"save\":true},1],\"tries\":0}", 1, PlanCause::Shape),
+    ("an option that is a text",
+     "{\"steps\":[{\"options\":[\"\"],\"save\":true},1],\"tries\":0}", 1, PlanCause::Shape),
+    ("an option without members",
+     "{\"steps\":[{\"options\":[{}],\"save\":true},1],\"tries\":0}", 1, PlanCause::Shape),
     ("five members of an option",
-     "{\"steps\":[{\"options\":[{\"count\":1,\"first\":1,\"kind\":1,\"nights\":1,\"product\":1}],\"save\":false}],\"tries\":0}",
-     1, PlanCause::Shape),
-    ("seven members of an option",
-     "{\"steps\":[{\"options\":[{\"count\":1,\"first\":1,\"kind\":1,\"nights\":1,\"price\":1,\"product\":1,\"supplier\":1}],\
+     "{\"steps\":[{\"options\":[{\"count\":1,\"first\":1,\"kind\":1,\"nights\":1,\"product\":1}],\
       \"save\":false}],\"tries\":0}", 1, PlanCause::Shape),
+    ("seven members of an option",
+     "{\"steps\":[{\"options\":[{\"count\":1,\"first\":1,\"kind\":1,\"nights\":1,\"price\":1,\"product\":1,\
+      \"supplier\":1}],\"save\":false}],\"tries\":0}", 1, PlanCause::Shape),
     ("another name in an option",
      "{\"steps\":[{\"options\":[{\"count\":1,\"first\":1,\"kind\":1,\"nights\":1,\"product\":1,\"seller\":1}],\
       \"save\":false}],\"tries\":0}", 1, PlanCause::Shape),
@@ -258,23 +304,21 @@ const MANY: [(&str, u8, &str, Option<(usize, PlanCause)>); 4] = [
 ];
 
 #[test]
-fn a_value_has_so_many_steps_and_options(rt: HostRuntime) -> Result<(), Fail> {
+fn a_value_has_so_many_steps(rt: HostRuntime) -> Result<(), Fail> {
     for (case, marked, save, expected) in STEPS {
-        let flight = option(rt.alloc(), [FLIGHT, AL, A1, DAY, "1", "1"])?;
-        let front = step(rt.alloc(), flight.as_str(), true)?;
-        let front = listed(rt.alloc(), front.as_str(), marked)?;
-        let last = step(rt.alloc(), flight.as_str(), save)?;
-        let (front, last) = (front.as_str(), last.as_str());
-        let steps = format!(in rt.alloc(); "{front},{last}")?;
-        let text = plan(rt.alloc(), steps.as_str(), 9)?;
+        let text = marked_steps(rt.alloc(), marked, save)?;
         let expected = expected.map(|(step, cause)| PlanFault::Bad(BadPlan { step, cause }));
         assert_eq!(rt; told(rt.alloc(), text.as_str())?, expected, "{case}");
     }
+    Ok(())
+}
+
+#[test]
+fn a_step_has_so_many_options(rt: HostRuntime) -> Result<(), Fail> {
     for (case, count, places, expected) in MANY {
         let flight = option(rt.alloc(), [FLIGHT, AL, A1, DAY, "1", places])?;
         let options = listed(rt.alloc(), flight.as_str(), count)?;
-        let steps = step(rt.alloc(), options.as_str(), false)?;
-        let text = plan(rt.alloc(), steps.as_str(), 0)?;
+        let text = one_step(rt.alloc(), options.as_str())?;
         let expected = expected.map(|(step, cause)| PlanFault::Bad(BadPlan { step, cause }));
         assert_eq!(rt; told(rt.alloc(), text.as_str())?, expected, "{case}");
     }

@@ -4,7 +4,7 @@
 //! preference; a *marked* step leaves a save-point behind it. The last step is never marked.
 //!
 //! Every plan keeps these limits. A plan has one *line*: a text is read as a plan exactly where it is the line of that
-//! plan, and any other text is told the first thing that is wrong with it, in one order.
+//! plan, and any other text is told the first thing that is wrong with it, in one order. A JSON value is read likewise.
 #![tactic(auto)]
 
 mod causes;

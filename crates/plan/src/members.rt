@@ -41,7 +41,8 @@ fn has_member(value: &Value, name: &str) -> bool
 
 /// The list that the member of this name is.
 pub fn list_in<'a>(value: &'a Value, name: &str) -> Option<&'a [Value]>
-    ensures list { option_map (λ list. views list.now) result ≡ in_member name.now list_of (view value.now) }
+    ensures list { option_map (λ list. views list.now) result
+        ≡ in_member name.now list_of (view value.now) }
 {
     let list = value.get(name)?.as_array()?;
     Some(list.as_slice())

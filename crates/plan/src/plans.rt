@@ -64,9 +64,9 @@ impl Plan {
 
     /// The plan of a JSON value, or the first thing that is wrong with it.
     ///
-    /// A plan is an object with the members `steps`, a list, and `tries`; a step one with `options`, a list, and `save`,
-    /// true or false; an option one with `kind`, a kind's word, `supplier`, `product` and `first`, which are texts, and
-    /// `nights` and `count`. None has another member. A number is one that is held as an integer: `1.0` is none.
+    /// A plan is an object with the members `steps`, a list, and `tries`; a step one with `options`, a list, and
+    /// `save`, true or false; an option one with `kind`, a kind's word, `supplier`, `product` and `first`, which are
+    /// texts, and `nights` and `count`. None has another member. A number is held as an integer: `1.0` is none.
     pub fn from_json(alloc: Global, value: &Value) -> Result<Plan, PlanFault>
         ensures read { IfOk result (λ plan. JsonReadsAs (view value.now) (Ok plan)) }
 
