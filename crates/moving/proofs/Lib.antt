@@ -16,3 +16,4 @@ pub mod Ranges
 pub mod Conditions
 pub mod Fitting
 pub mod Taken
+pub mod Batches
