@@ -10,7 +10,8 @@ use Rattle.ledger.specs.History.{next_want}
 use Rattle.ledger.specs.Ledger.{Did, Journey, journeys, journey_at, history, held, places_in, fits, is_allowed}
 use Rattle.changes.specs.Changed.{cursor_after}
 use Rattle.changes.proofs.Histories.{follows, may_come-allowed}
-use Rattle.changes.proofs.Places.{held-compensation, held_within, allotment-did}
+use Rattle.changes.proofs.Allotments.{allotment-did}
+use Rattle.changes.proofs.Places.{held-compensation, held_within}
 use Rattle.changes.proofs.Taking.{is_taken-more}
 use Rattle.saga_core.specs.Shown.{cursor_of}
 use Rattle.desk_sql.specs.Rows.{Tables}

@@ -8,7 +8,8 @@ use Rattle.commands.specs.declared.replies.Reply.{Reply}
 use Rattle.ledger.specs.Answer.{State, state_with, kept_for}
 use Rattle.ledger.specs.Ledger.{Did, Journey, journeys, journey_at, history, held, places_in, is_allowed}
 use Rattle.changes.specs.Changed.{cursor_after}
-use Rattle.changes.proofs.Places.{held-transaction, allotment-did}
+use Rattle.changes.proofs.Allotments.{allotment-did}
+use Rattle.changes.proofs.Places.{held-transaction}
 use Rattle.changes.proofs.Taking.{is_taken-more}
 use Rattle.saga_core.specs.Shown.{cursor_of}
 use Rattle.desk_sql.specs.Rows.{Tables}
