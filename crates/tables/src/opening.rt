@@ -126,6 +126,3 @@ pub fn open_from<S: Alter>(mut conn: Connection<S>) -> Result<Opened<S>, (Connec
         Err(fault) => Err((conn, fault)),
     }
 }
-
-#[cfg(test)]
-mod tests;
