@@ -1,8 +1,10 @@
 // Stores that fail from some call on and are opened again: what was answered stands, what was under way wholly or not.
-ghost use Rattle.std.specs.Prelude.{◌×◌, IsTrue, IfOk};
+ghost use Rattle.std.specs.Prelude.{◌≡◌, false, None, IsTrue, IfOk};
 ghost use Rattle.sqlite_disk.specs.Memory.{memory_is_usable};
 
-use super::helping::{ANN, Asking, PLAN, begin, book_over, close, meta, number, opened, over, over_files, told};
+use super::helping::{
+    ANN, Asking, PLAN, begin, book_over, close, meta, number, opened, over, over_files, told,
+};
 use crate::open_from;
 use commands::{Command, Fault, Reply};
 use sqlite::{Alter, Connection, Files, Options};
@@ -25,7 +27,7 @@ const TURNS: [(u64, Option<Asking<'static>>); 4] = [
 const ROWS: [(u64, i64, i64); 5] = [(0, 0, 0), (1, 3, 0), (2, 6, 1), (3, 9, 2), (4, 12, 3)];
 
 // more calls than any run here makes of one disk
-const MOST_CALLS: u64 = 2_000;
+const MOST_CALLS: u64 = 1_000;
 
 // a disk with these bytes, on which nothing waits to be synced
 fn disk_of(alloc: Global, bytes: &[u8]) -> io::Result<Memory>
@@ -59,6 +61,9 @@ fn begin_some(
     command: &Command,
     turns: &[(u64, Option<Asking<'static>>)],
 ) -> (Option<u64>, Files<Fuse<Memory>>) {
+    if !files.log.may_be_used() || !files.db.may_be_used() {
+        return (None, files);
+    }
     let conn = match Connection::open_files(alloc, files, Options::new(1)) {
         Ok(conn) => conn,
         Err((_, left)) => return (None, left.into_files()),
@@ -95,19 +100,34 @@ struct Stop {
     crashes: bool,
 }
 
-// what has to stand after a stop: so many journeys were answered, and one more may have been under way
-fn check_left(rt: &impl Abort, alloc: Global, left: Files<Memory>, command: &Command, answered: u64) -> Result<(), Fail>
-    requires usable { IsTrue (memory_is_usable left.log) × IsTrue (memory_is_usable left.db) }
-{
-    let mut conn = opened(over_files(alloc, left)?)?;
-    let found = meta(&mut conn)?;
+// how many journeys stand after a stop: those that were answered, or one more, which was under way
+fn check_journeys<S: Alter>(
+    rt: &impl Abort,
+    conn: &mut Connection<S>,
+    answered: u64,
+) -> Result<u64, Fail> {
+    let found = meta(conn)?;
     assert_eq!(rt; found.version, 2);
     assert_eq!(rt; found.events, found.journeys);
     assert!(rt; matches!(found.journeys.checked_sub(answered), Some(0 | 1)));
-    check_rows(rt, &mut conn, found.journeys)?;
+    check_rows(rt, conn, found.journeys)?;
+    Ok(found.journeys)
+}
+
+// who asks again gets the reply that was kept, and all others begin the journeys that are still to come
+fn check_replies<S: Alter + Drop>(
+    rt: &impl Abort,
+    alloc: Global,
+    conn: Connection<S>,
+    command: &Command,
+    journeys: u64,
+) -> Result<(), Fail>
+    requires outside { conn.in_transaction ≡ false }
+    requires unlimited { conn.step_limit ≡ None }
+{
     let mut book = book_over(alloc, conn)?;
     for (id, asking) in TURNS {
-        if asking.is_some() || id > found.journeys {
+        if asking.is_some() || id > journeys {
             let answer = told(alloc, &mut book, command, asking);
             assert_eq!(rt; answer, Ok(Reply::Begun { id }));
         }
@@ -115,8 +135,41 @@ fn check_left(rt: &impl Abort, alloc: Global, left: Files<Memory>, command: &Com
     check_rows(rt, &mut book.into_store(), 4)
 }
 
+// how the store stands that was opened after a stop
+fn check_opened<S: Alter + Drop>(
+    rt: &impl Abort,
+    alloc: Global,
+    mut conn: Connection<S>,
+    command: &Command,
+    answered: u64,
+) -> Result<(), Fail> {
+    let journeys = check_journeys(rt, &mut conn, answered)?;
+    conn.set_step_limit(None);
+    assert!(rt; conn.is_autocommit());
+    check_replies(rt, alloc, conn, command, journeys)
+}
+
+// what has to stand after a stop, where so many journeys were answered
+fn check_left(
+    rt: &impl Abort,
+    alloc: Global,
+    left: Files<Memory>,
+    command: &Command,
+    answered: u64,
+) -> Result<(), Fail>
+    requires log { IsTrue (memory_is_usable left.log) }
+    requires db { IsTrue (memory_is_usable left.db) }
+{
+    let conn = opened(over_files(alloc, left)?)?;
+    check_opened(rt, alloc, conn, command, answered)
+}
+
 // the rows of so many journeys are there, and no others
-fn check_rows<S: Alter>(rt: &impl Abort, conn: &mut Connection<S>, journeys: u64) -> Result<(), Fail> {
+fn check_rows<S: Alter>(
+    rt: &impl Abort,
+    conn: &mut Connection<S>,
+    journeys: u64,
+) -> Result<(), Fail> {
     assert!(rt; ROWS.iter().any(|(stand, _, _)| *stand == journeys));
     for (stand, steps, replies) in ROWS {
         if stand == journeys {
@@ -129,7 +182,14 @@ fn check_rows<S: Alter>(rt: &impl Abort, conn: &mut Connection<S>, journeys: u64
 }
 
 // one run over disks with this database, stopped and opened again; whether a call failed
-fn stop_once(rt: &impl Abort, alloc: Global, bytes: &[u8], begun: u64, command: &Command, stop: &Stop) -> Result<bool, Fail> {
+fn stop_once(
+    rt: &impl Abort,
+    alloc: Global,
+    bytes: &[u8],
+    begun: u64,
+    command: &Command,
+    stop: &Stop,
+) -> Result<bool, Fail> {
     let log = Fuse::new(Memory::new(alloc), stop.log_calls);
     let db = Fuse::new(disk_of(alloc, bytes)?, stop.db_calls);
     let turns = TURNS.get(begun as usize..).ok_or("turns")?;
@@ -146,7 +206,13 @@ fn stop_once(rt: &impl Abort, alloc: Global, bytes: &[u8], begun: u64, command: 
 }
 
 // each call of each disk fails in turn, until a run ends without meeting the fault
-fn stop_at_each_call(rt: &impl Abort, alloc: Global, bytes: &[u8], begun: u64, crashes: bool) -> Result<(), Fail> {
+fn stop_at_each_call(
+    rt: &impl Abort,
+    alloc: Global,
+    bytes: &[u8],
+    begun: u64,
+    crashes: bool,
+) -> Result<(), Fail> {
     let command = begin(alloc, PLAN)?;
     for in_log in [false, true] {
         let mut met = true;
@@ -194,7 +260,9 @@ fn a_store_that_is_opened_again_may_fail_at_any_call(rt: HostRuntime) -> Result<
 }
 
 #[test]
-fn a_machine_may_crash_at_any_call_of_a_store_that_is_opened_again(rt: HostRuntime) -> Result<(), Fail> {
+fn a_machine_may_crash_at_any_call_of_a_store_that_is_opened_again(
+    rt: HostRuntime,
+) -> Result<(), Fail> {
     let db = of_two_journeys(&rt, rt.alloc())?;
     stop_at_each_call(&rt, rt.alloc(), db.bytes(), 2, true)
 }

@@ -25,7 +25,10 @@ pub(super) fn begin(alloc: Global, line: &str) -> Result<Command, PlanFault> {
     Ok(Command::Begin(Plan::from_line(alloc, line)?))
 }
 
-pub(super) fn book_over<S: Alter + Drop>(alloc: Global, conn: Connection<S>) -> Result<TableBook<S>, OpenFault>
+pub(super) fn book_over<S: Alter + Drop>(
+    alloc: Global,
+    conn: Connection<S>,
+) -> Result<TableBook<S>, OpenFault>
     requires outside { conn.in_transaction ≡ false }
     requires unlimited { conn.step_limit ≡ None }
 {

@@ -3,7 +3,7 @@ ghost use Rattle.std.specs.Prelude.{◌≡◌, false, None};
 
 use super::helping::{close, meta, number, opened, over, run};
 use crate::{OpenFault, open_from};
-use desk_sql::{Meta, find_answer, insert_answer};
+use desk_sql::{Meta, find_answer};
 use sqlite::{Alter, Connection, Error};
 use sqlite_disk::Memory;
 use std::test::Fail;
@@ -11,13 +11,8 @@ use std::test::Fail;
 // how many tables and views there are
 const TABLES: &str = "SELECT count(*) FROM sqlite_schema";
 
-fn keep<S: Alter>(conn: &mut Connection<S>) -> Result<(), Error>
-    requires { conn.old.in_transaction ≡ false }
-{
-    let mut tx = conn.transaction();
-    insert_answer(&mut tx, "ann", "k1", b"begin", "begun 1")?;
-    tx.commit()
-}
+// a reply that is kept for an agent
+const KEPT: &str = "INSERT INTO answer VALUES ('ann', 'k1', x'626567696e', 'begun 1')";
 
 fn has_reply<S: Alter>(conn: &mut Connection<S>) -> Result<bool, Error> {
     let kept = find_answer(conn, "ann", "k1")?;
@@ -53,7 +48,7 @@ fn a_new_store_gets_all_tables(rt: HostRuntime) -> Result<(), Fail> {
 fn a_desk_that_is_opened_again_has_its_replies(rt: HostRuntime) -> Result<(), Fail> {
     let alloc = rt.alloc();
     let mut conn = opened(over(alloc, Memory::new(alloc))?)?;
-    keep(&mut conn)?;
+    run(&mut conn, KEPT)?;
     let db = close(conn)?;
     let mut conn = opened(over(alloc, db)?)?;
     assert!(rt; meta(&mut conn)? == FIRST);
@@ -77,7 +72,7 @@ fn another_version_is_unknown_and_left(rt: HostRuntime) -> Result<(), Fail> {
         ("UPDATE meta SET version = 0", 0),
     ] {
         let mut conn = opened(Connection::open_in_memory(rt.alloc())?)?;
-        keep(&mut conn)?;
+        run(&mut conn, KEPT)?;
         run(&mut conn, text)?;
         let (mut conn, fault) = refused(conn).ok_or(text)?;
         assert!(rt; fault == OpenFault::UnknownSchema(version), "{text}");
