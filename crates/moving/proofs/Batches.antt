@@ -9,10 +9,13 @@ use Rattle.std.proofs.lemmas.List.Sorted.{length_permutation}
 use Rattle.std.proofs.lemmas.Slice.Eq.{bytes_eq-Decides}
 use Rattle.sqlite_trees.proofs.ListLemmas.{IsPermutation-filter}
 use Rattle.sqlite_rules.specs.Lists.{Has}
+use Rattle.sqlite_rules.proofs.ListLemmas.{has_either}
 use Rattle.sqlite_rules.proofs.ProbeLemmas.{has_mapped, mapped_has}
+use Rattle.allotment.specs.Limits.{is_between}
 use Rattle.allotment.specs.declared.cells.Row.{Row}
+use Rattle.commands.specs.Names.{is_batch_name}
 use Rattle.ledger.specs.Answer.{State}
-use Rattle.ledger.specs.Ledger.{Event, Loaded, Began, Did, rows_if_named, batches_named, is_allowed, is_batch, is_not_below_held, IsLegal}
+use Rattle.ledger.specs.Ledger.{Event, Loaded, Began, Did, rows_if_named, batches_named, is_allowed, is_batch, is_good_row, are_distinct, is_not_below_held, IsLegal}
 use Rattle.ledger.proofs.Growing.{induct}
 use Rattle.changes.proofs.Events.{batches_named-loaded, batches_named-began, batches_named-did}
 use Rattle.desk_sql.specs.Lists.{IsOneOf}
@@ -81,6 +84,53 @@ named_more l (Loaded other rows) legal may once =
 
 pub named_once : (l : List Event) → IsLegal l → (name : List ℕ) → length (batches_named l name) ≤ 1
 named_once l legal = induct NamedOnce (λ name. omega arith) named_more l legal
+
+-- the rows of each batch keep the limits
+abbrev NamedGood : List Event → Type 0
+NamedGood l = (name : List ℕ) (rows : List Row) → Has (batches_named l name) rows
+    → list_all is_good_row rows ≡ true
+
+good_more : (l : List Event) (e : Event) → IsLegal l → IsTrue (is_allowed l e) → NamedGood l
+    → NamedGood (l ++ e ∷ [])
+good_more l (Began agent plan) legal may good =
+    λ name rows h. good name rows
+    (subst (λ bs. Has bs rows) (batches_named-began l agent plan name) h)
+good_more l (Did j item) legal may good =
+    λ name rows h. good name rows (subst (λ bs. Has bs rows) (batches_named-did l j item name) h)
+good_more l (Loaded other new) legal may good =
+    λ name rows h. go name rows (bytes_eq name other)
+    (subst (λ bs. Has bs rows) (batches_named-loaded l other new name) h)
+  where
+    new_good : list_all is_good_row new ≡ true
+    new_good =
+        let unused =
+        (and_parts (is_batch other new && list_all (is_not_below_held l) new) (length (batches_named l other) == 0) may).0 in
+        let batch = (and_parts (is_batch other new) (list_all (is_not_below_held l) new) unused).0 in
+        let limits =
+        (and_parts (is_batch_name other && is_between 1 2000 (length new) && list_all is_good_row new) (are_distinct new) batch).0 in
+        (and_parts (is_batch_name other && is_between 1 2000 (length new)) (list_all is_good_row new) limits).1
+
+    last : (rows : List Row) → Has (new ∷ []) rows → list_all is_good_row rows ≡ true
+    last rows (inl e) = ap (list_all is_good_row) e ∙ new_good
+    last rows (inr h) = absurd h
+
+    go : (name : List ℕ) (rows : List Row) (v : Bool)
+        → Has (batches_named l name ++ (if v then new ∷ [] else [])) rows
+        → list_all is_good_row rows ≡ true
+    go name rows true h =
+        elim (has_either (batches_named l name) (new ∷ []) rows h) [
+          | inl old ↦ good name rows old
+          | inr it ↦ last rows it
+        ]
+    go name rows false h =
+        elim (has_either (batches_named l name) [] rows h) [
+          | inl old ↦ good name rows old
+          | inr none ↦ absurd none
+        ]
+
+pub named_good : (l : List Event) → IsLegal l → (name : List ℕ) (rows : List Row)
+    → Has (batches_named l name) rows → list_all is_good_row rows ≡ true
+named_good l legal = induct NamedGood (λ name rows h. absurd h) good_more l legal
 
 -- what was found tells of the batch with the name: its text, or that there is none
 abbrev pub TellsBatch : List Event → List ℕ → Option BatchRow → Type 0

@@ -17,3 +17,4 @@ pub mod Conditions
 pub mod Fitting
 pub mod Taken
 pub mod Batches
+pub mod SameRows
