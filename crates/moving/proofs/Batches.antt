@@ -1,5 +1,5 @@
 -- What is found of a batch's name tells the batch that was loaded under it, of which there is one at most.
-use Rattle.std.proofs.Common.{◌≡◌, ℕ, suc, ◌+◌, ◌≤◌, ◌==◌, List, [], ◌∷◌, ◌++◌, length, map, filter, cond, Bool, true, false, if◌then◌else◌, Option, Some, None, IsTrue, inl, inr, refl, sym, ap, ap₂, subst, ◌∙◌, arith, eqb-true, append-nil, length-append}
+use Rattle.std.proofs.Common.{◌≡◌, ℕ, suc, ◌≤◌, ◌==◌, List, [], ◌∷◌, ◌++◌, length, map, filter, cond, Bool, true, false, if◌then◌else◌, Option, Some, None, IsTrue, inl, inr, refl, sym, ap, subst, ◌∙◌, arith, eqb-true, append-nil, length-append}
 use Rattle.std.specs.Prelude.{filter_map, option_map, bytes_eq, ◌&&◌}
 use Rattle.std.specs.List.{list_all, cons_option}
 use Rattle.std.specs.List.Sorted.{IsPermutation}
@@ -15,7 +15,7 @@ use Rattle.allotment.specs.Limits.{is_between}
 use Rattle.allotment.specs.declared.cells.Row.{Row}
 use Rattle.commands.specs.Names.{is_batch_name}
 use Rattle.ledger.specs.Answer.{State}
-use Rattle.ledger.specs.Ledger.{Event, Loaded, Began, Did, rows_if_named, batches_named, is_allowed, is_batch, is_good_row, are_distinct, is_not_below_held, IsLegal}
+use Rattle.ledger.specs.Ledger.{Event, Loaded, Began, Did, batches_named, is_allowed, is_batch, is_good_row, are_distinct, is_not_below_held, IsLegal}
 use Rattle.ledger.proofs.Growing.{induct}
 use Rattle.changes.proofs.Events.{batches_named-loaded, batches_named-began, batches_named-did}
 use Rattle.desk_sql.specs.Lists.{IsOneOf}
@@ -27,6 +27,7 @@ use Rattle.standing.specs.Called.{counted_from, batch_text, batch_row_of, batche
 use Rattle.standing.specs.Standing.{StandsFor, IsDesk}
 use Rattle.moving.proofs.Wants.{same_test}
 
+-- bytes compared the other way round
 bytes_back : (a b : List ℕ) → bytes_eq a b ≡ bytes_eq b a
 bytes_back a b =
     same_test (bytes_eq a b) (bytes_eq b a)
@@ -58,6 +59,7 @@ named_from name n (Loaded other rows ∷ l) =
 abbrev NamedOnce : List Event → Type 0
 NamedOnce l = (name : List ℕ) → length (batches_named l name) ≤ 1
 
+-- a load has a new name, and no other event has one
 named_more : (l : List Event) (e : Event) → IsLegal l → IsTrue (is_allowed l e) → NamedOnce l
     → NamedOnce (l ++ e ∷ [])
 named_more l (Began agent plan) legal may once =
@@ -82,6 +84,7 @@ named_more l (Loaded other rows) legal may once =
     go name false e =
         subst (λ bs. length bs ≤ 1) (sym (append-nil (batches_named l name))) (once name)
 
+-- so in a legal ledger
 pub named_once : (l : List Event) → IsLegal l → (name : List ℕ) → length (batches_named l name) ≤ 1
 named_once l legal = induct NamedOnce (λ name. omega arith) named_more l legal
 
@@ -90,6 +93,7 @@ abbrev NamedGood : List Event → Type 0
 NamedGood l = (name : List ℕ) (rows : List Row) → Has (batches_named l name) rows
     → list_all is_good_row rows ≡ true
 
+-- a load has good rows, and no other event has rows
 good_more : (l : List Event) (e : Event) → IsLegal l → IsTrue (is_allowed l e) → NamedGood l
     → NamedGood (l ++ e ∷ [])
 good_more l (Began agent plan) legal may good =
@@ -128,6 +132,7 @@ good_more l (Loaded other new) legal may good =
           | inr none ↦ absurd none
         ]
 
+-- so in a legal ledger
 pub named_good : (l : List Event) → IsLegal l → (name : List ℕ) (rows : List Row)
     → Has (batches_named l name) rows → list_all is_good_row rows ≡ true
 named_good l legal = induct NamedGood (λ name rows h. absurd h) good_more l legal
@@ -138,10 +143,12 @@ TellsBatch l name None = batches_named l name ≡ []
 TellsBatch l name (Some b) =
     (known : List Row) × (batches_named l name ≡ known ∷ []) × (b.content ≡ batch_text known)
 
+-- a list with nothing in it is empty
 none_in : {X : Type 0} (xs : List X) → length xs ≡ 0 → xs ≡ []
 none_in [] e = refl
 none_in (x ∷ xs) e = absurd (omega arith)
 
+-- what is in a list of one is the one
 only_in : {X : Type 0} (xs : List X) (x : X) → length xs ≤ 1 → Has xs x → xs ≡ x ∷ []
 only_in [] x few h = absurd h
 only_in (y ∷ []) x few (inl e) = ap (λ z. z ∷ []) (sym e)

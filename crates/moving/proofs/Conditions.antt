@@ -73,6 +73,7 @@ items_below l t same =
 FewPlaces : List Event → Type 0
 FewPlaces l = (x : Cell) (n : ℕ) → allotment l x ≡ Some n → n ≤ most_places
 
+-- a load keeps it, since its rows do
 few_loaded : (l : List Event) (name : List ℕ) (rows : List Row)
     → IsTrue (is_allowed l (Loaded name rows)) → FewPlaces l → FewPlaces (l ++ Loaded name rows ∷ [])
 unfolding FewPlaces
@@ -100,6 +101,7 @@ few_loaded l name rows may few x n at =
         let same : r.places ≡ n = cc in
         subst (λ k. k ≤ most_places) same low
 
+-- and no other event allots places
 few_more : (l : List Event) (e : Event) → IsLegal l → IsTrue (is_allowed l e) → FewPlaces l
     → FewPlaces (l ++ e ∷ [])
 unfolding FewPlaces
@@ -121,6 +123,7 @@ record Says (l : List Event) (x : Cell) (r : StockRow) : Type 0 where
   allotted : allotment l x ≡ Some r.allot
   free : r.free ≡ r.allot - held l x
 
+-- the places of a cell that its row tells are those that it says
 row_says : (l : List Event) (x : Cell) (r : StockRow) → places_of l x ≡ Some (places_told r) → Says l x r
 row_says l x r e = go (allotment l x) refl e
   where

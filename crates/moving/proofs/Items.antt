@@ -59,6 +59,7 @@ module _ (j i c : ℕ) (v : Bool) where
   abbrev marked : StepRow → StepRow
   marked r = if is_option j i c r then with_taken (flag v) r else r
 
+  -- the row of an option by the changed test is its old row, marked where it is that option
   one_option : (taken : Bool) (id step : ℕ) (is_marked : Bool) (option : ℕ) (want : Wanted)
       → option_row id step is_marked option (if (id == j) && ((step == i) && (option == c)) then v else taken) want ≡ marked (option_row id step is_marked option taken want)
   one_option taken id step is_marked option want = go ((id == j) && ((step == i) && (option == c)))
@@ -68,6 +69,7 @@ module _ (j i c : ℕ) (v : Bool) where
       go true = refl
       go false = refl
 
+  -- so are all rows of a plan
   step_rows-marked : (taken after : ℕ → ℕ → Bool) (id : ℕ) (plan : Planned)
       → ((step option : ℕ) → after step option ≡ (if (id == j) && ((step == i) && (option == c)) then v else taken step option))
       → step_rows after id plan ≡ map marked (step_rows taken id plan)
@@ -102,6 +104,7 @@ module _ (l : List Event) (j : ℕ) (item : Item) where
 
   -- Journeys.
 
+  -- no journey was begun
   begun-did : begun next ≡ begun l
   begun-did = begun-more l (Did j item) ∙ append-nil (begun l)
 

@@ -4,6 +4,7 @@ pub mod Moves
 pub mod Turning
 pub mod Saving
 pub mod Alike
+pub mod Changing
 pub mod Wants
 pub mod Plans
 pub mod Options

@@ -18,7 +18,8 @@ use Rattle.desk_sql.specs.Rows.{MarkRow}
 use Rattle.standing.specs.Standing.{is_mark_at, is_same_mark, MarksStand}
 use Rattle.standing.proofs.Finding.{apart-last}
 
-turned : (a b : ℕ) → (a == b) ≡ (b == a)
+-- numbers compared the other way round
+pub turned : (a b : ℕ) → (a == b) ≡ (b == a)
 turned a b = grind (arith, nat_tests)
 
 module _ (l : List Event) (j : ℕ) (item : Item) (rows : List MarkRow) (stand : MarksStand l rows) where

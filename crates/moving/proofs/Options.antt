@@ -1,10 +1,9 @@
 -- The rows of steps follow the options that are taken: one more by a transaction, one less by a compensation.
-use Rattle.std.proofs.Common.{◌≡◌, ℕ, ◌==◌, List, [], ◌∷◌, ◌++◌, Bool, true, false, if◌then◌else◌, IsTrue, eqb-true, refl, sym, ap, ap₂, subst, ◌∙◌, arith}
+use Rattle.std.proofs.Common.{◌≡◌, ℕ, ◌==◌, List, [], ◌∷◌, ◌++◌, Bool, true, false, if◌then◌else◌, IsTrue, eqb-true, refl, sym, ap, ap₂, subst, ◌∙◌}
 use Rattle.std.specs.Prelude.{◌&&◌, ◌||◌, not}
 use Rattle.std.specs.List.{list_any}
 use Rattle.std.specs.List.Sorted.{IsPermutation}
 use Rattle.std.proofs.lemmas.Bool.{and_parts}
-use Rattle.std.proofs.lemmas.Bool.Decides.{nat_tests}
 use Rattle.std.proofs.lemmas.List.Folds.{list_any-append}
 use Rattle.plan.specs.Planned.{Planned}
 use Rattle.commands.specs.declared.items.Item.{Item}
@@ -21,13 +20,11 @@ use Rattle.desk_sql.specs.Changes.{is_option, with_taken}
 use Rattle.standing.specs.Called.{is_standing, flag, steps_called}
 use Rattle.standing.proofs.ItemRows.{any-filter}
 use Rattle.moving.proofs.Items.{changed-permutation, steps_called-marked}
+use Rattle.moving.proofs.Marks.{turned}
 
 -- a transaction that stands is of this step and option
 abbrev is_of : ℕ → ℕ → ℕ × ℕ → Bool
 is_of step option t = (t.0 == step) && (t.1 == option)
-
-turned : (a b : ℕ) → (a == b) ≡ (b == a)
-turned a b = grind (arith, nat_tests)
 
 -- one more transaction takes its option
 last_taken : (before now : Bool) → (before || (now || false)) ≡ (if now then true else before)
