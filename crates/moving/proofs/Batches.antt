@@ -36,13 +36,16 @@ bytes_back a b =
 
 -- the rows with a name have the texts of the batches with it
 named_from : (name : List ℕ) (n : ℕ) (l : List Event)
-    → map (λ (b : BatchRow). b.content) (filter (is_named name) (filter_map (λ (e : ℕ × Event). batch_row_of e.0 e.1) (counted_from n l))) ≡ map batch_text (batches_named l name)
+    → map (λ (b : BatchRow). b.content)
+    (filter (is_named name) (filter_map (λ (e : ℕ × Event). batch_row_of e.0 e.1) (counted_from n l)))
+    ≡ map batch_text (batches_named l name)
 named_from name n [] = refl
 named_from name n (Began agent plan ∷ l) = named_from name (suc n) l
 named_from name n (Did j item ∷ l) = named_from name (suc n) l
 named_from name n (Loaded other rows ∷ l) =
     ap
-    (λ v. map (λ (b : BatchRow). b.content) (cond v (record { name = other; num = n; content = batch_text rows } ∷ later) later))
+    (λ v. map (λ (b : BatchRow). b.content)
+    (cond v (record { name = other; num = n; content = batch_text rows } ∷ later) later))
     (bytes_back other name)
     ∙ go (bytes_eq name other) (named_from name (suc n) l)
   where
@@ -51,7 +54,9 @@ named_from name n (Loaded other rows ∷ l) =
         filter (is_named name) (filter_map (λ (e : ℕ × Event). batch_row_of e.0 e.1) (counted_from (suc n) l))
 
     go : (v : Bool) → map (λ (b : BatchRow). b.content) later ≡ map batch_text (batches_named l name)
-        → map (λ (b : BatchRow). b.content) (cond v (record { name = other; num = n; content = batch_text rows } ∷ later) later) ≡ map batch_text (cons_option (if v then Some rows else None) (batches_named l name))
+        → map (λ (b : BatchRow). b.content)
+        (cond v (record { name = other; num = n; content = batch_text rows } ∷ later) later)
+        ≡ map batch_text (cons_option (if v then Some rows else None) (batches_named l name))
     go true rest = ap (λ texts. batch_text rows ∷ texts) rest
     go false rest = rest
 
@@ -67,12 +72,14 @@ named_more l (Began agent plan) legal may once =
 named_more l (Did j item) legal may once =
     λ name. subst (λ bs. length bs ≤ 1) (sym (batches_named-did l j item name)) (once name)
 named_more l (Loaded other rows) legal may once =
-    λ name. subst (λ bs. length bs ≤ 1) (sym (batches_named-loaded l other rows name)) (go name (bytes_eq name other) refl)
+    λ name. subst (λ bs. length bs ≤ 1) (sym (batches_named-loaded l other rows name))
+    (go name (bytes_eq name other) refl)
   where
     unused : length (batches_named l other) ≡ 0
     unused =
         eqb-true (length (batches_named l other)) 0
-        (and_parts (is_batch other rows && list_all (is_not_below_held l) rows) (length (batches_named l other) == 0) may).1
+        (and_parts (is_batch other rows && list_all (is_not_below_held l) rows)
+        (length (batches_named l other) == 0) may).1
 
     go : (name : List ℕ) (v : Bool) → bytes_eq name other ≡ v
         → length (batches_named l name ++ (if v then rows ∷ [] else [])) ≤ 1
@@ -108,10 +115,12 @@ good_more l (Loaded other new) legal may good =
     new_good : list_all is_good_row new ≡ true
     new_good =
         let unused =
-        (and_parts (is_batch other new && list_all (is_not_below_held l) new) (length (batches_named l other) == 0) may).0 in
+        (and_parts (is_batch other new && list_all (is_not_below_held l) new)
+        (length (batches_named l other) == 0) may).0 in
         let batch = (and_parts (is_batch other new) (list_all (is_not_below_held l) new) unused).0 in
         let limits =
-        (and_parts (is_batch_name other && is_between 1 2000 (length new) && list_all is_good_row new) (are_distinct new) batch).0 in
+        (and_parts (is_batch_name other && is_between 1 2000 (length new) && list_all is_good_row new)
+        (are_distinct new) batch).0 in
         (and_parts (is_batch_name other && is_between 1 2000 (length new)) (list_all is_good_row new) limits).1
 
     last : (rows : List Row) → Has (new ∷ []) rows → list_all is_good_row rows ≡ true
@@ -162,7 +171,8 @@ pub batch_found : (l : List Event) (rows : List BatchRow) (name : List ℕ) (fou
 batch_found l rows name None legal same one =
     let called = filter (is_named name) (batches_called l) in
     let as_many =
-    length_permutation called (filter (is_named name) rows) (IsPermutation-filter (is_named name) (batches_called l) rows same) in
+    length_permutation called (filter (is_named name) rows)
+    (IsPermutation-filter (is_named name) (batches_called l) rows same) in
     let none : length (filter (is_named name) rows) ≡ 0 = ap length one in
     let texts = ap length (named_from name 1 l) in
     let left = length-map called (λ (b : BatchRow). b.content) in

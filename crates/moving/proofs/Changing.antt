@@ -45,7 +45,8 @@ module _ (passes : StockRow → Bool) (change : StockRow → StockRow)
       ∙ go (is_stock_of x r)
     where
       go : (v : Bool)
-          → cond v (Some (row_now r)) (option_map row_now (find (is_stock_of x) rows)) ≡ option_map row_now (cond v (Some r) (find (is_stock_of x) rows))
+          → cond v (Some (row_now r)) (option_map row_now (find (is_stock_of x) rows))
+          ≡ option_map row_now (cond v (Some r) (find (is_stock_of x) rows))
       go true = refl
       go false = refl
 
@@ -54,7 +55,8 @@ module _ (passes : StockRow → Bool) (change : StockRow → StockRow)
       → AreApart is_same_stock (changed passes change rows)
   once-changed rows once =
       ascending-map (λ r s. is_same_stock r s ≡ false) row_now rows
-      (ascending_where (λ r s. is_same_stock r s ≡ false) (λ r s. is_same_stock (row_now r) (row_now s) ≡ false) rows (λ r s h k off. row_now-same r s ∙ off) once)
+      (ascending_where (λ r s. is_same_stock r s ≡ false) (λ r s. is_same_stock (row_now r) (row_now s)
+      ≡ false) rows (λ r s h k off. row_now-same r s ∙ off) once)
 
   -- and each is of some cell
   pub known-changed : (rows : List StockRow) → AllByRecursion IsOfCell rows

@@ -45,10 +45,12 @@ pub load_keeps : (s : State) (ask : Option Asked) (name : List ℕ) (rows : List
     → IsDesk (state_with s ask (loaded name rows) (Some (Loaded name rows)))
 load_keeps s ask name rows desk may =
     let new =
-    (and_parts (is_batch name rows && list_all (is_not_below_held s.ledger) rows) (length (batches_named s.ledger name) == 0) may).0 in
+    (and_parts (is_batch name rows && list_all (is_not_below_held s.ledger) rows)
+    (length (batches_named s.ledger name) == 0) may).0 in
     let batch = (and_parts (is_batch name rows) (list_all (is_not_below_held s.ledger) rows) new).0 in
     let limits =
-    (and_parts (is_batch_name name && is_between 1 2000 (length rows) && list_all is_good_row rows) (are_distinct rows) batch).0 in
+    (and_parts (is_batch_name name && is_between 1 2000 (length rows) && list_all is_good_row rows)
+    (are_distinct rows) batch).0 in
     event_keeps s ask (loaded name rows) (Loaded name rows) desk may
     (and_parts (is_batch_name name && is_between 1 2000 (length rows)) (list_all is_good_row rows) limits).0
 

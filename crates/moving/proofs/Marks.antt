@@ -39,7 +39,8 @@ module _ (l : List Event) (j : ℕ) (item : Item) (rows : List MarkRow) (stand :
       last false false = refl
 
       go : (k q : ℕ) (v : Bool) → (k == j) ≡ v
-          → (list_any (is_mark_at k q) rows || (((j == k) && (p == q)) || false)) ≡ is_taken (history (l ++ Did j item ∷ []) k) q
+          → (list_any (is_mark_at k q) rows || (((j == k) && (p == q)) || false))
+          ≡ is_taken (history (l ++ Did j item ∷ []) k) q
       go k q true e =
           let is = eqb-true k j e in
           ap₂ (λ a b. a || ((b && (p == q)) || false)) (stand.each k q) (turned j k ∙ e)

@@ -66,7 +66,8 @@ module _ (s : StockRow) (cells : List StockRow) where
       → stock_at (changed (is_row_of s) (with_places s) cells) x ≡ places_now (is_stock_of x s) (stock_at cells x)
   stock_at-changed x some =
       ap (option_map places_told)
-      (find-changed (is_row_of s) (with_places s) (λ q r. refl) (λ q r. refl) x cells) ∙ go (find (is_stock_of x) cells) refl
+      (find-changed (is_row_of s) (with_places s) (λ q r. refl) (λ q r. refl) x cells)
+      ∙ go (find (is_stock_of x) cells) refl
     where
       told : (v : Bool) (r : StockRow)
           → Some (places_told (if v then with_places s r else r)) ≡ places_now v (Some (places_told r))
@@ -86,7 +87,8 @@ module _ (s : StockRow) (cells : List StockRow) where
           sym of ∙ all_has (λ r. is_stock_of x r ≡ false) cells there.0 (find-none (is_stock_of x) cells e) there.1 in
           cc)))
       go (Some r) e =
-          ap (λ v. Some (places_told (if v then with_places s r else r))) (of_new x r (has_found (is_stock_of x) cells r e).1)
+          ap (λ v. Some (places_told (if v then with_places s r else r))) (of_new x r
+          (has_found (is_stock_of x) cells r e).1)
           ∙ told (is_stock_of x s) r
 
   -- in a new row, where it had none
@@ -112,7 +114,8 @@ module _ (s : StockRow) (cells : List StockRow) where
   stock_at-put x = go (list_any (is_row_of s) cells) refl
     where
       go : (v : Bool) → list_any (is_row_of s) cells ≡ v
-          → stock_at (if v then changed (is_row_of s) (with_places s) cells else cells ++ s ∷ []) x ≡ places_now (is_stock_of x s) (stock_at cells x)
+          → stock_at (if v then changed (is_row_of s) (with_places s) cells else cells ++ s ∷ []) x
+          ≡ places_now (is_stock_of x s) (stock_at cells x)
       go true e = stock_at-changed x e
       go false e = stock_at-added x e
 
@@ -176,7 +179,8 @@ module _ (holds : Cell → ℕ) where
 
   -- each cell of a batch that names it once has the places of its row, and each other what it had
   pub stock_at-rows : (rows : List Row) (cells : List StockRow) (x : Cell) → are_distinct rows ≡ true
-      → stock_at (put_rows holds rows cells) x ≡ places_given (find (λ (r : Row). is_cell x r.cell) rows) (stock_at cells x)
+      → stock_at (put_rows holds rows cells) x
+      ≡ places_given (find (λ (r : Row). is_cell x r.cell) rows) (stock_at cells x)
   stock_at-rows [] cells x distinct = refl
   stock_at-rows (r ∷ rows) cells x distinct =
       stock_at-rows rows (put (loaded_row (holds r.cell) r) cells) x later.1
@@ -189,7 +193,8 @@ module _ (holds : Cell → ℕ) where
 
       go : (v : Bool) → is_cell x r.cell ≡ v → (o : Option Row)
           → find (λ (q : Row). is_cell x q.cell) rows ≡ o
-          → places_given o (if v then Some (record { allot = r.places; free = r.places - holds r.cell }) else stock_at cells x) ≡ places_given (cond v (Some r) o) (stock_at cells x)
+          → places_given o (if v then Some (record { allot = r.places; free = r.places - holds r.cell })
+          else stock_at cells x) ≡ places_given (cond v (Some r) o) (stock_at cells x)
       go false e o f = refl
       go true e None f = refl
       go true e (Some q) f =

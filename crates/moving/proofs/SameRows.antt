@@ -37,7 +37,8 @@ cut_line (x ∷ a) (y ∷ b) xs ys p q e =
     let is : x ≡ y = cc in
     let rest : a ++ line_feed ∷ xs ≡ b ++ line_feed ∷ ys = cc in
     let cut =
-    cut_line a b xs ys (and_parts (ends_no_line x) (list_all ends_no_line a) p).1 (and_parts (ends_no_line y) (list_all ends_no_line b) q).1 rest in
+    cut_line a b xs ys (and_parts (ends_no_line x) (list_all ends_no_line a) p).1
+    (and_parts (ends_no_line y) (list_all ends_no_line b) q).1 rest in
     (ap₂ ◌∷◌ is cut.0, cut.1)
 
 -- the text of a batch begins with the line of its first row

@@ -62,7 +62,8 @@ wanted_row w x r some of = same_test (is_wanted_row w r) (wants_cell w x) forth 
     forth on =
         let there = wanted_cell w r some on in
         some_from (is_cell x) (cells_of w) (cell_at w r.night)
-        (mapped_has (cell_at w) (numbers_from w.first w.nights) r.night (within_numbers w.first w.nights r.night there.1 there.2))
+        (mapped_has (cell_at w) (numbers_from w.first w.nights) r.night
+        (within_numbers w.first w.nights r.night there.1 there.2))
         (one_row x (cell_at w r.night) r of there.0)
 
     back : wants_cell w x ≡ true → is_wanted_row w r ≡ true
@@ -88,10 +89,12 @@ module _ (w : Wanted) (some : 1 ≤ w.nights) (freed : ℕ → ℕ) where
 
   -- what stands at a cell changes where the cell is wanted
   stock_at-now : (rows : List StockRow) (x : Cell)
-      → stock_at (changed (is_wanted_row w) with_freed rows) x ≡ option_map (places_now (wants_cell w x)) (stock_at rows x)
+      → stock_at (changed (is_wanted_row w) with_freed rows) x
+      ≡ option_map (places_now (wants_cell w x)) (stock_at rows x)
   stock_at-now rows x =
       ap (option_map places_told)
-      (find-changed (is_wanted_row w) with_freed (λ r s. refl) (λ r s. refl) x rows) ∙ go (find (is_stock_of x) rows) refl
+      (find-changed (is_wanted_row w) with_freed (λ r s. refl) (λ r s. refl) x rows)
+      ∙ go (find (is_stock_of x) rows) refl
     where
       told : (v : Bool) (r : StockRow)
           → places_told (if v then with_freed r else r) ≡ places_now v (places_told r)
@@ -99,17 +102,20 @@ module _ (w : Wanted) (some : 1 ≤ w.nights) (freed : ℕ → ℕ) where
       told false r = refl
 
       go : (o : Option StockRow) → find (is_stock_of x) rows ≡ o
-          → option_map places_told (option_map row_now o) ≡ option_map (places_now (wants_cell w x)) (option_map places_told o)
+          → option_map places_told (option_map row_now o)
+          ≡ option_map (places_now (wants_cell w x)) (option_map places_told o)
       go None e = refl
       go (Some r) e =
           ap Some
-          (ap (λ v. places_told (if v then with_freed r else r)) (wanted_row w x r some (has_found (is_stock_of x) rows r e).1)
+          (ap (λ v. places_told (if v then with_freed r else r)) (wanted_row w x r some
+          (has_found (is_stock_of x) rows r e).1)
           ∙ told (wants_cell w x) r)
 
   -- where what is held changes so, the changed rows stand
   pub stock-now : (l m : List Event) (rows : List StockRow) → StockStands l rows
       → ((x : Cell) → allotment m x ≡ allotment l x)
-      → ((x : Cell) (n : ℕ) → allotment l x ≡ Some n → (if wants_cell w x then freed (n - held l x) else n - held l x) ≡ n - held m x)
+      → ((x : Cell) (n : ℕ) → allotment l x ≡ Some n
+      → (if wants_cell w x then freed (n - held l x) else n - held l x) ≡ n - held m x)
       → StockStands m (changed (is_wanted_row w) with_freed rows)
   stock-now l m rows stand allots frees = record {
     each =
@@ -128,7 +134,9 @@ module _ (w : Wanted) (some : 1 ≤ w.nights) (freed : ℕ → ℕ) where
       split false n k = refl
 
       places : (x : Cell) (o : Option ℕ) → allotment l x ≡ o
-          → option_map (places_now (wants_cell w x)) (option_map (λ (n : ℕ). record { allot = n; free = n - held l x }) o) ≡ option_map (λ (n : ℕ). record { allot = n; free = n - held m x }) o
+          → option_map (places_now (wants_cell w x))
+          (option_map (λ (n : ℕ). record { allot = n; free = n - held l x }) o)
+          ≡ option_map (λ (n : ℕ). record { allot = n; free = n - held m x }) o
       places x None e = refl
       places x (Some n) e =
           ap Some
