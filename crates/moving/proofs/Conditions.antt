@@ -52,7 +52,8 @@ later n m rows below =
 
 -- the rows of items from an event on have numbers of those events
 entries_from-below : (n : ℕ) (l : List Event)
-    → AllByRecursion (λ (e : EntryRow). e.num < n + length l) (filter_map (λ (e : ℕ × Event). entry_row_if e.0 e.1) (counted_from n l))
+    → AllByRecursion (λ (e : EntryRow). e.num < n + length l)
+    (filter_map (λ (e : ℕ × Event). entry_row_if e.0 e.1) (counted_from n l))
 entries_from-below n [] = tt
 entries_from-below n (Loaded name rows ∷ l) = later n (length l) _ (entries_from-below (suc n) l)
 entries_from-below n (Began agent plan ∷ l) = later n (length l) _ (entries_from-below (suc n) l)
@@ -73,6 +74,7 @@ items_below l t same =
 FewPlaces : List Event → Type 0
 FewPlaces l = (x : Cell) (n : ℕ) → allotment l x ≡ Some n → n ≤ most_places
 
+-- a load keeps it, since its rows do
 few_loaded : (l : List Event) (name : List ℕ) (rows : List Row)
     → IsTrue (is_allowed l (Loaded name rows)) → FewPlaces l → FewPlaces (l ++ Loaded name rows ∷ [])
 unfolding FewPlaces
@@ -83,10 +85,12 @@ few_loaded l name rows may few x n at =
     good : list_all is_good_row rows ≡ true
     good =
         let new =
-        (and_parts (is_batch name rows && list_all (is_not_below_held l) rows) (length (batches_named l name) == 0) may).0 in
+        (and_parts (is_batch name rows && list_all (is_not_below_held l) rows)
+        (length (batches_named l name) == 0) may).0 in
         let batch = (and_parts (is_batch name rows) (list_all (is_not_below_held l) rows) new).0 in
         let limits =
-        (and_parts (is_batch_name name && is_between 1 2000 (length rows) && list_all is_good_row rows) (are_distinct rows) batch).0 in
+        (and_parts (is_batch_name name && is_between 1 2000 (length rows) && list_all is_good_row rows)
+        (are_distinct rows) batch).0 in
         (and_parts (is_batch_name name && is_between 1 2000 (length rows)) (list_all is_good_row rows) limits).1
 
     go : (o : Option Row) → find (λ (r : Row). is_cell x r.cell) rows ≡ o
@@ -100,6 +104,7 @@ few_loaded l name rows may few x n at =
         let same : r.places ≡ n = cc in
         subst (λ k. k ≤ most_places) same low
 
+-- and no other event allots places
 few_more : (l : List Event) (e : Event) → IsLegal l → IsTrue (is_allowed l e) → FewPlaces l
     → FewPlaces (l ++ e ∷ [])
 unfolding FewPlaces
@@ -121,6 +126,7 @@ record Says (l : List Event) (x : Cell) (r : StockRow) : Type 0 where
   allotted : allotment l x ≡ Some r.allot
   free : r.free ≡ r.allot - held l x
 
+-- the places of a cell that its row tells are those that it says
 row_says : (l : List Event) (x : Cell) (r : StockRow) → places_of l x ≡ Some (places_told r) → Says l x r
 row_says l x r e = go (allotment l x) refl e
   where

@@ -31,13 +31,17 @@ pub compensation_stands : (t : Tables) (s : State) (ask : Option Asked) (reply :
     (a : Journey) → StandsFor t s → IsDesk s → journey_at s.ledger j ≡ Some a
     → want_at a.plan i c ≡ Some w → IsTrue (is_allowed s.ledger (Did j (Compensation i c)))
     → kept_for s ask ≡ None
-    → StandsFor (with_answer ask reply (with_compensation (length s.ledger + 1) (length (journeys s.ledger)) j w i c (cursor_after a.plan (cursor_of a.plan (history s.ledger j)) (Compensation i c)) t)) (state_with s ask reply (Some (Did j (Compensation i c))))
+    → StandsFor (with_answer ask reply
+    (with_compensation (length s.ledger + 1) (length (journeys s.ledger)) j w i c
+    (cursor_after a.plan (cursor_of a.plan (history s.ledger j)) (Compensation i c)) t))
+    (state_with s ask reply (Some (Did j (Compensation i c))))
 compensation_stands t s ask reply j i c w a st desk at want may new =
     let l = s.ledger in
     let cursor = cursor_after a.plan (cursor_of a.plan (history l j)) (Compensation i c) in
     let comes = may_come-allowed l j a (Compensation i c) at may in
     item_stands_answered t
-    (moves_journey j (cursor_written cursor) (drops_mark j i (marks_step j i c 0 (gives_want w t)))) s j (Compensation i c) st
+    (moves_journey j (cursor_written cursor) (drops_mark j i (marks_step j i c 0 (gives_want w t)))) s j
+    (Compensation i c) st
     (record {
       meta = refl;
       stock =
@@ -52,7 +56,8 @@ compensation_stands t s ask reply j i c w a st desk at want may new =
           (cursor_next l j a (Compensation i c) desk.legal at may) st.journey;
       step =
           steps-mark l j (Compensation i c) i c false
-          (standing-compensation a.plan (history l j) (fits l (next_want a.plan (history l j))) i c (follows l desk.legal j a at) comes)
+          (standing-compensation a.plan (history l j) (fits l (next_want a.plan (history l j))) i c
+          (follows l desk.legal j a at) comes)
           t.step st.step;
       answer = refl;
       entry2 = refl;

@@ -51,7 +51,9 @@ step_rows-same : (taken after : ℕ → ℕ → Bool) (id : ℕ) (plan : Planned
 step_rows-same taken after id plan same =
     flat_map-same (λ (s : ℕ × StepPlan). option_rows after id s.0 s.1)
     (λ (s : ℕ × StepPlan). option_rows taken id s.0 s.1) (counted_from 1 plan.steps)
-    (λ s. map-same (λ (w : ℕ × Wanted). option_row id s.0 s.1.is_marked w.0 (after s.0 w.0) w.1) (λ (w : ℕ × Wanted). option_row id s.0 s.1.is_marked w.0 (taken s.0 w.0) w.1) (counted_from 1 s.1.options) (λ w. ap (λ v. option_row id s.0 s.1.is_marked w.0 v w.1) (same s.0 w.0)))
+    (λ s. map-same (λ (w : ℕ × Wanted). option_row id s.0 s.1.is_marked w.0 (after s.0 w.0) w.1)
+    (λ (w : ℕ × Wanted). option_row id s.0 s.1.is_marked w.0 (taken s.0 w.0) w.1) (counted_from 1 s.1.options)
+    (λ w. ap (λ v. option_row id s.0 s.1.is_marked w.0 v w.1) (same s.0 w.0)))
 
 -- rows of a plan of which one option of one journey was marked
 module _ (j i c : ℕ) (v : Bool) where
@@ -59,24 +61,35 @@ module _ (j i c : ℕ) (v : Bool) where
   abbrev marked : StepRow → StepRow
   marked r = if is_option j i c r then with_taken (flag v) r else r
 
+  -- the row of an option by the changed test is its old row, marked where it is that option
   one_option : (taken : Bool) (id step : ℕ) (is_marked : Bool) (option : ℕ) (want : Wanted)
-      → option_row id step is_marked option (if (id == j) && ((step == i) && (option == c)) then v else taken) want ≡ marked (option_row id step is_marked option taken want)
+      → option_row id step is_marked option
+      (if (id == j) && ((step == i) && (option == c)) then v else taken) want
+      ≡ marked (option_row id step is_marked option taken want)
   one_option taken id step is_marked option want = go ((id == j) && ((step == i) && (option == c)))
     where
       go : (t : Bool)
-          → option_row id step is_marked option (if t then v else taken) want ≡ (if t then with_taken (flag v) (option_row id step is_marked option taken want) else option_row id step is_marked option taken want)
+          → option_row id step is_marked option (if t then v else taken) want
+          ≡ (if t then with_taken (flag v) (option_row id step is_marked option taken want)
+          else option_row id step is_marked option taken want)
       go true = refl
       go false = refl
 
+  -- so are all rows of a plan
   step_rows-marked : (taken after : ℕ → ℕ → Bool) (id : ℕ) (plan : Planned)
-      → ((step option : ℕ) → after step option ≡ (if (id == j) && ((step == i) && (option == c)) then v else taken step option))
+      → ((step option : ℕ) → after step option
+      ≡ (if (id == j) && ((step == i) && (option == c)) then v else taken step option))
       → step_rows after id plan ≡ map marked (step_rows taken id plan)
   step_rows-marked taken after id plan same =
       flat_map-same (λ (s : ℕ × StepPlan). option_rows after id s.0 s.1)
       (λ (s : ℕ × StepPlan). map marked (option_rows taken id s.0 s.1)) (counted_from 1 plan.steps)
-      (λ s. map-same (λ (w : ℕ × Wanted). option_row id s.0 s.1.is_marked w.0 (after s.0 w.0) w.1) (λ (w : ℕ × Wanted). marked (option_row id s.0 s.1.is_marked w.0 (taken s.0 w.0) w.1)) (counted_from 1 s.1.options)
-      (λ w. ap (λ b. option_row id s.0 s.1.is_marked w.0 b w.1) (same s.0 w.0) ∙ one_option (taken s.0 w.0) id s.0 s.1.is_marked w.0 w.1)
-      ∙ sym (map-map marked (λ (w : ℕ × Wanted). option_row id s.0 s.1.is_marked w.0 (taken s.0 w.0) w.1) (counted_from 1 s.1.options)))
+      (λ s. map-same (λ (w : ℕ × Wanted). option_row id s.0 s.1.is_marked w.0 (after s.0 w.0) w.1)
+      (λ (w : ℕ × Wanted). marked (option_row id s.0 s.1.is_marked w.0 (taken s.0 w.0) w.1))
+      (counted_from 1 s.1.options)
+      (λ w. ap (λ b. option_row id s.0 s.1.is_marked w.0 b w.1) (same s.0 w.0)
+      ∙ one_option (taken s.0 w.0) id s.0 s.1.is_marked w.0 w.1)
+      ∙ sym (map-map marked (λ (w : ℕ × Wanted). option_row id s.0 s.1.is_marked w.0 (taken s.0 w.0) w.1)
+      (counted_from 1 s.1.options)))
       ∙ sym (map-flat_map marked (λ (s : ℕ × StepPlan). option_rows taken id s.0 s.1) (counted_from 1 plan.steps))
 
 module _ (l : List Event) (j : ℕ) (item : Item) where
@@ -102,6 +115,7 @@ module _ (l : List Event) (j : ℕ) (item : Item) where
 
   -- Journeys.
 
+  -- no journey was begun
   begun-did : begun next ≡ begun l
   begun-did = begun-more l (Did j item) ∙ append-nil (begun l)
 
@@ -129,7 +143,8 @@ module _ (l : List Event) (j : ℕ) (item : Item) where
   moved_row a at b h = go (b.0 == j) refl
     where
       go : (v : Bool) → (b.0 == j) ≡ v
-          → row_in next b ≡ (if v then with_cursor (cursor_written (cursor_of a.plan (history l j ++ item ∷ []))) (row_in l b) else row_in l b)
+          → row_in next b ≡ (if v then with_cursor (cursor_written
+          (cursor_of a.plan (history l j ++ item ∷ []))) (row_in l b) else row_in l b)
       go true e =
           let is = the_journey a at b h e in
           ap (λ i. journey_row_of i b.0 b.1)
@@ -141,7 +156,8 @@ module _ (l : List Event) (j : ℕ) (item : Item) where
 
   -- the journey stands at its new cursor, and the others stand where they stood
   pub journeys_called-did : (a : Journey) → journey_at l j ≡ Some a
-      → journeys_called next ≡ changed (is_numbered j) (with_cursor (cursor_written (cursor_of a.plan (history l j ++ item ∷ [])))) (journeys_called l)
+      → journeys_called next ≡ changed (is_numbered j)
+      (with_cursor (cursor_written (cursor_of a.plan (history l j ++ item ∷ [])))) (journeys_called l)
   journeys_called-did a at =
       ap (λ bs. map (row_in next) (counted_from 1 bs)) begun-did
       ∙ map-same_on (row_in next) (λ b. moved a (row_in l b)) (counted_from 1 (begun l)) (moved_row a at)
@@ -162,7 +178,8 @@ module _ (l : List Event) (j : ℕ) (item : Item) where
           go false e = ap (λ i. journey_row_of i b.0 b.1) (history-did_other l j item b.0 e)
           go true e =
               let is = the_journey a at b h e in
-              let cursor : cursor_of b.1.journey.plan (history l j ++ item ∷ []) ≡ cursor_of b.1.journey.plan (history l j) =
+              let cursor : cursor_of b.1.journey.plan (history l j ++ item ∷ [])
+              ≡ cursor_of b.1.journey.plan (history l j) =
               ap (λ (x : Journey). cursor_of x.plan (history l j ++ item ∷ [])) is.1 ∙ same
               ∙ ap (λ (x : Journey). cursor_of x.plan (history l j)) (sym is.1) in
               ap (λ i. journey_row_of i b.0 b.1)
@@ -177,7 +194,8 @@ module _ (l : List Event) (j : ℕ) (item : Item) where
   rows_in m a = step_rows (is_standing (history m a.0)) a.0 a.1.plan
 
   -- an item that leaves what stands leaves the rows of all steps
-  pub steps_called-stays : ((k step option : ℕ) → is_standing (history next k) step option ≡ is_standing (history l k) step option)
+  pub steps_called-stays :
+      ((k step option : ℕ) → is_standing (history next k) step option ≡ is_standing (history l k) step option)
       → steps_called next ≡ steps_called l
   steps_called-stays same =
       ap (λ js. flat_map (rows_in next) (counted_from 1 js)) (journeys-did l j item)
@@ -186,11 +204,13 @@ module _ (l : List Event) (j : ℕ) (item : Item) where
 
   -- an item that takes one option, or gives it up, changes its row alone
   pub steps_called-marked : (i c : ℕ) (v : Bool)
-      → ((k step option : ℕ) → is_standing (history next k) step option ≡ (if (k == j) && ((step == i) && (option == c)) then v else is_standing (history l k) step option))
+      → ((k step option : ℕ) → is_standing (history next k) step option
+      ≡ (if (k == j) && ((step == i) && (option == c)) then v else is_standing (history l k) step option))
       → steps_called next ≡ changed (is_option j i c) (with_taken (flag v)) (steps_called l)
   steps_called-marked i c v same =
       ap (λ js. flat_map (rows_in next) (counted_from 1 js)) (journeys-did l j item)
       ∙ flat_map-same (rows_in next) (λ a. map (marked j i c v) (rows_in l a))
       (counted_from 1 (journeys l))
-      (λ a. step_rows-marked j i c v (is_standing (history l a.0)) (is_standing (history next a.0)) a.0 a.1.plan (same a.0))
+      (λ a. step_rows-marked j i c v (is_standing (history l a.0))
+      (is_standing (history next a.0)) a.0 a.1.plan (same a.0))
       ∙ sym (map-flat_map (marked j i c v) (rows_in l) (counted_from 1 (journeys l)))

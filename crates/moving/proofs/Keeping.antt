@@ -1,5 +1,5 @@
 -- An allowed event that is accepted leaves a desk's state one. What a request comes to, by its answer.
-use Rattle.std.proofs.Common.{◌≡◌, ℕ, ◌<◌, ◌≤◌, List, length, Bool, true, false, if◌then◌else◌, Option, Some, None, IsTrue, refl, sym, ap, ◌∙◌, arith}
+use Rattle.std.proofs.Common.{◌≡◌, ℕ, ◌<◌, ◌≤◌, List, length, Bool, true, false, if◌then◌else◌, Option, Some, None, IsTrue, refl, sym, ap, subst, ◌∙◌, arith}
 use Rattle.std.specs.Prelude.{◌&&◌, ◌==◌, nat_le, is_some}
 use Rattle.std.specs.List.{list_all}
 use Rattle.std.proofs.lemmas.Bool.{and_parts, and_from, le-leb}
@@ -13,8 +13,9 @@ use Rattle.commands.specs.Texts.{is_accepted}
 use Rattle.commands.specs.declared.items.Item.{Item}
 use Rattle.commands.specs.declared.refusals.Refusal.TheVariants.{Limit}
 use Rattle.commands.specs.declared.replies.Reply.{Reply}
-use Rattle.ledger.specs.Answer.{State, Answer, refused, loaded, moved, asker, answer_within, most_events, kept_for, carried_out, outcome_for, outcome, state_with}
+use Rattle.ledger.specs.Answer.{State, Answer, Outcome, answer, is_request, refused, loaded, moved, asker, answer_within, most_events, kept_for, carried_out, outcome_for, outcome, state_with}
 use Rattle.ledger.specs.Ledger.{Event, Loaded, Did, Journey, journey_at, history, is_allowed, is_batch, is_good_row, are_distinct, is_not_below_held, batches_named}
+use Rattle.ledger.proofs.Answers.{IsAllowedEvent, answer-allowed}
 use Rattle.ledger.proofs.Growing.{IsLegal-append, is_item_allowed-may_do}
 use Rattle.standing.specs.Standing.{IsDesk}
 use Rattle.standing.proofs.Accepting.{moved-good}
@@ -44,10 +45,12 @@ pub load_keeps : (s : State) (ask : Option Asked) (name : List ℕ) (rows : List
     → IsDesk (state_with s ask (loaded name rows) (Some (Loaded name rows)))
 load_keeps s ask name rows desk may =
     let new =
-    (and_parts (is_batch name rows && list_all (is_not_below_held s.ledger) rows) (length (batches_named s.ledger name) == 0) may).0 in
+    (and_parts (is_batch name rows && list_all (is_not_below_held s.ledger) rows)
+    (length (batches_named s.ledger name) == 0) may).0 in
     let batch = (and_parts (is_batch name rows) (list_all (is_not_below_held s.ledger) rows) new).0 in
     let limits =
-    (and_parts (is_batch_name name && is_between 1 2000 (length rows) && list_all is_good_row rows) (are_distinct rows) batch).0 in
+    (and_parts (is_batch_name name && is_between 1 2000 (length rows) && list_all is_good_row rows)
+    (are_distinct rows) batch).0 in
     event_keeps s ask (loaded name rows) (Loaded name rows) desk may
     (and_parts (is_batch_name name && is_between 1 2000 (length rows)) (list_all is_good_row rows) limits).0
 
@@ -88,3 +91,26 @@ module _ (s : State) (ask : Option Asked) (asked : Request) (new : kept_for s as
       by_limit true
       (and_from (is_some within.event) (nat_le most_events (length s.ledger)) (ap is_some some)
       (le-leb most_events (length s.ledger) full))
+
+  -- so an event that is due is allowed, and the state that the request comes to is the one with it
+  pub outcome-event : (e : Event) → IsTrue (is_request asked) → length s.ledger < most_events
+      → within.event ≡ Some e
+      → IsTrue (is_allowed s.ledger e) × ((outcome s ask asked).state ≡ state_with s ask within.reply (Some e))
+  outcome-event e good room due = (
+    subst (IsAllowedEvent s.ledger) (ap (λ (a : Answer). a.event) unlimited ∙ due)
+        (answer-allowed s.ledger (asker ask) asked good),
+    ap (λ (o : Outcome). o.state) (outcome-room room)
+        ∙ ap (state_with s ask within.reply) due,
+  )
+    where
+      off : nat_le most_events (length s.ledger) ≡ false
+      off = grind (arith, nat_tests)
+
+      none : (b : Bool) → (b && nat_le most_events (length s.ledger)) ≡ false
+      none true = off
+      none false = refl
+
+      unlimited : answer s.ledger (asker ask) asked ≡ answer_within s.ledger (asker ask) asked
+      unlimited =
+          ap (λ v. if v then refused Limit else answer_within s.ledger (asker ask) asked)
+          (none (is_some (answer_within s.ledger (asker ask) asked).event))

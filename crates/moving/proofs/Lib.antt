@@ -4,6 +4,7 @@ pub mod Moves
 pub mod Turning
 pub mod Saving
 pub mod Alike
+pub mod Changing
 pub mod Wants
 pub mod Plans
 pub mod Options
@@ -17,3 +18,4 @@ pub mod Conditions
 pub mod Fitting
 pub mod Taken
 pub mod Batches
+pub mod SameRows

@@ -41,7 +41,8 @@ module _ (l : List Event) (name : List ℕ) (rows : List Row) where
       ∙ ap (λ js. meta_row_at (length l + 1) (length js)) (journeys-loaded l name rows)
 
   -- the batch comes last
-  batches-loaded : batches_called next ≡ batches_called l ++ record { name = name; num = length l + 1; content = batch_text rows } ∷ []
+  batches-loaded : batches_called next
+      ≡ batches_called l ++ record { name = name; num = length l + 1; content = batch_text rows } ∷ []
   batches-loaded = batches_called-more l (Loaded name rows)
 
   -- no item more
@@ -72,13 +73,16 @@ module _ (l : List Event) (name : List ℕ) (rows : List Row) where
       → places_given (held l) (find (λ (r : Row). is_cell x r.cell) rows) (places_of l x) ≡ places_of next x
   places-loaded may x =
       go (find (λ (r : Row). is_cell x r.cell) rows) refl
-      ∙ ap (λ n. option_map (λ (m : ℕ). record { allot = m; free = m - n }) (newer (places_in_rows rows x) (allotment l x)))
+      ∙ ap (λ n. option_map (λ (m : ℕ). record { allot = m; free = m - n })
+      (newer (places_in_rows rows x) (allotment l x)))
       (sym (held-loaded l name rows x))
       ∙ ap (option_map (λ (m : ℕ). record { allot = m; free = m - held next x }))
       (sym (allotment-loaded l name rows x (loaded_distinct l name rows may)))
     where
       go : (o : Option Row) → find (λ (r : Row). is_cell x r.cell) rows ≡ o
-          → places_given (held l) o (places_of l x) ≡ option_map (λ (m : ℕ). record { allot = m; free = m - held l x }) (newer (option_map (λ (r : Row). r.places) o) (allotment l x))
+          → places_given (held l) o (places_of l x)
+          ≡ option_map (λ (m : ℕ). record { allot = m; free = m - held l x })
+          (newer (option_map (λ (r : Row). r.places) o) (allotment l x))
       go None e = refl
       go (Some r) e =
           ap (λ y. Some (record { allot = r.places; free = r.places - held l y }))
@@ -99,7 +103,8 @@ module _ (l : List Event) (name : List ℕ) (rows : List Row) where
 -- the rows of the cells and of the batch are those that the longer ledger calls for
 batch_stands : (t : Tables) (s : State) (name : List ℕ) (rows : List Row) → StandsFor t s
     → IsTrue (is_allowed s.ledger (Loaded name rows))
-    → StandsFor (with_batch (length s.ledger + 1) (length (journeys s.ledger)) name rows (held s.ledger) t) (record { ledger = s.ledger ++ Loaded name rows ∷ []; kept = s.kept })
+    → StandsFor (with_batch (length s.ledger + 1) (length (journeys s.ledger)) name rows (held s.ledger) t)
+    (record { ledger = s.ledger ++ Loaded name rows ∷ []; kept = s.kept })
 batch_stands t s name rows st may =
     let l = s.ledger in
     record {
@@ -109,9 +114,12 @@ batch_stands t s name rows st may =
       stock = stock-loaded l name rows may t.stock st.stock;
       batch =
           subst
-          (λ called. IsPermutation called (t.batch ++ record { name = name; num = length l + 1; content = batch_text rows } ∷ []))
+          (λ called. IsPermutation called
+          (t.batch ++ record { name = name; num = length l + 1; content = batch_text rows } ∷ []))
           (sym (batches-loaded l name rows))
-          (IsPermutation-append_left (record { name = name; num = length l + 1; content = batch_text rows } ∷ []) (batches_called l) t.batch st.batch);
+          (IsPermutation-append_left
+          (record { name = name; num = length l + 1; content = batch_text rows } ∷ [])
+          (batches_called l) t.batch st.batch);
       journey =
           subst (λ called. IsPermutation called t.journey) (sym (journeys_called-loaded l name rows)) st.journey;
       step = subst (λ called. IsPermutation called t.step) (sym (steps_called-loaded l name rows)) st.step;
@@ -127,7 +135,9 @@ batch_stands t s name rows st may =
 -- where a batch is loaded, its cells have its places, and its row is added
 pub load_stands : (t : Tables) (s : State) (ask : Option Asked) (reply : Reply) (name : List ℕ) (rows : List Row)
     → StandsFor t s → IsTrue (is_allowed s.ledger (Loaded name rows)) → kept_for s ask ≡ None
-    → StandsFor (with_answer ask reply (with_batch (length s.ledger + 1) (length (journeys s.ledger)) name rows (held s.ledger) t)) (state_with s ask reply (Some (Loaded name rows)))
+    → StandsFor (with_answer ask reply
+    (with_batch (length s.ledger + 1) (length (journeys s.ledger)) name rows (held s.ledger) t))
+    (state_with s ask reply (Some (Loaded name rows)))
 load_stands t s ask reply name rows st may new =
     answer_stands (with_batch (length s.ledger + 1) (length (journeys s.ledger)) name rows (held s.ledger) t)
     (record { ledger = s.ledger ++ Loaded name rows ∷ []; kept = s.kept }) ask reply

@@ -18,7 +18,8 @@ use Rattle.desk_sql.specs.Rows.{MarkRow}
 use Rattle.standing.specs.Standing.{is_mark_at, is_same_mark, MarksStand}
 use Rattle.standing.proofs.Finding.{apart-last}
 
-turned : (a b : ℕ) → (a == b) ≡ (b == a)
+-- numbers compared the other way round
+pub turned : (a b : ℕ) → (a == b) ≡ (b == a)
 turned a b = grind (arith, nat_tests)
 
 module _ (l : List Event) (j : ℕ) (item : Item) (rows : List MarkRow) (stand : MarksStand l rows) where
@@ -38,7 +39,8 @@ module _ (l : List Event) (j : ℕ) (item : Item) (rows : List MarkRow) (stand :
       last false false = refl
 
       go : (k q : ℕ) (v : Bool) → (k == j) ≡ v
-          → (list_any (is_mark_at k q) rows || (((j == k) && (p == q)) || false)) ≡ is_taken (history (l ++ Did j item ∷ []) k) q
+          → (list_any (is_mark_at k q) rows || (((j == k) && (p == q)) || false))
+          ≡ is_taken (history (l ++ Did j item ∷ []) k) q
       go k q true e =
           let is = eqb-true k j e in
           ap₂ (λ a b. a || ((b && (p == q)) || false)) (stand.each k q) (turned j k ∙ e)

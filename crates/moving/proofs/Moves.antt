@@ -71,7 +71,8 @@ module _ (t u : Tables) (s : State) (j : ℕ) (item : Item) (st : StandsFor t s)
 
   -- and the reply is kept, where there is an ask
   pub item_stands_answered : (ask : Option Asked) (reply : Reply) → kept_for s ask ≡ None
-      → StandsFor (with_answer ask reply (with_item (length l + 1) (length (journeys l)) j item u)) (state_with s ask reply (Some (Did j item)))
+      → StandsFor (with_answer ask reply (with_item (length l + 1) (length (journeys l)) j item u))
+      (state_with s ask reply (Some (Did j item)))
   item_stands_answered ask reply new =
       answer_stands (with_item (length l + 1) (length (journeys l)) j item u)
       (record { ledger = l ++ Did j item ∷ []; kept = s.kept }) ask reply item_stands new
@@ -117,22 +118,30 @@ module _ (l : List Event) (j : ℕ) (item : Item) where
       → IsPermutation (steps_called (l ++ Did j item ∷ [])) rows
   steps-stay rows same stand =
       subst (λ called. IsPermutation called rows)
-      (sym (steps_called-stays l j item (λ k step option. histories_same (λ h. is_standing h step option) (ap (λ ts. list_any (λ (t : ℕ × ℕ). (t.0 == step) && (t.1 == option)) ts) same) k)))
+      (sym (steps_called-stays l j item
+      (λ k step option. histories_same (λ h. is_standing h step option)
+      (ap (λ ts. list_any (λ (t : ℕ × ℕ). (t.0 == step) && (t.1 == option)) ts) same) k)))
       stand
 
   -- the row of the journey follows it to its new cursor
   pub journeys-move : (rows : List JourneyRow) (a : Journey) (cursor : Cursor)
       → journey_at l j ≡ Some a → cursor_of a.plan (history l j ++ item ∷ []) ≡ cursor
       → IsPermutation (journeys_called l) rows
-      → IsPermutation (journeys_called (l ++ Did j item ∷ [])) (changed (is_numbered j) (with_cursor (cursor_written cursor)) rows)
+      → IsPermutation (journeys_called (l ++ Did j item ∷ []))
+      (changed (is_numbered j) (with_cursor (cursor_written cursor)) rows)
   journeys-move rows a cursor at is stand =
       subst
-      (λ c. IsPermutation (journeys_called (l ++ Did j item ∷ [])) (changed (is_numbered j) (with_cursor (cursor_written c)) rows))
+      (λ c. IsPermutation (journeys_called (l ++ Did j item ∷ []))
+      (changed (is_numbered j) (with_cursor (cursor_written c)) rows))
       is
       (subst
-      (λ called. IsPermutation called (changed (is_numbered j) (with_cursor (cursor_written (cursor_of a.plan (history l j ++ item ∷ [])))) rows))
+      (λ called. IsPermutation called
+      (changed (is_numbered j)
+      (with_cursor (cursor_written (cursor_of a.plan (history l j ++ item ∷ [])))) rows))
       (sym (journeys_called-did l j item a at))
-      (changed-permutation (is_numbered j) (with_cursor (cursor_written (cursor_of a.plan (history l j ++ item ∷ [])))) (journeys_called l) rows stand))
+      (changed-permutation (is_numbered j)
+      (with_cursor (cursor_written (cursor_of a.plan (history l j ++ item ∷ []))))
+      (journeys_called l) rows stand))
 
 -- the cursor that the desk computes is that of the longer history
 pub cursor_next : (l : List Event) (j : ℕ) (a : Journey) (item : Item) → IsLegal l

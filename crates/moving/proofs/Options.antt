@@ -1,10 +1,9 @@
 -- The rows of steps follow the options that are taken: one more by a transaction, one less by a compensation.
-use Rattle.std.proofs.Common.{◌≡◌, ℕ, ◌==◌, List, [], ◌∷◌, ◌++◌, Bool, true, false, if◌then◌else◌, IsTrue, eqb-true, refl, sym, ap, ap₂, subst, ◌∙◌, arith}
+use Rattle.std.proofs.Common.{◌≡◌, ℕ, ◌==◌, List, [], ◌∷◌, ◌++◌, Bool, true, false, if◌then◌else◌, IsTrue, eqb-true, refl, sym, ap, ap₂, subst, ◌∙◌}
 use Rattle.std.specs.Prelude.{◌&&◌, ◌||◌, not}
 use Rattle.std.specs.List.{list_any}
 use Rattle.std.specs.List.Sorted.{IsPermutation}
 use Rattle.std.proofs.lemmas.Bool.{and_parts}
-use Rattle.std.proofs.lemmas.Bool.Decides.{nat_tests}
 use Rattle.std.proofs.lemmas.List.Folds.{list_any-append}
 use Rattle.plan.specs.Planned.{Planned}
 use Rattle.commands.specs.declared.items.Item.{Item}
@@ -21,13 +20,11 @@ use Rattle.desk_sql.specs.Changes.{is_option, with_taken}
 use Rattle.standing.specs.Called.{is_standing, flag, steps_called}
 use Rattle.standing.proofs.ItemRows.{any-filter}
 use Rattle.moving.proofs.Items.{changed-permutation, steps_called-marked}
+use Rattle.moving.proofs.Marks.{turned}
 
 -- a transaction that stands is of this step and option
 abbrev is_of : ℕ → ℕ → ℕ × ℕ → Bool
 is_of step option t = (t.0 == step) && (t.1 == option)
-
-turned : (a b : ℕ) → (a == b) ≡ (b == a)
-turned a b = grind (arith, nat_tests)
 
 -- one more transaction takes its option
 last_taken : (before now : Bool) → (before || (now || false)) ≡ (if now then true else before)
@@ -38,7 +35,8 @@ last_taken false false = refl
 
 -- after a transaction its option is taken, and of others those that were
 pub standing-transaction : (h : List Item) (i c step option : ℕ)
-    → is_standing (h ++ Transaction i c ∷ []) step option ≡ (if (step == i) && (option == c) then true else is_standing h step option)
+    → is_standing (h ++ Transaction i c ∷ []) step option
+    ≡ (if (step == i) && (option == c) then true else is_standing h step option)
 standing-transaction h i c step option =
     ap (list_any (is_of step option)) (net-transaction h i c)
     ∙ list_any-append (is_of step option) (net h) ((i, c) ∷ [])
@@ -59,7 +57,8 @@ none_of_step i option (t ∷ ts) =
 -- after a compensation its option is not taken any more, and of others those that were
 pub standing-compensation : (plan : Planned) (h : List Item) (may_fit : Bool) (i c : ℕ) → Follows plan h
     → IsTrue (may_come plan h may_fit (Compensation i c)) → (step option : ℕ)
-    → is_standing (h ++ Compensation i c ∷ []) step option ≡ (if (step == i) && (option == c) then false else is_standing h step option)
+    → is_standing (h ++ Compensation i c ∷ []) step option
+    ≡ (if (step == i) && (option == c) then false else is_standing h step option)
 standing-compensation plan h may_fit i c f may step option =
     go ((step == i) && (option == c)) refl
   where
@@ -86,14 +85,17 @@ standing-compensation plan h may_fit i c f may step option =
     go false e = sym (was false e)
 
 module _ (l : List Event) (j : ℕ) (item : Item) (i c : ℕ) (v : Bool)
-    (taken : (step option : ℕ) → is_standing (history l j ++ item ∷ []) step option ≡ (if (step == i) && (option == c) then v else is_standing (history l j) step option)) where
+    (taken : (step option : ℕ) → is_standing (history l j ++ item ∷ []) step option
+    ≡ (if (step == i) && (option == c) then v else is_standing (history l j) step option)) where
   -- the option of its own journey, and of no other
   one_journey : (k step option : ℕ)
-      → is_standing (history (l ++ Did j item ∷ []) k) step option ≡ (if (k == j) && ((step == i) && (option == c)) then v else is_standing (history l k) step option)
+      → is_standing (history (l ++ Did j item ∷ []) k) step option
+      ≡ (if (k == j) && ((step == i) && (option == c)) then v else is_standing (history l k) step option)
   one_journey k step option = go (k == j) refl
     where
       go : (b : Bool) → (k == j) ≡ b
-          → is_standing (history (l ++ Did j item ∷ []) k) step option ≡ (if b && ((step == i) && (option == c)) then v else is_standing (history l k) step option)
+          → is_standing (history (l ++ Did j item ∷ []) k) step option
+          ≡ (if b && ((step == i) && (option == c)) then v else is_standing (history l k) step option)
       go true e =
           let is = eqb-true k j e in
           ap (λ h. is_standing h step option) (history-did_same l j item k e)

@@ -27,9 +27,12 @@ pub want_good : (plan : Planned) (i c : ℕ) (w : Wanted) → IsTrue (is_plan pl
     → want_at plan i c ≡ Some w → is_want w ≡ true
 want_good plan i c w good want =
     let three =
-    (and_parts (is_between 1 24 (length plan.steps) && list_all is_step plan.steps && is_last_unmarked plan.steps) (nat_le plan.tries 9) good).0 in
+    (and_parts
+    (is_between 1 24 (length plan.steps) && list_all is_step plan.steps && is_last_unmarked plan.steps)
+    (nat_le plan.tries 9) good).0 in
     let two =
-    (and_parts (is_between 1 24 (length plan.steps) && list_all is_step plan.steps) (is_last_unmarked plan.steps) three).0 in
+    (and_parts (is_between 1 24 (length plan.steps) && list_all is_step plan.steps)
+    (is_last_unmarked plan.steps) three).0 in
     let steps = (and_parts (is_between 1 24 (length plan.steps)) (list_all is_step plan.steps) two).1 in
     go (numbered plan.steps i) (λ s e. numbered-passes is_step plan.steps i s e steps) want
   where
@@ -44,9 +47,12 @@ want_good plan i c w good want =
 pub want-nights : (w : Wanted) → is_want w ≡ true → 1 ≤ w.nights
 want-nights w good =
     let four =
-    (and_parts (is_code w.supplier && is_code w.product && is_night w.first && are_nights w.kind w.first w.nights) (is_count w.count) good).0 in
+    (and_parts
+    (is_code w.supplier && is_code w.product && is_night w.first && are_nights w.kind w.first w.nights)
+    (is_count w.count) good).0 in
     let nights =
-    (and_parts (is_code w.supplier && is_code w.product && is_night w.first) (are_nights w.kind w.first w.nights) four).1 in
+    (and_parts (is_code w.supplier && is_code w.product && is_night w.first)
+    (are_nights w.kind w.first w.nights) four).1 in
     let between =
     (and_parts (is_between 1 (most_nights w.kind) w.nights) (is_night (w.first + w.nights - 1)) nights).0 in
     leb-true 1 w.nights

@@ -1,9 +1,9 @@
 -- The rows of stock, once cells got other places, each in its own row or in a new one.
-use Rattle.std.proofs.Common.{◌≡◌, ℕ, ◌-◌, ◌==◌, List, [], ◌∷◌, ◌++◌, map, find, cond, Bool, true, false, if◌then◌else◌, Option, Some, None, refl, sym, ap, ap₂, ◌∙◌}
+use Rattle.std.proofs.Common.{◌≡◌, ℕ, ◌-◌, ◌==◌, List, [], ◌∷◌, ◌++◌, find, cond, Bool, true, false, if◌then◌else◌, Option, Some, None, refl, sym, ap, ◌∙◌}
 use Rattle.std.specs.Prelude.{option_map, bytes_eq, ◌&&◌, not}
 use Rattle.std.specs.List.{AllByRecursion, list_any}
 use Rattle.std.proofs.lemmas.Bool.{and_parts, false_from_ne_true}
-use Rattle.sqlite_trees.proofs.ListLemmas.{ascending-map, all-map, all-append, all_weaker}
+use Rattle.sqlite_trees.proofs.ListLemmas.{all-append}
 use Rattle.sqlite_rules.specs.Lists.{Has}
 use Rattle.sqlite_rules.proofs.ListLemmas.{all_has, all_from, some_has, some_from, has_found}
 use Rattle.allotment.specs.Cells.{is_cell}
@@ -20,6 +20,7 @@ use Rattle.standing.proofs.Finding.{find-back, find-last_fails, find-none, apart
 use Rattle.standing.proofs.Orders.{ascending_where}
 use Rattle.standing.proofs.StockRows.{same_back}
 use Rattle.moving.specs.Loading.{loaded_row, put_rows}
+use Rattle.moving.proofs.Changing.{find-changed, once-changed, known-changed}
 use Rattle.moving.proofs.Alike.{same-turned, same-same, same-self, row_of_cell}
 
 -- the statement's test of one cell is the same test
@@ -45,34 +46,6 @@ module _ (s : StockRow) (cells : List StockRow) where
   abbrev row_now : StockRow → StockRow
   row_now r = if is_row_of s r then with_places s r else r
 
-  row_now-cell : (x : Cell) (r : StockRow) → is_stock_of x (row_now r) ≡ is_stock_of x r
-  row_now-cell x r = go (is_row_of s r)
-    where
-      go : (v : Bool) → is_stock_of x (if v then with_places s r else r) ≡ is_stock_of x r
-      go true = refl
-      go false = refl
-
-  row_now-same : (q r : StockRow) → is_same_stock (row_now q) (row_now r) ≡ is_same_stock q r
-  row_now-same q r = go (is_row_of s q) (is_row_of s r)
-    where
-      go : (u v : Bool)
-          → is_same_stock (if u then with_places s q else q) (if v then with_places s r else r) ≡ is_same_stock q r
-      go true true = refl
-      go true false = refl
-      go false true = refl
-      go false false = refl
-
-  find-now : (x : Cell) (rows : List StockRow)
-      → find (is_stock_of x) (map row_now rows) ≡ option_map row_now (find (is_stock_of x) rows)
-  find-now x [] = refl
-  find-now x (r ∷ rows) =
-      ap₂ (λ v o. cond v (Some (row_now r)) o) (row_now-cell x r) (find-now x rows) ∙ go (is_stock_of x r)
-    where
-      go : (v : Bool)
-          → cond v (Some (row_now r)) (option_map row_now (find (is_stock_of x) rows)) ≡ option_map row_now (cond v (Some r) (find (is_stock_of x) rows))
-      go true = refl
-      go false = refl
-
   -- a row of the cell x is of the new row's cell just where the new row is of x
   of_new : (x : Cell) (r : StockRow) → is_stock_of x r ≡ true → is_row_of s r ≡ is_stock_of x s
   of_new x r of = go (is_stock_of x s) refl
@@ -90,9 +63,11 @@ module _ (s : StockRow) (cells : List StockRow) where
 
   -- in its own row
   stock_at-changed : (x : Cell) → list_any (is_row_of s) cells ≡ true
-      → stock_at (map row_now cells) x ≡ places_now (is_stock_of x s) (stock_at cells x)
+      → stock_at (changed (is_row_of s) (with_places s) cells) x ≡ places_now (is_stock_of x s) (stock_at cells x)
   stock_at-changed x some =
-      ap (option_map places_told) (find-now x cells) ∙ go (find (is_stock_of x) cells) refl
+      ap (option_map places_told)
+      (find-changed (is_row_of s) (with_places s) (λ q r. refl) (λ q r. refl) x cells)
+      ∙ go (find (is_stock_of x) cells) refl
     where
       told : (v : Bool) (r : StockRow)
           → Some (places_told (if v then with_places s r else r)) ≡ places_now v (Some (places_told r))
@@ -112,7 +87,8 @@ module _ (s : StockRow) (cells : List StockRow) where
           sym of ∙ all_has (λ r. is_stock_of x r ≡ false) cells there.0 (find-none (is_stock_of x) cells e) there.1 in
           cc)))
       go (Some r) e =
-          ap (λ v. Some (places_told (if v then with_places s r else r))) (of_new x r (has_found (is_stock_of x) cells r e).1)
+          ap (λ v. Some (places_told (if v then with_places s r else r))) (of_new x r
+          (has_found (is_stock_of x) cells r e).1)
           ∙ told (is_stock_of x s) r
 
   -- in a new row, where it had none
@@ -138,7 +114,8 @@ module _ (s : StockRow) (cells : List StockRow) where
   stock_at-put x = go (list_any (is_row_of s) cells) refl
     where
       go : (v : Bool) → list_any (is_row_of s) cells ≡ v
-          → stock_at (if v then changed (is_row_of s) (with_places s) cells else cells ++ s ∷ []) x ≡ places_now (is_stock_of x s) (stock_at cells x)
+          → stock_at (if v then changed (is_row_of s) (with_places s) cells else cells ++ s ∷ []) x
+          ≡ places_now (is_stock_of x s) (stock_at cells x)
       go true e = stock_at-changed x e
       go false e = stock_at-added x e
 
@@ -156,10 +133,7 @@ module _ (s : StockRow) (cells : List StockRow) where
 
       go : (v : Bool) → list_any (is_row_of s) cells ≡ v
           → AreApart is_same_stock (if v then changed (is_row_of s) (with_places s) cells else cells ++ s ∷ [])
-      go true e =
-          ascending-map (λ q r. is_same_stock q r ≡ false) row_now cells
-          (ascending_where (λ q r. is_same_stock q r ≡ false) (λ q r. is_same_stock (row_now q) (row_now r) ≡ false) cells
-          (λ q r h k off. row_now-same q r ∙ off) once)
+      go true e = once-changed (is_row_of s) (with_places s) (λ q r. refl) (λ q r. refl) cells once
       go false e = apart-last is_same_stock cells s once (all_from _ cells (λ r h. other r h e))
 
   -- and each is of some cell
@@ -168,9 +142,7 @@ module _ (s : StockRow) (cells : List StockRow) where
     where
       go : (v : Bool)
           → AllByRecursion IsOfCell (if v then changed (is_row_of s) (with_places s) cells else cells ++ s ∷ [])
-      go true =
-          all-map IsOfCell row_now cells
-          (all_weaker IsOfCell (λ r. IsOfCell (row_now r)) (λ r of. (of.0, row_now-cell of.0 r ∙ of.1)) cells known)
+      go true = known-changed (is_row_of s) (with_places s) (λ q r. refl) (λ q r. refl) cells known
       go false = all-append IsOfCell cells (s ∷ []) known (new, tt)
 
 -- All cells of a batch.
@@ -207,7 +179,8 @@ module _ (holds : Cell → ℕ) where
 
   -- each cell of a batch that names it once has the places of its row, and each other what it had
   pub stock_at-rows : (rows : List Row) (cells : List StockRow) (x : Cell) → are_distinct rows ≡ true
-      → stock_at (put_rows holds rows cells) x ≡ places_given (find (λ (r : Row). is_cell x r.cell) rows) (stock_at cells x)
+      → stock_at (put_rows holds rows cells) x
+      ≡ places_given (find (λ (r : Row). is_cell x r.cell) rows) (stock_at cells x)
   stock_at-rows [] cells x distinct = refl
   stock_at-rows (r ∷ rows) cells x distinct =
       stock_at-rows rows (put (loaded_row (holds r.cell) r) cells) x later.1
@@ -220,7 +193,8 @@ module _ (holds : Cell → ℕ) where
 
       go : (v : Bool) → is_cell x r.cell ≡ v → (o : Option Row)
           → find (λ (q : Row). is_cell x q.cell) rows ≡ o
-          → places_given o (if v then Some (record { allot = r.places; free = r.places - holds r.cell }) else stock_at cells x) ≡ places_given (cond v (Some r) o) (stock_at cells x)
+          → places_given o (if v then Some (record { allot = r.places; free = r.places - holds r.cell })
+          else stock_at cells x) ≡ places_given (cond v (Some r) o) (stock_at cells x)
       go false e o f = refl
       go true e None f = refl
       go true e (Some q) f =

@@ -40,7 +40,8 @@ save-new plan h may_fit p may =
 pub save_stands : (t : Tables) (s : State) (ask : Option Asked) (reply : Reply) (j p : ℕ) (a : Journey)
     → StandsFor t s → IsDesk s → journey_at s.ledger j ≡ Some a
     → IsTrue (is_allowed s.ledger (Did j (Save p))) → kept_for s ask ≡ None
-    → StandsFor (with_answer ask reply (with_save (length s.ledger + 1) (length (journeys s.ledger)) j p t)) (state_with s ask reply (Some (Did j (Save p))))
+    → StandsFor (with_answer ask reply (with_save (length s.ledger + 1) (length (journeys s.ledger)) j p t))
+    (state_with s ask reply (Some (Did j (Save p))))
 save_stands t s ask reply j p a st desk at may new =
     let l = s.ledger in
     let comes = may_come-allowed l j a (Save p) at may in

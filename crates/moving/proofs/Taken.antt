@@ -47,7 +47,8 @@ module _ (taken : ℕ → ℕ → Bool) (id : ℕ) (plan : Planned) where
       let step =
       flat_map_has (λ (s : ℕ × StepPlan). option_rows taken id s.0 s.1) (counted_from 1 plan.steps) r h in
       let option =
-      has_mapped (λ (w : ℕ × Wanted). option_row id step.0.0 step.0.1.is_marked w.0 (taken step.0.0 w.0) w.1) (counted_from 1 step.0.1.options) r step.2 in
+      has_mapped (λ (w : ℕ × Wanted). option_row id step.0.0 step.0.1.is_marked w.0 (taken step.0.0 w.0) w.1)
+      (counted_from 1 step.0.1.options) r step.2 in
       let at = counted_stands 1 plan.steps step.0 step.1 in
       let among = counted_stands 1 step.0.1.options option.0 option.1 in
       let place : step.0.0 ≡ suc at.place = at.number ∙ (let e : 1 + at.place ≡ suc at.place = omega arith in e) in
@@ -80,7 +81,8 @@ module _ (taken : ℕ → ℕ → Bool) (id : ℕ) (plan : Planned) where
       in_step s zero f g = cc
       in_step s (suc k) f g =
           let number : 1 + k ≡ suc k = omega arith in
-          mapped_has (λ (v : ℕ × Wanted). option_row id (suc i) s.is_marked v.0 (taken (suc i) v.0) v.1) (counted_from 1 s.options) (suc k, w)
+          mapped_has (λ (v : ℕ × Wanted). option_row id (suc i) s.is_marked v.0 (taken (suc i) v.0) v.1)
+          (counted_from 1 s.options) (suc k, w)
           (subst (λ n. Has (counted_from 1 s.options) (n, w)) number (counted_has 1 s.options k w g))
 
       go : (o : Option StepPlan) → slice_get plan.steps i ≡ o
@@ -92,7 +94,8 @@ module _ (taken : ℕ → ℕ → Bool) (id : ℕ) (plan : Planned) where
           subst
           (λ m. Has (step_rows taken id plan) (option_row id (suc i) m c (taken (suc i) c) w))
           (sym (ap (λ o. unwrap_or (option_map (λ (x : StepPlan). x.is_marked) o) false) f))
-          (has_flat_map (λ (x : ℕ × StepPlan). option_rows taken id x.0 x.1) (counted_from 1 plan.steps) (suc i, s) (option_row id (suc i) s.is_marked c (taken (suc i) c) w)
+          (has_flat_map (λ (x : ℕ × StepPlan). option_rows taken id x.0 x.1) (counted_from 1 plan.steps)
+          (suc i, s) (option_row id (suc i) s.is_marked c (taken (suc i) c) w)
           (subst (λ n. Has (counted_from 1 plan.steps) (n, s)) number (counted_has 1 plan.steps i s f))
           (in_step s c f g))
 

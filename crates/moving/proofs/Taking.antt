@@ -28,7 +28,10 @@ pub transaction_stands : (t : Tables) (s : State) (ask : Option Asked) (reply : 
     (a : Journey) → StandsFor t s → IsDesk s → journey_at s.ledger j ≡ Some a
     → want_at a.plan i c ≡ Some w → IsTrue (is_allowed s.ledger (Did j (Transaction i c)))
     → kept_for s ask ≡ None
-    → StandsFor (with_answer ask reply (with_transaction (length s.ledger + 1) (length (journeys s.ledger)) j w i c (cursor_after a.plan (cursor_of a.plan (history s.ledger j)) (Transaction i c)) t)) (state_with s ask reply (Some (Did j (Transaction i c))))
+    → StandsFor (with_answer ask reply
+    (with_transaction (length s.ledger + 1) (length (journeys s.ledger)) j w i c
+    (cursor_after a.plan (cursor_of a.plan (history s.ledger j)) (Transaction i c)) t))
+    (state_with s ask reply (Some (Did j (Transaction i c))))
 transaction_stands t s ask reply j i c w a st desk at want may new =
     let l = s.ledger in
     let cursor = cursor_after a.plan (cursor_of a.plan (history l j)) (Transaction i c) in

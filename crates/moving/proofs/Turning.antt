@@ -23,7 +23,10 @@ use Rattle.moving.proofs.Moves.{item_stands_answered, stock-stays, marks-stay, s
 pub turn_stands : (t : Tables) (s : State) (ask : Option Asked) (reply : Reply) (j p : ℕ) (cause : Cause)
     (a : Journey) → StandsFor t s → IsDesk s → journey_at s.ledger j ≡ Some a
     → IsTrue (is_allowed s.ledger (Did j (Turn p cause))) → kept_for s ask ≡ None
-    → StandsFor (with_answer ask reply (with_turn (length s.ledger + 1) (length (journeys s.ledger)) j p cause (cursor_after a.plan (cursor_of a.plan (history s.ledger j)) (Turn p cause)) t)) (state_with s ask reply (Some (Did j (Turn p cause))))
+    → StandsFor (with_answer ask reply
+    (with_turn (length s.ledger + 1) (length (journeys s.ledger)) j p cause
+    (cursor_after a.plan (cursor_of a.plan (history s.ledger j)) (Turn p cause)) t))
+    (state_with s ask reply (Some (Did j (Turn p cause))))
 turn_stands t s ask reply j p cause a st desk at may new =
     let l = s.ledger in
     let cursor = cursor_after a.plan (cursor_of a.plan (history l j)) (Turn p cause) in

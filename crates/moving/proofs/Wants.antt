@@ -1,8 +1,7 @@
 -- The rows of stock, once the nights of a want have fewer free places, or more.
-use Rattle.std.proofs.Common.{◌≡◌, ℕ, zero, suc, ◌+◌, ◌-◌, ◌<◌, ◌≤◌, ◌==◌, List, [], ◌∷◌, map, find, cond, Bool, true, false, if◌then◌else◌, Option, Some, None, inl, inr, refl, sym, ap, ap₂, ◌∙◌, arith, eqb-true}
+use Rattle.std.proofs.Common.{◌≡◌, ℕ, zero, suc, ◌+◌, ◌-◌, ◌<◌, ◌≤◌, ◌==◌, List, find, Bool, true, false, if◌then◌else◌, Option, Some, None, inl, inr, refl, sym, ap, ◌∙◌, arith, eqb-true}
 use Rattle.std.specs.Prelude.{option_map}
 use Rattle.std.proofs.lemmas.Bool.{eqb-false}
-use Rattle.sqlite_trees.proofs.ListLemmas.{ascending-map, all-map, all_weaker}
 use Rattle.sqlite_rules.specs.Lists.{Has}
 use Rattle.sqlite_rules.proofs.ListLemmas.{some_has, some_from, has_found}
 use Rattle.sqlite_rules.proofs.ProbeLemmas.{has_mapped, mapped_has}
@@ -15,10 +14,10 @@ use Rattle.saga_core.specs.Shown.{Places}
 use Rattle.desk_sql.specs.Lists.{changed}
 use Rattle.desk_sql.specs.Rows.{StockRow}
 use Rattle.desk_sql.specs.Stock.{with_fewer, with_more}
-use Rattle.standing.specs.Standing.{is_stock_of, is_same_stock, IsOfCell, places_told, stock_at, StockStands}
+use Rattle.standing.specs.Standing.{is_stock_of, places_told, stock_at, StockStands}
 use Rattle.standing.specs.Reading.{is_wanted_row}
-use Rattle.standing.proofs.Orders.{ascending_where}
 use Rattle.standing.proofs.StockRows.{wanted_cell, cell_wanted}
+use Rattle.moving.proofs.Changing.{find-changed, once-changed, known-changed}
 use Rattle.moving.proofs.Alike.{same-turned, same-same, row_of_cell}
 
 -- two tests that hold together are one
@@ -37,6 +36,7 @@ numbers_within first (suc k) n (inr h) =
     let high = rest.1 in
     (omega arith, omega arith)
 
+-- and each number from the first to the last is one of them
 pub within_numbers : (first count n : ℕ) → first ≤ n → n < first + count → Has (numbers_from first count) n
 within_numbers first zero n low high = absurd (omega arith)
 within_numbers first (suc k) n low high =
@@ -62,7 +62,8 @@ wanted_row w x r some of = same_test (is_wanted_row w r) (wants_cell w x) forth 
     forth on =
         let there = wanted_cell w r some on in
         some_from (is_cell x) (cells_of w) (cell_at w r.night)
-        (mapped_has (cell_at w) (numbers_from w.first w.nights) r.night (within_numbers w.first w.nights r.night there.1 there.2))
+        (mapped_has (cell_at w) (numbers_from w.first w.nights) r.night
+        (within_numbers w.first w.nights r.night there.1 there.2))
         (one_row x (cell_at w r.night) r of there.0)
 
     back : wants_cell w x ≡ true → is_wanted_row w r ≡ true
@@ -86,40 +87,14 @@ module _ (w : Wanted) (some : 1 ≤ w.nights) (freed : ℕ → ℕ) where
   abbrev places_now : Bool → Places → Places
   places_now wanted p = if wanted then record p { free = freed p.free } else p
 
-  row_now-cell : (x : Cell) (r : StockRow) → is_stock_of x (row_now r) ≡ is_stock_of x r
-  row_now-cell x r = go (is_wanted_row w r)
-    where
-      go : (v : Bool) → is_stock_of x (if v then with_freed r else r) ≡ is_stock_of x r
-      go true = refl
-      go false = refl
-
-  row_now-same : (r s : StockRow) → is_same_stock (row_now r) (row_now s) ≡ is_same_stock r s
-  row_now-same r s = go (is_wanted_row w r) (is_wanted_row w s)
-    where
-      go : (u v : Bool)
-          → is_same_stock (if u then with_freed r else r) (if v then with_freed s else s) ≡ is_same_stock r s
-      go true true = refl
-      go true false = refl
-      go false true = refl
-      go false false = refl
-
-  find-now : (x : Cell) (rows : List StockRow)
-      → find (is_stock_of x) (map row_now rows) ≡ option_map row_now (find (is_stock_of x) rows)
-  find-now x [] = refl
-  find-now x (r ∷ rows) =
-      ap₂ (λ v o. cond v (Some (row_now r)) o) (row_now-cell x r) (find-now x rows)
-      ∙ go (is_stock_of x r)
-    where
-      go : (v : Bool)
-          → cond v (Some (row_now r)) (option_map row_now (find (is_stock_of x) rows)) ≡ option_map row_now (cond v (Some r) (find (is_stock_of x) rows))
-      go true = refl
-      go false = refl
-
   -- what stands at a cell changes where the cell is wanted
   stock_at-now : (rows : List StockRow) (x : Cell)
-      → stock_at (map row_now rows) x ≡ option_map (places_now (wants_cell w x)) (stock_at rows x)
+      → stock_at (changed (is_wanted_row w) with_freed rows) x
+      ≡ option_map (places_now (wants_cell w x)) (stock_at rows x)
   stock_at-now rows x =
-      ap (option_map places_told) (find-now x rows) ∙ go (find (is_stock_of x) rows) refl
+      ap (option_map places_told)
+      (find-changed (is_wanted_row w) with_freed (λ r s. refl) (λ r s. refl) x rows)
+      ∙ go (find (is_stock_of x) rows) refl
     where
       told : (v : Bool) (r : StockRow)
           → places_told (if v then with_freed r else r) ≡ places_now v (places_told r)
@@ -127,17 +102,20 @@ module _ (w : Wanted) (some : 1 ≤ w.nights) (freed : ℕ → ℕ) where
       told false r = refl
 
       go : (o : Option StockRow) → find (is_stock_of x) rows ≡ o
-          → option_map places_told (option_map row_now o) ≡ option_map (places_now (wants_cell w x)) (option_map places_told o)
+          → option_map places_told (option_map row_now o)
+          ≡ option_map (places_now (wants_cell w x)) (option_map places_told o)
       go None e = refl
       go (Some r) e =
           ap Some
-          (ap (λ v. places_told (if v then with_freed r else r)) (wanted_row w x r some (has_found (is_stock_of x) rows r e).1)
+          (ap (λ v. places_told (if v then with_freed r else r)) (wanted_row w x r some
+          (has_found (is_stock_of x) rows r e).1)
           ∙ told (wants_cell w x) r)
 
   -- where what is held changes so, the changed rows stand
   pub stock-now : (l m : List Event) (rows : List StockRow) → StockStands l rows
       → ((x : Cell) → allotment m x ≡ allotment l x)
-      → ((x : Cell) (n : ℕ) → allotment l x ≡ Some n → (if wants_cell w x then freed (n - held l x) else n - held l x) ≡ n - held m x)
+      → ((x : Cell) (n : ℕ) → allotment l x ≡ Some n
+      → (if wants_cell w x then freed (n - held l x) else n - held l x) ≡ n - held m x)
       → StockStands m (changed (is_wanted_row w) with_freed rows)
   stock-now l m rows stand allots frees = record {
     each =
@@ -145,11 +123,9 @@ module _ (w : Wanted) (some : 1 ≤ w.nights) (freed : ℕ → ℕ) where
         ∙ places x (allotment l x) refl
         ∙ ap (option_map (λ (n : ℕ). record { allot = n; free = n - held m x })) (sym (allots x));
     once =
-        ascending-map (λ r s. is_same_stock r s ≡ false) row_now rows
-        (ascending_where (λ r s. is_same_stock r s ≡ false) (λ r s. is_same_stock (row_now r) (row_now s) ≡ false) rows (λ r s h k off. row_now-same r s ∙ off) stand.once);
+        once-changed (is_wanted_row w) with_freed (λ r s. refl) (λ r s. refl) rows stand.once;
     known =
-        all-map IsOfCell row_now rows
-        (all_weaker IsOfCell (λ r. IsOfCell (row_now r)) (λ r of. (of.0, row_now-cell of.0 r ∙ of.1)) rows stand.known);
+        known-changed (is_wanted_row w) with_freed (λ r s. refl) (λ r s. refl) rows stand.known;
   }
     where
       split : (v : Bool) (n k : ℕ)
@@ -158,7 +134,9 @@ module _ (w : Wanted) (some : 1 ≤ w.nights) (freed : ℕ → ℕ) where
       split false n k = refl
 
       places : (x : Cell) (o : Option ℕ) → allotment l x ≡ o
-          → option_map (places_now (wants_cell w x)) (option_map (λ (n : ℕ). record { allot = n; free = n - held l x }) o) ≡ option_map (λ (n : ℕ). record { allot = n; free = n - held m x }) o
+          → option_map (places_now (wants_cell w x))
+          (option_map (λ (n : ℕ). record { allot = n; free = n - held l x }) o)
+          ≡ option_map (λ (n : ℕ). record { allot = n; free = n - held m x }) o
       places x None e = refl
       places x (Some n) e =
           ap Some
