@@ -35,10 +35,6 @@ members_counted es d n m e many =
     ap (λ z. z == n) (many ∙ sym (member_count-members_view es))
     ∙ ap (λ o. unwrap_or (option_map (λ members. member_count members == n) o) false) e
 
--- no object
-pub no_object : (d : Data) (n : ℕ) → None ≡ as_object d → false ≡ has_members n d
-no_object d n e = ap (λ o. unwrap_or (option_map (λ members. member_count members == n) o) false) e
-
 -- the texts of some names
 abbrev pub spelled_out : List (Bor (List ℕ)) → List (List ℕ)
 spelled_out names = map (λ name. name.now) names
