@@ -3,8 +3,6 @@ use Rattle.std.proofs.Common.{◌≡◌, ℕ, Bool, true, List, [], ◌∷◌, m
 use Rattle.std.specs.Prelude.{nat_le}
 use Rattle.std.specs.List.{list_all}
 use Rattle.std.proofs.lemmas.Bool.{le-leb}
-use Rattle.serde_json.specs.Data.{Data}
-use Rattle.serde_json.specs.View.{items_of}
 use Rattle.allotment.specs.Want.{Wanted}
 use Rattle.allotment.specs.Limits.{is_between, is_want}
 use Rattle.allotment.specs.Nights.{night_text, night_in}
@@ -13,7 +11,7 @@ use Rattle.allotment.specs.declared.kinds.Kind.{Kind}
 use Rattle.allotment.specs.declared.kinds.Kind.TheVariants.{Flight, Room, Transfer, Cover}
 use Rattle.plan.specs.Planned.{Planned, StepPlan, is_step, is_last_unmarked, is_plan}
 use Rattle.plan.specs.Drafts.{OptionDraft, StepDraft, drafted, drafted_step, drafted_plan, judged}
-use Rattle.plan.specs.PlanJson.{values_of, json_option, json_step, step_with, draft_with, json_draft, plan_in_json}
+use Rattle.plan.specs.PlanJson.{json_option, json_step, step_with, draft_with, json_draft, plan_in_json}
 use Rattle.plan.specs.PlanData.{want_data, step_data, plan_data}
 use Rattle.allotment.proofs.TestLemmas.{and_both, and_make, keep_if_yes}
 use Rattle.allotment.proofs.NightLemmas.{night_in-night_text}

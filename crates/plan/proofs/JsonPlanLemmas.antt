@@ -1,5 +1,5 @@
 -- What is read of a JSON plan, by its tries, the number of its steps and what they are. For the reader of JSON plans.
-use Rattle.std.proofs.Common.{◌≡◌, ℕ, ◌<◌, ◌≤◌, ◌⊎◌, Bool, true, List, map, length, refl, sym, ap, subst, ◌∙◌, arith, Option, Some, None, Ok, Err}
+use Rattle.std.proofs.Common.{◌≡◌, ℕ, ◌<◌, ◌≤◌, ◌⊎◌, true, List, map, length, refl, sym, ap, subst, ◌∙◌, arith, Option, Some, None, Err}
 use Rattle.std.specs.Prelude.{filter_map, flat_map, option_map, Result}
 use Rattle.std.specs.List.{enumerate_from}
 use Rattle.std.proofs.lemmas.Bool.{le-leb}
@@ -11,7 +11,7 @@ use Rattle.allotment.specs.Limits.{is_between}
 use Rattle.allotment.specs.Making.{first_fault}
 use Rattle.plan.specs.declared.causes.PlanCause.TheVariants as cause
 use Rattle.plan.specs.declared.faults.BadPlan.{BadPlan}
-use Rattle.plan.specs.Planned.{Planned, StepPlan}
+use Rattle.plan.specs.Planned.{StepPlan}
 use Rattle.plan.specs.Drafts.{Draft, StepDraft, at, number_or_none, step_of, step_faults, judged}
 use Rattle.plan.specs.PlanJson.{json_step, json_steps, json_tries, draft_with, json_draft, plan_in_json}
 use Rattle.plan.specs.JsonLevels.{steps_of_json, views}

@@ -1,14 +1,14 @@
 -- What a JSON value has, by what is found in it. For what is taken out of values.
-use Rattle.std.proofs.Common.{◌≡◌, ℕ, suc, ◌+◌, ◌&&◌, ◌==◌, Bool, true, false, List, [], ◌∷◌, map, length, refl, sym, ap, ◌∙◌, Option, Some, None}
+use Rattle.std.proofs.Common.{◌≡◌, ℕ, suc, ◌&&◌, ◌==◌, Bool, false, List, [], ◌∷◌, map, length, refl, sym, ap, ◌∙◌, Option, Some, None}
 use Rattle.std.specs.Prelude.{String, option_map, option_and_then, is_some, unwrap_or}
 use Rattle.std.specs.List.{list_all}
 use denote.Ref.{Bor}
 use Rattle.std.specs.declared.alloc.Global.{Global}
 use Rattle.std.proofs.lemmas.List.{length-map}
 use Rattle.std.proofs.lemmas.List.Folds.{list_all-map}
-use Rattle.serde_json.specs.Data.{Data, Members}
+use Rattle.serde_json.specs.Data.{Data}
 use Rattle.serde_json.specs.Find.{get, as_array, as_object}
-use Rattle.serde_json.specs.View.{view, items_of, items_view, members_view}
+use Rattle.serde_json.specs.View.{items_of, items_view, members_view}
 use Rattle.serde_json.specs.declared.value.Value.{Value}
 use Rattle.plan.specs.PlanJson.{member_count, values_of, has_members, has_just, in_member, list_of}
 use Rattle.plan.specs.JsonLevels.{views}
@@ -34,10 +34,6 @@ pub members_counted : (es : List (String Global × Value)) (d : Data) (n m : ℕ
 members_counted es d n m e many =
     ap (λ z. z == n) (many ∙ sym (member_count-members_view es))
     ∙ ap (λ o. unwrap_or (option_map (λ members. member_count members == n) o) false) e
-
--- no object
-pub no_object : (d : Data) (n : ℕ) → None ≡ as_object d → false ≡ has_members n d
-no_object d n e = ap (λ o. unwrap_or (option_map (λ members. member_count members == n) o) false) e
 
 -- the texts of some names
 abbrev pub spelled_out : List (Bor (List ℕ)) → List (List ℕ)

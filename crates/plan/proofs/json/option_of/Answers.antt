@@ -1,4 +1,4 @@
-use Rattle.std.proofs.Common.{◌≡◌, true, false, sym, ap, ◌∙◌, Ok, Err, codes}
+use Rattle.std.proofs.Common.{◌≡◌, true, false, sym, ap, ◌∙◌, Ok, Err}
 use Rattle.std.specs.Prelude.{unwrap_or}
 use Rattle.serde_json.specs.View.{view}
 use Rattle.allotment.specs.Texts.{kind_of_word}

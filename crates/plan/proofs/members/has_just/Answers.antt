@@ -1,4 +1,3 @@
-use Rattle.std.proofs.Common.{sym, ◌∙◌}
 use Rattle.plan.proofs.MemberLemmas.{just_each}
 use Rattle.plan.proofs.members.has_just.Goals as goal
 

@@ -1,4 +1,4 @@
-use Rattle.plan.proofs.MemberLemmas.{members_counted, no_object}
+use Rattle.plan.proofs.MemberLemmas.{members_counted}
 use Rattle.plan.proofs.members.has_members.Goals as goal
 
 -- an object has as many members as it shows
