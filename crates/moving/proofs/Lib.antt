@@ -19,3 +19,4 @@ pub mod Fitting
 pub mod Taken
 pub mod Batches
 pub mod SameRows
+pub mod Lines
