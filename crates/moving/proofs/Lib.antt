@@ -20,3 +20,4 @@ pub mod Taken
 pub mod Batches
 pub mod SameRows
 pub mod Lines
+pub mod Numbers
