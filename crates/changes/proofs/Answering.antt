@@ -1,129 +1,29 @@
 -- What is answered to each request about a journey, by its cursor, the save-points that it took, and whether its next
 -- want fits. For each desk that stores these.
 use Rattle.std.proofs.Common.{◌≡◌, ℕ, ◌+◌, List, [], ◌∷◌, refl, ap, sym, ◌∙◌, eq-eqb, map}
-use Rattle.std.proofs.lemmas.Bool.{false_from_ne_true}
-use Rattle.std.specs.Prelude.{Bool, true, false, not, ◌==◌, ◌&&◌, nat_lt, if◌then◌else◌, cond, find, Option, Some, None, option_map, option_and_then, option_to_list, unwrap_or}
+use Rattle.std.proofs.lemmas.Bool.{false_from_ne_true, not-true}
+use Rattle.std.specs.Prelude.{Bool, true, false, not, ◌==◌, ◌&&◌, nat_lt, if◌then◌else◌, find, Some, option_to_list}
 use Rattle.plan.specs.Planned.{Planned}
 use Rattle.savepoints.specs.Marks.{is_taken_in}
-use Rattle.savepoints.specs.Rules as rules
 use Rattle.savepoints.specs.Turns.{may_be_made}
 use Rattle.savepoints.specs.declared.turns.Turn.TheVariants as turn
-use Rattle.commands.specs.declared.items.Cursor.{Cursor}
 use Rattle.commands.specs.declared.items.Cause.TheVariants.{Stop, Refused, Asked}
 use Rattle.commands.specs.declared.items.Item.{Item}
 use Rattle.commands.specs.declared.items.Item.TheVariants.{Transaction, Compensation, Turn, Save}
 use Rattle.commands.specs.declared.items.Phase.{Phase}
 use Rattle.commands.specs.declared.items.Phase.TheVariants.{Run, Back, Ended, Undone}
-use Rattle.commands.specs.declared.refusals.Refusal.{Refusal}
-use Rattle.commands.specs.declared.refusals.Refusal.TheVariants.{NoJourney, Finished, NoSavePoint, NoSave}
-use Rattle.commands.specs.declared.replies.Reply.TheVariants as reply
-use Rattle.ledger.specs.History.{net, position_of, refusals, is_taken, is_save_point, last_save, refused_target, next_option, next_want, phase, is_running, is_going_back, is_finished, may_turn, last_of}
-use Rattle.ledger.specs.Ledger.{Event, Did, Journey, journey_at, history, fits, may_do, IsLegal}
-use Rattle.ledger.specs.Replies.{Answer, refused, sees, seen_journey, compensation, step_choices, abort_choices, stop_choices, save_choices, moved, answer_choices, answer_move}
-use Rattle.ledger.proofs.Coming.{step-comes, step-may_come, refused-comes, refused-may_come, compensation-may_come}
+use Rattle.commands.specs.declared.refusals.Refusal.TheVariants.{NoSavePoint, NoSave}
+use Rattle.ledger.specs.History.{net, position_of, is_taken, is_save_point, last_save, refused_target, next_option, next_want, phase, is_running, is_going_back, is_finished, may_turn, last_of}
+use Rattle.ledger.specs.Ledger.{Event, Journey, journey_at, history, fits, IsLegal}
+use Rattle.ledger.specs.Replies.{refused, compensation, step_choices, abort_choices, stop_choices, save_choices, answer_move}
+use Rattle.ledger.specs.Recovery.{is_forward}
+use Rattle.ledger.proofs.Coming.{compensation-comes, step-comes, step-may_come, refused-comes, refused-may_come, compensation-may_come}
 use Rattle.changes.specs.Answered.{moves}
 use Rattle.changes.specs.Changed.{target_of}
 use Rattle.changes.specs.Cursors.{cursor_of, marks_of}
-use Rattle.changes.proofs.Histories.{Follows, follows}
-use Rattle.changes.proofs.Items.{cursor_of-more}
-use Rattle.changes.proofs.Taken.{is_taken_in-marks_of}
-
--- Journeys that are seen.
-
--- whoever sees the journey has it
-pub seen : (l : List Event) (who : Option (List ℕ)) (j : ℕ) (a : Journey) → journey_at l j ≡ Some a
-    → sees who a ≡ true → seen_journey l who j ≡ Some a
-seen l who j a at e =
-    ap (λ o. option_and_then (λ (b : Journey). if sees who b then Some b else None) o) at
-    ∙ ap (λ v. if v then Some a else None) e
-
--- another agent's journey is as if there were none
-pub unseen : (l : List Event) (who : Option (List ℕ)) (j : ℕ) (a : Journey) → journey_at l j ≡ Some a
-    → sees who a ≡ false → seen_journey l who j ≡ None
-unseen l who j a at e =
-    ap (λ o. option_and_then (λ (b : Journey). if sees who b then Some b else None) o) at
-    ∙ ap (λ v. if v then Some a else None) e
-
--- where there is no journey none is seen
-pub seen-none : (l : List Event) (who : Option (List ℕ)) (j : ℕ) → journey_at l j ≡ None
-    → seen_journey l who j ≡ None
-seen-none l who j absent =
-    ap (λ o. option_and_then (λ (b : Journey). if sees who b then Some b else None) o) absent
-
--- Moves.
-
--- to a request about no journey
-pub move-none : (l : List Event) (j : ℕ) (choices : Planned → List Item → List Item) (otherwise : Refusal)
-    → answer_move l j choices otherwise None ≡ refused NoJourney
-move-none l j choices otherwise = refl
-
--- to a request about a journey that has ended or is undone
-pub move-finished : (l : List Event) (j : ℕ) (choices : Planned → List Item → List Item) (otherwise : Refusal)
-    (a : Journey) → is_finished (phase a.plan (history l j)) ≡ true
-    → answer_move l j choices otherwise (Some a) ≡ refused Finished
-move-finished l j choices otherwise a finished =
-    ap (λ v. if v then refused Finished
-    else answer_choices l j a (choices a.plan (history l j)) otherwise) finished
-
--- the test of a journey's next item
-abbrev may : List Event → ℕ → Journey → Item → Bool
-may l j a next = may_do l j next a
-
--- what is answered where this is the first choice that is allowed
-move-first : (l : List Event) (j : ℕ) (choices : Planned → List Item → List Item) (otherwise : Refusal)
-    (a : Journey) (o : Option Item) → is_finished (phase a.plan (history l j)) ≡ false
-    → find (may l j a) (choices a.plan (history l j)) ≡ o
-    → answer_move l j choices otherwise (Some a)
-    ≡ unwrap_or (option_map (moved a.plan (history l j) j) o) (refused otherwise)
-move-first l j choices otherwise a o unfinished found =
-    ap (λ v. if v then refused Finished
-    else answer_choices l j a (choices a.plan (history l j)) otherwise) unfinished
-    ∙ ap (λ p. unwrap_or (option_map (moved a.plan (history l j) j) p) (refused otherwise)) found
-
--- the reply to an item says where the journey is then
-moved-moves : (l : List Event) (j : ℕ) (a : Journey) (x : Item) → IsLegal l → journey_at l j ≡ Some a
-    → may l j a x ≡ true
-    → moved a.plan (history l j) j x ≡ moves j a.plan (cursor_of a.plan (history l j)) x
-moved-moves l j a x legal at comes =
-    ap (λ c. answered c)
-    (cursor_of-more a.plan (history l j) (fits l (next_want a.plan (history l j))) x
-    (follows l legal j a at) comes)
-  where
-    answered : Cursor → Answer
-    answered c = record { event = Some (Did j x); reply = reply.Moved j x c.pos c.phase }
-
--- the item that is found is made
-move-found : (l : List Event) (j : ℕ) (choices : Planned → List Item → List Item) (otherwise : Refusal)
-    (a : Journey) (x : Item) → IsLegal l → journey_at l j ≡ Some a
-    → is_finished (phase a.plan (history l j)) ≡ false
-    → find (may l j a) (choices a.plan (history l j)) ≡ Some x → may l j a x ≡ true
-    → answer_move l j choices otherwise (Some a) ≡ moves j a.plan (cursor_of a.plan (history l j)) x
-move-found l j choices otherwise a x legal at unfinished found comes =
-    move-first l j choices otherwise a (Some x) unfinished found ∙ moved-moves l j a x legal at comes
-
--- where the first does not pass, the search goes on
-find-next : {X : Type 0} (test : X → Bool) (x : X) (xs : List X) → test x ≡ false
-    → find test (x ∷ xs) ≡ find test xs
-find-next test x xs e = ap (λ b. cond b (Some x) (find test xs)) e
-
--- where the first passes, it is found
-find-first : {X : Type 0} (test : X → Bool) (x : X) (xs : List X) → test x ≡ true
-    → find test (x ∷ xs) ≡ Some x
-find-first test x xs e = ap (λ b. cond b (Some x) (find test xs)) e
-
--- an only choice is made where it is allowed, else the request is refused
-move-only : (l : List Event) (j : ℕ) (choices : Planned → List Item → List Item) (otherwise : Refusal)
-    (a : Journey) (x : Item) (allowed : Bool) → IsLegal l → journey_at l j ≡ Some a
-    → is_finished (phase a.plan (history l j)) ≡ false
-    → choices a.plan (history l j) ≡ x ∷ [] → may l j a x ≡ allowed
-    → answer_move l j choices otherwise (Some a)
-    ≡ (if allowed then moves j a.plan (cursor_of a.plan (history l j)) x else refused otherwise)
-move-only l j choices otherwise a x true legal at unfinished only comes =
-    move-found l j choices otherwise a x legal at unfinished
-    (ap (find (may l j a)) only ∙ find-first (may l j a) x [] comes) comes
-move-only l j choices otherwise a x false legal at unfinished only fails =
-    move-first l j choices otherwise a None unfinished
-    (ap (find (may l j a)) only ∙ find-next (may l j a) x [] fails)
+use Rattle.changes.proofs.Histories.{follows}
+use Rattle.changes.proofs.Moves.{may, move-found, move-only, find-next, find-first}
+use Rattle.changes.proofs.Taken.{taken_by-marks}
 
 -- Phases.
 
@@ -136,9 +36,11 @@ back-unfinished : (p : Phase) (q : ℕ) → p ≡ Back q → is_finished p ≡ f
 back-unfinished p q e = ap is_finished e
 
 -- no phase both runs and goes back
-not_running : (p : Phase) (q : ℕ) (b : Bool) → p ≡ Back q → (b ≡ true → is_running p ≡ true) → b ≡ false
+not_running : (p : Phase) (q : ℕ) (b : Bool) → p ≡ Back q → (b ≡ true → is_running p ≡ true)
+    → b ≡ false
 not_running p q b back runs =
-    false_from_ne_true b (λ e. let bad : true ≡ false = sym (runs e) ∙ ap is_running back in absurd (clash bad))
+    false_from_ne_true b (λ e. let bad : true ≡ false = sym (runs e) ∙ ap is_running back in
+    absurd (clash bad))
   where
     clash : true ≡ false → ⊥
     clash e = cc
@@ -163,14 +65,16 @@ step-fits l j a legal at run fitting =
     (ap is_running run) fitting in
     move-found l j step_choices NoSavePoint a (next_step a.plan (history l j)) legal at
     (run-unfinished _ run)
-    (find-first (may l j a) (next_step a.plan (history l j)) (other_choices a.plan (history l j)) comes)
+    (find-first (may l j a) (next_step a.plan (history l j))
+    (other_choices a.plan (history l j)) comes)
     comes
 
 -- where the next want does not fit: the refused turn
 pub step-refused : (l : List Event) (j : ℕ) (a : Journey) → IsLegal l → journey_at l j ≡ Some a
     → phase a.plan (history l j) ≡ Run → fits l (next_want a.plan (history l j)) ≡ false
     → answer_move l j step_choices NoSavePoint (Some a)
-    ≡ moves j a.plan (cursor_of a.plan (history l j)) (Turn (refused_target a.plan (history l j)) Refused)
+    ≡ moves j a.plan (cursor_of a.plan (history l j))
+    (Turn (refused_target a.plan (history l j)) Refused)
 step-refused l j a legal at run unfitting =
     let fit : Bool = fits l (next_want a.plan (history l j)) in
     let comes = refused-may_come a.plan (history l j) (fits l (next_want a.plan (history l j)))
@@ -178,28 +82,34 @@ step-refused l j a legal at run unfitting =
     let first : may l j a (next_step a.plan (history l j)) ≡ false =
     false_from_ne_true _ (λ e. let fitting = (step-comes a.plan (history l j) _ _ _ e).fitting in
     let bad : true ≡ false = sym fitting ∙ unfitting in cc) in
-    move-found l j step_choices NoSavePoint a (Turn (refused_target a.plan (history l j)) Refused) legal at
+    move-found l j step_choices NoSavePoint a
+    (Turn (refused_target a.plan (history l j)) Refused) legal at
     (run-unfinished _ run)
-    (find-next (may l j a) (next_step a.plan (history l j)) (other_choices a.plan (history l j)) first
+    (find-next (may l j a) (next_step a.plan (history l j))
+    (other_choices a.plan (history l j)) first
     ∙ find-first (may l j a) (Turn (refused_target a.plan (history l j)) Refused)
     (compensation (history l j)) comes)
     comes
 
 -- to a step of a journey that goes back: the compensation of its last transaction
-pub step-back : (l : List Event) (j : ℕ) (a : Journey) (p i c : ℕ) → IsLegal l → journey_at l j ≡ Some a
+pub step-back : (l : List Event) (j : ℕ) (a : Journey) (p i c : ℕ) → IsLegal l
+    → journey_at l j ≡ Some a
     → phase a.plan (history l j) ≡ Back p → last_of (net (history l j)) ≡ Some (i, c)
     → answer_move l j step_choices NoSavePoint (Some a)
     ≡ moves j a.plan (cursor_of a.plan (history l j)) (Compensation i c)
 step-back l j a p i c legal at back last =
-    let comes = compensation-may_come a.plan (history l j) (fits l (next_want a.plan (history l j))) i c
+    let comes = compensation-may_come a.plan (history l j)
+    (fits l (next_want a.plan (history l j))) i c
     (ap is_going_back back) last in
-    let first = not_running (phase a.plan (history l j)) p (may l j a (next_step a.plan (history l j))) back
+    let first = not_running (phase a.plan (history l j)) p
+    (may l j a (next_step a.plan (history l j))) back
     (λ e. (step-comes a.plan (history l j) _ _ _ e).running) in
     let second = not_running (phase a.plan (history l j)) p
     (may l j a (Turn (refused_target a.plan (history l j)) Refused)) back
     (λ e. (refused-comes a.plan (history l j) _ _ e).running) in
     move-found l j step_choices NoSavePoint a (Compensation i c) legal at (back-unfinished _ p back)
-    (find-next (may l j a) (next_step a.plan (history l j)) (other_choices a.plan (history l j)) first
+    (find-next (may l j a) (next_step a.plan (history l j))
+    (other_choices a.plan (history l j)) first
     ∙ find-next (may l j a) (Turn (refused_target a.plan (history l j)) Refused)
     (compensation (history l j)) second
     ∙ ap (λ o. find (may l j a) (map (λ (s : ℕ × ℕ). Compensation s.0 s.1) (option_to_list o))) last
@@ -207,11 +117,6 @@ step-back l j a p i c legal at back last =
     comes
 
 -- Turns.
-
--- the tests of the save-points that were taken are those of the set
-pub taken_by-marks : (plan : Planned) (h : List Item) → Follows plan h
-    → is_taken h ≡ is_taken_in (marks_of h)
-taken_by-marks plan h f = λ i p. sym (is_taken_in-marks_of plan h p f) i
 
 -- an open journey runs or goes back
 pub data Open (p : Phase) : Type 0 where
@@ -232,7 +137,8 @@ open-from Undone e = cc
 
 -- in this phase one who asks may turn the journey, by the rule for turns
 abort-rule : (plan : Planned) (h : List Item) (p : ℕ) (q : Phase) → Open q
-    → may_turn plan h q p ≡ may_be_made plan (is_taken h) (position_of h) (target_of q) (turn.Asked p)
+    → may_turn plan h q p ≡ may_be_made plan (is_taken h) (position_of h) (target_of q)
+    (turn.Asked p)
 abort-rule plan h p Run o = refl
 abort-rule plan h p (Back r) o = refl
 abort-rule plan h p Ended (runs e) = cc
@@ -241,14 +147,16 @@ abort-rule plan h p Undone (runs e) = cc
 abort-rule plan h p Undone (goes_back r e) = cc
 
 -- to an abort: the turn where it may be made
-pub abort-answer : (l : List Event) (j : ℕ) (a : Journey) (p : ℕ) → IsLegal l → journey_at l j ≡ Some a
+pub abort-answer : (l : List Event) (j : ℕ) (a : Journey) (p : ℕ) → IsLegal l
+    → journey_at l j ≡ Some a
     → Open (phase a.plan (history l j))
     → answer_move l j (abort_choices p) NoSavePoint (Some a)
     ≡ (if may_be_made a.plan (is_taken_in (marks_of (history l j))) (position_of (history l j))
     (target_of (phase a.plan (history l j))) (turn.Asked p)
     then moves j a.plan (cursor_of a.plan (history l j)) (Turn p Asked) else refused NoSavePoint)
 abort-answer l j a p legal at o =
-    move-only l j (abort_choices p) NoSavePoint a (Turn p Asked) _ legal at (open-unfinished _ o) refl
+    move-only l j (abort_choices p) NoSavePoint a (Turn p Asked) _ legal at
+    (open-unfinished _ o) refl
     (abort-rule a.plan (history l j) p (phase a.plan (history l j)) o
     ∙ ap (λ taken. may_be_made a.plan taken (position_of (history l j))
     (target_of (phase a.plan (history l j))) (turn.Asked p))
@@ -271,7 +179,8 @@ pub stop-answer : (l : List Event) (j : ℕ) (a : Journey) → IsLegal l → jou
     → answer_move l j stop_choices NoSavePoint (Some a)
     ≡ (if may_be_made a.plan (is_taken_in (marks_of (history l j))) (position_of (history l j))
     (target_of (phase a.plan (history l j))) turn.Stop
-    then moves j a.plan (cursor_of a.plan (history l j)) (Turn (last_save a.plan (history l j)) Stop)
+    then moves j a.plan (cursor_of a.plan (history l j))
+    (Turn (last_save a.plan (history l j)) Stop)
     else refused NoSavePoint)
 stop-answer l j a legal at o =
     move-only l j stop_choices NoSavePoint a (Turn (last_save a.plan (history l j)) Stop) _ legal at
@@ -280,23 +189,6 @@ stop-answer l j a legal at o =
     ∙ ap (λ taken. may_be_made a.plan taken (position_of (history l j))
     (target_of (phase a.plan (history l j))) turn.Stop)
     (taken_by-marks a.plan (history l j) (follows l legal j a at)))
-
--- the last save-point, by the set
-pub last_save_by-marks : (plan : Planned) (h : List Item) → Follows plan h
-    → last_save plan h ≡ rules.last_save plan (is_taken_in (marks_of h)) (position_of h)
-last_save_by-marks plan h f = ap (λ taken. rules.last_save plan taken (position_of h)) (taken_by-marks plan h f)
-
--- where a refused step leads, by the set
-pub refused_target_by-marks : (plan : Planned) (h : List Item) → Follows plan h
-    → refused_target plan h ≡ rules.refused_target plan (is_taken_in (marks_of h)) (position_of h) (refusals h)
-refused_target_by-marks plan h f =
-    ap (λ taken. rules.refused_target plan taken (position_of h) (refusals h)) (taken_by-marks plan h f)
-
--- whether a save-point stands, by the set
-pub is_save_point_by-marks : (plan : Planned) (h : List Item) (p : ℕ) → Follows plan h
-    → is_save_point plan h p ≡ rules.is_save_point plan (is_taken_in (marks_of h)) (position_of h) p
-is_save_point_by-marks plan h p f =
-    ap (λ taken. rules.is_save_point plan taken (position_of h) p) (taken_by-marks plan h f)
 
 -- Save-points.
 
@@ -315,11 +207,13 @@ save-rule plan h q e =
 pub save-answer : (l : List Event) (j : ℕ) (a : Journey) → IsLegal l → journey_at l j ≡ Some a
     → phase a.plan (history l j) ≡ Run
     → answer_move l j save_choices NoSave (Some a)
-    ≡ (if nat_lt 0 (position_of (history l j)) && not (is_save_point a.plan (history l j) (position_of (history l j)))
+    ≡ (if nat_lt 0 (position_of (history l j))
+    && not (is_save_point a.plan (history l j) (position_of (history l j)))
     then moves j a.plan (cursor_of a.plan (history l j)) (Save (position_of (history l j)))
     else refused NoSave)
 save-answer l j a legal at run =
-    move-only l j save_choices NoSave a (Save (position_of (history l j))) _ legal at (run-unfinished _ run) refl
+    move-only l j save_choices NoSave a (Save (position_of (history l j))) _ legal at
+    (run-unfinished _ run) refl
     (save-rule a.plan (history l j) (phase a.plan (history l j)) run)
 
 -- and in one that goes back: it is refused
@@ -329,5 +223,46 @@ pub save-back : (l : List Event) (j : ℕ) (a : Journey) (p : ℕ) → IsLegal l
 save-back l j a p legal at back =
     move-only l j save_choices NoSave a (Save (position_of (history l j))) false legal at
     (back-unfinished _ p back) refl
-    (ap (λ b. b && (position_of (history l j) == position_of (history l j)) && nat_lt 0 (position_of (history l j))
+    (ap (λ b. b && (position_of (history l j) == position_of (history l j))
+    && nat_lt 0 (position_of (history l j))
     && not (is_save_point a.plan (history l j) (position_of (history l j)))) (ap is_running back))
+
+-- Any step.
+
+-- the phase that runs
+running-is : (p : Phase) → is_running p ≡ true → p ≡ Run
+running-is Run e = refl
+running-is (Back q) e = cc
+running-is Ended e = cc
+running-is Undone e = cc
+
+-- a phase that goes back goes back to some position
+going_back-is : (p : Phase) → is_going_back p ≡ true → (q : ℕ) × (p ≡ Back q)
+going_back-is Run e = cc
+going_back-is (Back q) e = (q, refl)
+going_back-is Ended e = cc
+going_back-is Undone e = cc
+
+-- to a step: of the items that a step makes, the one that may come next
+pub step-answer : (l : List Event) (j : ℕ) (a : Journey) (x : Item) → IsLegal l
+    → journey_at l j ≡ Some a
+    → is_forward x ≡ true → may l j a x ≡ true
+    → answer_move l j step_choices NoSavePoint (Some a)
+    ≡ moves j a.plan (cursor_of a.plan (history l j)) x
+step-answer l j a (Transaction i c) legal at forward comes =
+    let k = step-comes a.plan (history l j) (fits l (next_want a.plan (history l j))) i c comes in
+    step-fits l j a legal at (running-is _ k.running) k.fitting
+    ∙ sym (ap (moves j a.plan (cursor_of a.plan (history l j)))
+    (ap (λ n. Transaction n c) k.step ∙ ap (Transaction (position_of (history l j) + 1)) k.option))
+step-answer l j a (Compensation i c) legal at forward comes =
+    let k = compensation-comes a.plan (history l j)
+    (fits l (next_want a.plan (history l j))) i c comes in
+    let back = going_back-is _ k.back in
+    step-back l j a back.0 i c legal at back.1 k.last
+step-answer l j a (Turn p Stop) legal at forward comes = cc
+step-answer l j a (Turn p Refused) legal at forward comes =
+    let k = refused-comes a.plan (history l j) (fits l (next_want a.plan (history l j))) p comes in
+    step-refused l j a legal at (running-is _ k.running) (not-true _ k.unfitting)
+    ∙ sym (ap (λ n. moves j a.plan (cursor_of a.plan (history l j)) (Turn n Refused)) k.target)
+step-answer l j a (Turn p Asked) legal at forward comes = cc
+step-answer l j a (Save p) legal at forward comes = cc

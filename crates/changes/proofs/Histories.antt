@@ -1,110 +1,25 @@
--- What holds of the history of each journey of a legal ledger: it follows the rules.
-use Rattle.std.proofs.Common.{◌≡◌, ℕ, zero, suc, ◌+◌, ◌<◌, ◌≤◌, ◌⊎◌, List, [], ◌∷◌, ◌++◌, length, map, refl, ap, sym, ◌∙◌, arith, subst, eqb-true, inl, inr}
+-- What holds of the history of each journey of a legal ledger: it follows the rules. For what an item changes, and for
+-- answers.
+use Rattle.std.proofs.Common.{◌≡◌, ℕ, ◌+◌, ◌<◌, ◌≤◌, List, [], ◌∷◌, ◌++◌, map, refl, ap, sym, ◌∙◌, arith, subst, eqb-true, inl, inr}
 use Rattle.std.proofs.lemmas.Bool.{and_parts, or_cases, and_from, eqb-false, ltb-true, leb-true, le-leb, not-true}
-use Rattle.std.specs.Prelude.{Bool, true, false, not, ◌==◌, ◌||◌, ◌&&◌, nat_le, nat_lt, filter, cond, Some, None, IsTrue}
+use Rattle.std.specs.Prelude.{Bool, true, false, not, ◌==◌, ◌||◌, ◌&&◌, nat_le, nat_lt, filter, cond, Some, IsTrue}
 use Rattle.std.specs.List.{list_all}
 use Rattle.allotment.specs.Cells.{numbers_from}
 use Rattle.allotment.specs.Limits.{is_between}
-use Rattle.plan.specs.Planned.{Planned, is_plan, is_step, is_last_unmarked, step_count, option_count, numbered}
+use Rattle.plan.specs.Planned.{Planned, is_plan, is_step, is_last_unmarked, step_count, option_count}
 use Rattle.savepoints.proofs.OptionLemmas.{one_le-option_count}
 use Rattle.commands.specs.declared.items.Item.{Item}
 use Rattle.commands.specs.declared.items.Item.TheVariants.{Transaction, Compensation, Turn, Save}
-use Rattle.commands.specs.declared.items.Phase.TheVariants.{Run, Back, Ended, Undone}
-use Rattle.ledger.specs.History.{net, position_of, is_taken, is_save_point, phase, is_running, is_going_back, next_want, next_option, may_come, last_of}
-use Rattle.ledger.specs.Ledger.{Event, Loaded, Began, Did, Journey, journeys, journey_at, history, fits, is_allowed, IsLegal}
+use Rattle.ledger.specs.History.{net, position_of, is_taken, is_save_point, phase, is_running, next_option, may_come}
+use Rattle.ledger.specs.Ledger.{Event, Journey, journey_at, history, IsLegal}
 use Rattle.ledger.proofs.Coming.{step-comes, compensation-comes}
-use Rattle.ledger.proofs.Growing.{Keeps, induct, is_item_allowed-may_do}
 use Rattle.ledger.proofs.Journeys.{goes-begin, goes-more}
-use Rattle.ledger.proofs.Ledgers.{all_go}
-use Rattle.ledger.proofs.Lists.{numbered-snoc}
-use Rattle.ledger.proofs.Modes.{Goes, Mode, rises, falls, fell, upward, runs, ended, phase-falling, phase-fallen, running-rises, going_back-falls}
+use Rattle.ledger.proofs.Modes.{Goes, Mode, rises, falls, fell, running-rises}
 use Rattle.ledger.proofs.Standing.{compensates, net-transaction, net-compensation, net-turn, net-save, position_of-transaction, position_of-turn, position_of-save}
 use Rattle.changes.specs.Legal.{HasHistory}
-use Rattle.changes.proofs.Events as events
 use Rattle.changes.proofs.Taking.{is_taken-more}
-
--- Proofs by the items of a history.
-
--- what holds of a journey that was just begun
-abbrev pub AtBegin : (Planned → List Item → Type 0) → Type 0
-AtBegin P = (plan : Planned) → IsTrue (is_plan plan) → P plan []
-
--- what each item that may come keeps
-abbrev pub AtItem : (Planned → List Item → Type 0) → Type 0
-AtItem P = (plan : Planned) (h : List Item) (may_fit : Bool) (x : Item) → Goes plan h
-    → IsTrue (may_come plan h may_fit x) → P plan h → P plan (h ++ x ∷ [])
-
--- each journey of a ledger has it
-abbrev Each : (Planned → List Item → Type 0) → List Event → Type 0
-Each P l = (j : ℕ) (a : Journey) → journey_at l j ≡ Some a → P a.plan (history l j)
-
--- an item may come next in its journey
-pub may_come-allowed : (l : List Event) (j : ℕ) (a : Journey) (x : Item) → journey_at l j ≡ Some a
-    → IsTrue (is_allowed l (Did j x))
-    → IsTrue (may_come a.plan (history l j) (fits l (next_want a.plan (history l j))) x)
-may_come-allowed l j a x at may = sym (is_item_allowed-may_do l j x a at) ∙ may
-
--- a begun journey has it, and the others still have it
-each-began : (P : Planned → List Item → Type 0) → AtBegin P → (l : List Event) (agent : List ℕ) (plan : Planned)
-    → IsLegal l → IsTrue (is_plan plan) → Each P l → Each P (l ++ Began agent plan ∷ [])
-each-began P begin l agent plan legal good all j a at =
-    subst (P a.plan) (sym (events.history-began l agent plan j))
-    (old_or_new (numbered-snoc (journeys l) begun j a (now ∙ at)))
-  where
-    begun : Journey
-    begun = record { agent = agent; plan = plan }
-
-    now : numbered (journeys l ++ record { agent = agent; plan = plan } ∷ []) j
-        ≡ journey_at (l ++ Began agent plan ∷ []) j
-    now = ap (λ js. numbered js j) (sym (events.journeys-began l agent plan))
-
-    old_or_new : (journey_at l j ≡ Some a)
-        ⊎ ((journey_at l j ≡ None) × (record { agent = agent; plan = plan } ≡ a))
-        → P a.plan (history l j)
-    old_or_new (inl old) = all j a old
-    old_or_new (inr new) =
-        subst (P a.plan) (sym (events.history-none l j legal new.0))
-        (begin a.plan (ap (λ (b : Journey). is_plan b.plan) (sym new.1) ∙ good))
-
--- a journey with one more item has it, and the others still have it
-each-did : (P : Planned → List Item → Type 0) → AtItem P → (l : List Event) (k : ℕ) (x : Item)
-    → IsLegal l → IsTrue (is_allowed l (Did k x)) → Each P l → Each P (l ++ Did k x ∷ [])
-each-did P more l k x legal may all j a at = go (j == k) refl
-  where
-    was : journey_at l j ≡ Some a
-    was = sym (events.journey_at-did l k x j) ∙ at
-
-    grown : journey_at l k ≡ Some a → P a.plan (history (l ++ Did k x ∷ []) k)
-    grown here =
-        subst (P a.plan) (sym (events.history-did_same l k x))
-        (more a.plan (history l k) (fits l (next_want a.plan (history l k))) x
-        ((all_go l legal).go k a here) (may_come-allowed l k a x here may) (all k a here))
-
-    go : (v : Bool) → (j == k) ≡ v → P a.plan (history (l ++ Did k x ∷ []) j)
-    go true e =
-        let is = eqb-true _ _ e in
-        subst (λ i. P a.plan (history (l ++ Did k x ∷ []) i)) (sym is)
-        (grown (ap (journey_at l) (sym is) ∙ was))
-    go false e =
-        subst (P a.plan) (sym (events.history-did_other l k x j (eqb-false _ _ e))) (all j a was)
-
--- what holds at the beginning, and is kept by each item that may come, holds of the history of each journey
-pub each_history : (P : Planned → List Item → Type 0) → AtBegin P → AtItem P → (l : List Event) → IsLegal l
-    → (j : ℕ) (a : Journey) → journey_at l j ≡ Some a → P a.plan (history l j)
-each_history P begin more = induct (Each P) none grows
-  where
-    none : Each P []
-    none zero a at = cc
-    none (suc i) a at = cc
-
-    grows : Keeps (Each P)
-    grows l (Loaded name rows) legal may all = λ j a at.
-        subst (P a.plan) (sym (events.history-loaded l name rows j))
-        (all j a (sym (events.journey_at-loaded l name rows j) ∙ at))
-    grows l (Began agent plan) legal may all = each-began P begin l agent plan legal may all
-    grows l (Did k x) legal may all = each-did P more l k x legal may all
-
--- The facts of a history.
+use Rattle.changes.proofs.Inductions.{AtBegin, AtItem, each_history}
+pub use Rattle.changes.proofs.Inductions.{may_come-allowed}
 
 -- the plan has this option of this step
 abbrev pub is_option_of : Planned → ℕ × ℕ → Bool
@@ -155,11 +70,13 @@ taken-save : (plan : Planned) (h : List Item) (may_fit : Bool) (q p : ℕ) → G
 taken-save plan h may_fit q p g may all e =
     let same = position_of-save h q in
     elim (or_cases (p == q) (is_taken h p) e) [
-      | inr before ↦ still plan h (Save q) p all before (let w = (all p before).reached in omega arith)
+      | inr before ↦ still plan h (Save q) p all before
+          (let w = (all p before).reached in omega arith)
       | inl now ↦ (let is = eqb-true _ _ now in
           let tests = and_parts (is_running (phase plan h) && (q == position_of h) && nat_lt 0 q)
           (not (is_save_point plan h q)) may in
-          let first = and_parts (is_running (phase plan h) && (q == position_of h)) (nat_lt 0 q) tests.0 in
+          let first = and_parts (is_running (phase plan h) && (q == position_of h))
+          (nat_lt 0 q) tests.0 in
           let two = and_parts (is_running (phase plan h)) (q == position_of h) first.0 in
           let here = eqb-true _ _ two.1 in
           let above = ltb-true _ _ first.1 in
@@ -188,7 +105,8 @@ taken-more plan h may_fit (Transaction i c) g may all p e =
     still plan h (Transaction i c) p all before
     (let w = (all p before).reached in let k = position_of-transaction h i c in omega arith)
 taken-more plan h may_fit (Compensation i c) g may all p e =
-    taken-compensation plan h may_fit i c p g may all (sym (is_taken-more h (Compensation i c) p) ∙ e)
+    taken-compensation plan h may_fit i c p g may all
+    (sym (is_taken-more h (Compensation i c) p) ∙ e)
 taken-more plan h may_fit (Turn q cause) g may all p e =
     let before = sym (is_taken-more h (Turn q cause) p) ∙ e in
     still plan h (Turn q cause) p all before
@@ -222,11 +140,13 @@ next_option-within : (plan : Planned) (h : List Item) (i c : ℕ) → IsTrue (is
     → is_option_of plan (i, c) ≡ true
 next_option-within plan h i c good below is option_is =
     let some = one_le-option_count plan (position_of h + 1) good (omega arith) (omega arith) in
-    let same : option_count plan i ≡ option_count plan (position_of h + 1) = ap (option_count plan) is in
+    let same : option_count plan i ≡ option_count plan (position_of h + 1) =
+    ap (option_count plan) is in
     and_from _ _ (le-leb 1 c (omega arith)) (le-leb c (option_count plan i) (omega arith))
 
 -- all of a list and one more pass
-list_all-snoc : {X : Type 0} (p : X → Bool) (xs : List X) (x : X) → list_all p xs ≡ true → p x ≡ true
+list_all-snoc : {X : Type 0} (p : X → Bool) (xs : List X) (x : X) → list_all p xs ≡ true
+    → p x ≡ true
     → list_all p (xs ++ x ∷ []) ≡ true
 list_all-snoc p [] x all here = and_from _ _ here refl
 list_all-snoc p (y ∷ ys) x all here =
@@ -266,11 +186,13 @@ chosen-more plan h may_fit (Save p) g may all = record {
 few_steps : (plan : Planned) → IsTrue (is_plan plan) → step_count plan ≤ 24
 few_steps plan good =
     let most = and_parts
-    (is_between 1 24 (step_count plan) && list_all is_step plan.steps && is_last_unmarked plan.steps)
+    (is_between 1 24 (step_count plan) && list_all is_step plan.steps
+    && is_last_unmarked plan.steps)
     (nat_le plan.tries 9) good in
     let steps = and_parts (is_between 1 24 (step_count plan) && list_all is_step plan.steps)
     (is_last_unmarked plan.steps) most.0 in
-    let count = and_parts (is_between 1 24 (step_count plan)) (list_all is_step plan.steps) steps.0 in
+    let count = and_parts (is_between 1 24 (step_count plan))
+    (list_all is_step plan.steps) steps.0 in
     leb-true _ _ (and_parts (nat_le 1 (step_count plan)) (nat_le (step_count plan) 24) count.0).1
 
 -- a journey that was just begun follows the rules
@@ -294,7 +216,8 @@ pub follows-more : (plan : Planned) (h : List Item) (may_fit : Bool) (x : Item) 
     → IsTrue (may_come plan h may_fit x) → Follows plan (h ++ x ∷ [])
 follows-more plan h may_fit x f may =
     let g = goes-more plan h may_fit x f.goes may in
-    let chosen = chosen-more plan h may_fit x f.goes may (record { good = f.good; options = f.options }) in
+    let chosen = chosen-more plan h may_fit x f.goes may
+    (record { good = f.good; options = f.options }) in
     record {
       good = f.good;
       few = f.few;
@@ -308,7 +231,9 @@ follows-more plan h may_fit x f may =
 -- so the history of each journey of a legal ledger follows the rules
 pub follows : (l : List Event) → IsLegal l → (j : ℕ) (a : Journey) → journey_at l j ≡ Some a
     → Follows a.plan (history l j)
-follows = each_history Follows follows-begin (λ plan h may_fit x g may f. follows-more plan h may_fit x f may)
+follows =
+    each_history Follows follows-begin
+    (λ plan h may_fit x g may f. follows-more plan h may_fit x f may)
 
 -- so does each history that a journey of some legal ledger has
 pub follows-of : (plan : Planned) (h : List Item) → HasHistory plan h → Follows plan h
@@ -316,62 +241,3 @@ follows-of plan h has =
     subst (Follows plan) has.past
     (subst (λ p. Follows p (history has.ledger has.number)) has.planned
     (follows has.ledger has.legal has.number has.journey has.at))
-
--- Phases and positions.
-
--- a running journey is below its last step
-pub running_below : (plan : Planned) (h : List Item) → Follows plan h → phase plan h ≡ Run
-    → position_of h < step_count plan
-running_below plan h f run = (running-rises plan h f.goes.mode (ap is_running run)).1
-
--- one that goes back is above its target, and below its last step
-pub back_above : (plan : Planned) (h : List Item) (p : ℕ) → Follows plan h → phase plan h ≡ Back p
-    → (p < position_of h) × (position_of h < step_count plan)
-back_above plan h p f back =
-    let way = going_back-falls plan h f.goes.mode (ap is_going_back back) in
-    let same : Back way.target ≡ Back p = sym (phase-falling plan h way) ∙ back in
-    let is : way.target ≡ p = cc in
-    let above = way.above in
-    let falls_to = way.falls in
-    let short = way.short in
-    (omega arith, omega arith)
-
--- one that has ended stands at its last step
-pub ended_at : (plan : Planned) (h : List Item) → Follows plan h → phase plan h ≡ Ended
-    → position_of h ≡ step_count plan
-ended_at plan h f e = by_mode f.goes.mode
-  where
-    by_mode : Mode plan h → position_of h ≡ step_count plan
-    by_mode (rises r) = elim (upward plan h r) [
-      | runs below run ↦ (let bad : Run ≡ Ended = sym run ∙ e in cc)
-      | ended at same ↦ at
-    ]
-    by_mode (falls way) = let bad : Back way.target ≡ Ended = sym (phase-falling plan h way) ∙ e in cc
-    by_mode (fell way) = let bad : Undone ≡ Ended = sym (phase-fallen plan h way) ∙ e in cc
-
--- one that is undone stands at the start
-pub undone_at : (plan : Planned) (h : List Item) → Follows plan h → phase plan h ≡ Undone
-    → position_of h ≡ 0
-undone_at plan h f e = by_mode f.goes.mode
-  where
-    by_mode : Mode plan h → position_of h ≡ 0
-    by_mode (rises r) = elim (upward plan h r) [
-      | runs below run ↦ (let bad : Run ≡ Undone = sym run ∙ e in cc)
-      | ended at same ↦ (let bad : Ended ≡ Undone = sym same ∙ e in cc)
-    ]
-    by_mode (falls way) = let bad : Back way.target ≡ Undone = sym (phase-falling plan h way) ∙ e in cc
-    by_mode (fell way) = way.low
-
--- a list that is not empty has a last element
-last_of-some : {X : Type 0} (xs : List X) → 0 < length xs → (t : X) × (last_of xs ≡ Some t)
-last_of-some [] e = absurd (omega arith)
-last_of-some (x ∷ []) e = (x, refl)
-last_of-some (x ∷ y ∷ ys) e = last_of-some (y ∷ ys) (omega arith)
-
--- above the start the last transaction that stands is that of the position
-pub last_standing : (plan : Planned) (h : List Item) → Follows plan h → 0 < position_of h
-    → (c : ℕ) × (last_of (net h) ≡ Some (position_of h, c))
-last_standing plan h f above =
-    let last = last_of-some (net h) above in
-    let step = (compensates h last.0.0 last.0.1 f.stands last.1).is_last in
-    (last.0.1, last.1 ∙ ap (λ n. Some (n, last.0.1)) step)

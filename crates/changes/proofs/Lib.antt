@@ -1,7 +1,13 @@
 pub mod Events
 pub mod Taking
+pub mod Inductions
 pub mod Histories
+pub mod Positions
+pub mod Numbered
 pub mod Items
 pub mod Taken
+pub mod Allotments
 pub mod Places
+pub mod Free
+pub mod Moves
 pub mod Answering

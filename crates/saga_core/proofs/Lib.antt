@@ -1,3 +1,5 @@
 pub mod RunLemmas
 pub mod MemoryLemmas
+pub mod DecidingLemmas
+pub mod ShownLemmas
 mod WorldLemmas

@@ -1,6 +1,6 @@
 -- What the journeys and the kept replies of a book in memory stand for, and what one more of them does. For MemBook.
 use Rattle.std.proofs.Common.{◌≡◌, ℕ, zero, suc, ◌+◌, ◌-◌, ◌<◌, ◌≤◌, ◌⊎◌, inl, inr, true, false, List, [], ◌∷◌, ◌++◌, length, map, take, get_or, refl, ap, sym, ◌∙◌, subst, arith, IsTrue}
-use Rattle.std.specs.Prelude.{Option, Some, None, option_map, unwrap_or, nat_le, nat_lt, ◌==◌, ◌&&◌, not, bytes_eq, find, filter_map, slice_get, if◌then◌else◌}
+use Rattle.std.specs.Prelude.{Option, Some, None, option_map, unwrap_or, nat_lt, ◌==◌, ◌&&◌, not, bytes_eq, find, filter_map, slice_get, if◌then◌else◌}
 use Rattle.std.specs.List.{cons_option}
 use Rattle.std.proofs.lemmas.Grind.{common_steps}
 use Rattle.std.proofs.lemmas.Bool.Decides.{leb_tells}
@@ -13,18 +13,17 @@ use Rattle.allotment.specs.declared.cells.Cell.{Cell}
 use Rattle.commands.specs.Asked.{Asked}
 use Rattle.commands.specs.Names.{house}
 use Rattle.commands.specs.Request as request
-use Rattle.commands.specs.declared.items.Item.{Item}
 use Rattle.commands.specs.declared.items.Phase.TheVariants.{Run, Ended}
 use Rattle.commands.specs.declared.refusals.Refusal.TheVariants.{Limit}
 use Rattle.commands.specs.declared.replies.Reply.{Reply}
 use Rattle.commands.specs.declared.replies.Reply.TheVariants as reply
 use Rattle.plan.specs.Planned.{Planned, is_plan, step_count}
 use Rattle.ledger.proofs.Growing.{IsLegal-append}
-use Rattle.ledger.specs.Answer.{State, Kept, nothing_kept, keep, Answer, answer, answer_begin, most_events, asker, state_with, kept_after, carried_out, refused, KeptReply, outcome, outcome_for, answered_again}
+use Rattle.ledger.specs.Answer.{State, Kept, nothing_kept, keep, Answer, answer, answer_begin, most_events, asker, kept_after, carried_out, refused, KeptReply, outcome, outcome_for, answered_again}
 use Rattle.ledger.specs.History.{phase, is_finished}
-use Rattle.ledger.specs.Ledger.{Event, Began, Journey, journeys, journey_at, history, allotment, held, IsLegal, AreAllowedAfter}
-use Rattle.saga_core.specs.Memory.{event_of, ledger_of, journey_of, asked_of, kept_on, kept_of, kept_said, state_of, Begins, KeepsReply, StandsFor}
-use Rattle.saga_core.specs.Shown.{is_unfinished_above, Places, places_of, at_night, places_shown, IsStock, brief_of, brief_of_journey, first_unfinished}
+use Rattle.ledger.specs.Ledger.{Event, Began, journeys, journey_at, history, allotment, held, IsLegal, AreAllowedAfter}
+use Rattle.saga_core.specs.Memory.{event_of, ledger_of, journey_of, asked_of, kept_on, kept_of, kept_said, Begins, KeepsReply, StandsFor}
+use Rattle.saga_core.specs.Shown.{is_unfinished_above, places_of, at_night, places_shown, IsStock, brief_of, brief_of_journey, first_unfinished}
 use Rattle.saga_core.specs.declared.records.Brief.{Brief}
 use Rattle.saga_core.specs.declared.memory.Begun.{Begun}
 use Rattle.saga_core.specs.declared.memory.KeptAnswer.{KeptAnswer}

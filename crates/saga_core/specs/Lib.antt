@@ -3,3 +3,4 @@ pub mod Shown
 pub mod Runs
 pub mod Memory
 pub mod Worlds
+pub mod Deciding

@@ -1,5 +1,5 @@
 -- What the values of a book in memory stand for. So far journeys are begun, and nothing else happens to them.
-use Rattle.std.specs.Prelude.{◌≡◌, ℕ, List, [], ◌∷◌, ◌++◌, map, option_map, Option, Some, None, unwrap_or}
+use Rattle.std.specs.Prelude.{◌≡◌, List, [], ◌∷◌, ◌++◌, map, Option, unwrap_or}
 use Rattle.commands.specs.Asked.{Asked}
 use Rattle.ledger.specs.Answer.{State, Kept, KeptReply, nothing_kept, keep, asker}
 use Rattle.ledger.specs.Ledger.{Event, Began, Journey, IsLegal}

@@ -1,4 +1,4 @@
-use Rattle.std.proofs.Common.{◌≡◌, ◌∙◌, ap, sym, true, false}
+use Rattle.std.proofs.Common.{◌∙◌, ap, sym}
 use Rattle.std.specs.Prelude.{option_map}
 use Rattle.saga_core.specs.Memory.{kept_said}
 use Rattle.saga_core.proofs.MemoryLemmas.{found-more, found-other}

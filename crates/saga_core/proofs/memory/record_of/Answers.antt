@@ -1,4 +1,4 @@
-use Rattle.std.proofs.Common.{◌≡◌, ◌∙◌, ap, sym, refl, false, []}
+use Rattle.std.proofs.Common.{◌∙◌, sym, refl, []}
 use Rattle.std.specs.FinSet.{contains-empty}
 use Rattle.savepoints.specs.Marks.{same_marks}
 use Rattle.saga_core.specs.Shown.{marks_of}

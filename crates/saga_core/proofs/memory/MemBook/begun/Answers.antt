@@ -1,6 +1,6 @@
 use Rattle.std.proofs.Common.{◌≡◌, ◌<◌, ◌∙◌, ap, sym, arith, length, inl, inr}
 use Rattle.std.proofs.lemmas.Option.{slice_get-get_or}
-use Rattle.std.specs.Prelude.{ℕ, suc, ◌-◌, Some, None, option_map}
+use Rattle.std.specs.Prelude.{suc, ◌-◌, Some, option_map}
 use Rattle.ledger.specs.Ledger.{journey_at}
 use Rattle.saga_core.specs.Memory.{ledger_of, journey_of}
 use Rattle.saga_core.proofs.MemoryLemmas.{journey_at-ledger_of, journey_at-past}

@@ -1,4 +1,4 @@
-use Rattle.std.proofs.Common.{◌≡◌, ◌∙◌, ap, sym, arith, refl}
+use Rattle.std.proofs.Common.{arith, refl}
 use Rattle.std.specs.Prelude.{None}
 use Rattle.saga_core.proofs.MemoryLemmas.{reply-begin, stands-begin}
 use Rattle.saga_core.proofs.memory.MemBook.carry_out.Goals as goal

@@ -1,7 +1,7 @@
-use Rattle.std.proofs.Common.{◌≡◌, ◌<◌, ◌∙◌, ap, sym, arith, refl, subst, length}
-use Rattle.std.specs.Prelude.{None, Some, option_map, bytes_eq}
+use Rattle.std.proofs.Common.{◌≡◌, ◌<◌, ◌∙◌, ap, sym, arith, subst, length}
+use Rattle.std.specs.Prelude.{None, Some}
 use Rattle.commands.specs.Request as request
-use Rattle.ledger.specs.Answer.{State, keep, Outcome, outcome, answered_again, most_events}
+use Rattle.ledger.specs.Answer.{keep, Outcome, answered_again, most_events}
 use Rattle.saga_core.specs.Memory.{kept_said, kept_of, StandsFor}
 use Rattle.saga_core.proofs.MemoryLemmas.{reply-begin, stands-begin, kept_of-keeps, outcome-known, outcome-new}
 use Rattle.saga_core.proofs.memory.MemBook.carry_out_for.Goals as goal

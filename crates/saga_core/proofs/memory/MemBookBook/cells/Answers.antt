@@ -1,4 +1,4 @@
-use Rattle.std.proofs.Common.{◌≡◌, List, [], ◌∷◌, ◌∙◌, ap, sym, refl}
+use Rattle.std.proofs.Common.{◌∙◌, ap, sym}
 use Rattle.std.specs.Prelude.{map}
 use Rattle.ledger.specs.Answer.{State}
 use Rattle.saga_core.specs.Shown.{places_shown, night_said}

@@ -1,10 +1,6 @@
-use Rattle.std.proofs.Common.{◌≡◌, ℕ, ◌+◌, ◌<◌, ◌≤◌, ◌∙◌, ap, sym, refl, arith, length}
-use Rattle.std.specs.Prelude.{Some, None, suc, option_map}
-use Rattle.std.proofs.lemmas.Option.{slice_get-get_or}
+use Rattle.std.proofs.Common.{◌∙◌, ap, sym, arith}
 use Rattle.ledger.specs.Answer.{State}
-use Rattle.ledger.specs.Ledger.{Event}
-use Rattle.saga_core.specs.Memory.{ledger_of}
-use Rattle.saga_core.specs.Shown.{first_unfinished, brief_of}
+use Rattle.saga_core.specs.Shown.{first_unfinished}
 use Rattle.saga_core.proofs.MemoryLemmas.{first-ledger_of, none-ledger_of}
 use Rattle.saga_core.proofs.memory.MemBookBook.first_unfinished.Goals as goal
 

@@ -1,8 +1,8 @@
-use Rattle.std.proofs.Common.{◌≡◌, ◌∙◌, ap, sym, refl, []}
+use Rattle.std.proofs.Common.{◌∙◌, ap, sym, []}
 use Rattle.std.specs.Prelude.{Some, option_map}
 use Rattle.ledger.specs.Answer.{State}
 use Rattle.ledger.specs.Ledger.{journey_at}
-use Rattle.saga_core.specs.Memory.{ledger_of, journey_of}
+use Rattle.saga_core.specs.Memory.{ledger_of}
 use Rattle.saga_core.specs.Shown.{record_of, record_of_journey}
 use Rattle.saga_core.proofs.MemoryLemmas.{history-ledger_of}
 use Rattle.saga_core.proofs.memory.MemBookBook.journey.Goals as goal

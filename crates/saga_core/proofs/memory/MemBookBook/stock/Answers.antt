@@ -1,7 +1,3 @@
-use Rattle.std.proofs.Common.{◌≡◌, ◌∙◌, ap, sym, refl, subst}
-use Rattle.ledger.specs.Answer.{State}
-use Rattle.ledger.specs.Ledger.{Event}
-use Rattle.saga_core.specs.Shown.{IsStock}
 use Rattle.saga_core.proofs.MemoryLemmas.{IsStock-ledger_of}
 use Rattle.saga_core.proofs.memory.MemBookBook.stock.Goals as goal
 
