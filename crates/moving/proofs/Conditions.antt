@@ -21,7 +21,8 @@ use Rattle.ledger.proofs.Cells.{is_cell-same}
 use Rattle.ledger.proofs.Growing.{induct}
 use Rattle.ledger.proofs.Lists.{list_any-and_all}
 use Rattle.changes.specs.Changed.{newer}
-use Rattle.changes.proofs.Allotments.{allotment-began, allotment-did, allotment-loaded, loaded_distinct}
+use Rattle.changes.proofs.Allotments.{loaded_distinct}
+use Rattle.changes.proofs.Places.{allotment-began, allotment-did, allotment-loaded}
 use Rattle.saga_core.specs.Shown.{Places, places_of}
 use Rattle.desk_sql.specs.Changes.{AreItemsBelow}
 use Rattle.desk_sql.specs.Rows.{Tables, StockRow, EntryRow}

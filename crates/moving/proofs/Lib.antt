@@ -19,3 +19,5 @@ pub mod Fitting
 pub mod Taken
 pub mod Batches
 pub mod SameRows
+pub mod Lines
+pub mod Numbers

@@ -15,8 +15,8 @@ use Rattle.ledger.specs.Ledger.{Event, Loaded, Journey, journeys, history, held,
 use Rattle.ledger.proofs.Cells.{is_cell-same}
 use Rattle.changes.specs.Changed.{newer, places_in_rows}
 use Rattle.changes.proofs.Events.{length-more, journeys-loaded, history-loaded}
-use Rattle.changes.proofs.Allotments.{allotment-loaded, loaded_distinct}
-use Rattle.changes.proofs.Places.{held-loaded}
+use Rattle.changes.proofs.Allotments.{loaded_distinct}
+use Rattle.changes.proofs.Places.{held-loaded, allotment-loaded}
 use Rattle.saga_core.specs.Shown.{places_of}
 use Rattle.desk_sql.specs.Rows.{Tables, MetaRow, StepRow, StockRow}
 use Rattle.standing.specs.Called.{counted_from, meta_called, batch_text, batches_called, begun, journey_row_of, journeys_called, is_standing, step_rows, steps_called, entries_called}

@@ -15,30 +15,34 @@ use Rattle.standing.specs.Called.{batch_text}
 use Rattle.moving.proofs.Alike.{same-self, row_of_cell}
 use Rattle.moving.proofs.Wants.{same_test}
 
+-- the byte is another one than this
+abbrev pub is_not : ℕ → ℕ → Bool
+is_not sep byte = not (byte == sep)
+
 -- the byte ends no line
 abbrev pub ends_no_line : ℕ → Bool
-ends_no_line byte = not (byte == line_feed)
+ends_no_line byte = is_not line_feed byte
 
--- the first line feed ends the first line
-cut_line : (a b xs ys : List ℕ) → list_all ends_no_line a ≡ true → list_all ends_no_line b ≡ true
-    → a ++ line_feed ∷ xs ≡ b ++ line_feed ∷ ys → (a ≡ b) × (xs ≡ ys)
-cut_line [] [] xs ys p q e = (refl, cc)
-cut_line [] (y ∷ b) xs ys p q e =
-    let is : y ≡ line_feed = cc in
+-- the first byte of this value ends the first part
+pub cut_at : (sep : ℕ) (a b xs ys : List ℕ) → list_all (is_not sep) a ≡ true → list_all (is_not sep) b ≡ true
+    → a ++ sep ∷ xs ≡ b ++ sep ∷ ys → (a ≡ b) × (xs ≡ ys)
+cut_at sep [] [] xs ys p q e = (refl, cc)
+cut_at sep [] (y ∷ b) xs ys p q e =
+    let is : y ≡ sep = cc in
     let bad : false ≡ true =
-    sym (ap not (eq-eqb y line_feed is)) ∙ (and_parts (ends_no_line y) (list_all ends_no_line b) q).0 in
+    sym (ap not (eq-eqb y sep is)) ∙ (and_parts (is_not sep y) (list_all (is_not sep) b) q).0 in
     cc
-cut_line (x ∷ a) [] xs ys p q e =
-    let is : x ≡ line_feed = cc in
+cut_at sep (x ∷ a) [] xs ys p q e =
+    let is : x ≡ sep = cc in
     let bad : false ≡ true =
-    sym (ap not (eq-eqb x line_feed is)) ∙ (and_parts (ends_no_line x) (list_all ends_no_line a) p).0 in
+    sym (ap not (eq-eqb x sep is)) ∙ (and_parts (is_not sep x) (list_all (is_not sep) a) p).0 in
     cc
-cut_line (x ∷ a) (y ∷ b) xs ys p q e =
+cut_at sep (x ∷ a) (y ∷ b) xs ys p q e =
     let is : x ≡ y = cc in
-    let rest : a ++ line_feed ∷ xs ≡ b ++ line_feed ∷ ys = cc in
+    let rest : a ++ sep ∷ xs ≡ b ++ sep ∷ ys = cc in
     let cut =
-    cut_line a b xs ys (and_parts (ends_no_line x) (list_all ends_no_line a) p).1
-    (and_parts (ends_no_line y) (list_all ends_no_line b) q).1 rest in
+    cut_at sep a b xs ys (and_parts (is_not sep x) (list_all (is_not sep) a) p).1
+    (and_parts (is_not sep y) (list_all (is_not sep) b) q).1 rest in
     (ap₂ ◌∷◌ is cut.0, cut.1)
 
 -- the text of a batch begins with the line of its first row
@@ -79,7 +83,8 @@ module _ (good : Row → Bool)
       let mine = and_parts (good r) (list_all good rows) p in
       let other = and_parts (good s) (list_all good known) q in
       let cut =
-      cut_line (row_text r) (row_text s) (batch_text rows) (batch_text known) (own_line r mine.0) (own_line s other.0)
+      cut_at line_feed (row_text r) (row_text s) (batch_text rows) (batch_text known) (own_line r mine.0)
+      (own_line s other.0)
       (sym (first_line r rows) ∙ e ∙ first_line s known) in
       let one = own_text r s mine.0 other.0 cut.0 in
       and_from (is_cell r.cell s.cell && (r.places == s.places)) (are_same_rows rows known)

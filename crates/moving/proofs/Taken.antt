@@ -3,7 +3,7 @@ use Rattle.std.proofs.Common.{◌≡◌, inl, inr, ℕ, zero, suc, ◌+◌, ◌�
 use Rattle.std.specs.Prelude.{flat_map, slice_get, option_map, option_and_then, unwrap_or, ◌&&◌}
 use Rattle.std.proofs.lemmas.Bool.{and_parts, and_from}
 use Rattle.sqlite_rules.specs.Lists.{Has}
-use Rattle.sqlite_rules.proofs.ListLemmas.{has_left, has_right, has_either, some_has, some_from}
+use Rattle.sqlite_rules.proofs.ListLemmas.{has_left, has_right, has_either, some_has, some_from, test_has}
 use Rattle.sqlite_rules.proofs.ProbeLemmas.{has_mapped, mapped_has}
 use Rattle.allotment.specs.Want.{Wanted}
 use Rattle.allotment.specs.Cells.{numbers_from}
@@ -11,10 +11,11 @@ use Rattle.plan.specs.Planned.{Planned, StepPlan, numbered, is_marked_at, want_a
 use Rattle.commands.specs.declared.items.Item.{Item}
 use Rattle.ledger.specs.History.{last_of, net}
 use Rattle.ledger.proofs.Lists.{last_of-is}
-use Rattle.changes.proofs.Histories.{Follows}
+use Rattle.changes.proofs.Histories.{Follows, is_option_of}
 use Rattle.desk_sql.specs.Rows.{StepRow}
 use Rattle.standing.specs.Called.{counted_from, flag, is_standing, option_row, option_rows, step_rows}
 use Rattle.standing.proofs.Numbering.{counted_stands, counted_has}
+use Rattle.moving.proofs.Plans.{option_wanted}
 
 -- what is in one of the lists is in all of them together
 has_flat_map : {X Y : Type 0} (f : X → List Y) (xs : List X) (x : X) (y : Y) → Has xs x → Has (f x) y
@@ -172,3 +173,12 @@ taken_row_there plan h id i c w last want =
     subst
     (λ b. Has (step_rows (is_standing h) id plan) (option_row id i (is_marked_at plan i) c b w))
     (option_taken h i c last) (row_there (is_standing h) id plan i c w want)
+
+-- since its option is one of its step
+pub last_wanted : (plan : Planned) (h : List Item) (i c : ℕ) → Follows plan h
+    → last_of (net h) ≡ Some (i, c) → (w : Wanted) × (want_at plan i c ≡ Some w)
+last_wanted plan h i c f last =
+    let cut = last_of-is (net h) (i, c) last in
+    let there =
+    subst (λ ts. Has ts (i, c)) (sym cut.1) (has_right cut.0 ((i, c) ∷ []) (i, c) (inl refl)) in
+    option_wanted plan i c (test_has (is_option_of plan) (net h) (i, c) f.options there)
