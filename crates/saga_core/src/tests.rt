@@ -42,7 +42,11 @@ fn journeys_are_numbered_from_1(rt: HostRuntime) -> Result<(), Fail> {
         }
         Err((replies, fault)) => {
             assert_eq!(rt; fault, Fault::Memory);
-            assert_eq!(rt; replies.len(), 2, "a command had no answer");
+            assert_eq!(rt;
+                replies.len(),
+                2,
+                "memory ran out before a command was answered"
+            );
         }
     }
     Ok(())
