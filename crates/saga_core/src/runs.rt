@@ -13,8 +13,15 @@ use std::alloc::Global;
 fn keep_limits(command: &Command)
     ensures limits { IsTrue (is_request (request_of command.now)) }
 {
-    let Command::Begin(plan) = command;
-    let _steps = plan.steps();
+    match command {
+        Command::Load(batch) => {
+            let _rows = batch.rows();
+        }
+        Command::Begin(plan) => {
+            let _steps = plan.steps();
+        }
+        Command::Step(_) | Command::Abort(_, _) | Command::Stop(_) | Command::Save(_) => {}
+    }
 }
 
 /// Answers commands in order. At a fault, the replies so far come with it.

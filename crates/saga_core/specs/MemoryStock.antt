@@ -1,0 +1,86 @@
+-- The places of all cells, as a book in memory keeps them, and what its calls change of them.
+use Rattle.std.specs.Prelude.{◌≡◌, ℕ, ◌+◌, ◌-◌, ◌≤◌, Bool, false, List, filter, nat_le, nat_lt, Option, Some, option_map, unwrap_or, IfSome, IsTrue}
+use Rattle.std.specs.List.{list_all}
+use Rattle.std.specs.BTreeMap as tree
+use Rattle.std.specs.Ordering.{nat_cmp, on, then_cmp}
+use Rattle.std.specs.Cmp.Lexicographic.{slice_cmp}
+use Rattle.std.specs.declared.cmp.Ordering.{Ordering}
+use Rattle.allotment.specs.Want.{Wanted}
+use Rattle.allotment.specs.Cells.{kind_number, is_cell, cells_of, wants_cell}
+use Rattle.allotment.specs.declared.cells.Cell.{Cell}
+use Rattle.allotment.specs.declared.cells.Row.{Row}
+use Rattle.ledger.specs.History.{last_of}
+use Rattle.ledger.specs.Ledger.{places_in}
+use Rattle.saga_core.specs.Shown.{Places, places_said}
+use Rattle.saga_core.specs.declared.memory.keys.CellKey.{CellKey}
+use Rattle.saga_core.specs.declared.memory.stock.Stock.{Stock}
+
+-- cells as keys are ordered by kind, supplier, product and night
+abbrev pub cell_key_cmp : CellKey → CellKey → Ordering
+cell_key_cmp =
+    then_cmp (on (λ k. kind_number k.cell.kind) nat_cmp)
+    (then_cmp (on (λ k. k.cell.supplier) (slice_cmp nat_cmp))
+    (then_cmp (on (λ k. k.cell.product) (slice_cmp nat_cmp)) (on (λ k. k.cell.night) nat_cmp)))
+
+-- what the stock has of a cell
+abbrev pub stock_at : Stock → Cell → Option Places
+stock_at stock x =
+    option_map places_said (tree.get cell_key_cmp stock.places (record { cell = x }))
+
+-- so many places of a cell are free
+abbrev pub has_free_in : Stock → ℕ → Cell → Bool
+has_free_in stock count x =
+    unwrap_or (option_map (λ (p : Places). nat_le count p.free) (stock_at stock x)) false
+
+-- a want fits: each of its cells has its count of free places
+abbrev pub fits_in_stock : Stock → Wanted → Bool
+fits_in_stock stock want = list_all (has_free_in stock want.count) (cells_of want)
+
+-- with so many fewer free places
+abbrev pub with_less : ℕ → Places → Places
+with_less n p = record { allot = p.allot; free = p.free - n }
+
+-- with so many more free places
+abbrev pub with_more : ℕ → Places → Places
+with_more n p = record { allot = p.allot; free = p.free + n }
+
+-- each cell of the want has its count fewer free places, and no other changes
+abbrev pub TakesPlaces : Stock → Stock → Wanted → Type 0
+TakesPlaces old new want =
+    (x : Cell) → stock_at new x ≡ option_map (with_less (places_in x (Some want))) (stock_at old x)
+
+-- each cell of the want has its count more free places, and no other changes
+abbrev pub GivesPlaces : Stock → Stock → Wanted → Type 0
+GivesPlaces old new want =
+    (x : Cell) → stock_at new x ≡ option_map (with_more (places_in x (Some want))) (stock_at old x)
+
+-- of each cell of the want at least its count is held
+abbrev pub HoldsWant : Stock → Wanted → Type 0
+HoldsWant stock want =
+    (x : Cell) → IsTrue (wants_cell want x)
+    → IfSome (stock_at stock x) (λ p. p.free + want.count ≤ p.allot)
+
+-- the row has fewer places than journeys hold of its cell
+abbrev pub is_below_in : Stock → Row → Bool
+is_below_in stock row =
+    unwrap_or
+    (option_map (λ (p : Places). nat_lt row.places (p.allot - p.free)) (stock_at stock row.cell)) false
+
+-- with another allotment: what is held stays held
+abbrev pub with_allotment : ℕ → Places → Places
+with_allotment n p = record { allot = n; free = n - (p.allot - p.free) }
+
+-- the places of a cell once it is allotted so many
+abbrev pub set_to : Stock → Cell → ℕ → Places
+set_to stock x n =
+    unwrap_or (option_map (with_allotment n) (stock_at stock x)) (record { allot = n; free = n })
+
+-- the last of these rows that is of this cell
+abbrev pub last_row : List Row → Cell → Option Row
+last_row rows x = last_of (filter (λ (r : Row). is_cell x r.cell) rows)
+
+-- each cell of the rows has the places of its last row, and no other changes
+abbrev pub LoadsRows : Stock → Stock → List Row → Type 0
+LoadsRows old new rows =
+    (x : Cell) → stock_at new x ≡ unwrap_or
+    (option_map (λ (r : Row). Some (set_to old x r.places)) (last_row rows x)) (stock_at old x)
