@@ -1,0 +1,10 @@
+pub mod Events
+pub mod Taking
+pub mod Inductions
+pub mod Histories
+pub mod Positions
+pub mod Items
+pub mod Taken
+pub mod Places
+pub mod Moves
+pub mod Answering

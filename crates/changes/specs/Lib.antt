@@ -1,0 +1,4 @@
+pub mod Cursors
+pub mod Changed
+pub mod Legal
+pub mod Answered
