@@ -1,3 +1,3 @@
+pub mod CellLemmas
 pub mod RunLemmas
-pub mod MemoryLemmas
-mod WorldLemmas
+pub mod WorldLemmas

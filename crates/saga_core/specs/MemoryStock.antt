@@ -1,12 +1,12 @@
 -- The places of all cells, as a book in memory keeps them, and what its calls change of them.
-use Rattle.std.specs.Prelude.{◌≡◌, ℕ, ◌+◌, ◌-◌, ◌≤◌, Bool, false, List, filter, nat_le, nat_lt, Option, Some, option_map, unwrap_or, IfSome, IsTrue}
+use Rattle.std.specs.Prelude.{◌≡◌, ℕ, ◌+◌, ◌-◌, Bool, false, List, filter, nat_le, nat_lt, if◌then◌else◌, Option, Some, option_map, unwrap_or}
 use Rattle.std.specs.List.{list_all}
 use Rattle.std.specs.BTreeMap as tree
 use Rattle.std.specs.Ordering.{nat_cmp, on, then_cmp}
 use Rattle.std.specs.Cmp.Lexicographic.{slice_cmp}
 use Rattle.std.specs.declared.cmp.Ordering.{Ordering}
 use Rattle.allotment.specs.Want.{Wanted}
-use Rattle.allotment.specs.Cells.{kind_number, is_cell, cells_of, wants_cell}
+use Rattle.allotment.specs.Cells.{kind_number, is_cell, cells_of}
 use Rattle.allotment.specs.declared.cells.Cell.{Cell}
 use Rattle.allotment.specs.declared.cells.Row.{Row}
 use Rattle.ledger.specs.History.{last_of}
@@ -40,25 +40,21 @@ fits_in_stock stock want = list_all (has_free_in stock want.count) (cells_of wan
 abbrev pub with_less : ℕ → Places → Places
 with_less n p = record { allot = p.allot; free = p.free - n }
 
--- with so many more free places
-abbrev pub with_more : ℕ → Places → Places
-with_more n p = record { allot = p.allot; free = p.free + n }
+-- with so many more free places, where so many are held
+abbrev pub with_back : ℕ → Places → Places
+with_back n p =
+    if nat_le n (p.allot - p.free) then record { allot = p.allot; free = p.free + n } else p
 
--- each cell of the want has its count fewer free places, and no other changes
-abbrev pub TakesPlaces : Stock → Stock → Wanted → Type 0
-TakesPlaces old new want =
-    (x : Cell) → stock_at new x ≡ option_map (with_less (places_in x (Some want))) (stock_at old x)
+-- the places of this cell change so, where it was loaded, and no other cell's
+abbrev pub ChangesOne : (Places → Places) → Cell → Stock → Stock → Type 0
+ChangesOne change cell old new =
+    (x : Cell) → stock_at new x
+    ≡ (if is_cell x cell then option_map change (stock_at old cell) else stock_at old x)
 
--- each cell of the want has its count more free places, and no other changes
-abbrev pub GivesPlaces : Stock → Stock → Wanted → Type 0
-GivesPlaces old new want =
-    (x : Cell) → stock_at new x ≡ option_map (with_more (places_in x (Some want))) (stock_at old x)
-
--- of each cell of the want at least its count is held
-abbrev pub HoldsWant : Stock → Wanted → Type 0
-HoldsWant stock want =
-    (x : Cell) → IsTrue (wants_cell want x)
-    → IfSome (stock_at stock x) (λ p. p.free + want.count ≤ p.allot)
+-- the places of each cell of the want change by its count, and no other cell's do
+abbrev pub ChangesEach : (ℕ → Places → Places) → Wanted → Stock → Stock → Type 0
+ChangesEach change want old new =
+    (x : Cell) → stock_at new x ≡ option_map (change (places_in x (Some want))) (stock_at old x)
 
 -- the row has fewer places than journeys hold of its cell
 abbrev pub is_below_in : Stock → Row → Bool

@@ -8,17 +8,18 @@ mod journeys;
 mod keys;
 mod loading;
 mod moving;
+mod next;
 mod stock;
 
 use crate::books::Book;
 use crate::memory::answers::Answers;
 use crate::memory::journeys::Journey;
+use crate::memory::next::is_finished;
 use crate::memory::stock::Stock;
 use crate::records::{Brief, Record};
 use allotment::{Cell, Held, Night, Want};
-use commands::{Agent, Ask, Batch, Cause, Command, Fault, Item, Phase, Refusal, Reply};
+use commands::{Agent, Ask, Batch, Command, Fault, Item, Refusal, Reply};
 use plan::Plan;
-use savepoints::Turn;
 use std::alloc::{AllocError, Global};
 
 /// How many events a ledger may have.
@@ -39,8 +40,17 @@ pub struct MemBook {
 }
 
 impl MemBook {
+    ghost use Rattle.std.specs.Prelude.{◌≡◌, ◌≤◌, ◌<◌, ◌⊎◌, ◌↔◌, suc, length, IfSome, IfNone, IsTrue};
+    ghost use Rattle.std.specs.Option.{option_copied};
+    ghost use Rattle.commands.specs.Orders.{request_of};
+    ghost use Rattle.commands.specs.Request as request;
+    ghost use Rattle.ledger.specs.Answer.{start};
+    ghost use Rattle.saga_core.specs.Memory.{StandsFor, CarriesOut, KeepsBook};
+
     /// A new desk: no event, and no reply kept. It takes no memory.
-    pub fn new(alloc: Global) -> MemBook {
+    pub fn new(alloc: Global) -> MemBook
+        ensures start { StandsFor result start }
+    {
         MemBook {
             journeys: Vec::new(alloc),
             stock: Stock::new(alloc),
@@ -52,12 +62,19 @@ impl MemBook {
     }
 
     /// Whether the ledger has as many events as it may have.
-    fn is_full(&self) -> bool {
+    fn is_full(&self) -> bool
+        ensures full { IsTrue result ↔ (MOST_EVENTS ≤ self.now.events) }
+    {
         self.events >= MOST_EVENTS
     }
 
     /// The place of the journey with this number, if there is one.
-    fn place_of(&self, id: u64) -> Option<usize> {
+    fn place_of(&self, id: u64) -> Option<usize>
+        ensures within { IfSome result (λ place. place < length self.now.journeys.items) }
+        ensures number { IfSome result (λ place. id ≡ suc place) }
+
+        ensures none { IfNone result ((id ≡ 0) ⊎ (length self.now.journeys.items < id)) }
+    {
         if id == 0 || id > self.journeys.len() as u64 {
             return None;
         }
@@ -65,7 +82,11 @@ impl MemBook {
     }
 
     /// Begins a journey of who asks, or of the house.
-    fn begin(&mut self, plan: &Plan, ask: Option<&Ask>) -> Result<Reply, AllocError> {
+    fn begin(&mut self, plan: &Plan, ask: Option<&Ask>) -> Result<Reply, AllocError>
+        ensures answer { CarriesOut self.old self.new (option_copied ask.entry)
+            (request.Begin plan.now) result }
+        ensures memory { KeepsBook self.old self.new result }
+    {
         if self.is_full() {
             return Ok(Reply::Refused(Refusal::Limit));
         }
@@ -86,13 +107,17 @@ impl MemBook {
     }
 
     /// Answers a command whose key is not known.
-    fn answer(&mut self, command: &Command, ask: Option<&Ask>) -> Result<Reply, AllocError> {
+    fn answer(&mut self, command: &Command, ask: Option<&Ask>) -> Result<Reply, AllocError>
+        ensures answer { CarriesOut self.old self.new (option_copied ask.entry)
+            (request_of command.now) result }
+        ensures memory { KeepsBook self.old self.new result }
+    {
         match command {
             Command::Load(batch) => self.load(batch, ask),
             Command::Begin(plan) => self.begin(plan, ask),
             Command::Step(id) => self.step(*id, ask),
-            Command::Abort(id, p) => self.turn(*id, Turn::Asked(*p), Cause::Asked, ask),
-            Command::Stop(id) => self.turn(*id, Turn::Stop, Cause::Stop, ask),
+            Command::Abort(id, p) => self.abort(*id, *p, ask),
+            Command::Stop(id) => self.stop(*id, ask),
             Command::Save(id) => self.save(*id, ask),
         }
     }
@@ -152,8 +177,7 @@ impl Book for MemBook {
     fn first_unfinished(&mut self, after: u64) -> Result<Option<Brief>, Fault> {
         for place in 0..self.journeys.len() {
             let journey = &self.journeys[place];
-            let is_finished = matches!(journey.cursor.phase, Phase::Ended | Phase::Undone);
-            if place as u64 >= after && !is_finished {
+            if place as u64 >= after && !is_finished(journey.cursor.phase) {
                 return Ok(Some(journey.brief(place as u64 + 1)));
             }
         }

@@ -12,8 +12,15 @@ pub struct KeptAnswer {
 }
 
 impl KeptAnswer {
+    ghost use Rattle.std.specs.Prelude.{◌≡◌};
+    ghost use Rattle.ledger.specs.Answer.{State, answered_again};
+    ghost use Rattle.saga_core.specs.MemoryAnswers.{kept_said};
+
     /// What is answered to this text under a known key: the kept reply, where it is the same text.
-    fn again(&self, text: &[u8]) -> Reply {
+    fn again(&self, text: &[u8]) -> Reply
+        ensures reply { (s : State) → result
+            ≡ (answered_again s text.now (kept_said self.now)).reply }
+    {
         if self.text.as_slice() == text {
             self.reply
         } else {
@@ -29,15 +36,26 @@ pub struct Answers {
 }
 
 impl Answers {
+    ghost use Rattle.std.specs.Prelude.{◌≡◌, OnOk, OnErr, option_map};
+    ghost use Rattle.std.specs.Option.{option_copied};
+    ghost use Rattle.ledger.specs.Answer.{State, nothing_kept, kept_after, answered_again};
+    ghost use Rattle.saga_core.specs.MemoryAnswers.{kept_in, AreKeptAlike};
+
     /// No reply is kept.
-    pub fn new(alloc: Global) -> Answers {
+    pub fn new(alloc: Global) -> Answers
+        ensures nothing { AreKeptAlike (kept_in result) nothing_kept }
+    {
         Answers {
             kept: BTreeMap::new(alloc),
         }
     }
 
     /// What is answered to an ask whose key is known.
-    pub fn again(&self, ask: &Ask) -> Option<Reply> {
+    pub fn again(&self, ask: &Ask) -> Option<Reply>
+        ensures known { (s : State) → result
+            ≡ option_map (λ k. (answered_again s ask.now.text k).reply)
+            (kept_in self.now ask.now.agent ask.now.key) }
+    {
         match self.kept.get(&AskKey::of(ask)) {
             Some(kept) => Some(kept.again(ask.text())),
             None => None,
@@ -50,7 +68,12 @@ impl Answers {
         alloc: Global,
         ask: Option<&Ask>,
         reply: Reply,
-    ) -> Result<(), AllocError> {
+    ) -> Result<(), AllocError>
+        ensures kept { OnOk result (AreKeptAlike (kept_in self.new)
+            (kept_after (kept_in self.old) (option_copied ask.entry) reply)) }
+
+        ensures memory { OnErr result (AreKeptAlike (kept_in self.new) (kept_in self.old)) }
+    {
         let Some(ask) = ask else {
             return Ok(());
         };

@@ -1,67 +1,30 @@
 //! Moves of journeys: steps, turns and save-points.
 use crate::memory::MemBook;
-use crate::memory::journeys::{Journey, cursor_after};
-use allotment::Want;
-use commands::{Ask, Cause, Item, Phase, Refusal, Reply};
-use savepoints::{Turn, is_save_point, last_save, target};
+use crate::memory::journeys::cursor_after;
+use crate::memory::next::{is_running, saved, stepped, turned};
+use commands::{Ask, Cause, Item, Refusal, Reply};
+use savepoints::Turn;
 use std::alloc::AllocError;
 
-/// The position to which a journey in this phase is going back.
-fn going(phase: Phase) -> Option<usize> {
-    match phase {
-        Phase::Back(target) => Some(target),
-        _ => None,
-    }
-}
-
-/// What a move comes to, by the journey alone: an item, or why there is none.
-fn turned(journey: &Journey, turn: Turn, cause: Cause) -> Result<Item, Refusal> {
-    let Journey { plan, marks, cursor, .. } = journey;
-    match cursor.phase {
-        Phase::Ended | Phase::Undone => Err(Refusal::Finished),
-        phase => match target(plan, marks, cursor.pos, cursor.used, turn, going(phase)) {
-            Ok(target) => Ok(Item::Turn { target, cause }),
-            Err(_) => Err(Refusal::NoSavePoint),
-        },
-    }
-}
-
-/// A save-point where the journey is, or why there is none.
-fn saved(journey: &Journey) -> Result<Item, Refusal> {
-    let position = journey.cursor.pos;
-    match journey.cursor.phase {
-        Phase::Ended | Phase::Undone => Err(Refusal::Finished),
-        Phase::Back(_) => Err(Refusal::NoSave),
-        Phase::Run => {
-            if position == 0 || is_save_point(&journey.plan, &journey.marks, position, position) {
-                Err(Refusal::NoSave)
-            } else {
-                Ok(Item::Save { position })
-            }
-        }
-    }
-}
-
 impl MemBook {
-    /// The next step of a journey, or why there is none.
-    fn stepped(&self, journey: &Journey) -> Result<Item, Refusal> {
-        let pos = journey.cursor.pos;
-        match journey.cursor.phase {
-            Phase::Ended | Phase::Undone => Err(Refusal::Finished),
-            Phase::Back(_) => Ok(Item::Compensation {
-                step: pos,
-                option: journey.last_option(),
-            }),
-            Phase::Run if self.stock.fits(&journey.next_want()) => Ok(Item::Transaction {
-                step: pos + 1,
-                option: journey.next_option(),
-            }),
-            Phase::Run => turned(journey, Turn::Refused, Cause::Refused),
-        }
-    }
+    ghost use Rattle.std.specs.Prelude.{◌≡◌, ◌<◌, suc, length, slice_get, Some, IfOk, IfSome, IfNone, IsTrue};
+    ghost use Rattle.std.specs.Option.{option_copied};
+    ghost use Rattle.commands.specs.Request as request;
+    ghost use Rattle.commands.specs.Request.{Request};
+    ghost use Rattle.ledger.specs.Answer.{State, asker, answer, answer_within, is_request};
+    ghost use Rattle.ledger.specs.Ledger.{Did, is_allowed};
+    ghost use Rattle.changes.specs.Answered.{moves};
+    ghost use Rattle.saga_core.specs.Memory.{StandsFor, IsCarriedOut, CarriesOut, KeepsBook};
+    ghost use Rattle.saga_core.specs.Memory.{IsSeenAt, IsSeenNowhere, IsMove, MayBeMade};
+    ghost use Rattle.saga_core.specs.declared.memory.journeys.Journey.{Journey};
 
     /// The place of the journey with this number, if who asks sees it.
-    fn seen(&self, id: u64, ask: Option<&Ask>) -> Option<usize> {
+    fn seen(&self, id: u64, ask: Option<&Ask>) -> Option<usize>
+        ensures seen { IfSome result (IsSeenAt self.now (asker (option_copied ask.entry)) id) }
+
+        ensures none { IfNone result
+            (IsSeenNowhere self.now (asker (option_copied ask.entry)) id) }
+    {
         let place = self.place_of(id)?;
         if self.journeys[place].is_seen_by(ask) {
             Some(place)
@@ -71,31 +34,57 @@ impl MemBook {
     }
 
     /// Does a journey's next step.
-    pub fn step(&mut self, id: u64, ask: Option<&Ask>) -> Result<Reply, AllocError> {
+    pub fn step(&mut self, id: u64, ask: Option<&Ask>) -> Result<Reply, AllocError>
+        ensures answer { CarriesOut self.old self.new (option_copied ask.entry)
+            (request.Step id) result }
+        ensures memory { KeepsBook self.old self.new result }
+    {
         let Some(place) = self.seen(id, ask) else {
             return Ok(Reply::Refused(Refusal::NoJourney));
         };
-        let next = self.stepped(&self.journeys[place]);
+        let journey = &self.journeys[place];
+        let fits = is_running(journey.cursor.phase) && self.stock.fits(&journey.next_want());
+        let next = stepped(journey, fits);
         self.carry_out(place, next, ask)
     }
 
-    /// Turns a journey back.
-    pub fn turn(
+    /// Turns a journey back to a position.
+    pub fn abort(
         &mut self,
         id: u64,
-        turn: Turn,
-        cause: Cause,
+        position: usize,
         ask: Option<&Ask>,
-    ) -> Result<Reply, AllocError> {
+    ) -> Result<Reply, AllocError>
+        ensures answer { CarriesOut self.old self.new (option_copied ask.entry)
+            (request.Abort id position) result }
+        ensures memory { KeepsBook self.old self.new result }
+    {
         let Some(place) = self.seen(id, ask) else {
             return Ok(Reply::Refused(Refusal::NoJourney));
         };
-        let next = turned(&self.journeys[place], turn, cause);
+        let next = turned(&self.journeys[place], Turn::Asked(position), Cause::Asked);
+        self.carry_out(place, next, ask)
+    }
+
+    /// Turns a running journey back to its last save-point.
+    pub fn stop(&mut self, id: u64, ask: Option<&Ask>) -> Result<Reply, AllocError>
+        ensures answer { CarriesOut self.old self.new (option_copied ask.entry)
+            (request.Stop id) result }
+        ensures memory { KeepsBook self.old self.new result }
+    {
+        let Some(place) = self.seen(id, ask) else {
+            return Ok(Reply::Refused(Refusal::NoJourney));
+        };
+        let next = turned(&self.journeys[place], Turn::Stop, Cause::Stop);
         self.carry_out(place, next, ask)
     }
 
     /// Takes a save-point where a journey is.
-    pub fn save(&mut self, id: u64, ask: Option<&Ask>) -> Result<Reply, AllocError> {
+    pub fn save(&mut self, id: u64, ask: Option<&Ask>) -> Result<Reply, AllocError>
+        ensures answer { CarriesOut self.old self.new (option_copied ask.entry)
+            (request.Save id) result }
+        ensures memory { KeepsBook self.old self.new result }
+    {
         let Some(place) = self.seen(id, ask) else {
             return Ok(Reply::Refused(Refusal::NoJourney));
         };
@@ -103,17 +92,32 @@ impl MemBook {
         self.carry_out(place, next, ask)
     }
 
-    /// Answers with why there is no item, or makes the item.
+    /// Answers why there is no item, or makes the item.
     fn carry_out(
         &mut self,
         place: usize,
         next: Result<Item, Refusal>,
         ask: Option<&Ask>,
-    ) -> Result<Reply, AllocError> {
+    ) -> Result<Reply, AllocError>
+        requires within { place < length self.old.journeys.items }
+        requires next { MayBeMade self.old place next }
+
+        ensures answer { (s : State) → StandsFor self.old s →
+            (asked : Request) → IsTrue (is_request asked) →
+            IsMove self.old place
+                (answer_within s.ledger (asker (option_copied ask.entry)) asked) next →
+            IfOk result (IsCarriedOut self.new s (option_copied ask.entry)
+                (answer s.ledger (asker (option_copied ask.entry)) asked)) }
+        ensures memory { KeepsBook self.old self.new result }
+    {
         match next {
             Err(refusal) => Ok(Reply::Refused(refusal)),
-            Ok(_) if self.is_full() => Ok(Reply::Refused(Refusal::Limit)),
-            Ok(item) => self.make(place, item, ask),
+            Ok(item) => {
+                if self.is_full() {
+                    return Ok(Reply::Refused(Refusal::Limit));
+                }
+                self.make(place, item, ask)
+            }
         }
     }
 
@@ -123,16 +127,29 @@ impl MemBook {
         place: usize,
         item: Item,
         ask: Option<&Ask>,
-    ) -> Result<Reply, AllocError> {
-        let journey = &mut self.journeys[place];
-        let cursor = cursor_after(&journey.plan, journey.cursor, item);
+    ) -> Result<Reply, AllocError>
+        requires within { place < length self.old.journeys.items }
+        requires next { MayBeMade self.old place (Ok item) }
+        requires room { self.old.events < MOST_EVENTS }
+
+        ensures answer { (s : State) → StandsFor self.old s →
+            (k : Journey) → slice_get self.old.journeys.items place ≡ Some k →
+            IsTrue (is_allowed s.ledger (Did (suc place) item)) →
+            IfOk result (IsCarriedOut self.new s (option_copied ask.entry)
+                (moves (suc place) k.plan k.cursor item)) }
+        ensures memory { KeepsBook self.old self.new result }
+    {
+        let cursor = {
+            let journey = &self.journeys[place];
+            cursor_after(&journey.plan, journey.cursor, item)
+        };
         let reply = Reply::Moved {
             id: place as u64 + 1,
             item,
             pos: cursor.pos,
             phase: cursor.phase,
         };
-        journey.reserve()?;
+        self.journeys[place].reserve()?;
         self.answers.keep(self.alloc, ask, reply)?;
         self.change_stock(place, item);
         self.journeys[place].make(item);

@@ -18,7 +18,7 @@ impl Stock {
     ghost use Rattle.allotment.specs.declared.cells.Cell.{Cell};
     ghost use Rattle.saga_core.specs.Shown.{places_said, night_said, at_night};
     ghost use Rattle.saga_core.specs.MemoryStock.{cell_key_cmp, stock_at, has_free_in, fits_in_stock};
-    ghost use Rattle.saga_core.specs.MemoryStock.{TakesPlaces, GivesPlaces, HoldsWant};
+    ghost use Rattle.saga_core.specs.MemoryStock.{with_less, with_back, ChangesOne, ChangesEach};
     ghost use Rattle.saga_core.specs.MemoryStock.{is_below_in, set_to, LoadsRows};
 
     /// Nothing was loaded.
@@ -68,31 +68,51 @@ impl Stock {
         }
     }
 
+    /// Takes so many places of a cell.
+    fn take_one(&mut self, cell: Cell, count: u32)
+        requires free { IsTrue (has_free_in self.old count cell) }
+
+        ensures taken { ChangesOne (with_less count) cell self.old self.new }
+    {
+        let Some(held) = self.get(cell) else {
+            return;
+        };
+        let left = take(held, count);
+        self.put(cell, left);
+    }
+
     /// Takes the places of a want.
     pub fn take(&mut self, want: &Want)
         requires fits { IsTrue (fits_in_stock self.old want.now) }
 
-        ensures taken { TakesPlaces self.old self.new want.now }
+        ensures taken { ChangesEach with_less want.now self.old self.new }
     {
         let count = u32::from(want.count());
         for cell in want.cells() {
-            if let Some(held) = self.get(cell) {
-                self.put(cell, take(held, count));
-            }
+            self.take_one(cell, count);
+        }
+    }
+
+    /// Gives so many places of a cell back, where so many are held.
+    fn give_one(&mut self, cell: Cell, count: u32)
+        ensures given { ChangesOne (with_back count) cell self.old self.new }
+    {
+        let Some(held) = self.get(cell) else {
+            return;
+        };
+        if count <= held.held() {
+            let more = give(held, count);
+            self.put(cell, more);
         }
     }
 
     /// Gives the places of a want back.
     pub fn give(&mut self, want: &Want)
-        ensures given { HoldsWant self.old want.now → GivesPlaces self.old self.new want.now }
+        ensures given { ChangesEach with_back want.now self.old self.new }
     {
         let count = u32::from(want.count());
         for cell in want.cells() {
-            if let Some(held) = self.get(cell) {
-                if count <= held.held() {
-                    self.put(cell, give(held, count));
-                }
-            }
+            self.give_one(cell, count);
         }
     }
 
