@@ -206,6 +206,7 @@ free-step change n k (x ∷ cells) old new one apart free =
     or_first : (a b : Bool) → (a || b) ≡ false → a ≡ false
     or_first true b e = e
     or_first false b e = refl
+
     or_rest : (a b : Bool) → (a || b) ≡ false → b ≡ false
     or_rest true b e = cc
     or_rest false b e = e

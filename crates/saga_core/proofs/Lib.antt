@@ -1,3 +1,6 @@
 pub mod CellLemmas
+pub mod KeptLemmas
+pub mod RowLemmas
+pub mod JourneyLemmas
 pub mod RunLemmas
 pub mod WorldLemmas

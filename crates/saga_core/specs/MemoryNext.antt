@@ -31,7 +31,7 @@ abbrev pub save_said : Planned → Cursor → set.FinSet nat_cmp → Result Item
 save_said plan c marks =
     if is_finished c.phase then Err Finished
     else if is_running c.phase && nat_lt 0 c.pos
-        && not (rules.is_save_point plan (is_taken_in marks) c.pos c.pos)
+    && not (rules.is_save_point plan (is_taken_in marks) c.pos c.pos)
     then Ok (item.Save c.pos) else Err NoSave
 
 -- a step goes back by the last option that was taken, or forward, or turns where its want does not fit

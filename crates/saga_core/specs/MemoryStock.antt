@@ -1,5 +1,5 @@
 -- The places of all cells, as a book in memory keeps them, and what its calls change of them.
-use Rattle.std.specs.Prelude.{◌≡◌, ℕ, ◌+◌, ◌-◌, Bool, false, List, filter, nat_le, nat_lt, if◌then◌else◌, Option, Some, option_map, unwrap_or}
+use Rattle.std.specs.Prelude.{◌≡◌, ℕ, ◌+◌, ◌-◌, ◌≤◌, ⊤, Bool, true, false, List, filter, nat_le, nat_lt, if◌then◌else◌, Option, Some, option_map, unwrap_or}
 use Rattle.std.specs.List.{list_all}
 use Rattle.std.specs.BTreeMap as tree
 use Rattle.std.specs.Ordering.{nat_cmp, on, then_cmp}
@@ -9,6 +9,9 @@ use Rattle.allotment.specs.Want.{Wanted}
 use Rattle.allotment.specs.Cells.{kind_number, is_cell, cells_of}
 use Rattle.allotment.specs.declared.cells.Cell.{Cell}
 use Rattle.allotment.specs.declared.cells.Row.{Row}
+use Rattle.plan.specs.Planned.{Planned, step_count, option_count, want_at}
+use Rattle.commands.specs.declared.items.Item.{Item}
+use Rattle.commands.specs.declared.items.Item.TheVariants.{Transaction, Compensation}
 use Rattle.ledger.specs.History.{last_of}
 use Rattle.ledger.specs.Ledger.{places_in}
 use Rattle.saga_core.specs.Shown.{Places, places_said}
@@ -80,3 +83,32 @@ abbrev pub LoadsRows : Stock → Stock → List Row → Type 0
 LoadsRows old new rows =
     (x : Cell) → stock_at new x ≡ unwrap_or
     (option_map (λ (r : Row). Some (set_to old x r.places)) (last_row rows x)) (stock_at old x)
+
+-- What an item changes.
+
+-- the step and the option of the item are in the plan
+abbrev pub IsInPlan : Planned → Item → Type 0
+IsInPlan plan (Transaction i c) =
+    (1 ≤ i) × (i ≤ step_count plan) × (1 ≤ c) × (c ≤ option_count plan i)
+IsInPlan plan (Compensation i c) =
+    (1 ≤ i) × (i ≤ step_count plan) × (1 ≤ c) × (c ≤ option_count plan i)
+IsInPlan plan _ = ⊤
+
+-- a want that may be none fits
+abbrev pub fits_some : Stock → Option Wanted → Bool
+fits_some stock want = unwrap_or (option_map (fits_in_stock stock) want) false
+
+-- what the item takes fits, if it takes anything
+abbrev pub fits_where_taken : Stock → Planned → Item → Bool
+fits_where_taken stock plan (Transaction i c) = fits_some stock (want_at plan i c)
+fits_where_taken stock plan _ = true
+
+-- the item takes the places of its want, gives them back, or changes none
+abbrev pub ChangesFor : Planned → Item → Stock → Stock → Type 0
+ChangesFor plan (Transaction i c) old new =
+    (x : Cell) → stock_at new x
+    ≡ option_map (with_less (places_in x (want_at plan i c))) (stock_at old x)
+ChangesFor plan (Compensation i c) old new =
+    (x : Cell) → stock_at new x
+    ≡ option_map (with_back (places_in x (want_at plan i c))) (stock_at old x)
+ChangesFor plan _ old new = (x : Cell) → stock_at new x ≡ stock_at old x

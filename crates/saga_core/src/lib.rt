@@ -13,7 +13,8 @@ mod tests;
 
 pub use books::Book;
 pub use commands::{
-    Agent, Ask, BadBatch, Batch, Cause, Command, CsvCause, Cursor, Fault, Item, Key, Name, Phase, Refusal, Reply,
+    Agent, Ask, BadBatch, Batch, Cause, Command, CsvCause, Cursor, Fault, Item, Key, Name, Phase,
+    Refusal, Reply,
 };
 pub use ledger;
 pub use memory::MemBook;

@@ -95,15 +95,13 @@ impl MemBook {
             None => Agent::house(),
         };
         let plan = plan.clone(self.alloc)?;
-        let reply = Reply::Begun {
-            id: self.journeys.len() as u64 + 1,
-        };
+        let id = self.journeys.len() as u64 + 1;
         self.journeys.reserve(1)?;
-        self.answers.keep(self.alloc, ask, reply)?;
+        self.answers.keep(self.alloc, ask, Reply::Begun { id })?;
         let journey = Journey::new(self.alloc, agent, plan);
         self.journeys.push_reserved(journey);
         self.events += 1;
-        Ok(reply)
+        Ok(Reply::Begun { id })
     }
 
     /// Answers a command whose key is not known.

@@ -63,12 +63,7 @@ impl Answers {
     }
 
     /// Keeps the reply to an ask, where there is one.
-    pub fn keep(
-        &mut self,
-        alloc: Global,
-        ask: Option<&Ask>,
-        reply: Reply,
-    ) -> Result<(), AllocError>
+    pub fn keep(&mut self, alloc: Global, ask: Option<&Ask>, reply: Reply) -> Result<(), AllocError>
         ensures kept { OnOk result (AreKeptAlike (kept_in self.new)
             (kept_after (kept_in self.old) (option_copied ask.entry) reply)) }
 
@@ -77,7 +72,7 @@ impl Answers {
         let Some(ask) = ask else {
             return Ok(());
         };
-        let text = ask.text().to_vec(alloc)?;
+        let text = Vec::from_slice(alloc, ask.text())?;
         self.kept
             .insert(AskKey::of(ask), KeptAnswer { text, reply })?;
         Ok(())

@@ -1,10 +1,49 @@
 //! Moves of journeys: steps, turns and save-points.
+ghost use Rattle.std.specs.Prelude.{◌≡◌, ◌<◌, ◌^◌, suc, IsTrue};
+ghost use Rattle.saga_core.specs.MemoryStock.{IsInPlan, fits_where_taken, ChangesFor};
+
 use crate::memory::MemBook;
 use crate::memory::journeys::cursor_after;
 use crate::memory::next::{is_running, saved, stepped, turned};
-use commands::{Ask, Cause, Item, Refusal, Reply};
+use crate::memory::stock::Stock;
+use commands::{Ask, Cause, Cursor, Item, Refusal, Reply};
+use plan::Plan;
 use savepoints::Turn;
 use std::alloc::AllocError;
+
+/// The reply to the journey at this place, which made this item and is here now.
+fn moved(place: usize, item: Item, cursor: &Cursor) -> Reply
+    requires counted { place < 2 ^ 63 }
+
+    ensures moved { result ≡ Reply.Moved (suc place) item cursor.now.pos cursor.now.phase }
+{
+    Reply::Moved {
+        id: place as u64 + 1,
+        item,
+        pos: cursor.pos,
+        phase: cursor.phase,
+    }
+}
+
+/// Takes or gives back the places of an item's want.
+fn change_stock(stock: &mut Stock, plan: &Plan, item: Item)
+    requires in_plan { IsInPlan plan.now item }
+    requires fits { IsTrue (fits_where_taken stock.old plan.now item) }
+
+    ensures changed { ChangesFor plan.now item stock.old stock.new }
+{
+    match item {
+        Item::Transaction { step, option } => {
+            let want = plan.want(step, option);
+            stock.take(&want);
+        }
+        Item::Compensation { step, option } => {
+            let want = plan.want(step, option);
+            stock.give(&want);
+        }
+        Item::Turn { .. } | Item::Save { .. } => {}
+    }
+}
 
 impl MemBook {
     ghost use Rattle.std.specs.Prelude.{◌≡◌, ◌<◌, suc, length, slice_get, Some, IfOk, IfSome, IfNone, IsTrue};
@@ -17,6 +56,7 @@ impl MemBook {
     ghost use Rattle.saga_core.specs.Memory.{StandsFor, IsCarriedOut, CarriesOut, KeepsBook};
     ghost use Rattle.saga_core.specs.Memory.{IsSeenAt, IsSeenNowhere, IsMove, MayBeMade};
     ghost use Rattle.saga_core.specs.declared.memory.journeys.Journey.{Journey};
+    ghost use Rattle.saga_core.specs.declared.memory.TheConstants.{MOST_EVENTS};
 
     /// The place of the journey with this number, if who asks sees it.
     fn seen(&self, id: u64, ask: Option<&Ask>) -> Option<usize>
@@ -143,27 +183,11 @@ impl MemBook {
             let journey = &self.journeys[place];
             cursor_after(&journey.plan, journey.cursor, item)
         };
-        let reply = Reply::Moved {
-            id: place as u64 + 1,
-            item,
-            pos: cursor.pos,
-            phase: cursor.phase,
-        };
         self.journeys[place].reserve()?;
-        self.answers.keep(self.alloc, ask, reply)?;
-        self.change_stock(place, item);
+        self.answers
+            .keep(self.alloc, ask, moved(place, item, &cursor))?;
+        change_stock(&mut self.stock, &self.journeys[place].plan, item);
         self.journeys[place].make(item);
         self.events += 1;
-        Ok(reply)
+        Ok(moved(place, item, &cursor))
     }
-
-    /// Takes or gives back the places of an item's want.
-    fn change_stock(&mut self, place: usize, item: Item) {
-        let plan = &self.journeys[place].plan;
-        match item {
-            Item::Transaction { step, option } => self.stock.take(&plan.want(step, option)),
-            Item::Compensation { step, option } => self.stock.give(&plan.want(step, option)),
-            Item::Turn { .. } | Item::Save { .. } => {}
-        }
-    }
-}

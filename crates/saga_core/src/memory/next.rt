@@ -62,6 +62,7 @@ pub fn saved(journey: &Journey) -> Result<Item, Refusal>
     ensures said { result ≡ save_said journey.now.plan journey.now.cursor journey.now.marks }
     ensures next { IfOk result (IsNext journey.now.plan journey.now.cursor) }
 {
+    let _steps = journey.plan.steps();
     let position = journey.cursor.pos;
     if is_finished(journey.cursor.phase) {
         return Err(Refusal::Finished);

@@ -31,15 +31,15 @@ impl Stock {
     }
 
     /// The places of a cell, if it was ever loaded.
-    pub fn get(&self, cell: Cell) -> Option<Held>
-        ensures places { option_map places_said result ≡ stock_at self.now cell }
+    pub fn get(&self, cell: &Cell) -> Option<Held>
+        ensures places { option_map places_said result ≡ stock_at self.now cell.now }
     {
-        self.places.get(&CellKey { cell }).copied()
+        self.places.get(&CellKey { cell: *cell }).copied()
     }
 
     /// Whether so many places of a cell are free.
-    fn has_free(&self, cell: Cell, count: u32) -> bool
-        ensures free { result ≡ has_free_in self.now count cell }
+    fn has_free(&self, cell: &Cell, count: u32) -> bool
+        ensures free { result ≡ has_free_in self.now count cell.now }
     {
         match self.get(cell) {
             Some(held) => count <= held.free,
@@ -52,27 +52,27 @@ impl Stock {
         ensures fits { result ≡ fits_in_stock self.now want.now }
     {
         let count = u32::from(want.count());
-        want.cells().all(|cell| self.has_free(cell, count))
+        want.cells().all(|cell| self.has_free(&cell, count))
     }
 
     /// Writes the places of a cell that was loaded.
-    fn put(&mut self, cell: Cell, held: Held)
-        requires there { IsSome (stock_at self.old cell) }
+    fn put(&mut self, cell: &Cell, held: Held)
+        requires there { IsSome (stock_at self.old cell.now) }
 
         ensures put { (x : Cell) → stock_at self.new x
-            ≡ (if is_cell x cell then Some (places_said held) else stock_at self.old x) }
+            ≡ (if is_cell x cell.now then Some (places_said held) else stock_at self.old x) }
     {
-        match self.places.insert(CellKey { cell }, held) {
+        match self.places.insert(CellKey { cell: *cell }, held) {
             Ok(_) => {}
             Err(_) => unreachable!(),
         }
     }
 
     /// Takes so many places of a cell.
-    fn take_one(&mut self, cell: Cell, count: u32)
-        requires free { IsTrue (has_free_in self.old count cell) }
+    fn take_one(&mut self, cell: &Cell, count: u32)
+        requires free { IsTrue (has_free_in self.old count cell.now) }
 
-        ensures taken { ChangesOne (with_less count) cell self.old self.new }
+        ensures taken { ChangesOne (with_less count) cell.now self.old self.new }
     {
         let Some(held) = self.get(cell) else {
             return;
@@ -89,13 +89,13 @@ impl Stock {
     {
         let count = u32::from(want.count());
         for cell in want.cells() {
-            self.take_one(cell, count);
+            self.take_one(&cell, count);
         }
     }
 
     /// Gives so many places of a cell back, where so many are held.
-    fn give_one(&mut self, cell: Cell, count: u32)
-        ensures given { ChangesOne (with_back count) cell self.old self.new }
+    fn give_one(&mut self, cell: &Cell, count: u32)
+        ensures given { ChangesOne (with_back count) cell.now self.old self.new }
     {
         let Some(held) = self.get(cell) else {
             return;
@@ -112,7 +112,7 @@ impl Stock {
     {
         let count = u32::from(want.count());
         for cell in want.cells() {
-            self.give_one(cell, count);
+            self.give_one(&cell, count);
         }
     }
 
@@ -120,7 +120,7 @@ impl Stock {
     fn is_below_held(&self, row: &Row) -> bool
         ensures below { result ≡ is_below_in self.now row.now }
     {
-        match self.get(row.cell()) {
+        match self.get(&row.cell()) {
             Some(held) => row.places() < held.held(),
             None => false,
         }
@@ -140,7 +140,7 @@ impl Stock {
         ensures set { places_said result ≡ set_to self.now row.now.cell row.now.places }
     {
         let places = row.places();
-        match self.get(row.cell()) {
+        match self.get(&row.cell()) {
             None => Held {
                 allot: places,
                 free: places,
@@ -166,17 +166,13 @@ impl Stock {
     }
 
     /// The nights of a want that were loaded, with their places.
-    pub fn nights_of(
-        &self,
-        alloc: Global,
-        want: &Want,
-    ) -> Result<Vec<(Night, Held)>, AllocError>
+    pub fn nights_of(&self, alloc: Global, want: &Want) -> Result<Vec<(Night, Held)>, AllocError>
         ensures nights { IfOk result (λ nights. map night_said nights.items
             ≡ filter_map (λ x. option_map (at_night x) (stock_at self.now x)) (cells_of want.now)) }
     {
         let mut nights = Vec::new(alloc);
         for cell in want.cells() {
-            if let Some(held) = self.get(cell) {
+            if let Some(held) = self.get(&cell) {
                 nights.push((cell.night(), held))?;
             }
         }

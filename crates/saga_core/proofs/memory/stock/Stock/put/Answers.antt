@@ -5,6 +5,6 @@ use Rattle.saga_core.proofs.memory.stock.Stock.put.Goals as goal
 pub returns : goal.returns
 returns c = record {
   put =
-      stock_at-put c.args.self.now (record { places = c.insert.new.self }) c.args.cell c.args.held
+      stock_at-put c.args.self.now (record { places = c.insert.new.self }) c.args.cell.now c.args.held
       c.in-Ok.ensures.updates;
 }
