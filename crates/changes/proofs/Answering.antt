@@ -36,9 +36,11 @@ back-unfinished : (p : Phase) (q : ℕ) → p ≡ Back q → is_finished p ≡ f
 back-unfinished p q e = ap is_finished e
 
 -- no phase both runs and goes back
-not_running : (p : Phase) (q : ℕ) (b : Bool) → p ≡ Back q → (b ≡ true → is_running p ≡ true) → b ≡ false
+not_running : (p : Phase) (q : ℕ) (b : Bool) → p ≡ Back q → (b ≡ true → is_running p ≡ true)
+    → b ≡ false
 not_running p q b back runs =
-    false_from_ne_true b (λ e. let bad : true ≡ false = sym (runs e) ∙ ap is_running back in absurd (clash bad))
+    false_from_ne_true b (λ e. let bad : true ≡ false = sym (runs e) ∙ ap is_running back in
+    absurd (clash bad))
   where
     clash : true ≡ false → ⊥
     clash e = cc
@@ -63,14 +65,16 @@ step-fits l j a legal at run fitting =
     (ap is_running run) fitting in
     move-found l j step_choices NoSavePoint a (next_step a.plan (history l j)) legal at
     (run-unfinished _ run)
-    (find-first (may l j a) (next_step a.plan (history l j)) (other_choices a.plan (history l j)) comes)
+    (find-first (may l j a) (next_step a.plan (history l j))
+    (other_choices a.plan (history l j)) comes)
     comes
 
 -- where the next want does not fit: the refused turn
 pub step-refused : (l : List Event) (j : ℕ) (a : Journey) → IsLegal l → journey_at l j ≡ Some a
     → phase a.plan (history l j) ≡ Run → fits l (next_want a.plan (history l j)) ≡ false
     → answer_move l j step_choices NoSavePoint (Some a)
-    ≡ moves j a.plan (cursor_of a.plan (history l j)) (Turn (refused_target a.plan (history l j)) Refused)
+    ≡ moves j a.plan (cursor_of a.plan (history l j))
+    (Turn (refused_target a.plan (history l j)) Refused)
 step-refused l j a legal at run unfitting =
     let fit : Bool = fits l (next_want a.plan (history l j)) in
     let comes = refused-may_come a.plan (history l j) (fits l (next_want a.plan (history l j)))
@@ -78,28 +82,34 @@ step-refused l j a legal at run unfitting =
     let first : may l j a (next_step a.plan (history l j)) ≡ false =
     false_from_ne_true _ (λ e. let fitting = (step-comes a.plan (history l j) _ _ _ e).fitting in
     let bad : true ≡ false = sym fitting ∙ unfitting in cc) in
-    move-found l j step_choices NoSavePoint a (Turn (refused_target a.plan (history l j)) Refused) legal at
+    move-found l j step_choices NoSavePoint a
+    (Turn (refused_target a.plan (history l j)) Refused) legal at
     (run-unfinished _ run)
-    (find-next (may l j a) (next_step a.plan (history l j)) (other_choices a.plan (history l j)) first
+    (find-next (may l j a) (next_step a.plan (history l j))
+    (other_choices a.plan (history l j)) first
     ∙ find-first (may l j a) (Turn (refused_target a.plan (history l j)) Refused)
     (compensation (history l j)) comes)
     comes
 
 -- to a step of a journey that goes back: the compensation of its last transaction
-pub step-back : (l : List Event) (j : ℕ) (a : Journey) (p i c : ℕ) → IsLegal l → journey_at l j ≡ Some a
+pub step-back : (l : List Event) (j : ℕ) (a : Journey) (p i c : ℕ) → IsLegal l
+    → journey_at l j ≡ Some a
     → phase a.plan (history l j) ≡ Back p → last_of (net (history l j)) ≡ Some (i, c)
     → answer_move l j step_choices NoSavePoint (Some a)
     ≡ moves j a.plan (cursor_of a.plan (history l j)) (Compensation i c)
 step-back l j a p i c legal at back last =
-    let comes = compensation-may_come a.plan (history l j) (fits l (next_want a.plan (history l j))) i c
+    let comes = compensation-may_come a.plan (history l j)
+    (fits l (next_want a.plan (history l j))) i c
     (ap is_going_back back) last in
-    let first = not_running (phase a.plan (history l j)) p (may l j a (next_step a.plan (history l j))) back
+    let first = not_running (phase a.plan (history l j)) p
+    (may l j a (next_step a.plan (history l j))) back
     (λ e. (step-comes a.plan (history l j) _ _ _ e).running) in
     let second = not_running (phase a.plan (history l j)) p
     (may l j a (Turn (refused_target a.plan (history l j)) Refused)) back
     (λ e. (refused-comes a.plan (history l j) _ _ e).running) in
     move-found l j step_choices NoSavePoint a (Compensation i c) legal at (back-unfinished _ p back)
-    (find-next (may l j a) (next_step a.plan (history l j)) (other_choices a.plan (history l j)) first
+    (find-next (may l j a) (next_step a.plan (history l j))
+    (other_choices a.plan (history l j)) first
     ∙ find-next (may l j a) (Turn (refused_target a.plan (history l j)) Refused)
     (compensation (history l j)) second
     ∙ ap (λ o. find (may l j a) (map (λ (s : ℕ × ℕ). Compensation s.0 s.1) (option_to_list o))) last
@@ -127,7 +137,8 @@ open-from Undone e = cc
 
 -- in this phase one who asks may turn the journey, by the rule for turns
 abort-rule : (plan : Planned) (h : List Item) (p : ℕ) (q : Phase) → Open q
-    → may_turn plan h q p ≡ may_be_made plan (is_taken h) (position_of h) (target_of q) (turn.Asked p)
+    → may_turn plan h q p ≡ may_be_made plan (is_taken h) (position_of h) (target_of q)
+    (turn.Asked p)
 abort-rule plan h p Run o = refl
 abort-rule plan h p (Back r) o = refl
 abort-rule plan h p Ended (runs e) = cc
@@ -136,14 +147,16 @@ abort-rule plan h p Undone (runs e) = cc
 abort-rule plan h p Undone (goes_back r e) = cc
 
 -- to an abort: the turn where it may be made
-pub abort-answer : (l : List Event) (j : ℕ) (a : Journey) (p : ℕ) → IsLegal l → journey_at l j ≡ Some a
+pub abort-answer : (l : List Event) (j : ℕ) (a : Journey) (p : ℕ) → IsLegal l
+    → journey_at l j ≡ Some a
     → Open (phase a.plan (history l j))
     → answer_move l j (abort_choices p) NoSavePoint (Some a)
     ≡ (if may_be_made a.plan (is_taken_in (marks_of (history l j))) (position_of (history l j))
     (target_of (phase a.plan (history l j))) (turn.Asked p)
     then moves j a.plan (cursor_of a.plan (history l j)) (Turn p Asked) else refused NoSavePoint)
 abort-answer l j a p legal at o =
-    move-only l j (abort_choices p) NoSavePoint a (Turn p Asked) _ legal at (open-unfinished _ o) refl
+    move-only l j (abort_choices p) NoSavePoint a (Turn p Asked) _ legal at
+    (open-unfinished _ o) refl
     (abort-rule a.plan (history l j) p (phase a.plan (history l j)) o
     ∙ ap (λ taken. may_be_made a.plan taken (position_of (history l j))
     (target_of (phase a.plan (history l j))) (turn.Asked p))
@@ -166,7 +179,8 @@ pub stop-answer : (l : List Event) (j : ℕ) (a : Journey) → IsLegal l → jou
     → answer_move l j stop_choices NoSavePoint (Some a)
     ≡ (if may_be_made a.plan (is_taken_in (marks_of (history l j))) (position_of (history l j))
     (target_of (phase a.plan (history l j))) turn.Stop
-    then moves j a.plan (cursor_of a.plan (history l j)) (Turn (last_save a.plan (history l j)) Stop)
+    then moves j a.plan (cursor_of a.plan (history l j))
+    (Turn (last_save a.plan (history l j)) Stop)
     else refused NoSavePoint)
 stop-answer l j a legal at o =
     move-only l j stop_choices NoSavePoint a (Turn (last_save a.plan (history l j)) Stop) _ legal at
@@ -193,11 +207,13 @@ save-rule plan h q e =
 pub save-answer : (l : List Event) (j : ℕ) (a : Journey) → IsLegal l → journey_at l j ≡ Some a
     → phase a.plan (history l j) ≡ Run
     → answer_move l j save_choices NoSave (Some a)
-    ≡ (if nat_lt 0 (position_of (history l j)) && not (is_save_point a.plan (history l j) (position_of (history l j)))
+    ≡ (if nat_lt 0 (position_of (history l j))
+    && not (is_save_point a.plan (history l j) (position_of (history l j)))
     then moves j a.plan (cursor_of a.plan (history l j)) (Save (position_of (history l j)))
     else refused NoSave)
 save-answer l j a legal at run =
-    move-only l j save_choices NoSave a (Save (position_of (history l j))) _ legal at (run-unfinished _ run) refl
+    move-only l j save_choices NoSave a (Save (position_of (history l j))) _ legal at
+    (run-unfinished _ run) refl
     (save-rule a.plan (history l j) (phase a.plan (history l j)) run)
 
 -- and in one that goes back: it is refused
@@ -207,7 +223,8 @@ pub save-back : (l : List Event) (j : ℕ) (a : Journey) (p : ℕ) → IsLegal l
 save-back l j a p legal at back =
     move-only l j save_choices NoSave a (Save (position_of (history l j))) false legal at
     (back-unfinished _ p back) refl
-    (ap (λ b. b && (position_of (history l j) == position_of (history l j)) && nat_lt 0 (position_of (history l j))
+    (ap (λ b. b && (position_of (history l j) == position_of (history l j))
+    && nat_lt 0 (position_of (history l j))
     && not (is_save_point a.plan (history l j) (position_of (history l j)))) (ap is_running back))
 
 -- Any step.
@@ -227,16 +244,19 @@ going_back-is Ended e = cc
 going_back-is Undone e = cc
 
 -- to a step: of the items that a step makes, the one that may come next
-pub step-answer : (l : List Event) (j : ℕ) (a : Journey) (x : Item) → IsLegal l → journey_at l j ≡ Some a
+pub step-answer : (l : List Event) (j : ℕ) (a : Journey) (x : Item) → IsLegal l
+    → journey_at l j ≡ Some a
     → is_forward x ≡ true → may l j a x ≡ true
-    → answer_move l j step_choices NoSavePoint (Some a) ≡ moves j a.plan (cursor_of a.plan (history l j)) x
+    → answer_move l j step_choices NoSavePoint (Some a)
+    ≡ moves j a.plan (cursor_of a.plan (history l j)) x
 step-answer l j a (Transaction i c) legal at forward comes =
     let k = step-comes a.plan (history l j) (fits l (next_want a.plan (history l j))) i c comes in
     step-fits l j a legal at (running-is _ k.running) k.fitting
     ∙ sym (ap (moves j a.plan (cursor_of a.plan (history l j)))
     (ap (λ n. Transaction n c) k.step ∙ ap (Transaction (position_of (history l j) + 1)) k.option))
 step-answer l j a (Compensation i c) legal at forward comes =
-    let k = compensation-comes a.plan (history l j) (fits l (next_want a.plan (history l j))) i c comes in
+    let k = compensation-comes a.plan (history l j)
+    (fits l (next_want a.plan (history l j))) i c comes in
     let back = going_back-is _ k.back in
     step-back l j a back.0 i c legal at back.1 k.last
 step-answer l j a (Turn p Stop) legal at forward comes = cc

@@ -66,7 +66,8 @@ journey_at-began_old l agent plan j a at =
     ∙ numbered-some (journeys l) (begun agent plan) j a at
 
 -- the last of a list has the list's length as its number
-numbered-last : {X : Type 0} (xs : List X) (x : X) → numbered (xs ++ x ∷ []) (suc (length xs)) ≡ Some x
+numbered-last : {X : Type 0} (xs : List X) (x : X)
+    → numbered (xs ++ x ∷ []) (suc (length xs)) ≡ Some x
 numbered-last [] x = refl
 numbered-last (y ∷ ys) x = numbered-last ys x
 
@@ -74,7 +75,8 @@ numbered-last (y ∷ ys) x = numbered-last ys x
 pub journey_at-began_new : (l : List Event) (agent : List ℕ) (plan : Planned)
     → journey_at (l ++ Began agent plan ∷ []) (length (journeys l) + 1) ≡ Some (begun agent plan)
 journey_at-began_new l agent plan =
-    ap (journey_at (l ++ Began agent plan ∷ [])) (let e : length (journeys l) + 1 ≡ suc (length (journeys l)) = omega arith in e)
+    ap (journey_at (l ++ Began agent plan ∷ []))
+    (let e : length (journeys l) + 1 ≡ suc (length (journeys l)) = omega arith in e)
     ∙ ap (λ js. numbered js (suc (length (journeys l)))) (journeys-began l agent plan)
     ∙ numbered-last (journeys l) (begun agent plan)
 
@@ -86,7 +88,8 @@ numbered-other [] x (suc zero) other = absurd (other refl)
 numbered-other [] x (suc (suc j)) other = refl
 numbered-other (y ∷ ys) x (suc zero) other = refl
 numbered-other (y ∷ ys) x (suc (suc j)) other =
-    numbered-other ys x (suc j) (λ e. other (let k : suc (suc j) ≡ suc (suc (length ys)) = omega arith in k))
+    numbered-other ys x (suc j)
+    (λ e. other (let k : suc (suc j) ≡ suc (suc (length ys)) = omega arith in k))
 
 -- at each other number a begin changes nothing
 pub journey_at-began_other : (l : List Event) (agent : List ℕ) (plan : Planned) (j : ℕ)
@@ -94,12 +97,14 @@ pub journey_at-began_other : (l : List Event) (agent : List ℕ) (plan : Planned
     → journey_at (l ++ Began agent plan ∷ []) j ≡ journey_at l j
 journey_at-began_other l agent plan j other =
     ap (λ js. numbered js j) (journeys-began l agent plan)
-    ∙ numbered-other (journeys l) (begun agent plan) j (λ e. other (let k : j ≡ length (journeys l) + 1 = omega arith in k))
+    ∙ numbered-other (journeys l) (begun agent plan) j
+    (λ e. other (let k : j ≡ length (journeys l) + 1 = omega arith in k))
 
 -- before a begin no journey has the next number
 pub journey_at-next : (l : List Event) → journey_at l (length (journeys l) + 1) ≡ None
 journey_at-next l =
-    ap (journey_at l) (let e : length (journeys l) + 1 ≡ suc (length (journeys l)) = omega arith in e)
+    ap (journey_at l)
+    (let e : length (journeys l) + 1 ≡ suc (length (journeys l)) = omega arith in e)
     ∙ numbered-past (journeys l)
 
 -- Numbers.
@@ -110,7 +115,8 @@ pub numbers-loaded : (l : List Event) (name : List ℕ) (rows : List Row)
 numbers-loaded l name rows = ap (λ js. numbers_from 1 (length js)) (journeys-loaded l name rows)
 
 -- so does an item
-pub numbers-did : (l : List Event) (k : ℕ) (item : Item) → numbers (l ++ Did k item ∷ []) ≡ numbers l
+pub numbers-did : (l : List Event) (k : ℕ) (item : Item)
+    → numbers (l ++ Did k item ∷ []) ≡ numbers l
 numbers-did l k item = ap (λ js. numbers_from 1 (length js)) (journeys-did l k item)
 
 -- a begin adds the next number
@@ -119,7 +125,8 @@ pub numbers-began : (l : List Event) (agent : List ℕ) (plan : Planned)
 numbers-began l agent plan =
     ap (numbers_from 1) (journey_count-began l agent plan)
     ∙ numbers_from-append 1 (length (journeys l)) 1
-    ∙ ap (λ n. numbers l ++ n ∷ []) (let e : 1 + length (journeys l) ≡ length (journeys l) + 1 = omega arith in e)
+    ∙ ap (λ n. numbers l ++ n ∷ [])
+    (let e : 1 + length (journeys l) ≡ length (journeys l) + 1 = omega arith in e)
 
 -- Histories.
 
@@ -173,7 +180,8 @@ batches_named-loaded l other rows name =
 pub batches_named-began : (l : List Event) (agent : List ℕ) (plan : Planned) (name : List ℕ)
     → batches_named (l ++ Began agent plan ∷ []) name ≡ batches_named l name
 batches_named-began l agent plan name =
-    filter_map-append (rows_if_named name) l (Began agent plan ∷ []) ∙ append-nil (batches_named l name)
+    filter_map-append (rows_if_named name) l (Began agent plan ∷ [])
+    ∙ append-nil (batches_named l name)
 
 -- nor is an item
 pub batches_named-did : (l : List Event) (k : ℕ) (item : Item) (name : List ℕ)

@@ -19,6 +19,7 @@ use Rattle.ledger.proofs.Standing.{compensates, net-transaction, net-compensatio
 use Rattle.changes.specs.Legal.{HasHistory}
 use Rattle.changes.proofs.Taking.{is_taken-more}
 use Rattle.changes.proofs.Inductions.{AtBegin, AtItem, each_history}
+pub use Rattle.changes.proofs.Inductions.{may_come-allowed}
 
 -- the plan has this option of this step
 abbrev pub is_option_of : Planned → ℕ × ℕ → Bool
@@ -69,11 +70,13 @@ taken-save : (plan : Planned) (h : List Item) (may_fit : Bool) (q p : ℕ) → G
 taken-save plan h may_fit q p g may all e =
     let same = position_of-save h q in
     elim (or_cases (p == q) (is_taken h p) e) [
-      | inr before ↦ still plan h (Save q) p all before (let w = (all p before).reached in omega arith)
+      | inr before ↦ still plan h (Save q) p all before
+          (let w = (all p before).reached in omega arith)
       | inl now ↦ (let is = eqb-true _ _ now in
           let tests = and_parts (is_running (phase plan h) && (q == position_of h) && nat_lt 0 q)
           (not (is_save_point plan h q)) may in
-          let first = and_parts (is_running (phase plan h) && (q == position_of h)) (nat_lt 0 q) tests.0 in
+          let first = and_parts (is_running (phase plan h) && (q == position_of h))
+          (nat_lt 0 q) tests.0 in
           let two = and_parts (is_running (phase plan h)) (q == position_of h) first.0 in
           let here = eqb-true _ _ two.1 in
           let above = ltb-true _ _ first.1 in
@@ -102,7 +105,8 @@ taken-more plan h may_fit (Transaction i c) g may all p e =
     still plan h (Transaction i c) p all before
     (let w = (all p before).reached in let k = position_of-transaction h i c in omega arith)
 taken-more plan h may_fit (Compensation i c) g may all p e =
-    taken-compensation plan h may_fit i c p g may all (sym (is_taken-more h (Compensation i c) p) ∙ e)
+    taken-compensation plan h may_fit i c p g may all
+    (sym (is_taken-more h (Compensation i c) p) ∙ e)
 taken-more plan h may_fit (Turn q cause) g may all p e =
     let before = sym (is_taken-more h (Turn q cause) p) ∙ e in
     still plan h (Turn q cause) p all before
@@ -136,11 +140,13 @@ next_option-within : (plan : Planned) (h : List Item) (i c : ℕ) → IsTrue (is
     → is_option_of plan (i, c) ≡ true
 next_option-within plan h i c good below is option_is =
     let some = one_le-option_count plan (position_of h + 1) good (omega arith) (omega arith) in
-    let same : option_count plan i ≡ option_count plan (position_of h + 1) = ap (option_count plan) is in
+    let same : option_count plan i ≡ option_count plan (position_of h + 1) =
+    ap (option_count plan) is in
     and_from _ _ (le-leb 1 c (omega arith)) (le-leb c (option_count plan i) (omega arith))
 
 -- all of a list and one more pass
-list_all-snoc : {X : Type 0} (p : X → Bool) (xs : List X) (x : X) → list_all p xs ≡ true → p x ≡ true
+list_all-snoc : {X : Type 0} (p : X → Bool) (xs : List X) (x : X) → list_all p xs ≡ true
+    → p x ≡ true
     → list_all p (xs ++ x ∷ []) ≡ true
 list_all-snoc p [] x all here = and_from _ _ here refl
 list_all-snoc p (y ∷ ys) x all here =
@@ -180,11 +186,13 @@ chosen-more plan h may_fit (Save p) g may all = record {
 few_steps : (plan : Planned) → IsTrue (is_plan plan) → step_count plan ≤ 24
 few_steps plan good =
     let most = and_parts
-    (is_between 1 24 (step_count plan) && list_all is_step plan.steps && is_last_unmarked plan.steps)
+    (is_between 1 24 (step_count plan) && list_all is_step plan.steps
+    && is_last_unmarked plan.steps)
     (nat_le plan.tries 9) good in
     let steps = and_parts (is_between 1 24 (step_count plan) && list_all is_step plan.steps)
     (is_last_unmarked plan.steps) most.0 in
-    let count = and_parts (is_between 1 24 (step_count plan)) (list_all is_step plan.steps) steps.0 in
+    let count = and_parts (is_between 1 24 (step_count plan))
+    (list_all is_step plan.steps) steps.0 in
     leb-true _ _ (and_parts (nat_le 1 (step_count plan)) (nat_le (step_count plan) 24) count.0).1
 
 -- a journey that was just begun follows the rules
@@ -208,7 +216,8 @@ pub follows-more : (plan : Planned) (h : List Item) (may_fit : Bool) (x : Item) 
     → IsTrue (may_come plan h may_fit x) → Follows plan (h ++ x ∷ [])
 follows-more plan h may_fit x f may =
     let g = goes-more plan h may_fit x f.goes may in
-    let chosen = chosen-more plan h may_fit x f.goes may (record { good = f.good; options = f.options }) in
+    let chosen = chosen-more plan h may_fit x f.goes may
+    (record { good = f.good; options = f.options }) in
     record {
       good = f.good;
       few = f.few;
@@ -222,7 +231,9 @@ follows-more plan h may_fit x f may =
 -- so the history of each journey of a legal ledger follows the rules
 pub follows : (l : List Event) → IsLegal l → (j : ℕ) (a : Journey) → journey_at l j ≡ Some a
     → Follows a.plan (history l j)
-follows = each_history Follows follows-begin (λ plan h may_fit x g may f. follows-more plan h may_fit x f may)
+follows =
+    each_history Follows follows-begin
+    (λ plan h may_fit x g may f. follows-more plan h may_fit x f may)
 
 -- so does each history that a journey of some legal ledger has
 pub follows-of : (plan : Planned) (h : List Item) → HasHistory plan h → Follows plan h

@@ -33,7 +33,8 @@ pub may_come-allowed : (l : List Event) (j : ℕ) (a : Journey) (x : Item) → j
 may_come-allowed l j a x at may = sym (is_item_allowed-may_do l j x a at) ∙ may
 
 -- a begun journey has it, and the others still have it
-each-began : (P : Planned → List Item → Type 0) → AtBegin P → (l : List Event) (agent : List ℕ) (plan : Planned)
+each-began : (P : Planned → List Item → Type 0) → AtBegin P
+    → (l : List Event) (agent : List ℕ) (plan : Planned)
     → IsLegal l → IsTrue (is_plan plan) → Each P l → Each P (l ++ Began agent plan ∷ [])
 each-began P begin l agent plan legal good all j a at =
     subst (P a.plan) (sym (events.history-began l agent plan j))
@@ -77,7 +78,8 @@ each-did P more l k x legal may all j a at = go (j == k) refl
         subst (P a.plan) (sym (events.history-did_other l k x j (eqb-false _ _ e))) (all j a was)
 
 -- what holds at the beginning, and is kept by each item that may come, holds of the history of each journey
-pub each_history : (P : Planned → List Item → Type 0) → AtBegin P → AtItem P → (l : List Event) → IsLegal l
+pub each_history : (P : Planned → List Item → Type 0) → AtBegin P → AtItem P → (l : List Event)
+    → IsLegal l
     → (j : ℕ) (a : Journey) → journey_at l j ≡ Some a → P a.plan (history l j)
 each_history P begin more = induct (Each P) none grows
   where

@@ -1,8 +1,7 @@
 -- What one more item changes of where a journey is: its position, its phase, and how many of its steps were refused.
 -- For each desk that stores a cursor.
-use Rattle.std.proofs.Common.{◌≡◌, ℕ, zero, suc, ◌+◌, ◌-◌, ◌≤◌, List, [], ◌∷◌, ◌++◌, length, map, refl, ap, sym, ◌∙◌, arith, append-nil, length-append, eqb-true, eq-eqb}
-use Rattle.std.proofs.lemmas.Bool.{and_parts, ltb-true, ltb-false, eqb-false, ne_eqb, not_from_false}
-use Rattle.std.proofs.lemmas.List.{map-append}
+use Rattle.std.proofs.Common.{◌≡◌, ℕ, ◌+◌, ◌-◌, ◌≤◌, List, [], ◌∷◌, ◌++◌, length, map, refl, ap, sym, ◌∙◌, arith, append-nil, length-append, eqb-true, eq-eqb}
+use Rattle.std.proofs.lemmas.Bool.{and_parts, ltb-true, ltb-false, eqb-false, ne_eqb}
 use Rattle.std.proofs.lemmas.List.Elements.{filter-append}
 use Rattle.std.proofs.lemmas.List.Sums.{sum_by_push}
 use Rattle.std.specs.Prelude.{Bool, true, false, not, ◌==◌, ◌||◌, ◌&&◌, nat_lt, filter, cond, if◌then◌else◌, Some, IsTrue}
@@ -19,9 +18,8 @@ use Rattle.ledger.specs.History.{net, position_of, refusals, phase, phase_at, ba
 use Rattle.ledger.specs.Ledger.{Event, Did, Journey, journey_at, history, fits, is_allowed, IsLegal}
 use Rattle.ledger.proofs.Coming.{step-comes, compensation-comes, stop-comes, refused-comes}
 use Rattle.ledger.proofs.Going.{going_to-turn, going_to-compensation, going_to-save, turned-other, turned-turn}
-use Rattle.ledger.proofs.Lists.{last_of-is, front_of, front_of-snoc}
+use Rattle.ledger.proofs.Lists.{last_of-is}
 use Rattle.ledger.proofs.Modes.{Goes, Mode, rises, falls, fell, Rising, upward, runs, ended, phase-falling, phase-fallen, running-rises, going_back-falls}
-use Rattle.ledger.proofs.Numbers.{numbers_from-append}
 use Rattle.ledger.proofs.Rising.{rising-transaction}
 use Rattle.ledger.proofs.Standing.{compensates, position_of-transaction, position_of-turn, position_of-save}
 use Rattle.ledger.proofs.Standing as standing
@@ -30,6 +28,7 @@ use Rattle.changes.specs.Cursors.{cursor_of}
 use Rattle.changes.proofs.Events as events
 use Rattle.changes.proofs.Histories.{Follows, follows}
 use Rattle.changes.proofs.Inductions.{may_come-allowed}
+use Rattle.changes.proofs.Numbered.{filter-above, front-numbered}
 
 -- Refusals.
 
@@ -84,7 +83,9 @@ phase-going plan h p short turned going =
     let pos : ℕ = position_of h in
     ap (λ b. phase_at (step_count plan) pos b (going_to h)) turned
     ∙ ap (phase_at (step_count plan) pos (0 == p)) going
-    ∙ ap (λ b. if b then Ended else if (0 == p) && (pos == 0) then Undone else back_or_run pos (Some p))
+    ∙ ap (λ b. if b then Ended
+    else if (0 == p) && (pos == 0) then Undone
+    else back_or_run pos (Some p))
     (ne_eqb pos (step_count plan) short)
     ∙ going_by-tests p (0 == p) (p == 0) (pos == 0) (nat_lt p pos) (start_test p)
     (λ above. ne_eqb pos 0 (λ e. let k = ltb-true _ _ above in omega arith))
@@ -125,7 +126,8 @@ asked-turn plan h p g may = by_mode g.mode
     ]
     by_mode (falls f) =
         let back = at (Back f.target) (phase-falling plan h f) in
-        let lower = ltb-true _ _ (and_parts ((p == 0) || is_save_point plan h p) (nat_lt p f.target) back).1 in
+        let lower = ltb-true _ _ (and_parts ((p == 0) || is_save_point plan h p)
+        (nat_lt p f.target) back).1 in
         let top = f.falls in
         let below = f.short in
         record {
@@ -159,7 +161,8 @@ same_cursor n m p q u v same_pos same_phase same_used =
 -- a transaction is a step further
 cursor_of-transaction : (plan : Planned) (h : List Item) (may_fit : Bool) (i c : ℕ) → Follows plan h
     → IsTrue (may_come plan h may_fit (Transaction i c))
-    → cursor_of plan (h ++ Transaction i c ∷ []) ≡ cursor_after plan (cursor_of plan h) (Transaction i c)
+    → cursor_of plan (h ++ Transaction i c ∷ [])
+    ≡ cursor_after plan (cursor_of plan h) (Transaction i c)
 cursor_of-transaction plan h may_fit i c f may =
     let comes = step-comes plan h may_fit i c may in
     let up = running-rises plan h f.goes.mode comes.running in
@@ -170,9 +173,11 @@ cursor_of-transaction plan h may_fit i c f may =
     (refusals-other h (Transaction i c) refl)
 
 -- the compensation of the last transaction is a step back
-cursor_of-compensation : (plan : Planned) (h : List Item) (may_fit : Bool) (i c : ℕ) → Follows plan h
+cursor_of-compensation : (plan : Planned) (h : List Item) (may_fit : Bool) (i c : ℕ)
+    → Follows plan h
     → IsTrue (may_come plan h may_fit (Compensation i c))
-    → cursor_of plan (h ++ Compensation i c ∷ []) ≡ cursor_after plan (cursor_of plan h) (Compensation i c)
+    → cursor_of plan (h ++ Compensation i c ∷ [])
+    ≡ cursor_after plan (cursor_of plan h) (Compensation i c)
 cursor_of-compensation plan h may_fit i c f may =
     let g = f.goes in
     let comes = compensation-comes plan h may_fit i c may in
@@ -190,7 +195,8 @@ cursor_of-compensation plan h may_fit i c f may =
     (refusals-other h (Compensation i c) refl)
 
 -- a turn stays at the position
-cursor_of-turn : (plan : Planned) (h : List Item) (may_fit : Bool) (p : ℕ) (cause : Cause) → Follows plan h
+cursor_of-turn : (plan : Planned) (h : List Item) (may_fit : Bool) (p : ℕ) (cause : Cause)
+    → Follows plan h
     → IsTrue (may_come plan h may_fit (Turn p cause))
     → cursor_of plan (h ++ Turn p cause ∷ []) ≡ cursor_after plan (cursor_of plan h) (Turn p cause)
 cursor_of-turn plan h may_fit p cause f may =
@@ -208,7 +214,8 @@ cursor_of-save : (plan : Planned) (h : List Item) (p : ℕ)
 cursor_of-save plan h p =
     let pos = position_of-save h p in
     same_cursor _ _ _ _ _ _ pos
-    (ap (λ n. phase_at (step_count plan) n (has_turned_to_start (h ++ Save p ∷ [])) (going_to (h ++ Save p ∷ [])))
+    (ap (λ n. phase_at (step_count plan) n (has_turned_to_start (h ++ Save p ∷ []))
+    (going_to (h ++ Save p ∷ [])))
     pos
     ∙ ap (λ b. phase_at (step_count plan) (position_of h) b (going_to (h ++ Save p ∷ [])))
     (turned-other h (Save p) refl)
@@ -219,8 +226,10 @@ cursor_of-save plan h p =
 pub cursor_of-more : (plan : Planned) (h : List Item) (may_fit : Bool) (x : Item) → Follows plan h
     → IsTrue (may_come plan h may_fit x)
     → cursor_of plan (h ++ x ∷ []) ≡ cursor_after plan (cursor_of plan h) x
-cursor_of-more plan h may_fit (Transaction i c) f may = cursor_of-transaction plan h may_fit i c f may
-cursor_of-more plan h may_fit (Compensation i c) f may = cursor_of-compensation plan h may_fit i c f may
+cursor_of-more plan h may_fit (Transaction i c) f may =
+    cursor_of-transaction plan h may_fit i c f may
+cursor_of-more plan h may_fit (Compensation i c) f may =
+    cursor_of-compensation plan h may_fit i c f may
 cursor_of-more plan h may_fit (Turn p cause) f may = cursor_of-turn plan h may_fit p cause f may
 cursor_of-more plan h may_fit (Save p) f may = cursor_of-save plan h p
 
@@ -236,28 +245,6 @@ cursor_of-did l j a x legal at may =
 
 -- What stands.
 
--- to leave out a number above all of these leaves them all
-filter-above : (ts : List (ℕ × ℕ)) (first n m : ℕ) → map (λ t. t.0) ts ≡ numbers_from first n
-    → first + n ≤ m → filter (λ t. not (t.0 == m)) ts ≡ ts
-filter-above [] first n m e above = refl
-filter-above (t ∷ ts) first zero m e above = cc
-filter-above (t ∷ ts) first (suc n) m e above =
-    let is : t.0 ≡ first = cc in
-    let rest : map (λ s. s.0) ts ≡ numbers_from (suc first) n = cc in
-    let differs : not (t.0 == m) ≡ true = not_from_false _ (ne_eqb t.0 m (λ same. omega arith)) in
-    ap (λ b. cond b (t ∷ filter (λ s. not (s.0 == m)) ts) (filter (λ s. not (s.0 == m)) ts)) differs
-    ∙ ap (λ ys. t ∷ ys) (filter-above ts (suc first) n m rest (omega arith))
-
--- where the steps of a list are numbered in a row, so are those in front of the last
-front-numbered : (front : List (ℕ × ℕ)) (i c : ℕ)
-    → map (λ t. t.0) (front ++ (i, c) ∷ []) ≡ numbers_from 1 (length front + 1)
-    → map (λ t. t.0) front ≡ numbers_from 1 (length front)
-front-numbered front i c e =
-    sym (front_of-snoc (map (λ t. t.0) front) i)
-    ∙ ap front_of
-    (sym (map-append (λ t. t.0) front ((i, c) ∷ [])) ∙ e ∙ numbers_from-append 1 (length front) 1)
-    ∙ front_of-snoc (numbers_from 1 (length front)) (1 + length front)
-
 -- the step that is compensated is that of the position
 pub compensation-step : (plan : Planned) (h : List Item) (may_fit : Bool) (i c : ℕ) → Follows plan h
     → IsTrue (may_come plan h may_fit (Compensation i c)) → i ≡ position_of h
@@ -265,7 +252,8 @@ compensation-step plan h may_fit i c f may =
     (compensates h i c f.stands (compensation-comes plan h may_fit i c may).last).is_last
 
 -- so the journey was above its start
-pub compensation_above : (plan : Planned) (h : List Item) (may_fit : Bool) (i c : ℕ) → Follows plan h
+pub compensation_above : (plan : Planned) (h : List Item) (may_fit : Bool) (i c : ℕ)
+    → Follows plan h
     → IsTrue (may_come plan h may_fit (Compensation i c)) → 1 ≤ position_of h
 compensation_above plan h may_fit i c f may =
     let k = compensates h i c f.stands (compensation-comes plan h may_fit i c may).last in

@@ -3,8 +3,11 @@ pub mod Taking
 pub mod Inductions
 pub mod Histories
 pub mod Positions
+pub mod Numbered
 pub mod Items
 pub mod Taken
+pub mod Allotments
 pub mod Places
+pub mod Free
 pub mod Moves
 pub mod Answering

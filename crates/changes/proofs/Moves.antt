@@ -25,7 +25,8 @@ seen l who j a at e =
     ∙ ap (λ v. if v then Some a else None) e
 
 -- another agent's journey is as if there were none
-pub unseen : (l : List Event) (who : Option (List ℕ)) (j : ℕ) (a : Journey) → journey_at l j ≡ Some a
+pub unseen : (l : List Event) (who : Option (List ℕ)) (j : ℕ) (a : Journey)
+    → journey_at l j ≡ Some a
     → sees who a ≡ false → seen_journey l who j ≡ None
 unseen l who j a at e =
     ap (λ o. option_and_then (λ (b : Journey). if sees who b then Some b else None) o) at
@@ -40,12 +41,14 @@ seen-none l who j absent =
 -- Moves.
 
 -- to a request about no journey
-pub move-none : (l : List Event) (j : ℕ) (choices : Planned → List Item → List Item) (otherwise : Refusal)
+pub move-none : (l : List Event) (j : ℕ) (choices : Planned → List Item → List Item)
+    (otherwise : Refusal)
     → answer_move l j choices otherwise None ≡ refused NoJourney
 move-none l j choices otherwise = refl
 
 -- to a request about a journey that has ended or is undone
-pub move-finished : (l : List Event) (j : ℕ) (choices : Planned → List Item → List Item) (otherwise : Refusal)
+pub move-finished : (l : List Event) (j : ℕ) (choices : Planned → List Item → List Item)
+    (otherwise : Refusal)
     (a : Journey) → is_finished (phase a.plan (history l j)) ≡ true
     → answer_move l j choices otherwise (Some a) ≡ refused Finished
 move-finished l j choices otherwise a finished =
@@ -57,7 +60,8 @@ abbrev pub may : List Event → ℕ → Journey → Item → Bool
 may l j a next = may_do l j next a
 
 -- what is answered where this is the first choice that is allowed
-move-first : (l : List Event) (j : ℕ) (choices : Planned → List Item → List Item) (otherwise : Refusal)
+move-first : (l : List Event) (j : ℕ) (choices : Planned → List Item → List Item)
+    (otherwise : Refusal)
     (a : Journey) (o : Option Item) → is_finished (phase a.plan (history l j)) ≡ false
     → find (may l j a) (choices a.plan (history l j)) ≡ o
     → answer_move l j choices otherwise (Some a)
@@ -68,7 +72,8 @@ move-first l j choices otherwise a o unfinished found =
     ∙ ap (λ p. unwrap_or (option_map (moved a.plan (history l j) j) p) (refused otherwise)) found
 
 -- the reply to an item says where the journey is then
-moved-moves : (l : List Event) (j : ℕ) (a : Journey) (x : Item) → IsLegal l → journey_at l j ≡ Some a
+moved-moves : (l : List Event) (j : ℕ) (a : Journey) (x : Item) → IsLegal l
+    → journey_at l j ≡ Some a
     → may l j a x ≡ true
     → moved a.plan (history l j) j x ≡ moves j a.plan (cursor_of a.plan (history l j)) x
 moved-moves l j a x legal at comes =
@@ -80,13 +85,15 @@ moved-moves l j a x legal at comes =
     answered c = record { event = Some (Did j x); reply = reply.Moved j x c.pos c.phase }
 
 -- the item that is found is made
-pub move-found : (l : List Event) (j : ℕ) (choices : Planned → List Item → List Item) (otherwise : Refusal)
+pub move-found : (l : List Event) (j : ℕ) (choices : Planned → List Item → List Item)
+    (otherwise : Refusal)
     (a : Journey) (x : Item) → IsLegal l → journey_at l j ≡ Some a
     → is_finished (phase a.plan (history l j)) ≡ false
     → find (may l j a) (choices a.plan (history l j)) ≡ Some x → may l j a x ≡ true
     → answer_move l j choices otherwise (Some a) ≡ moves j a.plan (cursor_of a.plan (history l j)) x
 move-found l j choices otherwise a x legal at unfinished found comes =
-    move-first l j choices otherwise a (Some x) unfinished found ∙ moved-moves l j a x legal at comes
+    move-first l j choices otherwise a (Some x) unfinished found
+    ∙ moved-moves l j a x legal at comes
 
 -- where the first does not pass, the search goes on
 pub find-next : {X : Type 0} (test : X → Bool) (x : X) (xs : List X) → test x ≡ false
@@ -99,7 +106,8 @@ pub find-first : {X : Type 0} (test : X → Bool) (x : X) (xs : List X) → test
 find-first test x xs e = ap (λ b. cond b (Some x) (find test xs)) e
 
 -- an only choice is made where it is allowed, else the request is refused
-pub move-only : (l : List Event) (j : ℕ) (choices : Planned → List Item → List Item) (otherwise : Refusal)
+pub move-only : (l : List Event) (j : ℕ) (choices : Planned → List Item → List Item)
+    (otherwise : Refusal)
     (a : Journey) (x : Item) (allowed : Bool) → IsLegal l → journey_at l j ≡ Some a
     → is_finished (phase a.plan (history l j)) ≡ false
     → choices a.plan (history l j) ≡ x ∷ [] → may l j a x ≡ allowed

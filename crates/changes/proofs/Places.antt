@@ -1,33 +1,23 @@
--- What one more event changes of the places that are held of a cell, and of those that are allotted. For each desk
--- that stores how many are free.
-use Rattle.std.proofs.Common.{◌≡◌, ℕ, zero, suc, ◌+◌, ◌<◌, ◌≤◌, List, [], ◌∷◌, ◌++◌, length, refl, ap, ◌∙◌, arith, subst, append-nil, eqb-true}
-use Rattle.std.proofs.lemmas.Bool.{and_parts, eqb-false, or_parts}
-use Rattle.std.proofs.lemmas.Grind.{flat_map-append}
-use Rattle.std.proofs.lemmas.List.Elements.{filter-append}
+-- What one more event changes of the places that are held of a cell. For each desk that stores how many are free.
+use Rattle.std.proofs.Common.{◌≡◌, ℕ, zero, suc, ◌+◌, ◌<◌, ◌≤◌, List, [], ◌∷◌, ◌++◌, length, refl, ap, ◌∙◌, arith, subst, eqb-true}
+use Rattle.std.proofs.lemmas.Bool.{eqb-false}
 use Rattle.std.proofs.lemmas.List.Sums.{sum_by-cons, sum_by_push}
-use Rattle.std.specs.Prelude.{Bool, true, false, not, ◌==◌, ◌&&◌, cond, if◌then◌else◌, filter, find, flat_map, sum_by, Option, Some, None, option_map, option_to_list, unwrap_or, slice_get, IsTrue}
-use Rattle.std.specs.List.{list_any, list_all}
-use Rattle.allotment.specs.Cells.{is_cell, wants_cell, numbers_from}
-use Rattle.allotment.specs.Limits.{is_between}
+use Rattle.std.specs.Prelude.{Bool, true, false, ◌==◌, if◌then◌else◌, sum_by, Option, Some, None, option_map, unwrap_or, slice_get, IsTrue}
+use Rattle.allotment.specs.Cells.{wants_cell, numbers_from}
 use Rattle.allotment.specs.Want.{Wanted}
 use Rattle.allotment.specs.declared.cells.Cell.{Cell}
 use Rattle.allotment.specs.declared.cells.Row.{Row}
 use Rattle.plan.specs.Planned.{Planned, want_at}
-use Rattle.commands.specs.Names.{is_batch_name}
 use Rattle.commands.specs.declared.items.Cause.{Cause}
 use Rattle.commands.specs.declared.items.Item.{Item}
 use Rattle.commands.specs.declared.items.Item.TheVariants.{Transaction, Compensation, Turn, Save}
-use Rattle.ledger.specs.History.{net, position_of, next_want, last_of}
-use Rattle.ledger.specs.Ledger.{Event, Loaded, Began, Did, Journey, journeys, journey_at, numbers, history, rows_of, allotment, places_in, held_by, held_by_journey, held, fits, are_distinct, is_good_row, is_not_below_held, is_batch, batches_named, is_allowed, IsLegal}
-use Rattle.ledger.proofs.Allotted.{allotment-same}
-use Rattle.ledger.proofs.Cells.{is_cell-same}
+use Rattle.ledger.specs.History.{net, position_of, next_want}
+use Rattle.ledger.specs.Ledger.{Event, Loaded, Began, Did, Journey, journeys, journey_at, numbers, history, allotment, places_in, held_by, held_by_journey, held, fits, is_allowed, IsLegal}
 use Rattle.ledger.proofs.Coming.{step-comes}
-use Rattle.ledger.proofs.Growing.{IsLegal-append}
 use Rattle.ledger.proofs.Held as held_before
 use Rattle.ledger.proofs.Ledgers.{all_go}
-use Rattle.ledger.proofs.Lists.{last_of-append}
 use Rattle.ledger.proofs.Places.{no_cell_overfull}
-use Rattle.changes.specs.Changed.{places_in_rows, newer}
+pub use Rattle.changes.proofs.Allotments.{allotment-began, allotment-did, allotment-loaded}
 use Rattle.changes.proofs.Events as events
 use Rattle.changes.proofs.Histories.{follows}
 use Rattle.changes.proofs.Inductions.{may_come-allowed}
@@ -107,8 +97,10 @@ held-did l k item a x at =
     let all : held (l ++ Did k item ∷ []) x
     ≡ sum_by (held_by_journey (l ++ Did k item ∷ []) x) (numbers l) =
     ap (sum_by (held_by_journey (l ++ Did k item ∷ []) x)) (events.numbers-did l k item) in
-    let old : held_by_journey l x k ≡ held_by a.plan (history l k) x = ap (held_in x (history l k)) at in
-    let new : held_by_journey (l ++ Did k item ∷ []) x k ≡ held_by a.plan (history l k ++ item ∷ []) x =
+    let old : held_by_journey l x k ≡ held_by a.plan (history l k) x =
+    ap (held_in x (history l k)) at in
+    let new : held_by_journey (l ++ Did k item ∷ []) x k
+    ≡ held_by a.plan (history l k ++ item ∷ []) x =
     ap (λ h. held_in x h (journey_at (l ++ Did k item ∷ []) k)) (events.history-did_same l k item)
     ∙ ap (held_in x (history l k ++ item ∷ [])) (events.journey_at-did l k item k ∙ at) in
     omega arith
@@ -116,7 +108,8 @@ held-did l k item a x at =
     other : (j : ℕ) → (j ≡ k → ⊥)
         → held_by_journey (l ++ Did k item ∷ []) x j ≡ held_by_journey l x j
     other j apart =
-        ap (λ h. held_in x h (journey_at (l ++ Did k item ∷ []) j)) (events.history-did_other l k item j apart)
+        ap (λ h. held_in x h (journey_at (l ++ Did k item ∷ []) j))
+        (events.history-did_other l k item j apart)
         ∙ ap (held_in x (history l j)) (events.journey_at-did l k item j)
 
 -- a batch leaves what is held
@@ -130,7 +123,8 @@ pub held-began : (l : List Event) (agent : List ℕ) (plan : Planned) (x : Cell)
 held-began l agent plan x legal = held_before.held-began l agent plan x (all_go l legal)
 
 -- a transaction holds the places of its want
-pub held-transaction : (l : List Event) (j i c : ℕ) (a : Journey) (x : Cell) → journey_at l j ≡ Some a
+pub held-transaction : (l : List Event) (j i c : ℕ) (a : Journey) (x : Cell)
+    → journey_at l j ≡ Some a
     → held (l ++ Did j (Transaction i c) ∷ []) x ≡ held l x + places_in x (want_at a.plan i c)
 held-transaction l j i c a x at =
     let changed = held-did l j (Transaction i c) a x at in
@@ -144,7 +138,8 @@ pub held-compensation : (l : List Event) (j i c : ℕ) (a : Journey) (x : Cell) 
 held-compensation l j i c a x legal at may =
     let h : List Item = history l j in
     let changed = held-did l j (Compensation i c) a x at in
-    let left = items.net-compensation a.plan (history l j) (fits l (next_want a.plan (history l j))) i c
+    let left = items.net-compensation a.plan (history l j)
+    (fits l (next_want a.plan (history l j))) i c
     (follows l legal j a at) (may_come-allowed l j a (Compensation i c) at may) in
     let own : held_by a.plan (history l j) x
     ≡ held_by a.plan (history l j ++ Compensation i c ∷ []) x + places_in x (want_at a.plan i c) =
@@ -170,7 +165,8 @@ held-save l j p a x at =
     omega arith
 
 -- a want takes so many places of its own cells
-pub places_in-cell : (w : Wanted) (x : Cell) → wants_cell w x ≡ true → places_in x (Some w) ≡ w.count
+pub places_in-cell : (w : Wanted) (x : Cell) → wants_cell w x ≡ true
+    → places_in x (Some w) ≡ w.count
 places_in-cell w x e = ap (λ b. if b then w.count else 0) e
 
 -- and none of others
@@ -185,100 +181,18 @@ transaction_fits l j i c a at may =
     let comes = step-comes a.plan (history l j) (fits l (next_want a.plan (history l j))) i c
     (may_come-allowed l j a (Transaction i c) at may) in
     ap (fits l)
-    (ap (λ n. want_at a.plan n c) comes.step ∙ ap (want_at a.plan (position_of (history l j) + 1)) comes.option)
+    (ap (λ n. want_at a.plan n c) comes.step
+    ∙ ap (want_at a.plan (position_of (history l j) + 1)) comes.option)
     ∙ comes.fitting
 
 -- of a cell with an allotment no more is held
-pub held_within : (l : List Event) (x : Cell) (n : ℕ) → IsLegal l → allotment l x ≡ Some n → held l x ≤ n
+pub held_within : (l : List Event) (x : Cell) (n : ℕ) → IsLegal l → allotment l x ≡ Some n
+    → held l x ≤ n
 held_within l x n legal at = subst (λ o. held l x ≤ unwrap_or o 0) at (no_cell_overfull l legal x)
 
 -- of a cell without one nothing is held
 pub held_none : (l : List Event) (x : Cell) → IsLegal l → allotment l x ≡ None → held l x ≡ 0
 held_none l x legal absent =
-    let none : held l x ≤ 0 = subst (λ o. held l x ≤ unwrap_or o 0) absent (no_cell_overfull l legal x) in
+    let none : held l x ≤ 0 = subst (λ o. held l x ≤ unwrap_or o 0) absent
+    (no_cell_overfull l legal x) in
     omega arith
-
--- Allotments.
-
--- a begin leaves each allotment
-pub allotment-began : (l : List Event) (agent : List ℕ) (plan : Planned) (x : Cell)
-    → allotment (l ++ Began agent plan ∷ []) x ≡ allotment l x
-allotment-began l agent plan x = allotment-same l (Began agent plan) x refl
-
--- so does an item
-pub allotment-did : (l : List Event) (k : ℕ) (item : Item) (x : Cell)
-    → allotment (l ++ Did k item ∷ []) x ≡ allotment l x
-allotment-did l k item x = allotment-same l (Did k item) x refl
-
--- of rows that are not of this cell, none is
-filter-none : (x y : Cell) (rows : List Row) → x ≡ y → list_any (λ (s : Row). is_cell y s.cell) rows ≡ false
-    → filter (λ (s : Row). is_cell x s.cell) rows ≡ []
-filter-none x y [] same none = refl
-filter-none x y (r ∷ rows) same none =
-    let both = or_parts (is_cell y r.cell) (list_any (λ (s : Row). is_cell y s.cell) rows) none in
-    let rest = filter-none x y rows same both.1 in
-    ap (λ b. cond b (r ∷ filter (λ (s : Row). is_cell x s.cell) rows) (filter (λ (s : Row). is_cell x s.cell) rows))
-    (ap (λ z. is_cell z r.cell) same ∙ both.0)
-    ∙ rest
-
--- of rows that name each cell once, those of a cell are the first one, if there is one
-filter-distinct : (x : Cell) (rows : List Row) → are_distinct rows ≡ true
-    → filter (λ (s : Row). is_cell x s.cell) rows
-    ≡ option_to_list (find (λ (s : Row). is_cell x s.cell) rows)
-filter-distinct x [] distinct = refl
-filter-distinct x (r ∷ rows) distinct =
-    let both = and_parts (not (list_any (λ (s : Row). is_cell r.cell s.cell) rows)) (are_distinct rows) distinct in
-    go (is_cell x r.cell) refl (not-true-is _ both.0) (filter-distinct x rows both.1)
-  where
-    not-true-is : (b : Bool) → not b ≡ true → b ≡ false
-    not-true-is true e = cc
-    not-true-is false e = refl
-
-    go : (v : Bool) → is_cell x r.cell ≡ v
-        → list_any (λ (s : Row). is_cell r.cell s.cell) rows ≡ false
-        → filter (λ (s : Row). is_cell x s.cell) rows
-        ≡ option_to_list (find (λ (s : Row). is_cell x s.cell) rows)
-        → cond v (r ∷ filter (λ (s : Row). is_cell x s.cell) rows) (filter (λ (s : Row). is_cell x s.cell) rows)
-        ≡ option_to_list (cond v (Some r) (find (λ (s : Row). is_cell x s.cell) rows))
-    go true e none rest = ap (λ rs. r ∷ rs) (filter-none x r.cell rows (is_cell-same x r.cell e) none)
-    go false e none rest = rest
-
--- the last of some rows and at most one more is that one, if there is one
-last-newer : (rows : List Row) (o : Option Row)
-    → option_map (λ (r : Row). r.places) (last_of (rows ++ option_to_list o))
-    ≡ newer (option_map (λ (r : Row). r.places) o) (option_map (λ (r : Row). r.places) (last_of rows))
-last-newer rows None = ap (λ rs. option_map (λ (r : Row). r.places) (last_of rs)) (append-nil rows)
-last-newer rows (Some r) = ap (option_map (λ (s : Row). s.places)) (last_of-append rows r [])
-
--- a batch that names each cell once gives its cells their places, and leaves the others
-pub allotment-loaded : (l : List Event) (name : List ℕ) (rows : List Row) (x : Cell)
-    → are_distinct rows ≡ true
-    → allotment (l ++ Loaded name rows ∷ []) x ≡ newer (places_in_rows rows x) (allotment l x)
-allotment-loaded l name rows x distinct =
-    ap (λ rs. option_map (λ (r : Row). r.places) (last_of (filter (λ (r : Row). is_cell x r.cell) rs)))
-    (flat_map-append rows_of l (Loaded name rows ∷ [])
-    ∙ ap (λ rs. flat_map rows_of l ++ rs) (append-nil rows))
-    ∙ ap (λ rs. option_map (λ (r : Row). r.places) (last_of rs))
-    (filter-append (λ (r : Row). is_cell x r.cell) (flat_map rows_of l) rows
-    ∙ ap (λ rs. filter (λ (r : Row). is_cell x r.cell) (flat_map rows_of l) ++ rs) (filter-distinct x rows distinct))
-    ∙ last-newer (filter (λ (r : Row). is_cell x r.cell) (flat_map rows_of l))
-    (find (λ (r : Row). is_cell x r.cell) rows)
-
--- a batch that is allowed names each cell once
-pub loaded_distinct : (l : List Event) (name : List ℕ) (rows : List Row)
-    → IsTrue (is_allowed l (Loaded name rows)) → are_distinct rows ≡ true
-loaded_distinct l name rows may =
-    let new = and_parts (is_batch name rows && list_all (is_not_below_held l) rows)
-    (length (batches_named l name) == 0) may in
-    let held_too = and_parts (is_batch name rows) (list_all (is_not_below_held l) rows) new.0 in
-    (and_parts (is_batch_name name && is_between 1 2000 (length rows) && list_all is_good_row rows)
-    (are_distinct rows) held_too.0).1
-
--- and none of its rows is below what is held
-pub loaded_above_held : (l : List Event) (name : List ℕ) (rows : List Row) (x : Cell) (n : ℕ) → IsLegal l
-    → IsTrue (is_allowed l (Loaded name rows)) → places_in_rows rows x ≡ Some n → held l x ≤ n
-loaded_above_held l name rows x n legal may found =
-    subst (λ m. m ≤ n) (held-loaded l name rows x)
-    (held_within (l ++ Loaded name rows ∷ []) x n (IsLegal-append l (Loaded name rows) legal may)
-    (allotment-loaded l name rows x (loaded_distinct l name rows may)
-    ∙ ap (λ o. newer o (allotment l x)) found))

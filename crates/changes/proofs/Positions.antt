@@ -36,7 +36,8 @@ ended_at plan h f e = by_mode f.goes.mode
       | runs below run ↦ (let bad : Run ≡ Ended = sym run ∙ e in cc)
       | ended at same ↦ at
     ]
-    by_mode (falls way) = let bad : Back way.target ≡ Ended = sym (phase-falling plan h way) ∙ e in cc
+    by_mode (falls way) =
+        let bad : Back way.target ≡ Ended = sym (phase-falling plan h way) ∙ e in cc
     by_mode (fell way) = let bad : Undone ≡ Ended = sym (phase-fallen plan h way) ∙ e in cc
 
 -- one that is undone stands at the start
@@ -49,7 +50,8 @@ undone_at plan h f e = by_mode f.goes.mode
       | runs below run ↦ (let bad : Run ≡ Undone = sym run ∙ e in cc)
       | ended at same ↦ (let bad : Ended ≡ Undone = sym same ∙ e in cc)
     ]
-    by_mode (falls way) = let bad : Back way.target ≡ Undone = sym (phase-falling plan h way) ∙ e in cc
+    by_mode (falls way) =
+        let bad : Back way.target ≡ Undone = sym (phase-falling plan h way) ∙ e in cc
     by_mode (fell way) = way.low
 
 -- a list that is not empty has a last element

@@ -51,8 +51,10 @@ list_any-filter passes first (suc more) p =
     elim (passes first) as (λ b. passes first ≡ b
     → list_any (λ q. q == p) (cond b (first ∷ members) members)
     ≡ (nat_le first p && nat_lt p (first + suc more) && passes p)) [
-      | true ↦ λ passed. first_passes (passes p) first more p _ (λ e. ap passes (sym e) ∙ passed) later
-      | false ↦ λ failed. first_fails (passes p) first more p _ (λ e. ap passes (sym e) ∙ failed) later
+      | true ↦ λ passed. first_passes (passes p) first more p _
+          (λ e. ap passes (sym e) ∙ passed) later
+      | false ↦ λ failed. first_fails (passes p) first more p _
+          (λ e. ap passes (sym e) ∙ failed) later
     ] refl
 
 -- a test that passes between 1 and 23 alone needs no limits
@@ -86,7 +88,8 @@ marks_of-is plan h marks f same =
     same_marks marks (marks_of h) (λ p. same p ∙ sym (is_taken_in-marks_of plan h p f))
 
 -- no number of a row passes a test that none passes
-list_any-none : (first more p : ℕ) → list_any (λ q. q == p) (filter (λ _. false) (numbers_from first more)) ≡ false
+list_any-none : (first more p : ℕ) → list_any (λ q. q == p)
+    (filter (λ _. false) (numbers_from first more)) ≡ false
 list_any-none first zero p = refl
 list_any-none first (suc more) p = list_any-none (suc first) more p
 
@@ -108,13 +111,16 @@ taken_by-marks plan h f = λ i p. sym (is_taken_in-marks_of plan h p f) i
 -- the last save-point, by the set
 pub last_save_by-marks : (plan : Planned) (h : List Item) → Follows plan h
     → last_save plan h ≡ rules.last_save plan (is_taken_in (marks_of h)) (position_of h)
-last_save_by-marks plan h f = ap (λ taken. rules.last_save plan taken (position_of h)) (taken_by-marks plan h f)
+last_save_by-marks plan h f =
+    ap (λ taken. rules.last_save plan taken (position_of h)) (taken_by-marks plan h f)
 
 -- where a refused step leads, by the set
 pub refused_target_by-marks : (plan : Planned) (h : List Item) → Follows plan h
-    → refused_target plan h ≡ rules.refused_target plan (is_taken_in (marks_of h)) (position_of h) (refusals h)
+    → refused_target plan h ≡ rules.refused_target plan (is_taken_in (marks_of h)) (position_of h)
+    (refusals h)
 refused_target_by-marks plan h f =
-    ap (λ taken. rules.refused_target plan taken (position_of h) (refusals h)) (taken_by-marks plan h f)
+    ap (λ taken. rules.refused_target plan taken (position_of h) (refusals h))
+    (taken_by-marks plan h f)
 
 -- whether a save-point stands, by the set
 pub is_save_point_by-marks : (plan : Planned) (h : List Item) (p : ℕ) → Follows plan h
@@ -125,7 +131,8 @@ is_save_point_by-marks plan h p f =
 -- One more item.
 
 -- a save-point is one more of the set
-pub marks_of-save : (plan : Planned) (h : List Item) (may_fit : Bool) (p : ℕ) (marks : set.FinSet nat_cmp)
+pub marks_of-save : (plan : Planned) (h : List Item) (may_fit : Bool) (p : ℕ)
+    (marks : set.FinSet nat_cmp)
     → Follows plan h → IsTrue (may_come plan h may_fit (Save p))
     → ((q : ℕ) → is_taken_in marks q ≡ ((q == p) || is_taken_in (marks_of h) q))
     → marks ≡ marks_of (h ++ Save p ∷ [])
@@ -145,7 +152,8 @@ cut_below q i pos false step above reached = none (nat_le q (pos - 1)) ∙ sym (
 cut_below q i pos true step above reached =
     let low = reached refl in
     elim (q == i) as (λ v. (q == i) ≡ v → (nat_le q (pos - 1) && true) ≡ (not v && true)) [
-      | true ↦ λ e. let same = eqb-true _ _ e in ap (λ b. b && true) (lt-leb q (pos - 1) (omega arith))
+      | true ↦ λ e. let same =
+          eqb-true _ _ e in ap (λ b. b && true) (lt-leb q (pos - 1) (omega arith))
       | false ↦ λ e. let other = eqb-false _ _ e in
           let apart : q ≡ pos → ⊥ = λ z. other (omega arith) in
           ap (λ b. b && true) (le-leb q (pos - 1) (omega arith))
@@ -163,7 +171,8 @@ marks_of-compensation plan h may_fit i c marks f may cut =
     (follows-more plan h may_fit (Compensation i c) f may)
     (λ q. cut q
     ∙ ap (λ b. nat_le q (position_of h - 1) && b) (is_taken_in-marks_of plan h q f)
-    ∙ cut_below q i (position_of h) (is_taken h q) step (compensation_above plan h may_fit i c f may)
+    ∙ cut_below q i (position_of h) (is_taken h q) step
+    (compensation_above plan h may_fit i c f may)
     (λ e. (f.taken q e).reached)
     ∙ sym (is_taken-more h (Compensation i c) q))
 
@@ -172,18 +181,23 @@ filter-same : (f g : ℕ → Bool) (first more : ℕ) → ((p : ℕ) → f p ≡
     → filter f (numbers_from first more) ≡ filter g (numbers_from first more)
 filter-same f g first zero same = refl
 filter-same f g first (suc more) same =
-    ap (λ b. cond b (first ∷ filter f (numbers_from (suc first) more)) (filter f (numbers_from (suc first) more)))
+    ap (λ b. cond b (first ∷ filter f (numbers_from (suc first) more))
+    (filter f (numbers_from (suc first) more)))
     (same first)
     ∙ ap (λ xs. cond (g first) (first ∷ xs) xs) (filter-same f g (suc first) more same)
 
 -- a transaction leaves the set
-pub marks_of-transaction : (h : List Item) (i c : ℕ) → marks_of (h ++ Transaction i c ∷ []) ≡ marks_of h
+pub marks_of-transaction : (h : List Item) (i c : ℕ)
+    → marks_of (h ++ Transaction i c ∷ []) ≡ marks_of h
 marks_of-transaction h i c =
     ap set.from_list
-    (filter-same (is_taken (h ++ Transaction i c ∷ [])) (is_taken h) 1 23 (is_taken-more h (Transaction i c)))
+    (filter-same (is_taken (h ++ Transaction i c ∷ [])) (is_taken h) 1 23
+    (is_taken-more h (Transaction i c)))
 
 -- so does a turn
-pub marks_of-turn : (h : List Item) (p : ℕ) (cause : Cause) → marks_of (h ++ Turn p cause ∷ []) ≡ marks_of h
+pub marks_of-turn : (h : List Item) (p : ℕ) (cause : Cause)
+    → marks_of (h ++ Turn p cause ∷ []) ≡ marks_of h
 marks_of-turn h p cause =
     ap set.from_list
-    (filter-same (is_taken (h ++ Turn p cause ∷ [])) (is_taken h) 1 23 (is_taken-more h (Turn p cause)))
+    (filter-same (is_taken (h ++ Turn p cause ∷ [])) (is_taken h) 1 23
+    (is_taken-more h (Turn p cause)))

@@ -33,7 +33,8 @@ none_left false = refl
 
 -- what is given up now is out of what was taken here and of what was taken later
 given_up : (here gone now later : Bool)
-    → ((here && not (gone || now)) || (not now && later)) ≡ (not now && ((here && not gone) || later))
+    → ((here && not (gone || now)) || (not now && later))
+    ≡ (not now && ((here && not gone) || later))
 given_up true true true later = refl
 given_up true true false later = refl
 given_up true false true later = refl
@@ -51,7 +52,8 @@ is_taken-save (Transaction i c ∷ h) q p = is_taken-save h q p
 is_taken-save (Compensation i c ∷ h) q p = is_taken-save h q p
 is_taken-save (Turn r cause ∷ h) q p = is_taken-save h q p
 is_taken-save (Save r ∷ h) q p =
-    ap (λ b. (p == r && not b) || is_taken (h ++ Save q ∷ []) p) (compensated-other p h (Save q) refl)
+    ap (λ b. (p == r && not b) || is_taken (h ++ Save q ∷ []) p)
+    (compensated-other p h (Save q) refl)
     ∙ ap (λ b. (p == r && not (list_any (is_compensation_of p) h)) || b) (is_taken-save h q p)
     ∙ or_swap (p == r && not (list_any (is_compensation_of p) h)) (p == q) (is_taken h p)
 

@@ -61,7 +61,8 @@ is_taken_after _ taken p = taken p
 
 -- the places of the row that these rows have for the cell
 abbrev pub places_in_rows : List Row → Cell → Option ℕ
-places_in_rows rows x = option_map (λ (r : Row). r.places) (find (λ (r : Row). is_cell x r.cell) rows)
+places_in_rows rows x =
+    option_map (λ (r : Row). r.places) (find (λ (r : Row). is_cell x r.cell) rows)
 
 -- the newer allotment, where there is one, else the older
 abbrev pub newer : Option ℕ → Option ℕ → Option ℕ

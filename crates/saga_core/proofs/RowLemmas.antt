@@ -114,7 +114,6 @@ places_at-rows (e ∷ es) x =
 before_all : (k : CellKey) (es : List (CellKey × Held))
     → AllByRecursion (λ y. cell_key_cmp k y ≡ Less) (keys_of es)
     → list_all (λ (s : Cell × Held). is_lt (cell_cmp k.cell s.0)) (map row_of es) ≡ true
-unfolding AllByRecursion
 before_all k [] all = refl
 before_all k (e ∷ es) all =
     ap (λ o. is_lt o && list_all (λ (s : Cell × Held). is_lt (cell_cmp k.cell s.0)) (map row_of es))

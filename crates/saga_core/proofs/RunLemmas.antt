@@ -1,10 +1,9 @@
 -- What one more command does to a run. For run.
 use Rattle.std.proofs.Common.{◌≡◌, ℕ, ◌+◌, ◌<◌, List, [], ◌∷◌, ◌++◌, length, take, get_or, refl, ap, sym, ◌∙◌, subst, arith}
 use Rattle.std.proofs.lemmas.List.{take_more}
-use Rattle.std.specs.Prelude.{Option, Result, Err}
+use Rattle.std.specs.Prelude.{Option, Err}
 use Rattle.commands.specs.Asked.{Asked}
 use Rattle.commands.specs.Orders.{request_of}
-use Rattle.commands.specs.Request.{Request}
 use Rattle.commands.specs.declared.faults.Fault.{Fault}
 use Rattle.commands.specs.declared.faults.Fault.TheVariants.{Memory, Store}
 use Rattle.commands.specs.declared.orders.Command.{Command}

@@ -1,8 +1,8 @@
 -- How a world goes on with the commands of a run. For run.
-use Rattle.std.proofs.Common.{◌≡◌, ℕ, ◌+◌, ◌<◌, ◌≤◌, true, false, List, [], ◌∷◌, ◌++◌, length, take, get_or, refl, ap, sym, ◌∙◌, subst, arith, IsTrue}
+use Rattle.std.proofs.Common.{◌≡◌, ℕ, ◌+◌, true, false, List, [], ◌∷◌, ◌++◌, take, refl, ap, sym, ◌∙◌, subst, arith, IsTrue}
 use Rattle.std.proofs.lemmas.List.{take_more}
 use Rattle.std.proofs.lemmas.Option.{slice_get-get_or}
-use Rattle.std.specs.Prelude.{Option, Some, Err, slice_get}
+use Rattle.std.specs.Prelude.{Option, Some, Err}
 use Rattle.commands.specs.Asked.{Asked}
 use Rattle.commands.specs.Orders.{request_of}
 use Rattle.commands.specs.declared.faults.Fault.{Fault}
@@ -13,7 +13,7 @@ use Rattle.ledger.specs.Answer.{State, start, outcome, is_request}
 use Rattle.ledger.specs.World.{Moment, Done, Cut, Reopened, after, GoesOn, IsWorld}
 use Rattle.saga_core.specs.Books.{LeavesAtStore, KeepsAtMemory}
 use Rattle.saga_core.specs.Runs.{Asks, replies_to, state_after, outcome_of}
-use Rattle.saga_core.specs.Worlds.{is_whole, dones, continued, cut_off, StandsAtEnd, LeavesEnd, CutsNext, EndsAmong, StoodAtEnd}
+use Rattle.saga_core.specs.Worlds.{is_whole, dones, continued, cut_off, StandsAtEnd, EndsAmong, StoodAtEnd}
 use Rattle.saga_core.proofs.RunLemmas.{IsAt}
 
 -- what comes after some moments and others comes after the others from there

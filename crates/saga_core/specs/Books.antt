@@ -1,7 +1,7 @@
 -- What a call of a book answers, and what a stop may leave of a book.
 -- `stood` and `stands` say for which states a book stood before a call, and for which it stands after it; `left` and
 -- `leaves` say of two states whether whatever a stop leaves stands for one of them.
-use Rattle.std.specs.Prelude.{◌≡◌, ⊤, Option, Result, Ok, Err, IfOk, OnOk}
+use Rattle.std.specs.Prelude.{◌≡◌, ⊤, Option, Result, Err, IfOk, OnOk}
 use Rattle.commands.specs.Asked.{Asked}
 use Rattle.commands.specs.Request.{Request}
 use Rattle.commands.specs.declared.faults.Fault.{Fault}

@@ -7,3 +7,4 @@ pub mod MemoryJourneys
 pub mod MemoryNext
 pub mod Memory
 pub mod Worlds
+pub mod Deciding

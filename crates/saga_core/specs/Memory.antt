@@ -15,7 +15,7 @@ use Rattle.ledger.specs.History.{net}
 use Rattle.ledger.specs.Ledger as l
 use Rattle.ledger.specs.Ledger.{Event, Loaded, IsLegal, history, journeys}
 use Rattle.saga_core.specs.Shown.{cursor_of, marks_of, places_of}
-use Rattle.saga_core.specs.MemoryStock.{stock_at}
+use Rattle.saga_core.specs.MemoryStock.{stock_at, fits_where_taken}
 use Rattle.saga_core.specs.MemoryAnswers.{kept_in, AreKeptAlike}
 use Rattle.saga_core.specs.MemoryJourneys.{IsNext}
 use Rattle.saga_core.specs.declared.memory.journeys.Journey.{Journey}
@@ -105,8 +105,12 @@ IsMove m place answered next =
     → MatchResult next (λ x. answered ≡ moves (suc place) k.plan k.cursor x)
     (λ why. answered ≡ refused why)
 
--- the journey at this place may make what it comes to
+-- the journey at this place may make what it comes to: it is next there, and what it takes fits
+pub record IsReady (m : MemBook) (k : Journey) (x : Item) : Type 0 where
+  pub next : IsNext k.plan k.cursor x
+  pub fits : IsTrue (fits_where_taken m.stock k.plan x)
+
+-- whatever item this comes to, the journey at this place may make it
 abbrev pub MayBeMade : MemBook → ℕ → Result Item Refusal → Type 0
 MayBeMade m place next =
-    (k : Journey) → slice_get m.journeys.items place ≡ Some k
-    → IfOk next (IsNext k.plan k.cursor)
+    (k : Journey) → slice_get m.journeys.items place ≡ Some k → IfOk next (IsReady m k)

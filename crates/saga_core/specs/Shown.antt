@@ -1,30 +1,20 @@
 -- What a book shows of a ledger.
-use Rattle.std.specs.Prelude.{◌≡◌, ℕ, ◌-◌, ◌&&◌, not, Bool, true, List, filter, filter_map, find, nat_lt, Option, option_map, IsTrue, [], ◌∷◌, map}
+use Rattle.std.specs.Prelude.{◌≡◌, ℕ, ◌-◌, ◌&&◌, not, Bool, true, List, filter_map, find, nat_lt, Option, option_map, IsTrue, [], ◌∷◌, map}
 use Rattle.std.specs.List.{list_all}
-use Rattle.std.specs.FinSet as set
 use Rattle.std.specs.Ordering.{is_lt, ordering_then, nat_cmp}
 use Rattle.std.specs.Cmp.Lexicographic.{slice_cmp}
 use Rattle.std.specs.declared.cmp.Ordering.{Ordering}
 use Rattle.allotment.specs.Want.{Wanted}
-use Rattle.allotment.specs.Cells.{cells_of, is_cell, kind_number, numbers_from}
+use Rattle.allotment.specs.Cells.{cells_of, is_cell, kind_number}
 use Rattle.allotment.specs.declared.cells.Cell.{Cell}
 use Rattle.allotment.specs.declared.places.Held.{Held}
-use Rattle.plan.specs.Planned.{Planned}
 use Rattle.commands.specs.declared.items.Item.{Item}
-use Rattle.commands.specs.declared.items.Cursor.{Cursor}
-use Rattle.ledger.specs.History.{position_of, phase, refusals, is_finished, is_taken}
+use Rattle.ledger.specs.History.{is_finished}
 use Rattle.ledger.specs.Ledger.{Event, Journey, journey_at, numbers, history, allotment, held}
 use Rattle.ledger.specs.Answer.{State}
+pub use Rattle.changes.specs.Cursors.{cursor_of, marks_of}
 use Rattle.saga_core.specs.declared.records.Record.{Record}
 use Rattle.saga_core.specs.declared.records.Brief.{Brief}
-
--- where a journey is
-abbrev pub cursor_of : Planned → List Item → Cursor
-cursor_of plan h = record { pos = position_of h; phase = phase plan h; used = refusals h }
-
--- the positions at which save-points were taken that stand
-abbrev pub marks_of : List Item → set.FinSet nat_cmp
-marks_of h = set.from_list (filter (is_taken h) (numbers_from 1 23))
 
 abbrev pub record_of_journey : List Item → Journey → Record
 record_of_journey h a =

@@ -5,6 +5,7 @@
 #![tactic(auto)]
 
 mod books;
+mod deciding;
 mod memory;
 mod records;
 mod runs;
@@ -16,6 +17,7 @@ pub use commands::{
     Agent, Ask, BadBatch, Batch, Cause, Command, CsvCause, Cursor, Fault, Item, Key, Name, Phase,
     Refusal, Reply,
 };
+pub use deciding::{Move, decide};
 pub use ledger;
 pub use memory::MemBook;
 pub use records::{Brief, Record};

@@ -191,3 +191,4 @@ impl MemBook {
         self.events += 1;
         Ok(moved(place, item, &cursor))
     }
+}

@@ -1,5 +1,4 @@
 use Rattle.std.proofs.Common.{◌≡◌, ◌+◌, [], ◌∷◌, ◌++◌, take, ap, sym, ◌∙◌, subst, arith}
-use Rattle.std.specs.Prelude.{Err}
 use Rattle.std.specs.Option.{option_copied}
 use Rattle.saga_core.specs.Runs.{replies_to}
 use Rattle.saga_core.proofs.RunLemmas.{IsAt, stops, replies_to-more, state_after-more}

@@ -1,0 +1,54 @@
+-- How many places of a cell are allotted and not held: whether a want fits, and what a batch leaves. For each desk that
+-- stores how many are free.
+use Rattle.std.proofs.Common.{◌≡◌, ℕ, ◌+◌, ◌-◌, ◌≤◌, List, [], ◌∷◌, ◌++◌, refl, ap, sym, ◌∙◌, arith, subst}
+use Rattle.std.proofs.lemmas.Bool.{le-leb, lt-leb, leb-true, leb-false}
+use Rattle.std.specs.Prelude.{Bool, true, false, nat_le, Option, Some, None, option_map, unwrap_or, IsTrue}
+use Rattle.std.specs.List.{list_all}
+use Rattle.allotment.specs.Cells.{cells_of}
+use Rattle.allotment.specs.Want.{Wanted}
+use Rattle.allotment.specs.declared.cells.Cell.{Cell}
+use Rattle.ledger.specs.Ledger.{Event, allotment, held, has_free, fits, IsLegal}
+use Rattle.allotment.specs.declared.cells.Row.{Row}
+use Rattle.ledger.specs.Ledger.{Loaded, is_allowed}
+use Rattle.ledger.proofs.Growing.{IsLegal-append}
+use Rattle.changes.specs.Changed.{places_in_rows, newer}
+use Rattle.changes.proofs.Allotments.{allotment-loaded, loaded_distinct}
+use Rattle.changes.proofs.Places.{held_within, held-loaded}
+
+-- so many of the places that are not held: with what is held they are not above what is allotted
+room : (held_now count places : ℕ) → held_now ≤ places
+    → nat_le (held_now + count) places ≡ nat_le count (places - held_now)
+room held_now count places within = go (nat_le (held_now + count) places) refl
+  where
+    go : (v : Bool) → nat_le (held_now + count) places ≡ v → v ≡ nat_le count (places - held_now)
+    go true e = let k = leb-true _ _ e in sym (le-leb count (places - held_now) (omega arith))
+    go false e = let k = leb-false _ _ e in sym (lt-leb count (places - held_now) (omega arith))
+
+-- so many places of a cell are free where as many of its allotment are not held
+pub has_free-by_held : (l : List Event) (count : ℕ) (x : Cell) → IsLegal l
+    → has_free l count x
+    ≡ unwrap_or (option_map (λ n. nat_le count (n - held l x)) (allotment l x)) false
+has_free-by_held l count x legal = go (allotment l x) refl
+  where
+    go : (o : Option ℕ) → allotment l x ≡ o
+        → unwrap_or (option_map (λ n. nat_le (held l x + count) n) o) false
+        ≡ unwrap_or (option_map (λ n. nat_le count (n - held l x)) o) false
+    go None e = refl
+    go (Some n) e = room (held l x) count n (held_within l x n legal e)
+
+-- a want fits where each of its cells passes a test that says of a cell whether the count is free
+pub fits-by_test : (l : List Event) (w : Wanted) (test : Cell → Bool)
+    → ((x : Cell) → test x ≡ has_free l w.count x)
+    → list_all test (cells_of w) ≡ fits l (Some w)
+fits-by_test l w test same =
+    ap (λ (passes : Cell → Bool). list_all passes (cells_of w)) (λ i x. same x i)
+
+-- a batch that is allowed has no row below what is held
+pub loaded_above_held : (l : List Event) (name : List ℕ) (rows : List Row) (x : Cell) (n : ℕ)
+    → IsLegal l
+    → IsTrue (is_allowed l (Loaded name rows)) → places_in_rows rows x ≡ Some n → held l x ≤ n
+loaded_above_held l name rows x n legal may found =
+    subst (λ m. m ≤ n) (held-loaded l name rows x)
+    (held_within (l ++ Loaded name rows ∷ []) x n (IsLegal-append l (Loaded name rows) legal may)
+    (allotment-loaded l name rows x (loaded_distinct l name rows may)
+    ∙ ap (λ o. newer o (allotment l x)) found))

@@ -1,0 +1,174 @@
+-- What a step of a journey does, by where the journey is: each move names the item that may come next. For decide.
+use Rattle.std.proofs.Common.{◌≡◌, ℕ, ◌+◌, ◌<◌, List, refl, ap, sym, ◌∙◌, arith, eq-eqb}
+use Rattle.std.proofs.lemmas.Bool.{and_from}
+use Rattle.std.specs.FinSet as set
+use Rattle.std.specs.Ordering.{nat_cmp}
+use Rattle.std.specs.Prelude.{true, false, Bool}
+use Rattle.plan.specs.Planned.{Planned}
+use Rattle.savepoints.specs.Marks.{is_taken_in}
+use Rattle.savepoints.specs.Rules as rules
+use Rattle.commands.specs.declared.items.Cause.TheVariants.{Stop, Refused, Asked}
+use Rattle.commands.specs.declared.items.Cursor.{Cursor}
+use Rattle.commands.specs.declared.items.Item.{Item}
+use Rattle.commands.specs.declared.items.Item.TheVariants.{Transaction, Compensation, Turn, Save}
+use Rattle.commands.specs.declared.items.Phase.{Phase}
+use Rattle.commands.specs.declared.items.Phase.TheVariants.{Run, Back}
+use Rattle.ledger.specs.History.{position_of, refusals, next_option, refused_target, phase, is_running, is_going_back, may_come}
+use Rattle.ledger.specs.Recovery.{is_forward}
+use Rattle.ledger.proofs.Coming.{step-comes, step-may_come, compensation-comes, compensation-may_come, refused-comes, refused-may_come}
+use Rattle.ledger.proofs.Modes.{told_apart}
+use Rattle.ledger.proofs.Standing.{compensates}
+use Rattle.changes.proofs.Histories.{Follows, follows-of}
+use Rattle.changes.proofs.Positions.{back_above, last_standing}
+use Rattle.changes.proofs.Taken.{refused_target_by-marks}
+use Rattle.saga_core.specs.Deciding.{names, IsHere, NamesOnlyStep, NamesStep}
+use Rattle.saga_core.specs.declared.deciding.Move.TheVariants as move
+
+-- Of one history.
+
+-- the next transaction is named by its step and option
+names-take : (plan : Planned) (h : List Item) (x : Item) → phase plan h ≡ Run → is_forward x ≡ true
+    → may_come plan h true x ≡ true
+    → names (move.Take (position_of h + 1) (next_option plan h)) x ≡ true
+names-take plan h (Transaction i c) run forward may =
+    let comes = step-comes plan h true i c may in
+    and_from _ _ (eq-eqb _ _ (sym comes.step)) (eq-eqb _ _ (sym comes.option))
+names-take plan h (Compensation i c) run forward may =
+    told_apart is_going_back _ _ (compensation-comes plan h true i c may).back run refl
+names-take plan h (Turn p Stop) run forward may = cc
+names-take plan h (Turn p Refused) run forward may =
+    let bad : false ≡ true = (refused-comes plan h true p may).unfitting in cc
+names-take plan h (Turn p Asked) run forward may = cc
+names-take plan h (Save p) run forward may = cc
+
+-- a refused turn is named by where it leads
+names-turn : (plan : Planned) (h : List Item) (x : Item) → phase plan h ≡ Run → is_forward x ≡ true
+    → may_come plan h false x ≡ true
+    → names (move.Turn (refused_target plan h)) x ≡ true
+names-turn plan h (Transaction i c) run forward may =
+    let bad : false ≡ true = (step-comes plan h false i c may).fitting in cc
+names-turn plan h (Compensation i c) run forward may =
+    told_apart is_going_back _ _ (compensation-comes plan h false i c may).back run refl
+names-turn plan h (Turn p Stop) run forward may = cc
+names-turn plan h (Turn p Refused) run forward may =
+    eq-eqb _ _ (sym (refused-comes plan h false p may).target)
+names-turn plan h (Turn p Asked) run forward may = cc
+names-turn plan h (Save p) run forward may = cc
+
+-- the compensation of the last transaction is named by its step, which is that of the position
+names-undo : (plan : Planned) (h : List Item) (fits : Bool) (x : Item) (q : ℕ) → Follows plan h
+    → phase plan h ≡ Back q → is_forward x ≡ true → may_come plan h fits x ≡ true
+    → names (move.Undo (position_of h)) x ≡ true
+names-undo plan h fits (Transaction i c) q f back forward may =
+    told_apart is_running _ _ (step-comes plan h fits i c may).running back refl
+names-undo plan h fits (Compensation i c) q f back forward may =
+    let last = (compensation-comes plan h fits i c may).last in
+    eq-eqb _ _ (sym (compensates h i c f.stands last).is_last)
+names-undo plan h fits (Turn p Stop) q f back forward may = cc
+names-undo plan h fits (Turn p Refused) q f back forward may =
+    told_apart is_running _ _ (refused-comes plan h fits p may).running back refl
+names-undo plan h fits (Turn p Asked) q f back forward may = cc
+names-undo plan h fits (Save p) q f back forward may = cc
+
+-- Of each history that leads here.
+
+-- here the journey is in this phase
+here-phase : (plan : Planned) (marks : set.FinSet nat_cmp) (cursor : Cursor) (h : List Item)
+    (q : Phase)
+    → IsHere plan marks cursor h → cursor.phase ≡ q → phase plan h ≡ q
+here-phase plan marks cursor h q here e = ap (λ (c : Cursor). c.phase) here.cursor_is ∙ e
+
+-- here the next option is the rule's, by the cursor
+here-option : (plan : Planned) (marks : set.FinSet nat_cmp) (cursor : Cursor) (h : List Item)
+    → IsHere plan marks cursor h
+    → next_option plan h ≡ rules.next_option plan cursor.pos cursor.used
+here-option plan marks cursor h here =
+    ap (λ (c : Cursor). rules.next_option plan c.pos c.used) here.cursor_is
+
+-- here the next step is that behind the position
+here-step : (plan : Planned) (marks : set.FinSet nat_cmp) (cursor : Cursor) (h : List Item)
+    → IsHere plan marks cursor h → position_of h + 1 ≡ cursor.pos + 1
+here-step plan marks cursor h here = ap (λ (c : Cursor). c.pos + 1) here.cursor_is
+
+-- here a refused step leads where the rule says, by the cursor and the set
+here-target : (plan : Planned) (marks : set.FinSet nat_cmp) (cursor : Cursor) (h : List Item)
+    → IsHere plan marks cursor h
+    → refused_target plan h ≡ rules.refused_target plan (is_taken_in marks) cursor.pos cursor.used
+here-target plan marks cursor h here =
+    refused_target_by-marks plan h (follows-of plan h here.has)
+    ∙ ap (λ m. rules.refused_target plan (is_taken_in m) (position_of h) (refusals h))
+    here.marks_are
+    ∙ ap (λ (c : Cursor). rules.refused_target plan (is_taken_in marks) c.pos c.used) here.cursor_is
+
+-- where the next want fits, no other item may come than the next transaction
+pub only-take : (plan : Planned) (marks : set.FinSet nat_cmp) (cursor : Cursor) (fits : Bool)
+    (option : ℕ)
+    → cursor.phase ≡ Run → fits ≡ true → option ≡ rules.next_option plan cursor.pos cursor.used
+    → NamesOnlyStep plan marks cursor fits (move.Take (cursor.pos + 1) option)
+only-take plan marks cursor fits option run fitting option_is h x here forward may =
+    ap (λ n. names (move.Take n option) x) (sym (here-step plan marks cursor h here))
+    ∙ ap (λ n. names (move.Take (position_of h + 1) n) x)
+    (option_is ∙ sym (here-option plan marks cursor h here))
+    ∙ names-take plan h x (here-phase plan marks cursor h Run here run) forward
+    (ap (λ b. may_come plan h b x) (sym fitting) ∙ may)
+
+-- and it may come
+pub one-take : (plan : Planned) (marks : set.FinSet nat_cmp) (cursor : Cursor) (fits : Bool)
+    (option : ℕ)
+    → cursor.phase ≡ Run → fits ≡ true → option ≡ rules.next_option plan cursor.pos cursor.used
+    → NamesStep plan marks cursor fits (move.Take (cursor.pos + 1) option)
+one-take plan marks cursor fits option run fitting option_is h here unfinished = (
+  Transaction (position_of h + 1) (next_option plan h),
+  refl,
+  step-may_come plan h fits (ap is_running (here-phase plan marks cursor h Run here run)) fitting,
+  and_from _ _ (eq-eqb _ _ (sym (here-step plan marks cursor h here)))
+      (eq-eqb _ _ (option_is ∙ sym (here-option plan marks cursor h here))),
+)
+
+-- where the next want does not fit, no other item may come than the refused turn
+pub only-turn : (plan : Planned) (marks : set.FinSet nat_cmp) (cursor : Cursor) (fits : Bool)
+    (target : ℕ)
+    → cursor.phase ≡ Run → fits ≡ false
+    → target ≡ rules.refused_target plan (is_taken_in marks) cursor.pos cursor.used
+    → NamesOnlyStep plan marks cursor fits (move.Turn target)
+only-turn plan marks cursor fits target run unfitting target_is h x here forward may =
+    ap (λ p. names (move.Turn p) x) (target_is ∙ sym (here-target plan marks cursor h here))
+    ∙ names-turn plan h x (here-phase plan marks cursor h Run here run) forward
+    (ap (λ b. may_come plan h b x) (sym unfitting) ∙ may)
+
+-- and it may come
+pub one-turn : (plan : Planned) (marks : set.FinSet nat_cmp) (cursor : Cursor) (fits : Bool)
+    (target : ℕ)
+    → cursor.phase ≡ Run → fits ≡ false
+    → target ≡ rules.refused_target plan (is_taken_in marks) cursor.pos cursor.used
+    → NamesStep plan marks cursor fits (move.Turn target)
+one-turn plan marks cursor fits target run unfitting target_is h here unfinished = (
+  Turn (refused_target plan h) Refused,
+  refl,
+  refused-may_come plan h fits (ap is_running (here-phase plan marks cursor h Run here run))
+      unfitting,
+  eq-eqb _ _ (target_is ∙ sym (here-target plan marks cursor h here)),
+)
+
+-- in a journey that goes back no other item may come than the compensation of the last step
+pub only-undo : (plan : Planned) (marks : set.FinSet nat_cmp) (cursor : Cursor) (fits : Bool)
+    (q : ℕ)
+    → cursor.phase ≡ Back q → NamesOnlyStep plan marks cursor fits (move.Undo cursor.pos)
+only-undo plan marks cursor fits q back h x here forward may =
+    ap (λ (c : Cursor). names (move.Undo c.pos) x) (sym here.cursor_is)
+    ∙ names-undo plan h fits x q (follows-of plan h here.has)
+    (here-phase plan marks cursor h (Back q) here back) forward may
+
+-- and it may come
+pub one-undo : (plan : Planned) (marks : set.FinSet nat_cmp) (cursor : Cursor) (fits : Bool) (q : ℕ)
+    → cursor.phase ≡ Back q → NamesStep plan marks cursor fits (move.Undo cursor.pos)
+one-undo plan marks cursor fits q back h here unfinished =
+    let f = follows-of plan h here.has in
+    let is_back = here-phase plan marks cursor h (Back q) here back in
+    let above : 0 < position_of h = let k = (back_above plan h q f is_back).0 in omega arith in
+    let last = last_standing plan h f above in (
+      Compensation (position_of h) last.0,
+      refl,
+      compensation-may_come plan h fits (position_of h) last.0 (ap is_going_back is_back) last.1,
+      eq-eqb _ _ (ap (λ (c : Cursor). c.pos) (sym here.cursor_is)),
+    )

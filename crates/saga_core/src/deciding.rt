@@ -1,0 +1,65 @@
+//! What a step of a journey does: the one thing that the rules let a journey do next by itself.
+//!
+//! It is decided by where the journey is, the save-points that it took, and whether its next want fits. Nothing here
+//! allocates.
+ghost use Rattle.std.specs.Prelude.{◌≡◌, ◌<◌, ◌↔◌, IsTrue};
+ghost use Rattle.plan.specs.Planned.{step_count};
+ghost use Rattle.ledger.specs.History.{is_finished};
+ghost use Rattle.savepoints.specs.Marks.{is_taken_in};
+ghost use Rattle.savepoints.specs.Rules as rules;
+ghost use Rattle.saga_core.specs.Deciding.{NamesOnlyStep, NamesStep};
+
+use commands::{Cursor, Phase};
+use plan::Plan;
+use savepoints::{Marks, Turn, option_at, target};
+
+#[cfg(test)]
+mod tests;
+
+/// What a step does. Steps and their options are counted from 1.
+#[derive(Clone, Copy, Debug, PartialEq, Eq)]
+pub enum Move {
+    /// It takes the want of this step, with this option of it.
+    Take(usize, usize),
+    /// It compensates this step.
+    Undo(usize),
+    /// It turns the journey back to this position, since the next want does not fit.
+    Turn(usize),
+    /// It does nothing: the journey has ended or is undone.
+    Nothing,
+}
+
+/// Where a running journey turns when its next want does not fit.
+fn refused_target(plan: &Plan, marks: &Marks, pos: usize, used: usize) -> usize
+    requires { pos < step_count plan.now }
+
+    ensures { result ≡ rules.refused_target plan.now (is_taken_in marks.now) pos used }
+{
+    // a refused step always leads somewhere, be it to the beginning
+    target(plan, marks, pos, used, Turn::Refused, None).unwrap_or(0)
+}
+
+/// What a step of a journey does that has this plan, took these save-points and is here. `fits` says whether its next
+/// want fits.
+pub fn decide(plan: &Plan, marks: &Marks, cursor: &Cursor, fits: bool) -> Move
+    requires short { cursor.now.phase ≡ Phase.Run → cursor.now.pos < step_count plan.now }
+
+    ensures only { NamesOnlyStep plan.now marks.now cursor.now fits result }
+    ensures one { NamesStep plan.now marks.now cursor.now fits result }
+
+    ensures nothing { (result ≡ Move.Nothing) ↔ IsTrue (is_finished cursor.now.phase) }
+{
+    match cursor.phase {
+        Phase::Run => {
+            if fits {
+                prove!(cursor.pos < plan.steps());
+                let step = cursor.pos + 1;
+                Move::Take(step, option_at(plan, step, cursor.used))
+            } else {
+                Move::Turn(refused_target(plan, marks, cursor.pos, cursor.used))
+            }
+        }
+        Phase::Back(_) => Move::Undo(cursor.pos),
+        Phase::Ended | Phase::Undone => Move::Nothing,
+    }
+}
