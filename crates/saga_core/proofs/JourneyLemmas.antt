@@ -31,10 +31,10 @@ running-is Undone e = cc
 -- a journey that is not finished is short of its last step
 pub open_below : (plan : Planned) (cursor : Cursor) (taken : List ℕ) → IsPlaced plan cursor taken
     → is_finished cursor.phase ≡ false → cursor.pos < step_count plan
-open_below plan cursor taken placed open = go cursor.phase refl open
+open_below plan cursor taken placed unfinished = go cursor.phase refl unfinished
   where
     go : (p : Phase) → cursor.phase ≡ p → is_finished p ≡ false → cursor.pos < step_count plan
-    go Run e open = placed.running e
-    go (Back q) e open = placed.short q e
-    go Ended e open = cc
-    go Undone e open = cc
+    go Run e o = placed.running e
+    go (Back q) e o = placed.short q e
+    go Ended e o = cc
+    go Undone e o = cc

@@ -145,9 +145,9 @@ impl MemBook {
         ensures answer { (s : State) → StandsFor self.old s →
             (asked : Request) → IsTrue (is_request asked) →
             IsMove self.old place
-                (answer_within s.ledger (asker (option_copied ask.entry)) asked) next →
+            (answer_within s.ledger (asker (option_copied ask.entry)) asked) next →
             IfOk result (IsCarriedOut self.new s (option_copied ask.entry)
-                (answer s.ledger (asker (option_copied ask.entry)) asked)) }
+            (answer s.ledger (asker (option_copied ask.entry)) asked)) }
         ensures memory { KeepsBook self.old self.new result }
     {
         match next {
@@ -162,12 +162,7 @@ impl MemBook {
     }
 
     /// Makes an item, for which the ledger has room, and keeps the reply.
-    fn make(
-        &mut self,
-        place: usize,
-        item: Item,
-        ask: Option<&Ask>,
-    ) -> Result<Reply, AllocError>
+    fn make(&mut self, place: usize, item: Item, ask: Option<&Ask>) -> Result<Reply, AllocError>
         requires within { place < length self.old.journeys.items }
         requires next { MayBeMade self.old place (Ok item) }
         requires room { self.old.events < MOST_EVENTS }
@@ -176,7 +171,7 @@ impl MemBook {
             (k : Journey) → slice_get self.old.journeys.items place ≡ Some k →
             IsTrue (is_allowed s.ledger (Did (suc place) item)) →
             IfOk result (IsCarriedOut self.new s (option_copied ask.entry)
-                (moves (suc place) k.plan k.cursor item)) }
+            (moves (suc place) k.plan k.cursor item)) }
         ensures memory { KeepsBook self.old self.new result }
     {
         let cursor = {
