@@ -2,5 +2,12 @@ pub mod CellLemmas
 pub mod KeptLemmas
 pub mod RowLemmas
 pub mod JourneyLemmas
+pub mod PlaceLemmas
+pub mod StandLemmas
+pub mod GrowthLemmas
+pub mod BeginLemmas
+pub mod TellLemmas
+pub mod MoveLemmas
+pub mod DecidingLemmas
 pub mod RunLemmas
 pub mod WorldLemmas
