@@ -8,14 +8,14 @@ use Rattle.std.specs.declared.cmp.Ordering.TheVariants.{Less, Equal, Greater}
 use Rattle.std.specs.Cmp.{unsigned_ties, nat_eq_equiv}
 use Rattle.std.specs.Cmp.Lexicographic.{slice_cmp, texts_ties, nat_list_eq_equiv}
 use Rattle.std.specs.BTreeMap as tree
-use Rattle.std.proofs.lemmas.Bool.{and_parts, ne_eqb}
+use Rattle.std.proofs.lemmas.Bool.{and_parts, le-leb, ne_eqb}
 use Rattle.allotment.specs.Want.{Wanted}
 use Rattle.allotment.specs.Cells.{is_cell, kind_number, cell_at, cells_of, numbers_from}
 use Rattle.allotment.specs.declared.cells.Cell.{Cell}
 use Rattle.allotment.specs.declared.places.Held.{Held}
 use Rattle.ledger.proofs.Cells.{is_cell-same}
 use Rattle.saga_core.specs.Shown.{Places, places_said}
-use Rattle.saga_core.specs.MemoryStock.{cell_key_cmp, stock_at}
+use Rattle.saga_core.specs.MemoryStock.{cell_key_cmp, stock_at, with_less, with_back}
 use Rattle.saga_core.specs.declared.memory.keys.CellKey.{CellKey}
 use Rattle.saga_core.specs.declared.memory.stock.Stock.{Stock}
 
@@ -26,7 +26,7 @@ abbrev pub key_of : Cell → CellKey
 key_of x = record { cell = x }
 
 -- two orders, one after the other, tell equal where both do
-is_eq-then : (a b : Ordering) → is_eq (ordering_then a b) ≡ (is_eq a && is_eq b)
+pub is_eq-then : (a b : Ordering) → is_eq (ordering_then a b) ≡ (is_eq a && is_eq b)
 is_eq-then Less b = refl
 is_eq-then Equal b = refl
 is_eq-then Greater b = refl
@@ -52,7 +52,7 @@ is_eq-four a b c d =
     ∙ and_four (is_eq a) (is_eq b) (is_eq c) (is_eq d)
 
 -- texts that are ordered alike are one text
-is_eq-texts : (a b : List ℕ) → is_eq (slice_cmp nat_cmp a b) ≡ bytes_eq a b
+pub is_eq-texts : (a b : List ℕ) → is_eq (slice_cmp nat_cmp a b) ≡ bytes_eq a b
 is_eq-texts a b = sym (texts_ties a b)
 
 -- numbers that are ordered alike are one number
@@ -240,3 +240,18 @@ nights_apart want first (suc n) =
 -- no cell of a want comes twice
 pub cells_of-apart : (want : Wanted) → are_apart (cells_of want) ≡ true
 cells_of-apart want = nights_apart want want.first want.nights
+
+-- Nothing taken and nothing given back.
+
+-- none fewer are as many
+pub none_less : (p : Places) → with_less 0 p ≡ p
+none_less p =
+    let e : p.free - 0 ≡ p.free = omega arith in ap (λ f. record { allot = p.allot; free = f }) e
+
+-- none more are as many
+pub none_back : (p : Places) → with_back 0 p ≡ p
+none_back p =
+    let low : nat_le 0 (p.allot - p.free) ≡ true = le-leb 0 (p.allot - p.free) (omega arith) in
+    let e : p.free + 0 ≡ p.free = omega arith in
+    ap (λ b. if b then record { allot = p.allot; free = p.free + 0 } else p) low
+    ∙ ap (λ f. record { allot = p.allot; free = f }) e

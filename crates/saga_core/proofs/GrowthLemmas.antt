@@ -1,8 +1,9 @@
 -- What one more event changes of the parts that a book in memory keeps. For each command.
-use Rattle.std.proofs.Common.{◌≡◌, ℕ, zero, suc, ◌+◌, ◌-◌, ◌<◌, ◌≤◌, Bool, true, false, cond, List, [], ◌∷◌, ◌++◌, length, map, refl, ap, sym, ◌∙◌, subst, arith}
-use Rattle.std.specs.Prelude.{◌&&◌, bytes_eq, nat_le, if◌then◌else◌, Option, Some, None, is_some, option_map, IsTrue}
+use Rattle.std.proofs.Common.{◌≡◌, ℕ, zero, suc, ◌+◌, ◌-◌, ◌<◌, ◌≤◌, Bool, true, false, cond, List, [], ◌∷◌, ◌++◌, length, map, refl, ap, sym, ◌∙◌, subst, inl, inr, arith}
+use Rattle.std.specs.Prelude.{◌&&◌, ◌↔◌, bytes_eq, nat_le, if◌then◌else◌, slice_get, Option, Some, None, is_some, option_map, Result, Ok, Err, IsTrue}
+use Rattle.std.specs.declared.alloc.AllocError.{AllocError}
 use Rattle.std.specs.List.{cons_option}
-use Rattle.std.proofs.lemmas.Bool.{lt-leb, le-leb}
+use Rattle.std.proofs.lemmas.Bool.{lt-leb, le-leb, cases_lt}
 use Rattle.allotment.specs.declared.cells.Cell.{Cell}
 use Rattle.allotment.specs.declared.cells.Row.{Row}
 use Rattle.plan.specs.Planned.{Planned}
@@ -17,8 +18,9 @@ use Rattle.ledger.specs.Ledger.{Event, Loaded, Began, Did, allotment, held, IsLe
 use Rattle.changes.proofs.Allotments.{allotment-began}
 use Rattle.changes.proofs.Places.{held-began}
 use Rattle.saga_core.specs.Shown.{Places, places_of}
-use Rattle.saga_core.specs.Memory.{batch_of, loads, StandsFor, IsCarriedOut}
-use Rattle.saga_core.specs.MemoryAnswers.{AreKeptAlike}
+use Rattle.saga_core.specs.Memory.{begun_as, batch_of, loads, StandsFor, IsCarriedOut, KeepsBook}
+use Rattle.saga_core.specs.MemoryAnswers.{kept_in, AreKeptAlike}
+use Rattle.saga_core.specs.MemoryStock.{stock_at}
 use Rattle.saga_core.specs.declared.memory.MemBook.{MemBook}
 
 -- Kept replies.
@@ -98,3 +100,39 @@ pub carried_out-refused : (m : MemBook) (s : State) (ask : Option Asked) (a : An
 carried_out-refused m s ask a why here is r replied =
     subst (λ (b : Answer). IsCarriedOut m s ask b r) (sym is)
     (record { replied = replied; stands = here })
+
+-- Want of memory.
+
+-- where each state that the book stood for is one that it stands for, it is kept at every fault
+pub keeps_book : {T : Type 0} (m n : MemBook) (r : Result T AllocError)
+    → ((s : State) → StandsFor m s → StandsFor n s) → KeepsBook m n r
+keeps_book m n (Ok x) keeps = tt
+keeps_book m n (Err e) keeps = keeps
+
+-- a book with the same parts stands for the same
+pub stands-same : (m n : MemBook) → n.journeys.items ≡ m.journeys.items → n.stock ≡ m.stock
+    → n.batches.items ≡ m.batches.items
+    → AreKeptAlike (kept_in n.answers) (kept_in m.answers) → n.events ≡ m.events
+    → (s : State) → StandsFor m s → StandsFor n s
+stands-same m n journeys stock batches kept events s here = record {
+  begun = ap (map begun_as) journeys ∙ here.begun;
+  told = λ i k at. here.told i k (ap (λ js. slice_get js i) (sym journeys) ∙ at);
+  stock = λ x. ap (λ st. stock_at st x) stock ∙ here.stock x;
+  batches = batches ∙ here.batches;
+  kept = λ agent key. kept agent key ∙ here.kept agent key;
+  events = events ∙ here.events;
+  legal = here.legal;
+}
+
+-- a ledger that is not full has room
+pub room_left : (full : Bool) (most events : ℕ) → IsTrue full ↔ (most ≤ events) → full ≡ false
+    → events < most
+room_left full most events tells not_full = elim (cases_lt events most) [
+  | inl room ↦ room
+  | inr past ↦ (let is : true ≡ false = sym (tells.1 past) ∙ not_full in cc)
+]
+
+-- and one that is has none
+pub no_room : (full : Bool) (most events : ℕ) → IsTrue full ↔ (most ≤ events) → full ≡ true
+    → most ≤ events
+no_room full most events tells is = tells.0 is

@@ -8,6 +8,9 @@ pub mod GrowthLemmas
 pub mod BeginLemmas
 pub mod TellLemmas
 pub mod MoveLemmas
+pub mod StepLemmas
+pub mod ActLemmas
+pub mod LoadLemmas
 pub mod DecidingLemmas
 pub mod RunLemmas
 pub mod WorldLemmas

@@ -1,5 +1,5 @@
 -- Rows of batches, and the list of all cells. For the stock of a book in memory.
-use Rattle.std.proofs.Common.{◌≡◌, ℕ, Bool, true, false, cond, List, [], ◌∷◌, ◌++◌, map, refl, ap, sym, ◌∙◌, append_assoc}
+use Rattle.std.proofs.Common.{◌≡◌, ℕ, Bool, true, false, cond, List, [], ◌∷◌, ◌++◌, map, refl, ap, sym, ◌∙◌, append_assoc, append-nil}
 use Rattle.std.specs.Prelude.{◌==◌, ◌&&◌, if◌then◌else◌, find, filter_map, filter, Option, Some, None, option_map, unwrap_or, IsTrue}
 use Rattle.std.specs.List.{list_all, cons_option, AllByRecursion}
 use Rattle.std.specs.List.Sorted.{IsStrictlySortedBy}
@@ -11,6 +11,9 @@ use Rattle.std.specs.Ordering.{is_lt, is_eq}
 use Rattle.std.specs.declared.cmp.Ordering.{Ordering}
 use Rattle.std.specs.declared.cmp.Ordering.TheVariants.{Less}
 use Rattle.std.proofs.lemmas.List.{map-append}
+use Rattle.std.proofs.lemmas.List.Elements.{filter-append}
+use Rattle.ledger.specs.History.{last_of}
+use Rattle.ledger.proofs.Cells.{is_cell-same}
 use Rattle.allotment.specs.Want.{Wanted}
 use Rattle.allotment.specs.Cells.{is_cell, cells_of}
 use Rattle.allotment.specs.declared.cells.Cell.{Cell}
@@ -19,7 +22,7 @@ use Rattle.allotment.specs.declared.places.Held.{Held}
 use Rattle.ledger.specs.Ledger.{Event}
 use Rattle.ledger.specs.Replies.{are_same_rows}
 use Rattle.saga_core.specs.Shown.{Places, places_said, places_of, places_at, places_shown, at_night, night_said, cell_cmp, are_in_order, IsStock}
-use Rattle.saga_core.specs.MemoryStock.{cell_key_cmp, stock_at}
+use Rattle.saga_core.specs.MemoryStock.{cell_key_cmp, stock_at, set_to, last_row}
 use Rattle.saga_core.specs.declared.memory.keys.CellKey.{CellKey}
 use Rattle.saga_core.specs.declared.memory.stock.Stock.{Stock}
 use Rattle.saga_core.proofs.CellLemmas.{key_of, is_eq-cells}
@@ -138,3 +141,54 @@ IsStock-rows l stock here ordered = record {
   each = λ x. places_at-rows stock.places.entries x ∙ here x;
   in_order = in_order-rows stock.places.entries ordered;
 }
+
+-- Loads.
+
+-- of a list with one more at its end, the last is that one
+last_of-push : (rs : List Row) (r : Row) → last_of (rs ++ r ∷ []) ≡ Some r
+last_of-push [] r = refl
+last_of-push (q ∷ []) r = refl
+last_of-push (q ∷ p ∷ rs) r = last_of-push (p ∷ rs) r
+
+-- of rows with one more at their end, the last of a cell is that one, if it is of the cell
+last_row-push : (rs : List Row) (r : Row) (x : Cell)
+    → last_row (rs ++ r ∷ []) x ≡ (if is_cell x r.cell then Some r else last_row rs x)
+last_row-push rs r x =
+    ap last_of (filter-append (λ (q : Row). is_cell x q.cell) rs (r ∷ []))
+    ∙ go (is_cell x r.cell)
+  where
+    go : (b : Bool)
+        → last_of (filter (λ (q : Row). is_cell x q.cell) rs ++ cond b (r ∷ []) [])
+        ≡ (if b then Some r else last_row rs x)
+    go true = last_of-push (filter (λ (q : Row). is_cell x q.cell) rs) r
+    go false = ap last_of (append-nil (filter (λ (q : Row). is_cell x q.cell) rs))
+
+-- what a cell has once these rows are loaded
+abbrev pub loaded_at : Stock → List Row → Cell → Option Places
+loaded_at stock rows x =
+    unwrap_or (option_map (λ (r : Row). Some (set_to stock x r.places)) (last_row rows x))
+    (stock_at stock x)
+
+-- once one more row is loaded, its cell has its places
+pub loaded_at-push : (stock : Stock) (rs : List Row) (r : Row) (x : Cell) (p : Places)
+    → p ≡ set_to stock r.cell r.places
+    → (if is_cell x r.cell then Some p else loaded_at stock rs x)
+    ≡ loaded_at stock (rs ++ r ∷ []) x
+loaded_at-push stock rs r x p is =
+    go (is_cell x r.cell) refl
+    ∙ ap (λ o. unwrap_or (option_map (λ (q : Row). Some (set_to stock x q.places)) o)
+    (stock_at stock x)) (sym (last_row-push rs r x))
+  where
+    go : (b : Bool) → is_cell x r.cell ≡ b
+        → (if is_cell x r.cell then Some p else loaded_at stock rs x)
+        ≡ unwrap_or (option_map (λ (q : Row). Some (set_to stock x q.places))
+        (if is_cell x r.cell then Some r else last_row rs x)) (stock_at stock x)
+    go true e =
+        ap (λ b. if b then Some p else loaded_at stock rs x) e
+        ∙ ap (λ q. Some q) (is ∙ ap (λ y. set_to stock y r.places) (sym (is_cell-same x r.cell e)))
+        ∙ ap (λ b. unwrap_or (option_map (λ (q : Row). Some (set_to stock x q.places))
+        (if b then Some r else last_row rs x)) (stock_at stock x)) (sym e)
+    go false e =
+        ap (λ b. if b then Some p else loaded_at stock rs x) e
+        ∙ ap (λ b. unwrap_or (option_map (λ (q : Row). Some (set_to stock x q.places))
+        (if b then Some r else last_row rs x)) (stock_at stock x)) (sym e)

@@ -10,7 +10,7 @@ use Rattle.ledger.specs.Answer.{State}
 use Rattle.ledger.specs.Ledger as l
 use Rattle.ledger.specs.Ledger.{journey_at, history}
 use Rattle.changes.proofs.Events.{history-none}
-use Rattle.saga_core.specs.Shown.{record_of, record_of_journey}
+use Rattle.saga_core.specs.Shown.{cursor_of, record_of, record_of_journey}
 use Rattle.saga_core.specs.Memory.{begun_as, Tells, StandsFor}
 use Rattle.saga_core.specs.declared.records.Record.{Record}
 use Rattle.saga_core.specs.declared.memory.journeys.Journey.{Journey}
@@ -62,7 +62,7 @@ record_of-kept m s here id place k at is r agent plan cursor marks =
     ap (λ a. record_made a r.plan r.cursor r.marks) agent
     ∙ ap (λ p. record_made k.agent p r.cursor r.marks) plan
     ∙ ap (λ c. record_made k.agent k.plan c r.marks) (cursor ∙ told.cursor)
-    ∙ ap (λ ms. record_made k.agent k.plan _ ms) (marks ∙ told.marks) in
+    ∙ ap (record_made k.agent k.plan (cursor_of k.plan (history s.ledger (suc place)))) (marks ∙ told.marks) in
     ap Some made
     ∙ ap (option_map (record_of_journey (history s.ledger (suc place))))
     (sym (journey_at-kept m s here place k at))

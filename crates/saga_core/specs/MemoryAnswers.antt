@@ -1,9 +1,10 @@
 -- The kept replies of a book in memory, by agent and key.
-use Rattle.std.specs.Prelude.{◌≡◌, ℕ, List, option_map}
+use Rattle.std.specs.Prelude.{◌≡◌, ℕ, List, Option, option_map, option_and_then}
 use Rattle.std.specs.BTreeMap as tree
 use Rattle.std.specs.Ordering.{nat_cmp, on, then_cmp}
 use Rattle.std.specs.Cmp.Lexicographic.{slice_cmp}
 use Rattle.std.specs.declared.cmp.Ordering.{Ordering}
+use Rattle.commands.specs.Asked.{Asked}
 use Rattle.ledger.specs.Answer.{Kept, KeptReply}
 use Rattle.saga_core.specs.declared.memory.keys.AskKey.{AskKey}
 use Rattle.saga_core.specs.declared.memory.answers.KeptAnswer.{KeptAnswer}
@@ -26,3 +27,7 @@ kept_in answers agent key =
 -- the same is kept under each agent and key
 abbrev pub AreKeptAlike : Kept → Kept → Type 0
 AreKeptAlike kept other = (agent key : List ℕ) → kept agent key ≡ other agent key
+
+-- what is kept for an ask, if there is one
+abbrev pub found_for : Kept → Option Asked → Option KeptReply
+found_for kept ask = option_and_then (λ (a : Asked). kept a.agent a.key) ask

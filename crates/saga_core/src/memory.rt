@@ -139,11 +139,7 @@ impl Book for MemBook {
     ghost settled = { λ m s h. inl h };
 
     fn act(&mut self, command: &Command, ask: Option<&Ask>) -> Result<Reply, Fault> {
-        let again = match ask {
-            Some(ask) => self.answers.again(ask),
-            None => None,
-        };
-        if let Some(reply) = again {
+        if let Some(reply) = self.answers.again(ask) {
             return Ok(reply);
         }
         match self.answer(command, ask) {

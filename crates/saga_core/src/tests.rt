@@ -1,4 +1,6 @@
 mod lines;
+mod plain;
+mod random;
 mod rows;
 
 // What no clause says: that each call answers where memory is ample, on values from the rules, by hand.

@@ -38,8 +38,8 @@ pub struct Answers {
 impl Answers {
     ghost use Rattle.std.specs.Prelude.{◌≡◌, OnOk, OnErr, option_map};
     ghost use Rattle.std.specs.Option.{option_copied};
-    ghost use Rattle.ledger.specs.Answer.{State, nothing_kept, kept_after, answered_again};
-    ghost use Rattle.saga_core.specs.MemoryAnswers.{kept_in, AreKeptAlike};
+    ghost use Rattle.ledger.specs.Answer.{State, nothing_kept, kept_after, answered_again, text_of};
+    ghost use Rattle.saga_core.specs.MemoryAnswers.{kept_in, found_for, AreKeptAlike};
 
     /// No reply is kept.
     pub fn new(alloc: Global) -> Answers
@@ -51,7 +51,19 @@ impl Answers {
     }
 
     /// What is answered to an ask whose key is known.
-    pub fn again(&self, ask: &Ask) -> Option<Reply>
+    pub fn again(&self, ask: Option<&Ask>) -> Option<Reply>
+        ensures known { (s : State) → result
+            ≡ option_map (λ k. (answered_again s (text_of (option_copied ask.entry)) k).reply)
+            (found_for (kept_in self.now) (option_copied ask.entry)) }
+    {
+        match ask {
+            Some(ask) => self.again_to(ask),
+            None => None,
+        }
+    }
+
+    /// The same to this ask.
+    fn again_to(&self, ask: &Ask) -> Option<Reply>
         ensures known { (s : State) → result
             ≡ option_map (λ k. (answered_again s ask.now.text k).reply)
             (kept_in self.now ask.now.agent ask.now.key) }

@@ -4,9 +4,9 @@
 //! `stop ID` and `save ID` are the other commands; `items ID` asks for a journey's items, `free CELL` for the free
 //! places of a cell, and `stock` for all cells. `@` and a letter or digit stands for the cell or the first five parts
 //! of a want that `NAMES` has.
-use crate::{Agent, Ask, Batch, Book, Command, Key, MemBook, Name, Reply};
+use crate::{Batch, Book, Command, MemBook, Name};
 use allotment::{Cell, Row};
-use plan::{Plan, PlanFault};
+use plan::Plan;
 use std::alloc::Global;
 use std::process::Abort;
 use std::test::Fail;

@@ -5,4 +5,4 @@ use Rattle.saga_core.proofs.memory.stock.Stock.loaded.Given as goal
 -- the rows so far are loaded
 abbrev pub invariant-loop-row : goal.invariant-loop-row
 invariant-loop-row l =
-    LoadsRows l.self (record { places = l.places }) (take l.row-index l.rows)
+    LoadsRows l.fn.self (record { places = l.places }) (take l.row-index l.rows)

@@ -4,7 +4,7 @@ use Rattle.std.specs.BTreeMap as tree
 use Rattle.ledger.specs.Answer.{answered_again}
 use Rattle.saga_core.specs.MemoryAnswers.{ask_key_cmp, kept_said, kept_in}
 use Rattle.saga_core.proofs.KeptLemmas.{ask_key-is}
-use Rattle.saga_core.proofs.memory.answers.Answers.again.Goals as goal
+use Rattle.saga_core.proofs.memory.answers.Answers.again_to.Goals as goal
 
 -- the kept reply is the one under the agent and the key of the ask
 pub returns-in-Some : goal.returns-in-Some
