@@ -6,6 +6,7 @@ pub mod PlaceLemmas
 pub mod StandLemmas
 pub mod GrowthLemmas
 pub mod BeginLemmas
+pub mod UnfinishedLemmas
 pub mod TellLemmas
 pub mod MoveLemmas
 pub mod StepLemmas

@@ -14,7 +14,7 @@ mod stock;
 use crate::books::Book;
 use crate::memory::answers::Answers;
 use crate::memory::journeys::Journey;
-use crate::memory::next::is_finished;
+use crate::memory::next::is_unfinished_above;
 use crate::memory::stock::Stock;
 use crate::records::{Brief, Record};
 use allotment::{Cell, Held, Night, Want};
@@ -170,9 +170,9 @@ impl Book for MemBook {
 
     fn first_unfinished(&mut self, after: u64) -> Result<Option<Brief>, Fault> {
         for place in 0..self.journeys.len() {
-            let journey = &self.journeys[place];
-            if place as u64 >= after && !is_finished(journey.cursor.phase) {
-                return Ok(Some(journey.brief(place as u64 + 1)));
+            let brief = self.journeys[place].brief(place as u64 + 1);
+            if is_unfinished_above(&brief, after) {
+                return Ok(Some(brief));
             }
         }
         Ok(None)

@@ -3,9 +3,11 @@ ghost use Rattle.std.specs.Prelude.{◌≡◌, IfOk, IsTrue};
 ghost use Rattle.ledger.specs.History as h;
 ghost use Rattle.changes.specs.Changed.{target_of};
 ghost use Rattle.saga_core.specs.MemoryJourneys.{IsNext};
+ghost use Rattle.saga_core.specs.Shown.{is_unfinished_above as is_unfinished_above_rule};
 ghost use Rattle.saga_core.specs.MemoryNext.{turn_said, save_said, step_said};
 
 use crate::memory::journeys::Journey;
+use crate::records::Brief;
 use commands::{Cause, Item, Phase, Refusal};
 use savepoints::{Turn, is_save_point, target};
 
@@ -21,6 +23,13 @@ pub fn is_finished(phase: Phase) -> bool
     ensures finished { result ≡ h.is_finished phase }
 {
     matches!(phase, Phase::Ended | Phase::Undone)
+}
+
+/// Whether the journey has a number above this one, and more comes of it.
+pub fn is_unfinished_above(brief: &Brief, after: u64) -> bool
+    ensures unfinished { result ≡ is_unfinished_above_rule after brief.now }
+{
+    brief.id > after && !is_finished(brief.cursor.phase)
 }
 
 /// The position to which a journey in this phase is going back.
