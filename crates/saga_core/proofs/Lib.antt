@@ -10,6 +10,7 @@ pub mod UnfinishedLemmas
 pub mod TellLemmas
 pub mod MoveLemmas
 pub mod StepLemmas
+pub mod ReadyLemmas
 pub mod ActLemmas
 pub mod LoadLemmas
 pub mod DecidingLemmas

@@ -1,6 +1,6 @@
 -- What a load makes of a book in memory. For `MemBook::load`.
 use Rattle.std.proofs.Common.{◌≡◌, ℕ, suc, ◌+◌, ◌-◌, ◌<◌, ◌≤◌, Bool, true, false, cond, List, [], ◌∷◌, ◌++◌, length, map, refl, ap, sym, ◌∙◌, subst, arith}
-use Rattle.std.specs.Prelude.{◌&&◌, not, bytes_eq, nat_le, nat_lt, if◌then◌else◌, slice_get, find, filter_map, position, Option, Some, None, option_map, unwrap_or, IsTrue}
+use Rattle.std.specs.Prelude.{◌&&◌, not, bytes_eq, nat_le, nat_lt, if◌then◌else◌, slice_get, find, filter_map, position, Option, Some, None, option_map, unwrap_or, IfSome, IsTrue}
 use Rattle.std.specs.List.{list_all, cons_option, position_or_len}
 use Rattle.std.specs.Cmp.Lexicographic.{nat_list_eq_equiv}
 use Rattle.std.proofs.lemmas.Bool.{ltb-false}
@@ -10,9 +10,13 @@ use Rattle.allotment.specs.declared.cells.Row.{Row}
 use Rattle.commands.specs.Asked.{Asked}
 use Rattle.commands.specs.Batched.{Batched}
 use Rattle.commands.specs.declared.replies.Reply.{Reply}
-use Rattle.ledger.specs.Answer.{State, kept_after, state_with}
-use Rattle.ledger.specs.Replies.{loaded}
-use Rattle.ledger.specs.Ledger.{Event, Loaded, Began, Did, batches_named, rows_if_named, allotment, held, is_not_below_held, is_allowed, history, IsLegal}
+use Rattle.commands.specs.Request as request
+use Rattle.commands.specs.declared.refusals.Refusal.TheVariants.{BelowHeld, BatchDiffers, Limit}
+use Rattle.commands.specs.declared.replies.Reply.TheVariants as reply
+use Rattle.ledger.specs.Answer.{State, answer, asker, kept_after, limited, most_events, state_with}
+use Rattle.ledger.specs.Replies.{Answer, answer_known, answer_load, answer_new, are_same_rows, loaded, refused}
+use Rattle.ledger.proofs.Answers.{IsAllowedEvent, answer-allowed}
+use Rattle.ledger.specs.Ledger.{Event, Loaded, Began, Did, batches_named, rows_if_named, allotment, held, is_not_below_held, is_allowed, is_batch, history, IsLegal}
 use Rattle.ledger.proofs.Growing.{IsLegal-append}
 use Rattle.changes.specs.Changed.{newer}
 use Rattle.changes.proofs.Allotments.{allotment-loaded_last}
@@ -21,11 +25,11 @@ use Rattle.changes.proofs.Places.{held-loaded, held_within, held_none}
 use Rattle.saga_core.specs.Shown.{Places, places_of}
 use Rattle.saga_core.specs.MemoryAnswers.{kept_in, AreKeptAlike}
 use Rattle.saga_core.specs.MemoryStock.{stock_at, is_below_in, with_allotment, set_to, last_row, LoadsRows}
-use Rattle.saga_core.specs.Memory.{begun_as, Tells, batch_of, loads, StandsFor}
+use Rattle.saga_core.specs.Memory.{begun_as, Tells, batch_of, loads, StandsFor, IsCarriedOut, IsDue}
 use Rattle.saga_core.specs.declared.memory.stock.Stock.{Stock}
 use Rattle.saga_core.specs.declared.memory.journeys.Journey.{Journey}
 use Rattle.saga_core.specs.declared.memory.MemBook.{MemBook}
-use Rattle.saga_core.proofs.GrowthLemmas.{places_left, kept_after-alike, loads-loaded}
+use Rattle.saga_core.proofs.GrowthLemmas.{places_left, kept_after-alike, loads-loaded, limited-room, limited-full, carried_out-refused}
 
 -- Known batches.
 
@@ -58,38 +62,44 @@ has_name name b = bytes_eq b.name name
 named-none : (name : List ℕ) (bs : List Batched) → find (has_name name) bs ≡ None
     → filter_map (rows_of_named name) bs ≡ []
 named-none name [] none = refl
-named-none name (b ∷ bs) none = go (bytes_eq b.name name) refl none
+named-none name (b ∷ bs) none =
+    go (bytes_eq b.name name) refl none (λ rest. named-none name bs rest)
   where
     go : (v : Bool) → bytes_eq b.name name ≡ v
         → cond v (Some b) (find (has_name name) bs) ≡ None
+        → (find (has_name name) bs ≡ None → filter_map (rows_of_named name) bs ≡ [])
         → filter_map (rows_of_named name) (b ∷ bs) ≡ []
-    go true e none = cc
-    go false e none =
+    go true e none more = cc
+    go false e none more =
         ap (λ v. cons_option (if v then Some b.rows else None) (filter_map (rows_of_named name) bs))
         (nat_list_eq_equiv.symm name b.name ∙ e)
-        ∙ named-none name bs none
+        ∙ more none
 
 -- where one is found, its rows are the first
 named-some : (name : List ℕ) (bs : List Batched) (b : Batched) → find (has_name name) bs ≡ Some b
     → (rest : List (List Row)) × (filter_map (rows_of_named name) bs ≡ b.rows ∷ rest)
 named-some name [] b found = cc
-named-some name (a ∷ bs) b found = go (bytes_eq a.name name) refl found
+named-some name (a ∷ bs) b found =
+    go (bytes_eq a.name name) refl found (λ rest. named-some name bs b rest)
   where
     go : (v : Bool) → bytes_eq a.name name ≡ v
         → cond v (Some a) (find (has_name name) bs) ≡ Some b
+        → (find (has_name name) bs ≡ Some b
+        → (rest : List (List Row)) × (filter_map (rows_of_named name) bs ≡ b.rows ∷ rest))
         → (rest : List (List Row)) × (filter_map (rows_of_named name) (a ∷ bs) ≡ b.rows ∷ rest)
-    go true e found =
+    go true e found more =
         let is : a ≡ b = cc in (
           filter_map (rows_of_named name) bs,
           ap (λ v. cons_option (if v then Some a.rows else None)
-              (filter_map (rows_of_named name) bs)) (nat_list_eq_equiv.symm name a.name ∙ e)
-              ∙ ap (λ (x : Batched). x.rows ∷ filter_map (rows_of_named name) bs) is,
+          (filter_map (rows_of_named name) bs)) (nat_list_eq_equiv.symm name a.name ∙ e)
+          ∙ ap (λ (x : Batched). x.rows ∷ filter_map (rows_of_named name) bs) is
         )
-    go false e found =
-        let more = named-some name bs b found in (
-          more.0,
+    go false e found more =
+        let later = more found in (
+          later.0,
           ap (λ v. cons_option (if v then Some a.rows else None)
-              (filter_map (rows_of_named name) bs)) (nat_list_eq_equiv.symm name a.name ∙ e) ∙ more.1,
+          (filter_map (rows_of_named name) bs)) (nat_list_eq_equiv.symm name a.name ∙ e)
+          ∙ later.1
         )
 
 -- where the book finds no batch of a name, the ledger has none
@@ -140,14 +150,15 @@ first_below-held m s here rows =
 none_passes : {X : Type 0} (test : X → Bool) (xs : List X)
     → length xs ≤ position_or_len test xs → list_all (λ x. not (test x)) xs ≡ true
 none_passes test [] past = refl
-none_passes test (x ∷ xs) past = go (test x) refl past
+none_passes test (x ∷ xs) past =
+    go (test x) refl past (λ rest. none_passes test xs rest)
   where
     go : (v : Bool) → test x ≡ v → suc (length xs) ≤ cond (not v) (1 + position_or_len test xs) 0
+        → (length xs ≤ position_or_len test xs → list_all (λ y. not (test y)) xs ≡ true)
         → list_all (λ y. not (test y)) (x ∷ xs) ≡ true
-    go true e past = absurd (omega arith)
-    go false e past =
-        ap (λ v. not v && list_all (λ y. not (test y)) xs) e
-        ∙ none_passes test xs (omega arith)
+    go true e past more = absurd (omega arith)
+    go false e past more =
+        ap (λ v. not v && list_all (λ y. not (test y)) xs) e ∙ more (omega arith)
 
 -- of no position nothing passes
 pub none_at : {X : Type 0} (test : X → Bool) (xs : List X) → position test xs ≡ None
@@ -231,3 +242,84 @@ stands-loaded m n s ask b here may k = record {
       ∙ sym (length-more s.ledger (Loaded b.name b.rows));
   legal = IsLegal-append s.ledger (Loaded b.name b.rows) here.legal may;
 }
+
+-- Answers.
+
+-- to a batch whose name is known
+pub carried_out-known : (m : MemBook) (s : State) (ask : Option Asked) (name : List ℕ)
+    (rows known : List Row) (rest : List (List Row)) (r : Reply) → StandsFor m s
+    → batches_named s.ledger name ≡ known ∷ rest → r ≡ (answer_known name rows known).reply
+    → IsCarriedOut m s ask (answer s.ledger (asker ask) (request.Load name rows)) r
+carried_out-known m s ask name rows known rest r here is replied =
+    subst (λ (a : Answer). IsCarriedOut m s ask a r)
+    (sym (ap (λ bs. limited s.ledger (answer_load s.ledger name rows bs)) is))
+    (go (are_same_rows rows known) replied)
+  where
+    go : (v : Bool)
+        → r ≡ (if v then record { event = None; reply = loaded name rows }
+        else refused BatchDiffers).reply
+        → IsCarriedOut m s ask (limited s.ledger
+        (if v then record { event = None; reply = loaded name rows } else refused BatchDiffers)) r
+    go true replied = record { replied = replied; stands = here }
+    go false replied = record { replied = replied; stands = here }
+
+-- to a batch with a new name, by the first row below what is held
+pub answer-new : (s : State) (who : Option (List ℕ)) (name : List ℕ) (rows : List Row)
+    (o : Option ℕ) → batches_named s.ledger name ≡ []
+    → position (λ r. not (is_not_below_held s.ledger r)) rows ≡ o
+    → answer s.ledger who (request.Load name rows) ≡ limited s.ledger (answer_new name rows o)
+answer-new s who name rows o none first =
+    ap (λ bs. limited s.ledger (answer_load s.ledger name rows bs)) none
+    ∙ ap (λ p. limited s.ledger (answer_new name rows p)) first
+
+-- where there is such a row, it is refused
+pub carried_out-below : (m : MemBook) (s : State) (ask : Option Asked) (name : List ℕ)
+    (rows : List Row) (i : ℕ) (r : Reply) → StandsFor m s
+    → batches_named s.ledger name ≡ [] → Some i ≡ position (is_below_in m.stock) rows
+    → r ≡ reply.Refused (BelowHeld (i + 1))
+    → IsCarriedOut m s ask (answer s.ledger (asker ask) (request.Load name rows)) r
+carried_out-below m s ask name rows i r here none first is =
+    carried_out-refused m s ask (answer s.ledger (asker ask) (request.Load name rows))
+    (BelowHeld (i + 1)) here
+    (answer-new s (asker ask) name rows (Some i) none
+    (sym (first ∙ first_below-held m s here rows))) r is
+
+-- where there is none, the load is due
+pub due : (m : MemBook) (s : State) (ask : Option Asked) (name : List ℕ) (rows : List Row)
+    → StandsFor m s → is_batch name rows ≡ true
+    → batches_named s.ledger name ≡ [] → None ≡ position (is_below_in m.stock) rows
+    → IsDue s.ledger (asker ask) name rows (answer s.ledger (asker ask) (request.Load name rows))
+due m s ask name rows here good none first = record {
+  answered =
+      answer-new s (asker ask) name rows None none (sym (first ∙ first_below-held m s here rows));
+  allowed =
+      go (answer s.ledger (asker ask) (request.Load name rows)).event
+      (answer-allowed s.ledger (asker ask) (request.Load name rows) good);
+}
+  where
+    go : (o : Option Event) → IsAllowedEvent s.ledger o → IfSome o (λ e. IsTrue (is_allowed s.ledger e))
+    go None may = tt
+    go (Some e) may = may
+
+-- and is answered where the ledger has room
+pub carried_out-loaded : (m n : MemBook) (s : State) (ask : Option Asked) (b : Batched)
+    (a : Answer) (r : Reply) → StandsFor m s → m.events < most_events
+    → IsDue s.ledger (asker ask) b.name b.rows a → LoadsIn m n ask b
+    → r ≡ loaded b.name b.rows → IsCarriedOut n s ask a r
+carried_out-loaded m n s ask b a r here room d k is =
+    let small : length s.ledger < most_events = omega (arith, here.events) in
+    let told : a ≡ answer_new b.name b.rows None =
+    d.answered ∙ limited-room s.ledger (answer_new b.name b.rows None) small in
+    let may : IsTrue (is_allowed s.ledger (Loaded b.name b.rows)) =
+    subst (λ (x : Answer). IfSome x.event (λ e. IsTrue (is_allowed s.ledger e))) told d.allowed in
+    subst (λ (x : Answer). IsCarriedOut n s ask x r) (sym told)
+    (record { replied = is; stands = stands-loaded m n s ask b here may k })
+
+-- and refused where it has none
+pub carried_out-no_room : (m : MemBook) (s : State) (ask : Option Asked) (name : List ℕ)
+    (rows : List Row) (a : Answer) (r : Reply) → StandsFor m s → most_events ≤ m.events
+    → IsDue s.ledger (asker ask) name rows a → r ≡ reply.Refused Limit → IsCarriedOut m s ask a r
+carried_out-no_room m s ask name rows a r here full d is =
+    carried_out-refused m s ask a Limit here
+    (d.answered ∙ limited-full s.ledger (answer_new name rows None) refl (omega (arith, here.events)))
+    r is

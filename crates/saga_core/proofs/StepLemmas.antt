@@ -20,23 +20,24 @@ use Rattle.commands.specs.declared.items.Phase.TheVariants.{Run, Back, Ended, Un
 use Rattle.commands.specs.declared.refusals.Refusal.{Refusal}
 use Rattle.commands.specs.declared.refusals.Refusal.TheVariants.{Finished, NoSavePoint, NoSave}
 use Rattle.ledger.specs.Answer.{State}
-use Rattle.ledger.specs.Replies.{Answer, refused, answer_move, step_choices, abort_choices, stop_choices, save_choices}
+use Rattle.ledger.specs.Replies.{Answer, refused, answer_move, seen_journey, step_choices, abort_choices, stop_choices, save_choices}
 use Rattle.ledger.specs.Ledger as l
 use Rattle.ledger.specs.Ledger.{Event, journey_at, history, allotment, held, fits, has_free}
-use Rattle.ledger.specs.History.{net, last_of, last_save, position_of, phase, is_finished}
+use Rattle.ledger.specs.History.{net, last_of, last_save, position_of, refusals, phase, is_finished}
 use Rattle.changes.specs.Answered.{moves}
 use Rattle.changes.specs.Changed.{target_of}
 use Rattle.changes.specs.Cursors.{cursor_of, marks_of}
 use Rattle.changes.proofs.Answering.{step-fits, step-refused, step-back, abort-answer, stop-answer, save-answer, save-back, Open, runs, goes_back}
 use Rattle.changes.proofs.Free.{has_free-by_held, fits-by_test}
 use Rattle.changes.proofs.Histories.{follows}
-use Rattle.changes.proofs.Moves.{move-finished}
+use Rattle.changes.proofs.Moves.{move-finished, seen}
 use Rattle.changes.proofs.Positions.{last_standing, back_above}
 use Rattle.changes.proofs.Taken.{refused_target_by-marks, last_save_by-marks, is_save_point_by-marks}
 use Rattle.saga_core.specs.Shown.{Places, places_of}
-use Rattle.saga_core.specs.MemoryStock.{stock_at, has_free_in, fits_in_stock}
+use Rattle.saga_core.specs.MemoryStock.{stock_at, has_free_in, fits_in_stock, fits_some}
 use Rattle.saga_core.specs.MemoryNext.{turn_said, save_said, step_said}
-use Rattle.saga_core.specs.Memory.{begun_as, Tells, StandsFor}
+use Rattle.saga_core.specs.Memory.{begun_as, Tells, StandsFor, IsSeenAt}
+use Rattle.saga_core.proofs.StandLemmas.{journey_at-kept}
 use Rattle.saga_core.specs.declared.memory.journeys.Journey.{Journey}
 use Rattle.saga_core.specs.declared.memory.MemBook.{MemBook}
 
@@ -168,3 +169,133 @@ module _ (m : MemBook) (s : State) (here : StandsFor m s) (j : ℕ) (a : l.Journ
   save-by_phase (Back r) e = save-back s.ledger j a r here.legal at e
   save-by_phase Ended e = move-finished s.ledger j save_choices NoSave a (ap is_finished e)
   save-by_phase Undone e = move-finished s.ledger j save_choices NoSave a (ap is_finished e)
+
+-- The book's own moves.
+
+-- what fits of a want that may be none
+pub fits_some-stock : (m : MemBook) (s : State) → StandsFor m s → (o : Option Wanted)
+    → fits_some m.stock o ≡ fits s.ledger o
+fits_some-stock m s here None = refl
+fits_some-stock m s here (Some w) = fits-stock m s here w
+
+-- a move of the journey that is seen, told by what is kept of it
+record IsTold (m : MemBook) (who : Option (List ℕ)) (s : State) (id place : ℕ) (k : Journey) : Type 0 where
+  pub at : journey_at s.ledger (suc place) ≡ Some (begun_as k)
+  pub seen : seen_journey s.ledger who id ≡ Some (begun_as k)
+  pub told : Tells k (history s.ledger (suc place))
+
+-- so it is, where it is seen
+told-seen : (m : MemBook) (who : Option (List ℕ)) (s : State) (id place : ℕ) (k : Journey)
+    → StandsFor m s → IsSeenAt m who id place → slice_get m.journeys.items place ≡ Some k
+    → IsTold m who s id place k
+told-seen m who s id place k here is at =
+    let there = journey_at-kept m s here place k at in
+    record {
+      at = there;
+      seen =
+          ap (seen_journey s.ledger who) is.number
+          ∙ seen s.ledger who (suc place) (begun_as k) there (is.seen k at);
+      told = here.told place k at;
+    }
+
+-- from what the rules say of a history to what is kept of it
+from_history : (id place : ℕ) (k : Journey) (h : List Item) (a b : Answer)
+    (next : Result Item Refusal) → Tells k h → a ≡ b
+    → Fits (suc place) k.plan (cursor_of k.plan h) b next
+    → Fits (suc place) k.plan k.cursor a next
+from_history id place k h a b next told is fits =
+    subst (λ (c : Cursor). Fits (suc place) k.plan c a next) (sym told.cursor)
+    (subst (λ (x : Answer). Fits (suc place) k.plan (cursor_of k.plan h) x next) (sym is) fits)
+
+-- a step
+pub step-move : (m : MemBook) (who : Option (List ℕ)) (s : State) (id place : ℕ) (k : Journey)
+    (next : Result Item Refusal) (fit : Bool) → StandsFor m s → IsSeenAt m who id place
+    → slice_get m.journeys.items place ≡ Some k
+    → next ≡ step_said k.plan k.cursor k.marks k.taken.items fit
+    → (k.cursor.phase ≡ Run
+    → fit ≡ fits_some m.stock (rules.next_want k.plan k.cursor.pos k.cursor.used))
+    → Fits (suc place) k.plan k.cursor
+    (answer_move s.ledger id step_choices NoSavePoint (seen_journey s.ledger who id)) next
+step-move m who s id place k next fit here is at said tests =
+    let t = told-seen m who s id place k here is at in
+    let h : List Item = history s.ledger (suc place) in
+    let made : next ≡ step_said k.plan (cursor_of k.plan h) (marks_of h)
+    (map (λ (u : ℕ × ℕ). u.1) (net h)) fit =
+    said ∙ ap (λ c. step_said k.plan c k.marks k.taken.items fit) t.told.cursor
+    ∙ ap (λ ms. step_said k.plan (cursor_of k.plan h) ms k.taken.items fit) t.told.marks
+    ∙ ap (λ ts. step_said k.plan (cursor_of k.plan h) (marks_of h) ts fit) t.told.taken in
+    let fitting : phase k.plan h ≡ Run
+    → fit ≡ fits s.ledger (rules.next_want k.plan (position_of h) (refusals h)) =
+    λ run.
+        tests (ap (λ (c : Cursor). c.phase) t.told.cursor ∙ run)
+        ∙ ap (λ (c : Cursor). fits_some m.stock (rules.next_want k.plan c.pos c.used)) t.told.cursor
+        ∙ fits_some-stock m s here (rules.next_want k.plan (position_of h) (refusals h)) in
+    from_history id place k h _
+    (answer_move s.ledger (suc place) step_choices NoSavePoint (Some (begun_as k))) next t.told
+    (ap (λ o. answer_move s.ledger id step_choices NoSavePoint o) t.seen
+    ∙ ap (λ j. answer_move s.ledger j step_choices NoSavePoint (Some (begun_as k))) is.number)
+    (subst (Fits (suc place) k.plan (cursor_of k.plan h)
+    (answer_move s.ledger (suc place) step_choices NoSavePoint (Some (begun_as k)))) (sym made)
+    (step-by_phase m s here (suc place) (begun_as k) t.at (phase k.plan h) refl fit fitting))
+
+-- an abort
+pub abort-move : (m : MemBook) (who : Option (List ℕ)) (s : State) (id place q : ℕ) (k : Journey)
+    (next : Result Item Refusal) → StandsFor m s → IsSeenAt m who id place
+    → slice_get m.journeys.items place ≡ Some k
+    → next ≡ turn_said k.plan k.cursor k.marks (turn.Asked q) cause.Asked
+    → Fits (suc place) k.plan k.cursor
+    (answer_move s.ledger id (abort_choices q) NoSavePoint (seen_journey s.ledger who id)) next
+abort-move m who s id place q k next here is at said =
+    let t = told-seen m who s id place k here is at in
+    let h : List Item = history s.ledger (suc place) in
+    let made : next ≡ turn_said k.plan (cursor_of k.plan h) (marks_of h) (turn.Asked q) cause.Asked =
+    said ∙ ap (λ c. turn_said k.plan c k.marks (turn.Asked q) cause.Asked) t.told.cursor
+    ∙ ap (λ ms. turn_said k.plan (cursor_of k.plan h) ms (turn.Asked q) cause.Asked) t.told.marks in
+    from_history id place k h _
+    (answer_move s.ledger (suc place) (abort_choices q) NoSavePoint (Some (begun_as k))) next t.told
+    (ap (λ o. answer_move s.ledger id (abort_choices q) NoSavePoint o) t.seen
+    ∙ ap (λ j. answer_move s.ledger j (abort_choices q) NoSavePoint (Some (begun_as k))) is.number)
+    (subst (Fits (suc place) k.plan (cursor_of k.plan h)
+    (answer_move s.ledger (suc place) (abort_choices q) NoSavePoint (Some (begun_as k)))) (sym made)
+    (abort-by_phase m s here (suc place) (begun_as k) t.at (phase k.plan h) refl q))
+
+-- a stop
+pub stop-move : (m : MemBook) (who : Option (List ℕ)) (s : State) (id place : ℕ) (k : Journey)
+    (next : Result Item Refusal) → StandsFor m s → IsSeenAt m who id place
+    → slice_get m.journeys.items place ≡ Some k
+    → next ≡ turn_said k.plan k.cursor k.marks turn.Stop cause.Stop
+    → Fits (suc place) k.plan k.cursor
+    (answer_move s.ledger id stop_choices NoSavePoint (seen_journey s.ledger who id)) next
+stop-move m who s id place k next here is at said =
+    let t = told-seen m who s id place k here is at in
+    let h : List Item = history s.ledger (suc place) in
+    let made : next ≡ turn_said k.plan (cursor_of k.plan h) (marks_of h) turn.Stop cause.Stop =
+    said ∙ ap (λ c. turn_said k.plan c k.marks turn.Stop cause.Stop) t.told.cursor
+    ∙ ap (λ ms. turn_said k.plan (cursor_of k.plan h) ms turn.Stop cause.Stop) t.told.marks in
+    from_history id place k h _
+    (answer_move s.ledger (suc place) stop_choices NoSavePoint (Some (begun_as k))) next t.told
+    (ap (λ o. answer_move s.ledger id stop_choices NoSavePoint o) t.seen
+    ∙ ap (λ j. answer_move s.ledger j stop_choices NoSavePoint (Some (begun_as k))) is.number)
+    (subst (Fits (suc place) k.plan (cursor_of k.plan h)
+    (answer_move s.ledger (suc place) stop_choices NoSavePoint (Some (begun_as k)))) (sym made)
+    (stop-by_phase m s here (suc place) (begun_as k) t.at (phase k.plan h) refl))
+
+-- taking a save-point
+pub save-move : (m : MemBook) (who : Option (List ℕ)) (s : State) (id place : ℕ) (k : Journey)
+    (next : Result Item Refusal) → StandsFor m s → IsSeenAt m who id place
+    → slice_get m.journeys.items place ≡ Some k → next ≡ save_said k.plan k.cursor k.marks
+    → Fits (suc place) k.plan k.cursor
+    (answer_move s.ledger id save_choices NoSave (seen_journey s.ledger who id)) next
+save-move m who s id place k next here is at said =
+    let t = told-seen m who s id place k here is at in
+    let h : List Item = history s.ledger (suc place) in
+    let made : next ≡ save_said k.plan (cursor_of k.plan h) (marks_of h) =
+    said ∙ ap (λ c. save_said k.plan c k.marks) t.told.cursor
+    ∙ ap (λ ms. save_said k.plan (cursor_of k.plan h) ms) t.told.marks in
+    from_history id place k h _
+    (answer_move s.ledger (suc place) save_choices NoSave (Some (begun_as k))) next t.told
+    (ap (λ o. answer_move s.ledger id save_choices NoSave o) t.seen
+    ∙ ap (λ j. answer_move s.ledger j save_choices NoSave (Some (begun_as k))) is.number)
+    (subst (Fits (suc place) k.plan (cursor_of k.plan h)
+    (answer_move s.ledger (suc place) save_choices NoSave (Some (begun_as k)))) (sym made)
+    (save-by_phase m s here (suc place) (begun_as k) t.at (phase k.plan h) refl))

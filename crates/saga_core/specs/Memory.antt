@@ -1,19 +1,20 @@
 -- What a book in memory stands for, part by part.
-use Rattle.std.specs.Prelude.{◌≡◌, ℕ, suc, ◌<◌, List, vec_len, vec_capacity, length, map, filter_map, slice_get, Option, Some, None, Result, MatchResult, IfOk, OnErr, IsTrue}
+use Rattle.std.specs.Prelude.{◌≡◌, ℕ, suc, ◌<◌, List, vec_len, vec_capacity, length, map, filter_map, slice_get, Option, Some, None, Result, MatchResult, IfOk, OnErr, IfSome, IsTrue}
 use Rattle.std.specs.declared.alloc.AllocError.{AllocError}
 use Rattle.allotment.specs.declared.cells.Cell.{Cell}
+use Rattle.allotment.specs.declared.cells.Row.{Row}
 use Rattle.commands.specs.Batched.{Batched}
 use Rattle.commands.specs.declared.items.Item.{Item}
 use Rattle.commands.specs.Asked.{Asked}
 use Rattle.commands.specs.Request.{Request}
 use Rattle.commands.specs.declared.refusals.Refusal.{Refusal}
 use Rattle.commands.specs.declared.replies.Reply.{Reply}
-use Rattle.ledger.specs.Answer.{State, answer, asker, carried_out}
-use Rattle.ledger.specs.Replies.{Answer, refused, sees, seen_journey}
+use Rattle.ledger.specs.Answer.{State, answer, asker, carried_out, limited}
+use Rattle.ledger.specs.Replies.{Answer, answer_new, refused, sees, seen_journey}
 use Rattle.changes.specs.Answered.{moves}
 use Rattle.ledger.specs.History.{net}
 use Rattle.ledger.specs.Ledger as l
-use Rattle.ledger.specs.Ledger.{Event, Loaded, IsLegal, history, journeys}
+use Rattle.ledger.specs.Ledger.{Event, Loaded, IsLegal, history, journeys, is_allowed}
 use Rattle.saga_core.specs.Shown.{cursor_of, marks_of, places_of}
 use Rattle.saga_core.specs.MemoryStock.{stock_at, fits_where_taken}
 use Rattle.saga_core.specs.MemoryAnswers.{kept_in, AreKeptAlike}
@@ -114,3 +115,9 @@ pub record IsReady (m : MemBook) (k : Journey) (x : Item) : Type 0 where
 abbrev pub MayBeMade : MemBook → ℕ → Result Item Refusal → Type 0
 MayBeMade m place next =
     (k : Journey) → slice_get m.journeys.items place ≡ Some k → IfOk next (IsReady m k)
+
+-- where the ledger has room the answer is this load, and where it has none it is refused
+pub record IsDue (l : List Event) (who : Option (List ℕ)) (name : List ℕ) (rows : List Row)
+    (a : Answer) : Type 0 where
+  pub answered : a ≡ limited l (answer_new name rows None)
+  pub allowed : IfSome a.event (λ e. IsTrue (is_allowed l e))

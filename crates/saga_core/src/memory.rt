@@ -139,12 +139,12 @@ impl Book for MemBook {
     ghost settled = { λ m s h. inl h };
 
     fn act(&mut self, command: &Command, ask: Option<&Ask>) -> Result<Reply, Fault> {
-        if let Some(reply) = self.answers.again(ask) {
-            return Ok(reply);
-        }
-        match self.answer(command, ask) {
-            Ok(reply) => Ok(reply),
-            Err(_) => Err(Fault::Memory),
+        match self.answers.again(ask) {
+            Some(reply) => Ok(reply),
+            None => match self.answer(command, ask) {
+                Ok(reply) => Ok(reply),
+                Err(_) => Err(Fault::Memory),
+            },
         }
     }
 

@@ -53,6 +53,9 @@ impl MemBook {
     ghost use Rattle.ledger.specs.Answer.{State, asker, answer, answer_within, is_request};
     ghost use Rattle.ledger.specs.Ledger.{Did, is_allowed};
     ghost use Rattle.changes.specs.Answered.{moves};
+    ghost use Rattle.savepoints.specs.Rules as rules;
+    ghost use Rattle.commands.specs.declared.items.Phase.TheVariants as Phase;
+    ghost use Rattle.saga_core.specs.MemoryStock.{fits_some};
     ghost use Rattle.saga_core.specs.Memory.{StandsFor, IsCarriedOut, CarriesOut, KeepsBook};
     ghost use Rattle.saga_core.specs.Memory.{IsSeenAt, IsSeenNowhere, IsMove, MayBeMade};
     ghost use Rattle.saga_core.specs.declared.memory.journeys.Journey.{Journey};
@@ -73,6 +76,22 @@ impl MemBook {
         }
     }
 
+    /// Whether the next want of the journey at this place fits, if it runs.
+    fn next_fits(&self, place: usize) -> bool
+        requires within { place < length self.now.journeys.items }
+
+        ensures fits { (k : Journey) → slice_get self.now.journeys.items place ≡ Some k →
+            k.cursor.phase ≡ Phase.Run → result ≡ fits_some self.now.stock
+                (rules.next_want k.plan k.cursor.pos k.cursor.used) }
+    {
+        let journey = &self.journeys[place];
+        if !is_running(journey.cursor.phase) {
+            return false;
+        }
+        let want = journey.next_want();
+        self.stock.fits(&want)
+    }
+
     /// Does a journey's next step.
     pub fn step(&mut self, id: u64, ask: Option<&Ask>) -> Result<Reply, AllocError>
         ensures answer { CarriesOut self.old self.new (option_copied ask.entry)
@@ -82,9 +101,8 @@ impl MemBook {
         let Some(place) = self.seen(id, ask) else {
             return Ok(Reply::Refused(Refusal::NoJourney));
         };
-        let journey = &self.journeys[place];
-        let fits = is_running(journey.cursor.phase) && self.stock.fits(&journey.next_want());
-        let next = stepped(journey, fits);
+        let fits = self.next_fits(place);
+        let next = stepped(&self.journeys[place], fits);
         self.carry_out(place, next, ask)
     }
 
@@ -174,15 +192,13 @@ impl MemBook {
             (moves (suc place) k.plan k.cursor item)) }
         ensures memory { KeepsBook self.old self.new result }
     {
-        let cursor = {
-            let journey = &self.journeys[place];
-            cursor_after(&journey.plan, journey.cursor, item)
-        };
-        self.journeys[place].reserve()?;
+        let journey = &mut self.journeys[place];
+        let cursor = cursor_after(&journey.plan, journey.cursor, item);
+        journey.reserve()?;
         self.answers
             .keep(self.alloc, ask, moved(place, item, &cursor))?;
-        change_stock(&mut self.stock, &self.journeys[place].plan, item);
-        self.journeys[place].make(item);
+        change_stock(&mut self.stock, &journey.plan, item);
+        journey.make(item);
         self.events += 1;
         Ok(moved(place, item, &cursor))
     }

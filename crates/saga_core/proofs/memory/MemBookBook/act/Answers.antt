@@ -7,15 +7,15 @@ use Rattle.saga_core.proofs.ActLemmas.{found_for-kept, again-known, outcome-new}
 use Rattle.saga_core.proofs.memory.MemBookBook.act.Goals as goal
 
 -- the key is known
-pub returns-in-Some-again-clause-reply : goal.returns-in-Some-again-clause-reply
-returns-in-Some-again-clause-reply c _ s here =
+pub returns-in-Some-clause-reply : goal.returns-in-Some-clause-reply
+returns-in-Some-clause-reply c _ s here =
     let ask = option_copied c.args.ask in
     (again-known s ask (request_of c.args.command.now) c.in-Some.reply _
     (sym (found_for-kept c.args.self.now s here ask)) (c.in-Some.ensures.known s)).replied
 
 -- and nothing changes
-pub returns-in-Some-again-clause-after : goal.returns-in-Some-again-clause-after
-returns-in-Some-again-clause-after c _ s here =
+pub returns-in-Some-clause-after : goal.returns-in-Some-clause-after
+returns-in-Some-clause-after c _ s here =
     let ask = option_copied c.args.ask in
     subst (StandsFor c.args.self.now)
     (sym (again-known s ask (request_of c.args.command.now) c.in-Some.reply _
