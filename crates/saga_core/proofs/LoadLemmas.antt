@@ -91,15 +91,15 @@ named-some name (a ∷ bs) b found =
         let is : a ≡ b = cc in (
           filter_map (rows_of_named name) bs,
           ap (λ v. cons_option (if v then Some a.rows else None)
-          (filter_map (rows_of_named name) bs)) (nat_list_eq_equiv.symm name a.name ∙ e)
-          ∙ ap (λ (x : Batched). x.rows ∷ filter_map (rows_of_named name) bs) is
+              (filter_map (rows_of_named name) bs)) (nat_list_eq_equiv.symm name a.name ∙ e)
+              ∙ ap (λ (x : Batched). x.rows ∷ filter_map (rows_of_named name) bs) is,
         )
     go false e found more =
         let later = more found in (
           later.0,
           ap (λ v. cons_option (if v then Some a.rows else None)
-          (filter_map (rows_of_named name) bs)) (nat_list_eq_equiv.symm name a.name ∙ e)
-          ∙ later.1
+              (filter_map (rows_of_named name) bs)) (nat_list_eq_equiv.symm name a.name ∙ e)
+              ∙ later.1,
         )
 
 -- where the book finds no batch of a name, the ledger has none

@@ -1,6 +1,7 @@
 -- What may be made of a journey in a book in memory, and what making it leaves. For the moves of the book.
-use Rattle.std.proofs.Common.{◌≡◌, ℕ, zero, suc, ◌+◌, ◌-◌, ◌<◌, ◌≤◌, ◌⊎◌, inl, inr, Bool, true, false, List, [], ◌∷◌, ◌++◌, length, map, refl, ap, sym, ◌∙◌, subst, arith}
+use Rattle.std.proofs.Common.{◌≡◌, ℕ, zero, suc, ◌+◌, ◌-◌, ◌<◌, ◌≤◌, ◌⊎◌, inl, inr, Bool, true, false, List, [], ◌∷◌, ◌++◌, length, get_or, map, refl, ap, sym, ◌∙◌, subst, arith}
 use Rattle.std.specs.Prelude.{◌&&◌, not, nat_lt, slice_get, slice_set, if◌then◌else◌, Option, Some, None, Result, Ok, Err, IfOk, IsTrue}
+use Rattle.std.proofs.lemmas.Option.{slice_get-get_or}
 use Rattle.std.specs.FinSet as set
 use Rattle.std.specs.Ordering.{nat_cmp}
 use Rattle.plan.specs.Planned.{Planned, step_count, option_count}
@@ -99,7 +100,7 @@ in_plan plan cursor taken (Transaction i c) placed next =
       omega (arith, next.1),
       omega (arith, next.1),
       next.2.0,
-      subst (λ n. c ≤ option_count plan n) step next.2.1
+      subst (λ n. c ≤ option_count plan n) step next.2.1,
     )
 in_plan plan cursor taken (Compensation i c) placed next =
     let above : 0 < cursor.pos = above_start cursor.phase refl next.0 in
@@ -107,7 +108,7 @@ in_plan plan cursor taken (Compensation i c) placed next =
       omega (arith, next.1),
       omega (arith, next.1, placed.within),
       next.2.0,
-      subst (λ n. c ≤ option_count plan n) step next.2.1
+      subst (λ n. c ≤ option_count plan n) step next.2.1,
     )
   where
     above_start : (p : Phase) → cursor.phase ≡ p → IsTrue (is_going_back p) → 0 < cursor.pos
@@ -181,3 +182,9 @@ stands-reserved m n place old new at written same stock batches kept events s he
         (subst (λ (j : Journey). Tells j (history s.ledger (suc place))) (sym is.1)
         (tells-same old new (history s.ledger (suc place)) same (here.told place old at)))
     told i k (inr other) = here.told i k other.1
+
+-- what stands at a place is what is found there
+pub same_item : (ks : List Journey) (place : ℕ) (a k : Journey) → place < length ks
+    → a ≡ get_or ks place a → slice_get ks place ≡ Some k → a ≡ k
+same_item ks place a k within is at =
+    let both : Some a ≡ Some k = ap Some is ∙ sym (slice_get-get_or ks place a within) ∙ at in cc

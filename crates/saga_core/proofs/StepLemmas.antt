@@ -227,9 +227,9 @@ step-move m who s id place k next fit here is at said tests =
     let fitting : phase k.plan h ≡ Run
     → fit ≡ fits s.ledger (rules.next_want k.plan (position_of h) (refusals h)) =
     λ run.
-        tests (ap (λ (c : Cursor). c.phase) t.told.cursor ∙ run)
-        ∙ ap (λ (c : Cursor). fits_some m.stock (rules.next_want k.plan c.pos c.used)) t.told.cursor
-        ∙ fits_some-stock m s here (rules.next_want k.plan (position_of h) (refusals h)) in
+    tests (ap (λ (c : Cursor). c.phase) t.told.cursor ∙ run)
+    ∙ ap (λ (c : Cursor). fits_some m.stock (rules.next_want k.plan c.pos c.used)) t.told.cursor
+    ∙ fits_some-stock m s here (rules.next_want k.plan (position_of h) (refusals h)) in
     from_history id place k h _
     (answer_move s.ledger (suc place) step_choices NoSavePoint (Some (begun_as k))) next t.told
     (ap (λ o. answer_move s.ledger id step_choices NoSavePoint o) t.seen

@@ -1,5 +1,6 @@
 -- The first journey that is not finished, by what is kept of each. For `MemBook::first_unfinished`.
-use Rattle.std.proofs.Common.{◌≡◌, ℕ, zero, suc, ◌+◌, List, [], ◌∷◌, length, refl, ap, sym, ◌∙◌, arith}
+use Rattle.std.proofs.Common.{◌≡◌, ℕ, suc, ◌+◌, ◌<◌, Bool, cond, List, [], ◌∷◌, length, get_or, drop, refl, ap, sym, ◌∙◌, arith}
+use Rattle.std.proofs.lemmas.List.{at_drop_more}
 use Rattle.std.specs.Prelude.{slice_get, filter_map, find, Option, Some, option_map}
 use Rattle.std.specs.List.{cons_option}
 use Rattle.allotment.specs.Cells.{numbers_from}
@@ -56,3 +57,26 @@ first_unfinished-kept m s after here =
     (sym (briefs-each s.ledger m.journeys.items 1 (brief_of-kept m s here)))
     ∙ ap (λ n. find (is_unfinished_above after) (filter_map (brief_of s.ledger) (numbers_from 1 n)))
     (length-begun m s here)
+
+-- One journey after another.
+
+-- what is shown of a journey in short is told by its parts
+pub brief_is : (b : Brief) (j : ℕ) (k : Journey) → b.id ≡ j → b.agent ≡ k.agent
+    → b.cursor ≡ k.cursor → b ≡ brief_at j k
+brief_is b j k number agent cursor =
+    ap (λ n. record { id = n; agent = b.agent; cursor = b.cursor }) number
+    ∙ ap (λ a. record { id = j; agent = a; cursor = b.cursor }) agent
+    ∙ ap (λ c. record { id = j; agent = k.agent; cursor = c }) cursor
+
+-- from a place on, the first that passes is the journey there or the first behind it
+pub found_from : (test : Brief → Bool) (ks : List Journey) (place : ℕ) (k : Journey)
+    → place < length ks → k ≡ get_or ks place k
+    → find test (briefs_from (suc place) (drop place ks))
+    ≡ cond (test (brief_at (suc place) k)) (Some (brief_at (suc place) k))
+    (find test (briefs_from (suc (place + 1)) (drop (place + 1) ks)))
+found_from test ks place k within is =
+    let next : suc place ≡ place + 1 = omega arith in
+    at_drop_more (λ js. find test (briefs_from (suc place) js)) ks place k within
+    ∙ ap (λ j. find test (briefs_from (suc place) (j ∷ drop (place + 1) ks))) (sym is)
+    ∙ ap (λ n. cond (test (brief_at (suc place) k)) (Some (brief_at (suc place) k))
+    (find test (briefs_from (suc n) (drop (place + 1) ks)))) next

@@ -73,8 +73,8 @@ impl MemBook {
         ensures answer { (s : State) → StandsFor self.old s →
             batches_named s.ledger batch.now.name ≡ [] →
             IfOk result (IsCarriedOut self.new s (option_copied ask.entry)
-                (answer s.ledger (asker (option_copied ask.entry))
-                    (request.Load batch.now.name batch.now.rows))) }
+            (answer s.ledger (asker (option_copied ask.entry))
+            (request.Load batch.now.name batch.now.rows))) }
         ensures memory { KeepsBook self.old self.new result }
     {
         match self.stock.first_below_held(batch.rows()) {
@@ -90,7 +90,7 @@ impl MemBook {
 
         ensures answer { (s : State) → StandsFor self.old s →
             (a : Answer) → IsDue s.ledger (asker (option_copied ask.entry))
-                batch.now.name batch.now.rows a →
+            batch.now.name batch.now.rows a →
             IfOk result (IsCarriedOut self.new s (option_copied ask.entry) a) }
         ensures memory { KeepsBook self.old self.new result }
     {

@@ -82,7 +82,7 @@ impl MemBook {
 
         ensures fits { (k : Journey) → slice_get self.now.journeys.items place ≡ Some k →
             k.cursor.phase ≡ Phase.Run → result ≡ fits_some self.now.stock
-                (rules.next_want k.plan k.cursor.pos k.cursor.used) }
+            (rules.next_want k.plan k.cursor.pos k.cursor.used) }
     {
         let journey = &self.journeys[place];
         if !is_running(journey.cursor.phase) {
