@@ -31,11 +31,19 @@ returns-in_err-reserve-clause-memory c =
     let m = c.args.self.now in
     let old = c.index_mut-journey.result.now in
     let n = record m { journeys = with_item m.journeys c.args.place c.reserve.new.self } in
+    let same = c.reserve.ensures.same in
+    let kept : IsSameJourney old c.reserve.new.self = record {
+      begun = same.begun;
+      items = same.items;
+      cursor = same.cursor;
+      marks = same.marks;
+      taken = same.taken;
+    } in
     keeps_book m n _
     (stands-reserved m n c.args.place old c.reserve.new.self
     (slice_get-get_or m.journeys.items c.args.place old c.requires.within
     ∙ ap Some (sym c.index_mut-journey.ensures.value))
-    refl c.reserve.ensures.same refl refl (λ agent key. refl) refl)
+    refl kept refl refl (λ agent key. refl) refl)
 
 -- room was made, and nothing else changed
 pub returns-in_err-keep-clause-memory : goal.returns-in_err-keep-clause-memory
@@ -46,11 +54,19 @@ returns-in_err-keep-clause-memory c =
       journeys = with_item m.journeys c.args.place c.reserve.new.self;
       answers = c.keep.new.self;
     } in
+    let same = c.reserve.ensures.same in
+    let kept : IsSameJourney old c.reserve.new.self = record {
+      begun = same.begun;
+      items = same.items;
+      cursor = same.cursor;
+      marks = same.marks;
+      taken = same.taken;
+    } in
     keeps_book m n _
     (stands-reserved m n c.args.place old c.reserve.new.self
     (slice_get-get_or m.journeys.items c.args.place old c.requires.within
     ∙ ap Some (sym c.index_mut-journey.ensures.value))
-    refl c.reserve.ensures.same refl refl c.in_err-keep.ensures.memory refl)
+    refl kept refl refl c.in_err-keep.ensures.memory refl)
 
 -- what is next stands in the plan
 pub change_stock-requires-clause-in_plan : goal.change_stock-requires-clause-in_plan
@@ -94,8 +110,15 @@ returns-clause-answer c s here k at may =
     let final = c.make.new.self in
     let is = same_item m.journeys.items place old k c.requires.within
     c.index_mut-journey.ensures.value at in
-    let same : IsSameJourney k kept =
-    subst (λ (o : Journey). IsSameJourney o kept) is c.reserve.ensures.same in
+    let as_was = c.reserve.ensures.same in
+    let from_old : IsSameJourney old kept = record {
+      begun = as_was.begun;
+      items = as_was.items;
+      cursor = as_was.cursor;
+      marks = as_was.marks;
+      taken = as_was.taken;
+    } in
+    let same : IsSameJourney k kept = subst (λ (o : Journey). IsSameJourney o kept) is from_old in
     let n = record m {
       journeys = with_item m.journeys place final;
       stock = c.change_stock.new.stock;
