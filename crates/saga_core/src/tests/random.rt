@@ -7,6 +7,7 @@ use std::process::Abort;
 use std::test::Fail;
 
 /// Numbers that look random, and are the same in each run.
+#[derive(Drop)]
 struct Dice {
     state: u64,
 }

@@ -1,5 +1,6 @@
 //! Worked rows, each on a new desk: a line, and what is answered.
-use crate::tests::lines::answers;
+use crate::tests::lines::{answer, answers, command_of};
+use crate::{Agent, Ask, Book, Key, MemBook};
 use std::test::Fail;
 
 #[rattlefmt::skip]
@@ -313,4 +314,70 @@ const IN_ORDER: [(&str, &str); 2] = [
 #[test]
 fn cells_are_shown_in_their_order(rt: HostRuntime) -> Result<(), Fail> {
     answers(&rt, rt.alloc(), &IN_ORDER)
+}
+
+#[test]
+fn a_room_without_its_last_night_is_not_taken(rt: HostRuntime) -> Result<(), Fail> {
+    let alloc = rt.alloc();
+    let mut load = String::from_str(alloc, "load a ")?;
+    for night in 1..31u8 {
+        if night > 1 {
+            load.push_str(", ")?;
+        }
+        let places = if night < 30 { 1u8 } else { 0 };
+        write!(load, "R/INN/DBL/2030-06-{night:02} {places}")?;
+    }
+    let rows = [
+        (load.as_str(), "loaded a 30"),
+        ("begin @D/30/1!0", "journey 1 begun"),
+        ("step 1", "journey 1 B0r undone 0"),
+        ("free R/INN/DBL/2030-06-01", "1"),
+        ("free R/INN/DBL/2030-06-29", "1"),
+        ("free R/INN/DBL/2030-06-30", "0"),
+    ];
+    let mut book = MemBook::new(alloc);
+    for (line, expected) in rows {
+        let answered = answer(alloc, &mut book, line)?;
+        assert_eq!(rt; answered.as_str(), expected, "{line}");
+    }
+    Ok(())
+}
+
+// who asks, under which key, what is asked, and what is answered
+#[rattlefmt::skip]
+const AGENTS: [(&str, &str, &str, &str); 9] = [
+    ("ann", "k1", "begin @1/1/1!0", "journey 1 begun"),
+    ("bob", "k1", "step 1",         "refused 9 NoJourney"),
+    ("bob", "k1", "abort 1 0",      "refused 9 NoJourney"),
+    ("ann", "k2", "step 1",         "journey 1 T1.1 ended 1"),
+    ("ann", "k2", "step 1",         "journey 1 T1.1 ended 1"),
+    ("ann", "k2", "abort 1 0",      "refused 14 KeyReused"),
+    ("ann", "k3", "abort 1 0",      "refused 10 Finished"),
+    ("ann", "k3", "begin @1/1/2!0", "journey 2 begun"),
+    ("bob", "k1", "begin @1/1/3!0", "journey 3 begun"),
+];
+
+#[test]
+fn agents_move_their_own_journeys(rt: HostRuntime) -> Result<(), Fail> {
+    let alloc = rt.alloc();
+    let mut book = MemBook::new(alloc);
+    assert_eq!(rt;
+        answer(alloc, &mut book, "load a @1 10")?.as_str(),
+        "loaded a 1"
+    );
+    for (agent, key, line, expected) in AGENTS {
+        let agent = Agent::parse(agent).ok_or("no agent")?;
+        let key = Key::parse(key).ok_or("no key")?;
+        let ask = Ask::new(agent, key, Vec::from_slice(alloc, line.as_bytes())?);
+        let command = command_of(alloc, line)?;
+        let reply = book.act(&command, Some(&ask))?;
+        assert_eq!(rt; reply.line(alloc)?.as_str(), expected, "{line}");
+    }
+    assert_eq!(rt; answer(alloc, &mut book, "items 1")?.as_str(), "T1.1");
+    assert_eq!(rt;
+        answer(alloc, &mut book, "step 3")?.as_str(),
+        "journey 3 T1.1 ended 1"
+    );
+    assert_eq!(rt; answer(alloc, &mut book, "free @1")?.as_str(), "6");
+    Ok(())
 }
