@@ -1,6 +1,5 @@
 -- Cells get their places one after another. For the functions of `loads`.
-use Rattle.std.proofs.Common.{◌≡◌, ℕ, zero, suc, ◌+◌, ◌-◌, ◌≤◌, List, [], ◌∷◌, ◌++◌, take, Some, IsTrue, refl, sym, ap, subst, ◌∙◌, arith, add-one}
-use Rattle.std.specs.Prelude.{slice_get}
+use Rattle.std.proofs.Common.{◌≡◌, ℕ, zero, suc, ◌+◌, ◌-◌, ◌<◌, ◌≤◌, List, [], ◌∷◌, ◌++◌, length, take, get_or, IsTrue, refl, sym, ap, subst, ◌∙◌, arith, add-one}
 use Rattle.sqlite.proofs.StateLemmas.{survives_then}
 use Rattle.sqlite.specs.Store.{Ghosts}
 use Rattle.sqlite.specs.Held.{Held as Connection, state}
@@ -72,12 +71,13 @@ HasPut-more g old mid new cells c has survives commit inside made =
     }
 
 -- the first elements and the next one are the first ones, one more
-take-next : {X : Type 0} (xs : List X) (i : ℕ) (x : X) → slice_get xs i ≡ Some x
+take-next : {X : Type 0} (xs : List X) (i : ℕ) (x : X) → i < length xs → x ≡ get_or xs i x
     → take (suc i) xs ≡ take i xs ++ x ∷ []
-take-next [] i x e = cc
-take-next (y ∷ xs) zero x e = let same : y ≡ x = cc in ap (λ z. z ∷ []) same
-take-next (y ∷ xs) (suc i) x e = ap (λ ys. y ∷ ys) (take-next xs i x e)
+take-next [] i x within e = absurd (omega arith)
+take-next (y ∷ xs) zero x within e = ap (λ z. z ∷ []) (sym e)
+take-next (y ∷ xs) (suc i) x within e = ap (λ ys. y ∷ ys) (take-next xs i x (omega arith) e)
 
-pub take-more : {X : Type 0} (xs : List X) (i : ℕ) (x : X) → slice_get xs i ≡ Some x
+-- the same, as a loop counts
+pub take-more : {X : Type 0} (xs : List X) (i : ℕ) (x : X) → i < length xs → x ≡ get_or xs i x
     → take (i + 1) xs ≡ take i xs ++ x ∷ []
-take-more xs i x e = ap (λ n. take n xs) (add-one i) ∙ take-next xs i x e
+take-more xs i x within e = ap (λ n. take n xs) (add-one i) ∙ take-next xs i x within e

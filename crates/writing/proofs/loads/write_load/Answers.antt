@@ -1,4 +1,4 @@
-use Rattle.std.proofs.Common.{◌≡◌, ℕ, arith}
+use Rattle.std.proofs.Common.{◌≡◌, ℕ, List, subst, arith, rules}
 use Rattle.sqlite.specs.State.{HasCleanDisk}
 use Rattle.sqlite.specs.Held.{state}
 use Rattle.desk_sql.specs.Calls.{Makes}
@@ -22,7 +22,10 @@ returns-clause-made g c clean t may apart =
     let b = c.args.batch in
     let row : Tables → Tables = adds_batch (record { name = b.name.now; num = n.num; content = b.content.now }) in
     let cells : Tables → Tables = puts_each b.cells.now in
-    let batch : Makes old one (row t) = c.in_ok-insert_batch.ensures.made at_one t may tt in
+    let content : c.as_bytes.result.now ≡ b.content.now = search rules in
+    let batch : Makes old one (row t) =
+    subst (λ bytes. Makes old one (adds_batch (record { name = b.name.now; num = n.num; content = bytes }) t)) content
+    (c.in_ok-insert_batch.ensures.made at_one t may tt) in
     makes_then old two last t (λ (u : Tables). cells (row u)) (counts (meta_row_at n.num n.journeys))
     (makes_then old one two t row cells batch
     (λ m. c.in_ok-put_all.ensures.made at_two (row t) m batch.is_open apart))
