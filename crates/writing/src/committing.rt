@@ -15,18 +15,18 @@ use sqlite::{Alter, Connection};
 pub fn commit_event<S: Alter>(
     conn: &mut Connection<S>,
     numbers: Numbers,
-    event: Event,
+    event: &Event<'_>,
     keeping: Option<Keeping<'_>>,
 ) -> Result<(), Fault>
     requires outside { conn.old.in_transaction ≡ false }
-    requires small { IsSmall event }
+    requires small { IsSmall event.now }
 
     ensures outside { conn.new.in_transaction ≡ false }
-    ensures done { (s next : State) → LeadsTo numbers event keeping.entry s next
+    ensures done { (s next : State) → LeadsTo numbers event.now keeping.entry s next
         → Keeps (state S.Store conn.old) s → OnOk result (Keeps (state S.Store conn.new) next) }
     ensures memory { (s : State) → Keeps (state S.Store conn.old) s → result ≡ Err Fault.Memory
         → Keeps (state S.Store conn.new) s }
-    ensures either { (s next : State) → LeadsTo numbers event keeping.entry s next
+    ensures either { (s next : State) → LeadsTo numbers event.now keeping.entry s next
         → Keeps (state S.Store conn.old) s → MayLeave (state S.Store conn.new) s next }
     ensures less { WasClean S.Store conn.old conn.new }
 {

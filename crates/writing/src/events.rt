@@ -52,9 +52,20 @@ pub struct SaveMade {
     pub position: usize,
 }
 
-/// What a journey did.
-#[derive(Clone, Copy, Debug, PartialEq, Eq)]
-pub enum Event {
+/// A batch that is loaded.
+#[derive(Clone, Copy)]
+pub struct BatchLoaded<'a> {
+    /// The batch's name.
+    pub name: &'a str,
+    /// The texts of its rows, each ended by a line feed.
+    pub content: &'a str,
+    /// Its cells, in the order of its rows, each with the places that it has then.
+    pub cells: &'a [(Cell, Held)],
+}
+
+/// What happened.
+#[derive(Clone, Copy)]
+pub enum Event<'a> {
     /// A step is done.
     Transaction(StepMade),
     /// A step is compensated.
@@ -63,6 +74,8 @@ pub enum Event {
     Turn(TurnMade),
     /// The journey takes a save-point.
     Save(SaveMade),
+    /// A batch is loaded.
+    Load(BatchLoaded<'a>),
 }
 
 /// A reply that is kept with an event.
@@ -76,15 +89,4 @@ pub struct Keeping<'a> {
     pub text: &'a [u8],
     /// The reply's line.
     pub line: &'a str,
-}
-
-/// A batch that is loaded.
-#[derive(Clone, Copy)]
-pub struct BatchLoaded<'a> {
-    /// The batch's name.
-    pub name: &'a str,
-    /// The texts of its rows, each ended by a line feed.
-    pub content: &'a str,
-    /// Its cells, in the order of its rows, each with the places that it has then.
-    pub cells: &'a [(Cell, Held)],
 }

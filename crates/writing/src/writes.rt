@@ -6,6 +6,7 @@ ghost use Rattle.writing.specs.Kinds.{IsSmall, Fits, rows_after, with_kept, even
 
 use crate::events::{Event, Keeping, Numbers};
 use crate::journeys::{write_compensation, write_save, write_transaction, write_turn};
+use crate::loads::write_load;
 use desk_sql::insert_answer;
 use sqlite::{Alter, Error, Transaction};
 
@@ -13,23 +14,24 @@ use sqlite::{Alter, Error, Transaction};
 fn write_rows<S: Alter>(
     tx: &mut Transaction<'_, S>,
     numbers: Numbers,
-    event: Event,
+    event: &Event<'_>,
 ) -> Result<(), Error>
-    requires { IsSmall event }
+    requires { IsSmall event.now }
 
     ensures same_reference { tx.new.conn.ghost_name ≡ tx.old.conn.ghost_name }
-    ensures made { WritesRows S.Store tx.old.conn.now tx.new.conn.now (Fits numbers event) result
-        (rows_after numbers event) }
+    ensures made { WritesRows S.Store tx.old.conn.now tx.new.conn.now (Fits numbers event.now) result
+        (rows_after numbers event.now) }
     ensures live { WasOpen S.Store tx.old.conn.now tx.new.conn.now result }
     ensures inside { StaysInside S.Store tx.old.conn.now tx.new.conn.now result }
     ensures commit { CommitsNothing S.Store tx.old.conn.now tx.new.conn.now }
     ensures survives { LeavesNoMore S.Store tx.old.conn.now tx.new.conn.now }
 {
-    match event {
+    match *event {
         Event::Transaction(made) => write_transaction(tx, numbers, made),
         Event::Compensation(made) => write_compensation(tx, numbers, made),
         Event::Turn(made) => write_turn(tx, numbers, made),
         Event::Save(made) => write_save(tx, numbers, made),
+        Event::Load(batch) => write_load(tx, numbers, batch),
     }
 }
 
@@ -37,14 +39,14 @@ fn write_rows<S: Alter>(
 fn write_kept<S: Alter>(
     tx: &mut Transaction<'_, S>,
     numbers: Numbers,
-    event: Event,
+    event: &Event<'_>,
     keeping: Keeping<'_>,
 ) -> Result<(), Error>
-    requires { IsSmall event }
+    requires { IsSmall event.now }
 
     ensures same_reference { tx.new.conn.ghost_name ≡ tx.old.conn.ghost_name }
-    ensures made { WritesRows S.Store tx.old.conn.now tx.new.conn.now (Fits numbers event) result
-        (with_kept numbers event keeping.entry) }
+    ensures made { WritesRows S.Store tx.old.conn.now tx.new.conn.now (Fits numbers event.now) result
+        (with_kept numbers event.now keeping.entry) }
     ensures live { WasOpen S.Store tx.old.conn.now tx.new.conn.now result }
     ensures inside { StaysInside S.Store tx.old.conn.now tx.new.conn.now result }
     ensures commit { CommitsNothing S.Store tx.old.conn.now tx.new.conn.now }
@@ -59,14 +61,14 @@ fn write_kept<S: Alter>(
 pub fn write_event<S: Alter>(
     tx: &mut Transaction<'_, S>,
     numbers: Numbers,
-    event: Event,
+    event: &Event<'_>,
     keeping: Option<Keeping<'_>>,
 ) -> Result<(), Error>
-    requires { IsSmall event }
+    requires { IsSmall event.now }
 
     ensures same_reference { tx.new.conn.ghost_name ≡ tx.old.conn.ghost_name }
-    ensures made { WritesRows S.Store tx.old.conn.now tx.new.conn.now (Fits numbers event) result
-        (event_rows numbers event keeping.entry) }
+    ensures made { WritesRows S.Store tx.old.conn.now tx.new.conn.now (Fits numbers event.now) result
+        (event_rows numbers event.now keeping.entry) }
     ensures live { WasOpen S.Store tx.old.conn.now tx.new.conn.now result }
     ensures inside { StaysInside S.Store tx.old.conn.now tx.new.conn.now result }
     ensures commit { CommitsNothing S.Store tx.old.conn.now tx.new.conn.now }

@@ -15,8 +15,8 @@ returns-in-Ok-clause-done g c s next leads keeps clean =
     let same : end ≡ c.conn-2-1.given.0 = search rules in
     let at_end : HasCleanDisk (state g.S.Store end) = search rules in
     let at_late : HasCleanDisk (state g.S.Store late) = omega (arith, c.commit.ensures.survives.clean) in
-    let fits = Fits c.args.numbers c.args.event in
-    let after = event_rows c.args.numbers c.args.event c.args.keeping in
+    let fits = Fits c.args.numbers c.args.event.now in
+    let after = event_rows c.args.numbers c.args.event.now c.args.keeping in
     let wrote : Wrote g.S.Store (record old { in_transaction = true }) late fits after =
     subst (λ (h : Held g.row.S.Denot). Wrote g.S.Store h late fits after) c.transaction-tx.ensures.begun
     (record { less = c.write_event.ensures.survives; live = c.in_default.ensures.live; made = c.in_default.ensures.made }) in
@@ -32,8 +32,8 @@ returns-in-Ok-clause-either g c s next leads keeps clean =
     let same : end ≡ c.conn-2-1.given.0 = search rules in
     let at_end : HasCleanDisk (state g.S.Store end) = search rules in
     let at_late : HasCleanDisk (state g.S.Store late) = omega (arith, c.commit.ensures.survives.clean) in
-    let fits = Fits c.args.numbers c.args.event in
-    let after = event_rows c.args.numbers c.args.event c.args.keeping in
+    let fits = Fits c.args.numbers c.args.event.now in
+    let after = event_rows c.args.numbers c.args.event.now c.args.keeping in
     let wrote : Wrote g.S.Store (record old { in_transaction = true }) late fits after =
     subst (λ (h : Held g.row.S.Denot). Wrote g.S.Store h late fits after) c.transaction-tx.ensures.begun
     (record { less = c.write_event.ensures.survives; live = c.in_default.ensures.live; made = c.in_default.ensures.made }) in
@@ -50,8 +50,8 @@ returns-in-Err-commit-clause-either g c s next leads keeps clean =
     let same : end ≡ c.conn-2-1.given.0 = search rules in
     let at_end : HasCleanDisk (state g.S.Store end) = search rules in
     let at_late : HasCleanDisk (state g.S.Store late) = omega (arith, c.commit.ensures.survives.clean) in
-    let fits = Fits c.args.numbers c.args.event in
-    let after = event_rows c.args.numbers c.args.event c.args.keeping in
+    let fits = Fits c.args.numbers c.args.event.now in
+    let after = event_rows c.args.numbers c.args.event.now c.args.keeping in
     let wrote : Wrote g.S.Store (record old { in_transaction = true }) late fits after =
     subst (λ (h : Held g.row.S.Denot). Wrote g.S.Store h late fits after) c.transaction-tx.ensures.begun
     (record { less = c.write_event.ensures.survives; live = c.in_default.ensures.live; made = c.in_default.ensures.made }) in

@@ -15,7 +15,7 @@ returns-clause-made g c clean t may fits =
     let last = state g.S.Store c.insert_answer.new.tx.conn.now in
     let at_mid : HasCleanDisk mid = omega (arith, c.insert_answer.ensures.survives.clean) in
     let k = c.args.keeping in
-    let event : Tables → Tables = rows_after c.args.numbers c.args.event in
+    let event : Tables → Tables = rows_after c.args.numbers c.args.event.now in
     makes_then old mid last t event (adds_answer (kept k.agent.now k.key.now k.text.now k.line.now))
     (c.in_ok-write_rows.ensures.made at_mid t may fits)
     (λ m. c.in_ok-insert_answer.ensures.made clean (event t) m tt)
