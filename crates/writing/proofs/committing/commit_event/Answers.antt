@@ -1,4 +1,4 @@
-use Rattle.std.proofs.Common.{◌≡◌, inr, true, sym, subst, arith, rules}
+use Rattle.std.proofs.Common.{◌≡◌, inr, true, subst, arith, rules}
 use Rattle.sqlite.specs.State.{HasCleanDisk}
 use Rattle.sqlite.specs.Held.{Held, state}
 use Rattle.writing.specs.Kinds.{Fits, event_rows}

@@ -1,4 +1,4 @@
-use Rattle.std.proofs.Common.{◌≡◌, ◌+◌, ◌<◌, ◌∙◌, sym, subst, take, length, arith}
+use Rattle.std.proofs.Common.{◌<◌, ◌∙◌, sym, subst, take, length, arith}
 use Rattle.writing.specs.Loads.{HasPut}
 use Rattle.writing.proofs.LoadLemmas.{HasPut-more, take-more}
 use Rattle.writing.proofs.loads.put_all.Goals as goal
