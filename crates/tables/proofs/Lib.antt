@@ -1,6 +1,9 @@
 pub mod AnswerLemmas
 pub mod CommitLemmas
+pub mod DueLemmas
 pub mod KeepLemmas
+pub mod LeadLemmas
+pub mod NextLemmas
 pub mod OpenKept
 pub mod ReadJourneys
 pub mod ReadLemmas
