@@ -9,4 +9,6 @@ pub mod ReadJourneys
 pub mod ReadLemmas
 pub mod ReadPlans
 pub mod ReadStock
+pub mod SmallLemmas
+pub mod StepLemmas
 pub mod WritingLemmas

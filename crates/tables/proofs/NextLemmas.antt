@@ -160,7 +160,7 @@ module _ (s : State) (legal : IsLegal s.ledger) (who : Option (List ℕ)) (id : 
   items = history s.ledger id
 
   -- from what the rules say of the journey to what the record does
-  from_history : (choices : Planned → List Item → List Item) (otherwise : Refusal) (next : Result Item Refusal)
+  pub from_history : (choices : Planned → List Item → List Item) (otherwise : Refusal) (next : Result Item Refusal)
       → Fits id r.plan (cursor_of r.plan items) (answer_move s.ledger id choices otherwise (Some (begun_as r))) next
       → Fits id r.plan r.cursor (answer_move s.ledger id choices otherwise (seen_journey s.ledger who id)) next
   from_history choices otherwise next fits =

@@ -1,5 +1,5 @@
 //! One event, one commit.
-ghost use Rattle.std.specs.Prelude.{◌≡◌, ◌<◌, ◌^◌, false, Err, OnOk};
+ghost use Rattle.std.specs.Prelude.{◌≡◌, ◌<◌, ◌^◌, false, Err, Some, OnOk};
 ghost use Rattle.sqlite.specs.Held.{state};
 ghost use Rattle.ledger.specs.Answer.{State};
 ghost use Rattle.std.specs.Option.{option_copied as asked_by};
@@ -50,6 +50,41 @@ pub(crate) fn commit_begin<S: Alter>(
     }
 }
 
+/// Writes an event in one commit, with the reply to this ask.
+fn commit_kept<S: Alter>(
+    alloc: Global,
+    conn: &mut Connection<S>,
+    numbers: Numbers,
+    event: &Event<'_>,
+    reply: Reply,
+    ask: &Ask,
+) -> Result<(), Fault>
+    requires outside { conn.old.in_transaction ≡ false }
+    requires small { IsSmall event.now }
+
+    ensures outside { conn.new.in_transaction ≡ false }
+    ensures done { (s next : State) → LeadsToWith numbers event.now (Some ask.now) reply s next
+        → Keeps (state S.Store conn.old) s → OnOk result (Keeps (state S.Store conn.new) next) }
+    ensures memory { KeepsAtMemory S.Store conn.old conn.new result }
+    ensures left { (s next : State) → LeadsToWith numbers event.now (Some ask.now) reply s next
+        → Keeps (state S.Store conn.old) s → MayLeave (state S.Store conn.new) s next }
+    ensures sound { WasClean S.Store conn.old conn.new }
+{
+    let line = match reply.line(alloc) {
+        Ok(line) => line,
+        Err(_) => return Err(Fault::Memory),
+    };
+    let agent = ask.agent();
+    let key = ask.key();
+    let keeping = Keeping {
+        agent: agent.as_str(),
+        key: key.as_str(),
+        text: ask.text(),
+        line: line.as_str(),
+    };
+    commit_event(conn, numbers, event, Some(keeping))
+}
+
 /// Writes an event in one commit, with the reply to it where there is an ask.
 pub(crate) fn commit_answered<S: Alter>(
     alloc: Global,
@@ -66,24 +101,12 @@ pub(crate) fn commit_answered<S: Alter>(
     ensures done { (s next : State) → LeadsToWith numbers event.now (asked_by ask.entry) reply s next
         → Keeps (state S.Store conn.old) s → OnOk result (Keeps (state S.Store conn.new) next) }
     ensures memory { KeepsAtMemory S.Store conn.old conn.new result }
-    ensures either { (s next : State) → LeadsToWith numbers event.now (asked_by ask.entry) reply s next
+    ensures left { (s next : State) → LeadsToWith numbers event.now (asked_by ask.entry) reply s next
         → Keeps (state S.Store conn.old) s → MayLeave (state S.Store conn.new) s next }
     ensures sound { WasClean S.Store conn.old conn.new }
 {
-    let Some(ask) = ask else {
-        return commit_event(conn, numbers, event, None);
-    };
-    let line = match reply.line(alloc) {
-        Ok(line) => line,
-        Err(_) => return Err(Fault::Memory),
-    };
-    let agent = ask.agent();
-    let key = ask.key();
-    let keeping = Keeping {
-        agent: agent.as_str(),
-        key: key.as_str(),
-        text: ask.text(),
-        line: line.as_str(),
-    };
-    commit_event(conn, numbers, event, Some(keeping))
+    match ask {
+        None => commit_event(conn, numbers, event, None),
+        Some(ask) => commit_kept(alloc, conn, numbers, event, reply, ask),
+    }
 }

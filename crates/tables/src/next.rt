@@ -141,6 +141,7 @@ pub(crate) fn cursor_after(plan: &Plan, cursor: Cursor, item: Item) -> Cursor
 
     ensures after { result ≡ after_rule plan.now cursor item }
 {
+    let _steps = plan.steps();
     let Cursor { pos, phase, used } = cursor;
     match item {
         Item::Transaction { .. } => Cursor {
