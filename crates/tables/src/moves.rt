@@ -246,11 +246,12 @@ pub(crate) fn answer_move<S: Alter>(
     ensures sound { WasClean S.Store conn.old conn.new }
 {
     let counts = read_counts(conn)?;
-    let journey = match find_seen(alloc, conn, id, ask) {
-        Ok(Some(journey)) => journey,
-        Ok(None) => return Ok(Reply::Refused(Refusal::NoJourney)),
-        Err(fault) => return Err(fault),
-    };
-    let next = next_of(alloc, conn, id, &journey, why)?;
-    carry_out(alloc, conn, counts, id, &journey, next, ask)
+    match find_seen(alloc, conn, id, ask) {
+        Ok(None) => Ok(Reply::Refused(Refusal::NoJourney)),
+        Ok(Some(journey)) => {
+            let next = next_of(alloc, conn, id, &journey, why)?;
+            carry_out(alloc, conn, counts, id, &journey, next, ask)
+        }
+        Err(fault) => Err(fault),
+    }
 }

@@ -37,7 +37,9 @@ fn next_fits<S: Alter>(
         return Ok(false);
     }
     let step = journey.cursor.pos + 1;
-    let want = journey.plan.want(step, option_at(&journey.plan, step, journey.cursor.used));
+    let want = journey
+        .plan
+        .want(step, option_at(&journey.plan, step, journey.cursor.used));
     match read_cells(alloc, conn, &want) {
         Ok(cells) => Ok(fits(&cells, &want)),
         Err(fault) => Err(fault),
