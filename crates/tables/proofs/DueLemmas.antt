@@ -6,7 +6,7 @@ use Rattle.commands.specs.Asked.{Asked}
 use Rattle.commands.specs.declared.items.Cursor.{Cursor}
 use Rattle.commands.specs.declared.items.Item.{Item}
 use Rattle.commands.specs.declared.refusals.Refusal.{Refusal}
-use Rattle.commands.specs.declared.refusals.Refusal.TheVariants.{NoJourney, Limit}
+use Rattle.commands.specs.declared.refusals.Refusal.TheVariants.{NoJourney, NoSavePoint, NoSave, Limit}
 use Rattle.commands.specs.declared.replies.Reply.{Reply}
 use Rattle.commands.specs.declared.replies.Reply.TheVariants as reply
 use Rattle.ledger.specs.Answer.{State, Outcome, asker, answer_within, is_request, most_events, kept_for, carried_out, state_with, outcome}
@@ -55,10 +55,10 @@ by_outcome s ask id why refusal e = record {
 -- a journey that is not seen is refused
 unseen_answer : (s : State) (ask : Option Asked) (id : ℕ) (why : Motion) → seen_journey s.ledger (asker ask) id ≡ None
     → answer_within s.ledger (asker ask) (asked_for id why) ≡ refused NoJourney
-unseen_answer s ask id motion.Step e = ap (λ o. answer_move s.ledger id step_choices _ o) e
-unseen_answer s ask id (motion.Abort p) e = ap (λ o. answer_move s.ledger id (abort_choices p) _ o) e
-unseen_answer s ask id motion.Stop e = ap (λ o. answer_move s.ledger id stop_choices _ o) e
-unseen_answer s ask id motion.Save e = ap (λ o. answer_move s.ledger id save_choices _ o) e
+unseen_answer s ask id motion.Step e = ap (λ o. answer_move s.ledger id step_choices NoSavePoint o) e
+unseen_answer s ask id (motion.Abort p) e = ap (λ o. answer_move s.ledger id (abort_choices p) NoSavePoint o) e
+unseen_answer s ask id motion.Stop e = ap (λ o. answer_move s.ledger id stop_choices NoSavePoint o) e
+unseen_answer s ask id motion.Save e = ap (λ o. answer_move s.ledger id save_choices NoSave o) e
 
 pub unseen_refused : (s : State) (ask : Option Asked) (id : ℕ) (why : Motion) → kept_for s ask ≡ None
     → seen_journey s.ledger (asker ask) id ≡ None → IsRefused s ask id why NoJourney

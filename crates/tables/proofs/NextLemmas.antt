@@ -34,8 +34,10 @@ use Rattle.tables.specs.Placing.{begun_as, IsSeen, Fits}
 -- Records.
 
 -- a journey is its agent and its plan
-same_journey : (a : Journey) → record { agent = a.agent; plan = a.plan } ≡ a
-same_journey a = refl
+one_journey : (a : Journey) (agent : List ℕ) (plan : Planned) → a.agent ≡ agent → a.plan ≡ plan
+    → a ≡ record { agent = agent; plan = plan }
+one_journey a agent plan e f =
+    let with : List ℕ → Planned → Journey = λ x p. record { agent = x; plan = p } in ap (λ x. with x a.plan) e ∙ ap (with agent) f
 
 -- a record that is shown is that of the journey of its number
 record IsShown (l : List Event) (id : ℕ) (r : Record) : Type 0 where
@@ -43,20 +45,24 @@ record IsShown (l : List Event) (id : ℕ) (r : Record) : Type 0 where
   cursor : r.cursor ≡ cursor_of r.plan (history l id)
   marks : r.marks ≡ marks_of (history l id)
 
-shown : (l : List Event) (id : ℕ) (r : Record) → Some r ≡ record_of l id → IsShown l id r
-shown l id r e = go (journey_at l id) refl e
-  where
-    of : (a : Journey) → journey_at l id ≡ Some a → r ≡ record_of_journey (history l id) a → IsShown l id r
-    of a at same = subst (IsShown l id) (sym same) (record {
-      at = at ∙ ap Some (sym (same_journey a));
-      cursor = refl;
-      marks = refl;
-    })
+-- it is that of some journey with the number
+shown_of : (l : List Event) (id : ℕ) (r : Record) (o : Option Journey) → Some r ≡ option_map (record_of_journey (history l id)) o
+    → (a : Journey) × (o ≡ Some a) × (r ≡ record_of_journey (history l id) a)
+shown_of l id r None e = cc
+shown_of l id r (Some a) e = (a, refl, cc)
 
-    go : (o : Option Journey) → journey_at l id ≡ o
-        → Some r ≡ option_map (record_of_journey (history l id)) o → IsShown l id r
-    go None at s = cc
-    go (Some a) at s = let same : r ≡ record_of_journey (history l id) a = cc in of a at same
+shown : (l : List Event) (id : ℕ) (r : Record) → Some r ≡ record_of l id → IsShown l id r
+shown l id r e =
+    let of = shown_of l id r (journey_at l id) e in
+    let agent : r.agent ≡ of.0.agent = ap (λ (b : Record). b.agent) of.2 in
+    let plan : r.plan ≡ of.0.plan = ap (λ (b : Record). b.plan) of.2 in
+    let cursor : r.cursor ≡ cursor_of of.0.plan (history l id) = ap (λ (b : Record). b.cursor) of.2 in
+    let marks : r.marks ≡ marks_of (history l id) = ap (λ (b : Record). b.marks) of.2 in
+    record {
+      at = of.1 ∙ ap Some (one_journey of.0 r.agent r.plan (sym agent) (sym plan));
+      cursor = cursor ∙ ap (λ p. cursor_of p (history l id)) (sym plan);
+      marks = marks;
+    }
 
 -- whoever sees its journey sees it
 pub record_seen : (s : State) (who : Option (List ℕ)) (id : ℕ) (r : Record) → Some r ≡ record_of s.ledger id

@@ -1,5 +1,5 @@
 -- What a move of a journey asks, comes to and leaves.
-use Rattle.std.specs.Prelude.{◌≡◌, ℕ, Bool, List, Option, Some, None, Result, IfOk, OnOk}
+use Rattle.std.specs.Prelude.{◌≡◌, ℕ, ◌==◌, ◌&&◌, Bool, List, Option, Some, None, Result, IfOk, OnOk}
 use Rattle.sqlite.specs.Store.{Ghosts}
 use Rattle.sqlite.specs.Held.{Held, state}
 use Rattle.sqlite.specs.State.{HasCleanDisk}
@@ -23,6 +23,7 @@ use Rattle.changes.specs.Changed.{cursor_after}
 use Rattle.saga_core.specs.declared.records.Record.{Record}
 use Rattle.desk_sql.specs.Rows.{Tables}
 use Rattle.desk_sql.specs.declared.meta.Meta.{Meta}
+use Rattle.desk_sql.specs.declared.steps.StepFound.{StepFound}
 use Rattle.standing.specs.Beginning.{with_answer}
 use Rattle.standing.specs.Standing.{StandsFor, IsDesk}
 use Rattle.writing.specs.Kinds as kinds
@@ -59,6 +60,14 @@ abbrev pub IsLastOption : ℕ → ℕ → State → ℕ → Type 0
 IsLastOption id step s option =
     (a : Journey) (c : ℕ) → journey_at s.ledger id ≡ Some a
     → last_of (net (history s.ledger id)) ≡ Some (step, c) → option ≡ c
+
+-- the row is that of an option of this step that is taken
+abbrev pub is_taken_row : ℕ → StepFound → Bool
+is_taken_row step row = (row.place == step) && (row.taken == 1)
+
+-- the option of a row
+abbrev pub option_of_row : StepFound → ℕ
+option_of_row row = row.opt
 
 -- The event says this item of a journey, which is here then; where the item has a want, with that of its plan.
 abbrev pub Says : ℕ → Planned → Cursor → Item → Event → Type 0

@@ -56,17 +56,17 @@ fn commit_kept<S: Alter>(
     conn: &mut Connection<S>,
     numbers: Numbers,
     event: &Event<'_>,
-    reply: Reply,
+    reply: &Reply,
     ask: &Ask,
 ) -> Result<(), Fault>
     requires outside { conn.old.in_transaction ≡ false }
     requires small { IsSmall event.now }
 
     ensures outside { conn.new.in_transaction ≡ false }
-    ensures done { (s next : State) → LeadsToWith numbers event.now (Some ask.now) reply s next
+    ensures done { (s next : State) → LeadsToWith numbers event.now (Some ask.now) reply.now s next
         → Keeps (state S.Store conn.old) s → OnOk result (Keeps (state S.Store conn.new) next) }
     ensures memory { KeepsAtMemory S.Store conn.old conn.new result }
-    ensures left { (s next : State) → LeadsToWith numbers event.now (Some ask.now) reply s next
+    ensures left { (s next : State) → LeadsToWith numbers event.now (Some ask.now) reply.now s next
         → Keeps (state S.Store conn.old) s → MayLeave (state S.Store conn.new) s next }
     ensures sound { WasClean S.Store conn.old conn.new }
 {
@@ -91,17 +91,17 @@ pub(crate) fn commit_answered<S: Alter>(
     conn: &mut Connection<S>,
     numbers: Numbers,
     event: &Event<'_>,
-    reply: Reply,
+    reply: &Reply,
     ask: Option<&Ask>,
 ) -> Result<(), Fault>
     requires outside { conn.old.in_transaction ≡ false }
     requires small { IsSmall event.now }
 
     ensures outside { conn.new.in_transaction ≡ false }
-    ensures done { (s next : State) → LeadsToWith numbers event.now (asked_by ask.entry) reply s next
+    ensures done { (s next : State) → LeadsToWith numbers event.now (asked_by ask.entry) reply.now s next
         → Keeps (state S.Store conn.old) s → OnOk result (Keeps (state S.Store conn.new) next) }
     ensures memory { KeepsAtMemory S.Store conn.old conn.new result }
-    ensures left { (s next : State) → LeadsToWith numbers event.now (asked_by ask.entry) reply s next
+    ensures left { (s next : State) → LeadsToWith numbers event.now (asked_by ask.entry) reply.now s next
         → Keeps (state S.Store conn.old) s → MayLeave (state S.Store conn.new) s next }
     ensures sound { WasClean S.Store conn.old conn.new }
 {

@@ -135,7 +135,7 @@ fn load_cells<S: Alter>(
         journeys: counts.journeys,
     };
     let reply = loaded(batch);
-    commit_answered(alloc, conn, numbers, &event, reply, ask)?;
+    commit_answered(alloc, conn, numbers, &event, &reply, ask)?;
     Ok(reply)
 }
 

@@ -152,7 +152,7 @@ fn make<S: Alter>(
         journeys: counts.journeys,
     };
     let event = event_of(id, &journey.plan, journey.cursor, item);
-    commit_answered(alloc, conn, numbers, &event, reply, ask)?;
+    commit_answered(alloc, conn, numbers, &event, &reply, ask)?;
     Ok(reply)
 }
 

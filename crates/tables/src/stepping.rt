@@ -1,8 +1,6 @@
 //! What a step of a journey comes to, by its rows, by those of its next want, and by its option that is taken.
-ghost use Rattle.std.specs.Prelude.{◌≡◌, ◌<◌, ◌^◌, false};
-ghost use Rattle.commands.specs.declared.items.Phase.TheVariants.{Run};
-ghost use Rattle.plan.specs.Planned.{step_count};
-ghost use Rattle.tables.specs.Moving.{IsNext, FitsNext, IsLastOption};
+ghost use Rattle.std.specs.Prelude.{◌≡◌, ◌<◌, ◌^◌, false, find, option_map};
+ghost use Rattle.tables.specs.Moving.{IsNext, FitsNext, IsLastOption, is_taken_row, option_of_row};
 ghost use Rattle.tables.specs.Placing.{IsPlaced};
 ghost use Rattle.tables.specs.Reading.{KeepsOn, LeavesAsBefore, ShowsKept, WasClean};
 ghost use Rattle.tables.specs.declared.moves.Motion.TheVariants as motion;
@@ -36,18 +34,22 @@ fn next_fits<S: Alter>(
     if !is_running(journey.cursor.phase) {
         return Ok(false);
     }
+    let _steps = journey.plan.steps();
     let step = journey.cursor.pos + 1;
     let want = journey
         .plan
         .want(step, option_at(&journey.plan, step, journey.cursor.used));
     match read_cells(alloc, conn, &want) {
-        Ok(cells) => Ok(fits(&cells, &want)),
+        Ok(cells) => Ok(fits(cells.as_slice(), &want)),
         Err(fault) => Err(fault),
     }
 }
 
 /// The option of this step that is taken, by the rows of its journey.
-fn option_taken(rows: &[StepFound], step: usize) -> Option<usize> {
+fn option_taken(rows: &[StepFound], step: usize) -> Option<usize>
+    ensures first { result
+        ≡ option_map option_of_row (find (is_taken_row step) rows.now) }
+{
     let row = rows
         .iter()
         .find(|row| row.place == step as u64 && row.taken == 1)?;

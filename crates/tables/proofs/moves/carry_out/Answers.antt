@@ -17,3 +17,10 @@ returns-in-Err-clause-after g c s why keeps due =
     let ask = option_copied c.args.ask in
     let due2 = subst (IsDue s ask (asked_for c.args.id why) c.args.counts c.args.id c.args.journey.now) c.in-Err.is due in
     rw (due_refused s ask why c.args.counts c.args.id c.args.journey.now c.in-Err.refusal due2).same keeps
+
+-- the item is made
+pub returns-in-Ok-clause-after : goal.returns-in-Ok-clause-after
+returns-in-Ok-clause-after g c s why keeps due =
+    let ask = option_copied c.args.ask in
+    c.make.ensures.after s why keeps
+    (subst (IsDue s ask (asked_for c.args.id why) c.args.counts c.args.id c.args.journey.now) c.in-Ok.is due)
