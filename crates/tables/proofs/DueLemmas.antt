@@ -115,3 +115,12 @@ module _ (s : State) (ask : Option Asked) (why : Motion) (counts : Meta) (id : �
         journeys_are = journeys_are ∙ due.counted.journeys_are;
         cursor = ap (λ c. cursor_after r.plan c x) due.here.cursor;
       }))
+
+  -- the same, where the journey is known to be here then
+  pub due_leads_at : (x : Item) (n : Numbers) (e : Event) (then : Cursor) → then ≡ then_at x
+      → IsDue s ask (asked_for id why) counts id r (Ok x) → length s.ledger < most_events
+      → n.num ≡ counts.events + 1 → n.journeys ≡ counts.journeys → IsEventOf id r.plan r.cursor x e
+      → LeadsTo n e ask (reply.Moved id x then.pos then.phase) s (outcome s ask (asked_for id why)).state
+  due_leads_at x n e then is due room num journeys_are says =
+      subst (λ (a : Cursor). LeadsTo n e ask (reply.Moved id x a.pos a.phase) s (outcome s ask (asked_for id why)).state)
+      (sym is) (due_leads x n e due room num journeys_are says)

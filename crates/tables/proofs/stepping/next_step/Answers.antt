@@ -23,4 +23,4 @@ returns-in-Ok-clause-next g c clean s desk keeps who is =
     step_next s desk.legal who c.args.id c.args.journey.now is c.in_ok-fitting.fitting
     (c.in_ok-fitting.ensures.fits (c.last_option.ensures.less clean) s desk keeps) c.decide.result c.decide.ensures.one c.decide.ensures.nothing _
     (subst (λ d. IsSaid s c.args.id d (Ok (Compensation c.in-Undo.step c.in-Ok.option))) (sym c.in-Undo.is)
-    (c.in-Ok.option, (c.in-Ok.ensures.option clean s desk (c.next_fits.ensures.same s keeps), refl)))
+    (c.in-Ok.option, c.in-Ok.ensures.option clean s desk (c.next_fits.ensures.same s keeps), refl))
