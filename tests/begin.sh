@@ -24,7 +24,8 @@ same "the journeys" "1|1|1|0|0|0|0|0 2|2|1|0|0|0|0|0 3|3|1|0|0|0|0|0 4|4|2|9|0|0
 same "the options of the fourth" "1|1|1|0|0|1|1 1|2|1|0|1|30|50 2|1|0|0|3|60|2" \
   "$(rows 'SELECT place, opt, save, taken, kind, nights, places FROM step WHERE journey = 4 ORDER BY place, opt')"
 same "the other tables" "0|0|0|0|0|0" "$(rows 'SELECT (SELECT count(*) FROM stock), (SELECT count(*) FROM batch),
-  (SELECT count(*) FROM entry), (SELECT count(*) FROM entry2), (SELECT count(*) FROM mark), (SELECT count(*) FROM answer)')"
+  (SELECT count(*) FROM entry), (SELECT count(*) FROM entry2), (SELECT count(*) FROM mark),
+  (SELECT count(*) FROM answer)')"
 
 widest=$(repeated 24 "$(repeated 8 F/AL/A1/2030-06-01/1/1 '|')" ';')
 answers "24 steps of 8 options" "begin $widest!0\n" "journey 5 begun"

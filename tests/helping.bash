@@ -1,6 +1,7 @@
 # What the scripts here share. Each works in a folder of its own, which is gone at its end.
 set -u
 : "${DESK:?the program to drive}"
+tests=$(cd "$(dirname "${BASH_SOURCE[0]}")" && pwd)
 work=$(mktemp -d)
 trap 'rm -rf "$work"' EXIT
 cd "$work" || exit 2

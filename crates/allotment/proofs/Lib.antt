@@ -7,3 +7,7 @@ pub mod MakingLemmas
 pub mod RangeLemmas
 pub mod CutLemmas
 pub mod CellLemmas
+pub mod PlainLemmas
+pub mod JoinLemmas
+pub mod LawLemmas
+pub mod OwnTextLemmas

@@ -7,3 +7,4 @@ pub mod Places
 pub mod Rows
 pub mod Short
 pub mod Texts
+pub mod Laws

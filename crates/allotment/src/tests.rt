@@ -1,7 +1,8 @@
-// Values from outside: dates of the calendar, and texts as the formats have them.
-use crate::{
-    Bad, BelowHeld, Cell, Code, Held, Kind, Night, Row, Short, Want, fits, give, set, take,
-};
+//! Texts. Values from outside: dates of the calendar, and texts as the formats have them.
+mod places;
+mod wants;
+
+use crate::{Bad, Cell, Code, Kind, Night, Row, Short, values_have_one_text};
 use std::test::Fail;
 
 // the kind, its number, its letter, its word, how many nights a want of it may have
@@ -129,7 +130,7 @@ fn a_night_is_read_as_it_is_written(rt: HostRuntime) -> Result<(), Fail> {
 }
 
 #[rattlefmt::skip]
-const NO_NIGHTS: [(&str, &str); 20] = [
+const NO_NIGHTS: [(&str, &str); 21] = [
     ("nothing",                     ""),
     ("the day before the first",    "1999-12-31"),
     ("the day after the last",      "2100-01-01"),
@@ -150,6 +151,7 @@ const NO_NIGHTS: [(&str, &str); 20] = [
     ("with other dashes",           "2030/06/01"),
     ("a week's day",                "2030-W22-6"),
     ("two dates",                   "2030-06-01/2030-06-02"),
+    ("with a zero before it",       "02030-06-01"),
 ];
 
 #[test]
@@ -161,80 +163,10 @@ fn another_text_is_no_night(rt: HostRuntime) {
     assert_eq!(rt; Night::from_day(47482), None);
 }
 
-// the parts of a want, and its text
-#[rattlefmt::skip]
-const WANTS: [(Kind, &str, &str, &str, u64, u64, &str); 5] = [
-    (Kind::Flight, "AL",  "A1",  "2030-06-01", 1,  1,  "F/AL/A1/2030-06-01/1/1"),
-    (Kind::Room,   "H",   "R9",  "2030-06-01", 30, 50, "R/H/R9/2030-06-01/30/50"),
-    (Kind::Cover,  "C",   "X",   "2000-01-01", 60, 2,  "C/C/X/2000-01-01/60/2"),
-    (Kind::Room,   "H",   "R",   "2099-12-30", 2,  1,  "R/H/R/2099-12-30/2/1"),
-    (Kind::Transfer, "T", "0",   "2099-12-31", 1,  9,  "T/T/0/2099-12-31/1/9"),
-];
-
-#[test]
-fn a_want_is_written_as_its_parts(rt: HostRuntime) -> Result<(), Fail> {
-    for (kind, supplier, product, first, nights, count, text) in WANTS {
-        let want = Want::new(kind, supplier, product, first, nights, count).expect(&rt, "a want");
-        assert_eq!(rt; want.text(rt.alloc())?.as_str(), text);
-        assert_eq!(rt; want.kind(), kind);
-        assert_eq!(rt; want.supplier().as_str(), supplier);
-        assert_eq!(rt; want.product().as_str(), product);
-        assert_eq!(rt; Night::parse(first), Ok(want.first()));
-        assert_eq!(rt; u64::from(want.nights()), nights);
-        assert_eq!(rt; u64::from(want.count()), count);
-    }
-    Ok(())
-}
-
-// the parts of no want, and the first fault
-#[rattlefmt::skip]
-const NO_WANTS: [(&str, Kind, &str, &str, &str, u64, u64, Bad); 19] = [
-    ("no supplier",           Kind::Flight, "",    "A1",  "2030-06-01", 1,  1,  Bad::Code),
-    ("no product",            Kind::Flight, "AL",  "a1",  "2030-06-01", 1,  1,  Bad::Code),
-    ("code before night",     Kind::Flight, "AL",  "",    "2030-02-29", 1,  1,  Bad::Code),
-    ("code before all",       Kind::Flight, "al",  "",    "2030-02-29", 0,  0,  Bad::Code),
-    ("no night",              Kind::Flight, "AL",  "A1",  "2030-02-29", 1,  1,  Bad::Night),
-    ("night before nights",   Kind::Flight, "AL",  "A1",  "2030-6-1",   2,  1,  Bad::Night),
-    ("night before count",    Kind::Flight, "AL",  "A1",  "",           1,  0,  Bad::Night),
-    ("no nights",             Kind::Room,   "H",   "R",   "2030-06-01", 0,  1,  Bad::Nights),
-    ("two of a flight",       Kind::Flight, "AL",  "A1",  "2030-06-01", 2,  1,  Bad::Nights),
-    ("two of a transfer",     Kind::Transfer, "T", "0",   "2030-06-01", 2,  1,  Bad::Nights),
-    ("31 of a room",          Kind::Room,   "H",   "R",   "2030-06-01", 31, 1,  Bad::Nights),
-    ("61 of a cover",         Kind::Cover,  "C",   "X",   "2030-06-01", 61, 1,  Bad::Nights),
-    ("past the last night",   Kind::Room,   "H",   "R",   "2099-12-31", 2,  1,  Bad::Nights),
-    ("nights before count",   Kind::Room,   "H",   "R",   "2099-12-31", 2,  0,  Bad::Nights),
-    ("very many nights",      Kind::Cover,  "C",   "X",   "2030-06-01", u64::MAX, 1, Bad::Nights),
-    ("no count",              Kind::Room,   "H",   "R",   "2030-06-01", 1,  0,  Bad::Count),
-    ("a count of 51",         Kind::Room,   "H",   "R",   "2030-06-01", 1,  51, Bad::Count),
-    ("a count past a byte",   Kind::Room,   "H",   "R",   "2030-06-01", 1,  257, Bad::Count),
-    ("a very large count",    Kind::Room,   "H",   "R",   "2030-06-01", 1,  u64::MAX, Bad::Count),
-];
-
-#[test]
-fn the_first_fault_of_a_want_is_told(rt: HostRuntime) {
-    for (case, kind, supplier, product, first, nights, count, fault) in NO_WANTS {
-        let told = Want::new(kind, supplier, product, first, nights, count).err();
-        assert_eq!(rt; told, Some(fault), "{case}");
-    }
-}
-
-#[test]
-fn the_cells_of_a_want_rise_by_a_night(rt: HostRuntime) -> Result<(), Fail> {
-    let want = Want::new(Kind::Room, "H", "R", "2030-02-27", 4, 1).expect(&rt, "a want");
-    let mut texts = String::new(rt.alloc());
-    for cell in want.cells() {
-        texts.push_str(cell.text(rt.alloc())?.as_str())?;
-        texts.push_str(" ")?;
-    }
-    let expected = "R/H/R/2030-02-27 R/H/R/2030-02-28 R/H/R/2030-03-01 R/H/R/2030-03-02 ";
-    assert_eq!(rt; texts.as_str(), expected);
-    Ok(())
-}
-
 #[rattlefmt::skip]
 const CELLS: [(&str, &str, bool); 16] = [
     ("a flight",           "F/AL/A1/2030-06-01",        true),
-    ("a room",             "R/H/R/2000-01-01",          true),
+    ("a room",             "R/INN/DBL/2000-01-01",      true),
     ("a transfer",         "T/TAXI/AIRPORT8/2099-12-31", true),
     ("a cover",            "C/0/9/2032-02-29",          true),
     ("nothing",            "",                          false),
@@ -267,93 +199,22 @@ fn a_cell_is_read_as_it_is_written(rt: HostRuntime) -> Result<(), Fail> {
 
 #[test]
 fn a_row_is_its_cell_and_its_places(rt: HostRuntime) -> Result<(), Fail> {
-    let cell = Cell::parse("R/H/R/2030-06-01").expect(&rt, "a cell");
+    let cell = Cell::parse("R/INN/DBL/2030-06-01").expect(&rt, "a cell");
     let full = Row::new(cell, 100_000);
     let none = Row::new(cell, 0);
-    assert_eq!(rt; full.text(rt.alloc())?.as_str(), "R/H/R/2030-06-01/100000");
-    assert_eq!(rt; none.text(rt.alloc())?.as_str(), "R/H/R/2030-06-01/0");
+    assert_eq!(rt;
+        full.text(rt.alloc())?.as_str(),
+        "R/INN/DBL/2030-06-01/100000"
+    );
+    assert_eq!(rt; none.text(rt.alloc())?.as_str(), "R/INN/DBL/2030-06-01/0");
     assert!(rt; full.cell() == cell);
     assert_eq!(rt; full.places(), 100_000);
     assert!(rt; full != none);
     Ok(())
 }
 
-// places allotted and free; how many are asked for; what is free then, or that it is below what is held
-#[rattlefmt::skip]
-const SETS: [(&str, u32, u32, u32, Option<u32>); 7] = [
-    ("a new cell",            0,      0,  10,      Some(10)),
-    ("more places",           10,     4,  12,      Some(6)),
-    ("fewer places",          10,     4,  7,       Some(1)),
-    ("as many as are held",   10,     4,  6,       Some(0)),
-    ("one fewer than held",   10,     4,  5,       None),
-    ("none at all",           10,     10, 0,       Some(0)),
-    ("the most there may be", 100000, 0,  100000,  Some(0)),
-];
-
+// a law does nothing when it runs
 #[test]
-fn places_that_are_held_stay_held(rt: HostRuntime) {
-    for (case, allot, free, places, expected) in SETS {
-        let held = Held { allot, free };
-        let told = set(held, places);
-        match expected {
-            Some(free) => assert_eq!(rt;
-                told,
-                Ok(Held {
-                    allot: places,
-                    free
-                }),
-                "{case}"
-            ),
-            None => assert_eq!(rt; told, Err(BelowHeld), "{case}"),
-        }
-    }
-}
-
-#[test]
-fn what_is_taken_can_be_given_back(rt: HostRuntime) {
-    let held = Held { allot: 10, free: 3 };
-    assert_eq!(rt; held.held(), 7);
-    assert_eq!(rt; take(held, 3), Held { allot: 10, free: 0 });
-    assert_eq!(rt; take(held, 0), held);
-    assert_eq!(rt; give(take(held, 2), 2), held);
-    assert_eq!(rt;
-        give(held, 7),
-        Held {
-            allot: 10,
-            free: 10
-        }
-    );
-}
-
-// the free places of two nights, as many as the want has, from the first on; whether it fits
-#[rattlefmt::skip]
-const FITS: [(&str, &[(u32, u32)], bool); 7] = [
-    ("just enough",             &[(22066, 2), (22067, 2)],               true),
-    ("more, in another order",  &[(22067, 9), (22066, 3)],               true),
-    ("with other nights",       &[(22065, 0), (22066, 2), (22067, 2), (22068, 0)], true),
-    ("the first night is full", &[(22066, 1), (22067, 2)],               false),
-    ("the last night is full",  &[(22066, 2), (22067, 1)],               false),
-    ("the last night is none",  &[(22066, 2)],                           false),
-    ("there is no night",       &[],                                     false),
-];
-
-#[test]
-fn a_want_fits_where_each_night_has_room(rt: HostRuntime) -> Result<(), Fail> {
-    let want = Want::new(Kind::Room, "H", "R", "2030-06-01", 2, 2).expect(&rt, "a want");
-    for (case, free_places, expected) in FITS {
-        let mut rows = Vec::new(rt.alloc());
-        for (day, free) in free_places {
-            if let (Some(night), true) = (Night::from_day(*day), *free <= 10) {
-                rows.push((
-                    night,
-                    Held {
-                        allot: 10,
-                        free: *free,
-                    },
-                ))?;
-            }
-        }
-        assert_eq!(rt; fits(&rows, &want), expected, "{case}");
-    }
-    Ok(())
+fn the_law_of_the_texts_can_be_called() {
+    values_have_one_text();
 }

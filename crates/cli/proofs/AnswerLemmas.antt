@@ -17,10 +17,16 @@ use Rattle.cli.specs.Serving.{served_fault}
 use Rattle.cli.specs.declared.lines.Line.{Line}
 
 -- a line that is not long keeps its text, which is short
-kept_text : (line : Line) (text : List ℕ) → line.is_long ≡ false → Keeps line text → (nat_le (length text) longest_line ≡ true) × (line.kept.items ≡ text)
+kept_text : (line : Line) (text : List ℕ)
+    → line.is_long ≡ false
+    → Keeps line text
+    → (nat_le (length text) longest_line ≡ true) × (line.kept.items ≡ text)
 kept_text line text short kept = go (nat_le (length text) longest_line) refl kept
   where
-    go : (b : Bool) → nat_le (length text) longest_line ≡ b → KeepsWhere b line text → (nat_le (length text) longest_line ≡ true) × (line.kept.items ≡ text)
+    go : (b : Bool)
+        → nat_le (length text) longest_line ≡ b
+        → KeepsWhere b line text
+        → (nat_le (length text) longest_line ≡ true) × (line.kept.items ≡ text)
     go true is where_kept = (is, where_kept.1)
     go false is long = absurd (true≢false (sym long ∙ short))
 
@@ -33,7 +39,10 @@ not_utf8 text other = go (is_utf8 text) refl
     go false is = refl
 
 -- what the text of a line means, the line means
-pub means_as_text : (line : Line) (read text : List ℕ) (meaning : Meaning) → line.is_long ≡ false → read ≡ line.kept.items → IsUtf8 read
+pub means_as_text : (line : Line) (read text : List ℕ) (meaning : Meaning)
+    → line.is_long ≡ false
+    → read ≡ line.kept.items
+    → IsUtf8 read
     → meaning ≡ text_meaning read → Keeps line text → meaning ≡ meaning_in text
 means_as_text line read text meaning short is utf8 means kept =
     let facts = kept_text line text short kept in
@@ -42,7 +51,10 @@ means_as_text line read text meaning short is utf8 means kept =
     rw readable (means ∙ ap text_meaning same)
 
 -- a line that is no text is a bad body
-pub means_no_text : (line : Line) (read text : List ℕ) → line.is_long ≡ false → read ≡ line.kept.items → (IsUtf8 read → ⊥)
+pub means_no_text : (line : Line) (read text : List ℕ)
+    → line.is_long ≡ false
+    → read ≡ line.kept.items
+    → (IsUtf8 read → ⊥)
     → Keeps line text → Err BadBody ≡ meaning_in text
 means_no_text line read text short is other kept =
     let facts = kept_text line text short kept in
@@ -51,8 +63,11 @@ means_no_text line read text short is other kept =
     rw unreadable refl
 
 -- where a command failed, the book stands where it stood, or the store leaves that or what follows
-pub act_failed : (stood stands : State → Type 0) (leaves : State → State → Type 0) (s : State) (request : Request) (fault : Fault)
-    → stood s → KeepsAtMemory {T = Reply} stood stands (Err fault) → LeavesAtStore stood leaves None request (Err fault)
+pub act_failed : (stood stands : State → Type 0) (leaves : State → State → Type 0) (s : State)
+    (request : Request) (fault : Fault)
+    → stood s
+    → KeepsAtMemory {T = Reply} stood stands (Err fault)
+    → LeavesAtStore stood leaves None request (Err fault)
     → AnswersOrder stands leaves s {Z = Global} (Ok request) (Err (served_fault fault))
 act_failed stood stands leaves s request Memory stands_old memory store = inl (memory s stands_old)
 act_failed stood stands leaves s request Store stands_old memory store = store s stands_old

@@ -27,14 +27,18 @@ plain-append (x ∷ xs) ys first second =
     rw (none.0) (plain-append xs ys none.1 second)
 
 -- a line is what stands before the first line feed
-pub lines-front : (text rest : List ℕ) → HasNoLineFeed text → lines (text ++ line_feed ∷ rest) ≡ text ∷ lines rest
+pub lines-front : (text rest : List ℕ)
+    → HasNoLineFeed text
+    → lines (text ++ line_feed ∷ rest) ≡ text ∷ lines rest
 lines-front [] rest plain = refl
 lines-front (x ∷ text) rest plain =
     let none = both_false (is_line_feed x) _ plain in
     rw (none.0) (ap (with_first x) (lines-front text rest none.1))
 
 -- a rest without a line feed is one line
-pub lines-last : (x : ℕ) (text : List ℕ) → HasNoLineFeed (x ∷ text) → lines (x ∷ text) ≡ (x ∷ text) ∷ []
+pub lines-last : (x : ℕ) (text : List ℕ)
+    → HasNoLineFeed (x ∷ text)
+    → lines (x ∷ text) ≡ (x ∷ text) ∷ []
 lines-last x [] plain = rw (both_false (is_line_feed x) _ plain).0 refl
 lines-last x (y ∷ text) plain =
     let none = both_false (is_line_feed x) _ plain in
@@ -60,12 +64,15 @@ no_feed xs none = elim (cases_lt (position_or_len is_line_feed xs) (length xs)) 
 ]
 
 -- a part of a list, by its first place and its end
-window : (xs : List ℕ) (from to : ℕ) → from ≤ to → take (to - from) (drop from xs) ≡ drop from (take to xs)
+window : (xs : List ℕ) (from to : ℕ)
+    → from ≤ to
+    → take (to - from) (drop from xs) ≡ drop from (take to xs)
 window xs from to in_order =
     let whole : from + (to - from) ≡ to = omega arith in
     sym (drop-take from (to - from) xs) ∙ ap (λ n. drop from (take n xs)) whole
 
-module _ (chunk : List ℕ) (from to : ℕ) (waiting : List ℕ) (old new : Line) (in_order : from ≤ to) (view : drop from (take to chunk) ≡ waiting) where
+module _ (chunk : List ℕ) (from to : ℕ) (waiting : List ℕ) (old new : Line) (in_order : from ≤ to)
+    (view : drop from (take to chunk) ≡ waiting) where
   -- the bytes in which a line feed is looked for
   abbrev pub looked_at : List ℕ
   looked_at = take (to - from) (drop from chunk)
@@ -75,7 +82,9 @@ module _ (chunk : List ℕ) (from to : ℕ) (waiting : List ℕ) (old new : Line
   looked_same = window chunk from to in_order ∙ view
 
   -- the front up to a line feed is a piece
-  pub takes_front : (at : ℕ) → position is_line_feed looked_at ≡ Some at → KeepsMore old new (take at looked_at)
+  pub takes_front : (at : ℕ)
+      → position is_line_feed looked_at ≡ Some at
+      → KeepsMore old new (take at looked_at)
       → TakesPiece true waiting (drop (from + (at + 1)) (take to chunk)) old new
   takes_front at found kept =
       let cut = feed_cut looked_at at found in
@@ -99,7 +108,9 @@ module _ (chunk : List ℕ) (from to : ℕ) (waiting : List ℕ) (old new : Line
   }
 
 -- reading more puts what was read in the place of what waited
-goes_on : (u0 u2 : Unanswered) (r0 r1 : Option (List ℕ)) (piece : List ℕ) → u0.waiting ≡ piece → Consumes r0 r1 u2.waiting
+goes_on : (u0 u2 : Unanswered) (r0 r1 : Option (List ℕ)) (piece : List ℕ)
+    → u0.waiting ≡ piece
+    → Consumes r0 r1 u2.waiting
     → Consumes (to_come u0 r0) (to_come u2 r1) piece
 goes_on u0 u2 None r1 piece front read = tt
 goes_on u0 u2 (Some xs) None piece front read = absurd read
@@ -122,8 +133,12 @@ pub begun_none : (start : Option (List ℕ)) (line : Line) → Keeps line [] →
 begun_none start line kept = record { text = []; plain = refl; kept = kept; taken = consumes_none start }
 
 -- one more piece, without a line feed
-pub begun_more : (start : Option (List ℕ)) (u0 u1 u2 : Unanswered) (r0 r1 : Option (List ℕ)) (old new : Line) → IsBegun start (to_come u0 r0) old
-    → TakesPiece false u0.waiting u1.waiting old new → Consumes r0 r1 u2.waiting → IsBegun start (to_come u2 r1) new
+pub begun_more : (start : Option (List ℕ)) (u0 u1 u2 : Unanswered) (r0 r1 : Option (List ℕ))
+    (old new : Line)
+    → IsBegun start (to_come u0 r0) old
+    → TakesPiece false u0.waiting u1.waiting old new
+    → Consumes r0 r1 u2.waiting
+    → IsBegun start (to_come u2 r1) new
 begun_more start u0 u1 u2 r0 r1 old new so_far taken read = record {
   text = so_far.text ++ taken.piece;
   plain = plain-append so_far.text taken.piece so_far.plain taken.plain;
@@ -132,7 +147,9 @@ begun_more start u0 u1 u2 r0 r1 old new so_far taken read = record {
 }
 
 -- up to a line feed, the line is whole
-pub line_found : (start : Option (List ℕ)) (u0 u1 : Unanswered) (r : Option (List ℕ)) (old new : Line) → IsBegun start (to_come u0 r) old
+pub line_found : (start : Option (List ℕ)) (u0 u1 : Unanswered) (r : Option (List ℕ))
+    (old new : Line)
+    → IsBegun start (to_come u0 r) old
     → TakesPiece true u0.waiting u1.waiting old new → TakesLine start (to_come u1 r) true new
 line_found None u0 u1 r old new so_far taken = tt
 line_found (Some input) u0 u1 None old new so_far taken = absurd so_far.taken
@@ -148,14 +165,19 @@ line_found (Some input) u0 u1 (Some left) old new so_far taken =
     )
 
 -- at the end of the input, what was begun is the last line, unless it is empty
-last_line : (text : List ℕ) (line : Line) → HasNoLineFeed text → Keeps line text → LineOf (nat_lt 0 (length text)) text [] line
+last_line : (text : List ℕ) (line : Line)
+    → HasNoLineFeed text
+    → Keeps line text
+    → LineOf (nat_lt 0 (length text)) text [] line
 last_line [] line plain kept = refl
 last_line (x ∷ text) line plain kept =
     let some : nat_lt 0 (length (x ∷ text)) ≡ true = lt-ltb 0 (length (x ∷ text)) (omega arith) in
     subst (λ b. LineOf b (x ∷ text) [] line) (sym some) (x ∷ text, kept, lines-last x text plain)
 
 -- the same, with what is known of the reader
-pub line_ended : (start now : Option (List ℕ)) (line : Line) (found : Bool) (so_far : IsBegun start now line) → IsAtEnd now
+pub line_ended : (start now : Option (List ℕ)) (line : Line) (found : Bool)
+    (so_far : IsBegun start now line)
+    → IsAtEnd now
     → found ≡ nat_lt 0 (length so_far.text) → TakesLine start now found line
 line_ended None now line found so_far end is = tt
 line_ended (Some input) None line found so_far end is = absurd so_far.taken
@@ -164,6 +186,9 @@ line_ended (Some input) (Some left) line found so_far end is =
     rw (whole, end, is) (last_line so_far.text line so_far.plain so_far.kept)
 
 -- nothing is still to come where nothing waits and the reader is at its end
-pub at_end : (u : Unanswered) (left : Option (List ℕ)) → u.waiting ≡ [] → IsAtEnd left → IsAtEnd (to_come u left)
+pub at_end : (u : Unanswered) (left : Option (List ℕ))
+    → u.waiting ≡ []
+    → IsAtEnd left
+    → IsAtEnd (to_come u left)
 at_end u None nothing end = tt
 at_end u (Some left) nothing end = rw (nothing, end) refl

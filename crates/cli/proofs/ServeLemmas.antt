@@ -28,7 +28,8 @@ answers_more s [] line = refl
 answers_more s (l ∷ ls) line = ap (λ texts. (answer_line s l).text ∷ texts) (answers_more (answer_line s l).after ls line)
 
 -- what is written for one more text
-written_more : (texts : List (List ℕ)) (text : List ℕ) → written (texts ++ text ∷ []) ≡ written texts ++ ended text
+written_more : (texts : List (List ℕ)) (text : List ℕ)
+    → written (texts ++ text ∷ []) ≡ written texts ++ ended text
 written_more [] text = append-nil (ended text)
 written_more (t ∷ texts) text = ap (λ rest. ended t ++ rest) (written_more texts text) ∙ sym (append_assoc (ended t) (written texts) (ended text))
 
@@ -45,7 +46,8 @@ ComesAfter None input answered = ⊥
 ComesAfter (Some left) input answered = lines input ≡ answered ++ lines left
 
 -- so many lines were answered, and the others are still to come
-pub record SoFar (x : Scene) (s : State) (input : List ℕ) (left : Option (List ℕ)) (count : ℕ) : Type 0 where
+pub record SoFar (x : Scene) (s : State) (input : List ℕ) (left : Option (List ℕ))
+    (count : ℕ) : Type 0 where
   pub answered : List (List ℕ)
   pub sent : WroteAll x s answered
   pub stands : x.stands (state_after_lines s answered)
@@ -53,12 +55,15 @@ pub record SoFar (x : Scene) (s : State) (input : List ℕ) (left : Option (List
   pub later : ComesAfter left input answered
 
 -- what holds for known bytes, by an equation
-pub for_known : (known : Option (List ℕ)) (So : List ℕ → Type 0) → ((input : List ℕ) → known ≡ Some input → So input) → IfSome known So
+pub for_known : (known : Option (List ℕ)) (So : List ℕ → Type 0)
+    → ((input : List ℕ) → known ≡ Some input → So input)
+    → IfSome known So
 for_known None So each = tt
 for_known (Some input) So each = each input refl
 
 -- at first, nothing was answered
-pub starts : (held : Option (List ℕ)) (stands : State → Type 0) (leaves : State → State → Type 0) (s : State) (input : List ℕ) (u : Unanswered)
+pub starts : (held : Option (List ℕ)) (stands : State → Type 0) (leaves : State → State → Type 0)
+    (s : State) (input : List ℕ) (u : Unanswered)
     (known : Option (List ℕ)) → u.waiting ≡ [] → known ≡ Some input → stands s → SoFar (scene held held stands leaves) s input (to_come u known) 0
 starts held stands leaves s input u known nothing is stood = record {
   answered = [];
@@ -69,7 +74,9 @@ starts held stands leaves s input u known nothing is stood = record {
 }
 
 -- a fault of reading comes between two lines
-pub read_fails : (x : Scene) (s : State) (input : List ℕ) (left : Option (List ℕ)) (count : ℕ) (fault : ServeFault) → SoFar x s input left count
+pub read_fails : (x : Scene) (s : State) (input : List ℕ) (left : Option (List ℕ)) (count : ℕ)
+    (fault : ServeFault)
+    → SoFar x s input left count
     → IsOfReading fault → AnswersSome x s input fault
 read_fails x s input None count fault so_far of = absurd so_far.later
 read_fails x s input (Some left) count Read so_far of = record {
@@ -88,7 +95,9 @@ read_fails x s input (Some left) count Store so_far of = absurd of
 read_fails x s input (Some left) count Write so_far of = absurd of
 
 -- where there is no further line, all were answered
-pub all_answered : (x : Scene) (s : State) (input : List ℕ) (left rest : Option (List ℕ)) (count : ℕ) (line : Line) → SoFar x s input left count
+pub all_answered : (x : Scene) (s : State) (input : List ℕ) (left rest : Option (List ℕ))
+    (count : ℕ) (line : Line)
+    → SoFar x s input left count
     → TakesLine left rest false line → AnswersAll x s input count
 all_answered x s input None rest count line so_far taken = absurd so_far.later
 all_answered x s input (Some left) None count line so_far taken = absurd taken
@@ -101,7 +110,8 @@ all_answered x s input (Some left) (Some rest) count line so_far taken =
     }
 
 -- the next line, with what comes behind it
-record HasNext (rest : Option (List ℕ)) (input : List ℕ) (answered : List (List ℕ)) (line : Line) : Type 0 where
+record HasNext (rest : Option (List ℕ)) (input : List ℕ) (answered : List (List ℕ))
+    (line : Line) : Type 0 where
   pub text : List ℕ
   pub kept : Keeps line text
   pub left : List ℕ
@@ -109,7 +119,8 @@ record HasNext (rest : Option (List ℕ)) (input : List ℕ) (answered : List (L
   pub cut : lines input ≡ answered ++ text ∷ lines left
 
 -- a line that was taken is the next one
-next_of : (x : Scene) (s : State) (input : List ℕ) (left rest : Option (List ℕ)) (count : ℕ) (line : Line) (so_far : SoFar x s input left count)
+next_of : (x : Scene) (s : State) (input : List ℕ) (left rest : Option (List ℕ)) (count : ℕ)
+    (line : Line) (so_far : SoFar x s input left count)
     → TakesLine left rest true line → HasNext rest input so_far.answered line
 next_of x s input None rest count line so_far taken = absurd so_far.later
 next_of x s input (Some left) None count line so_far taken = absurd taken
@@ -122,11 +133,13 @@ next_of x s input (Some left) (Some rest) count line so_far taken = record {
 }
 
 -- one more line was answered, and its answer written
-pub goes_on : (held holds now : Option (List ℕ)) (stands0 stands1 : State → Type 0) (leaves0 leaves1 : State → State → Type 0) (s : State) (input : List ℕ)
+pub goes_on : (held holds now : Option (List ℕ)) (stands0 stands1 : State → Type 0)
+    (leaves0 leaves1 : State → State → Type 0) (s : State) (input : List ℕ)
     (left rest : Option (List ℕ)) (count : ℕ) (line : Line) (answer : String Global)
     → SoFar (scene held holds stands0 leaves0) s input left count → TakesLine left rest true line
     → ((t : State) → stands0 t → (text : List ℕ) → Keeps line text → AnswersLine stands1 leaves1 t {Z = Global} text (Ok answer))
-    → Appends holds now (string_bytes answer) → SoFar (scene held now stands1 leaves1) s input rest (count + 1)
+    → Appends holds now (string_bytes answer)
+    → SoFar (scene held now stands1 leaves1) s input rest (count + 1)
 goes_on held holds now stands0 stands1 leaves0 leaves1 s input left rest count line answer so_far taken told sent =
     let next = next_of (scene held holds stands0 leaves0) s input left rest count line so_far taken in
     let done = so_far.answered in
@@ -143,11 +156,13 @@ goes_on held holds now stands0 stands1 leaves0 leaves1 s input left rest count l
     }
 
 -- the answer was written in part
-pub write_fails : (held holds now : Option (List ℕ)) (stands0 stands1 : State → Type 0) (leaves0 leaves1 : State → State → Type 0) (s : State) (input : List ℕ)
+pub write_fails : (held holds now : Option (List ℕ)) (stands0 stands1 : State → Type 0)
+    (leaves0 leaves1 : State → State → Type 0) (s : State) (input : List ℕ)
     (left rest : Option (List ℕ)) (count : ℕ) (line : Line) (answer : String Global)
     → SoFar (scene held holds stands0 leaves0) s input left count → TakesLine left rest true line
     → ((t : State) → stands0 t → (text : List ℕ) → Keeps line text → AnswersLine stands1 leaves1 t {Z = Global} text (Ok answer))
-    → WroteFront holds now (string_bytes answer) → AnswersSome (scene held now stands1 leaves1) s input Write
+    → WroteFront holds now (string_bytes answer)
+    → AnswersSome (scene held now stands1 leaves1) s input Write
 write_fails held holds now stands0 stands1 leaves0 leaves1 s input left rest count line answer so_far taken told cut =
     let next = next_of (scene held holds stands0 leaves0) s input left rest count line so_far taken in
     let done = so_far.answered in
@@ -163,8 +178,10 @@ write_fails held holds now stands0 stands1 leaves0 leaves1 s input left rest cou
     }
 
 -- what is left where the answer to a line failed
-answer_leaves : (held holds : Option (List ℕ)) (stands : State → Type 0) (leaves : State → State → Type 0) (s : State) (answered : List (List ℕ))
-    (line : List ℕ) (later : List (List ℕ)) (fault : ServeFault) → WroteAll (scene held holds stands leaves) s answered
+answer_leaves : (held holds : Option (List ℕ)) (stands : State → Type 0)
+    (leaves : State → State → Type 0) (s : State) (answered : List (List ℕ))
+    (line : List ℕ) (later : List (List ℕ))
+    (fault : ServeFault) → WroteAll (scene held holds stands leaves) s answered
     → AnswersLine stands leaves (state_after_lines s answered) {Z = Global} line (Err fault)
     → Leaves fault (scene held holds stands leaves) s answered (line ∷ later)
 answer_leaves held holds stands leaves s answered line later Memory sent told = (sent, told)
@@ -173,7 +190,8 @@ answer_leaves held holds stands leaves s answered line later Read sent told = ab
 answer_leaves held holds stands leaves s answered line later Write sent told = absurd told
 
 -- the line was not answered
-pub answer_fails : (held holds : Option (List ℕ)) (stands0 stands1 : State → Type 0) (leaves0 leaves1 : State → State → Type 0) (s : State) (input : List ℕ)
+pub answer_fails : (held holds : Option (List ℕ)) (stands0 stands1 : State → Type 0)
+    (leaves0 leaves1 : State → State → Type 0) (s : State) (input : List ℕ)
     (left rest : Option (List ℕ)) (count : ℕ) (line : Line) (fault : ServeFault)
     → SoFar (scene held holds stands0 leaves0) s input left count → TakesLine left rest true line
     → ((t : State) → stands0 t → (text : List ℕ) → Keeps line text → AnswersLine stands1 leaves1 t {Z = Global} text (Err fault))

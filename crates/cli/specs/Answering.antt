@@ -15,8 +15,7 @@ meaning_of (Do command) = Ok (request_of command)
 meaning_of (Refuse refusal) = Err refusal
 
 module _ (stands : State → Type 0) (leaves : State → State → Type 0) (s : State) where
-  -- the text is this answer, and the book stands where it leads; or a fault came before that or after
-  -- it
+  -- the text is this answer, and the book stands where it leads; or a fault came before or after
   abbrev pub Gives : {Z : Type 0} → Answered → Result (String Z) ServeFault → Type 0
   Gives answer (Ok text) = (string_bytes text ≡ ended answer.text) × stands answer.after
   Gives answer (Err Memory) = stands s ⊎ stands answer.after

@@ -1,8 +1,11 @@
 -- How the program ends, and what it tells.
-use Rattle.std.specs.Prelude.{◌⊎◌, ℕ, List, [], ◌∷◌, codes, decimal, Option}
+use Rattle.std.specs.Prelude.{◌⊎◌, ⊤, ℕ, List, [], ◌∷◌, codes, decimal, Option}
 use Rattle.std.specs.String.{string_bytes}
 use Rattle.std.specs.Io.KnownBytes.{Keeps}
 use Rattle.commands.specs.Texts.{refusal_line, sentence}
+use Rattle.commands.specs.declared.refusals.Refusal.TheVariants as refusal
+use Rattle.tables.specs.declared.faults.OpenFault.{OpenFault}
+use Rattle.tables.specs.declared.faults.OpenFault.TheVariants as opening
 use Rattle.cli.specs.Lines.{ended}
 use Rattle.cli.specs.Serving.{WroteFront}
 use Rattle.cli.specs.declared.ends.End.{End}
@@ -52,12 +55,28 @@ abbrev pub end_of_job : JobFault → End
 end_of_job (job.Usage text) = finish.Usage text
 end_of_job job.Memory = finish.Fault fault.Memory
 
+-- a store that cannot be opened as a desk ends the program: another version is refused
+abbrev pub end_of_open : OpenFault → End
+end_of_open (opening.UnknownSchema version) = finish.Refused (refusal.UnknownSchema version)
+end_of_open opening.Store = finish.Fault fault.OpeningStore
+end_of_open opening.Memory = finish.Fault fault.OpeningMemory
+
 -- the exit status: 0 done, 1 refused or fault, 2 usage
 abbrev pub status_of : End → ℕ
 status_of finish.Done = 0
 status_of (finish.Refused refusal) = 1
 status_of (finish.Fault f) = 1
 status_of (finish.Usage text) = 2
+
+-- a job ends so: it is not the usage that is told
+abbrev pub EndsJob : End → Type 0
+EndsJob (finish.Usage text) = ⊥
+EndsJob _ = ⊤
+
+-- where all was done, this holds
+abbrev pub IfDone : End → Type 0 → Type 0
+IfDone finish.Done So = So
+IfDone _ So = ⊤
 
 -- what is told on standard output: a refusal alone
 abbrev pub told_out : End → List ℕ

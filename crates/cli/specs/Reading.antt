@@ -1,5 +1,5 @@
 -- What of the input is still to come, and what a line keeps of it.
-use Rattle.std.specs.Prelude.{◌≡◌, ⊤, ℕ, ◌==◌, Bool, true, false, List, [], ◌∷◌, ◌++◌, length, nat_le, Option, Some, None, option_map}
+use Rattle.std.specs.Prelude.{◌≡◌, ⊤, ℕ, ◌==◌, Bool, true, false, List, [], ◌∷◌, ◌++◌, length, nat_le, nat_lt, Option, Some, None, option_map}
 use Rattle.std.specs.List.{list_any}
 use Rattle.allotment.specs.Texts.{line_feed}
 use Rattle.cli.specs.Lines.{lines, longest_line}
@@ -20,6 +20,10 @@ KeepsWhere false line text = line.is_long ≡ true
 -- the line keeps this text, or where it is too long only that it is
 abbrev pub Keeps : Line → List ℕ → Type 0
 Keeps line text = KeepsWhere (nat_le (length text) longest_line) line text
+
+-- the answer says whether the text that the line keeps has a byte
+abbrev pub SaysIfAny : Line → Bool → Type 0
+SaysIfAny line answer = (text : List ℕ) → Keeps line text → answer ≡ nat_lt 0 (length text)
 
 -- the text that a line keeps grew by this piece
 abbrev pub KeepsMore : Line → Line → List ℕ → Type 0

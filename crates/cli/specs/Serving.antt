@@ -13,8 +13,7 @@ abbrev pub served_fault : Fault → ServeFault
 served_fault fault.Memory = Memory
 served_fault fault.Store = Store
 
--- what a writer held and holds, for which states a book stands, and for which two of them a stop may
--- leave it
+-- what a writer held and holds, for which states a book stands, and what a stop may leave of it
 pub record Scene : Type 1 where
   pub held : Option (List ℕ)
   pub holds : Option (List ℕ)

@@ -1,6 +1,6 @@
 //! One line of the input.
-ghost use Rattle.std.specs.Prelude.{◌≡◌, ℕ, [], List, OnOk, length, nat_lt};
-ghost use Rattle.cli.specs.Reading.{Keeps, KeepsMore};
+ghost use Rattle.std.specs.Prelude.{[], OnOk};
+ghost use Rattle.cli.specs.Reading.{Keeps, KeepsMore, SaysIfAny};
 
 use std::alloc::{AllocError, Global};
 
@@ -36,7 +36,7 @@ impl Line {
 
     /// Whether the line has a byte.
     pub(crate) fn has_bytes(&self) -> bool
-        ensures { (text : List ℕ) → Keeps self.now text → result ≡ (nat_lt 0 (length text)) }
+        ensures { SaysIfAny self.now result }
     {
         self.is_long || !self.kept.is_empty()
     }

@@ -1,5 +1,7 @@
 //! What the program does: each job over its file, from the opening to an orderly end.
-ghost use Rattle.std.specs.Prelude.{◌≤◌};
+ghost use Rattle.std.specs.Prelude.{◌≡◌, ◌≢◌, ◌≤◌, ◌↔◌};
+ghost use Rattle.std.specs.Io.KnownBytes.{IsAtEnd, Keeps};
+ghost use Rattle.cli.specs.Ends.{end_of_open, EndsJob, IfDone, TellsNoneOrFault};
 
 use crate::ends::{End, ProgramFault};
 use crate::jobs::Job;
@@ -10,7 +12,9 @@ use std::alloc::Global;
 use std::io::{Read, Write};
 use tables::{OpenFault, open_from};
 
-/// Does a job, tells how it ended, and gives the exit status: 0 done, 1 refused or fault, 2 usage.
+/// Does a job, tells how it ended, and gives the exit status: 0 done, 1 refused or fault.
+///
+/// A fault is told on standard error, and nothing else is.
 pub fn perform<R: Read, O: Write, E: Write>(
     rt: &HostRuntime,
     alloc: Global,
@@ -19,7 +23,11 @@ pub fn perform<R: Read, O: Write, E: Write>(
     out: &mut O,
     err: &mut E,
 ) -> u8
-    ensures status { result ≤ 2 }
+    ensures status { result ≤ 1 }
+    ensures read { result ≡ 0 → IsAtEnd (R.remaining reader.new) }
+
+    ensures quiet { result ≡ 0 → Keeps (E.contents err.old) (E.contents err.new) }
+    ensures err { TellsNoneOrFault (E.contents err.old) (E.contents err.new) }
 {
     let Job::Run { file } = job;
     let end = run_file(rt, alloc, file.as_str(), reader, out);
@@ -33,7 +41,10 @@ fn run_file<R: Read, O: Write>(
     file: &str,
     reader: &mut R,
     out: &mut O,
-) -> End {
+) -> End
+    ensures job { EndsJob result }
+    ensures read { IfDone result (IsAtEnd (R.remaining reader.new)) }
+{
     let conn = match Connection::open(rt, file) {
         Ok(conn) => conn,
         Err(error) => return End::Fault(opening_fault(&error)),
@@ -59,7 +70,11 @@ fn run_file<R: Read, O: Write>(
 }
 
 /// Why a file that is there cannot be opened, or one that is absent cannot be made.
-fn opening_fault(error: &Error) -> ProgramFault {
+fn opening_fault(error: &Error) -> ProgramFault
+    ensures memory { (result ≡ ProgramFault.OpeningMemory) ↔
+        (error.now ≡ Error.SqliteFailure ErrorCode.OutOfMemory) }
+    ensures store { result ≢ ProgramFault.OpeningMemory → result ≡ ProgramFault.OpeningStore }
+{
     match error {
         Error::SqliteFailure(ErrorCode::OutOfMemory) => ProgramFault::OpeningMemory,
         _ => ProgramFault::OpeningStore,
@@ -67,7 +82,9 @@ fn opening_fault(error: &Error) -> ProgramFault {
 }
 
 /// How the program ends where a store could not be opened as a desk.
-fn end_of_opening(fault: OpenFault) -> End {
+fn end_of_opening(fault: OpenFault) -> End
+    ensures end { result ≡ end_of_open fault }
+{
     match fault {
         OpenFault::UnknownSchema(version) => End::Refused(Refusal::UnknownSchema { version }),
         OpenFault::Store => End::Fault(ProgramFault::OpeningStore),

@@ -1,5 +1,6 @@
 //! Runs over the lines of a reader.
-ghost use Rattle.std.specs.Prelude.{◌≡◌, IfOk, IfErr, IfSome, IsErrOf, IsTrue};
+ghost use Rattle.std.specs.Prelude.{◌≡◌, IfOk, IfErr, IfSome, IsErrOf, IsTrue, OnOk};
+ghost use Rattle.std.specs.Io.KnownBytes.{IsAtEnd};
 ghost use Rattle.ledger.specs.Answer.{State};
 ghost use Rattle.saga_core.specs.Books.{LeavesNoMore};
 ghost use Rattle.cli.specs.Serving.{AnswersAll, AnswersSome, scene};
@@ -26,6 +27,7 @@ pub fn run_lines<R: Read, W: Write, B: Book>(
         IfSome (R.remaining reader.old) (λ input. IfOk result (AnswersAll
         (scene (W.contents writer.old) (W.contents writer.new)
         (B.stands book.new) (B.leaves book.new)) s input)) }
+    ensures read { OnOk result (IsAtEnd (R.remaining reader.new)) }
 
     ensures some { B.is_sound book.new → (s : State) → B.stands book.old s →
         IfSome (R.remaining reader.old) (λ input. IfErr result (AnswersSome

@@ -1,3 +1,5 @@
 //! What no clause says: texts, values from outside, and what failing readers and writers do.
 mod ends;
 mod jobs;
+mod runs;
+mod streams;

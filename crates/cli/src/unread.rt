@@ -58,6 +58,7 @@ impl Unread {
         ensures line { IfOk result (λ found. TakesLine
             (to_come self.old (R.remaining reader.old))
             (to_come self.new (R.remaining reader.new)) found line.new) }
+        ensures end { IfOk result (λ found. found ≡ false → IsAtEnd (R.remaining reader.new)) }
 
         ensures fault { IfErr result IsOfReading }
     {

@@ -68,27 +68,32 @@ module _ {S : Type 0} (g : Ghosts S) (old new : Held S) where
   -- texts that make tables: on these tables, empty, a success leaves those, empty
   abbrev pub BuildsOn : Schema → {V : Type 0} → Result V Error → Schema → Type 0
   BuildsOn before result after =
-      HasCleanDisk (state g new) → MayBuild before (state g old) → OnOk result (Builds (state g old) (state g new) after)
+      HasCleanDisk (state g new) → MayBuild before (state g old)
+      → OnOk result (Builds (state g old) (state g new) after)
 
   -- on a store without tables a success leaves all tables, with these rows
   abbrev pub Founds : {V : Type 0} → Result V Error → Tables → Type 0
   Founds result rows =
-      HasCleanDisk (state g new) → MayBuild no_schema (state g old) → OnOk result (Makes (state g old) (state g new) rows)
+      HasCleanDisk (state g new) → MayBuild no_schema (state g old)
+      → OnOk result (Makes (state g old) (state g new) rows)
 
   -- after a success the transaction goes on
   abbrev pub StaysInside : {V : Type 0} → Result V Error → Type 0
   StaysInside result =
-      HasCleanDisk (state g new) → IsTrue (state g old).in_transaction → OnOk result (IsTrue (state g new).in_transaction)
+      HasCleanDisk (state g new) → IsTrue (state g old).in_transaction
+      → OnOk result (IsTrue (state g new).in_transaction)
 
   -- a success tells that the connection was open
   abbrev pub WasOpen : {V : Type 0} → Result V Error → Type 0
   WasOpen result =
-      HasCleanDisk (state g new) → IsTrue (state g old).in_transaction → OnOk result (IsTrue (state g old).is_open)
+      HasCleanDisk (state g new) → IsTrue (state g old).in_transaction
+      → OnOk result (IsTrue (state g old).is_open)
 
   -- a call in a transaction commits nothing
   abbrev pub CommitsNothing : Type 0
   CommitsNothing =
-      HasCleanDisk (state g new) → IsTrue (state g old).in_transaction → KeepsCommit (state g old) (state g new)
+      HasCleanDisk (state g new) → IsTrue (state g old).in_transaction
+      → KeepsCommit (state g old) (state g new)
 
   -- what a stop may leave does not grow
   abbrev pub LeavesNoMore : Type 0
@@ -104,4 +109,5 @@ module _ {S : Type 0} (g : Ghosts S) (old new : Held S) where
   abbrev pub FailsQuietly : {V : Type 0} → Result V Error → Type 0
   FailsQuietly result =
       HasCleanDisk (state g new)
-      → IfErr result (λ _. IsUnchanged (state g old) (state g new) ⊎ IsRolledBack (state g old) (state g new))
+      → IfErr result
+      (λ _. IsUnchanged (state g old) (state g new) ⊎ IsRolledBack (state g old) (state g new))

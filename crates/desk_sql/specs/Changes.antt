@@ -84,7 +84,9 @@ IsSmallCursor c = AllByRecursion (λ n. n < 2 ^ 63) (c.pos ∷ c.phase ∷ c.tar
 
 -- the journey, with this cursor
 abbrev pub with_cursor : Cursor → JourneyRow → JourneyRow
-with_cursor c j = record j { cursor = record { pos = c.pos; phase = c.phase; target = c.target; used = c.used } }
+with_cursor c j = record j {
+  cursor = record { pos = c.pos; phase = c.phase; target = c.target; used = c.used };
+}
 
 -- the journey with the number stands at this cursor
 abbrev pub moves_journey : ℕ → Cursor → Tables → Tables
@@ -100,7 +102,9 @@ with_taken taken s = record s { taken = taken }
 
 -- the option is marked as taken, or as not taken
 abbrev pub marks_step : ℕ → ℕ → ℕ → ℕ → Tables → Tables
-marks_step journey place opt taken t = record t { step = changed (is_option journey place opt) (with_taken taken) t.step }
+marks_step journey place opt taken t = record t {
+  step = changed (is_option journey place opt) (with_taken taken) t.step;
+}
 
 -- the numbers of the item fit the store's integers
 abbrev pub IsSmallItem : ItemFound → Type 0

@@ -60,7 +60,12 @@ journey_of j = record {
   agent = string_bytes j.agent;
   steps = j.steps;
   tries = j.tries;
-  cursor = record { pos = j.cursor.pos; phase = j.cursor.phase; target = j.cursor.target; used = j.cursor.used };
+  cursor = record {
+    pos = j.cursor.pos;
+    phase = j.cursor.phase;
+    target = j.cursor.target;
+    used = j.cursor.used;
+  };
 }
 
 -- the journey has this number
@@ -78,7 +83,8 @@ is_unfinished_after after j = nat_lt after j.id && nat_le j.cursor.phase 1
 -- the first unfinished journey above a number, or nothing where all there have ended
 abbrev pub FindsUnfinished : ℕ → Tables → Option JourneyFound → Type 0
 FindsUnfinished after t found =
-    IsLeastOf (λ (j : JourneyRow). j.id) (filter (is_unfinished_after after) t.journey) (option_map journey_of found)
+    IsLeastOf (λ (j : JourneyRow). j.id) (filter (is_unfinished_after after) t.journey)
+    (option_map journey_of found)
 
 -- a query shows the cursor of a journey in this order, and all of it
 abbrev pub shows_cursor : Cursor → Row
@@ -89,7 +95,8 @@ cursor_of r = column r 5 ∷ column r 6 ∷ column r 7 ∷ column r 8 ∷ []
 
 abbrev pub shows_journey : JourneyFound → Row
 shows_journey j =
-    whole j.id ∷ whole j.num ∷ Text (string_bytes j.agent) ∷ whole j.steps ∷ whole j.tries ∷ shows_cursor j.cursor
+    whole j.id ∷ whole j.num ∷ Text (string_bytes j.agent) ∷ whole j.steps ∷ whole j.tries
+    ∷ shows_cursor j.cursor
 
 abbrev pub nine_of : Row → Row
 nine_of r = column r 0 ∷ column r 1 ∷ column r 2 ∷ column r 3 ∷ column r 4 ∷ cursor_of r
@@ -120,18 +127,19 @@ IsByPlace a b = (a.place < b.place) ⊎ ((a.place ≡ b.place) × (a.opt ≤ b.o
 
 -- the options of the journey, by step and option
 abbrev pub FindsSteps : ℕ → Tables → List StepFound → Type 0
-FindsSteps journey t found = IsListed IsByPlace (filter (is_step_of journey) t.step) (map (step_of journey) found)
+FindsSteps journey t found =
+    IsListed IsByPlace (filter (is_step_of journey) t.step) (map (step_of journey) found)
 
 -- a query shows an option in this order
 abbrev pub shows_step : StepFound → Row
 shows_step s =
-    whole s.place ∷ whole s.opt ∷ whole s.save ∷ whole s.taken ∷ whole s.kind ∷ Text (string_bytes s.supplier)
-    ∷ Text (string_bytes s.product) ∷ whole s.night ∷ whole s.nights ∷ whole s.places ∷ []
+    whole s.place ∷ whole s.opt ∷ whole s.save ∷ whole s.taken ∷ whole s.kind
+    ∷ Text (string_bytes s.supplier) ∷ Text (string_bytes s.product) ∷ whole s.night ∷ whole s.nights ∷ whole s.places ∷ []
 
 abbrev pub ten_of : Row → Row
 ten_of r =
-    column r 0 ∷ column r 1 ∷ column r 2 ∷ column r 3 ∷ column r 4 ∷ column r 5 ∷ column r 6 ∷ column r 7 ∷ column r 8
-    ∷ column r 9 ∷ []
+    column r 0 ∷ column r 1 ∷ column r 2 ∷ column r 3 ∷ column r 4
+    ∷ column r 5 ∷ column r 6 ∷ column r 7 ∷ column r 8 ∷ column r 9 ∷ []
 
 -- the row of an item that was found
 abbrev pub item_of : ℕ → ItemFound → EntryRow
@@ -166,7 +174,8 @@ IsByPosition a b = a.pos ≤ b.pos
 
 -- the positions of the save-points of the journey, the lowest first
 abbrev pub FindsMarks : ℕ → Tables → List ℕ → Type 0
-FindsMarks journey t found = IsListed IsByPosition (filter (is_mark_of journey) t.mark) (map (mark_at_pos journey) found)
+FindsMarks journey t found =
+    IsListed IsByPosition (filter (is_mark_of journey) t.mark) (map (mark_at_pos journey) found)
 
 -- the row of a batch that was found
 abbrev pub batch_of : List ℕ → BatchFound → BatchRow
@@ -178,7 +187,8 @@ is_named name b = bytes_eq b.name name
 
 -- the batch with the name, or nothing where none has it
 abbrev pub FindsBatch : List ℕ → Tables → Option BatchFound → Type 0
-FindsBatch name t found = IsOneOf (filter (is_named name) t.batch) (option_map (batch_of name) found)
+FindsBatch name t found =
+    IsOneOf (filter (is_named name) t.batch) (option_map (batch_of name) found)
 
 -- a query shows a batch in this order
 abbrev pub shows_batch : BatchFound → Row

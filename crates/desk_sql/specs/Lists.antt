@@ -1,4 +1,4 @@
--- Rows of a table as a list of values: under rowids that are free, or under numbers of the values' own.
+-- Rows of a table as a list of values: under rowids that are free, or under the values' own numbers.
 use Rattle.std.specs.Prelude.{◌≡◌, ◌<◌, ◌≤◌, ◌<ℤ◌, ℕ, ℤ, Bool, if◌then◌else◌, List, [], ◌∷◌, map, Option, Some, None}
 use Rattle.std.specs.List.Sorted.{IsPermutation}
 use Rattle.sqlite.specs.declared.types.Value.TheVariants.{Int}
@@ -11,14 +11,17 @@ abbrev pub numbered_row : {X : Type 0} → (X → Row) → ℤ × X → Row
 numbered_row columns p = Int p.0 ∷ columns p.1
 
 -- the rows are those of the values, in their order, under some rowids, which rise
-pub record IsTableOf {X : Type 0} (columns : X → Row) (rows : List Row) (values : List X) : Type 0 where
+pub record IsTableOf {X : Type 0} (columns : X → Row) (rows : List Row) (values : List X)
+    : Type 0 where
   pub numbered : List (ℤ × X)
   pub values_are : values ≡ map (λ (p : ℤ × X). p.1) numbered
   pub rows_are : rows ≡ map (numbered_row columns) numbered
   pub rise : IsAscending (λ (p q : ℤ × X). p.0 <ℤ q.0) numbered
 
--- the rows are those of the values, in their order, and their rowids are the values' own numbers, which rise
-pub record IsNumbered {X : Type 0} (number : X → ℕ) (row_of : X → Row) (rows : List Row) (values : List X) : Type 0 where
+-- the rows are those of the values, in their order, and their rowids are the values' own numbers,
+-- which rise
+pub record IsNumbered {X : Type 0} (number : X → ℕ) (row_of : X → Row) (rows : List Row)
+    (values : List X) : Type 0 where
   pub rows_are : rows ≡ map row_of values
   pub rise : IsAscending (λ (x y : X). number x < number y) values
 

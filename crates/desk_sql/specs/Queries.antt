@@ -31,7 +31,8 @@ one_row None = Err QueryReturnedNoRows
 
 -- the query gave this row, or none, and nothing has changed
 abbrev pub GivesRow : List ℕ → Row → State → State → Option Row → Type 0
-GivesRow text params old new found = IsUnchanged old new × QueriesRow text params old new (one_row found)
+GivesRow text params old new found =
+    IsUnchanged old new × QueriesRow text params old new (one_row found)
 
 -- the query gave these rows, and nothing has changed
 abbrev pub GivesRows : List ℕ → Row → State → State → List Row → Type 0

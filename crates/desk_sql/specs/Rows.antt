@@ -32,7 +32,8 @@ pub record StockRow : Type 0 where
 -- the columns of a row of stock
 abbrev pub stock_columns : StockRow → Row
 stock_columns s =
-    whole s.kind ∷ Text s.supplier ∷ Text s.product ∷ whole s.night ∷ whole s.allot ∷ whole s.free ∷ []
+    whole s.kind ∷ Text s.supplier ∷ Text s.product ∷ whole s.night ∷ whole s.allot ∷ whole s.free
+    ∷ []
 
 -- a batch that was loaded: its name, the number of its event, and its text
 pub record BatchRow : Type 0 where
@@ -44,14 +45,15 @@ pub record BatchRow : Type 0 where
 abbrev pub batch_columns : BatchRow → Row
 batch_columns b = Text b.name ∷ whole b.num ∷ Blob b.content ∷ []
 
--- where a journey stands: its position and phase, the target of its turn, and how many tries it used
+-- where a journey stands: its position and phase, the target of its turn, the tries that it used
 pub record CursorRow : Type 0 where
   pub pos : ℕ
   pub phase : ℕ
   pub target : ℕ
   pub used : ℕ
 
--- a journey: its number and that of its event, its agent, how many steps and tries its plan has, its cursor
+-- a journey: its number and that of its event, its agent, how many steps and tries its plan has,
+-- its cursor
 pub record JourneyRow : Type 0 where
   pub id : ℕ
   pub num : ℕ
@@ -63,11 +65,11 @@ pub record JourneyRow : Type 0 where
 -- the row of a journey, whose rowid is its number
 abbrev pub journey_row : JourneyRow → Row
 journey_row j =
-    whole j.id ∷ Null ∷ whole j.num ∷ Text j.agent ∷ whole j.steps ∷ whole j.tries ∷ whole j.cursor.pos
-    ∷ whole j.cursor.phase ∷ whole j.cursor.target ∷ whole j.cursor.used ∷ []
+    whole j.id ∷ Null ∷ whole j.num ∷ Text j.agent ∷ whole j.steps ∷ whole j.tries
+    ∷ whole j.cursor.pos ∷ whole j.cursor.phase ∷ whole j.cursor.target ∷ whole j.cursor.used ∷ []
 
--- an option of a step: the journey, the step's number, the option's, the marks of a save-point and of a taken
--- option, and the want
+-- an option of a step: the journey, the step's number, the option's, the marks of a save-point and
+-- of a taken option, and the want
 pub record StepRow : Type 0 where
   pub journey : ℕ
   pub place : ℕ
@@ -84,8 +86,8 @@ pub record StepRow : Type 0 where
 -- the columns of a row of step
 abbrev pub step_columns : StepRow → Row
 step_columns s =
-    whole s.journey ∷ whole s.place ∷ whole s.opt ∷ whole s.save ∷ whole s.taken ∷ whole s.kind ∷ Text s.supplier
-    ∷ Text s.product ∷ whole s.night ∷ whole s.nights ∷ whole s.places ∷ []
+    whole s.journey ∷ whole s.place ∷ whole s.opt ∷ whole s.save ∷ whole s.taken ∷ whole s.kind
+    ∷ Text s.supplier ∷ Text s.product ∷ whole s.night ∷ whole s.nights ∷ whole s.places ∷ []
 
 -- an item of a journey, with the number of its event: what it is, and its two numbers
 pub record EntryRow : Type 0 where

@@ -98,7 +98,8 @@ meta_at tree = record (numbered (table_with (codes "meta") tree (
 abbrev pub stock_at : ℕ → Table
 stock_at tree = record (keyed_by (1 ∷ 2 ∷ 3 ∷ 4 ∷ []) (table_with (codes "stock") tree (
     filled Integer (codes "kind") ∷ filled Text (codes "supplier") ∷ filled Text (codes "product")
-    ∷ filled Integer (codes "night") ∷ filled Integer (codes "allot") ∷ filled Integer (codes "free") ∷ [])))
+    ∷ filled Integer (codes "night") ∷ filled Integer (codes "allot")
+    ∷ filled Integer (codes "free") ∷ [])))
     { checks = between 1 0 3 ∷ op2 And (at_least 6 (number 0)) (at_most 6 (col 1 5)) ∷ [] }
 
 -- the batches that were loaded
@@ -112,7 +113,8 @@ abbrev pub journey_at : ℕ → Table
 journey_at tree = record (numbered (table_with (codes "journey") tree (
     rowid_column (codes "id") ∷ filled Integer (codes "num") ∷ filled Text (codes "agent")
     ∷ filled Integer (codes "steps") ∷ filled Integer (codes "tries") ∷ filled Integer (codes "pos")
-    ∷ filled Integer (codes "phase") ∷ filled Integer (codes "target") ∷ filled Integer (codes "used") ∷ [])))
+    ∷ filled Integer (codes "phase") ∷ filled Integer (codes "target")
+    ∷ filled Integer (codes "used") ∷ [])))
     { uniques = (2 ∷ []) ∷ []; orders = plain_order ∷ []; checks = between 7 0 3 ∷ [] }
 
 -- the options of each step of each plan

@@ -75,7 +75,8 @@ FindsStock t found = IsListed IsByCell t.stock (map stock_of found)
 -- a query shows a cell in this order
 abbrev pub shows_cell : CellFound → Row
 shows_cell c =
-    whole c.kind ∷ Text (string_bytes c.supplier) ∷ Text (string_bytes c.product) ∷ whole c.night ∷ whole c.allot ∷ whole c.free ∷ []
+    whole c.kind ∷ Text (string_bytes c.supplier) ∷ Text (string_bytes c.product) ∷ whole c.night
+    ∷ whole c.allot ∷ whole c.free ∷ []
 
 -- a cell of the range, with so many free places fewer, or more
 abbrev pub with_fewer : ℕ → StockRow → StockRow
@@ -84,14 +85,16 @@ with_fewer count s = record s { free = s.free - count }
 abbrev pub with_more : ℕ → StockRow → StockRow
 with_more count s = record s { free = s.free + count }
 
--- each night of the range has so many free places, and none has more than the store's integers reach
+-- each night of the range has so many free places, and none more than the store's integers reach
 abbrev pub HaveFree : NightRange → ℕ → Tables → Type 0
 HaveFree r count t =
-    AllByRecursion (λ (s : StockRow). is_within r s ≡ true → (count ≤ s.free) × (s.free < 2 ^ 63)) t.stock
+    AllByRecursion
+    (λ (s : StockRow). is_within r s ≡ true → (count ≤ s.free) × (s.free < 2 ^ 63)) t.stock
 
 -- each night of the range has room for so many free places more
 abbrev pub HaveRoom : NightRange → ℕ → Tables → Type 0
-HaveRoom r count t = AllByRecursion (λ (s : StockRow). is_within r s ≡ true → s.free + count < 2 ^ 63) t.stock
+HaveRoom r count t =
+    AllByRecursion (λ (s : StockRow). is_within r s ≡ true → s.free + count < 2 ^ 63) t.stock
 
 -- so many places of each night of the range are taken, or given back
 abbrev pub takes_nights : NightRange → ℕ → Tables → Tables
@@ -118,7 +121,8 @@ placed c = record {
 -- the rows are of one cell
 abbrev pub is_cell : StockRow → StockRow → Bool
 is_cell a b =
-    (b.kind == a.kind) && (bytes_eq b.supplier a.supplier && (bytes_eq b.product a.product && (b.night == a.night)))
+    (b.kind == a.kind)
+    && (bytes_eq b.supplier a.supplier && (bytes_eq b.product a.product && (b.night == a.night)))
 
 -- each cell has one row at most
 abbrev pub AreApart : Tables → Type 0
@@ -130,7 +134,9 @@ with_places s x = record x { allot = s.allot; free = s.free }
 
 -- the cell gets these places: in its own row, or in a new one, the last
 abbrev pub put : StockRow → List StockRow → List StockRow
-put s cells = if list_any (is_cell s) cells then changed (is_cell s) (with_places s) cells else cells ++ s ∷ []
+put s cells =
+    if list_any (is_cell s) cells then changed (is_cell s) (with_places s) cells
+    else cells ++ s ∷ []
 
 -- the same, of all rows
 abbrev pub puts_cell : StockRow → Tables → Tables

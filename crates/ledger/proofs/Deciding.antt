@@ -22,7 +22,7 @@ use Rattle.ledger.proofs.Modes.{Goes, going_back-falls}
 -- Phases.
 
 -- no phase both runs and goes back
-run_or_back : {X : Type 0} (p : Phase) → is_running p ≡ true → is_going_back p ≡ true → X
+pub run_or_back : {X : Type 0} (p : Phase) → is_running p ≡ true → is_going_back p ≡ true → X
 run_or_back Run run back = cc
 run_or_back (Back q) run back = cc
 run_or_back Ended run back = cc

@@ -35,7 +35,7 @@ pub going_to-save : (h : List Item) (p : ℕ) → going_to (h ++ Save p ∷ []) 
 going_to-save h p = ap latest_turn (reverse-append h (Save p ∷ []))
 
 -- a journey has turned to its start if it had, or if the new item says so
-turned-more : (h : List Item) (x : Item)
+pub turned-more : (h : List Item) (x : Item)
     → has_turned_to_start (h ++ x ∷ []) ≡ (has_turned_to_start h || is_turn_to 0 x)
 turned-more h x =
     list_any-append (is_turn_to 0) h (x ∷ [])

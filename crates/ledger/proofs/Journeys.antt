@@ -14,6 +14,7 @@ use Rattle.ledger.specs.Word.{begins}
 use Rattle.ledger.proofs.Coming.{step-comes, compensation-comes, stop-comes, refused-comes, save-comes}
 use Rattle.ledger.proofs.Falling.{falling-turn, falling-compensation}
 use Rattle.ledger.proofs.Modes.{Mode, rises, falls, fell, Goes, upward, runs, ended, phase-falling, phase-fallen, running-rises, going_back-falls}
+use Rattle.ledger.proofs.Refusing.{HasTries, has_tries-other, has_tries-refused}
 use Rattle.ledger.proofs.Rising.{rising-transaction, rising-save, rising-turn}
 use Rattle.ledger.proofs.Standing.{compensates, standing-transaction, standing-turn, standing-save}
 use Rattle.ledger.proofs.Targets.{last_save-target, refused-target, asked-target}
@@ -21,19 +22,24 @@ use Rattle.ledger.proofs.Targets.{last_save-target, refused-target, asked-target
 -- a running journey that turns to the start or a save-point goes on along its word
 turns : (plan : Planned) (h : List Item) (p : ℕ) (cause : Cause) → Goes plan h
     → is_running (phase plan h) ≡ true → (p ≡ 0) ⊎ IsTrue (is_save_point plan h p)
-    → Goes plan (h ++ Turn p cause ∷ [])
-turns plan h p cause g run kept =
+    → HasTries plan (h ++ Turn p cause ∷ []) → Goes plan (h ++ Turn p cause ∷ [])
+turns plan h p cause g run kept tries =
     let up = running-rises plan h g.mode run in
     record {
       stands = standing-turn h p cause g.stands;
       mode = rising-turn plan h p cause up.0 up.1 kept;
+      tries = tries;
     }
 
 -- one who asks turns a running journey as a stop does, and one that goes back further down
 asked : (plan : Planned) (h : List Item) (p : ℕ) → Goes plan h
     → may_turn plan h (phase plan h) p ≡ true → Goes plan (h ++ Turn p Asked ∷ [])
 asked plan h p g may =
-    record { stands = standing-turn h p Asked g.stands; mode = by_mode g.mode }
+    record {
+      stands = standing-turn h p Asked g.stands;
+      mode = by_mode g.mode;
+      tries = has_tries-other plan h (Turn p Asked) refl g.tries;
+    }
   where
     at : (q : Phase) → phase plan h ≡ q → may_turn plan h q p ≡ true
     at q e = ap (λ r. may_turn plan h r p) (sym e) ∙ may
@@ -61,6 +67,7 @@ goes-more plan h fits (Transaction i c) g may =
     record {
       stands = standing-transaction h i c comes.step g.stands;
       mode = rises (rising-transaction plan h i c up.0 up.1 comes.step);
+      tries = has_tries-other plan h (Transaction i c) refl g.tries;
     }
 goes-more plan h fits (Compensation i c) g may =
     let comes = compensation-comes plan h fits i c may in
@@ -68,18 +75,25 @@ goes-more plan h fits (Compensation i c) g may =
     record {
       stands = k.stands;
       mode = falling-compensation plan h i c (going_back-falls plan h g.mode comes.back) k;
+      tries = has_tries-other plan h (Compensation i c) refl g.tries;
     }
 goes-more plan h fits (Turn p Stop) g may =
     let comes = stop-comes plan h fits p may in
     turns plan h p Stop g comes.0 (last_save-target plan (is_taken h) (position_of h) p comes.1)
+    (has_tries-other plan h (Turn p Stop) refl g.tries)
 goes-more plan h fits (Turn p Refused) g may =
     let comes = refused-comes plan h fits p may in
     turns plan h p Refused g comes.running
     (refused-target plan (is_taken h) (position_of h) (refusals h) p comes.target)
+    (has_tries-refused plan h p comes.target g.tries)
 goes-more plan h fits (Turn p Asked) g may = asked plan h p g may
 goes-more plan h fits (Save p) g may =
     let up = running-rises plan h g.mode (save-comes plan h fits p may) in
-    record { stands = standing-save h p g.stands; mode = rises (rising-save plan h p up.0) }
+    record {
+      stands = standing-save h p g.stands;
+      mode = rises (rising-save plan h p up.0);
+      tries = has_tries-other plan h (Save p) refl g.tries;
+    }
 
 -- a journey that was just begun is at its start, on its way up
 pub goes-begin : (plan : Planned) → Goes plan []
@@ -97,4 +111,5 @@ goes-begin plan = record {
     unturned = refl;
     arrived = λ p e. cc;
   });
+  tries = λ unturned. omega arith;
 }

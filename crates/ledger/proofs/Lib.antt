@@ -4,11 +4,13 @@ pub mod Standing
 pub mod Going
 pub mod Targets
 pub mod Runs
+pub mod Coming
+pub mod Refusing
 pub mod Modes
 pub mod Rising
 pub mod Falling
-pub mod Coming
 pub mod Journeys
+pub mod Lowering
 pub mod Whole
 pub mod Growing
 pub mod Ledgers
@@ -17,6 +19,12 @@ pub mod Plain
 pub mod Phases
 pub mod Recovering
 pub mod Sums
+pub mod Stopping
+pub mod Working
+pub mod Carrying
+pub mod Bounding
+pub mod Recoverable
+pub mod UnderWay
 pub mod Cells
 pub mod Held
 pub mod Allotted

@@ -11,6 +11,7 @@ use Rattle.commands.specs.declared.items.Phase.{Phase}
 use Rattle.commands.specs.declared.items.Phase.TheVariants.{Run, Back, Ended, Undone}
 use Rattle.ledger.specs.History.{position_of, going_to, is_save_point, has_turned_to_start, phase, phase_at, back_or_run, is_running, is_going_back}
 use Rattle.ledger.specs.Word.{word, up, down, Returns, GoesToStart}
+use Rattle.ledger.proofs.Refusing.{HasTries}
 use Rattle.ledger.proofs.Standing.{standing}
 
 -- the journey is on its way up: since it last was at `from` it did the steps from there on
@@ -59,10 +60,12 @@ pub data Mode (plan : Planned) (h : List Item) : Type 0 where
   falls : Falling plan h → Mode plan h
   fell : Fallen plan h → Mode plan h
 
--- the journey goes along an up-and-down word, and steps 1 to its position stand
+-- the journey goes along an up-and-down word, steps 1 to its position stand, and it has a try left
+-- unless it has turned to its start
 pub record Goes (plan : Planned) (h : List Item) : Type 0 where
   pub stands : standing h ≡ numbers_from 1 (position_of h)
   pub mode : Mode plan h
+  pub tries : HasTries plan h
 
 -- one more item belongs to the last part of the history
 pub part-more : (h before part : List Item) (x : Item) → h ≡ before ++ part

@@ -35,7 +35,7 @@ NeedsPhase test passes = (l : List Event) (j : ℕ) (x : Item) → test x ≡ tr
     → is_item_allowed l j x ≡ true → is_in passes l j ≡ true
 
 -- what is not below k is above j, where j is below k
-above-lower : (j k : ℕ) (p : List Event) → j < k
+pub above-lower : (j k : ℕ) (p : List Event) → j < k
     → list_all (λ d. nat_le k (journey_of d)) p ≡ true
     → list_all (λ d. nat_lt j (journey_of d)) p ≡ true
 above-lower j k [] lower e = refl
@@ -161,7 +161,7 @@ step-alone l j x y legal x_is y_is x_may y_may =
     one.alone x x_is x_may ∙ sym (one.alone y y_is y_may)
 
 -- a compensation is a step
-compensation-forward : (x : Item) → is_compensation x ≡ true → is_forward x ≡ true
+pub compensation-forward : (x : Item) → is_compensation x ≡ true → is_forward x ≡ true
 compensation-forward (Transaction i c) e = refl
 compensation-forward (Compensation i c) e = refl
 compensation-forward (Turn p cause) e = cc
@@ -189,7 +189,7 @@ compensation-needs_back l j (Save p) is may = cc
 -- Recovery.
 
 -- events that are allowed are allowed front and rest
-AreAllowedAfter-split : (before xs ys : List Event) → AreAllowedAfter before (xs ++ ys)
+pub AreAllowedAfter-split : (before xs ys : List Event) → AreAllowedAfter before (xs ++ ys)
     → AreAllowedAfter before xs × AreAllowedAfter (before ++ xs) ys
 AreAllowedAfter-split before [] ys all =
     (tt, subst (λ l. AreAllowedAfter l ys) (sym (append-nil before)) all)

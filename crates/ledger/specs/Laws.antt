@@ -1,5 +1,5 @@
 -- What holds of each legal ledger, and of each world.
-use Rattle.std.specs.Prelude.{◌≡◌, ℕ, ◌<◌, ◌≤◌, false, List, [], ◌++◌, map, Some, unwrap_or, IsTrue}
+use Rattle.std.specs.Prelude.{◌≡◌, ℕ, ◌+◌, ◌<◌, ◌≤◌, false, List, [], ◌++◌, length, map, Some, unwrap_or, IsTrue}
 use Rattle.std.specs.List.{list_any}
 use Rattle.allotment.specs.Cells.{numbers_from}
 use Rattle.allotment.specs.declared.cells.Cell.{Cell}
@@ -10,7 +10,7 @@ use Rattle.commands.specs.declared.refusals.Refusal.TheVariants.{NoSavePoint}
 use Rattle.ledger.specs.Answer.{step_choices, answer_move, start}
 use Rattle.ledger.specs.History.{is_save, net, phase, is_open, is_finished}
 use Rattle.ledger.specs.Ledger.{Event, Did, Journey, journey_at, history, allotment, held, is_item_allowed, is_in, IsLegal}
-use Rattle.ledger.specs.Recovery.{is_forward, IsRecovered}
+use Rattle.ledger.specs.Recovery.{is_forward, IsRecovered, HasComeTo, BeginsRecovered, bound}
 use Rattle.ledger.specs.Word.{word, up, down, BeginsUpAndDown, GoesToEnd, GoesToStart}
 use Rattle.ledger.specs.World.{Moment, after, events_of, times_acted}
 
@@ -79,6 +79,18 @@ NoFinishedJourneyGoesOn l =
 -- no two ledgers are this one, recovered: the rules leave no choice
 abbrev pub AtMostOneIsRecovered : List Event → Type 0
 AtMostOneIsRecovered l = (r s : List Event) → IsRecovered l r → IsRecovered l s → r ≡ s
+
+-- recovery comes to its end: this is the ledger, recovered, with no more new events than the bound,
+-- however many events that makes; where they run out, or a stop comes, what is left is legal
+pub record IsRecoverable (l : List Event) : Type 0 where
+  pub recovered : List Event
+  pub is_recovered : IsRecovered l recovered
+  pub within : length recovered ≤ length l + bound l
+  pub cut_off : (front rest : List Event) → recovered ≡ front ++ rest → IsLegal front
+
+-- however far recovery has come, it goes on to the recovered ledger
+abbrev pub EachRecoveryGoesOn : List Event → Type 0
+EachRecoveryGoesOn l = (begun : List Event) → HasComeTo l begun → BeginsRecovered l begun
 
 -- Worlds.
 

@@ -1,7 +1,7 @@
 -- Recovery: the ledger that it makes of another, and how many events it may need.
-use Rattle.std.specs.Prelude.{◌≡◌, ℕ, ◌+◌, ◌*◌, Bool, true, false, List, [], ◌∷◌, ◌++◌, map, filter, nat_le, sum_by, option_map, unwrap_or, IsTrue, not, ◌&&◌, ◌||◌}
+use Rattle.std.specs.Prelude.{◌≡◌, ℕ, ◌+◌, ◌*◌, ◌<◌, Bool, true, false, List, [], ◌∷◌, ◌++◌, map, filter, nat_le, sum_by, option_map, unwrap_or, IsTrue, not, ◌&&◌, ◌||◌}
 use Rattle.std.specs.List.{list_all, list_any}
-use Rattle.ledger.specs.Ledger.{Event, Did, Journey, journey_at, numbers, history, is_in, IsLegal}
+use Rattle.ledger.specs.Ledger.{Event, Did, Journey, journey_at, numbers, history, is_in, AreAllowedAfter, IsLegal}
 use Rattle.ledger.specs.History.{last_save, is_running, is_going_back, is_open, is_compensation, is_transaction, is_refused_turn}
 use Rattle.plan.specs.Planned.{step_count}
 use Rattle.commands.specs.declared.items.Item.{Item}
@@ -56,6 +56,38 @@ pub record IsRecovered (l recovered : List Event) : Type 0 where
   pub steps : IsTrue (list_all (are_items is_forward) forward)
   pub in_order : IsTrue (is_by_number forward)
   pub all_finished : IsTrue (has_none is_open recovered)
+
+-- Recovery under way.
+
+-- so far a part of recovery has items of this kind, by rising number of their journeys up to this
+-- number, and no journey below it is left in such a phase
+pub record HasReached (test : Item → Bool) (passes : Phase → Bool) (before part : List Event)
+    (number : ℕ) : Type 0 where
+  pub allowed : AreAllowedAfter before part
+  pub items : IsTrue (list_all (are_items test) part)
+  pub by_number : IsTrue (is_by_number part)
+  pub up_to : IsTrue (list_all (λ e. nat_le (journey_of e) number) part)
+  pub done : (j : ℕ) → j < number → is_in passes (before ++ part) j ≡ false
+
+-- recovery of a ledger has come to this one: it has made some of the turns; or all of them and some
+-- compensations; or all of these and some steps
+pub data HasComeTo (l : List Event) : List Event → Type 0 where
+  turning : (front rest : List Event) → stops l ≡ front ++ rest → HasComeTo l (l ++ front)
+  going_back : (part : List Event) (number : ℕ)
+      → HasReached is_compensation is_going_back (l ++ stops l) part number
+      → HasComeTo l (l ++ stops l ++ part)
+  going_on : (back part : List Event) (last number : ℕ)
+      → HasReached is_compensation is_going_back (l ++ stops l) back last
+      → IsTrue (has_none is_going_back (l ++ stops l ++ back))
+      → HasReached is_forward is_open (l ++ stops l ++ back) part number
+      → HasComeTo l (l ++ stops l ++ back ++ part)
+
+-- with some further events it is the recovered ledger
+pub record BeginsRecovered (l begun : List Event) : Type 0 where
+  pub rest : List Event
+  pub recovered : IsRecovered l (begun ++ rest)
+
+-- How many events it may need.
 
 -- how many events recovery may need for journey j: twice its steps, for each of two more than its
 -- tries

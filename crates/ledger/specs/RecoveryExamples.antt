@@ -1,8 +1,9 @@
 -- Worked examples of recovery: each is computed by the definitions.
-use Rattle.std.specs.Prelude.{◌≡◌, ◌&&◌, ◌++◌, Bool, true, List, [], ◌∷◌, map, Some, replicate, refl}
+use Rattle.std.specs.Prelude.{◌≡◌, ℕ, zero, suc, ◌<◌, ◌&&◌, ◌++◌, Bool, true, false, List, [], ◌∷◌, map, Some, replicate, refl}
 use Rattle.std.specs.List.{list_all}
 use Rattle.std.proofs.Common.{ap, sym, ◌∙◌}
 use Rattle.std.proofs.lemmas.Bool.{and_parts}
+use Rattle.std.proofs.Math.Nat.{not-suc-le-zero, le_of_suc-le-suc}
 use Rattle.allotment.specs.declared.kinds.Kind.TheVariants.{Flight, Room, Transfer}
 use Rattle.plan.specs.Planned.{Planned}
 use Rattle.commands.specs.Names.{house}
@@ -10,13 +11,14 @@ use Rattle.commands.specs.Request.{Begin, Step, Abort, Save}
 use Rattle.commands.specs.declared.items.Cause.TheVariants as cause
 use Rattle.commands.specs.declared.items.Item.{Item}
 use Rattle.commands.specs.declared.items.Item.TheVariants.{Turn}
+use Rattle.commands.specs.declared.items.Phase.{Phase}
 use Rattle.commands.specs.declared.items.Phase.TheVariants.{Back}
 use Rattle.ledger.specs.Answer.{start}
 use Rattle.ledger.specs.Examples.{want, row, step, marked, untried, flight, six_flights, load, steps, done, undone, after_all}
 use Rattle.ledger.specs.History.{is_going_back, is_open, is_compensation}
 use Rattle.ledger.specs.JourneyExamples.{begun_unmarked}
-use Rattle.ledger.specs.Ledger.{Event, Loaded, Began, Did, phase_of, is_allowed, AreAllowedAfter}
-use Rattle.ledger.specs.Recovery.{stops, is_by_number, are_items, has_none, is_forward, bound, IsRecovered}
+use Rattle.ledger.specs.Ledger.{Event, Loaded, Began, Did, phase_of, is_in, is_allowed, AreAllowedAfter}
+use Rattle.ledger.specs.Recovery.{stops, is_by_number, are_items, has_none, is_forward, bound, IsRecovered, HasComeTo, going_back}
 
 -- Recovery, as a test of its parts.
 
@@ -119,6 +121,23 @@ pub journey_going_back_is_recovered :
 journey_going_back_is_recovered =
     recovered_by_test aborted_to_2 [] (items (undone 4 ∷ undone 3 ∷ []))
     (items (done 3 ∷ done 4 ∷ done 5 ∷ done 6 ∷ [])) refl refl refl
+
+-- no journey has a number below 1
+pub none_is_below_1 : (passes : Phase → Bool) (l : List Event) (j : ℕ) → j < 1
+    → is_in passes l j ≡ false
+none_is_below_1 passes l zero below = refl
+none_is_below_1 passes l (suc j) below = absurd (not-suc-le-zero (le_of_suc-le-suc below))
+
+-- after the first of these two compensations, recovery is under way
+pub journey_going_back_is_under_way :
+    HasComeTo aborted_to_2 (aborted_to_2 ++ [] ++ items (undone 4 ∷ []))
+journey_going_back_is_under_way = going_back (items (undone 4 ∷ [])) 1 (record {
+  allowed = (refl, tt);
+  items = refl;
+  by_number = refl;
+  up_to = refl;
+  done = none_is_below_1 is_going_back (aborted_to_2 ++ items (undone 4 ∷ []));
+})
 
 -- A running journey turns back to a save-point that was taken.
 

@@ -4,8 +4,9 @@
 ghost use Rattle.std.specs.Prelude.{List};
 ghost use Rattle.ledger.specs.Laws.{AtMostOneIsRecovered};
 ghost use Rattle.ledger.specs.Laws.{EachOpenJourneyHasOneStep, EachPlainJourneyIsAllOrNothing};
-ghost use Rattle.ledger.specs.Laws.{EveryJourneyIsUpAndDown, IsSound, NoCellIsOverfull};
-ghost use Rattle.ledger.specs.Laws.{NoFinishedJourneyGoesOn};
+ghost use Rattle.ledger.specs.Laws.{EachRecoveryGoesOn};
+ghost use Rattle.ledger.specs.Laws.{EveryJourneyIsUpAndDown, IsRecoverable, IsSound};
+ghost use Rattle.ledger.specs.Laws.{NoCellIsOverfull, NoFinishedJourneyGoesOn};
 ghost use Rattle.ledger.specs.Ledger.{Event, IsLegal};
 ghost use Rattle.ledger.specs.World.{IsWorld, Moment};
 
@@ -24,9 +25,13 @@ pub fn steps()
     ensures finished { (l : List Event) → NoFinishedJourneyGoesOn l }
 {}
 
-/// Recovery has no choice: of each ledger at most one is the recovered one.
+/// Recovery has no choice, and it comes to its end: of each ledger at most one is the recovered
+/// one, and of each legal ledger there is one, with no more new events than its bound. However far
+/// it has come, it goes on to that one.
 pub fn recoveries()
     ensures unique { (l : List Event) → AtMostOneIsRecovered l }
+    ensures exists { (l : List Event) → IsLegal l → IsRecoverable l }
+    ensures under_way { (l : List Event) → IsLegal l → EachRecoveryGoesOn l }
 {}
 
 /// After each world, with any stops and reopenings, the ledger is legal and is the events that were

@@ -3,6 +3,7 @@ use Rattle.std.proofs.Common.{◌≡◌, ℕ, suc, ◌+◌, ◌<◌, List, [], �
 use Rattle.std.specs.Prelude.{filter_map, flat_map, option_map, Result}
 use Rattle.std.specs.List.{enumerate_from}
 use Rattle.std.proofs.Math.Seq.{drop-cons}
+use Rattle.std.proofs.lemmas.List.{append-nil}
 use Rattle.allotment.specs.Want.{Wanted}
 use Rattle.allotment.specs.Making.{first_fault}
 use Rattle.allotment.specs.Texts.{parts, bar, semicolon}
@@ -79,11 +80,6 @@ drop_all : {X : Type 0} (xs : List X) → drop (length xs) xs ≡ []
 drop_all [] = refl
 drop_all (x ∷ xs) = drop_all xs
 
--- nothing behind a list
-append_none : {X : Type 0} (xs : List X) → xs ++ [] ≡ xs
-append_none [] = refl
-append_none (x ∷ xs) = ap (λ z. x ∷ z) (append_none xs)
-
 -- all parts were read
 pub each_ends : {A X F : Type 0} (read : ℕ → A → Result X F) (i k : ℕ) (ts : List A) (done : List X)
     (whole : Result (List X) F) → k ≡ length ts → behind done (each read i (drop k ts)) ≡ whole → whole ≡ Ok done
@@ -91,7 +87,7 @@ each_ends read i k ts done whole e h =
     sym h
     ∙ ap (λ z. behind done (each read i (drop z ts))) e
     ∙ ap (λ z. behind done (each read i z)) (drop_all ts)
-    ∙ ap Ok (append_none done)
+    ∙ ap Ok (append-nil done)
 
 -- The first fault of a list.
 

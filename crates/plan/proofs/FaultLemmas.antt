@@ -92,7 +92,7 @@ told_at_0 false fs f x e = let same : at 0 cause.Tries ≡ f = cc in subst (up_t
 told_at_0 true fs f x e = let same : at 0 cause.Steps ≡ f = cc in subst (up_to 24) same (omega arith)
 
 -- what is told of a line is at step 0 to 24, however many steps it has
-told_up_to_24 : (a b : Bool) (d : Draft) (f : BadPlan) {X : Type 0} (x : X) → is_between 1 24 (length d.steps) ≡ b
+pub told_up_to_24 : (a b : Bool) (d : Draft) (f : BadPlan) {X : Type 0} (x : X) → is_between 1 24 (length d.steps) ≡ b
     → first_fault x (unless a (at 0 cause.Tries) ++ unless b (at 0 cause.Steps)
     ++ flat_map (step_faults (length d.steps)) (enumerate_from 1 d.steps)) ≡ Err f → f.step ≤ 24
 told_up_to_24 a false d f x e h = told_at_0 a (flat_map (step_faults (length d.steps)) (enumerate_from 1 d.steps)) f x h

@@ -14,7 +14,7 @@ use Rattle.plan.specs.Planned.{Planned, StepPlan, is_last_unmarked}
 use Rattle.plan.specs.Drafts.{at, option_faults, step_faults, want_of, step_of, drafted, drafted_step, plan_made}
 use Rattle.plan.specs.Levels.{step_kept, steps_kept}
 use Rattle.allotment.proofs.TestLemmas.{and_both}
-use Rattle.plan.proofs.ListFacts.{append_none, unless_none, first_fault_ok, flat_map_none}
+use Rattle.plan.proofs.ListFacts.{append_none, not_left, unless_none, first_fault_ok, flat_map_none}
 use Rattle.plan.proofs.OptionLemmas.{nights_few}
 use Rattle.plan.proofs.EachLemmas.{each, behind, none_behind, onto, first_onto}
 use Rattle.plan.proofs.LineLemmas.{told_line, first_of_line}
@@ -129,11 +129,6 @@ kept_each n i (s ∷ steps) =
 pub kept_whole : (n : ℕ) (steps : List StepPlan) → behind [] (each (step_kept n) 1 steps) ≡ steps_kept n steps
 unfolding steps_kept
 kept_whole n steps = none_behind _ ∙ kept_each n 1 steps
-
--- where the second holds and not both, the first does not hold
-not_left : (a b : Bool) → b ≡ true → not (a && b) ≡ true → not a ≡ true
-not_left true b p e = cc
-not_left false b p e = refl
 
 -- equal numbers compare as equal
 eq_yes : (i n : ℕ) (t : Bool) → (i == n) ≡ t → i ≡ n → t ≡ true

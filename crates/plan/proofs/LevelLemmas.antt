@@ -32,7 +32,7 @@ told_step true true i m (Ok ws) = Ok (record { options = ws; is_marked = m })
 told_step true true i m (Err f) = Err f
 
 -- the first fault of a step is that of its mark, then that of the number of its options, then one of theirs
-first_of_step : (a b : Bool) (i : ℕ) (m : Bool) (ws : List Wanted) (fs : List BadPlan)
+pub first_of_step : (a b : Bool) (i : ℕ) (m : Bool) (ws : List Wanted) (fs : List BadPlan)
     → let s : StepPlan = record { options = ws; is_marked = m } in
     first_fault s (unless a (at i cause.Save) ++ unless b (at i cause.Options) ++ fs) ≡ told_step a b i m (first_fault ws fs)
 first_of_step false b i m ws fs = refl

@@ -15,3 +15,9 @@ pub mod PrintLemmas
 pub mod PlainLemmas
 pub mod JoinLemmas
 pub mod SpellLemmas
+pub mod MemberLemmas
+pub mod JsonOptionLemmas
+pub mod JsonEachLemmas
+pub mod JsonPlanLemmas
+pub mod JsonKeptLemmas
+pub mod JsonAgainLemmas

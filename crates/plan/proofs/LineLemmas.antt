@@ -35,7 +35,7 @@ first_of_line true true tries steps [] = refl
 first_of_line true true tries steps (f ∷ fs) = refl
 
 -- whether these are tries
-abbrev are_tries : Option ℕ → Bool
+abbrev pub are_tries : Option ℕ → Bool
 are_tries tries = is_some tries && nat_le (number_or_none tries) 9
 
 -- a line is told so, with so many steps

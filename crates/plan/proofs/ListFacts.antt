@@ -1,5 +1,5 @@
 -- Facts on lists of faults and on searches. For reading a line and for its spelling.
-use Rattle.std.proofs.Common.{◌≡◌, Bool, true, false, List, [], ◌∷◌, ◌++◌, cond, refl, sym, ap, ◌∙◌, Option, Some, None, Ok}
+use Rattle.std.proofs.Common.{◌≡◌, Bool, true, false, not, ◌&&◌, List, [], ◌∷◌, ◌++◌, cond, refl, sym, ap, ◌∙◌, Option, Some, None, Ok}
 use Rattle.std.specs.Prelude.{flat_map, find, is_some, unwrap_or}
 use Rattle.std.specs.List.{AllByRecursion}
 use Rattle.allotment.specs.Making.{unless, first_fault}
@@ -8,6 +8,11 @@ use Rattle.allotment.specs.Making.{unless, first_fault}
 pub append_none : {X : Type 0} (xs ys : List X) → xs ++ ys ≡ [] → (xs ≡ []) × (ys ≡ [])
 append_none [] ys e = (refl, e)
 append_none (x ∷ xs) ys e = cc
+
+-- where the second holds and not both, the first does not hold
+pub not_left : (a b : Bool) → b ≡ true → not (a && b) ≡ true → not a ≡ true
+not_left true b p e = cc
+not_left false b p e = refl
 
 -- where nothing is wrong, the test holds
 pub unless_none : {F : Type 0} (b : Bool) (f : F) → unless b f ≡ [] → b ≡ true

@@ -76,7 +76,7 @@ told_want i (Ok w) = Ok w
 told_want i (Err b) = Err (at i (cause_of b))
 
 -- the first fault of an option is that of the want
-first_told : (i : ℕ) (codes night nights count : Bool) (v w : Wanted) → (nights ≡ true → count ≡ true → v ≡ w)
+pub first_told : (i : ℕ) (codes night nights count : Bool) (v w : Wanted) → (nights ≡ true → count ≡ true → v ≡ w)
     → first_fault v
     (unless true (at i cause.Kind) ++ unless codes (at i cause.Code) ++ unless night (at i cause.Night)
     ++ unless nights (at i cause.Nights) ++ unless count (at i cause.Count))

@@ -4,7 +4,7 @@ use Rattle.std.specs.Prelude.{find, filter_map, option_map, is_some, bytes_eq, d
 use Rattle.std.specs.List.{AllByRecursion, list_all, enumerate_from}
 use Rattle.std.specs.Str.Parse.{digits_value}
 use Rattle.std.proofs.lemmas.List.Splits.{join_with_byte-slice_split}
-use Rattle.std.proofs.lemmas.List.{take-append-drop, length-map}
+use Rattle.std.proofs.lemmas.List.{append-nil, take-append-drop, length-map}
 use Rattle.std.proofs.lemmas.Bool.{le-leb}
 use Rattle.allotment.specs.Want.{Wanted}
 use Rattle.allotment.specs.Cells.{numbers_from}
@@ -16,7 +16,7 @@ use Rattle.plan.specs.Planned.{Planned, StepPlan, is_step, is_last_unmarked}
 use Rattle.plan.specs.Drafts.{OptionDraft, StepDraft, kind_or_any, number_or_none, option_faults, step_faults, faults, want_of, step_of, plan_of}
 use Rattle.plan.specs.PlanLine.{step_text, mark_text, tries_text, tries_in, IsPlanLine, option_of_parts, option_draft, has_mark, without_mark, step_draft, line_draft, plan_in}
 use Rattle.allotment.proofs.TestLemmas.{keep_if_some, same_bytes, and_both, and_make}
-use Rattle.plan.proofs.ListFacts.{append_none, unless_none, flat_map_none, first_fault_ok, find_passes, some_is}
+use Rattle.plan.proofs.ListFacts.{append_none, not_left, unless_none, flat_map_none, first_fault_ok, find_passes, some_is}
 
 -- Parts of an option.
 
@@ -25,7 +25,7 @@ kind_read : (k : List ℕ) → is_some (kind_of_letter k) ≡ true → kind_lett
 kind_read k e = same_bytes _ k (find_passes (λ kind. bytes_eq (kind_letter kind) k) kinds _ (some_is (kind_of_letter k) Flight e))
 
 -- a night that is read has that text
-night_read : (t : List ℕ) → is_some (night_in t) ≡ true → (is_night (number_or_none (night_in t)) ≡ true) × (night_text (number_or_none (night_in t)) ≡ t)
+pub night_read : (t : List ℕ) → is_some (night_in t) ≡ true → (is_night (number_or_none (night_in t)) ≡ true) × (night_text (number_or_none (night_in t)) ≡ t)
 night_read t e =
     let kept = keep_if_some (λ night. is_night night && bytes_eq (night_text night) t) (named_night t) (number_or_none (night_in t)) (some_is (night_in t) 0 e) in
     let both = and_both (is_night (number_or_none (night_in t))) (bytes_eq (night_text (number_or_none (night_in t))) t) kept.1 in
@@ -120,17 +120,12 @@ options_read i (t ∷ ts) e = options_cons _ _ t ts (option_reads_text i t e.0) 
 
 -- A step.
 
--- nothing behind a text
-append_empty : (t : List ℕ) → t ++ [] ≡ t
-append_empty [] = refl
-append_empty (x ∷ t) = ap (λ z. x ∷ z) (append_empty t)
-
 -- a text is what it is without its mark, and its mark
 marked_text : (t : List ℕ) (b : Bool) → has_mark t ≡ b → (if b then take (length t - 1) t else t) ++ mark_text b ≡ t
 marked_text t true e =
     let end : drop (length t - 1) t ≡ star ∷ [] = sym (same_bytes (star ∷ []) (drop (length t - 1) t) e) in
     ap (λ z. take (length t - 1) t ++ z) (sym end) ∙ take-append-drop (length t - 1) t
-marked_text t false e = append_empty t
+marked_text t false e = append-nil t
 
 -- what is read of a step that has no fault, the one of this number of so many
 record ReadsStep (n i : ℕ) (t : List ℕ) : Type 0 where
@@ -171,11 +166,6 @@ record ReadsSteps (ts : List (List ℕ)) : Type 0 where
   pub spelled : map step_text (steps_of ts) ≡ ts
   pub unmarked : is_last_unmarked (steps_of ts) ≡ true
   pub good : list_all is_step (steps_of ts) ≡ true
-
--- where the second holds and not both, the first does not hold
-not_left : (a b : Bool) → b ≡ true → not (a && b) ≡ true → not a ≡ true
-not_left true b p e = cc
-not_left false b p e = refl
 
 -- the step whose number is that of the last has no mark
 last_unmarked : (t : List ℕ) (ts : List (List ℕ)) (n i : ℕ) → i + length (t ∷ ts) ≡ n + 1

@@ -6,7 +6,7 @@ use Rattle.std.specs.Str.Parse.{AllDigits}
 use Rattle.std.proofs.Math.Seq.{drop-append_seam, take-append_seam}
 use Rattle.std.proofs.lemmas.Bool.{le-leb, leb-true}
 use Rattle.std.proofs.lemmas.Fmt.{decimal_is_IsNumeral, decimal_digit}
-use Rattle.std.proofs.lemmas.List.{length-append}
+use Rattle.std.proofs.lemmas.List.{append-nil, length-append}
 use Rattle.std.proofs.lemmas.Str.Parse.{digit_from_value}
 use Rattle.allotment.specs.Want.{Wanted}
 use Rattle.allotment.specs.Limits.{is_between, is_code, is_capital, is_digit, is_want}
@@ -132,11 +132,6 @@ wants_lack c (w ∷ ws) o odd e =
 
 -- A step.
 
--- nothing behind a text
-append_empty : (t : List ℕ) → t ++ [] ≡ t
-append_empty [] = refl
-append_empty (x ∷ t) = ap (λ z. x ∷ z) (append_empty t)
-
 -- a text without stars has no mark
 unmarked : (x : List ℕ) (b : Bool) → has_mark x ≡ b → lacks star x ≡ true → b ≡ false
 unmarked x true e l =
@@ -147,14 +142,14 @@ unmarked x false e l = refl
 -- the mark behind such a text is read as it was
 mark_again : (x : List ℕ) (b : Bool) → lacks star x ≡ true → has_mark (x ++ mark_text b) ≡ b
 mark_again x true l = marked x
-mark_again x false l = ap has_mark (append_empty x) ∙ unmarked x (has_mark x) refl l
+mark_again x false l = ap has_mark (append-nil x) ∙ unmarked x (has_mark x) refl l
 
 -- and taken off
 without_again : (x : List ℕ) (b : Bool) → lacks star x ≡ true → without_mark (x ++ mark_text b) ≡ x
 without_again x true l = marked_front x
 without_again x false l =
     let t = x ++ [] in
-    ap (λ z. if z then take (length t - 1) t else t) (mark_again x false l) ∙ append_empty x
+    ap (λ z. if z then take (length t - 1) t else t) (mark_again x false l) ∙ append-nil x
 
 -- the options of a step are cut as they were
 parts_of_step : (ws : List Wanted) → 1 ≤ length ws → list_all is_want ws ≡ true
@@ -274,7 +269,7 @@ kept_again n i (s ∷ steps) l u e =
     ∙ ap (onto (Ok s)) (kept_again n (i + 1) steps (omega arith) (rest_unmarked s steps u) both.1)
 
 -- a plan that keeps the limits is made as it is
-made_again : (p : Planned) → is_plan p ≡ true → plan_made p ≡ Ok p
+pub made_again : (p : Planned) → is_plan p ≡ true → plan_made p ≡ Ok p
 made_again p e =
     let all = and_both _ (nat_le p.tries 9) e in
     let marks = and_both _ (is_last_unmarked p.steps) all.0 in
@@ -286,7 +281,7 @@ made_again p e =
     made_by_steps p n (Ok p.steps) refl (leb-true p.tries 9 all.1) (leb-true 1 n count.0) (leb-true n 24 count.1) kept
 
 -- what is made of a plan is what is told of its draft
-made_is : (p : Planned) → judged (Some (drafted_plan p)) ≡ plan_made p
+pub made_is : (p : Planned) → judged (Some (drafted_plan p)) ≡ plan_made p
 unfolding plan_made
 made_is p = refl
 

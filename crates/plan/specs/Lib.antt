@@ -5,3 +5,6 @@ pub mod Drafts
 pub mod PlanLine
 pub mod Cuts
 pub mod Levels
+pub mod PlanJson
+pub mod JsonLevels
+pub mod PlanData

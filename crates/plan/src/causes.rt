@@ -5,7 +5,7 @@ ghost use Rattle.plan.specs.Causes.{cause_word};
 /// What is wrong with a plan, in the order in which it is looked for.
 #[derive(Clone, Copy, Debug, PartialEq, Eq)]
 pub enum PlanCause {
-    /// The line does not end with `!` and one digit, or there are more than 9 tries.
+    /// A line does not end with `!` and one digit, or the tries are no whole number from 0 to 9.
     Tries,
     /// There is no step, or there are more than 24.
     Steps,
@@ -13,9 +13,9 @@ pub enum PlanCause {
     Save,
     /// A step has no option, or more than 8.
     Options,
-    /// The parts are not the six of an option.
+    /// An option has not its six parts, or a JSON value not just the members of a plan, a step or an option.
     Shape,
-    /// The kind is none of the four.
+    /// The kind is no letter of the four, or in JSON no word of them.
     Kind,
     /// The supplier or the product is not 1 to 8 of `A`-`Z` and `0`-`9`.
     Code,

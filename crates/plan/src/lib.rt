@@ -4,14 +4,16 @@
 //! preference; a *marked* step leaves a save-point behind it. The last step is never marked.
 //!
 //! Every plan keeps these limits. A plan has one *line*: a text is read as a plan exactly where it is the line of that
-//! plan, and any other text is told the first thing that is wrong with it, in one order.
+//! plan, and any other text is told the first thing that is wrong with it, in one order. A JSON value is read likewise.
 #![tactic(auto)]
 
 mod causes;
 mod faults;
+mod json;
 mod laws;
 mod limits;
 mod lines;
+mod members;
 mod options;
 mod parts;
 mod plans;
@@ -20,9 +22,11 @@ mod steps;
 
 pub use causes::PlanCause;
 pub use faults::{BadPlan, PlanFault};
-pub use laws::one_spelling;
+pub use laws::{json_is_read_back, one_spelling};
 pub use plans::Plan;
 pub use steps::PlanStep;
 
+#[cfg(test)]
+mod json_tests;
 #[cfg(test)]
 mod tests;

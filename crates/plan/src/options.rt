@@ -31,7 +31,7 @@ pub fn option_in(step: usize, text: &str) -> Result<Want, BadPlan>
 }
 
 /// What is wrong with a plan where this is wrong with a want.
-fn cause_of(fault: Bad) -> PlanCause
+pub fn cause_of(fault: Bad) -> PlanCause
     ensures cause { result ≡ plan_cause fault }
 {
     match fault {

@@ -4,15 +4,19 @@ ghost use Rattle.plan.specs.Planned.{plan_said, is_plan, step_count, is_marked_a
 ghost use Rattle.plan.specs.Faults.{IfBad, IsBadAnd};
 ghost use Rattle.plan.specs.Levels.{MakesPlan};
 ghost use Rattle.plan.specs.PlanLine.{ReadsAs, IsPlanLine, plan_line};
+ghost use Rattle.plan.specs.PlanJson.{JsonReadsAs};
+ghost use Rattle.serde_json.specs.View.{view};
 
 use crate::causes::PlanCause;
 use crate::faults::{PlanFault, bad};
+use crate::json::{plan_steps, plan_tries, steps_of};
 use crate::limits::{MOST_STEPS, MOST_TRIES, check_steps};
 use crate::lines::{count_steps, steps_in};
 use crate::parts::split_tries;
 use crate::printing::push_steps;
 use crate::steps::{PlanStep, copied};
 use allotment::Want;
+use serde_json::Value;
 use std::alloc::{AllocError, Global};
 use std::marker::Model;
 
@@ -55,6 +59,31 @@ impl Plan {
             return Err(PlanFault::Bad(bad(0, PlanCause::Steps)));
         }
         let steps = steps_in(alloc, count, front)?;
+        Ok(Plan { steps, tries })
+    }
+
+    /// The plan of a JSON value, or the first thing that is wrong with it.
+    ///
+    /// A plan is an object with the members `steps`, a list, and `tries`; a step one with `options`, a list, and
+    /// `save`, true or false; an option one with `kind`, a kind's word, `supplier`, `product` and `first`, which are
+    /// texts, and `nights` and `count`. None has another member. A number is held as an integer: `1.0` is none.
+    pub fn from_json(alloc: Global, value: &Value) -> Result<Plan, PlanFault>
+        ensures read { IfOk result (λ plan. JsonReadsAs (view value.now) (Ok plan)) }
+
+        ensures refused { IfErr result (IfBad (λ bad. JsonReadsAs (view value.now) (Err bad))) }
+        ensures step { IfErr result (IfBad (λ bad. bad.step ≤ 24)) }
+    {
+        let Some(values) = plan_steps(value) else {
+            return Err(PlanFault::Bad(bad(0, PlanCause::Shape)));
+        };
+        let Some(tries) = plan_tries(value) else {
+            return Err(PlanFault::Bad(bad(0, PlanCause::Tries)));
+        };
+        let last = values.len();
+        if last == 0 || last > MOST_STEPS {
+            return Err(PlanFault::Bad(bad(0, PlanCause::Steps)));
+        }
+        let steps = steps_of(alloc, values)?;
         Ok(Plan { steps, tries })
     }
 

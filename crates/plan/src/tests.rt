@@ -6,12 +6,15 @@ use std::test::Fail;
 
 // a line, and how many steps and tries it has
 #[rattlefmt::skip]
-const LINES: [(&str, &str, usize, u8); 10] = [
+const LINES: [(&str, &str, usize, u8); 13] = [
     ("one step",             "F/AL/A1/2030-06-01/1/1!0", 1, 0),
     ("the most of a flight", "F/AL/A1/2030-06-01/1/50!9", 1, 9),
     ("the most of a room",   "R/INN/DBL/2030-06-01/30/1!0", 1, 0),
     ("the most of cover",    "C/CO/P/2030-06-01/60/1!1", 1, 1),
+    ("codes of one and eight", "F/A/1234WXYZ/2030-06-01/1/1!0", 1, 0),
+    ("the first night",      "R/INN/DBL/2000-01-01/1/1!0", 1, 0),
     ("the last night",       "R/INN/DBL/2099-12-31/1/1!0", 1, 0),
+    ("up to the last night", "R/INN/DBL/2099-12-30/2/1!0", 1, 0),
     ("a day in a leap year", "T/BUS/X/2028-02-29/1/9!0", 1, 0),
     ("three steps",          "F/AL/A1/2030-06-01/1/2;T/BUS/X/2030-06-01/1/2;R/INN/DBL/2030-06-01/2/1!0", 3, 0),
     ("a mark",               "F/AL/A1/2030-06-01/1/1*;T/BUS/X/2030-06-01/1/1!0", 2, 0),
@@ -34,7 +37,7 @@ fn a_line_is_read_and_printed_again(rt: HostRuntime) -> Result<(), Fail> {
 
 // a wrong line, and what is told of it
 #[rattlefmt::skip]
-const WRONG: [(&str, &str, usize, PlanCause); 46] = [
+const WRONG: [(&str, &str, usize, PlanCause); 49] = [
     ("nothing",                     "", 0, PlanCause::Tries),
     ("no tries",                    "F/AL/A1/2030-06-01/1/1", 0, PlanCause::Tries),
     ("no number of tries",          "F/AL/A1/2030-06-01/1/1!", 0, PlanCause::Tries),
@@ -60,11 +63,14 @@ const WRONG: [(&str, &str, usize, PlanCause); 46] = [
     ("a small code",                "F/AL/a/2030-06-01/1/1!0", 1, PlanCause::Code),
     ("no supplier",                 "F//A1/2030-06-01/1/1!0", 1, PlanCause::Code),
     ("nine bytes of a code",        "F/ABCDEFGHI/A1/2030-06-01/1/1!0", 1, PlanCause::Code),
+    ("nine bytes of a product",     "F/AL/ABCDEFGHI/2030-06-01/1/1!0", 1, PlanCause::Code),
+    ("no product",                  "F/AL//2030-06-01/1/1!0", 1, PlanCause::Code),
     ("no such day",                 "C/CO/P/2030-02-29/1/1!0", 1, PlanCause::Night),
     ("a day before 2000",           "C/CO/P/1999-12-31/1/1!0", 1, PlanCause::Night),
     ("a day past 2099",             "C/CO/P/2100-01-01/1/1!0", 1, PlanCause::Night),
     ("another spelling of a day",   "C/CO/P/20300601/1/1!0", 1, PlanCause::Night),
     ("two nights of a flight",      "F/AL/A1/2030-06-01/2/1!0", 1, PlanCause::Nights),
+    ("two nights of a transfer",    "T/BUS/X/2030-06-01/2/1!0", 1, PlanCause::Nights),
     ("31 nights of a room",         "R/INN/DBL/2030-06-01/31/1!0", 1, PlanCause::Nights),
     ("61 nights of cover",          "C/CO/P/2030-06-01/61/1!0", 1, PlanCause::Nights),
     ("past the last night",         "R/INN/DBL/2099-12-31/2/1!0", 1, PlanCause::Nights),
@@ -173,6 +179,19 @@ fn there_are_so_many_steps_and_options(rt: HostRuntime) -> Result<(), Fail> {
         Some(PlanFault::Bad(expected)),
         "nine options of the second step, which are none"
     );
+    Ok(())
+}
+
+#[test]
+fn the_longest_line_is_read_and_printed_again(rt: HostRuntime) -> Result<(), Fail> {
+    let option = "C/ABCDEFGH/12345678/2030-06-01/60/50";
+    let marked = repeated(rt.alloc(), option, 8, "|", "*;")?;
+    let mut line = repeated(rt.alloc(), marked.as_str(), 23, "", "")?;
+    let last = repeated(rt.alloc(), option, 8, "|", "!9")?;
+    line.push_str(last.as_str())?;
+    assert_eq!(rt; line.len(), 7128);
+    let plan = Plan::from_line(rt.alloc(), line.as_str())?;
+    assert_eq!(rt; plan.line(rt.alloc())?.as_str(), line.as_str());
     Ok(())
 }
 

@@ -273,7 +273,7 @@ module _ (l : List Event) (legal : IsLegal l) (room : length l < most_events) wh
       let few = journeys-few l in
       between 1 most_journeys j low (omega arith)
 
-  moved-good : (j : ℕ) (a : Journey) (x : Item) → journey_at l j ≡ Some a → may_do l j x a ≡ true
+  pub moved-good : (j : ℕ) (a : Journey) (x : Item) → journey_at l j ≡ Some a → may_do l j x a ≡ true
       → IsGood (moved a.plan (history l j) j x)
   moved-good j a x e may =
       let allowed : is_item_allowed l j x ≡ true = is_item_allowed-may_do l j x a e ∙ may in

@@ -113,7 +113,7 @@ any-filter p q (x ∷ xs) = go (p x) (any-filter p q xs)
     go true rest = ap (λ v. q x || v) rest
     go false rest = rest
 
-any-map : {X Y : Type 0} (f : X → Y) (q : Y → Bool) (xs : List X)
+pub any-map : {X Y : Type 0} (f : X → Y) (q : Y → Bool) (xs : List X)
     → list_any q (map f xs) ≡ list_any (λ x. q (f x)) xs
 any-map f q [] = refl
 any-map f q (x ∷ xs) = ap (λ v. q (f x) || v) (any-map f q xs)

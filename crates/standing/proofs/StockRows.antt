@@ -75,7 +75,7 @@ row-stock_at rows x p e = go (find (is_stock_of x) rows) refl
 -- Nights.
 
 -- a row that is wanted is that of the want's cell at its night
-wanted_cell : (w : Wanted) (r : StockRow) → 1 ≤ w.nights → is_wanted_row w r ≡ true
+pub wanted_cell : (w : Wanted) (r : StockRow) → 1 ≤ w.nights → is_wanted_row w r ≡ true
     → (is_stock_of (cell_at w r.night) r ≡ true) × (w.first ≤ r.night) × (r.night < w.first + w.nights)
 wanted_cell w r some e =
     let one = and_parts _ _ e in
@@ -95,7 +95,7 @@ night_within : (w : Wanted) (n m : ℕ) → n ≡ m → w.first ≤ n → n < w.
 night_within w n m same low high = (omega arith, omega arith)
 
 -- and the row of a want's cell is wanted
-cell_wanted : (w : Wanted) (n : ℕ) (r : StockRow) → is_stock_of (cell_at w n) r ≡ true → w.first ≤ n
+pub cell_wanted : (w : Wanted) (n : ℕ) (r : StockRow) → is_stock_of (cell_at w n) r ≡ true → w.first ≤ n
     → n < w.first + w.nights → (is_wanted_row w r ≡ true) × (r.night ≡ n)
 cell_wanted w n r e low high =
     let three = and_parts _ _ e in
@@ -117,7 +117,7 @@ shown_from l w n k =
 
 -- whether something is shown of a night
 module _ (l : List Event) (w : Wanted) where
-  shown_has : (n k : ℕ) (p : ℕ × Places) → Has (shown_from l w n k) p
+  pub shown_has : (n k : ℕ) (p : ℕ × Places) → Has (shown_from l w n k) p
       → (n ≤ p.0) × (p.0 < n + k) × (places_of l (cell_at w p.0) ≡ Some p.1)
   shown_has n zero p h = absurd h
   shown_has n (suc k) p h = go (places_of l (cell_at w n)) refl h (shown_has (suc n) k p)
@@ -134,7 +134,7 @@ module _ (l : List Event) (w : Wanted) where
       go (Some places) e (inr later) rest =
           let r = rest later in let low = r.0 in let high = r.1 in (omega arith, omega arith, r.2)
 
-  has_shown : (n k : ℕ) (p : ℕ × Places) → n ≤ p.0 → p.0 < n + k
+  pub has_shown : (n k : ℕ) (p : ℕ × Places) → n ≤ p.0 → p.0 < n + k
       → places_of l (cell_at w p.0) ≡ Some p.1 → Has (shown_from l w n k) p
   has_shown n zero p low high e = absurd (omega arith)
   has_shown n (suc k) p low high e = go (p.0 == n) refl (has_shown (suc n) k p)
@@ -226,7 +226,7 @@ nights_found l rows found w some stand same sorted =
 
 -- All cells.
 
-same_back : (r s : StockRow) → is_same_stock r s ≡ false → is_same_stock s r ≡ false
+pub same_back : (r s : StockRow) → is_same_stock r s ≡ false → is_same_stock s r ≡ false
 same_back r s off = false_from_ne_true (is_same_stock s r) (λ on.
     let three = and_parts _ _ on in
     let two = and_parts _ _ three.0 in

@@ -20,7 +20,8 @@ adds_steps rows t = record t { step = t.step ++ rows }
 abbrev pub with_journey : ℕ → ℕ → List ℕ → Planned → Tables → Tables
 with_journey id num agent plan t =
     counts (meta_row_at num id)
-    (adds_steps (step_rows_of id plan) (adds_journey (begun id num agent (step_count plan) plan.tries) t))
+    (adds_steps (step_rows_of id plan)
+    (adds_journey (begun id num agent (step_count plan) plan.tries) t))
 
 -- the first steps of a plan, so many of them
 abbrev pub first_steps : ℕ → Planned → Planned

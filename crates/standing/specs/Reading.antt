@@ -105,8 +105,8 @@ abbrev pub is_wanted_row : Wanted → StockRow → Bool
 is_wanted_row w r =
     (r.kind == kind_number w.kind)
     && (bytes_eq r.supplier w.supplier
-    &&
-    (bytes_eq r.product w.product && (nat_le w.first r.night && nat_le r.night (w.first + w.nights - 1))))
+    && (bytes_eq r.product w.product
+    && (nat_le w.first r.night && nat_le r.night (w.first + w.nights - 1))))
 
 -- what a row of stock tells of its night
 abbrev pub night_told : StockRow → ℕ × Places

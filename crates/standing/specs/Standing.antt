@@ -31,7 +31,8 @@ is_stock_of x r =
 -- two rows are of one cell
 abbrev pub is_same_stock : StockRow → StockRow → Bool
 is_same_stock r s =
-    (r.kind == s.kind) && bytes_eq r.supplier s.supplier && bytes_eq r.product s.product && (r.night == s.night)
+    (r.kind == s.kind) && bytes_eq r.supplier s.supplier
+    && bytes_eq r.product s.product && (r.night == s.night)
 
 -- the places that a row of stock tells
 abbrev pub places_told : StockRow → Places

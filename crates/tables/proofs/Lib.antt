@@ -1,7 +1,6 @@
 pub mod AnswerLemmas
 pub mod CommitLemmas
 pub mod KeepLemmas
-pub mod OpenFounded
 pub mod OpenKept
 pub mod ReadJourneys
 pub mod ReadLemmas

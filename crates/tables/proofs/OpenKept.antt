@@ -18,15 +18,12 @@ use Rattle.commands.specs.declared.faults.Fault.TheVariants as fault
 use Rattle.ledger.specs.Answer.{State, start}
 use Rattle.standing.specs.Called.{meta_called}
 use Rattle.standing.specs.Standing.{StandsFor}
+use Rattle.standing.proofs.Founding.{founded_stands}
 use Rattle.tables.specs.declared.faults.OpenFault.{OpenFault}
 use Rattle.tables.specs.declared.faults.OpenFault.TheVariants.{Store, Memory}
 use Rattle.tables.specs.Keeping.{Means, SeesDesk, IsKept, IsFound}
 use Rattle.tables.specs.Opening.{Tells, AreOfVersion}
-use Rattle.tables.proofs.OpenFounded.{founded_stands}
-
--- While a store is open, a stop leaves its last commit and nothing else: a law that each store keeps.
-abbrev pub LeavesCommitted : {S : Type 0} → Ghosts S → Type 0
-LeavesCommitted {S} g = (s : S) (db : Trees) → IsTrue (g.view s).is_open → g.recovers s db → db ≡ (g.view s).committed
+use Rattle.tables.proofs.CommitLemmas.{KeepsOne}
 
 -- the desk's tables are some
 not_bare : desk_schema ≡ no_schema → ⊥
@@ -58,7 +55,7 @@ module _ {S : Type 0} (g : Ghosts S) (old late : Held S) where
       (live clean refl, (made clean may).sees)
 
   -- the commit of these rows keeps a new desk
-  pub keeps_founded : LeavesCommitted g → (end : Held S) → Sees (state g late) founded
+  pub keeps_founded : KeepsOne g → (end : Held S) → Sees (state g late) founded
       → ShowsNow (state g late) (state g end) (state g late).now (state g late).now false → IsKept (state g end) start
   keeps_founded law end sees shown = record {
     sees = λ _. record {

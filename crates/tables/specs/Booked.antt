@@ -1,5 +1,7 @@
 -- What a book over tables answers, keeps and leaves: the words of every book, at its fields.
 use Rattle.std.specs.Prelude.{Option, Result}
+use Rattle.std.specs.Borrow.{Bor}
+use Rattle.std.specs.Option.{option_copied}
 use Rattle.sqlite.specs.Store.{Ghosts}
 use Rattle.sqlite.specs.Held.{Held, state}
 use Rattle.sqlite.specs.State.{HasCleanDisk}
@@ -18,18 +20,26 @@ module _ {S : Type 0} (g : Ghosts S) where
   StandsBook b s = Stands b.failed (state g b.conn) s
 
   module _ (old new : TableBook S g) where
-    abbrev pub Answers : Option Asked → Request → Result Reply Fault → Type 0
-    Answers ask asked result = HasCleanDisk (state g new.conn) → books.Replies (StandsBook old) ask asked result
+    abbrev pub Answers : Option (Bor Asked) → Request → Result Reply Fault → Type 0
+    Answers ask asked result =
+        HasCleanDisk (state g new.conn)
+        → books.Replies (StandsBook old) (option_copied ask) asked result
 
-    abbrev pub MovesOn : Option Asked → Request → Result Reply Fault → Type 0
-    MovesOn ask asked result = HasCleanDisk (state g new.conn) → books.MovesOn (StandsBook old) (StandsBook new) ask asked result
+    abbrev pub MovesOn : Option (Bor Asked) → Request → Result Reply Fault → Type 0
+    MovesOn ask asked result =
+        HasCleanDisk (state g new.conn)
+        → books.MovesOn (StandsBook old) (StandsBook new) (option_copied ask) asked result
 
     abbrev pub KeepsAtMemory : Result Reply Fault → Type 0
-    KeepsAtMemory result = HasCleanDisk (state g new.conn) → books.KeepsAtMemory (StandsBook old) (StandsBook new) result
+    KeepsAtMemory result =
+        HasCleanDisk (state g new.conn)
+        → books.KeepsAtMemory (StandsBook old) (StandsBook new) result
 
-    abbrev pub LeavesAtStore : Option Asked → Request → Result Reply Fault → Type 0
+    abbrev pub LeavesAtStore : Option (Bor Asked) → Request → Result Reply Fault → Type 0
     LeavesAtStore ask asked result =
-        HasCleanDisk (state g new.conn) → books.LeavesAtStore (StandsBook old) (MayLeave (state g new.conn)) ask asked result
+        HasCleanDisk (state g new.conn)
+        → books.LeavesAtStore (StandsBook old) (MayLeave (state g new.conn))
+        (option_copied ask) asked result
 
     abbrev pub LeavesNoMore : Type 0
     LeavesNoMore = books.LeavesNoMore (MayLeave (state g old.conn)) (MayLeave (state g new.conn))

@@ -56,7 +56,7 @@ pub record IsFound (c : Connected) (s : State) : Type 0 where
 abbrev pub Keeps : Connected → State → Type 0
 Keeps c s = HasCleanDisk c → IsKept c s
 
--- while the store returns what was written, whatever a stop leaves stands for one of these two states
+-- while the store returns what was written, what a stop leaves stands for one of these two states
 abbrev pub MayLeave : Connected → State → State → Type 0
 MayLeave c s t = HasCleanDisk c → Leaves c s t
 

@@ -25,28 +25,28 @@ abbrev pub AreOfVersion : ℕ → Tables → Type 0
 AreOfVersion v t = AllByRecursion (λ (m : MetaRow). m.version ≡ v) t.meta
 
 module _ {S : Type 0} (g : Ghosts S) (old new : Held S) where
-  -- a disk that is clean now was clean before
-  abbrev pub WasSound : Type 0
-  WasSound = HasCleanDisk (state g new) → HasCleanDisk (state g old)
-
   -- the connection keeps the state for which it stood
   abbrev pub KeepsIt : Type 0
-  KeepsIt = HasCleanDisk (state g new) → (s : State) → StoodFor (state g old) s → IsKept (state g new) s
+  KeepsIt =
+      HasCleanDisk (state g new) → (s : State) → StoodFor (state g old) s → IsKept (state g new) s
 
   -- a stop leaves the state for which the connection stood, and no other
   abbrev pub LeavesIt : Type 0
-  LeavesIt = HasCleanDisk (state g new) → (s : State) → StoodFor (state g old) s → LeavesOnly (state g new) s
+  LeavesIt =
+      HasCleanDisk (state g new) → (s : State) → StoodFor (state g old) s
+      → LeavesOnly (state g new) s
 
   -- the tables that the connection saw are of this version
   abbrev pub SawVersion : ℕ → Type 0
-  SawVersion v = HasCleanDisk (state g new) → (t : Tables) → MaySee (state g old) t → AreOfVersion v t
+  SawVersion v =
+      HasCleanDisk (state g new) → (t : Tables) → MaySee (state g old) t → AreOfVersion v t
 
   -- the connection stood for no state
   abbrev pub StoodForNone : Type 0
   StoodForNone = HasCleanDisk (state g new) → (s : State) → StoodFor (state g old) s → ⊥
 
-  -- What a fault tells: of an unknown version, that the tables have it and stood for no state; of want of memory, that
-  -- a stop leaves nothing new.
+  -- What a fault tells: of an unknown version, that the tables have it and stood for no state; of want
+  -- of memory, that a stop leaves nothing new.
   abbrev pub Tells : OpenFault → Type 0
   Tells (UnknownSchema v) = (v ≢ 2) × SawVersion v × StoodForNone
   Tells Store = ⊤

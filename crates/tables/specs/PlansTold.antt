@@ -19,7 +19,8 @@ TellsOption row plan i c = (id : ℕ) → rows_of_option id plan i c ≡ first_r
 -- behind so many rows come those of this step, up to here
 pub record TellStep (rows : List StepFound) (from : ℕ) (plan : Planned) (i to : ℕ) : Type 0 where
   pub within : to ≤ length rows
-  pub told : (id : ℕ) → first_rows id (take to rows) ≡ first_rows id (take from rows) ++ rows_of_step id plan i
+  pub told : (id : ℕ)
+      → first_rows id (take to rows) ≡ first_rows id (take from rows) ++ rows_of_step id plan i
 
 -- the rows are just those of a plan
 abbrev pub TellPlan : List StepFound → Planned → Type 0

@@ -1,8 +1,8 @@
 -- What a read of a connection tells of the desk that it keeps, and what it leaves of it.
-use Rattle.std.specs.Prelude.{◌≡◌, ℕ, List, map, Some, Result, IfOk}
+use Rattle.std.specs.Prelude.{◌≡◌, ℕ, List, map, Option, None, Some, Result, IfOk}
 use Rattle.allotment.specs.declared.cells.Cell.{Cell}
 use Rattle.allotment.specs.declared.places.Held.{Held as HeldPlaces}
-use Rattle.saga_core.specs.Shown.{night_said}
+use Rattle.saga_core.specs.Shown.{night_said, first_unfinished, record_of, marks_of}
 use Rattle.desk_sql.specs.Stock.{stock_of}
 use Rattle.desk_sql.specs.declared.stock.NightFound.{NightFound}
 use Rattle.desk_sql.specs.declared.stock.CellFound.{CellFound}
@@ -16,7 +16,7 @@ use Rattle.commands.specs.declared.items.Cursor.{Cursor}
 use Rattle.desk_sql.specs.Rows.{CursorRow}
 use Rattle.desk_sql.specs.declared.journeys.Cursor.{Cursor as CursorFound}
 use Rattle.ledger.specs.Answer.{State}
-use Rattle.ledger.specs.Ledger.{Journey, journey_at}
+use Rattle.ledger.specs.Ledger.{Journey, journey_at, history}
 use Rattle.saga_core.specs.declared.records.Brief.{Brief}
 use Rattle.saga_core.specs.declared.records.Record.{Record}
 use Rattle.plan.specs.Planned.{Planned}
@@ -30,10 +30,12 @@ use Rattle.standing.specs.Reading.{cursor_in, item_in, night_seen, stock_row_of}
 use Rattle.tables.specs.Keeping.{Keeps}
 
 module _ {S : Type 0} (g : Ghosts S) (old new : Held S) where
-  -- while the store returns what was written, what is answered is so of each desk that the connection kept
+  -- while the store returns what was written, what is answered is so of each desk that the connection
+  -- kept
   abbrev pub ShowsKept : {V : Type 0} → Result V Fault → (State → V → Type 0) → Type 0
   ShowsKept result IsShown =
-      HasCleanDisk (state g new) → (s : State) → IsDesk s → Keeps (state g old) s → IfOk result (IsShown s)
+      HasCleanDisk (state g new) → (s : State) → IsDesk s → Keeps (state g old) s
+      → IfOk result (IsShown s)
 
   -- the connection keeps each state that it kept
   abbrev pub KeepsOn : Type 0
@@ -41,7 +43,9 @@ module _ {S : Type 0} (g : Ghosts S) (old new : Held S) where
 
   -- a stop leaves nothing that it could not have left before
   abbrev pub LeavesAsBefore : Type 0
-  LeavesAsBefore = HasCleanDisk (state g new) → (db : Trees) → (state g new).may_leave db → (state g old).may_leave db
+  LeavesAsBefore =
+      HasCleanDisk (state g new) → (db : Trees) → (state g new).may_leave db
+      → (state g old).may_leave db
 
   -- a store that returns what was written did so before
   abbrev pub WasClean : Type 0
@@ -68,7 +72,8 @@ pub record TellsBrief (r : JourneyFound) (b : Brief) : Type 0 where
   pub cursor : TellsCursor r.cursor b.cursor
 
 -- the row tells this journey, with a plan and save-points
-pub record TellsRecord (r : JourneyFound) (plan : Planned) (marks : set.FinSet nat_cmp) (b : Record) : Type 0 where
+pub record TellsRecord (r : JourneyFound) (plan : Planned) (marks : set.FinSet nat_cmp) (b : Record)
+    : Type 0 where
   pub agent : b.agent ≡ (journey_of r).agent
   pub same_plan : b.plan ≡ plan
   pub cursor : TellsCursor r.cursor b.cursor
@@ -88,4 +93,21 @@ TellCells found cells = map stock_row_of cells ≡ map stock_of found
 
 -- this plan is that of a journey with this number, and so many tries
 abbrev pub IsPlanOf : ℕ → ℕ → State → Planned → Type 0
-IsPlanOf id tries s plan = (a : Journey) → journey_at s.ledger id ≡ Some a → tries ≡ a.plan.tries → plan ≡ a.plan
+IsPlanOf id tries s plan =
+    (a : Journey) → journey_at s.ledger id ≡ Some a → tries ≡ a.plan.tries → plan ≡ a.plan
+
+-- the first unfinished journey above this number, in short
+abbrev pub IsFirstAbove : ℕ → State → Option Brief → Type 0
+IsFirstAbove after s found = found ≡ first_unfinished s.ledger after
+
+-- no journey has this number
+abbrev pub HasNone : {V : Type 0} → ℕ → State → V → Type 0
+HasNone id s _ = journey_at s.ledger id ≡ None
+
+-- the journey of this number, if there is one
+abbrev pub IsRecordAt : ℕ → State → Option Record → Type 0
+IsRecordAt id s found = found ≡ record_of s.ledger id
+
+-- the save-points that the journey of this number took and that stand
+abbrev pub AreMarksAt : ℕ → State → set.FinSet nat_cmp → Type 0
+AreMarksAt id s marks = marks ≡ marks_of (history s.ledger id)

@@ -8,7 +8,7 @@ use Rattle.desk_sql.specs.Calls.{MayRun, Makes}
 use Rattle.desk_sql.specs.Rows.{Tables, StepRow}
 use Rattle.allotment.specs.Want.{Wanted}
 use Rattle.plan.specs.Planned.{Planned, StepPlan, numbered, is_marked_at, want_at}
-use Rattle.standing.specs.Called.{option_row, option_rows, none_taken}
+use Rattle.standing.specs.Called.{option_row, option_rows, step_rows_of, none_taken}
 use Rattle.standing.specs.Beginning.{adds_steps, first_options, with_journey}
 use Rattle.desk_sql.specs.Changes.{AreJourneysBelow, adds_answer, kept}
 use Rattle.commands.specs.Names.{house}
@@ -22,42 +22,59 @@ use Rattle.tables.specs.declared.beginning.Beginner.TheVariants.{House, Asking}
 module _ {S : Type 0} (g : Ghosts S) (old new : Held S) where
   abbrev pub WritesOn : {V : Type 0} → Result V Error → (Tables → Tables) → Type 0
   WritesOn result after =
-      HasCleanDisk (state g new) → (t : Tables) → MayRun (state g old) t → IsTrue (state g old).is_open
-      → OnOk result (Makes (state g old) (state g new) (after t))
+      HasCleanDisk (state g new) → (t : Tables) → MayRun (state g old) t
+      → IsTrue (state g old).is_open → OnOk result (Makes (state g old) (state g new) (after t))
 
 -- the rows of the options of one step of a plan that begins
 abbrev pub rows_of_step : ℕ → Planned → ℕ → List StepRow
 rows_of_step id plan i =
-    unwrap_or (option_map (λ (s : StepPlan). option_rows none_taken id i s) (numbered plan.steps i)) []
+    unwrap_or
+    (option_map (λ (s : StepPlan). option_rows none_taken id i s) (numbered plan.steps i)) []
 
 -- the row of that option, where there is one
 abbrev pub rows_of_option : ℕ → Planned → ℕ → ℕ → List StepRow
 rows_of_option id plan i c =
-    unwrap_or (option_map (λ (w : Wanted). option_row id i (is_marked_at plan i) c false w ∷ []) (want_at plan i c)) []
+    unwrap_or
+    (option_map (λ (w : Wanted). option_row id i (is_marked_at plan i) c false w ∷ [])
+    (want_at plan i c)) []
 
 module _ {S : Type 0} (g : Ghosts S) (old new : Held S) where
   -- a success adds the row of that option
   abbrev pub WritesOption : {V : Type 0} → Result V Error → ℕ → Planned → ℕ → ℕ → Type 0
-  WritesOption result id plan i c = WritesOn g old new result (adds_steps (rows_of_option id plan i c))
+  WritesOption result id plan i c =
+      WritesOn g old new result (adds_steps (rows_of_option id plan i c))
+
+  -- a success adds the rows of that step
+  abbrev pub WritesStep : {V : Type 0} → Result V Error → ℕ → Planned → ℕ → Type 0
+  WritesStep result id plan i = WritesOn g old new result (adds_steps (rows_of_step id plan i))
+
+  -- a success adds the rows of all steps
+  abbrev pub WritesSteps : {V : Type 0} → Result V Error → ℕ → Planned → Type 0
+  WritesSteps result id plan = WritesOn g old new result (adds_steps (step_rows_of id plan))
 
 -- the rows of the first options of a step, so many of them
 abbrev pub first_rows_of_step : ℕ → Planned → ℕ → ℕ → List StepRow
 first_rows_of_step id plan i n =
-    unwrap_or (option_map (λ (s : StepPlan). option_rows none_taken id i (first_options n s)) (numbered plan.steps i)) []
+    unwrap_or
+    (option_map (λ (s : StepPlan). option_rows none_taken id i (first_options n s))
+    (numbered plan.steps i)) []
 
 -- so far these rows of steps are written, in one open transaction, and nothing is committed
 module _ {S : Type 0} (g : Ghosts S) (old now : Held S) where
   pub record HasWritten (rows : List StepRow) : Type 0 where
     pub survives : Survives (state g old) (state g now) (λ _. ⊥)
-    pub commit : HasCleanDisk (state g now) → IsTrue (state g old).in_transaction → KeepsCommit (state g old) (state g now)
-    pub inside : HasCleanDisk (state g now) → IsTrue (state g old).in_transaction → IsTrue (state g now).in_transaction
-    pub made : HasCleanDisk (state g now) → (t : Tables) → MayRun (state g old) t → IsTrue (state g old).is_open
-        → Makes (state g old) (state g now) (adds_steps rows t)
+    pub commit : HasCleanDisk (state g now) → IsTrue (state g old).in_transaction
+        → KeepsCommit (state g old) (state g now)
+    pub inside : HasCleanDisk (state g now) → IsTrue (state g old).in_transaction
+        → IsTrue (state g now).in_transaction
+    pub made : HasCleanDisk (state g now) → (t : Tables) → MayRun (state g old) t
+        → IsTrue (state g old).is_open → Makes (state g old) (state g now) (adds_steps rows t)
 
 -- the rows of a journey that begins, and of the reply that is kept with it
 abbrev pub with_kept : ℕ → ℕ → Planned → Keeping → Tables → Tables
 with_kept id num plan k t =
-    adds_answer (kept k.agent.now k.key.now k.text.now k.line.now) (with_journey id num k.agent.now plan t)
+    adds_answer (kept k.agent.now k.key.now k.text.now k.line.now)
+    (with_journey id num k.agent.now plan t)
 
 module _ {S : Type 0} (g : Ghosts S) (old new : Held S) where
   -- a success adds the rows of a journey that begins
@@ -77,7 +94,8 @@ abbrev pub begun_rows : ℕ → ℕ → Planned → Beginner → Tables → Tabl
 begun_rows id num plan House t = with_journey id num house plan t
 begun_rows id num plan (Asking k) t = with_kept id num plan k t
 
--- where tables stand for the old state, these rows make them stand for the new one, and no journey has the number yet
+-- where tables stand for the old state, these rows make them stand for the new one, and no journey has
+-- the number yet
 pub record LeadsTo (id num : ℕ) (plan : Planned) (by : Beginner) (old new : State) : Type 0 where
   pub stands : (t : Tables) → StandsFor t old → StandsFor (begun_rows id num plan by t) new
   pub below : (t : Tables) → StandsFor t old → AreJourneysBelow id t

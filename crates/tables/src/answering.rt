@@ -1,10 +1,11 @@
 //! What is answered to a begin.
 ghost use Rattle.std.specs.Prelude.{◌≡◌, false, IfOk, IsTrue, None, Some};
-ghost use Rattle.std.specs.Option.{option_copied};
+ghost use Rattle.std.specs.Option.{option_copied as asker};
 ghost use Rattle.plan.specs.Planned.{is_plan};
-ghost use Rattle.commands.specs.Request as request;
-ghost use Rattle.tables.specs.Answering.{AnswersAgain, Finds, KeepsOn, KeepsAtMemory, LeavesLess, Reads, Answers, AnswersNew, KeepsNext, KeepsNew, LeavesOld, LeavesNew};
-ghost use Rattle.tables.specs.Opening.{WasSound};
+ghost use Rattle.commands.specs.Request.{Begin};
+ghost use Rattle.tables.specs.Answering.{AnswersAgain, Finds, KeepsOn, KeepsAtMemory};
+ghost use Rattle.tables.specs.Answering.{Answers, KeepsNext, LeavesOld, AnswersNew, KeepsNew, LeavesNew};
+ghost use Rattle.tables.specs.Reading.{LeavesAsBefore, ShowsKept, WasClean};
 
 use crate::beginning::{Beginner, Keeping};
 use crate::committing::commit_begin;
@@ -40,11 +41,11 @@ fn find_reply<S: Alter>(
     requires outside { conn.old.in_transaction ≡ false }
 
     ensures outside { conn.new.in_transaction ≡ false }
-    ensures found { Reads S.Store conn.old conn.new result (λ s found. Finds s ask.now found) }
+    ensures found { ShowsKept S.Store conn.old conn.new result (λ s found. Finds s ask.now found) }
     ensures same { KeepsOn S.Store conn.old conn.new result }
     ensures memory { KeepsAtMemory S.Store conn.old conn.new result }
-    ensures left { LeavesLess S.Store conn.old conn.new }
-    ensures sound { WasSound S.Store conn.old conn.new }
+    ensures left { LeavesAsBefore S.Store conn.old conn.new }
+    ensures sound { WasClean S.Store conn.old conn.new }
 {
     match find_answer(conn, ask.agent().as_str(), ask.key().as_str()) {
         Ok(None) => Ok(None),
@@ -61,11 +62,11 @@ fn begin<S: Alter>(conn: &mut Connection<S>, plan: &Plan) -> Result<Reply, Fault
     requires outside { conn.old.in_transaction ≡ false }
 
     ensures outside { conn.new.in_transaction ≡ false }
-    ensures reply { Answers S.Store conn.old conn.new None (request.Begin plan.now) result }
-    ensures after { KeepsNext S.Store conn.old conn.new None (request.Begin plan.now) result }
+    ensures reply { Answers S.Store conn.old conn.new None (Begin plan.now) result }
+    ensures after { KeepsNext S.Store conn.old conn.new None (Begin plan.now) result }
     ensures memory { KeepsAtMemory S.Store conn.old conn.new result }
-    ensures left { LeavesOld S.Store conn.old conn.new None (request.Begin plan.now) }
-    ensures sound { WasSound S.Store conn.old conn.new }
+    ensures left { LeavesOld S.Store conn.old conn.new None (Begin plan.now) }
+    ensures sound { WasClean S.Store conn.old conn.new }
 {
     let _steps = plan.steps();
     let counts = read_counts(conn)?;
@@ -87,11 +88,11 @@ fn begin_new<S: Alter>(
     requires outside { conn.old.in_transaction ≡ false }
 
     ensures outside { conn.new.in_transaction ≡ false }
-    ensures reply { AnswersNew S.Store conn.old conn.new ask.now (request.Begin plan.now) result }
-    ensures after { KeepsNew S.Store conn.old conn.new ask.now (request.Begin plan.now) result }
+    ensures reply { AnswersNew S.Store conn.old conn.new ask.now (Begin plan.now) result }
+    ensures after { KeepsNew S.Store conn.old conn.new ask.now (Begin plan.now) result }
     ensures memory { KeepsAtMemory S.Store conn.old conn.new result }
-    ensures left { LeavesNew S.Store conn.old conn.new ask.now (request.Begin plan.now) }
-    ensures sound { WasSound S.Store conn.old conn.new }
+    ensures left { LeavesNew S.Store conn.old conn.new ask.now (Begin plan.now) }
+    ensures sound { WasClean S.Store conn.old conn.new }
 {
     let _steps = plan.steps();
     let counts = read_counts(conn)?;
@@ -126,11 +127,11 @@ fn begin_for<S: Alter>(
     requires outside { conn.old.in_transaction ≡ false }
 
     ensures outside { conn.new.in_transaction ≡ false }
-    ensures reply { Answers S.Store conn.old conn.new (Some ask.now) (request.Begin plan.now) result }
-    ensures after { KeepsNext S.Store conn.old conn.new (Some ask.now) (request.Begin plan.now) result }
+    ensures reply { Answers S.Store conn.old conn.new (Some ask.now) (Begin plan.now) result }
+    ensures after { KeepsNext S.Store conn.old conn.new (Some ask.now) (Begin plan.now) result }
     ensures memory { KeepsAtMemory S.Store conn.old conn.new result }
-    ensures left { LeavesOld S.Store conn.old conn.new (Some ask.now) (request.Begin plan.now) }
-    ensures sound { WasSound S.Store conn.old conn.new }
+    ensures left { LeavesOld S.Store conn.old conn.new (Some ask.now) (Begin plan.now) }
+    ensures sound { WasClean S.Store conn.old conn.new }
 {
     match find_reply(alloc, conn, ask) {
         Ok(Some(reply)) => Ok(reply),
@@ -149,11 +150,11 @@ pub(crate) fn answer<S: Alter>(
     requires outside { conn.old.in_transaction ≡ false }
 
     ensures outside { conn.new.in_transaction ≡ false }
-    ensures reply { Answers S.Store conn.old conn.new (option_copied ask.entry) (request.Begin plan.now) result }
-    ensures after { KeepsNext S.Store conn.old conn.new (option_copied ask.entry) (request.Begin plan.now) result }
+    ensures reply { Answers S.Store conn.old conn.new (asker ask.entry) (Begin plan.now) result }
+    ensures after { KeepsNext S.Store conn.old conn.new (asker ask.entry) (Begin plan.now) result }
     ensures memory { KeepsAtMemory S.Store conn.old conn.new result }
-    ensures left { LeavesOld S.Store conn.old conn.new (option_copied ask.entry) (request.Begin plan.now) }
-    ensures sound { WasSound S.Store conn.old conn.new }
+    ensures left { LeavesOld S.Store conn.old conn.new (asker ask.entry) (Begin plan.now) }
+    ensures sound { WasClean S.Store conn.old conn.new }
     ensures limits { IsTrue (is_plan plan.now) }
 {
     let _steps = plan.steps();

@@ -2,9 +2,8 @@
 ghost use Rattle.std.specs.Prelude.{◌≡◌, ◌<◌, ◌≤◌, ◌^◌};
 ghost use Rattle.plan.specs.Planned.{step_count, option_count};
 ghost use Rattle.desk_sql.specs.Calls.{StaysInside, WasOpen, CommitsNothing, LeavesNoMore};
-ghost use Rattle.standing.specs.Beginning.{adds_steps};
-ghost use Rattle.standing.specs.Called.{step_rows_of};
-ghost use Rattle.tables.specs.Writing.{WritesOn, WritesOption, WritesJourney, WritesKept, WritesBegin, rows_of_step};
+ghost use Rattle.tables.specs.Writing.{WritesOption, WritesStep, WritesSteps};
+ghost use Rattle.tables.specs.Writing.{WritesJourney, WritesKept, WritesBegin};
 
 use desk_sql::{StepOption, insert_answer, insert_journey, insert_step, update_meta};
 use plan::Plan;
@@ -27,7 +26,8 @@ fn write_option<S: Alter>(
     requires options { option_count plan.now step < 2 ^ 63 }
 
     ensures same_reference { tx.new.conn.ghost_name ≡ tx.old.conn.ghost_name }
-    ensures made { WritesOption S.Store tx.old.conn.now tx.new.conn.now result id plan.now step option }
+    ensures made { WritesOption S.Store tx.old.conn.now tx.new.conn.now result
+        id plan.now step option }
     ensures inside { StaysInside S.Store tx.old.conn.now tx.new.conn.now result }
     ensures commit { CommitsNothing S.Store tx.old.conn.now tx.new.conn.now }
     ensures survives { LeavesNoMore S.Store tx.old.conn.now tx.new.conn.now }
@@ -63,7 +63,7 @@ fn write_options<S: Alter>(
     requires in_plan { step ≤ step_count plan.now }
 
     ensures same_reference { tx.new.conn.ghost_name ≡ tx.old.conn.ghost_name }
-    ensures made { WritesOn S.Store tx.old.conn.now tx.new.conn.now result (adds_steps (rows_of_step id plan.now step)) }
+    ensures made { WritesStep S.Store tx.old.conn.now tx.new.conn.now result id plan.now step }
     ensures inside { StaysInside S.Store tx.old.conn.now tx.new.conn.now result }
     ensures commit { CommitsNothing S.Store tx.old.conn.now tx.new.conn.now }
     ensures survives { LeavesNoMore S.Store tx.old.conn.now tx.new.conn.now }
@@ -80,7 +80,7 @@ fn write_steps<S: Alter>(tx: &mut Transaction<'_, S>, id: u64, plan: &Plan) -> R
     requires id { id < 2 ^ 63 }
 
     ensures same_reference { tx.new.conn.ghost_name ≡ tx.old.conn.ghost_name }
-    ensures made { WritesOn S.Store tx.old.conn.now tx.new.conn.now result (adds_steps (step_rows_of id plan.now)) }
+    ensures made { WritesSteps S.Store tx.old.conn.now tx.new.conn.now result id plan.now }
     ensures inside { StaysInside S.Store tx.old.conn.now tx.new.conn.now result }
     ensures commit { CommitsNothing S.Store tx.old.conn.now tx.new.conn.now }
     ensures survives { LeavesNoMore S.Store tx.old.conn.now tx.new.conn.now }
@@ -103,7 +103,8 @@ fn write_journey<S: Alter>(
     requires num { num < 2 ^ 63 }
 
     ensures same_reference { tx.new.conn.ghost_name ≡ tx.old.conn.ghost_name }
-    ensures made { WritesJourney S.Store tx.old.conn.now tx.new.conn.now result id num agent.now plan.now }
+    ensures made { WritesJourney S.Store tx.old.conn.now tx.new.conn.now result
+        id num agent.now plan.now }
     ensures live { WasOpen S.Store tx.old.conn.now tx.new.conn.now result }
     ensures inside { StaysInside S.Store tx.old.conn.now tx.new.conn.now result }
     ensures commit { CommitsNothing S.Store tx.old.conn.now tx.new.conn.now }
@@ -152,7 +153,8 @@ fn write_kept_journey<S: Alter>(
     requires num { num < 2 ^ 63 }
 
     ensures same_reference { tx.new.conn.ghost_name ≡ tx.old.conn.ghost_name }
-    ensures made { WritesKept S.Store tx.old.conn.now tx.new.conn.now result id num plan.now keeping.entry }
+    ensures made { WritesKept S.Store tx.old.conn.now tx.new.conn.now result
+        id num plan.now keeping.entry }
     ensures live { WasOpen S.Store tx.old.conn.now tx.new.conn.now result }
     ensures inside { StaysInside S.Store tx.old.conn.now tx.new.conn.now result }
     ensures commit { CommitsNothing S.Store tx.old.conn.now tx.new.conn.now }
@@ -175,7 +177,8 @@ pub(crate) fn write_begin<S: Alter>(
     requires num { num < 2 ^ 63 }
 
     ensures same_reference { tx.new.conn.ghost_name ≡ tx.old.conn.ghost_name }
-    ensures made { WritesBegin S.Store tx.old.conn.now tx.new.conn.now result id num plan.now by.entry }
+    ensures made { WritesBegin S.Store tx.old.conn.now tx.new.conn.now result
+        id num plan.now by.entry }
     ensures live { WasOpen S.Store tx.old.conn.now tx.new.conn.now result }
     ensures inside { StaysInside S.Store tx.old.conn.now tx.new.conn.now result }
     ensures commit { CommitsNothing S.Store tx.old.conn.now tx.new.conn.now }

@@ -1,8 +1,6 @@
 //! The book over tables.
 ghost use Rattle.std.specs.Prelude.{◌≡◌, ◌↔◌, false, IfOk, IsOk, IsErrOf, IsTrue};
-ghost use Rattle.std.specs.Option.{option_copied};
-ghost use Rattle.sqlite.specs.Held.{state};
-ghost use Rattle.commands.specs.Request as request;
+ghost use Rattle.commands.specs.Request.{Begin};
 
 use crate::answering::answer;
 use crate::faults::OpenFault;
@@ -38,19 +36,19 @@ impl<S: Alter> TableBook<S> {
 }
 
 impl<S: Alter> TableBook<S> {
-    ghost use Rattle.sqlite.specs.State.{HasCleanDisk};
+    ghost use Rattle.tables.specs.Reading.{WasClean};
     ghost use Rattle.tables.specs.Booked.{Answers, MovesOn, KeepsAtMemory, LeavesAtStore, LeavesNoMore};
 
     /// Answers a begin. Once the store has failed nothing is asked of it any more.
     fn begin(&mut self, plan: &Plan, ask: Option<&Ask>) -> Result<Reply, Fault>
-        ensures reply { Answers S.Store self.old self.new (option_copied ask.entry) (request.Begin plan.now) result }
-        ensures after { MovesOn S.Store self.old self.new (option_copied ask.entry) (request.Begin plan.now) result }
+        ensures reply { Answers S.Store self.old self.new ask.entry (Begin plan.now) result }
+        ensures after { MovesOn S.Store self.old self.new ask.entry (Begin plan.now) result }
         ensures memory { KeepsAtMemory S.Store self.old self.new result }
-        ensures store { LeavesAtStore S.Store self.old self.new (option_copied ask.entry) (request.Begin plan.now) result }
+        ensures store { LeavesAtStore S.Store self.old self.new ask.entry (Begin plan.now) result }
         ensures fails { IsErrOf result Fault.Store ↔ IsTrue self.new.failed }
         ensures stays_failed { IsTrue self.old.failed → IsTrue self.new.failed }
         ensures stays_left { IsTrue self.old.failed → LeavesNoMore S.Store self.old self.new }
-        ensures sound { HasCleanDisk (state S.Store self.new.conn) → HasCleanDisk (state S.Store self.old.conn) }
+        ensures sound { WasClean S.Store self.old.conn self.new.conn }
     {
         if self.failed {
             return Err(Fault::Store);

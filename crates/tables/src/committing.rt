@@ -1,9 +1,9 @@
 //! One event, one commit.
 ghost use Rattle.std.specs.Prelude.{◌≡◌, ◌<◌, ◌^◌, false, Err, OnOk};
-ghost use Rattle.sqlite.specs.State.{HasCleanDisk};
 ghost use Rattle.sqlite.specs.Held.{state};
 ghost use Rattle.ledger.specs.Answer.{State};
 ghost use Rattle.tables.specs.Keeping.{Keeps, MayLeave};
+ghost use Rattle.tables.specs.Reading.{WasClean};
 ghost use Rattle.tables.specs.Writing.{LeadsTo};
 
 use crate::beginning::{Beginner, write_begin};
@@ -25,13 +25,13 @@ pub(crate) fn commit_begin<S: Alter>(
     requires num { num < 2 ^ 63 }
 
     ensures outside { conn.new.in_transaction ≡ false }
-    ensures done { (s next : State) → LeadsTo id num plan.now by.entry s next → Keeps (state S.Store conn.old) s
-        → OnOk result (Keeps (state S.Store conn.new) next) }
+    ensures done { (s next : State) → LeadsTo id num plan.now by.entry s next
+        → Keeps (state S.Store conn.old) s → OnOk result (Keeps (state S.Store conn.new) next) }
     ensures memory { (s : State) → Keeps (state S.Store conn.old) s → result ≡ Err Fault.Memory
         → Keeps (state S.Store conn.new) s }
-    ensures either { (s next : State) → LeadsTo id num plan.now by.entry s next → Keeps (state S.Store conn.old) s
-        → MayLeave (state S.Store conn.new) s next }
-    ensures less { HasCleanDisk (state S.Store conn.new) → HasCleanDisk (state S.Store conn.old) }
+    ensures either { (s next : State) → LeadsTo id num plan.now by.entry s next
+        → Keeps (state S.Store conn.old) s → MayLeave (state S.Store conn.new) s next }
+    ensures less { WasClean S.Store conn.old conn.new }
 {
     let mut tx = conn.transaction();
     if let Err(error) = write_begin(&mut tx, id, num, plan, by) {

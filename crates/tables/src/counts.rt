@@ -1,7 +1,7 @@
 //! How many events and journeys there are.
 ghost use Rattle.std.specs.Prelude.{◌≡◌, ◌≤◌, false, IfOk};
-ghost use Rattle.tables.specs.Answering.{Counts, KeepsOn, KeepsAtMemory, LeavesLess, Reads};
-ghost use Rattle.tables.specs.Opening.{WasSound};
+ghost use Rattle.tables.specs.Answering.{Counts, KeepsOn, KeepsAtMemory};
+ghost use Rattle.tables.specs.Reading.{LeavesAsBefore, ShowsKept, WasClean};
 
 use crate::faults::fault_of;
 use commands::Fault;
@@ -16,12 +16,12 @@ pub(crate) fn read_counts<S: Alter>(conn: &mut Connection<S>) -> Result<Meta, Fa
     requires outside { conn.old.in_transaction ≡ false }
 
     ensures outside { conn.new.in_transaction ≡ false }
-    ensures counts { Reads S.Store conn.old conn.new result Counts }
+    ensures counts { ShowsKept S.Store conn.old conn.new result Counts }
     ensures small { IfOk result (λ m. (m.events ≤ MOST_EVENTS) × (m.journeys ≤ MOST_EVENTS)) }
     ensures same { KeepsOn S.Store conn.old conn.new result }
     ensures memory { KeepsAtMemory S.Store conn.old conn.new result }
-    ensures left { LeavesLess S.Store conn.old conn.new }
-    ensures sound { WasSound S.Store conn.old conn.new }
+    ensures left { LeavesAsBefore S.Store conn.old conn.new }
+    ensures sound { WasClean S.Store conn.old conn.new }
 {
     match read_meta(conn) {
         Ok(meta) if meta.events <= MOST_EVENTS && meta.journeys <= MOST_EVENTS => Ok(meta),

@@ -10,7 +10,8 @@ ghost use Rattle.std.specs.Prelude.{◌≡◌, ◌≢◌, ◌↔◌, false, None
 ghost use Rattle.sqlite.specs.State.{HasCleanDisk};
 ghost use Rattle.sqlite.specs.Held.{state};
 ghost use Rattle.desk_sql.specs.Schema.{no_schema};
-ghost use Rattle.tables.specs.Opening.{KeepsIt, LeavesIt, WasSound, SawVersion, Tells};
+ghost use Rattle.tables.specs.Opening.{KeepsIt, LeavesIt, SawVersion, Tells};
+ghost use Rattle.tables.specs.Reading.{WasClean};
 
 use crate::faults::{OpenFault, fault_of};
 use commands::Fault;
@@ -64,7 +65,7 @@ fn found_tables<S: Alter>(conn: &mut Connection<S>) -> Result<(), OpenFault>
 
     ensures outside { conn.new.in_transaction ≡ false }
     ensures limit { conn.new.step_limit ≡ conn.old.step_limit }
-    ensures sound { WasSound S.Store conn.old conn.new }
+    ensures sound { WasClean S.Store conn.old conn.new }
     ensures finds { OnOk result (KeepsIt S.Store conn.old conn.new) }
     ensures left { OnErr result (LeavesIt S.Store conn.old conn.new) }
     ensures version { OnOk result (SawVersion S.Store conn.old conn.new 2) }
@@ -88,7 +89,7 @@ fn read_version<S: Alter>(conn: &mut Connection<S>) -> Result<(), OpenFault>
 
     ensures outside { conn.new.in_transaction ≡ false }
     ensures limit { conn.new.step_limit ≡ conn.old.step_limit }
-    ensures sound { WasSound S.Store conn.old conn.new }
+    ensures sound { WasClean S.Store conn.old conn.new }
     ensures finds { OnOk result (KeepsIt S.Store conn.old conn.new) }
     ensures left { OnErr result (LeavesIt S.Store conn.old conn.new) }
     ensures version { OnOk result (SawVersion S.Store conn.old conn.new 2) }
@@ -109,11 +110,11 @@ pub fn open_from<S: Alter>(mut conn: Connection<S>) -> Result<Opened<S>, (Connec
     ensures finds { IfOk result (λ o. KeepsIt S.Store conn o.conn) }
     ensures version { IfOk result (λ o. SawVersion S.Store conn o.conn 2) }
     ensures unlimited { IfOk result (λ o. o.conn.step_limit ≡ None) }
-    ensures sound { IfOk result (λ o. WasSound S.Store conn o.conn) }
+    ensures sound { IfOk result (λ o. WasClean S.Store conn o.conn) }
     ensures outside { IfErr result (λ e. e.0.in_transaction ≡ false) }
     ensures left { IfErr result (λ e. LeavesIt S.Store conn e.0) }
     ensures told { IfErr result (λ e. Tells S.Store conn e.0 e.1) }
-    ensures unharmed { IfErr result (λ e. WasSound S.Store conn e.0) }
+    ensures unharmed { IfErr result (λ e. WasClean S.Store conn e.0) }
 {
     let bare = is_bare(conn.schema());
     let found = if bare {
@@ -126,6 +127,3 @@ pub fn open_from<S: Alter>(mut conn: Connection<S>) -> Result<Opened<S>, (Connec
         Err(fault) => Err((conn, fault)),
     }
 }
-
-#[cfg(test)]
-mod tests;

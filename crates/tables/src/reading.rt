@@ -1,8 +1,9 @@
 //! Reads of the tables, in the words of the desk. A read changes nothing, whatever comes of it.
-ghost use Rattle.std.specs.Prelude.{◌≡◌, ◌<◌, ◌^◌, false, None};
-ghost use Rattle.ledger.specs.Ledger.{history, journey_at};
-ghost use Rattle.saga_core.specs.Shown.{first_unfinished as first_shown, record_of as record_shown, marks_of, ShowsCells, IsStock};
-ghost use Rattle.tables.specs.Reading.{ShowsKept, KeepsOn, LeavesAsBefore, WasClean, IsPlanOf};
+ghost use Rattle.std.specs.Prelude.{◌≡◌, ◌<◌, ◌^◌, false};
+ghost use Rattle.ledger.specs.Ledger.{history};
+ghost use Rattle.saga_core.specs.Shown.{ShowsCells, IsStock};
+ghost use Rattle.tables.specs.Reading.{ShowsKept, KeepsOn, LeavesAsBefore, WasClean};
+ghost use Rattle.tables.specs.Reading.{IsFirstAbove, HasNone, IsRecordAt, AreMarksAt, IsPlanOf};
 
 use crate::faults::fault_of;
 use crate::plans_told::plan_told;
@@ -30,7 +31,7 @@ pub(crate) fn read_first_unfinished<S: Alter>(
     requires { conn.old.in_transaction ≡ false }
 
     ensures outside { conn.new.in_transaction ≡ false }
-    ensures first { ShowsKept S.Store conn.old conn.new result (λ s found. found ≡ first_shown s.ledger after) }
+    ensures first { ShowsKept S.Store conn.old conn.new result (IsFirstAbove after) }
     ensures same { KeepsOn S.Store conn.old conn.new }
     ensures stop { LeavesAsBefore S.Store conn.old conn.new }
     ensures less { WasClean S.Store conn.old conn.new }
@@ -50,7 +51,7 @@ fn check_absent<S: Alter>(conn: &mut Connection<S>, id: u64) -> Result<(), Fault
     requires { conn.old.in_transaction ≡ false }
 
     ensures outside { conn.new.in_transaction ≡ false }
-    ensures absent { ShowsKept S.Store conn.old conn.new result (λ s _. journey_at s.ledger id ≡ None) }
+    ensures absent { ShowsKept S.Store conn.old conn.new result (HasNone id) }
     ensures same { KeepsOn S.Store conn.old conn.new }
     ensures stop { LeavesAsBefore S.Store conn.old conn.new }
     ensures less { WasClean S.Store conn.old conn.new }
@@ -71,7 +72,8 @@ pub(crate) fn read_history<S: Alter>(
     requires { conn.old.in_transaction ≡ false }
 
     ensures outside { conn.new.in_transaction ≡ false }
-    ensures items { ShowsKept S.Store conn.old conn.new result (λ s items. items.items ≡ history s.ledger id) }
+    ensures items { ShowsKept S.Store conn.old conn.new result
+        (λ s items. items.items ≡ history s.ledger id) }
     ensures same { KeepsOn S.Store conn.old conn.new }
     ensures stop { LeavesAsBefore S.Store conn.old conn.new }
     ensures less { WasClean S.Store conn.old conn.new }
@@ -114,7 +116,7 @@ fn read_marks<S: Alter>(alloc: Global, conn: &mut Connection<S>, id: u64) -> Res
     requires small { id < 2 ^ 63 }
 
     ensures outside { conn.new.in_transaction ≡ false }
-    ensures marks { ShowsKept S.Store conn.old conn.new result (λ s marks. marks ≡ marks_of (history s.ledger id)) }
+    ensures marks { ShowsKept S.Store conn.old conn.new result (AreMarksAt id) }
     ensures same { KeepsOn S.Store conn.old conn.new }
     ensures stop { LeavesAsBefore S.Store conn.old conn.new }
     ensures less { WasClean S.Store conn.old conn.new }
@@ -137,7 +139,7 @@ pub(crate) fn read_journey<S: Alter>(
     requires { conn.old.in_transaction ≡ false }
 
     ensures outside { conn.new.in_transaction ≡ false }
-    ensures journey { ShowsKept S.Store conn.old conn.new result (λ s found. found ≡ record_shown s.ledger id) }
+    ensures journey { ShowsKept S.Store conn.old conn.new result (IsRecordAt id) }
     ensures same { KeepsOn S.Store conn.old conn.new }
     ensures stop { LeavesAsBefore S.Store conn.old conn.new }
     ensures less { WasClean S.Store conn.old conn.new }
@@ -169,7 +171,8 @@ pub(crate) fn read_cells<S: Alter>(
     requires { conn.old.in_transaction ≡ false }
 
     ensures outside { conn.new.in_transaction ≡ false }
-    ensures cells { ShowsKept S.Store conn.old conn.new result (λ s cells. ShowsCells want.now s cells.items) }
+    ensures cells { ShowsKept S.Store conn.old conn.new result
+        (λ s cells. ShowsCells want.now s cells.items) }
     ensures same { KeepsOn S.Store conn.old conn.new }
     ensures stop { LeavesAsBefore S.Store conn.old conn.new }
     ensures less { WasClean S.Store conn.old conn.new }
@@ -198,7 +201,8 @@ pub(crate) fn read_stock<S: Alter>(
     requires { conn.old.in_transaction ≡ false }
 
     ensures outside { conn.new.in_transaction ≡ false }
-    ensures stock { ShowsKept S.Store conn.old conn.new result (λ s rows. IsStock s.ledger rows.items) }
+    ensures stock { ShowsKept S.Store conn.old conn.new result
+        (λ s rows. IsStock s.ledger rows.items) }
     ensures same { KeepsOn S.Store conn.old conn.new }
     ensures stop { LeavesAsBefore S.Store conn.old conn.new }
     ensures less { WasClean S.Store conn.old conn.new }

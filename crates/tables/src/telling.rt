@@ -215,7 +215,8 @@ pub(crate) fn cells_told(alloc: Global, found: &[CellFound]) -> Result<Vec<(Cell
 
 /// The save-points at these positions.
 pub(crate) fn marks_told(found: &[u64]) -> Option<Marks>
-    ensures says { IfSome result (λ marks. (p : ℕ) → is_taken_in marks p ≡ list_any (λ q. q == p) found.now) }
+    ensures says { IfSome result (λ marks. (p : ℕ)
+        → is_taken_in marks p ≡ list_any (λ q. q == p) found.now) }
     ensures low { IfSome result AreInRange }
 {
     let mut marks = Marks::none();

@@ -28,7 +28,7 @@ fn run_names_its_file(rt: HostRuntime) {
         let asked = job(alloc, words);
         match &asked {
             Ok(Job::Run { file }) => assert_eq!(rt; file.as_str(), expected, "{case}"),
-            Err(_) => assert!(rt; false, "{case}"),
+            Err(fault) => assert!(rt; false, "{case}: {fault:?}"),
         }
     }
 }
@@ -60,7 +60,7 @@ fn other_words_get_the_usage(rt: HostRuntime) {
             Err(JobFault::Usage(usage)) => {
                 assert!(rt; usage.as_str().starts_with(expected), "{case}: {usage}")
             }
-            _ => assert!(rt; false, "{case}"),
+            asked => assert!(rt; false, "{case}: {asked:?}"),
         }
     }
 }
@@ -77,6 +77,6 @@ fn no_word_gets_the_usage(rt: HostRuntime) {
                 "{usage}"
             )
         }
-        _ => assert!(rt; false),
+        asked => assert!(rt; false, "{asked:?}"),
     }
 }

@@ -1,0 +1,65 @@
+-- Cutting what was joined gives it back, where the parts lack the byte between them. For the laws of the texts.
+use Rattle.std.proofs.Common.{◌≡◌, ℕ, Bool, true, false, not, ◌==◌, List, [], ◌∷◌, ◌++◌, refl, ap, ◌∙◌, eq-eqb}
+use Rattle.std.specs.List.{list_all, onto_first}
+use Rattle.std.proofs.lemmas.Bool.{eqb-true}
+use Rattle.std.proofs.lemmas.List.Splits.{slice_split-cons_yes, slice_split-cons_no}
+use Rattle.allotment.specs.Texts.{parts, joined, slash}
+use Rattle.allotment.proofs.TestLemmas.{and_both, and_make}
+use Rattle.allotment.proofs.PlainLemmas.{is_plain_byte, is_plain}
+
+-- a text without this byte
+abbrev pub lacks : ℕ → List ℕ → Bool
+lacks c text = list_all (λ b. not (b == c)) text
+
+-- what is not so is not so
+not_true : (b : Bool) → not b ≡ true → b ≡ false
+not_true true e = cc
+not_true false e = refl
+
+-- a byte that is no digit, capital or dash is none of those that are
+other_byte : (c b : ℕ) (t : Bool) → (b == c) ≡ t → is_plain_byte c ≡ false → is_plain_byte b ≡ true → not t ≡ true
+other_byte c b true e odd fine = let same : b ≡ c = eqb-true b c e in let h = ap is_plain_byte same in cc
+other_byte c b false e odd fine = refl
+
+-- so a text of those lacks it
+plain_lacks : (c : ℕ) (text : List ℕ) → is_plain_byte c ≡ false → is_plain text ≡ true → lacks c text ≡ true
+plain_lacks c [] odd e = refl
+plain_lacks c (b ∷ text) odd e =
+    let both = and_both (is_plain_byte b) (is_plain text) e in
+    and_make _ _ (other_byte c b (b == c) refl odd both.0) (plain_lacks c text odd both.1)
+
+-- and so do texts of those
+all_lack : (c : ℕ) (ts : List (List ℕ)) → is_plain_byte c ≡ false
+    → list_all is_plain ts ≡ true → list_all (lacks c) ts ≡ true
+all_lack c [] odd e = refl
+all_lack c (t ∷ ts) odd e =
+    let both = and_both (is_plain t) (list_all is_plain ts) e in
+    and_make _ _ (plain_lacks c t odd both.0) (all_lack c ts odd both.1)
+
+-- a text without the byte is its own one part
+no_cut : (c : ℕ) (t : List ℕ) → lacks c t ≡ true → parts c t ≡ t ∷ []
+no_cut c [] e = refl
+no_cut c (b ∷ t) e =
+    let both = and_both (not (b == c)) (lacks c t) e in
+    slice_split-cons_no (λ x. x == c) b t (not_true (b == c) both.0) ∙ ap (onto_first b) (no_cut c t both.1)
+
+-- the first cut is at the first such byte
+cut_here : (c : ℕ) (t more : List ℕ) → lacks c t ≡ true → parts c (t ++ c ∷ more) ≡ t ∷ parts c more
+cut_here c [] more e = slice_split-cons_yes (λ x. x == c) c more (eq-eqb c c refl)
+cut_here c (b ∷ t) more e =
+    let both = and_both (not (b == c)) (lacks c t) e in
+    slice_split-cons_no (λ x. x == c) b (t ++ c ∷ more) (not_true (b == c) both.0)
+    ∙ ap (onto_first b) (cut_here c t more both.1)
+
+-- the parts of texts that were joined are the texts
+pub parts_joined : (c : ℕ) (t : List ℕ) (ts : List (List ℕ))
+    → list_all (lacks c) (t ∷ ts) ≡ true → parts c (joined c (t ∷ ts)) ≡ t ∷ ts
+parts_joined c t [] e = no_cut c t (and_both (lacks c t) true e).0
+parts_joined c t (u ∷ ts) e =
+    let both = and_both (lacks c t) (list_all (lacks c) (u ∷ ts)) e in
+    cut_here c t (joined c (u ∷ ts)) both.0 ∙ ap (λ z. t ∷ z) (parts_joined c u ts both.1)
+
+-- plain texts that were joined at `/` are its parts
+pub plain_parts : (t : List ℕ) (ts : List (List ℕ)) → list_all is_plain (t ∷ ts) ≡ true
+    → parts slash (joined slash (t ∷ ts)) ≡ t ∷ ts
+plain_parts t ts e = parts_joined slash t ts (all_lack slash (t ∷ ts) refl e)

@@ -1,0 +1,152 @@
+-- No two rows, and no two wants, are written in one way. For the laws of the texts.
+use Rattle.std.proofs.Common.{◌≡◌, ℕ, ◌≤◌, ◌<◌, ◌^◌, true, List, [], ◌∷◌, take, refl, sym, ap, ◌∙◌, arith, append_assoc, Some}
+use Rattle.std.specs.Prelude.{decimal, nat_le}
+use Rattle.std.specs.List.{list_all}
+use Rattle.std.proofs.lemmas.Bool.{leb-true}
+use Rattle.std.proofs.lemmas.Fmt.{decimal_injective}
+use Rattle.allotment.specs.Want.{Wanted, wanted}
+use Rattle.allotment.specs.Limits.{is_code, is_good_cell, is_night, is_want, are_nights, is_count, most_nights, most_places}
+use Rattle.allotment.specs.Nights.{night_in, night_text}
+use Rattle.allotment.specs.Rows.{Allotted, allotted, is_row}
+use Rattle.allotment.specs.Texts.{parts, joined, slash, kind_letter, kind_of_letter, cell_of_parts, row_text, want_text}
+use Rattle.allotment.specs.declared.kinds.Kind.{Kind}
+use Rattle.allotment.specs.declared.kinds.Kind.TheVariants.{Flight, Room, Transfer, Cover}
+use Rattle.allotment.proofs.TestLemmas.{and_both, and_make}
+use Rattle.allotment.proofs.NightLemmas.{night_in-night_text}
+use Rattle.allotment.proofs.PlainLemmas.{is_plain, letter_plain, code_plain, night_plain, decimal_plain}
+use Rattle.allotment.proofs.JoinLemmas.{plain_parts}
+use Rattle.allotment.proofs.LawLemmas.{letter_again, is_sound, four_again}
+
+-- Rows.
+
+-- the parts of a row behind its letter
+abbrev four_of : Allotted → List (List ℕ)
+four_of r = r.cell.supplier ∷ r.cell.product ∷ night_text r.cell.night ∷ decimal r.places ∷ []
+
+-- a row is written as its five parts
+row_five : (r : Allotted) → row_text r ≡ joined slash (kind_letter r.cell.kind ∷ four_of r)
+row_five r = simp append_assoc
+
+-- the places of a good row are few enough to be a number of the machine
+few_places : (r : Allotted) → is_row r ≡ true → r.places < 2 ^ 64
+few_places r e =
+    let both = and_both (is_good_cell r.cell) (nat_le r.places most_places) e in
+    let few : r.places ≤ most_places = leb-true r.places most_places both.1 in
+    omega arith
+
+-- so they lack what stands between them
+row_plain : (r : Allotted) → is_row r ≡ true → list_all is_plain (kind_letter r.cell.kind ∷ four_of r) ≡ true
+row_plain r e =
+    let g = is_sound r.cell (and_both (is_good_cell r.cell) (nat_le r.places most_places) e).0 in
+    and_make _ _ (letter_plain r.cell.kind)
+    (and_make _ _ (code_plain r.cell.supplier g.supplier)
+    (and_make _ _ (code_plain r.cell.product g.product)
+    (and_make _ _ (night_plain r.cell.night g.night)
+    (and_make _ _ (decimal_plain r.places (few_places r e)) refl))))
+
+-- and are found again by cutting
+row_parts : (r : Allotted) → is_row r ≡ true → parts slash (row_text r) ≡ kind_letter r.cell.kind ∷ four_of r
+row_parts r e = ap (parts slash) (row_five r) ∙ plain_parts (kind_letter r.cell.kind) (four_of r) (row_plain r e)
+
+-- rows whose parts are the same are one
+row_by_parts : (r s : Allotted) → is_row r ≡ true → is_row s ≡ true
+    → kind_letter r.cell.kind ∷ four_of r ≡ kind_letter s.cell.kind ∷ four_of s → r ≡ s
+row_by_parts r s good fine e =
+    let one = and_both (is_good_cell r.cell) (nat_le r.places most_places) good in
+    let other = and_both (is_good_cell s.cell) (nat_le s.places most_places) fine in
+    let found : Some r.cell ≡ Some s.cell =
+    sym (four_again r.cell one.0) ∙ ap (λ ps. cell_of_parts (take 4 ps)) e ∙ four_again s.cell other.0 in
+    let shown : decimal r.places ≡ decimal s.places = cc in
+    let cells : r.cell ≡ s.cell = cc in
+    let places = decimal_injective r.places s.places (few_places r good) (few_places s fine) shown in
+    ap (λ x. allotted x r.places) cells ∙ ap (λ n. allotted s.cell n) places
+
+-- so rows that are written in one way are one
+pub row_same : (r s : Allotted) → is_row r ≡ true → is_row s ≡ true → row_text r ≡ row_text s → r ≡ s
+row_same r s good fine e =
+    row_by_parts r s good fine (sym (row_parts r good) ∙ ap (parts slash) e ∙ row_parts s fine)
+
+-- Wants.
+
+-- the parts of a want behind its letter
+abbrev five_of : Wanted → List (List ℕ)
+five_of w = w.supplier ∷ w.product ∷ night_text w.first ∷ decimal w.nights ∷ decimal w.count ∷ []
+
+-- the limits of a want, one by one
+record IsSoundWant (w : Wanted) : Type 0 where
+  pub supplier : is_code w.supplier ≡ true
+  pub product : is_code w.product ≡ true
+  pub first : is_night w.first ≡ true
+  pub nights : w.nights < 2 ^ 64
+  pub count : w.count < 2 ^ 64
+
+-- no kind may have more than 60 nights
+sixty : (k : Kind) → most_nights k ≤ 60
+sixty Flight = omega arith
+sixty Room = omega arith
+sixty Transfer = omega arith
+sixty Cover = omega arith
+
+-- a good want keeps them
+is_sound_want : (w : Wanted) → is_want w ≡ true → IsSoundWant w
+is_sound_want w e =
+    let a = and_both _ (is_count w.count) e in
+    let b = and_both _ (are_nights w.kind w.first w.nights) a.0 in
+    let d = and_both _ (is_night w.first) b.0 in
+    let codes = and_both (is_code w.supplier) (is_code w.product) d.0 in
+    let within = (and_both (nat_le 1 w.nights) (nat_le w.nights (most_nights w.kind)) (and_both _ _ b.1).0).1 in
+    let few : w.nights ≤ most_nights w.kind = leb-true w.nights (most_nights w.kind) within in
+    let most = sixty w.kind in
+    let counted : w.count ≤ 50 = leb-true w.count 50 (and_both (nat_le 1 w.count) (nat_le w.count 50) a.1).1 in
+    record { supplier = codes.0; product = codes.1; first = d.1; nights = omega arith; count = omega arith }
+
+-- its six parts lack what stands between them
+want_plain : (w : Wanted) → IsSoundWant w → list_all is_plain (kind_letter w.kind ∷ five_of w) ≡ true
+want_plain w g =
+    and_make _ _ (letter_plain w.kind)
+    (and_make _ _ (code_plain w.supplier g.supplier)
+    (and_make _ _ (code_plain w.product g.product)
+    (and_make _ _ (night_plain w.first g.first)
+    (and_make _ _ (decimal_plain w.nights g.nights)
+    (and_make _ _ (decimal_plain w.count g.count) refl)))))
+
+-- and are found again by cutting
+want_parts : (w : Wanted) → IsSoundWant w → parts slash (want_text w) ≡ kind_letter w.kind ∷ five_of w
+want_parts w g = plain_parts (kind_letter w.kind) (five_of w) (want_plain w g)
+
+-- kinds of one letter are one
+letter_same : (k l : Kind) → kind_letter k ≡ kind_letter l → k ≡ l
+letter_same k l e = let both : Some k ≡ Some l = sym (letter_again k) ∙ ap kind_of_letter e ∙ letter_again l in cc
+
+-- so are nights of one text
+night_same : (m n : ℕ) → is_night m ≡ true → is_night n ≡ true → night_text m ≡ night_text n → m ≡ n
+night_same m n p q e =
+    let both : Some m ≡ Some n = sym (night_in-night_text m p) ∙ ap night_in e ∙ night_in-night_text n q in cc
+
+-- wants whose parts are the same are one
+want_by_parts : (w v : Wanted) → IsSoundWant w → IsSoundWant v
+    → kind_letter w.kind ∷ five_of w ≡ kind_letter v.kind ∷ five_of v → w ≡ v
+want_by_parts w v g h e =
+    let letters : kind_letter w.kind ≡ kind_letter v.kind = cc in
+    let suppliers : w.supplier ≡ v.supplier = cc in
+    let products : w.product ≡ v.product = cc in
+    let firsts : night_text w.first ≡ night_text v.first = cc in
+    let nights : decimal w.nights ≡ decimal v.nights = cc in
+    let counts : decimal w.count ≡ decimal v.count = cc in
+    let kinds = letter_same w.kind v.kind letters in
+    let nights_from = night_same w.first v.first g.first h.first firsts in
+    let many = decimal_injective w.nights v.nights g.nights h.nights nights in
+    let each = decimal_injective w.count v.count g.count h.count counts in
+    ap (λ k. wanted k w.supplier w.product w.first w.nights w.count) kinds
+    ∙ ap (λ s. wanted v.kind s w.product w.first w.nights w.count) suppliers
+    ∙ ap (λ p. wanted v.kind v.supplier p w.first w.nights w.count) products
+    ∙ ap (λ n. wanted v.kind v.supplier v.product n w.nights w.count) nights_from
+    ∙ ap (λ n. wanted v.kind v.supplier v.product v.first n w.count) many
+    ∙ ap (λ n. wanted v.kind v.supplier v.product v.first v.nights n) each
+
+-- so wants that are written in one way are one
+pub want_same : (w v : Wanted) → is_want w ≡ true → is_want v ≡ true → want_text w ≡ want_text v → w ≡ v
+want_same w v good fine e =
+    let g = is_sound_want w good in
+    let h = is_sound_want v fine in
+    want_by_parts w v g h (sym (want_parts w g) ∙ ap (parts slash) e ∙ want_parts v h)

@@ -1,0 +1,256 @@
+-- What the turns of recovery do: each is allowed, each journey that ran turns once, and after them
+-- no journey may need more than its bound. For the law of recovery.
+use Rattle.std.proofs.Common.{◌≡◌, ℕ, zero, suc, ◌+◌, ◌*◌, ◌<◌, ◌≤◌, List, [], ◌∷◌, ◌++◌, length, map, refl, ap, sym, ◌∙◌, arith, subst, append-nil, eqb-true, eq-eqb}
+use Rattle.std.proofs.lemmas.Bool.{and_from, ne_eqb, eqb-false}
+use Rattle.std.proofs.lemmas.List.Elements.{filter_map-append}
+use Rattle.std.specs.Prelude.{Bool, true, false, ◌==◌, Option, Some, None, option_map, unwrap_or, filter, filter_map, cond, if◌then◌else◌, IsTrue}
+use Rattle.std.specs.List.{cons_option}
+use Rattle.allotment.specs.Cells.{numbers_from}
+use Rattle.plan.specs.Planned.{Planned, numbered, step_count}
+use Rattle.commands.specs.declared.items.Cause.TheVariants.{Stop}
+use Rattle.commands.specs.declared.items.Item.{Item}
+use Rattle.commands.specs.declared.items.Item.TheVariants.{Turn}
+use Rattle.commands.specs.declared.items.Phase.{Phase}
+use Rattle.commands.specs.declared.items.Phase.TheVariants.{Run, Back, Ended, Undone}
+use Rattle.ledger.specs.History.{position_of, last_save, phase, is_running, is_open}
+use Rattle.ledger.specs.Ledger.{Event, Did, Journey, journeys, journey_at, begun_by, history, item_of, is_in, is_allowed, AreAllowedAfter}
+use Rattle.ledger.specs.Recovery.{last_save_of, stops}
+use Rattle.ledger.proofs.Growing.{journeys-did, history-did_other, is_item_allowed-may_do}
+use Rattle.ledger.proofs.Lowering.{way, left_in, steps_left, left_in-most, way-other, way-most}
+use Rattle.ledger.proofs.Modes.{Mode, rises, falls, fell, Goes, running-rises}
+use Rattle.ledger.proofs.Phases.{passing}
+use Rattle.ledger.proofs.Standing.{position_of-turn}
+
+-- The turns.
+
+-- the turn of this journey to its last save-point
+abbrev pub stop_of : List Event → ℕ → Event
+stop_of l j = Did j (Turn (last_save_of l j) Stop)
+
+-- the turns of the running ones of these journeys
+abbrev stops_from : List Event → ℕ → ℕ → List Event
+stops_from l first n = map (stop_of l) (filter (is_in is_running l) (numbers_from first n))
+
+-- turns begin no journey
+no_stop-begins : (l : List Event) (ks : List ℕ) → filter_map begun_by (map (stop_of l) ks) ≡ []
+no_stop-begins l [] = refl
+no_stop-begins l (k ∷ ks) = no_stop-begins l ks
+
+-- so the journeys stay
+pub journeys-stops : (l : List Event) → journeys (l ++ stops l) ≡ journeys l
+journeys-stops l =
+    filter_map-append begun_by l (stops l)
+    ∙ ap (λ js. journeys l ++ js)
+    (no_stop-begins l (filter (is_in is_running l) (numbers_from 1 (length (journeys l)))))
+    ∙ append-nil (journeys l)
+
+-- Each is allowed.
+
+-- the ledgers have the same journeys, and from this number on the same histories
+record IsSameFrom (first : ℕ) (l m : List Event) : Type 0 where
+  at : (j : ℕ) → journey_at m j ≡ journey_at l j
+  of : (j : ℕ) → first ≤ j → history m j ≡ history l j
+
+-- an item of a journey leaves those behind it the same
+same_from-did : (first : ℕ) (l m : List Event) (item : Item) → IsSameFrom first l m
+    → IsSameFrom (suc first) l (m ++ Did first item ∷ [])
+same_from-did first l m item same = record {
+  at = λ j. ap (λ js. numbered js j) (journeys-did m first item) ∙ same.at j;
+  of = λ j above.
+      history-did_other m first item j (ne_eqb j first (λ e. omega arith))
+      ∙ same.of j (omega arith);
+}
+
+-- what is the same from one number on is so from the next
+same_from-later : (first : ℕ) (l m : List Event) → IsSameFrom first l m → IsSameFrom (suc first) l m
+same_from-later first l m same =
+    record { at = same.at; of = λ j above. same.of j (omega arith) }
+
+-- a running journey may turn to its last save-point
+stop-allowed : (first : ℕ) (l m : List Event) → IsSameFrom first l m
+    → is_in is_running l first ≡ true → IsTrue (is_allowed m (stop_of l first))
+stop-allowed first l m same run = go (journey_at l first) refl
+  where
+    go : (o : Option Journey) → journey_at l first ≡ o → IsTrue (is_allowed m (stop_of l first))
+    go None at =
+        let bad : true ≡ false = sym run ∙ ap (passing is_running (history l first)) at in cc
+    go (Some a) at =
+        let here : history m first ≡ history l first = same.of first (omega arith) in
+        let runs : is_running (phase a.plan (history m first)) ≡ true =
+        ap (λ h. is_running (phase a.plan h)) here
+        ∙ sym (ap (passing is_running (history l first)) at) ∙ run in
+        let target : last_save_of l first ≡ last_save a.plan (history m first) =
+        ap (λ o. unwrap_or (option_map (λ (b : Journey). last_save b.plan (history l first)) o) 0)
+        at
+        ∙ ap (last_save a.plan) (sym here) in
+        is_item_allowed-may_do m first (Turn (last_save_of l first) Stop) a (same.at first ∙ at)
+        ∙ and_from _ _ runs (eq-eqb _ _ target)
+
+-- so each turn is allowed, one after another
+stops_from-allowed : (l : List Event) (n first : ℕ) (m : List Event) → IsSameFrom first l m
+    → AreAllowedAfter m (stops_from l first n)
+stops_from-allowed l zero first m same = tt
+stops_from-allowed l (suc n) first m same =
+    go (is_in is_running l first) refl (λ k s. stops_from-allowed l n (suc first) k s)
+  where
+    go : (v : Bool) → is_in is_running l first ≡ v
+        → ((k : List Event) → IsSameFrom (suc first) l k
+        → AreAllowedAfter k (stops_from l (suc first) n))
+        → AreAllowedAfter m
+        (map (stop_of l)
+        (cond v (first ∷ filter (is_in is_running l) (numbers_from (suc first) n))
+        (filter (is_in is_running l) (numbers_from (suc first) n))))
+    go true run rest = (
+      stop-allowed first l m same run,
+      rest (m ++ stop_of l first ∷ [])
+          (same_from-did first l m (Turn (last_save_of l first) Stop) same),
+    )
+    go false e rest = rest m (same_from-later first l m same)
+
+-- all turns of a ledger are allowed
+pub stops-allowed : (l : List Event) → AreAllowedAfter l (stops l)
+stops-allowed l =
+    stops_from-allowed l (length (journeys l)) 1 l
+    (record { at = λ j. refl; of = λ j above. refl })
+
+-- Each running journey turns once.
+
+-- what the turns put into a history: one turn if the journey runs
+abbrev pub stop_items : Bool → ℕ → List Item
+stop_items runs p = if runs then Turn p Stop ∷ [] else []
+
+-- turns of later journeys put nothing into it
+stops-later : (l : List Event) (j n first : ℕ) → j < first
+    → filter_map (item_of j) (stops_from l first n) ≡ []
+stops-later l j zero first above = refl
+stops-later l j (suc n) first above =
+    go (is_in is_running l first) (stops-later l j n (suc first) (omega arith))
+  where
+    go : (v : Bool) → filter_map (item_of j) (stops_from l (suc first) n) ≡ []
+        → filter_map (item_of j)
+        (map (stop_of l)
+        (cond v (first ∷ filter (is_in is_running l) (numbers_from (suc first) n))
+        (filter (is_in is_running l) (numbers_from (suc first) n))))
+        ≡ []
+    go true rest =
+        ap (λ b. cons_option (if b then Some (Turn (last_save_of l first) Stop) else None)
+        (filter_map (item_of j) (stops_from l (suc first) n)))
+        (ne_eqb j first (λ e. omega arith))
+        ∙ rest
+    go false rest = rest
+
+-- the first journey turns if it runs
+stops-first : (l : List Event) (j n : ℕ)
+    → filter_map (item_of j) (stops_from l j (suc n))
+    ≡ stop_items (is_in is_running l j) (last_save_of l j)
+stops-first l j n = go (is_in is_running l j)
+  where
+    rest : filter_map (item_of j) (stops_from l (suc j) n) ≡ []
+    rest = stops-later l j n (suc j) (omega arith)
+
+    go : (v : Bool)
+        → filter_map (item_of j)
+        (map (stop_of l)
+        (cond v (j ∷ filter (is_in is_running l) (numbers_from (suc j) n))
+        (filter (is_in is_running l) (numbers_from (suc j) n))))
+        ≡ stop_items v (last_save_of l j)
+    go true =
+        ap (λ b. cons_option (if b then Some (Turn (last_save_of l j) Stop) else None)
+        (filter_map (item_of j) (stops_from l (suc j) n)))
+        (eq-eqb j j refl)
+        ∙ ap (λ r. Turn (last_save_of l j) Stop ∷ r) rest
+    go false = rest
+
+-- each of these journeys turns if it runs
+stops-at : (l : List Event) (j n first : ℕ) → first ≤ j → j < first + n
+    → filter_map (item_of j) (stops_from l first n)
+    ≡ stop_items (is_in is_running l j) (last_save_of l j)
+stops-at l j zero first low high = absurd (omega arith)
+stops-at l j (suc n) first low high =
+    by_first (j == first) refl (λ above. stops-at l j n (suc first) above (omega arith))
+  where
+    past : (v : Bool) → (j == first) ≡ false
+        → filter_map (item_of j)
+        (map (stop_of l)
+        (cond v (first ∷ filter (is_in is_running l) (numbers_from (suc first) n))
+        (filter (is_in is_running l) (numbers_from (suc first) n))))
+        ≡ filter_map (item_of j) (stops_from l (suc first) n)
+    past true other =
+        ap (λ b. cons_option (if b then Some (Turn (last_save_of l first) Stop) else None)
+        (filter_map (item_of j) (stops_from l (suc first) n)))
+        other
+    past false other = refl
+
+    by_first : (v : Bool) → (j == first) ≡ v
+        → (suc first ≤ j → filter_map (item_of j) (stops_from l (suc first) n)
+        ≡ stop_items (is_in is_running l j) (last_save_of l j))
+        → filter_map (item_of j) (stops_from l first (suc n))
+        ≡ stop_items (is_in is_running l j) (last_save_of l j)
+    by_first true e rest =
+        subst (λ k. filter_map (item_of j) (stops_from l k (suc n))
+        ≡ stop_items (is_in is_running l j) (last_save_of l j))
+        (eqb-true _ _ e) (stops-first l j n)
+    by_first false e rest =
+        let other = eqb-false _ _ e in
+        past (is_in is_running l first) e ∙ rest (omega arith)
+
+-- the history of each journey after the turns
+pub history-stops : (l : List Event) (j : ℕ) → 1 ≤ j → j < 1 + length (journeys l)
+    → history (l ++ stops l) j
+    ≡ history l j ++ stop_items (is_in is_running l j) (last_save_of l j)
+history-stops l j low high =
+    filter_map-append (item_of j) l (stops l)
+    ∙ ap (λ r. history l j ++ r) (stops-at l j (length (journeys l)) 1 low high)
+
+-- What may come after them.
+
+-- no journey is above its end
+position_of-most : (plan : Planned) (h : List Item) → Mode plan h → position_of h ≤ step_count plan
+position_of-most plan h (rises r) = r.within
+position_of-most plan h (falls f) = let a = f.falls in let b = f.short in omega arith
+position_of-most plan h (fell f) = let a = f.low in omega arith
+
+-- 1 for a journey that turns, else 0
+abbrev pub turns_of : Bool → ℕ
+turns_of runs = if runs then 1 else 0
+
+-- what a journey may need that is in a phase that is open, or not
+abbrev pub need_of : Planned → Bool → ℕ
+need_of plan is_open = if is_open then 2 * step_count plan * (plan.tries + 2) else 0
+
+-- the turn of a journey, and the steps that are left after it, are within its bound
+pub stop-within : (plan : Planned) (h : List Item) (p : ℕ) → Goes plan h
+    → turns_of (is_running (phase plan h))
+    + steps_left plan (h ++ stop_items (is_running (phase plan h)) p)
+    ≤ need_of plan (is_open (phase plan h))
+stop-within plan h p g = go (phase plan h) refl
+  where
+    most : way plan h + 2 * step_count plan ≤ 2 * step_count plan * (plan.tries + 2)
+    most =
+        let sum : (n t : ℕ) → 2 * n * (t + 1) + 2 * n ≡ 2 * n * (t + 2) = λ n t. omega arith in
+        let whole = sum (step_count plan) plan.tries in
+        let low = way-most plan h in
+        omega arith
+
+    kept : steps_left plan (h ++ []) ≡ steps_left plan h
+    kept = ap (steps_left plan) (append-nil h)
+
+    go : (q : Phase) → phase plan h ≡ q
+        → turns_of (is_running q) + steps_left plan (h ++ stop_items (is_running q) p)
+        ≤ need_of plan (is_open q)
+    go Run e =
+        let below = (running-rises plan h g.mode (ap is_running e)).1 in
+        let here = position_of-turn h p Stop in
+        let same = way-other plan h (Turn p Stop) refl in
+        let after = left_in-most plan (h ++ Turn p Stop ∷ [])
+        (phase plan (h ++ Turn p Stop ∷ [])) in
+        let all = most in
+        omega arith
+    go (Back q) e =
+        let high = position_of-most plan h g.mode in
+        let left = left_in-most plan h (phase plan h) in
+        let same = kept in
+        let all = most in
+        omega arith
+    go Ended e = let same = kept in let none = ap (left_in plan h) e in omega arith
+    go Undone e = let same = kept in let none = ap (left_in plan h) e in omega arith

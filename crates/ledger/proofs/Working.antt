@@ -1,0 +1,150 @@
+-- The steps that are left to all journeys of a ledger, and that each step that one of them makes
+-- leaves fewer. For the bound of recovery.
+use Rattle.std.proofs.Common.{◌≡◌, ℕ, zero, suc, ◌+◌, ◌<◌, ◌≤◌, List, [], ◌∷◌, ◌++◌, length, refl, ap, sym, ◌∙◌, arith, append_assoc, append-nil, eqb-true, eq-eqb}
+use Rattle.std.proofs.lemmas.Bool.{and_parts, ne_eqb, eqb-false, ltb-true, ltb-false}
+use Rattle.std.proofs.lemmas.List.Sums.{sum_by-cons}
+use Rattle.std.proofs.lemmas.Option.{slice_get_past}
+use Rattle.std.specs.Prelude.{Bool, true, false, ◌==◌, nat_lt, Option, Some, None, option_map, unwrap_or, sum_by}
+use Rattle.std.specs.List.{list_all}
+use Rattle.allotment.specs.Cells.{numbers_from}
+use Rattle.plan.specs.Planned.{numbered}
+use Rattle.commands.specs.declared.items.Item.{Item}
+use Rattle.ledger.specs.History.{next_want}
+use Rattle.ledger.specs.Ledger.{Event, Loaded, Began, Did, Journey, journeys, journey_at, numbers, history, fits, is_item_allowed, AreAllowedAfter, IsLegal}
+use Rattle.ledger.specs.Recovery.{are_items, is_forward}
+use Rattle.ledger.proofs.Growing.{IsLegal-append, journeys-did, history-did_same, history-did_other, is_item_allowed-may_do, absurd_item}
+use Rattle.ledger.proofs.Ledgers.{all_go}
+use Rattle.ledger.proofs.Lowering.{steps_left, fewer_left}
+
+-- One journey.
+
+-- how many more steps a journey, if there is one, may make with this history
+abbrev pub left_to : List Item → Option Journey → ℕ
+left_to h o = unwrap_or (option_map (λ (a : Journey). steps_left a.plan h) o) 0
+
+-- how many more steps journey j may make
+abbrev pub left_of : List Event → ℕ → ℕ
+left_of l j = left_to (history l j) (journey_at l j)
+
+-- an item of another journey leaves them
+left_of-other : (l : List Event) (k : ℕ) (x : Item) (j : ℕ) → (j == k) ≡ false
+    → left_of (l ++ Did k x ∷ []) j ≡ left_of l j
+left_of-other l k x j other =
+    ap (λ h. left_to h (journey_at (l ++ Did k x ∷ []) j)) (history-did_other l k x j other)
+    ∙ ap (λ js. left_to (history l j) (numbered js j)) (journeys-did l k x)
+
+-- a step of the journey leaves fewer
+pub left_of-fewer : (l : List Event) (k : ℕ) (x : Item) → IsLegal l → is_forward x ≡ true
+    → is_item_allowed l k x ≡ true → left_of (l ++ Did k x ∷ []) k < left_of l k
+left_of-fewer l k x legal forward may = go (journey_at l k) refl
+  where
+    go : (o : Option Journey) → journey_at l k ≡ o
+        → left_of (l ++ Did k x ∷ []) k < left_of l k
+    go None at = absurd_item l k x at may
+    go (Some a) at =
+        let before : left_of l k ≡ steps_left a.plan (history l k) =
+        ap (left_to (history l k)) at in
+        let after : left_of (l ++ Did k x ∷ []) k ≡ steps_left a.plan (history l k ++ x ∷ []) =
+        ap (λ h. left_to h (journey_at (l ++ Did k x ∷ []) k))
+        (history-did_same l k x k (eq-eqb k k refl))
+        ∙ ap (λ js. left_to (history l k ++ x ∷ []) (numbered js k)) (journeys-did l k x)
+        ∙ ap (left_to (history l k ++ x ∷ [])) at in
+        let fewer = fewer_left a.plan (history l k) (fits l (next_want a.plan (history l k))) x
+        ((all_go l legal).go k a at) forward (sym (is_item_allowed-may_do l k x a at) ∙ may) in
+        omega arith
+
+-- All journeys.
+
+-- how many more steps all journeys of a ledger may make
+pub work : List Event → ℕ
+work l = sum_by (left_of l) (numbers l)
+
+-- it is that sum
+pub work-sum : (l : List Event) → work l ≡ sum_by (left_of l) (numbers l)
+unfolding work
+work-sum l = refl
+
+-- where no number in a row is k, and all else is the same, so is the sum
+sum_by-past : (f g : ℕ → ℕ) (k : ℕ) → ((j : ℕ) → (j == k) ≡ false → g j ≡ f j)
+    → (n first : ℕ) → k < first
+    → sum_by g (numbers_from first n) ≡ sum_by f (numbers_from first n)
+sum_by-past f g k same zero first past = refl
+sum_by-past f g k same (suc n) first past =
+    let a = sum_by-cons g first (numbers_from (suc first) n) in
+    let b = sum_by-cons f first (numbers_from (suc first) n) in
+    let one = same first (ne_eqb first k (λ e. omega arith)) in
+    let rest = sum_by-past f g k same n (suc first) (omega arith) in
+    omega arith
+
+-- where one number of a row has less, and all else is the same, the sum is less
+sum_by-fewer : (f g : ℕ → ℕ) (k : ℕ) → ((j : ℕ) → (j == k) ≡ false → g j ≡ f j) → g k < f k
+    → (n first : ℕ) → first ≤ k → k < first + n
+    → sum_by g (numbers_from first n) < sum_by f (numbers_from first n)
+sum_by-fewer f g k same less zero first low high = absurd (omega arith)
+sum_by-fewer f g k same less (suc n) first low high =
+    go (first == k) refl (λ above. sum_by-fewer f g k same less n (suc first) above (omega arith))
+  where
+    go : (v : Bool) → (first == k) ≡ v
+        → (suc first ≤ k
+        → sum_by g (numbers_from (suc first) n) < sum_by f (numbers_from (suc first) n))
+        → sum_by g (first ∷ numbers_from (suc first) n)
+        < sum_by f (first ∷ numbers_from (suc first) n)
+    go true e rest =
+        let a = sum_by-cons g first (numbers_from (suc first) n) in
+        let b = sum_by-cons f first (numbers_from (suc first) n) in
+        let is = eqb-true _ _ e in
+        let old = ap f is in
+        let new = ap g is in
+        let past = sum_by-past f g k same n (suc first) (omega arith) in
+        omega arith
+    go false e rest =
+        let a = sum_by-cons g first (numbers_from (suc first) n) in
+        let b = sum_by-cons f first (numbers_from (suc first) n) in
+        let one = same first e in
+        let other = eqb-false _ _ e in
+        let later = rest (omega arith) in
+        omega arith
+
+-- the number of a journey is one of the numbers of all journeys
+pub number-within : (js : List Journey) (j : ℕ) (a : Journey) → numbered js j ≡ Some a
+    → (1 ≤ j) × (j < 1 + length js)
+number-within js zero a at = cc
+number-within js (suc i) a at = go (nat_lt i (length js)) refl
+  where
+    go : (v : Bool) → nat_lt i (length js) ≡ v → (1 ≤ suc i) × (suc i < 1 + length js)
+    go true e = let below = ltb-true _ _ e in (omega arith, omega arith)
+    go false e = let none = slice_get_past js i (ltb-false _ _ e) in cc
+
+-- a step of one journey leaves fewer steps to all
+work-fewer : (l : List Event) (k : ℕ) (x : Item) → IsLegal l → is_forward x ≡ true
+    → is_item_allowed l k x ≡ true → work (l ++ Did k x ∷ []) < work l
+unfolding work
+work-fewer l k x legal forward may = go (journey_at l k) refl
+  where
+    go : (o : Option Journey) → journey_at l k ≡ o
+        → sum_by (left_of (l ++ Did k x ∷ [])) (numbers (l ++ Did k x ∷ []))
+        < sum_by (left_of l) (numbers l)
+    go None at = absurd_item l k x at may
+    go (Some a) at =
+        let within = number-within (journeys l) k a at in
+        let count = ap (λ js. sum_by (left_of (l ++ Did k x ∷ [])) (numbers_from 1 (length js)))
+        (journeys-did l k x) in
+        let fewer = sum_by-fewer (left_of l) (left_of (l ++ Did k x ∷ [])) k
+        (left_of-other l k x) (left_of-fewer l k x legal forward may) (length (journeys l)) 1
+        within.0 within.1 in
+        omega arith
+
+-- so steps are no more than were left
+pub steps-within : (p l : List Event) → IsLegal l → AreAllowedAfter l p
+    → list_all (are_items is_forward) p ≡ true → length p + work (l ++ p) ≤ work l
+steps-within [] l legal allowed items =
+    let same = ap work (append-nil l) in omega arith
+steps-within (Loaded name rows ∷ p) l legal allowed items = cc
+steps-within (Began agent plan ∷ p) l legal allowed items = cc
+steps-within (Did k x ∷ p) l legal allowed items =
+    let both = and_parts (is_forward x) (list_all (are_items is_forward) p) items in
+    let here = work-fewer l k x legal both.0 allowed.0 in
+    let later = steps-within p (l ++ Did k x ∷ []) (IsLegal-append l (Did k x) legal allowed.0)
+    allowed.1 both.1 in
+    let same = ap work (append_assoc l (Did k x ∷ []) p) in
+    omega arith

@@ -1,0 +1,57 @@
+-- What a JSON value has, by what is found in it. For what is taken out of values.
+use Rattle.std.proofs.Common.{◌≡◌, ℕ, suc, ◌&&◌, ◌==◌, Bool, false, List, [], ◌∷◌, map, length, refl, sym, ap, ◌∙◌, Option, Some, None}
+use Rattle.std.specs.Prelude.{String, option_map, option_and_then, is_some, unwrap_or}
+use Rattle.std.specs.List.{list_all}
+use denote.Ref.{Bor}
+use Rattle.std.specs.declared.alloc.Global.{Global}
+use Rattle.std.proofs.lemmas.List.{length-map}
+use Rattle.std.proofs.lemmas.List.Folds.{list_all-map}
+use Rattle.serde_json.specs.Data.{Data}
+use Rattle.serde_json.specs.Find.{get, as_array, as_object}
+use Rattle.serde_json.specs.View.{items_of, items_view, members_view}
+use Rattle.serde_json.specs.declared.value.Value.{Value}
+use Rattle.plan.specs.PlanJson.{member_count, values_of, has_members, has_just, in_member, list_of}
+use Rattle.plan.specs.JsonLevels.{views}
+
+-- an object shows as many members as it has
+pub member_count-members_view : (es : List (String Global × Value)) → member_count (members_view es) ≡ length es
+member_count-members_view [] = refl
+member_count-members_view (e ∷ es) = ap (λ z. suc z) (member_count-members_view es)
+
+-- a list shows its values
+pub values_of-items_of : (ds : List Data) → values_of (items_of ds) ≡ ds
+values_of-items_of [] = refl
+values_of-items_of (d ∷ ds) = ap (λ z. d ∷ z) (values_of-items_of ds)
+
+-- what shows is there
+pub is_some-option_map : {X Y : Type 0} (f : X → Y) (o : Option X) → is_some (option_map f o) ≡ is_some o
+is_some-option_map f (Some x) = refl
+is_some-option_map f None = refl
+
+-- an object of so many members
+pub members_counted : (es : List (String Global × Value)) (d : Data) (n m : ℕ) → Some (members_view es) ≡ as_object d
+    → m ≡ length es → (m == n) ≡ has_members n d
+members_counted es d n m e many =
+    ap (λ z. z == n) (many ∙ sym (member_count-members_view es))
+    ∙ ap (λ o. unwrap_or (option_map (λ members. member_count members == n) o) false) e
+
+-- the texts of some names
+abbrev pub spelled_out : List (Bor (List ℕ)) → List (List ℕ)
+spelled_out names = map (λ name. name.now) names
+
+-- an object with so many members has just these where it has each
+pub just_each : (names : List (Bor (List ℕ))) (d : Data) (m b : Bool) → m ≡ has_members (length names) d
+    → b ≡ list_all (λ name. is_some (get name.now d)) names → (m && b) ≡ has_just (spelled_out names) d
+just_each names d m b e h =
+    ap (λ z. z && b) (e ∙ ap (λ n. has_members n d) (sym (length-map names (λ name. name.now))))
+    ∙ ap (λ z. has_members (length (spelled_out names)) d && z)
+    (h ∙ sym (list_all-map (λ name. is_some (get name d)) (λ (name : Bor (List ℕ)). name.now) names))
+
+-- a list that is found
+pub list_found : (name : List ℕ) (d e : Data) (vs xs : List Value) → xs ≡ vs → Some (items_view vs) ≡ as_array e
+    → Some e ≡ get name d → Some (views xs) ≡ in_member name list_of d
+list_found name d e vs xs same list found =
+    ap (λ z. Some (views z)) same
+    ∙ ap Some (sym (values_of-items_of (views vs)))
+    ∙ ap (option_map values_of) list
+    ∙ ap (option_and_then list_of) found

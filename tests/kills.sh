@@ -1,0 +1,85 @@
+#!/usr/bin/env bash
+# The program is killed at random moments, and the file stands for the answered journeys and at most one more.
+. "$(dirname "${BASH_SOURCE[0]}")/helping.bash"
+RANDOM=1987
+
+line="begin F/AL/A1/2030-06-01/1/1!0"
+yes "$line" | head -n 20000 >lines
+all=0
+
+# kill_after MILLISECONDS: lines are answered until the program is killed
+kill_after() {
+  "$DESK" run trips.db <lines >out 2>err &
+  local desk=$!
+  sleep "$(printf '%d.%03d' $(($1 / 1000)) $(($1 % 1000)))"
+  kill -9 "$desk"
+  wait "$desk" 2>/dev/null
+}
+
+# answers_go_on WHAT STOOD: the answers number the journeys from the next one on; at least those stand, and one more
+answers_go_on() {
+  local answered
+  answered=$(wc -l <out)
+  all=$((all + answered))
+  least=$(($2 + answered))
+  most=$((least + 1))
+  same "$1: the answers" "$(seq -f 'journey %.0f begun' $(($2 + 1)) "$least" | cksum)" \
+    "$(head -n "$answered" out | cksum)"
+  same "$1: standard error" "" "$(cat err)"
+}
+
+# stand WHAT JOURNEYS: so many journeys stand, where there are to be least to most
+stand() {
+  same "$1: $2 stand, and $least to $most are to" yes "$([ "$least" -le "$2" ] && [ "$2" -le "$most" ] && echo yes)"
+  least=$2
+  most=$2
+}
+
+# is_whole WHAT JOURNEYS: the tables stand for so many journeys of one step, numbered without a gap
+is_whole() {
+  same "$1: meta" "1|2|$2|$2" "$(rows 'SELECT * FROM meta')"
+  same "$1: the journeys" "$2|1|$2" "$(rows 'SELECT count(*), min(id), max(id) FROM journey')"
+  same "$1: their steps" "$2|$2" "$(rows 'SELECT count(*), count(DISTINCT journey) FROM step')"
+  same "$1: the file is sound" "ok" "$(rows 'PRAGMA integrity_check')"
+}
+
+# begins_next WHAT: one more journey is begun, and its number is that of the next one
+begins_next() {
+  local found
+  found=$(echo "$line" | "$DESK" run trips.db 2>err)
+  next=${found#journey }
+  next=${next% begun}
+  same "$1: one more" "journey $next begun" "$found"
+  same "$1: one more: standard error" "" "$(cat err)"
+  stand "$1" $((next - 1))
+  is_whole "$1, and one more" "$next"
+}
+
+# a file that grows; every second time sqlite3 opens it before the program does
+least=0 most=0
+started=$(date +%s%N)
+begins_next "before the kills"
+# how many milliseconds it took to open the file, answer a line and look: so long the program runs, at most
+span=$(((($(date +%s%N) - started) / 1000000) + 50))
+for round in {1..40}; do
+  kill_after $((RANDOM % span))
+  answers_go_on "kill $round" "$next"
+  if [ $((round % 2)) -eq 0 ]; then
+    now=$(rows 'SELECT journeys FROM meta')
+    stand "kill $round" "$now"
+    is_whole "kill $round" "$now"
+  fi
+  begins_next "kill $round"
+done
+
+# a new file each time
+for round in {1..20}; do
+  rm -f trips.db trips.db-*
+  kill_after $((RANDOM % (span / 4)))
+  answers_go_on "kill $round of a new file" 0
+  begins_next "kill $round of a new file"
+done
+
+# the kills came in the midst of the work
+same "lines were answered before the kills" yes "$([ "$all" -gt 40 ] && echo yes)"
+finish

@@ -1,0 +1,46 @@
+/* Loaded before the C library, refuses one allocation: the one whose place, from 1, is in the environment as REFUSE.
+   Where the program comes that far, it leaves an empty file "refused" in its folder. Needs the GNU C library. */
+#include <errno.h>
+#include <fcntl.h>
+#include <stdlib.h>
+#include <unistd.h>
+
+extern void *__libc_malloc(size_t size);
+extern void *__libc_calloc(size_t count, size_t size);
+extern void *__libc_realloc(void *old, size_t size);
+extern void *__libc_memalign(size_t alignment, size_t size);
+
+static long place = -1;
+static long allocations = 0;
+
+static int is_refused(void) {
+  if (place < 0) {
+    const char *text = getenv("REFUSE");
+    place = text ? atol(text) : 0;
+  }
+  if (++allocations != place)
+    return 0;
+  int file = open("refused", O_CREAT | O_WRONLY, 0600);
+  if (file >= 0)
+    close(file);
+  errno = ENOMEM;
+  return 1;
+}
+
+void *malloc(size_t size) { return is_refused() ? NULL : __libc_malloc(size); }
+
+void *calloc(size_t count, size_t size) { return is_refused() ? NULL : __libc_calloc(count, size); }
+
+void *realloc(void *old, size_t size) { return is_refused() ? NULL : __libc_realloc(old, size); }
+
+void *memalign(size_t alignment, size_t size) { return is_refused() ? NULL : __libc_memalign(alignment, size); }
+
+void *aligned_alloc(size_t alignment, size_t size) { return memalign(alignment, size); }
+
+int posix_memalign(void **to, size_t alignment, size_t size) {
+  void *made = memalign(alignment, size);
+  if (!made)
+    return ENOMEM;
+  *to = made;
+  return 0;
+}

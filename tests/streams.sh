@@ -1,0 +1,40 @@
+#!/usr/bin/env bash
+# An input that cannot be read and an output that cannot be written are told by name; what was done by then stays done.
+. "$(dirname "${BASH_SOURCE[0]}")/helping.bash"
+
+line="begin F/AL/A1/2030-06-01/1/1!0"
+mkdir folder
+
+# ends_with WHAT STATUS ERR COMMAND ..: the command has this status, and this on standard error
+ends_with() {
+  local what=$1 expected=$2 err=$3 status
+  shift 3
+  "$@" 2>err
+  status=$?
+  same "$what: the status" "$expected" "$status"
+  same "$what: standard error" "$err" "$(cat err)"
+}
+
+from_folder() { "$DESK" run trips.db <folder; }
+from_nowhere() { "$DESK" run trips.db <&-; }
+to_full() { printf '%s\n%s\n' "$line" "$line" | "$DESK" run trips.db >/dev/full; }
+to_nowhere() { printf '%s\n%s\n' "$line" "$line" | "$DESK" run trips.db >&-; }
+
+# the reader goes away after the first answer, and a pipe doesn't hold all that are to come
+yes "$line" | head -n 20000 >lines
+to_leaver() {
+  "$DESK" run trips.db <lines | head -n 1 >first
+  return "${PIPESTATUS[0]}"
+}
+
+ends_with "a folder as the input" 1 "fault 24 Read" from_folder
+ends_with "no input" 1 "fault 24 Read" from_nowhere
+same "nothing was begun" "1|2|0|0" "$(rows 'SELECT * FROM meta')"
+ends_with "a full output" 1 "fault 25 Write" to_full
+answers "the line whose answer was lost is done, and no later one" "$line\n" "journey 2 begun"
+ends_with "no output" 1 "fault 25 Write" to_nowhere
+answers "the same again" "$line\n" "journey 4 begun"
+ends_with "a reader that goes away" 1 "fault 25 Write" to_leaver
+same "a reader that goes away: its answer" "journey 5 begun" "$(cat first)"
+same "the file is sound" "ok" "$(rows 'PRAGMA integrity_check')"
+finish
