@@ -1,0 +1,4 @@
+pub mod Growing
+pub mod Asking
+pub mod Passes
+pub mod Recovers
