@@ -4,3 +4,5 @@ pub mod FirstLemmas
 pub mod ReachLemmas
 pub mod TurnLemmas
 pub mod PassLemmas
+pub mod RecoverLemmas
+pub mod CarryLemmas

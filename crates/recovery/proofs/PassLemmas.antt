@@ -1,11 +1,81 @@
 -- How the state of a book grows in a pass. For the passes.
-use Rattle.std.proofs.Common.{◌≡◌, ℕ, List, [], ◌∷◌, ◌++◌, ap, append_assoc}
+use Rattle.std.proofs.Common.{◌≡◌, ℕ, ◌+◌, ◌-◌, ◌^◌, ◌<◌, ◌≤◌, List, ◌++◌, length, ap, ◌∙◌, arith, append_assoc, length-append, subst}
 use Rattle.ledger.specs.Answer.{State}
 use Rattle.ledger.specs.Ledger.{Event}
-use Rattle.recovery.specs.Growing.{with_events, MayHaveGrown}
+use Rattle.recovery.specs.Growing.{with_events, room_of, Grew, MayHaveGrown}
 
 -- events after events are all of them
 pub with_more : (s : State) (events more : List Event)
     → with_events (with_events s events) more ≡ with_events s (events ++ more)
 with_more s events more =
     ap (λ l. record { ledger = l; kept = s.kept }) (append_assoc s.ledger events more)
+
+-- a ledger with events more is so much longer
+length-with : (s : State) (events : List Event) (n : ℕ) → length events ≡ n
+    → length (s.ledger ++ events) ≡ length s.ledger + n
+length-with s events n counted =
+    length-append s.ledger events ∙ ap (λ m. length s.ledger + m) counted
+
+-- growing, and then growing again, is growing
+pub grew-join : (stands : State → Type 0) (s : State) (AreMore Are : List Event → Type 0)
+    (events : List Event) (n m total : ℕ) → length events ≡ n → n ≤ room_of s
+    → (g : Grew stands AreMore (with_events s events) m) → Are (events ++ g.events)
+    → total ≡ n + m → Grew stands Are s total
+grew-join stands s AreMore Are events n m total counted within g are sum =
+    let longer = length-with s events n counted in
+    let both : length (events ++ g.events) ≡ length events + length g.events =
+    length-append events g.events in
+    let more = g.counted in
+    let room = g.within in
+    record {
+      events = events ++ g.events;
+      are = are;
+      counted = omega arith;
+      within = omega arith;
+      stands_there = subst stands (with_more s events g.events) g.stands_there;
+    }
+
+-- such sums fit the numbers of a program
+pub sum-fits : (s : State) (events : List Event) (n m : ℕ) → length events ≡ n → n ≤ room_of s
+    → m ≤ room_of (with_events s events) → n + m < 2 ^ 64
+sum-fits s events n m counted low more =
+    let longer = length-with s events n counted in omega arith
+
+-- what a stop may leave after more growth
+pub may-join : (leaves : State → State → Type 0) (s : State) (AreMore Are : List Event → Type 0)
+    (events : List Event) → MayHaveGrown leaves AreMore (with_events s events)
+    → ((more : List Event) → AreMore more → Are (events ++ more)) → MayHaveGrown leaves Are s
+may-join leaves s AreMore Are events g are = record {
+  fewer = events ++ g.fewer;
+  more = events ++ g.more;
+  are_fewer = are g.fewer g.are_fewer;
+  are_more = are g.more g.are_more;
+  left =
+      subst (λ t. leaves t (with_events s (events ++ g.more))) (with_more s events g.fewer)
+      (subst (λ t. leaves (with_events (with_events s events) g.fewer) t)
+      (with_more s events g.more) g.left);
+}
+
+-- what a stop may leave, said more weakly
+pub may-weaken : (leaves : State → State → Type 0) (s : State) (Are Weaker : List Event → Type 0)
+    → MayHaveGrown leaves Are s → ((events : List Event) → Are events → Weaker events)
+    → MayHaveGrown leaves Weaker s
+may-weaken leaves s Are Weaker g weaken = record {
+  fewer = g.fewer;
+  more = g.more;
+  are_fewer = weaken g.fewer g.are_fewer;
+  are_more = weaken g.more g.are_more;
+  left = g.left;
+}
+
+-- a stop that leaves just the state as it has grown
+pub may-just : (leaves : State → State → Type 0) (s : State) (Are : List Event → Type 0)
+    (events : List Event) → Are events → leaves (with_events s events) (with_events s events)
+    → MayHaveGrown leaves Are s
+may-just leaves s Are events are left = record {
+  fewer = events;
+  more = events;
+  are_fewer = are;
+  are_more = are;
+  left = left;
+}

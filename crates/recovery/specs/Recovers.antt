@@ -10,6 +10,8 @@ use Rattle.recovery.specs.Growing.{Grew, MayHaveGrown}
 pub record AreRecovery (l events : List Event) : Type 0 where
   pub recovered : List Event
   pub is_recovered : IsRecovered l recovered
+  pub rest : List Event
+  pub beginning : recovered ≡ (l ++ events) ++ rest
   -- where the recovered ledger has no more events than a ledger may have, it is whole
   pub whole : length recovered ≤ most_events → l ++ events ≡ recovered
   -- else it is cut off there
