@@ -6,3 +6,7 @@ pub mod TurnLemmas
 pub mod PassLemmas
 pub mod RecoverLemmas
 pub mod CarryLemmas
+pub mod TurnedLemmas
+pub mod CarriedOneLemmas
+pub mod CarriedLemmas
+pub mod FinishLemmas

@@ -1,8 +1,10 @@
 -- How the state of a book grows in a pass. For the passes.
-use Rattle.std.proofs.Common.{◌≡◌, ℕ, ◌+◌, ◌-◌, ◌^◌, ◌<◌, ◌≤◌, List, ◌++◌, length, ap, ◌∙◌, arith, append_assoc, length-append, subst}
+use Rattle.std.proofs.Common.{◌≡◌, ℕ, ◌+◌, ◌-◌, ◌^◌, ◌<◌, ◌≤◌, List, [], ◌∷◌, suc, ◌++◌, length, ap, ◌∙◌, arith, append_assoc, length-append, subst}
+use Rattle.std.specs.Prelude.{Option, Some, None}
+use Rattle.std.specs.List.{cons_option}
 use Rattle.ledger.specs.Answer.{State}
-use Rattle.ledger.specs.Ledger.{Event}
-use Rattle.recovery.specs.Growing.{with_events, room_of, Grew, MayHaveGrown}
+use Rattle.ledger.specs.Ledger.{Event, Journey, journeys, begun_by}
+use Rattle.recovery.specs.Growing.{with_events, room_of, Grew, GrewFull, MayHaveGrown}
 
 -- events after events are all of them
 pub with_more : (s : State) (events more : List Event)
@@ -79,3 +81,26 @@ may-just leaves s Are events are left = record {
   are_more = are;
   left = left;
 }
+
+-- growing, and then growing till the ledger is full
+pub full-join : (stands : State → Type 0) (s : State) (AreMore Are : List Event → Type 0)
+    (events : List Event) (n m total : ℕ) → length events ≡ n → n ≤ room_of s
+    → (g : GrewFull stands AreMore (with_events s events) m) → Are (events ++ g.grew.events)
+    → total ≡ n + m → GrewFull stands Are s total
+full-join stands s AreMore Are events n m total counted within g are sum =
+    let longer = length-with s events n counted in
+    let full = g.full in
+    record {
+      grew = grew-join stands s AreMore Are events n m total counted within g.grew are sum;
+      full = omega arith;
+    }
+
+-- there are no more journeys than events
+pub journeys-fewer : (l : List Event) → length (journeys l) ≤ length l
+journeys-fewer [] = omega arith
+journeys-fewer (e ∷ l) = go (begun_by e) (journeys-fewer l)
+  where
+    go : (o : Option Journey) → length (journeys l) ≤ length l
+        → length (cons_option o (journeys l)) ≤ suc (length l)
+    go None fewer = omega arith
+    go (Some a) fewer = omega arith

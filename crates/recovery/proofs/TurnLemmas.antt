@@ -91,14 +91,14 @@ turns-none l a none =
 
 -- the ledgers have the same journeys, and above this number the same histories
 pub record IsSameAbove (a : ℕ) (l m : List Event) : Type 0 where
-  pub at : (j : ℕ) → journey_at m j ≡ journey_at l j
+  pub begun : journeys m ≡ journeys l
   pub of : (j : ℕ) → a < j → history m j ≡ history l j
 
 -- an item leaves the journeys above its own the same
 pub same-did : (a j : ℕ) (l m : List Event) (item : Item) → IsSameAbove a l m → a < j
     → IsSameAbove j l (m ++ Did j item ∷ [])
 same-did a j l m item same above = record {
-  at = λ k. ap (λ js. numbered js k) (journeys-did m j item) ∙ same.at k;
+  begun = journeys-did m j item ∙ same.begun;
   of = λ k higher.
       history-did_other m j item k (ne_eqb k j (λ e. omega arith)) ∙ same.of k (omega arith);
 }
@@ -106,14 +106,14 @@ same-did a j l m item same above = record {
 -- what is the same above a number is so above a higher one
 pub same-further : (a j : ℕ) (l m : List Event) → IsSameAbove a l m → a < j → IsSameAbove j l m
 same-further a j l m same above =
-    record { at = same.at; of = λ k higher. same.of k (omega arith) }
+    record { begun = same.begun; of = λ k higher. same.of k (omega arith) }
 
 -- so is the phase of a journey above it
 pub phase-same : (passes : Phase → Bool) (a k : ℕ) (l m : List Event) → IsSameAbove a l m → a < k
     → is_in passes m k ≡ is_in passes l k
 phase-same passes a k l m same above =
     ap (λ h. passing passes h (journey_at m k)) (same.of k above)
-    ∙ ap (passing passes (history l k)) (same.at k)
+    ∙ ap (λ js. passing passes (history l k) (numbered js k)) same.begun
 
 -- and its last save-point
 pub stop-same : (a k : ℕ) (l m : List Event) → IsSameAbove a l m → a < k
@@ -122,8 +122,8 @@ stop-same a k l m same above =
     ap (λ p. Did k (Turn p Stop))
     (ap (λ h. unwrap_or (option_map (λ (b : Journey). last_save b.plan h) (journey_at m k)) 0)
     (same.of k above)
-    ∙ ap (λ o. unwrap_or (option_map (λ (b : Journey). last_save b.plan (history l k)) o) 0)
-    (same.at k))
+    ∙ ap (λ js. unwrap_or (option_map (λ (b : Journey). last_save b.plan (history l k))
+    (numbered js k)) 0) same.begun)
 
 -- Turning.
 
@@ -137,7 +137,7 @@ pub turning-start : (l : List Event) → Turning l 0 []
 turning-start l = record {
   all = turns-all l;
   same = record {
-    at = λ j. ap (λ m. journey_at m j) (append-nil l);
+    begun = ap journeys (append-nil l);
     of = λ j above. ap (λ m. history m j) (append-nil l);
   };
 }

@@ -47,7 +47,7 @@ pub fn turn_back<B: Book>(book: &mut B) -> Result<Came, Fault>
 {
     let mut after = 0;
     let mut made = 0u64;
-    for _ in 0..u64::MAX {
+    for _round in 0..u64::MAX {
         let brief = match book.first_unfinished(after) {
             Ok(Some(brief)) => brief,
             Ok(None) => return Ok(Came::Through(made)),
@@ -99,7 +99,7 @@ pub fn carry<B: Book>(book: &mut B, pass: Pass) -> Result<Came, Fault>
 {
     let mut after = 0;
     let mut made = 0u64;
-    for _ in 0..u64::MAX {
+    for _round in 0..u64::MAX {
         let brief = match book.first_unfinished(after) {
             Ok(Some(brief)) => brief,
             Ok(None) => return Ok(Came::Through(made)),
