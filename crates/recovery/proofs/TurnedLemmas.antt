@@ -42,6 +42,20 @@ turned-start stands s st = record {
       (sym (append-nil s.ledger))) st;
 }
 
+-- the same of a book that stands there now
+abbrev pub turned-now : (stands then : State → Type 0) (s : State) (after made rounds : ℕ)
+    → (t : TurnedSoFar stands s after made rounds) → then (with_events s t.events)
+    → TurnedSoFar then s after made rounds
+turned-now stands then s after made rounds t here = record {
+  events = t.events;
+  turning = t.turning;
+  counted = t.counted;
+  within = t.within;
+  treated = t.treated;
+  below = t.below;
+  stands_there = here;
+}
+
 -- a running journey is open
 run-open : (p : Phase) → is_running p ≡ true → is_open p ≡ true
 run-open Run e = refl

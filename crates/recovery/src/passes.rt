@@ -1,5 +1,6 @@
 //! The passes of recovery, each over the unfinished journeys by rising number.
 ghost use Rattle.std.specs.Prelude.{◌≡◌, ◌↔◌, IfOk, IfErr, IsTrue, IsErrOf};
+ghost use Rattle.ledger.specs.History.{is_running};
 ghost use Rattle.recovery.specs.Passes.{goes_on, MadeStops, MadeSomeStops, CarriedAll, CarriedSome, CarriedOne, CarriedOneSome};
 
 use crate::asking::{step, stop};
@@ -36,6 +37,16 @@ impl Pass {
     }
 }
 
+/// Whether a journey in this phase goes forward.
+fn is_running(phase: Phase) -> bool
+    ensures { result ≡ is_running phase }
+{
+    match phase {
+        Phase::Run => true,
+        Phase::Back(_) | Phase::Ended | Phase::Undone => false,
+    }
+}
+
 /// Turns each running journey back to its last save-point, once.
 pub fn turn_back<B: Book>(book: &mut B) -> Result<Came, Fault>
     ensures ok { B.is_sound book.new →
@@ -53,7 +64,7 @@ pub fn turn_back<B: Book>(book: &mut B) -> Result<Came, Fault>
             Ok(None) => return Ok(Came::Through(made)),
             Err(fault) => return Err(fault),
         };
-        if brief.cursor.phase == Phase::Run {
+        if is_running(brief.cursor.phase) {
             match stop(book, brief.id) {
                 Ok(true) => made += 1,
                 Ok(false) => return Ok(Came::Full(made)),
