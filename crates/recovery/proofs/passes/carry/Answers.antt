@@ -1,7 +1,7 @@
-use Rattle.std.proofs.Common.{◌≡◌, ◌+◌, ◌<◌, ◌^◌, ap, sym, ◌∙◌, arith, subst}
+use Rattle.std.proofs.Common.{◌≡◌, ◌++◌, ◌+◌, ◌<◌, ◌^◌, ap, sym, ◌∙◌, arith, subst}
 use Rattle.std.specs.Prelude.{true, false}
 use Rattle.recovery.specs.Growing.{with_events}
-use Rattle.recovery.specs.Passes.{goes_on}
+use Rattle.recovery.specs.Passes.{goes_on, CarriedOne}
 use Rattle.recovery.proofs.PassLemmas.{sum-fits}
 use Rattle.recovery.proofs.CarriedLemmas.{carried-further, goes-first, carried-more, carried-cut, carried-fault, carried-all}
 use Rattle.recovery.proofs.passes.carry.Goals as goal
@@ -15,7 +15,9 @@ returns-in-Ok-None-clause-ok g c =
     let t = c.loop-round.invariant.carried was s st in
     carried-all c.args.pass (g.B.Book.stands c.loop-round.book)
     (g.B.Book.stands c.first_unfinished.new.self) s c.loop-round.after c.loop-round.made
-    c.loop-round._round t (c.in-Ok-None.ensures.first sound (with_events s t.events) t.stands_there)
+    c.loop-round._round t
+    (sym c.in-Ok-None.field-0-is
+    ∙ c.in-Ok-None.ensures.first sound (with_events s t.events) t.stands_there)
     (c.in-Ok-None.ensures.same sound (with_events s t.events) t.stands_there)
 
 -- the ledger was full within a journey
@@ -26,12 +28,15 @@ returns-in-Ok-Full-clause-ok g c =
     let was = c.first_unfinished.ensures.sound looked in
     let t = c.loop-round.invariant.carried was s st in
     let b = c.in-Ok-Some.brief in
-    let first = c.in-Ok-Some.ensures.first looked (with_events s t.events) t.stands_there in
+    let first = sym c.in-Ok-Some.field-0-is
+    ∙ c.in-Ok-Some.ensures.first looked (with_events s t.events) t.stands_there in
     let here = c.in-Ok-Some.ensures.same looked (with_events s t.events) t.stands_there in
     let goes : goes_on c.args.pass b.cursor.phase ≡ true =
     sym c.goes_on.ensures ∙ c.if-goes_on.true in
-    let more = c.in-Ok-Full.ensures.ok sound (with_events s t.events) here
-    (goes-first c.args.pass _ c.loop-round.after b first goes) in
+    let more = subst (CarriedOne (g.B.Book.stands c.first_unfinished.new.self)
+    (g.B.Book.stands c.carry_one.new.book) c.args.pass b.id) c.in-Ok-Full.field-0-is
+    (c.in-Ok-Full.ensures.ok sound) (with_events s t.events) here
+    (goes-first c.args.pass (s.ledger ++ t.events) c.loop-round.after b first goes) in
     let fits = sum-fits s t.events c.loop-round.made c.in-Ok-Full.more t.counted t.within
     more.grew.within in
     carried-cut c.args.pass (g.B.Book.stands c.loop-round.book)
@@ -47,7 +52,8 @@ returns-in-Err-carry_one-clause-fault g c =
     let was = c.first_unfinished.ensures.sound looked in
     let t = c.loop-round.invariant.carried was s st in
     let b = c.in-Ok-Some.brief in
-    let first = c.in-Ok-Some.ensures.first looked (with_events s t.events) t.stands_there in
+    let first = sym c.in-Ok-Some.field-0-is
+    ∙ c.in-Ok-Some.ensures.first looked (with_events s t.events) t.stands_there in
     let here = c.in-Ok-Some.ensures.same looked (with_events s t.events) t.stands_there in
     let goes : goes_on c.args.pass b.cursor.phase ≡ true =
     sym c.goes_on.ensures ∙ c.if-goes_on.true in
@@ -55,7 +61,7 @@ returns-in-Err-carry_one-clause-fault g c =
     (g.B.Book.leaves c.carry_one.new.book) s c.loop-round.after c.loop-round.made
     c.loop-round._round b t first
     (c.in-Err-carry_one.ensures.fault sound (with_events s t.events) here
-    (goes-first c.args.pass _ c.loop-round.after b first goes))
+    (goes-first c.args.pass (s.ledger ++ t.events) c.loop-round.after b first goes))
 
 -- one journey further: the pass carried it, or has nothing to do with it
 pub loop-round-preserved : goal.loop-round-preserved
@@ -70,12 +76,15 @@ loop-round-preserved g c =
             let was = c.first_unfinished.ensures.sound looked in
             let t = c.loop-round.invariant.carried was s st in
             let b = c.in-Ok-Some.brief in
-            let first = c.in-Ok-Some.ensures.first looked (with_events s t.events) t.stands_there in
+            let first = sym c.in-Ok-Some.field-0-is
+            ∙ c.in-Ok-Some.ensures.first looked (with_events s t.events) t.stands_there in
             let here = c.in-Ok-Some.ensures.same looked (with_events s t.events) t.stands_there in
             let goes : goes_on c.args.pass b.cursor.phase ≡ true =
             sym c.goes_on.ensures ∙ w.if-goes_on.true in
-            let more = w.in-Ok-Through.ensures.ok sound (with_events s t.events) here
-            (goes-first c.args.pass _ c.loop-round.after b first goes) in
+            let more = subst (CarriedOne (g.B.Book.stands c.first_unfinished.new.self)
+            (g.B.Book.stands w.carry_one.new.book) c.args.pass b.id) w.in-Ok-Through.field-0-is
+            (w.in-Ok-Through.ensures.ok sound) (with_events s t.events) here
+            (goes-first c.args.pass (s.ledger ++ t.events) c.loop-round.after b first goes) in
             let fits = sum-fits s t.events c.loop-round.made w.in-Ok-Through.more t.counted t.within
             more.within in
             carried-more c.args.pass (g.B.Book.stands c.loop-round.book)
@@ -92,7 +101,8 @@ loop-round-preserved g c =
             carried-further c.args.pass (g.B.Book.stands c.loop-round.book)
             (g.B.Book.stands c.first_unfinished.new.self) s c.loop-round.after c.loop-round.made
             c.loop-round._round b t
-            (c.in-Ok-Some.ensures.first sound (with_events s t.events) t.stands_there)
+            (sym c.in-Ok-Some.field-0-is
+            ∙ c.in-Ok-Some.ensures.first sound (with_events s t.events) t.stands_there)
             (sym c.goes_on.ensures ∙ w.if-goes_on.false)
             (c.in-Ok-Some.ensures.same sound (with_events s t.events) t.stands_there);
       })

@@ -1,4 +1,5 @@
-use Rattle.std.proofs.Common.{◌≡◌, ap, sym, ◌∙◌}
+use Rattle.std.proofs.Common.{◌≡◌, sym, ◌∙◌, subst}
+use Rattle.recovery.specs.Asking.{Steps}
 use Rattle.std.specs.Prelude.{true, false}
 use Rattle.recovery.specs.Growing.{with_events}
 use Rattle.recovery.specs.Passes.{goes_on}
@@ -15,7 +16,8 @@ returns-then-not-goes_on-clause-ok g c =
     one-done c.args.pass (g.B.Book.stands c.loop-made.book) (g.B.Book.stands c.step.new.book) s
     c.args.id c.loop-made.made c.in-Ok-Some.phase t
     (g.met.B.Book.legal c.loop-made.book (with_events s t.events) t.stands_there)
-    (c.in-Ok-Some.ensures.ok sound) out
+    (subst (Steps (g.B.Book.stands c.loop-made.book) (g.B.Book.stands c.step.new.book) c.args.id)
+    c.in-Ok-Some.field-0-is (c.in-Ok-Some.ensures.ok sound)) out
 
 -- the steps so far, and perhaps the one that met the fault
 pub returns-in-Err-clause-fault : goal.returns-in-Err-clause-fault
@@ -38,5 +40,6 @@ loop-made-preserved g c = record {
       one-on c.args.pass (g.B.Book.stands c.loop-made.book) (g.B.Book.stands c.step.new.book) s
       c.args.id c.loop-made.made c.in-Ok-Some.phase t
       (g.met.B.Book.legal c.loop-made.book (with_events s t.events) t.stands_there)
-      (c.in-Ok-Some.ensures.ok sound) goes;
+      (subst (Steps (g.B.Book.stands c.loop-made.book) (g.B.Book.stands c.step.new.book) c.args.id)
+      c.in-Ok-Some.field-0-is (c.in-Ok-Some.ensures.ok sound)) goes;
 }

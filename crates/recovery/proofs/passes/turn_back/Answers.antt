@@ -15,7 +15,9 @@ returns-in-Ok-None-clause-ok g c =
     let t = c.loop-round.invariant.turned was s st in
     turned-all (g.B.Book.stands c.loop-round.book)
     (g.B.Book.stands c.first_unfinished.new.self) s c.loop-round.after c.loop-round.made
-    c.loop-round._round t (c.in-Ok-None.ensures.first sound (with_events s t.events) t.stands_there)
+    c.loop-round._round t
+    (sym c.in-Ok-None.field-0-is
+    ∙ c.in-Ok-None.ensures.first sound (with_events s t.events) t.stands_there)
     (c.in-Ok-None.ensures.same sound (with_events s t.events) t.stands_there)
 
 -- all rounds are over
@@ -39,7 +41,8 @@ returns-in-Ok-false-clause-ok g c =
     c.loop-round.after c.loop-round.made c.loop-round._round b (turned-now (g.B.Book.stands c.loop-round.book)
     (g.B.Book.stands c.first_unfinished.new.self) s c.loop-round.after c.loop-round.made
     c.loop-round._round t here)
-    (c.in-Ok-Some.ensures.first looked (with_events s t.events) t.stands_there)
+    (sym c.in-Ok-Some.field-0-is
+    ∙ c.in-Ok-Some.ensures.first looked (with_events s t.events) t.stands_there)
     (sym c.is_running.ensures ∙ c.if-is_running.true)
     (subst (Stops (g.B.Book.stands c.first_unfinished.new.self) (g.B.Book.stands c.stop.new.book)
     b.id) c.in-Ok-false.field-0-test (c.in-Ok-false.ensures.ok sound))
@@ -57,7 +60,8 @@ returns-in-Err-stop-clause-fault g c =
     c.loop-round.after c.loop-round.made c.loop-round._round b (turned-now (g.B.Book.stands c.loop-round.book)
     (g.B.Book.stands c.first_unfinished.new.self) s c.loop-round.after c.loop-round.made
     c.loop-round._round t here)
-    (c.in-Ok-Some.ensures.first looked (with_events s t.events) t.stands_there)
+    (sym c.in-Ok-Some.field-0-is
+    ∙ c.in-Ok-Some.ensures.first looked (with_events s t.events) t.stands_there)
     (sym c.is_running.ensures ∙ c.if-is_running.true) (c.in-Err-stop.ensures.fault sound)
 
 -- one journey further: it turned, or it does not run
@@ -80,7 +84,8 @@ loop-round-preserved g c =
             c.loop-round._round b (turned-now (g.B.Book.stands c.loop-round.book)
             (g.B.Book.stands c.first_unfinished.new.self) s c.loop-round.after c.loop-round.made
             c.loop-round._round t here)
-            (c.in-Ok-Some.ensures.first looked (with_events s t.events) t.stands_there)
+            (sym c.in-Ok-Some.field-0-is
+            ∙ c.in-Ok-Some.ensures.first looked (with_events s t.events) t.stands_there)
             (sym c.is_running.ensures ∙ w.if-is_running.true)
             (subst (Stops (g.B.Book.stands c.first_unfinished.new.self)
             (g.B.Book.stands w.stop.new.book) b.id) w.in-Ok-true.field-0-test
@@ -96,7 +101,8 @@ loop-round-preserved g c =
             turned-further (g.B.Book.stands c.loop-round.book)
             (g.B.Book.stands c.first_unfinished.new.self) s c.loop-round.after c.loop-round.made
             c.loop-round._round b t
-            (c.in-Ok-Some.ensures.first sound (with_events s t.events) t.stands_there)
+            (sym c.in-Ok-Some.field-0-is
+            ∙ c.in-Ok-Some.ensures.first sound (with_events s t.events) t.stands_there)
             (sym c.is_running.ensures ∙ w.if-is_running.false)
             (c.in-Ok-Some.ensures.same sound (with_events s t.events) t.stands_there);
       })
