@@ -17,17 +17,10 @@ refuses_file "another program's tables" other.db "" "fault 21 Store"
 
 # what a kill leaves: after each answer the file opens, and stands for the answered journeys at least
 for n in 1 2 3; do
-  mkfifo line reply
-  "$DESK" run trips.db <line >reply 2>err &
-  desk=$!
-  exec 3>line 4<reply
-  echo "begin F/AL/A1/2030-06-01/1/1!0" >&3
-  read -r answer <&4
-  same "before the kill" "journey $n begun" "$answer"
+  opens_desk
+  asks "before the kill" "begin F/AL/A1/2030-06-01/1/1!0" "journey $n begun"
   kill -9 "$desk"
-  wait "$desk" 2>/dev/null
-  exec 3>&- 4<&-
-  rm line reply
+  closes_desk
 done
 answers "after the kills" "begin F/AL/A1/2030-06-01/1/1!0\n" "journey 4 begun"
 same "meta" "1|2|4|4" "$(rows 'SELECT * FROM meta')"

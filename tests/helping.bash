@@ -39,6 +39,33 @@ refuses_file() {
 
 sum() { if [ -f "$1" ]; then cksum <"$1"; fi; }
 
+# opens_desk: the program runs over trips.db as process $desk, told lines by asks; what it faults goes to desk_err
+opens_desk() {
+  mkfifo line reply
+  "$DESK" run trips.db <line >reply 2>desk_err &
+  desk=$!
+  exec 3>line 4<reply
+}
+
+# asks WHAT LINE ANSWER: the open desk answers this line so
+asks() {
+  local answer
+  echo "$2" >&3
+  read -r answer <&4
+  same "$1" "$3" "$answer"
+}
+
+# closes_desk: its input ends; the status is the program's
+closes_desk() {
+  local status
+  exec 3>&-
+  wait "$desk" 2>/dev/null
+  status=$?
+  exec 4<&-
+  rm line reply
+  return "$status"
+}
+
 rows() { sqlite3 trips.db "$1" | tr '\n' ' ' | sed 's/ $//'; }
 
 # repeated N TEXT SEPARATOR

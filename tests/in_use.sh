@@ -33,25 +33,16 @@ held "sqlite3 reads" "BEGIN; SELECT count(*) FROM journey"
 answers "free after a reader" "$line\n" "journey 3 begun"
 
 # the program itself holds its file, against itself and against others, and goes on
-mkfifo line reply
-"$DESK" run trips.db <line >reply 2>holder_err &
-desk=$!
-exec 3>line 4<reply
-echo "$line" >&3
-read -r answer <&4
-same "the first program" "journey 4 begun" "$answer"
+opens_desk
+asks "the first program" "$line" "journey 4 begun"
 before=$(both_files)
 refuses_file "a second program" trips.db "" "fault 21 Store"
 same "another reader" "" "$(sqlite3 trips.db 'SELECT count(*) FROM journey' 2>/dev/null)"
 same "a second program: the file and its log" "$before" "$(both_files)"
-echo "$line" >&3
-read -r answer <&4
-same "the first program goes on" "journey 5 begun" "$answer"
-exec 3>&-
-wait "$desk"
+asks "the first program goes on" "$line" "journey 5 begun"
+closes_desk
 same "the first program: the status" 0 "$?"
-same "the first program: standard error" "" "$(cat holder_err)"
-exec 4<&-
+same "the first program: standard error" "" "$(cat desk_err)"
 
 answers "free at last" "$line\n" "journey 6 begun"
 same "meta" "1|2|6|6" "$(rows 'SELECT * FROM meta')"
