@@ -1,4 +1,5 @@
--- Cutting what was joined gives it back, where the parts lack the byte between them. For the laws of the texts.
+-- Cutting what was joined gives it back, where the parts lack the byte between them. For the laws of the texts, and for
+-- the spelling of a plan.
 use Rattle.std.proofs.Common.{◌≡◌, ℕ, Bool, true, false, not, ◌==◌, List, [], ◌∷◌, ◌++◌, refl, ap, ◌∙◌, eq-eqb}
 use Rattle.std.specs.List.{list_all, onto_first}
 use Rattle.std.proofs.lemmas.Bool.{eqb-true}
@@ -29,7 +30,7 @@ plain_lacks c (b ∷ text) odd e =
     and_make _ _ (other_byte c b (b == c) refl odd both.0) (plain_lacks c text odd both.1)
 
 -- and so do texts of those
-all_lack : (c : ℕ) (ts : List (List ℕ)) → is_plain_byte c ≡ false
+pub all_lack : (c : ℕ) (ts : List (List ℕ)) → is_plain_byte c ≡ false
     → list_all is_plain ts ≡ true → list_all (lacks c) ts ≡ true
 all_lack c [] odd e = refl
 all_lack c (t ∷ ts) odd e =

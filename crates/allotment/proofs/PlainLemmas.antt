@@ -1,4 +1,5 @@
--- Texts of digits, capitals and dashes, which lack what stands between parts. For the laws of the texts.
+-- Texts of digits, capitals and dashes, which lack what stands between parts. For the laws of the texts, and for the
+-- spelling of a plan.
 use Rattle.std.proofs.Common.{◌≡◌, ℕ, ◌+◌, ◌-◌, ◌/◌, ◌%◌, ◌<◌, ◌≤◌, ◌^◌, Bool, true, false, ◌||◌, ◌==◌, List, [], ◌∷◌, refl, arith}
 use Rattle.std.specs.Prelude.{decimal}
 use Rattle.std.specs.List.{list_all}

@@ -1,5 +1,5 @@
 -- Reading one JSON value after another, up to the first fault. For the readers of JSON options and steps.
-use Rattle.std.proofs.Common.{◌≡◌, ℕ, ◌+◌, Bool, true, false, not, ◌&&◌, ◌==◌, List, [], ◌∷◌, ◌++◌, map, length, refl, sym, ap, ◌∙◌, Option, Some, None, Ok, Err}
+use Rattle.std.proofs.Common.{◌≡◌, ℕ, ◌+◌, Bool, true, not, ◌&&◌, ◌==◌, List, [], ◌∷◌, map, length, refl, sym, ap, ◌∙◌, Option, Some, None, Ok, Err}
 use Rattle.std.specs.Prelude.{filter_map, flat_map, option_map, Result}
 use Rattle.std.specs.List.{enumerate_from}
 use Rattle.std.proofs.lemmas.List.{length-map}
@@ -8,16 +8,16 @@ use Rattle.serde_json.specs.View.{view}
 use Rattle.serde_json.specs.declared.value.Value.{Value}
 use Rattle.allotment.specs.Want.{Wanted}
 use Rattle.allotment.specs.Limits.{is_between}
-use Rattle.allotment.specs.Making.{unless, first_fault}
+use Rattle.allotment.specs.Making.{first_fault}
 use Rattle.plan.specs.declared.causes.PlanCause.TheVariants as cause
 use Rattle.plan.specs.declared.faults.BadPlan.{BadPlan}
 use Rattle.plan.specs.Planned.{StepPlan}
 use Rattle.plan.specs.Drafts.{OptionDraft, StepDraft, at, want_of, option_faults, step_of, step_faults}
-use Rattle.plan.specs.Levels.{judged_option}
+use Rattle.plan.specs.Levels.{judged_option, step_limits}
 use Rattle.plan.specs.PlanJson.{json_option, json_step, step_with}
-use Rattle.plan.specs.JsonLevels.{judged_step, step_limits, want_of_json, wants_of_json, step_of_json, steps_of_json, views}
+use Rattle.plan.specs.JsonLevels.{judged_step, want_of_json, wants_of_json, step_of_json, steps_of_json, views}
 use Rattle.plan.proofs.EachLemmas.{each, behind, none_behind, onto, first_onto}
-use Rattle.plan.proofs.LevelLemmas.{told_step, first_of_step}
+use Rattle.plan.proofs.LevelLemmas.{told_step, first_of_step, limits_fail, limits_pass}
 
 -- Options.
 
@@ -105,24 +105,6 @@ step_shaped n i d vs m e =
     ap (judged_step n i) (sym e)
     ∙ first_of_step (not (m && i == n)) (is_between 1 8 (length drafts)) i m wants faults
     ∙ ap (λ z. told_step (not (m && i == n)) (is_between 1 8 z) i m (first_fault wants faults)) many
-
--- what is told of a mark and a number, by the tests of both
-abbrev limits_by : Bool → Bool → ℕ → Result (Unit {0}) BadPlan
-limits_by a b i = first_fault tt (unless a (at i cause.Save) ++ unless b (at i cause.Options))
-
--- a limit that is not kept is told
-limits_fail : (a b : Bool) (i : ℕ) (m : Bool) (r : Result (List Wanted) BadPlan) (f : BadPlan)
-    → Err f ≡ limits_by a b i → told_step a b i m r ≡ Err f
-limits_fail false b i m r f e = let same : at i cause.Save ≡ f = cc in ap Err same
-limits_fail true false i m r f e = let same : at i cause.Options ≡ f = cc in ap Err same
-limits_fail true true i m r f e = cc
-
--- where both are kept, the options are told
-limits_pass : (a b : Bool) (i : ℕ) (m : Bool) (r : Result (List Wanted) BadPlan)
-    → Ok tt ≡ limits_by a b i → told_step a b i m r ≡ told_step true true i m r
-limits_pass false b i m r e = cc
-limits_pass true false i m r e = cc
-limits_pass true true i m r e = refl
 
 -- the mark of a step, or the number of its options, is wrong
 pub step_refused : (n i : ℕ) (d : Data) (vs : List Value) (m : Bool) (f : BadPlan) → Some (step_with (views vs) m) ≡ json_step d

@@ -1,21 +1,21 @@
 -- Wants, steps and plans that are drafted again: they have no fault but those of their limits. For plans that are made
 -- of steps, and for lines.
-use Rattle.std.proofs.Common.{◌≡◌, ℕ, ◌+◌, ◌<◌, ◌≤◌, ◌^◌, Bool, true, false, not, ◌&&◌, ◌==◌, List, [], ◌∷◌, ◌++◌, map, length, refl, sym, ap, ◌∙◌, arith, eq-eqb, Some, Ok, Err}
-use Rattle.std.specs.Prelude.{flat_map, filter_map, option_map, nat_le, Result}
+use Rattle.std.proofs.Common.{◌≡◌, ℕ, ◌+◌, ◌<◌, ◌≤◌, ◌^◌, Bool, true, false, not, ◌&&◌, ◌==◌, List, [], ◌∷◌, ◌++◌, map, length, refl, sym, ap, ◌∙◌, arith, eq-eqb, Option, Some, Ok, Err}
+use Rattle.std.specs.Prelude.{flat_map, filter_map, option_map, nat_le}
 use Rattle.std.specs.List.{AllByRecursion, list_all, enumerate_from}
 use Rattle.std.proofs.lemmas.Bool.{leb-true}
 use Rattle.std.proofs.lemmas.List.{length-map}
 use Rattle.allotment.specs.Want.{Wanted}
 use Rattle.allotment.specs.Limits.{is_between, is_night, is_code, is_count, are_nights, most_nights, is_want}
 use Rattle.allotment.specs.Making.{unless, first_fault}
-use Rattle.plan.specs.declared.causes.PlanCause.TheVariants as cause
 use Rattle.plan.specs.declared.faults.BadPlan.{BadPlan}
 use Rattle.plan.specs.Planned.{Planned, StepPlan, is_last_unmarked}
-use Rattle.plan.specs.Drafts.{at, option_faults, step_faults, want_of, step_of, drafted, drafted_step, plan_made}
-use Rattle.plan.specs.Levels.{step_kept, steps_kept}
+use Rattle.plan.specs.Drafts.{OptionDraft, option_faults, step_faults, want_of, step_of, drafted, drafted_step, plan_made}
+use Rattle.plan.specs.Levels.{step_limits, step_kept, steps_kept}
 use Rattle.allotment.proofs.TestLemmas.{and_both}
 use Rattle.plan.proofs.ListFacts.{append_none, not_left, unless_none, first_fault_ok, flat_map_none}
 use Rattle.plan.proofs.OptionLemmas.{nights_few}
+use Rattle.plan.proofs.LevelLemmas.{told_step, first_of_step, limits_fail, limits_pass}
 use Rattle.plan.proofs.EachLemmas.{each, behind, none_behind, onto, first_onto}
 use Rattle.plan.proofs.LineLemmas.{told_line, first_of_line}
 
@@ -90,27 +90,32 @@ steps_back (s ∷ steps) =
 
 -- A step.
 
--- what is told of a step: whether its mark is in place, and whether it has as many options as it may
-abbrev pub told_kept : Bool → Bool → ℕ → StepPlan → Result StepPlan BadPlan
-told_kept false few i s = Err (at i cause.Save)
-told_kept true false i s = Err (at i cause.Options)
-told_kept true true i s = Ok s
-
--- where nothing is wrong with the options, the mark and their number decide
-kept_by : (a b : Bool) (i : ℕ) (s : StepPlan) (fs : List BadPlan) → fs ≡ []
-    → first_fault s (unless a (at i cause.Save) ++ unless b (at i cause.Options) ++ fs) ≡ told_kept a b i s
-kept_by false b i s fs e = refl
-kept_by true false i s fs e = refl
-kept_by true true i s fs e = ap (first_fault s) e
-
--- a step of wants is told so
+-- a step of wants is told by its mark and by the number of its options
 pub kept_told : (n i : ℕ) (s : StepPlan) → list_all is_want s.options ≡ true
-    → step_kept n i s ≡ told_kept (not (s.is_marked && i == n)) (is_between 1 8 (length s.options)) i s
+    → step_kept n i s
+    ≡ told_step (not (s.is_marked && i == n)) (is_between 1 8 (length s.options)) i s.is_marked (Ok s.options)
 unfolding step_kept
 kept_told n i s good =
-    kept_by (not (s.is_marked && i == n)) (is_between 1 8 (length (map (λ w. Some (drafted w)) s.options))) i s
-    (flat_map (option_faults i) (map (λ w. Some (drafted w)) s.options)) (options_clean i s.options good)
-    ∙ ap (λ z. told_kept (not (s.is_marked && i == n)) (is_between 1 8 z) i s) (length-map s.options (λ w. Some (drafted w)))
+    let drafts : List (Option OptionDraft) = map (λ w. Some (drafted w)) s.options in
+    let marked : Bool = not (s.is_marked && i == n) in
+    first_of_step marked (is_between 1 8 (length drafts)) i s.is_marked s.options (flat_map (option_faults i) drafts)
+    ∙ ap (λ z. told_step marked (is_between 1 8 (length drafts)) i s.is_marked (first_fault s.options z))
+    (options_clean i s.options good)
+    ∙ ap (λ z. told_step marked (is_between 1 8 z) i s.is_marked (Ok s.options)) (length-map s.options (λ w. Some (drafted w)))
+
+-- a limit of a step that is not kept is told
+pub kept_refused : (n i : ℕ) (s : StepPlan) (f : BadPlan) → list_all is_want s.options ≡ true
+    → Err f ≡ step_limits n i s.is_marked (length s.options) → step_kept n i s ≡ Err f
+kept_refused n i s f good limits =
+    kept_told n i s good
+    ∙ limits_fail (not (s.is_marked && i == n)) (is_between 1 8 (length s.options)) i s.is_marked (Ok s.options) f limits
+
+-- where both are kept, the step is as it should be
+pub kept_within : (n i : ℕ) (s : StepPlan) → list_all is_want s.options ≡ true
+    → Ok tt ≡ step_limits n i s.is_marked (length s.options) → step_kept n i s ≡ Ok s
+kept_within n i s good limits =
+    kept_told n i s good
+    ∙ limits_pass (not (s.is_marked && i == n)) (is_between 1 8 (length s.options)) i s.is_marked (Ok s.options) limits
 
 -- The steps.
 

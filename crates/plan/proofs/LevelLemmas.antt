@@ -1,7 +1,7 @@
 -- What is read of a step, by its mark, the number of its options and what they are; and what faults say. For the readers.
-use Rattle.std.proofs.Common.{◌≡◌, ◌≢◌, ℕ, ◌<◌, ◌≤◌, Bool, true, false, not, ◌&&◌, ◌==◌, ◌⊎◌, inl, inr, List, [], ◌∷◌, ◌++◌, map, length, refl, sym, ap, ◌∙◌, arith, eq-eqb, Ok, Err}
-use Rattle.std.specs.Prelude.{flat_map, nat_le, Result}
-use Rattle.std.proofs.lemmas.Bool.{le-leb, leb-true, eqb-true}
+use Rattle.std.proofs.Common.{◌≡◌, ◌≢◌, ℕ, Bool, true, false, not, ◌&&◌, ◌==◌, ◌⊎◌, inl, inr, List, [], ◌∷◌, ◌++◌, map, length, refl, sym, ap, ◌∙◌, Ok, Err}
+use Rattle.std.specs.Prelude.{flat_map, Result}
+use Rattle.std.proofs.lemmas.Bool.{eqb-true}
 use Rattle.std.proofs.lemmas.List.{length-map}
 use Rattle.allotment.specs.Want.{Wanted}
 use Rattle.allotment.specs.Limits.{is_between}
@@ -15,9 +15,7 @@ use Rattle.plan.specs.Planned.{StepPlan}
 use Rattle.plan.specs.Faults.{IfBad}
 use Rattle.plan.specs.Drafts.{at, option_faults, step_of}
 use Rattle.plan.specs.PlanLine.{option_draft, has_mark, without_mark, step_draft}
-use Rattle.plan.specs.Levels.{options_in, step_in}
-use Rattle.allotment.proofs.CutLemmas.{some_part}
-use Rattle.allotment.proofs.TestLemmas.{and_make}
+use Rattle.plan.specs.Levels.{options_in, step_in, step_limits}
 
 -- what a fault of the plan says of one text, it says of another of which that follows
 pub IfBad-weaker : (fault : PlanFault) (P Q : BadPlan → Type 0) → ((b : BadPlan) → P b → Q b) → IfBad P fault → IfBad Q fault
@@ -40,12 +38,36 @@ first_of_step true false i m ws fs = refl
 first_of_step true true i m ws [] = refl
 first_of_step true true i m ws (f ∷ fs) = refl
 
+-- what is told of a mark and a number of options, by the tests of both
+abbrev pub limits_by : Bool → Bool → ℕ → Result (Unit {0}) BadPlan
+limits_by a b i = first_fault tt (unless a (at i cause.Save) ++ unless b (at i cause.Options))
+
+-- a limit that is not kept is told
+pub limits_fail : (a b : Bool) (i : ℕ) (m : Bool) (r : Result (List Wanted) BadPlan) (f : BadPlan)
+    → Err f ≡ limits_by a b i → told_step a b i m r ≡ Err f
+limits_fail false b i m r f e = let same : at i cause.Save ≡ f = cc in ap Err same
+limits_fail true false i m r f e = let same : at i cause.Options ≡ f = cc in ap Err same
+limits_fail true true i m r f e = cc
+
+-- where both are kept, the options are told
+pub limits_pass : (a b : Bool) (i : ℕ) (m : Bool) (r : Result (List Wanted) BadPlan)
+    → Ok tt ≡ limits_by a b i → told_step a b i m r ≡ told_step true true i m r
+limits_pass false b i m r e = cc
+limits_pass true false i m r e = cc
+limits_pass true true i m r e = refl
+
+-- and there are as many of them as there may be
+pub limits_count : (a b : Bool) (i : ℕ) → Ok tt ≡ limits_by a b i → b ≡ true
+limits_count false b i e = cc
+limits_count true false i e = cc
+limits_count true true i e = refl
+
 -- whether a step with so many options has as many as it may
-abbrev pub may_have : List ℕ → Bool
+abbrev may_have : List ℕ → Bool
 may_have rest = is_between 1 8 (length (map option_draft (parts bar rest)))
 
--- a step is told so
-pub step_told : (n i : ℕ) (text : List ℕ)
+-- a step is told by its mark, by the number of its options and by what they are
+step_told : (n i : ℕ) (text : List ℕ)
     → step_in n i text
     ≡ told_step (not (has_mark text && i == n)) (may_have (without_mark text)) i (has_mark text) (options_in i (without_mark text))
 unfolding step_in options_in
@@ -53,10 +75,33 @@ step_told n i text =
     first_of_step (not (has_mark text && i == n)) (may_have (without_mark text)) i (has_mark text)
     (step_of (step_draft text)).options (flat_map (option_faults i) (map option_draft (parts bar (without_mark text))))
 
--- a mark on the last step
-pub mark_wrong : (m : Bool) (i n : ℕ) → m ≡ true → i ≡ n → not (m && i == n) ≡ false
-mark_wrong true i n e same = ap not (eq-eqb i n same)
-mark_wrong false i n e same = cc
+-- the same, where the text was cut into its options and its mark
+step_cut : (n i k : ℕ) (text rest : List ℕ) (m : Bool)
+    → rest ≡ without_mark text → m ≡ has_mark text → k ≡ length (parts bar rest)
+    → step_in n i text ≡ told_step (not (m && i == n)) (is_between 1 8 k) i m (options_in i rest)
+step_cut n i k text rest m cut mark many =
+    step_told n i text
+    ∙ ap (λ z. told_step (not (z && i == n)) (may_have (without_mark text)) i z (options_in i (without_mark text))) (sym mark)
+    ∙ ap (λ z. told_step (not (m && i == n)) (may_have z) i m (options_in i z)) (sym cut)
+    ∙ ap (λ z. told_step (not (m && i == n)) (is_between 1 8 z) i m (options_in i rest))
+    (length-map (parts bar rest) option_draft ∙ sym many)
+
+-- the mark of a step, or the number of its options, is wrong
+pub step_refused : (n i k : ℕ) (text rest : List ℕ) (m : Bool) (f : BadPlan)
+    → rest ≡ without_mark text → m ≡ has_mark text → k ≡ length (parts bar rest)
+    → Err f ≡ step_limits n i m k → step_in n i text ≡ Err f
+step_refused n i k text rest m f cut mark many limits =
+    step_cut n i k text rest m cut mark many
+    ∙ limits_fail (not (m && i == n)) (is_between 1 8 k) i m (options_in i rest) f limits
+
+-- any other step is told by its options
+pub step_by_options : (n i k : ℕ) (text rest : List ℕ) (m : Bool) (r : Result (List Wanted) BadPlan)
+    → rest ≡ without_mark text → m ≡ has_mark text → k ≡ length (parts bar rest)
+    → Ok tt ≡ step_limits n i m k → options_in i rest ≡ r → step_in n i text ≡ told_step true true i m r
+step_by_options n i k text rest m r cut mark many limits read =
+    step_cut n i k text rest m cut mark many
+    ∙ limits_pass (not (m && i == n)) (is_between 1 8 k) i m (options_in i rest) limits
+    ∙ ap (told_step true true i m) read
 
 -- two numbers are another's
 mark_by : (t : Bool) (i n : ℕ) → (i == n) ≡ t → i ≢ n → not t ≡ true
@@ -69,51 +114,7 @@ mark_right false i n h = refl
 mark_right true i n (inl e) = cc
 mark_right true i n (inr other) = mark_by (i == n) i n refl other
 
--- more than eight are not at most eight
-many_by : (n : ℕ) (b : Bool) → nat_le n 8 ≡ b → 8 < n → b ≡ false
-many_by n true e h = let few : n ≤ 8 = leb-true n 8 e in absurd (omega arith)
-many_by n false e h = refl
-
 -- not both, where not the second
 pub and_false : (a b : Bool) → b ≡ false → (a && b) ≡ false
 and_false true b e = e
 and_false false b e = refl
-
--- more than eight options
-pub too_many : (rest : List ℕ) (n : ℕ) → n ≡ length (parts bar rest) → 8 < n → may_have rest ≡ false
-too_many rest n e h =
-    ap (is_between 1 8) (length-map (parts bar rest) option_draft ∙ sym e)
-    ∙ and_false (nat_le 1 n) (nat_le n 8) (many_by n (nat_le n 8) refl h)
-
--- at most eight
-pub not_too_many : (rest : List ℕ) (n : ℕ) → n ≡ length (parts bar rest) → n ≤ 8 → may_have rest ≡ true
-not_too_many rest n e h =
-    let some : 1 ≤ n = omega (arith, some_part bar rest) in
-    ap (is_between 1 8) (length-map (parts bar rest) option_draft ∙ sym e)
-    ∙ and_make _ _ (le-leb 1 n some) (le-leb n 8 h)
-
--- a step whose mark is wrong
-pub step_marked : (n i : ℕ) (text : List ℕ) → not (has_mark text && i == n) ≡ false → step_in n i text ≡ Err (at i cause.Save)
-step_marked n i text e =
-    step_told n i text
-    ∙ ap (λ z. told_step z (may_have (without_mark text)) i (has_mark text) (options_in i (without_mark text))) e
-
--- a step with too many options
-pub step_too_many : (n i : ℕ) (text rest : List ℕ) → not (has_mark text && i == n) ≡ true → rest ≡ without_mark text
-    → may_have rest ≡ false → step_in n i text ≡ Err (at i cause.Options)
-step_too_many n i text rest e same f =
-    step_told n i text
-    ∙ ap (λ z. told_step z (may_have (without_mark text)) i (has_mark text) (options_in i (without_mark text))) e
-    ∙ ap (λ z. told_step true (may_have z) i (has_mark text) (options_in i (without_mark text))) (sym same)
-    ∙ ap (λ z. told_step true z i (has_mark text) (options_in i (without_mark text))) f
-
--- any other step is told by its options
-pub step_by_options : (n i : ℕ) (text rest : List ℕ) (r : Result (List Wanted) BadPlan)
-    → not (has_mark text && i == n) ≡ true → rest ≡ without_mark text → may_have rest ≡ true → options_in i rest ≡ r
-    → step_in n i text ≡ told_step true true i (has_mark text) r
-step_by_options n i text rest r e same f h =
-    step_told n i text
-    ∙ ap (λ z. told_step z (may_have (without_mark text)) i (has_mark text) (options_in i (without_mark text))) e
-    ∙ ap (λ z. told_step true (may_have z) i (has_mark text) (options_in i z)) (sym same)
-    ∙ ap (λ z. told_step true z i (has_mark text) (options_in i rest)) f
-    ∙ ap (told_step true true i (has_mark text)) h

@@ -12,8 +12,7 @@ pub mod FaultLemmas
 pub mod KeptLemmas
 pub mod MadeLemmas
 pub mod PrintLemmas
-pub mod PlainLemmas
-pub mod JoinLemmas
+pub mod LackLemmas
 pub mod SpellLemmas
 pub mod MemberLemmas
 pub mod JsonOptionLemmas

@@ -14,9 +14,9 @@ use Rattle.plan.specs.Planned.{Planned, StepPlan, step_said, is_step, is_plan}
 use Rattle.plan.specs.Drafts.{at, plan_made}
 use Rattle.plan.specs.Levels.{step_kept, steps_kept}
 use Rattle.allotment.proofs.TestLemmas.{and_make}
-use Rattle.plan.proofs.LevelLemmas.{mark_wrong, mark_right, and_false}
+use Rattle.plan.proofs.LevelLemmas.{told_step, mark_right, and_false}
 use Rattle.plan.proofs.LineLemmas.{told_line}
-use Rattle.plan.proofs.KeptLemmas.{told_kept, kept_told, made_told, kept_unmarked}
+use Rattle.plan.proofs.KeptLemmas.{kept_told, made_told, kept_unmarked}
 
 -- none, or more than the most, is not between
 le_no : (n most : ℕ) (b : Bool) → nat_le n most ≡ b → most < n → b ≡ false
@@ -34,27 +34,13 @@ between_yes n most low high = and_make _ _ (le-leb 1 n low) (le-leb n most high)
 
 -- A step.
 
--- the last step is marked
-pub kept_marked : (n i : ℕ) (s : StepPlan) → list_all is_want s.options ≡ true → s.is_marked ≡ true → i ≡ n
-    → step_kept n i s ≡ Err (at i cause.Save)
-kept_marked n i s good mark last =
-    kept_told n i s good ∙ ap (λ z. told_kept z (is_between 1 8 (length s.options)) i s) (mark_wrong s.is_marked i n mark last)
-
--- a step has no option, or more than eight
-pub kept_miscounted : (n i : ℕ) (s : StepPlan) → list_all is_want s.options ≡ true → (s.is_marked ≡ false) ⊎ (i ≢ n)
-    → (length s.options ≡ 0) ⊎ (8 < length s.options) → step_kept n i s ≡ Err (at i cause.Options)
-kept_miscounted n i s good mark many =
-    kept_told n i s good
-    ∙ ap (λ z. told_kept z (is_between 1 8 (length s.options)) i s) (mark_right s.is_marked i n mark)
-    ∙ ap (λ z. told_kept true z i s) (between_no (length s.options) 8 many)
-
--- any other step keeps the limits
+-- a step keeps the limits that has no mark on the last one, and one to eight options
 pub kept_right : (n i : ℕ) (s : StepPlan) → list_all is_want s.options ≡ true → (s.is_marked ≡ false) ⊎ (i ≢ n)
     → 1 ≤ length s.options → length s.options ≤ 8 → step_kept n i s ≡ Ok s
 kept_right n i s good mark low high =
     kept_told n i s good
-    ∙ ap (λ z. told_kept z (is_between 1 8 (length s.options)) i s) (mark_right s.is_marked i n mark)
-    ∙ ap (λ z. told_kept true z i s) (between_yes (length s.options) 8 low high)
+    ∙ ap (λ z. told_step z (is_between 1 8 (length s.options)) i s.is_marked (Ok s.options)) (mark_right s.is_marked i n mark)
+    ∙ ap (λ z. told_step true z i s.is_marked (Ok s.options)) (between_yes (length s.options) 8 low high)
 
 -- The steps so far, and one more.
 

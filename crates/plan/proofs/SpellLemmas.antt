@@ -1,15 +1,13 @@
 -- What is spelled as the line of a plan is read as it. For the law that a plan has one spelling.
-use Rattle.std.proofs.Common.{◌≡◌, ◌≢◌, ℕ, ◌+◌, ◌-◌, ◌<◌, ◌≤◌, ◌^◌, ◌⊎◌, inl, inr, Bool, true, false, not, ◌||◌, ◌==◌, List, [], ◌∷◌, ◌++◌, map, length, take, drop, refl, sym, ap, ◌∙◌, arith, Option, Some, Ok}
+use Rattle.std.proofs.Common.{◌≡◌, ◌≢◌, ℕ, ◌+◌, ◌-◌, ◌≤◌, ◌⊎◌, inl, inr, Bool, true, false, not, ◌==◌, List, [], ◌∷◌, ◌++◌, map, length, take, drop, refl, sym, ap, ◌∙◌, arith, Option, Some, Ok}
 use Rattle.std.specs.Prelude.{decimal, nat_le, if◌then◌else◌}
 use Rattle.std.specs.List.{list_all}
-use Rattle.std.specs.Str.Parse.{AllDigits}
 use Rattle.std.proofs.Math.Seq.{drop-append_seam, take-append_seam}
-use Rattle.std.proofs.lemmas.Bool.{le-leb, leb-true}
-use Rattle.std.proofs.lemmas.Fmt.{decimal_is_IsNumeral, decimal_digit}
+use Rattle.std.proofs.lemmas.Bool.{leb-true}
+use Rattle.std.proofs.lemmas.Fmt.{decimal_digit}
 use Rattle.std.proofs.lemmas.List.{append-nil, length-append}
-use Rattle.std.proofs.lemmas.Str.Parse.{digit_from_value}
 use Rattle.allotment.specs.Want.{Wanted}
-use Rattle.allotment.specs.Limits.{is_between, is_code, is_capital, is_digit, is_want}
+use Rattle.allotment.specs.Limits.{is_between, is_code, is_want}
 use Rattle.allotment.specs.Nights.{night_text, night_in}
 use Rattle.allotment.specs.Texts.{parts, joined, number_in, kind_letter, kind_of_letter, want_text, slash, bar, semicolon, star}
 use Rattle.allotment.specs.declared.kinds.Kind.{Kind}
@@ -20,8 +18,9 @@ use Rattle.plan.specs.PlanLine.{step_text, mark_text, tries_text, tries_in, plan
 use Rattle.plan.specs.Levels.{step_kept, steps_kept}
 use Rattle.allotment.proofs.TestLemmas.{and_both, and_make, same_bytes}
 use Rattle.allotment.proofs.NightLemmas.{night_in-night_text}
-use Rattle.plan.proofs.PlainLemmas.{is_plain_byte, is_plain, night_plain}
-use Rattle.plan.proofs.JoinLemmas.{lacks, all_lack, lacks_append, lacks_joined, lacks_drop, parts_joined}
+use Rattle.allotment.proofs.PlainLemmas.{is_plain_byte, is_plain, night_plain, code_plain, decimal_plain, letter_plain}
+use Rattle.allotment.proofs.JoinLemmas.{lacks, all_lack, parts_joined}
+use Rattle.plan.proofs.LackLemmas.{lacks_append, lacks_joined, lacks_drop}
 use Rattle.plan.proofs.NumberLemmas.{number_again}
 use Rattle.plan.proofs.EndLemmas.{tries_again, marked, marked_front}
 use Rattle.plan.proofs.EachLemmas.{each, onto, none_behind}
@@ -30,44 +29,7 @@ use Rattle.plan.proofs.MadeLemmas.{kept_right, made_by_steps}
 
 -- Parts of an option.
 
--- a byte of a code is plain
-code_byte : (a b c : Bool) → (a || b) ≡ true → (b || a || c) ≡ true
-code_byte true true c e = refl
-code_byte true false c e = refl
-code_byte false true c e = refl
-code_byte false false c e = cc
-
--- a code is of digits and capitals
-code_plain : (t : List ℕ) → list_all (λ b. is_capital b || is_digit b) t ≡ true → is_plain t ≡ true
-code_plain [] e = refl
-code_plain (b ∷ t) e =
-    let both = and_both (is_capital b || is_digit b) (list_all (λ b. is_capital b || is_digit b) t) e in
-    and_make _ _ (code_byte (is_capital b) (is_digit b) (b == 45) both.0) (code_plain t both.1)
-
--- the first of two suffices
-or_first : (a b : Bool) → a ≡ true → (a || b) ≡ true
-or_first true b e = refl
-or_first false b e = cc
-
--- and a number of digits
-digits_plain : (t : List ℕ) → AllDigits 10 t → is_plain t ≡ true
-digits_plain [] e = refl
-digits_plain (b ∷ t) e =
-    let r = digit_from_value b e.0 in
-    and_make _ _ (or_first _ _ (or_first _ _ (and_make _ _ (le-leb 48 b r.0) (le-leb b 57 r.1)))) (digits_plain t e.1)
-
--- so a number is of digits
-decimal_plain : (n : ℕ) → n < 2 ^ 64 → is_plain (decimal n) ≡ true
-decimal_plain n l = digits_plain (decimal n) (decimal_is_IsNumeral n l).0.1
-
--- and the letter of a kind a capital
-letter_plain : (k : Kind) → is_plain (kind_letter k) ≡ true
-letter_plain Flight = refl
-letter_plain Room = refl
-letter_plain Transfer = refl
-letter_plain Cover = refl
-
--- which is read as the kind
+-- the letter of a kind is read as the kind
 letter_again : (k : Kind) → kind_of_letter (kind_letter k) ≡ Some k
 letter_again Flight = refl
 letter_again Room = refl
@@ -83,8 +45,8 @@ six_plain : (w : Wanted) → IsGood w → list_all is_plain (kind_letter w.kind 
 six_plain w g =
     let two = and_both (is_code w.supplier) (is_code w.product) g.codes in
     and_make _ _ (letter_plain w.kind)
-    (and_make _ _ (code_plain w.supplier (and_both _ _ two.0).1)
-    (and_make _ _ (code_plain w.product (and_both _ _ two.1).1)
+    (and_make _ _ (code_plain w.supplier two.0)
+    (and_make _ _ (code_plain w.product two.1)
     (and_make _ _ (night_plain w.first g.night)
     (and_make _ _ (decimal_plain w.nights g.nights_small)
     (and_make _ _ (decimal_plain w.count g.count_small) refl)))))

@@ -1,12 +1,11 @@
 -- What is read of a JSON option, of a step and of all steps.
-use Rattle.std.specs.Prelude.{◌≡◌, ℕ, ◌&&◌, ◌==◌, not, Bool, List, ◌++◌, map, filter_map, flat_map, Option, Some, None, option_map, Result, Ok, Err}
+use Rattle.std.specs.Prelude.{◌≡◌, ℕ, List, map, filter_map, flat_map, Option, Some, None, option_map, Result, Ok, Err}
 use Rattle.std.specs.List.{enumerate_from}
 use Rattle.serde_json.specs.Data.{Data}
 use Rattle.serde_json.specs.View.{view}
 use Rattle.serde_json.specs.declared.value.Value.{Value}
 use Rattle.allotment.specs.Want.{Wanted}
-use Rattle.allotment.specs.Limits.{is_between}
-use Rattle.allotment.specs.Making.{unless, first_fault}
+use Rattle.allotment.specs.Making.{first_fault}
 use Rattle.plan.specs.Planned.{StepPlan, step_said}
 use Rattle.plan.specs.declared.steps.PlanStep.{PlanStep}
 use Rattle.plan.specs.declared.causes.PlanCause.TheVariants as cause
@@ -19,12 +18,6 @@ use Rattle.plan.specs.PlanJson.{json_option, json_step}
 abbrev pub judged_step : ℕ → ℕ → Option StepDraft → Result StepPlan BadPlan
 judged_step n i None = Err (at i cause.Shape)
 judged_step n i (Some s) = first_fault (step_of s) (step_faults n (i, Some s))
-
--- whether the step of this number, of so many, may have this mark and so many options
-abbrev pub step_limits : ℕ → ℕ → Bool → ℕ → Result (Unit {0}) BadPlan
-step_limits n i save options =
-    first_fault tt
-    (unless (not (save && i == n)) (at i cause.Save) ++ unless (is_between 1 8 options) (at i cause.Options))
 
 -- the want of an option of this step, or the first thing that is wrong with it
 unfoldable pub want_of_json : ℕ → Data → Result Wanted BadPlan

@@ -1,8 +1,9 @@
 -- What is read of an option, of a step and of all steps, and which limits they keep.
-use Rattle.std.specs.Prelude.{◌≡◌, ℕ, List, map, length, filter_map, flat_map, Option, Some, None, option_map, Result, Ok, Err}
+use Rattle.std.specs.Prelude.{◌≡◌, ℕ, ◌&&◌, ◌==◌, not, Bool, List, ◌++◌, map, length, filter_map, flat_map, Option, Some, None, option_map, Result, Ok, Err}
 use Rattle.std.specs.List.{enumerate_from}
 use Rattle.allotment.specs.Want.{Wanted}
-use Rattle.allotment.specs.Making.{first_fault}
+use Rattle.allotment.specs.Limits.{is_between}
+use Rattle.allotment.specs.Making.{unless, first_fault}
 use Rattle.allotment.specs.Texts.{parts, bar, semicolon}
 use Rattle.allotment.specs.declared.faults.Bad.{Bad}
 use Rattle.allotment.specs.declared.faults.Bad.TheVariants as bad
@@ -35,6 +36,12 @@ unfoldable pub options_in : ℕ → List ℕ → Result (List Wanted) BadPlan
 options_in i text =
     let drafts : List (Option OptionDraft) = map option_draft (parts bar text) in
     first_fault (filter_map (option_map want_of) drafts) (flat_map (option_faults i) drafts)
+
+-- whether the step of this number, of so many, may have this mark and so many options
+abbrev pub step_limits : ℕ → ℕ → Bool → ℕ → Result (Unit {0}) BadPlan
+step_limits n i save options =
+    first_fault tt
+    (unless (not (save && i == n)) (at i cause.Save) ++ unless (is_between 1 8 options) (at i cause.Options))
 
 -- the step of this number, of so many, that a text spells, or the first thing that is wrong with it
 unfoldable pub step_in : ℕ → ℕ → List ℕ → Result StepPlan BadPlan

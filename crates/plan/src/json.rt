@@ -6,11 +6,11 @@ ghost use Rattle.serde_json.specs.View.{view};
 ghost use Rattle.plan.specs.Planned.{step_said};
 ghost use Rattle.plan.specs.Faults.{IfBad};
 ghost use Rattle.plan.specs.PlanJson.{json_step, json_steps, json_tries, step_with};
-ghost use Rattle.plan.specs.JsonLevels.{step_limits, want_of_json, wants_of_json, step_of_json, steps_of_json, views, AreJsonSteps};
+ghost use Rattle.plan.specs.JsonLevels.{want_of_json, wants_of_json, step_of_json, steps_of_json, views, AreJsonSteps};
 
 use crate::causes::PlanCause;
 use crate::faults::{BadPlan, PlanFault, bad};
-use crate::limits::{MOST_OPTIONS, MOST_TRIES};
+use crate::limits::{MOST_TRIES, check_limits};
 use crate::members::{answer_in, has_just, list_in, number_in, text_in};
 use crate::options::cause_of;
 use crate::steps::PlanStep;
@@ -85,19 +85,6 @@ fn step_parts(value: &Value) -> Option<(&[Value], bool)>
     let options = list_in(value, "options")?;
     let save = answer_in(value, "save")?;
     Some((options, save))
-}
-
-/// Whether the step of this number may have this mark and so many options, where so many is the last one's.
-fn check_limits(last: usize, step: usize, save: bool, options: usize) -> Result<(), BadPlan>
-    ensures limits { result ≡ step_limits last step save options }
-{
-    if save && step == last {
-        return Err(bad(step, PlanCause::Save));
-    }
-    if options == 0 || options > MOST_OPTIONS {
-        return Err(bad(step, PlanCause::Options));
-    }
-    Ok(())
 }
 
 /// The wants of the options of a step, which these values spell.

@@ -2,6 +2,7 @@
 use crate::{BadPlan, Plan, PlanCause, PlanFault};
 use serde_json::{Error, Value};
 use std::alloc::{AllocError, Global};
+use std::process::Abort;
 use std::test::Fail;
 
 /// An option of these members: its kind, supplier, product, first night, nights and count, each as it stands in JSON.
@@ -41,6 +42,12 @@ fn listed(alloc: Global, text: &str, count: u8) -> Result<String, AllocError> {
 fn one_step(alloc: Global, options: &str) -> Result<String, AllocError> {
     let only = step(alloc, options, false)?;
     plan(alloc, only.as_str(), 0)
+}
+
+/// A plan of one step, of an option of these members.
+fn one_option(alloc: Global, members: [&str; 6]) -> Result<String, AllocError> {
+    let option = option(alloc, members)?;
+    one_step(alloc, option.as_str())
 }
 
 /// A plan of so many marked steps, and of a last one.
@@ -132,11 +139,10 @@ const OPTIONS: [(&str, [&str; 6], &str); 9] = [
 
 #[test]
 fn an_option_is_read_as_that_of_a_line(rt: HostRuntime) -> Result<(), Fail> {
-    for (case, members, line) in OPTIONS {
-        let option = option(rt.alloc(), members)?;
-        let text = one_step(rt.alloc(), option.as_str())?;
+    for (case, members, line) in &OPTIONS {
+        let text = one_option(rt.alloc(), *members)?;
         let read = line_of(rt.alloc(), text.as_str())?;
-        assert_eq!(rt; read.as_str(), line, "{case}");
+        assert_eq!(rt; read.as_str(), *line, "{case}");
     }
     Ok(())
 }
@@ -196,25 +202,31 @@ const FIRST: [(&str, [&str; 6], PlanCause); 5] = [
 
 /// What is told of a plan with this option alone.
 fn told_of(alloc: Global, members: [&str; 6]) -> Result<Option<PlanFault>, Fail> {
-    let option = option(alloc, members)?;
-    let text = one_step(alloc, option.as_str())?;
+    let text = one_option(alloc, members)?;
     Ok(told(alloc, text.as_str())?)
+}
+
+/// Each option is told the cause that stands behind it.
+fn each_is_told(
+    rt: &impl Abort,
+    alloc: Global,
+    options: &[(&str, [&str; 6], PlanCause)],
+) -> Result<(), Fail> {
+    for (case, members, cause) in options {
+        let told = told_of(alloc, *members)?;
+        assert_eq!(rt; told, wrong(1, *cause), "{case}");
+    }
+    Ok(())
 }
 
 #[test]
 fn a_wrong_option_is_told_its_fault(rt: HostRuntime) -> Result<(), Fail> {
-    for (case, members, cause) in WRONG {
-        assert_eq!(rt; told_of(rt.alloc(), members)?, wrong(1, cause), "{case}");
-    }
-    Ok(())
+    each_is_told(&rt, rt.alloc(), &WRONG)
 }
 
 #[test]
 fn the_first_fault_of_an_option_is_told(rt: HostRuntime) -> Result<(), Fail> {
-    for (case, members, cause) in FIRST {
-        assert_eq!(rt; told_of(rt.alloc(), members)?, wrong(1, cause), "{case}");
-    }
-    Ok(())
+    each_is_told(&rt, rt.alloc(), &FIRST)
 }
 
 // a wrong plan, the step and what is told of it
@@ -278,8 +290,9 @@ const PLANS: [(&str, &str, usize, PlanCause); 40] = [
 
 #[test]
 fn a_wrong_value_is_told_its_first_fault(rt: HostRuntime) -> Result<(), Fail> {
-    for (case, text, step, cause) in PLANS {
-        assert_eq!(rt; told(rt.alloc(), text)?, wrong(step, cause), "{case}");
+    for (case, text, step, cause) in &PLANS {
+        let told = told(rt.alloc(), *text)?;
+        assert_eq!(rt; told, wrong(*step, *cause), "{case}");
     }
     Ok(())
 }

@@ -3,7 +3,7 @@ ghost use Rattle.std.specs.Prelude.{◌≡◌, ◌≤◌, Ok, Err, map, length, 
 ghost use Rattle.std.specs.List.{list_all};
 ghost use Rattle.allotment.specs.Limits.{is_want};
 ghost use Rattle.plan.specs.Planned.{step_said, is_step};
-ghost use Rattle.plan.specs.Levels.{step_checked, steps_checked};
+ghost use Rattle.plan.specs.Levels.{step_limits, step_checked, steps_checked};
 
 use crate::causes::PlanCause;
 use crate::faults::{BadPlan, bad};
@@ -44,12 +44,19 @@ fn check_step(last: usize, number: usize, step: &PlanStep) -> Result<(), BadPlan
     ensures refused { IfErr result (λ bad. step_checked last number step.now ≡ Err bad) }
 {
     know_limits(step.options.as_slice());
-    if step.save && number == last {
-        return Err(bad(number, PlanCause::Save));
+    check_limits(last, number, step.save, step.options.len())?;
+    Ok(())
+}
+
+/// Whether the step of this number may have this mark and so many options, where so many is the last one's.
+pub fn check_limits(last: usize, step: usize, save: bool, options: usize) -> Result<(), BadPlan>
+    ensures limits { result ≡ step_limits last step save options }
+{
+    if save && step == last {
+        return Err(bad(step, PlanCause::Save));
     }
-    let count = step.options.len();
-    if count == 0 || count > MOST_OPTIONS {
-        return Err(bad(number, PlanCause::Options));
+    if options == 0 || options > MOST_OPTIONS {
+        return Err(bad(step, PlanCause::Options));
     }
     Ok(())
 }

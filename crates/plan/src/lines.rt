@@ -7,9 +7,8 @@ ghost use Rattle.plan.specs.Planned.{step_said};
 ghost use Rattle.plan.specs.Faults.{IfBad};
 ghost use Rattle.plan.specs.Levels.{options_in as wants_in, step_in as step_read, steps_in as steps_read, AreStepsOf};
 
-use crate::causes::PlanCause;
-use crate::faults::{PlanFault, bad};
-use crate::limits::MOST_OPTIONS;
+use crate::faults::PlanFault;
+use crate::limits::check_limits;
 use crate::options::option_in;
 use crate::parts::split_mark;
 use crate::steps::PlanStep;
@@ -40,13 +39,8 @@ fn step_in(alloc: Global, last: usize, step: usize, text: &str) -> Result<PlanSt
     ensures refused { IfErr result (IfBad (λ bad. step_read last step text.now ≡ Err bad)) }
 {
     let (rest, save) = split_mark(text);
-    if save && step == last {
-        return Err(PlanFault::Bad(bad(step, PlanCause::Save)));
-    }
     let count = count_options(rest);
-    if count > MOST_OPTIONS {
-        return Err(PlanFault::Bad(bad(step, PlanCause::Options)));
-    }
+    check_limits(last, step, save, count)?;
     let options = options_in(alloc, step, count, rest)?;
     Ok(PlanStep { options, save })
 }

@@ -2,6 +2,7 @@
 use crate::{BadPlan, Plan, PlanCause, PlanFault, PlanStep};
 use allotment::{Kind, Want};
 use std::alloc::{AllocError, Global};
+use std::process::Abort;
 use std::test::Fail;
 
 // a line, and how many steps and tries it has
@@ -24,14 +25,22 @@ const LINES: [(&str, &str, usize, u8); 13] = [
 
 #[test]
 fn a_line_is_read_and_printed_again(rt: HostRuntime) -> Result<(), Fail> {
-    for (case, line, steps, tries) in LINES {
-        let plan = Plan::from_line(rt.alloc(), line)?;
-        assert_eq!(rt; plan.steps(), steps, "{case}");
-        assert_eq!(rt; plan.tries(), tries, "{case}");
-        assert_eq!(rt; plan.line(rt.alloc())?.as_str(), line, "{case}");
-        let copy = plan.clone(rt.alloc())?;
-        assert_eq!(rt; copy.line(rt.alloc())?.as_str(), line, "{case}");
+    for (case, line, steps, tries) in &LINES {
+        let plan = Plan::from_line(rt.alloc(), *line)?;
+        assert_eq!(rt; plan.steps(), *steps, "{case}");
+        assert_eq!(rt; plan.tries(), *tries, "{case}");
+        is_printed(&rt, rt.alloc(), &plan, *line)?;
     }
+    Ok(())
+}
+
+/// The plan is printed as this line, and so is its copy.
+fn is_printed(rt: &impl Abort, alloc: Global, plan: &Plan, line: &str) -> Result<(), AllocError> {
+    let printed = plan.line(alloc)?;
+    assert_eq!(rt; printed.as_str(), line);
+    let copy = plan.clone(alloc)?;
+    let copied = copy.line(alloc)?;
+    assert_eq!(rt; copied.as_str(), line);
     Ok(())
 }
 
@@ -91,9 +100,17 @@ const WRONG: [(&str, &str, usize, PlanCause); 49] = [
 
 #[test]
 fn a_wrong_line_is_told_its_fault(rt: HostRuntime) {
-    for (case, line, step, cause) in WRONG {
-        let told = Plan::from_line(rt.alloc(), line).err();
-        let expected = PlanFault::Bad(BadPlan { step, cause });
+    each_is_told(&rt, rt.alloc(), &WRONG);
+}
+
+/// Each line is told the step and the cause that stand behind it.
+fn each_is_told(rt: &impl Abort, alloc: Global, lines: &[(&str, &str, usize, PlanCause)]) {
+    for (case, line, step, cause) in lines {
+        let told = Plan::from_line(alloc, *line).err();
+        let expected = PlanFault::Bad(BadPlan {
+            step: *step,
+            cause: *cause,
+        });
         assert_eq!(rt; told, Some(expected), "{case}");
     }
 }
@@ -115,14 +132,7 @@ const ORDER: [(&str, &str, usize, PlanCause); 10] = [
 
 #[test]
 fn the_first_fault_is_told(rt: HostRuntime) {
-    for (case, line, step, cause) in ORDER {
-        let told = Plan::from_line(rt.alloc(), line).err();
-        assert_eq!(rt;
-            told,
-            Some(PlanFault::Bad(BadPlan { step, cause })),
-            "{case}"
-        );
-    }
+    each_is_told(&rt, rt.alloc(), &ORDER);
 }
 
 /// So many times this text, with this between, and this at the end.
