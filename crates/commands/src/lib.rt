@@ -7,6 +7,7 @@
 
 mod agents;
 mod asks;
+mod batches;
 mod faults;
 mod items;
 mod keys;
@@ -23,11 +24,13 @@ mod words;
 
 pub use agents::Agent;
 pub use asks::Ask;
+pub use batches::{BadBatch, Batch};
 pub use faults::Fault;
 pub use items::{Cause, Cursor, Item, Phase};
 pub use keys::Key;
 pub use laws::replies_have_one_line;
 pub use names::Name;
 pub use orders::Command;
+pub use readings::number_in;
 pub use refusals::{CsvCause, Refusal};
 pub use replies::Reply;

@@ -24,8 +24,8 @@ fn begins_plain(text: &str) -> bool
     matches!(text.as_bytes(), [b'0'] | [b'1'..=b'9', ..])
 }
 
-/// The number from `low` to `high` that the text spells.
-fn number_in(text: &str, low: usize, high: usize) -> Option<usize>
+/// The number from `low` to `high` that the text spells, without sign and without leading zeros.
+pub fn number_in(text: &str, low: usize, high: usize) -> Option<usize>
     ensures found { Finds (is_between low high) decimal text.now result }
 {
     if !begins_plain(text) {

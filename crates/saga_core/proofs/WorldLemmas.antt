@@ -1,4 +1,4 @@
--- How a world goes on with the commands of a run. For run.
+-- How a world goes on with the commands of a run. For run, and for what else goes on: recovery, and the lines of an input.
 use Rattle.std.proofs.Common.{◌≡◌, ℕ, ◌+◌, true, false, List, [], ◌∷◌, ◌++◌, take, refl, ap, sym, ◌∙◌, subst, arith, IsTrue}
 use Rattle.std.proofs.lemmas.List.{take_more}
 use Rattle.std.proofs.lemmas.Option.{slice_get-get_or}
@@ -17,7 +17,7 @@ use Rattle.saga_core.specs.Worlds.{is_whole, dones, continued, cut_off, StandsAt
 use Rattle.saga_core.proofs.RunLemmas.{IsAt}
 
 -- what comes after some moments and others comes after the others from there
-after-append : (s : State) (v w : List Moment) → after s (v ++ w) ≡ after (after s v) w
+pub after-append : (s : State) (v w : List Moment) → after s (v ++ w) ≡ after (after s v) w
 after-append s [] w = refl
 after-append s (Done asked ask reply ∷ v) w = after-append (outcome s ask asked).state v w
 after-append s (Cut asked ask true ∷ v) w = after-append (outcome s ask asked).state v w
@@ -25,7 +25,7 @@ after-append s (Cut asked ask false ∷ v) w = after-append s v w
 after-append s (Reopened ∷ v) w = after-append s v w
 
 -- moments whose last is not cut off go on with any that go on from there
-GoesOn-append : (s : State) (v w : List Moment) → GoesOn s v → IsTrue (is_whole v)
+pub GoesOn-append : (s : State) (v w : List Moment) → GoesOn s v → IsTrue (is_whole v)
     → GoesOn (after s v) w → GoesOn s (v ++ w)
 GoesOn-append s [] w goes whole then = then
 GoesOn-append s (Done asked ask reply ∷ v) w goes whole then =
@@ -59,19 +59,19 @@ KeepLimits-more {cs} {i} {c} at all one =
     (KeepLimits-append (take i cs) c all one)
 
 -- commands that are answered lead where they lead
-after-dones : (s : State) (cs : Asks) (last : List Moment)
+pub after-dones : (s : State) (cs : Asks) (last : List Moment)
     → after s (dones s cs ++ last) ≡ after (state_after s cs) last
 after-dones s [] last = refl
 after-dones s (c ∷ cs) last = after-dones (outcome_of s c).state cs last
 
-GoesOn-dones : (s : State) (cs : Asks) (last : List Moment) → KeepLimits cs
+pub GoesOn-dones : (s : State) (cs : Asks) (last : List Moment) → KeepLimits cs
     → GoesOn (state_after s cs) last → GoesOn s (dones s cs ++ last)
 GoesOn-dones s [] last all then = then
 GoesOn-dones s (c ∷ cs) last all then =
     (λ made. all.0, refl, GoesOn-dones (outcome_of s c).state cs last all.1 then)
 
 -- where the world that goes on ends
-after-continued : (w : List Moment) (cs : Asks) (last : List Moment)
+pub after-continued : (w : List Moment) (cs : Asks) (last : List Moment)
     → after start (continued w cs last) ≡ after (state_after (after start w) cs) last
 after-continued w cs last =
     after-append start w (dones (after start w) cs ++ last) ∙ after-dones (after start w) cs last

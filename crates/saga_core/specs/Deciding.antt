@@ -1,8 +1,8 @@
 -- The one step of a journey, as a move.
-use Rattle.std.specs.Prelude.{◌≡◌, ◌==◌, ◌&&◌, Bool, false, List, IsTrue}
+use Rattle.std.specs.Prelude.{◌≡◌, ℕ, ◌≤◌, ◌==◌, ◌&&◌, Bool, false, List, IsTrue}
 use Rattle.std.specs.FinSet as set
 use Rattle.std.specs.Ordering.{nat_cmp}
-use Rattle.plan.specs.Planned.{Planned}
+use Rattle.plan.specs.Planned.{Planned, option_count}
 use Rattle.commands.specs.declared.items.Cause.TheVariants.{Refused}
 use Rattle.commands.specs.declared.items.Cursor.{Cursor}
 use Rattle.commands.specs.declared.items.Item.{Item}
@@ -40,3 +40,7 @@ NamesStep plan marks cursor fits decided =
     (h : List Item) → IsHere plan marks cursor h → IsTrue (is_open cursor.phase)
     → (x : Item) × IsTrue (is_forward x) × IsTrue (may_come plan h fits x)
     × IsTrue (names decided x)
+
+-- this is an option of this step of the plan
+abbrev pub IsOptionOf : Planned → ℕ → ℕ → Type 0
+IsOptionOf plan i c = (1 ≤ c) × (c ≤ option_count plan i)

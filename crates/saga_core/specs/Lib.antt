@@ -1,6 +1,12 @@
 pub mod Books
 pub mod Shown
 pub mod Runs
+pub mod MemoryStock
+pub mod MemoryAnswers
+pub mod MemoryJourneys
+pub mod Rulings
+pub mod MemoryNext
 pub mod Memory
 pub mod Worlds
 pub mod Deciding
+pub mod Examples

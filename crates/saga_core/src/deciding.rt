@@ -2,12 +2,12 @@
 //!
 //! It is decided by where the journey is, the save-points that it took, and whether its next want fits. Nothing here
 //! allocates.
-ghost use Rattle.std.specs.Prelude.{◌≡◌, ◌<◌, ◌↔◌, IsTrue};
+ghost use Rattle.std.specs.Prelude.{◌≡◌, ℕ, ◌+◌, ◌<◌, ◌↔◌, IsTrue, IsFalse};
 ghost use Rattle.plan.specs.Planned.{step_count};
 ghost use Rattle.ledger.specs.History.{is_finished};
 ghost use Rattle.savepoints.specs.Marks.{is_taken_in};
 ghost use Rattle.savepoints.specs.Rules as rules;
-ghost use Rattle.saga_core.specs.Deciding.{NamesOnlyStep, NamesStep};
+ghost use Rattle.saga_core.specs.Deciding.{IsOptionOf, NamesOnlyStep, NamesStep};
 
 use commands::{Cursor, Phase};
 use plan::Plan;
@@ -47,12 +47,17 @@ pub fn decide(plan: &Plan, marks: &Marks, cursor: &Cursor, fits: bool) -> Move
     ensures only { NamesOnlyStep plan.now marks.now cursor.now fits result }
     ensures one { NamesStep plan.now marks.now cursor.now fits result }
 
+    ensures takes { cursor.now.phase ≡ Phase.Run → IsTrue fits → result ≡ Move.Take
+        (cursor.now.pos + 1) (rules.next_option plan.now cursor.now.pos cursor.now.used) }
+    ensures turns { cursor.now.phase ≡ Phase.Run → IsFalse fits → result ≡ Move.Turn
+        (rules.refused_target plan.now (is_taken_in marks.now) cursor.now.pos cursor.now.used) }
+    ensures undoes { (p : ℕ) → cursor.now.phase ≡ Phase.Back p → result ≡ Move.Undo cursor.now.pos }
     ensures nothing { (result ≡ Move.Nothing) ↔ IsTrue (is_finished cursor.now.phase) }
+    ensures in_plan { (i c : ℕ) → result ≡ Move.Take i c → IsOptionOf plan.now i c }
 {
     match cursor.phase {
         Phase::Run => {
             if fits {
-                // a plan has at most 24 steps, so the next one has a number
                 prove!(cursor.pos < plan.steps());
                 let step = cursor.pos + 1;
                 Move::Take(step, option_at(plan, step, cursor.used))

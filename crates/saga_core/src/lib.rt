@@ -8,16 +8,19 @@ mod books;
 mod deciding;
 mod memory;
 mod records;
+mod rulings;
 mod runs;
 #[cfg(test)]
 mod tests;
 
 pub use books::Book;
 pub use commands::{
-    Agent, Ask, Cause, Command, CsvCause, Cursor, Fault, Item, Key, Name, Phase, Refusal, Reply,
+    Agent, Ask, BadBatch, Batch, Cause, Command, CsvCause, Cursor, Fault, Item, Key, Name, Phase,
+    Refusal, Reply,
 };
 pub use deciding::{Move, decide};
 pub use ledger;
 pub use memory::MemBook;
 pub use records::{Brief, Record};
+pub use rulings::{going, is_finished, is_running, saved, turned};
 pub use runs::run;

@@ -1,0 +1,33 @@
+-- What may be asked of a journey beside its next step, and what it comes to: an item, or why there is none.
+use Rattle.std.specs.Prelude.{◌&&◌, not, nat_lt, if◌then◌else◌, Result, Ok, Err}
+use Rattle.std.specs.FinSet as set
+use Rattle.std.specs.Ordering.{nat_cmp}
+use Rattle.plan.specs.Planned.{Planned}
+use Rattle.savepoints.specs.Marks.{is_taken_in}
+use Rattle.savepoints.specs.Rules as rules
+use Rattle.savepoints.specs.Turns.{turn_target, may_be_made}
+use Rattle.savepoints.specs.declared.turns.Turn.{Turn}
+use Rattle.commands.specs.declared.items.Cause.{Cause}
+use Rattle.commands.specs.declared.items.Cursor.{Cursor}
+use Rattle.commands.specs.declared.items.Item.{Item}
+use Rattle.commands.specs.declared.items.Item.TheVariants as item
+use Rattle.commands.specs.declared.refusals.Refusal.{Refusal}
+use Rattle.commands.specs.declared.refusals.Refusal.TheVariants.{Finished, NoSavePoint, NoSave}
+use Rattle.ledger.specs.History.{is_running, is_finished}
+use Rattle.changes.specs.Changed.{target_of}
+
+-- a turn that may be made leads to its target
+abbrev pub turn_said : Planned → Cursor → set.FinSet nat_cmp → Turn → Cause → Result Item Refusal
+turn_said plan c marks why cause =
+    if is_finished c.phase then Err Finished
+    else if may_be_made plan (is_taken_in marks) c.pos (target_of c.phase) why
+    then Ok (item.Turn (turn_target plan (is_taken_in marks) c.pos c.used why) cause)
+    else Err NoSavePoint
+
+-- a save-point may be taken where a journey runs, above its start, and none stands yet
+abbrev pub save_said : Planned → Cursor → set.FinSet nat_cmp → Result Item Refusal
+save_said plan c marks =
+    if is_finished c.phase then Err Finished
+    else if is_running c.phase && nat_lt 0 c.pos
+    && not (rules.is_save_point plan (is_taken_in marks) c.pos c.pos)
+    then Ok (item.Save c.pos) else Err NoSave
