@@ -1,0 +1,73 @@
+-- A journey that a pass carries: each of its steps is of the kind that the pass makes. For `carry_one`.
+use Rattle.std.proofs.Common.{◌≡◌, ℕ, List, [], ◌∷◌, ◌++◌, refl, ap, sym, ◌∙◌, append_assoc, eq-eqb, subst}
+use Rattle.std.proofs.lemmas.Bool.{and_from}
+use Rattle.std.proofs.lemmas.List.Folds.{list_all-append}
+use Rattle.std.specs.Prelude.{Bool, true, false, ◌==◌, Option, Some, option_map, unwrap_or, IsTrue}
+use Rattle.std.specs.List.{list_all}
+use Rattle.commands.specs.declared.items.Item.{Item}
+use Rattle.commands.specs.declared.items.Phase.{Phase}
+use Rattle.commands.specs.declared.items.Phase.TheVariants.{Run, Back, Ended, Undone}
+use Rattle.ledger.specs.History.{phase, is_open, is_compensation}
+use Rattle.ledger.specs.Ledger.{Event, Did, Journey, history, is_in, is_item_allowed, phase_of, AreAllowedAfter, IsLegal}
+use Rattle.ledger.specs.Recovery.{journey_of, are_items, is_forward}
+use Rattle.ledger.proofs.Deciding.{each_open_has_one}
+use Rattle.ledger.proofs.Phases.{passing}
+use Rattle.ledger.proofs.Recoverable.{AreAllowedAfter-join, back-stage}
+use Rattle.recovery.specs.Passes.{goes_on, makes, Carry}
+use Rattle.recovery.specs.declared.passes.Pass.{Pass}
+use Rattle.recovery.specs.declared.passes.Pass.TheVariants as pass
+use Rattle.recovery.proofs.TellLemmas.{is_there}
+
+-- a pass goes on with open journeys alone
+goes-open : (p : Pass) (q : Phase) → goes_on p q ≡ true → is_open q ≡ true
+goes-open pass.Back Run e = refl
+goes-open pass.Back (Back t) e = refl
+goes-open pass.Back Ended e = cc
+goes-open pass.Back Undone e = cc
+goes-open pass.On q e = e
+
+-- so a journey that it goes on with is open
+pub in-open : (p : Pass) (m : List Event) (j : ℕ) → is_in (goes_on p) m j ≡ true
+    → is_in is_open m j ≡ true
+in-open p m j goes =
+    let t = is_there (goes_on p) m j goes in
+    ap (passing is_open (history m j)) t.at ∙ goes-open p _ t.here
+
+-- the step of such a journey is of the kind that the pass makes
+pub step-made : (p : Pass) (m : List Event) (j : ℕ) (item : Item) → IsLegal m
+    → is_in (goes_on p) m j ≡ true → is_forward item ≡ true → is_item_allowed m j item ≡ true
+    → makes p item ≡ true
+step-made pass.On m j item legal goes forward allowed = forward
+step-made pass.Back m j item legal goes forward allowed =
+    let one = each_open_has_one m legal j (in-open pass.Back m j goes) in
+    let back = back-stage.has m j legal goes in
+    let same : back.0 ≡ item =
+    one.alone back.0 (back-stage.steps back.0 back.1) back.2 ∙ sym (one.alone item forward allowed)
+    in
+    ap is_compensation (sym same) ∙ back.1
+
+-- Carrying.
+
+-- at first there is no event
+pub carry-start : (p : Pass) (j : ℕ) (l : List Event) → Carry p j l []
+carry-start p j l = record { allowed = tt; items = refl; of_journey = refl }
+
+-- and then one step more
+pub carry-more : (p : Pass) (j : ℕ) (l events : List Event) (item : Item) → Carry p j l events
+    → IsLegal (l ++ events) → is_in (goes_on p) (l ++ events) j ≡ true → is_forward item ≡ true
+    → is_item_allowed (l ++ events) j item ≡ true → Carry p j l (events ++ Did j item ∷ [])
+carry-more p j l events item c legal goes forward allowed = record {
+  allowed = AreAllowedAfter-join l events (Did j item ∷ []) c.allowed (allowed, tt);
+  items =
+      list_all-append (are_items (makes p)) events (Did j item ∷ [])
+      ∙ and_from _ _ c.items
+      (and_from _ _ (step-made p (l ++ events) j item legal goes forward allowed) refl);
+  of_journey =
+      list_all-append (λ e. journey_of e == j) events (Did j item ∷ [])
+      ∙ and_from _ _ c.of_journey (and_from _ _ (eq-eqb j j refl) refl);
+}
+
+-- the phase that a step tells is that in which the journey is then
+pub goes-told : (p : Pass) (m : List Event) (j : ℕ) (q : Phase) → phase_of m j ≡ Some q
+    → is_in (goes_on p) m j ≡ goes_on p q
+goes-told p m j q told = ap (λ o. unwrap_or (option_map (goes_on p) o) false) told

@@ -1,0 +1,14 @@
+pub mod AskLemmas
+pub mod TellLemmas
+pub mod FirstLemmas
+pub mod ReachLemmas
+pub mod TurnLemmas
+pub mod PassLemmas
+pub mod RecoverLemmas
+pub mod CarryLemmas
+pub mod TurnedLemmas
+pub mod CarriedOneLemmas
+pub mod CarriedLemmas
+pub mod FinishLemmas
+pub mod MadeLemmas
+pub mod WorldLemmas

@@ -1,0 +1,170 @@
+-- The first pass, so far: the turns of the running journeys up to some number. For `turn_back`.
+use Rattle.std.proofs.Common.{◌≡◌, ℕ, zero, suc, ◌+◌, ◌-◌, ◌<◌, ◌≤◌, List, [], ◌∷◌, ◌++◌, length, map, cond, refl, ap, sym, ◌∙◌, arith, append_assoc, append-nil}
+use Rattle.std.proofs.lemmas.Bool.{ne_eqb}
+use Rattle.std.specs.Prelude.{Bool, true, false, filter, option_map, unwrap_or}
+use Rattle.allotment.specs.Cells.{numbers_from}
+use Rattle.plan.specs.Planned.{numbered}
+use Rattle.commands.specs.declared.items.Item.{Item}
+use Rattle.commands.specs.declared.items.Item.TheVariants.{Turn}
+use Rattle.commands.specs.declared.items.Cause.TheVariants.{Stop}
+use Rattle.commands.specs.declared.items.Phase.{Phase}
+use Rattle.ledger.specs.History.{is_running, is_open, last_save}
+use Rattle.ledger.specs.Ledger.{Event, Did, Journey, journeys, journey_at, history, is_in}
+use Rattle.ledger.specs.Recovery.{stops, last_save_of}
+use Rattle.ledger.proofs.Growing.{journeys-did, history-did_other}
+use Rattle.ledger.proofs.Numbers.{numbers_between-join}
+use Rattle.ledger.proofs.Phases.{passing}
+use Rattle.recovery.specs.Asking.{stop_of}
+
+-- the turns of the running journeys above a number
+abbrev pub turns_above : List Event → ℕ → List Event
+turns_above l a =
+    map (stop_of l) (filter (is_in is_running l) (numbers_from (suc a) (length (journeys l) - a)))
+
+-- above 0 there are all
+pub turns-all : (l : List Event) → stops l ≡ turns_above l 0
+turns-all l =
+    ap (λ n. map (stop_of l) (filter (is_in is_running l) (numbers_from 1 n)))
+    (let e : length (journeys l) ≡ length (journeys l) - 0 = omega arith in e)
+
+-- numbers that fail a test are left out
+filter-skip : (test : ℕ → Bool) (n first : ℕ) (ys : List ℕ)
+    → ((k : ℕ) → first ≤ k → k < first + n → test k ≡ false)
+    → filter test (numbers_from first n ++ ys) ≡ filter test ys
+filter-skip test zero first ys each = refl
+filter-skip test (suc n) first ys each =
+    ap (λ v. cond v (first ∷ filter test (numbers_from (suc first) n ++ ys))
+    (filter test (numbers_from (suc first) n ++ ys)))
+    (each first (omega arith) (omega arith))
+    ∙ filter-skip test n (suc first) ys (λ k low high. each k (omega arith) (omega arith))
+
+-- where those between do not run, the next of them is this one
+turns-next : (l : List Event) (a i : ℕ) → a < suc i → suc i ≤ length (journeys l)
+    → ((k : ℕ) → a < k → k < suc i → is_in is_running l k ≡ false)
+    → turns_above l a
+    ≡ map (stop_of l) (cond (is_in is_running l (suc i))
+    (suc i ∷ filter (is_in is_running l) (numbers_from (suc (suc i)) (length (journeys l) - suc i)))
+    (filter (is_in is_running l) (numbers_from (suc (suc i)) (length (journeys l) - suc i))))
+turns-next l a i above within between =
+    ap (λ ns. map (stop_of l) (filter (is_in is_running l) ns))
+    (numbers_between-join a i (length (journeys l)) (omega arith) (omega arith))
+    ∙ ap (map (stop_of l))
+    (filter-skip (is_in is_running l) (i - a) (suc a)
+    (numbers_from (suc i) (length (journeys l) - i))
+    (λ k low high. between k (omega arith) (omega arith)))
+    ∙ ap (λ n. map (stop_of l) (filter (is_in is_running l) (numbers_from (suc i) n)))
+    (let e : length (journeys l) - i ≡ suc (length (journeys l) - suc i) = omega arith in e)
+
+-- a running one turns
+pub turns-running : (l : List Event) (a j : ℕ) → a < j → j ≤ length (journeys l)
+    → ((k : ℕ) → a < k → k < j → is_in is_running l k ≡ false) → is_in is_running l j ≡ true
+    → turns_above l a ≡ stop_of l j ∷ turns_above l j
+turns-running l a zero above within between runs = absurd (omega arith)
+turns-running l a (suc i) above within between runs =
+    turns-next l a i above within between
+    ∙ ap (λ v. map (stop_of l) (cond v
+    (suc i ∷ filter (is_in is_running l) (numbers_from (suc (suc i)) (length (journeys l) - suc i)))
+    (filter (is_in is_running l) (numbers_from (suc (suc i)) (length (journeys l) - suc i))))) runs
+
+-- another one does not
+pub turns-other : (l : List Event) (a j : ℕ) → a < j → j ≤ length (journeys l)
+    → ((k : ℕ) → a < k → k < j → is_in is_running l k ≡ false) → is_in is_running l j ≡ false
+    → turns_above l a ≡ turns_above l j
+turns-other l a zero above within between rests = absurd (omega arith)
+turns-other l a (suc i) above within between rests =
+    turns-next l a i above within between
+    ∙ ap (λ v. map (stop_of l) (cond v
+    (suc i ∷ filter (is_in is_running l) (numbers_from (suc (suc i)) (length (journeys l) - suc i)))
+    (filter (is_in is_running l) (numbers_from (suc (suc i)) (length (journeys l) - suc i))))) rests
+
+-- where none above runs there is no turn
+pub turns-none : (l : List Event) (a : ℕ) → ((k : ℕ) → a < k → is_in is_running l k ≡ false)
+    → turns_above l a ≡ []
+turns-none l a none =
+    ap (λ ns. map (stop_of l) (filter (is_in is_running l) ns))
+    (sym (append-nil (numbers_from (suc a) (length (journeys l) - a))))
+    ∙ ap (map (stop_of l))
+    (filter-skip (is_in is_running l) (length (journeys l) - a) (suc a) []
+    (λ k low high. none k (omega arith)))
+
+-- Journeys that are not reached yet.
+
+-- the ledgers have the same journeys, and above this number the same histories
+pub record IsSameAbove (a : ℕ) (l m : List Event) : Type 0 where
+  pub begun : journeys m ≡ journeys l
+  pub of : (j : ℕ) → a < j → history m j ≡ history l j
+
+-- an item leaves the journeys above its own the same
+pub same-did : (a j : ℕ) (l m : List Event) (item : Item) → IsSameAbove a l m → a < j
+    → IsSameAbove j l (m ++ Did j item ∷ [])
+same-did a j l m item same above = record {
+  begun = journeys-did m j item ∙ same.begun;
+  of = λ k higher.
+      history-did_other m j item k (ne_eqb k j (λ e. omega arith)) ∙ same.of k (omega arith);
+}
+
+-- what is the same above a number is so above a higher one
+pub same-further : (a j : ℕ) (l m : List Event) → IsSameAbove a l m → a < j → IsSameAbove j l m
+same-further a j l m same above =
+    record { begun = same.begun; of = λ k higher. same.of k (omega arith) }
+
+-- so is the phase of a journey above it
+pub phase-same : (passes : Phase → Bool) (a k : ℕ) (l m : List Event) → IsSameAbove a l m → a < k
+    → is_in passes m k ≡ is_in passes l k
+phase-same passes a k l m same above =
+    ap (λ h. passing passes h (journey_at m k)) (same.of k above)
+    ∙ ap (λ js. passing passes (history l k) (numbered js k)) same.begun
+
+-- and its last save-point
+pub stop-same : (a k : ℕ) (l m : List Event) → IsSameAbove a l m → a < k
+    → stop_of m k ≡ stop_of l k
+stop-same a k l m same above =
+    ap (λ p. Did k (Turn p Stop))
+    (ap (λ h. unwrap_or (option_map (λ (b : Journey). last_save b.plan h) (journey_at m k)) 0)
+    (same.of k above)
+    ∙ ap (λ js. unwrap_or (option_map (λ (b : Journey). last_save b.plan (history l k))
+    (numbered js k)) 0) same.begun)
+
+-- Turning.
+
+-- these are the turns up to this number
+pub record Turning (l : List Event) (a : ℕ) (events : List Event) : Type 0 where
+  pub all : stops l ≡ events ++ turns_above l a
+  pub same : IsSameAbove a l (l ++ events)
+
+-- at first there are none
+pub turning-start : (l : List Event) → Turning l 0 []
+turning-start l = record {
+  all = turns-all l;
+  same = record {
+    begun = ap journeys (append-nil l);
+    of = λ j above. ap (λ m. history m j) (append-nil l);
+  };
+}
+
+-- a running journey, the next one, turns
+pub turning-more : (l : List Event) (a j : ℕ) (events : List Event) → Turning l a events → a < j
+    → j ≤ length (journeys l) → ((k : ℕ) → a < k → k < j → is_in is_running l k ≡ false)
+    → is_in is_running l j ≡ true
+    → Turning l j (events ++ stop_of (l ++ events) j ∷ [])
+turning-more l a j events t above within between runs =
+    let same = stop-same a j l (l ++ events) t.same above in
+    record {
+      all =
+          t.all ∙ ap (λ r. events ++ r) (turns-running l a j above within between runs)
+          ∙ ap (λ e. events ++ (e ∷ turns_above l j)) (sym same)
+          ∙ sym (append_assoc events (stop_of (l ++ events) j ∷ []) (turns_above l j));
+      same =
+          rw (sym (append_assoc l events (stop_of (l ++ events) j ∷ [])))
+          (same-did a j l (l ++ events) (Turn (last_save_of (l ++ events) j) Stop) t.same above);
+    }
+
+-- another journey does not
+pub turning-further : (l : List Event) (a j : ℕ) (events : List Event) → Turning l a events
+    → a < j → j ≤ length (journeys l)
+    → ((k : ℕ) → a < k → k < j → is_in is_running l k ≡ false) → is_in is_running l j ≡ false
+    → Turning l j events
+turning-further l a j events t above within between rests = record {
+  all = t.all ∙ ap (λ r. events ++ r) (turns-other l a j above within between rests);
+  same = same-further a j l (l ++ events) t.same above;
+}

@@ -1,0 +1,120 @@
+use Rattle.std.proofs.Common.{◌≡◌, ◌++◌, ◌+◌, ◌<◌, ◌^◌, ap, sym, ◌∙◌, arith, subst}
+use Rattle.std.specs.Prelude.{true, false}
+use Rattle.recovery.specs.Growing.{with_events}
+use Rattle.recovery.specs.Passes.{goes_on, CarriedOne}
+use Rattle.recovery.proofs.PassLemmas.{sum-fits}
+use Rattle.recovery.proofs.CarriedLemmas.{carried-further, goes-first, carried-more, carried-cut, carried-look, carried-fault, carried-all}
+use Rattle.recovery.proofs.passes.carry.Goals as goal
+use Rattle.recovery.proofs.passes.carry.Goals.{then-goes_on+in-Ok-Through, else-goes_on}
+
+-- no journey is left
+pub returns-in-Ok-None-clause-ok : goal.returns-in-Ok-None-clause-ok
+returns-in-Ok-None-clause-ok g c =
+    λ sound s st.
+    let was = c.first_unfinished.ensures.sound sound in
+    let t = c.loop-round.invariant.carried was s st in
+    carried-all c.args.pass (g.B.Book.stands c.loop-round.book)
+    (g.B.Book.stands c.first_unfinished.new.self) s c.loop-round.after c.loop-round.made
+    c.loop-round._round t
+    (sym c.in-Ok-None.field-0-is
+    ∙ c.in-Ok-None.ensures.first sound (with_events s t.events) t.stands_there)
+    (c.in-Ok-None.ensures.same sound (with_events s t.events) t.stands_there)
+
+-- the ledger was full within a journey
+pub returns-in-Ok-Full-clause-ok : goal.returns-in-Ok-Full-clause-ok
+returns-in-Ok-Full-clause-ok g c =
+    λ sound s st.
+    let looked = c.carry_one.ensures.sound sound in
+    let was = c.first_unfinished.ensures.sound looked in
+    let t = c.loop-round.invariant.carried was s st in
+    let b = c.in-Ok-Some.brief in
+    let first = sym c.in-Ok-Some.field-0-is
+    ∙ c.in-Ok-Some.ensures.first looked (with_events s t.events) t.stands_there in
+    let here = c.in-Ok-Some.ensures.same looked (with_events s t.events) t.stands_there in
+    let goes : goes_on c.args.pass b.cursor.phase ≡ true =
+    sym c.goes_on.ensures ∙ c.if-goes_on.true in
+    let more = subst (CarriedOne (g.B.Book.stands c.first_unfinished.new.self)
+    (g.B.Book.stands c.carry_one.new.book) c.args.pass b.id) c.in-Ok-Full.field-0-is
+    (c.in-Ok-Full.ensures.ok sound) (with_events s t.events) here
+    (goes-first c.args.pass (s.ledger ++ t.events) c.loop-round.after b first goes) in
+    let fits = sum-fits s t.events c.loop-round.made c.in-Ok-Full.more t.counted t.within
+    more.grew.within in
+    carried-cut c.args.pass (g.B.Book.stands c.loop-round.book)
+    (g.B.Book.stands c.carry_one.new.book) s c.loop-round.after c.loop-round.made
+    c.loop-round._round c.in-Ok-Full.more c.saturating_add.result b t first more
+    (omega (arith, c.saturating_add.ensures, fits))
+
+-- a look met a fault
+pub returns-in-Err-clause-fault : goal.returns-in-Err-clause-fault
+returns-in-Err-clause-fault g c =
+    λ sound s st.
+    let was = c.first_unfinished.ensures.sound sound in
+    carried-look c.args.pass (g.B.Book.stands c.loop-round.book)
+    (g.B.Book.leaves c.first_unfinished.new.self) s c.loop-round.after c.loop-round.made
+    c.loop-round._round c.in-Err.fault (c.loop-round.invariant.carried was s st)
+    (λ u here. c.first_unfinished.ensures.stop sound u u
+    (g.met.B.Book.settled c.loop-round.book u here))
+
+-- a fault came within a journey
+pub returns-in-Err-carry_one-clause-fault : goal.returns-in-Err-carry_one-clause-fault
+returns-in-Err-carry_one-clause-fault g c =
+    λ sound s st.
+    let looked = c.carry_one.ensures.sound sound in
+    let was = c.first_unfinished.ensures.sound looked in
+    let t = c.loop-round.invariant.carried was s st in
+    let b = c.in-Ok-Some.brief in
+    let first = sym c.in-Ok-Some.field-0-is
+    ∙ c.in-Ok-Some.ensures.first looked (with_events s t.events) t.stands_there in
+    let here = c.in-Ok-Some.ensures.same looked (with_events s t.events) t.stands_there in
+    let goes : goes_on c.args.pass b.cursor.phase ≡ true =
+    sym c.goes_on.ensures ∙ c.if-goes_on.true in
+    carried-fault c.args.pass (g.B.Book.stands c.loop-round.book)
+    (g.B.Book.leaves c.carry_one.new.book) s c.loop-round.after c.loop-round.made
+    c.loop-round._round b c.in-Err-carry_one.fault t first
+    (c.in-Err-carry_one.ensures.fault sound (with_events s t.events) here
+    (goes-first c.args.pass (s.ledger ++ t.events) c.loop-round.after b first goes))
+
+-- one journey further: the pass carried it, or has nothing to do with it
+pub loop-round-preserved : goal.loop-round-preserved
+loop-round-preserved g c =
+    elim c.if-goes_on.branch [
+      | then-goes_on+in-Ok-Through w ↦ rw (w.book-is, w.made-is) (record {
+        sound = λ h.
+            c.loop-round.invariant.sound
+            (c.first_unfinished.ensures.sound (w.carry_one.ensures.sound h));
+        carried = λ sound s st.
+            let looked = w.carry_one.ensures.sound sound in
+            let was = c.first_unfinished.ensures.sound looked in
+            let t = c.loop-round.invariant.carried was s st in
+            let b = c.in-Ok-Some.brief in
+            let first = sym c.in-Ok-Some.field-0-is
+            ∙ c.in-Ok-Some.ensures.first looked (with_events s t.events) t.stands_there in
+            let here = c.in-Ok-Some.ensures.same looked (with_events s t.events) t.stands_there in
+            let goes : goes_on c.args.pass b.cursor.phase ≡ true =
+            sym c.goes_on.ensures ∙ w.if-goes_on.true in
+            let more = subst (CarriedOne (g.B.Book.stands c.first_unfinished.new.self)
+            (g.B.Book.stands w.carry_one.new.book) c.args.pass b.id) w.in-Ok-Through.field-0-is
+            (w.in-Ok-Through.ensures.ok sound) (with_events s t.events) here
+            (goes-first c.args.pass (s.ledger ++ t.events) c.loop-round.after b first goes) in
+            let fits = sum-fits s t.events c.loop-round.made w.in-Ok-Through.more t.counted t.within
+            more.within in
+            carried-more c.args.pass (g.B.Book.stands c.loop-round.book)
+            (g.B.Book.stands w.carry_one.new.book) s c.loop-round.after c.loop-round.made
+            c.loop-round._round w.in-Ok-Through.more w.saturating_add-made.result b t first more
+            (omega (arith, w.saturating_add-made.ensures, fits));
+      })
+      | else-goes_on w ↦ rw (w.book-is, w.made-is) (record {
+        sound = λ h. c.loop-round.invariant.sound (c.first_unfinished.ensures.sound h);
+        carried = λ sound s st.
+            let was = c.first_unfinished.ensures.sound sound in
+            let t = c.loop-round.invariant.carried was s st in
+            let b = c.in-Ok-Some.brief in
+            carried-further c.args.pass (g.B.Book.stands c.loop-round.book)
+            (g.B.Book.stands c.first_unfinished.new.self) s c.loop-round.after c.loop-round.made
+            c.loop-round._round b t
+            (sym c.in-Ok-Some.field-0-is
+            ∙ c.in-Ok-Some.ensures.first sound (with_events s t.events) t.stands_there)
+            (sym c.goes_on.ensures ∙ w.if-goes_on.false)
+            (c.in-Ok-Some.ensures.same sound (with_events s t.events) t.stands_there);
+      })
+    ]

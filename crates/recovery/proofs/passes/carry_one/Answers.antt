@@ -1,0 +1,45 @@
+use Rattle.std.proofs.Common.{◌≡◌, sym, ◌∙◌, subst}
+use Rattle.recovery.specs.Asking.{Steps}
+use Rattle.std.specs.Prelude.{true, false}
+use Rattle.recovery.specs.Growing.{with_events}
+use Rattle.recovery.specs.Passes.{goes_on}
+use Rattle.recovery.proofs.CarriedOneLemmas.{one-on, one-done, one-fault}
+use Rattle.recovery.proofs.passes.carry_one.Goals as goal
+
+-- one step more, and the pass is done with the journey
+pub returns-then-not-goes_on-clause-ok : goal.returns-then-not-goes_on-clause-ok
+returns-then-not-goes_on-clause-ok g c =
+    λ sound s st on.
+    let t = c.loop-made.invariant.carried (c.step.ensures.sound sound) s st on in
+    let out : goes_on c.args.pass c.in-Ok-Some.phase ≡ false =
+    sym c.goes_on.ensures ∙ c.if-not-goes_on.true in
+    one-done c.args.pass (g.B.Book.stands c.loop-made.book) (g.B.Book.stands c.step.new.book) s
+    c.args.id c.loop-made.made c.in-Ok-Some.phase t
+    (g.met.B.Book.legal c.loop-made.book (with_events s t.events) t.stands_there)
+    (subst (Steps (g.B.Book.stands c.loop-made.book) (g.B.Book.stands c.step.new.book) c.args.id)
+    c.in-Ok-Some.field-0-is (c.in-Ok-Some.ensures.ok sound)) out
+
+-- the steps so far, and perhaps the one that met the fault
+pub returns-in-Err-clause-fault : goal.returns-in-Err-clause-fault
+returns-in-Err-clause-fault g c =
+    λ sound s st on.
+    let t = c.loop-made.invariant.carried (c.step.ensures.sound sound) s st on in
+    one-fault c.args.pass (g.B.Book.stands c.loop-made.book) (g.B.Book.leaves c.step.new.book) s
+    c.args.id c.loop-made.made c.in-Err.fault t
+    (g.met.B.Book.legal c.loop-made.book (with_events s t.events) t.stands_there)
+    (c.in-Err.ensures.fault sound)
+
+-- one step more, and the pass goes on with the journey
+pub loop-made-preserved : goal.loop-made-preserved
+loop-made-preserved g c = record {
+  sound = λ h. c.loop-made.invariant.sound (c.step.ensures.sound h);
+  carried = λ sound s st on.
+      let t = c.loop-made.invariant.carried (c.step.ensures.sound sound) s st on in
+      let goes : goes_on c.args.pass c.in-Ok-Some.phase ≡ true =
+      sym c.goes_on.ensures ∙ c.if-not-goes_on.false in
+      one-on c.args.pass (g.B.Book.stands c.loop-made.book) (g.B.Book.stands c.step.new.book) s
+      c.args.id c.loop-made.made c.in-Ok-Some.phase t
+      (g.met.B.Book.legal c.loop-made.book (with_events s t.events) t.stands_there)
+      (subst (Steps (g.B.Book.stands c.loop-made.book) (g.B.Book.stands c.step.new.book) c.args.id)
+      c.in-Ok-Some.field-0-is (c.in-Ok-Some.ensures.ok sound)) goes;
+}

@@ -1,0 +1,18 @@
+-- The book has made so many steps of the journey, and the pass goes on with it.
+use Rattle.std.proofs.Common.{◌≡◌}
+use Rattle.std.specs.Prelude.{true}
+use Rattle.ledger.specs.Answer.{State}
+use Rattle.ledger.specs.Ledger.{is_in}
+use Rattle.recovery.specs.Passes.{goes_on}
+use Rattle.recovery.proofs.CarriedOneLemmas.{OneSoFar}
+use Rattle.recovery.proofs.passes.carry_one.Given as goal
+
+abbrev pub invariant-loop-made : goal.invariant-loop-made
+invariant-loop-made g l =
+    let book = g.B.Book in
+    record {
+      sound : book.is_sound l.book → book.is_sound l.fn.book;
+      carried : book.is_sound l.book → (s : State) → book.stands l.fn.book s
+          → is_in (goes_on l.pass) s.ledger l.id ≡ true
+          → OneSoFar l.pass (book.stands l.book) s l.id l.made;
+    }

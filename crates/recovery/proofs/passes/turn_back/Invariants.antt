@@ -1,0 +1,15 @@
+-- The running journeys up to the last one that was treated have turned.
+use Rattle.std.proofs.Common.{◌≤◌}
+use Rattle.ledger.specs.Answer.{State}
+use Rattle.recovery.proofs.TurnedLemmas.{TurnedSoFar}
+use Rattle.recovery.proofs.passes.turn_back.Given as goal
+
+abbrev pub invariant-loop-round : goal.invariant-loop-round
+invariant-loop-round g l =
+    let book = g.B.Book in
+    record {
+      each_once : l.made ≤ l._round;
+      sound : book.is_sound l.book → book.is_sound l.fn.book;
+      turned : book.is_sound l.book → (s : State) → book.stands l.fn.book s
+          → TurnedSoFar (book.stands l.book) s l.after l.made l._round;
+    }

@@ -1,0 +1,54 @@
+use Rattle.std.proofs.Common.{arith, subst, sym}
+use Rattle.ledger.specs.Answer.{start}
+use Rattle.ledger.specs.World.{after}
+use Rattle.recovery.specs.Growing.{with_events}
+use Rattle.recovery.specs.Worlds.{EndsRecovered}
+use Rattle.recovery.proofs.RecoverLemmas.{recovery-finishes, recovery-within}
+use Rattle.recovery.proofs.WorldLemmas.{world-recovered, world-cut}
+use Rattle.recovery.proofs.recovering.recover.Goals as goal
+
+-- the recovered ledger has no unfinished journey
+pub returns-in-Ok-clause-finished : goal.returns-in-Ok-clause-finished
+returns-in-Ok-clause-finished g c =
+    λ sound s r st is fits.
+    let moved = subst g.B.Book.is_sound c.new.ensures.same sound in
+    let grew = c.in-Ok.ensures.recovered moved s st in
+    record {
+      state = with_events s grew.events;
+      stands_there =
+          subst (λ b. g.B.Book.stands b (with_events s grew.events)) (sym c.new.ensures.same)
+          grew.stands_there;
+      finished = recovery-finishes s.ledger grew.events r grew.are is fits;
+    }
+
+-- and it is within the bound
+pub returns-in-Ok-clause-bound : goal.returns-in-Ok-clause-bound
+returns-in-Ok-clause-bound g c =
+    λ sound s st.
+    let moved = subst g.B.Book.is_sound c.new.ensures.same sound in
+    let grew = c.in-Ok.ensures.recovered moved s st in
+    let counted = grew.counted in
+    let within = recovery-within s.ledger grew.events (g.met.B.Book.legal c.args.book s st) grew.are
+    in
+    omega arith
+
+-- a world goes on with the commands of recovery
+pub returns-in-Ok-clause-world : goal.returns-in-Ok-clause-world
+returns-in-Ok-clause-world g c =
+    λ sound w here.
+    let stands = g.B.Book.stands in
+    let s = after start w in
+    let legal = g.met.B.Book.legal c.args.book s here.stood_there in
+    let moved = subst g.B.Book.is_sound c.new.ensures.same sound in
+    subst (λ b. EndsRecovered (stands b) w) (sym c.new.ensures.same)
+    (world-recovered (stands c.args.book) (stands c.recover_all.new.book) w c.in-Ok.made here legal
+    (c.in-Ok.ensures.recovered moved s here.stood_there))
+
+-- and at a fault with a front of them
+pub returns-in-Err-clause-world_at_fault : goal.returns-in-Err-clause-world_at_fault
+returns-in-Err-clause-world_at_fault g c =
+    λ sound w here.
+    let s = after start w in
+    world-cut (g.B.Book.stands c.args.book) (g.B.Book.leaves c.recover_all.new.book) w
+    c.in-Err.fault here (g.met.B.Book.legal c.args.book s here.stood_there)
+    (c.in-Err.ensures.fault sound s here.stood_there)

@@ -1,0 +1,94 @@
+use Rattle.std.proofs.Common.{◌++◌, subst, arith}
+use Rattle.recovery.specs.Growing.{with_events}
+use Rattle.recovery.specs.Passes.{MadeStops, CarriedAll, IsUnderWay, IsThrough, made_by}
+use Rattle.recovery.specs.declared.passes.Pass.TheVariants.{Back, On}
+use Rattle.recovery.proofs.PassLemmas.{sum-fits, sums-fit}
+use Rattle.recovery.proofs.FinishLemmas.{turns-cut, back-cut, came-within, on-came, turns-fault, back-fault, on-fault}
+use Rattle.recovery.proofs.recovering.recover_all.Goals as goal
+
+-- the turns filled the ledger
+pub returns-in-Ok-Full-clause-recovered : goal.returns-in-Ok-Full-clause-recovered
+returns-in-Ok-Full-clause-recovered g c =
+    λ sound s st.
+    turns-cut (g.B.Book.stands c.turn_back.new.book) s c.in-Ok-Full.made
+    (g.met.B.Book.legal c.args.book.now s st)
+    (subst (MadeStops (g.B.Book.stands c.args.book.now) (g.B.Book.stands c.turn_back.new.book))
+    c.in-Ok-Full.field-0-is (c.in-Ok-Full.ensures.ok sound) s st)
+
+-- the way back filled the ledger
+pub returns-in-Ok-Full-carry-clause-recovered : goal.returns-in-Ok-Full-carry-clause-recovered
+returns-in-Ok-Full-carry-clause-recovered g c =
+    λ sound s st.
+    let stands = g.B.Book.stands in
+    let was = c.carry.ensures.sound sound in
+    let t = subst (MadeStops (stands c.args.book.now) (stands c.turn_back.new.book))
+    c.in-Ok-Through.field-0-is (c.in-Ok-Through.ensures.ok was) s st in
+    let b = subst (CarriedAll (stands c.turn_back.new.book) (stands c.carry.new.book) Back)
+    c.in-Ok-Full-carry.field-0-is (c.in-Ok-Full-carry.ensures.ok sound) (with_events s t.events)
+    t.stands_there in
+    let fits = sum-fits s t.events c.in-Ok-Through.made c.in-Ok-Full-carry.made t.counted t.within
+    b.grew.within in
+    back-cut (stands c.turn_back.new.book) (stands c.carry.new.book) s c.in-Ok-Through.made
+    c.in-Ok-Full-carry.made c.saturating_add.result (g.met.B.Book.legal c.args.book.now s st) t b
+    (omega (arith, c.saturating_add.ensures, fits))
+
+-- the way on came through, or filled the ledger
+pub returns-in-Ok-clause-recovered : goal.returns-in-Ok-clause-recovered
+returns-in-Ok-clause-recovered g c =
+    λ sound s st.
+    let stands = g.B.Book.stands in
+    let on_way = c.carry-2.ensures.sound sound in
+    let was = c.carry.ensures.sound on_way in
+    let t = subst (MadeStops (stands c.args.book.now) (stands c.turn_back.new.book))
+    c.in-Ok-Through.field-0-is (c.in-Ok-Through.ensures.ok was) s st in
+    let b = subst (CarriedAll (stands c.turn_back.new.book) (stands c.carry.new.book) Back)
+    c.in-Ok-Through-carry.field-0-is (c.in-Ok-Through-carry.ensures.ok on_way)
+    (with_events s t.events) t.stands_there in
+    let last = with_events (with_events s t.events) b.events in
+    let on = c.in-Ok.ensures.ok sound last b.stands_there in
+    let within = came-within (stands c.carry-2.new.book) last (IsThrough On last.ledger)
+    (IsUnderWay On last.ledger) c.in-Ok.came on in
+    let fits = sums-fit s t.events b.events c.in-Ok-Through.made c.in-Ok-Through-carry.made
+    (made_by c.in-Ok.came) t.counted t.within b.counted b.within within in
+    on-came (stands c.turn_back.new.book) (stands c.carry.new.book) (stands c.carry-2.new.book) s
+    c.in-Ok-Through.made c.in-Ok-Through-carry.made c.saturating_add-in-Ok.result c.in-Ok.came
+    (g.met.B.Book.legal c.args.book.now s st) (g.met.B.Book.legal c.carry-2.new.book) t b on
+    (omega (arith, c.saturating_add-in-Ok.ensures, c.saturating_add-back.ensures, c.made.ensures, fits))
+
+-- a fault came in the turns
+pub returns-in-Err-clause-fault : goal.returns-in-Err-clause-fault
+returns-in-Err-clause-fault g c =
+    λ sound s st.
+    turns-fault (g.B.Book.leaves c.turn_back.new.book) s c.in-Err.fault
+    (g.met.B.Book.legal c.args.book.now s st)
+    (c.in-Err.ensures.fault sound s st)
+
+-- a fault came on the way back
+pub returns-in-Err-carry-clause-fault : goal.returns-in-Err-carry-clause-fault
+returns-in-Err-carry-clause-fault g c =
+    λ sound s st.
+    let was = c.carry.ensures.sound sound in
+    let t = subst (MadeStops (g.B.Book.stands c.args.book.now)
+    (g.B.Book.stands c.turn_back.new.book)) c.in-Ok-Through.field-0-is
+    (c.in-Ok-Through.ensures.ok was) s st in
+    back-fault (g.B.Book.stands c.turn_back.new.book) (g.B.Book.leaves c.carry.new.book) s
+    c.in-Ok-Through.made c.in-Err-carry.fault (g.met.B.Book.legal c.args.book.now s st) t
+    (c.in-Err-carry.ensures.fault sound (with_events s t.events) t.stands_there)
+
+-- a fault came on the way on
+pub returns-in-Err-carry-2-clause-fault : goal.returns-in-Err-carry-2-clause-fault
+returns-in-Err-carry-2-clause-fault g c =
+    λ sound s st.
+    let stands = g.B.Book.stands in
+    let on_way = c.carry-2.ensures.sound sound in
+    let was = c.carry.ensures.sound on_way in
+    let t = subst (MadeStops (stands c.args.book.now) (stands c.turn_back.new.book))
+    c.in-Ok-Through.field-0-is (c.in-Ok-Through.ensures.ok was) s st in
+    let b = subst (CarriedAll (stands c.turn_back.new.book) (stands c.carry.new.book) Back)
+    c.in-Ok-Through-carry.field-0-is (c.in-Ok-Through-carry.ensures.ok on_way)
+    (with_events s t.events) t.stands_there in
+    on-fault (stands c.turn_back.new.book) (stands c.carry.new.book)
+    (g.B.Book.leaves c.carry-2.new.book) s c.in-Ok-Through.made c.in-Ok-Through-carry.made
+    c.in-Err-carry-2.fault (g.met.B.Book.legal c.args.book.now s st) t b
+    (c.in-Err-carry-2.ensures.fault sound (with_events (with_events s t.events) b.events)
+    b.stands_there)

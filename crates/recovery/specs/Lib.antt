@@ -1,0 +1,6 @@
+pub mod Growing
+pub mod Asking
+pub mod Passes
+pub mod Recovers
+pub mod Worlds
+pub mod Examples

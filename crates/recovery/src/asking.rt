@@ -1,0 +1,48 @@
+//! One command of recovery, asked by the house.
+ghost use Rattle.std.specs.Prelude.{IfOk, IfErr, ◌↔◌, ◌≡◌, IsTrue, IsErrOf, is_some};
+ghost use Rattle.recovery.specs.Asking.{phase_told, Stops, StopsOrNot, Steps, StepsOrNot};
+
+use commands::{Command, Fault, Phase, Reply};
+use saga_core::Book;
+
+/// The phase that a reply tells, if a journey moved.
+fn phase_told(reply: Reply) -> Option<Phase>
+    ensures { result ≡ phase_told reply }
+{
+    match reply {
+        Reply::Moved { phase, .. } => Some(phase),
+        Reply::Loaded { .. } | Reply::Begun { .. } | Reply::Refused(_) => None,
+    }
+}
+
+/// Turns a running journey back to its last save-point. False where the ledger is full.
+pub fn stop<B: Book>(book: &mut B, id: u64) -> Result<bool, Fault>
+    ensures ok { B.is_sound book.new →
+        IfOk result (λ made. Stops (B.stands book.old) (B.stands book.new) id made) }
+    ensures fault { B.is_sound book.new →
+        IfErr result (StopsOrNot (B.stands book.old) (B.leaves book.new) id) }
+    ensures failed { IsErrOf result Fault.Store ↔ IsTrue (B.has_failed book.new) }
+    ensures sound { B.is_sound book.new → B.is_sound book.old }
+{
+    let command = Command::Stop(id);
+    match book.act(&command, None) {
+        Ok(reply) => Ok(phase_told(reply).is_some()),
+        Err(fault) => Err(fault),
+    }
+}
+
+/// Carries an unfinished journey one step on. Answers the phase that it is in then, or none where the ledger is full.
+pub fn step<B: Book>(book: &mut B, id: u64) -> Result<Option<Phase>, Fault>
+    ensures ok { B.is_sound book.new →
+        IfOk result (λ phase. Steps (B.stands book.old) (B.stands book.new) id phase) }
+    ensures fault { B.is_sound book.new →
+        IfErr result (StepsOrNot (B.stands book.old) (B.leaves book.new) id) }
+    ensures failed { IsErrOf result Fault.Store ↔ IsTrue (B.has_failed book.new) }
+    ensures sound { B.is_sound book.new → B.is_sound book.old }
+{
+    let command = Command::Step(id);
+    match book.act(&command, None) {
+        Ok(reply) => Ok(phase_told(reply)),
+        Err(fault) => Err(fault),
+    }
+}

@@ -1,0 +1,140 @@
+//! The passes of recovery, each over the unfinished journeys by rising number.
+ghost use Rattle.std.specs.Prelude.{◌≡◌, ◌↔◌, IfOk, IfErr, IsTrue, IsErrOf};
+ghost use Rattle.ledger.specs.History.{is_running};
+ghost use Rattle.recovery.specs.Passes.{made_by, goes_on, MadeStops, MadeSomeStops, CarriedAll, CarriedSome, CarriedOne, CarriedOneSome};
+
+use crate::asking::{step, stop};
+use commands::{Fault, Phase};
+use saga_core::Book;
+
+/// How a pass came out, with the number of the events that it made.
+#[derive(Clone, Copy)]
+pub enum Came {
+    /// It came through.
+    Through(u64),
+    /// The ledger is full, and an event more was due.
+    Full(u64),
+}
+
+impl Came {
+    /// How many events it made.
+    pub fn made(self) -> u64
+        ensures { result ≡ made_by self }
+    {
+        match self {
+            Came::Through(made) | Came::Full(made) => made,
+        }
+    }
+}
+
+/// The passes that step journeys.
+#[derive(Clone, Copy)]
+pub enum Pass {
+    /// The journeys that go back, until each is where it goes.
+    Back,
+    /// All unfinished journeys, until each has ended or is undone.
+    On,
+}
+
+impl Pass {
+    /// Whether the pass goes on with a journey in this phase.
+    fn goes_on(self, phase: Phase) -> bool
+        ensures { result ≡ goes_on self phase }
+    {
+        match (self, phase) {
+            (_, Phase::Back(_)) | (Pass::On, Phase::Run) => true,
+            (_, Phase::Ended | Phase::Undone) | (Pass::Back, Phase::Run) => false,
+        }
+    }
+}
+
+/// Whether a journey in this phase goes forward.
+fn is_running(phase: Phase) -> bool
+    ensures { result ≡ is_running phase }
+{
+    match phase {
+        Phase::Run => true,
+        Phase::Back(_) | Phase::Ended | Phase::Undone => false,
+    }
+}
+
+/// Turns each running journey back to its last save-point, once.
+pub fn turn_back<B: Book>(book: &mut B) -> Result<Came, Fault>
+    ensures ok { B.is_sound book.new →
+        IfOk result (λ came. MadeStops (B.stands book.old) (B.stands book.new) came) }
+    ensures fault { B.is_sound book.new →
+        IfErr result (MadeSomeStops (B.stands book.old) (B.leaves book.new)) }
+    ensures failed { IfErr result (λ f. f ≡ Fault.Store → IsTrue (B.has_failed book.new)) }
+    ensures sound { B.is_sound book.new → B.is_sound book.old }
+{
+    let mut after = 0;
+    let mut made = 0u64;
+    for _round in 0..u64::MAX {
+        let brief = match book.first_unfinished(after) {
+            Ok(Some(brief)) => brief,
+            Ok(None) => return Ok(Came::Through(made)),
+            Err(fault) => return Err(fault),
+        };
+        if is_running(brief.cursor.phase) {
+            match stop(book, brief.id) {
+                Ok(true) => made += 1,
+                Ok(false) => return Ok(Came::Full(made)),
+                Err(fault) => return Err(fault),
+            }
+        }
+        after = brief.id;
+    }
+    Ok(Came::Full(made))
+}
+
+/// Steps a journey until the pass is done with it.
+fn carry_one<B: Book>(book: &mut B, pass: Pass, id: u64) -> Result<Came, Fault>
+    ensures ok { B.is_sound book.new →
+        IfOk result (λ came. CarriedOne (B.stands book.old) (B.stands book.new) pass id came) }
+    ensures fault { B.is_sound book.new →
+        IfErr result (CarriedOneSome (B.stands book.old) (B.leaves book.new) pass id) }
+    ensures failed { IfErr result (λ f. f ≡ Fault.Store → IsTrue (B.has_failed book.new)) }
+    ensures sound { B.is_sound book.new → B.is_sound book.old }
+{
+    for made in 0..u64::MAX {
+        match step(book, id) {
+            Ok(None) => return Ok(Came::Full(made)),
+            Ok(Some(phase)) => {
+                if !pass.goes_on(phase) {
+                    return Ok(Came::Through(made + 1));
+                }
+            }
+            Err(fault) => return Err(fault),
+        }
+    }
+    Ok(Came::Full(u64::MAX))
+}
+
+/// Steps each journey that the pass is about until the pass is done with it.
+pub fn carry<B: Book>(book: &mut B, pass: Pass) -> Result<Came, Fault>
+    ensures ok { B.is_sound book.new →
+        IfOk result (λ came. CarriedAll (B.stands book.old) (B.stands book.new) pass came) }
+    ensures fault { B.is_sound book.new →
+        IfErr result (CarriedSome (B.stands book.old) (B.leaves book.new) pass) }
+    ensures failed { IfErr result (λ f. f ≡ Fault.Store → IsTrue (B.has_failed book.new)) }
+    ensures sound { B.is_sound book.new → B.is_sound book.old }
+{
+    let mut after = 0;
+    let mut made = 0u64;
+    for _round in 0..u64::MAX {
+        let brief = match book.first_unfinished(after) {
+            Ok(Some(brief)) => brief,
+            Ok(None) => return Ok(Came::Through(made)),
+            Err(fault) => return Err(fault),
+        };
+        if pass.goes_on(brief.cursor.phase) {
+            match carry_one(book, pass, brief.id) {
+                Ok(Came::Through(more)) => made = made.saturating_add(more),
+                Ok(Came::Full(more)) => return Ok(Came::Full(made.saturating_add(more))),
+                Err(fault) => return Err(fault),
+            }
+        }
+        after = brief.id;
+    }
+    Ok(Came::Full(made))
+}

@@ -1,0 +1,73 @@
+//! A book that is recovered.
+ghost use Rattle.std.specs.Prelude.{◌≡◌};
+
+use allotment::{Cell, Held, Night, Want};
+use commands::{Ask, Command, Fault, Item, Reply};
+use saga_core::{Book, Brief, Record};
+use std::marker::Model;
+
+/// A book that is recovered. `recover` alone makes one. To a contract it is the book itself.
+#[derive(Drop)]
+pub struct Ready<B> {
+    book: B,
+}
+
+impl<B> Model for Ready<B> {
+    ghost Value = { B };
+
+    ghost view = { λ r. r.book };
+}
+
+impl<B> Ready<B> {
+    /// This book, which is recovered.
+    pub(crate) fn new(book: B) -> Ready<B>
+        ensures same { result ≡ book }
+    {
+        Ready { book }
+    }
+
+    /// The book, as it is.
+    pub fn into_inner(self) -> B
+        ensures same { result ≡ self }
+    {
+        self.book
+    }
+}
+
+impl<B: Book> Book for Ready<B> {
+    ghost is_sound = { λ r. B.is_sound r };
+
+    ghost stands = { λ r s. B.stands r s };
+
+    ghost leaves = { λ r s t. B.leaves r s t };
+
+    ghost has_failed = { λ r. B.has_failed r };
+
+    ghost legal = { λ r s h. B.legal r s h };
+
+    ghost settled = { λ r s h. B.settled r s h };
+
+    fn act(&mut self, command: &Command, ask: Option<&Ask>) -> Result<Reply, Fault> {
+        self.book.act(command, ask)
+    }
+
+    fn journey(&mut self, id: u64) -> Result<Option<Record>, Fault> {
+        self.book.journey(id)
+    }
+
+    fn history(&mut self, id: u64) -> Result<Vec<Item>, Fault> {
+        self.book.history(id)
+    }
+
+    fn first_unfinished(&mut self, after: u64) -> Result<Option<Brief>, Fault> {
+        self.book.first_unfinished(after)
+    }
+
+    fn cells(&mut self, want: &Want) -> Result<Vec<(Night, Held)>, Fault> {
+        self.book.cells(want)
+    }
+
+    fn stock(&mut self) -> Result<Vec<(Cell, Held)>, Fault> {
+        self.book.stock()
+    }
+}

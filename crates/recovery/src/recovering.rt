@@ -1,0 +1,63 @@
+//! The whole of recovery.
+ghost use Rattle.std.specs.Prelude.{◌≡◌, IfOk, IfErr, IsTrue};
+ghost use Rattle.recovery.specs.Recovers.{Recovers, Finishes, RecoversSome, IsWithinBound};
+ghost use Rattle.recovery.specs.Worlds.{GoesOnRecovered, GoesOnRecovering};
+
+use crate::passes::{Came, Pass, carry, turn_back};
+use crate::ready::Ready;
+use commands::Fault;
+use saga_core::Book;
+
+/// The three passes, one after another. Answers how many events they made.
+fn recover_all<B: Book>(book: &mut B) -> Result<u64, Fault>
+    ensures recovered { B.is_sound book.new →
+        IfOk result (λ made. Recovers (B.stands book.old) (B.stands book.new) made) }
+    ensures fault { B.is_sound book.new →
+        IfErr result (RecoversSome (B.stands book.old) (B.leaves book.new)) }
+    ensures failed { IfErr result (λ f. f ≡ Fault.Store → IsTrue (B.has_failed book.new)) }
+    ensures sound { B.is_sound book.new → B.is_sound book.old }
+{
+    let turned = match turn_back(book) {
+        Ok(Came::Through(made)) => made,
+        Ok(Came::Full(made)) => return Ok(made),
+        Err(fault) => return Err(fault),
+    };
+    let back = match carry(book, Pass::Back) {
+        Ok(Came::Through(made)) => turned.saturating_add(made),
+        Ok(Came::Full(made)) => return Ok(turned.saturating_add(made)),
+        Err(fault) => return Err(fault),
+    };
+    match carry(book, Pass::On) {
+        Ok(came) => Ok(back.saturating_add(came.made())),
+        Err(fault) => Err(fault),
+    }
+}
+
+/// Takes every unfinished journey back to its last save-point, or to its beginning, and from there to its end. Answers
+/// the book, ready for commands, and how many events that made. At a fault the book comes back as it is then.
+pub fn recover<B: Book>(book: B) -> Result<(Ready<B>, u64), (B, Fault)>
+    ensures recovered { IfOk result (λ r.
+        B.is_sound r.0 → Recovers (B.stands book) (B.stands r.0) r.1) }
+    ensures finished { IfOk result (λ r.
+        B.is_sound r.0 → Finishes (B.stands book) (B.stands r.0)) }
+    ensures bound { IfOk result (λ r.
+        B.is_sound r.0 → IsWithinBound (B.stands book) r.1) }
+
+    ensures fault { IfErr result (λ e.
+        B.is_sound e.0 → RecoversSome (B.stands book) (B.leaves e.0) e.1) }
+    ensures failed { IfErr result (λ e. e.1 ≡ Fault.Store → IsTrue (B.has_failed e.0)) }
+
+    ensures world { IfOk result (λ r.
+        B.is_sound r.0 → GoesOnRecovered (B.stands book) (B.stands r.0)) }
+    ensures world_at_fault { IfErr result (λ e.
+        B.is_sound e.0 → GoesOnRecovering (B.stands book) (B.leaves e.0) e.1) }
+
+    ensures sound { IfOk result (λ r. B.is_sound r.0 → B.is_sound book) }
+    ensures sound_at_fault { IfErr result (λ e. B.is_sound e.0 → B.is_sound book) }
+{
+    let mut book = book;
+    match recover_all(&mut book) {
+        Ok(made) => Ok((Ready::new(book), made)),
+        Err(fault) => Err((book, fault)),
+    }
+}
