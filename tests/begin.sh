@@ -18,14 +18,15 @@ answers "no line" "" ""
 
 answers "two steps, options and a save-point" "begin $flight|R/HOT/DBL/2030-06-01/30/50*;C/INS/X/2030-06-01/60/2!9\n" \
   "journey 4 begun"
-same "meta" "1|2|4|4" "$(rows 'SELECT * FROM meta')"
-same "the journeys" "1|1|1|0|0|0|0|0 2|2|1|0|0|0|0|0 3|3|1|0|0|0|0|0 4|4|2|9|0|0|0|0" \
+# each opening turned the journey before it back to its start, by one event
+same "meta" "1|2|7|4" "$(rows 'SELECT * FROM meta')"
+same "the journeys" "1|1|1|0|0|3|0|0 2|3|1|0|0|3|0|0 3|5|1|0|0|3|0|0 4|7|2|9|0|0|0|0" \
   "$(rows 'SELECT id, num, steps, tries, pos, phase, target, used FROM journey ORDER BY id')"
 same "the options of the fourth" "1|1|1|0|0|1|1 1|2|1|0|1|30|50 2|1|0|0|3|60|2" \
   "$(rows 'SELECT place, opt, save, taken, kind, nights, places FROM step WHERE journey = 4 ORDER BY place, opt')"
-same "the other tables" "0|0|0|0|0|0" "$(rows 'SELECT (SELECT count(*) FROM stock), (SELECT count(*) FROM batch),
-  (SELECT count(*) FROM entry), (SELECT count(*) FROM entry2), (SELECT count(*) FROM mark),
-  (SELECT count(*) FROM answer)')"
+same "the turns" "2|1|2|0|0 4|2|2|0|0 6|3|2|0|0" "$(rows 'SELECT num, journey, item, a, b FROM entry2 ORDER BY num')"
+same "the other tables" "0|0|0|0|0" "$(rows 'SELECT (SELECT count(*) FROM stock), (SELECT count(*) FROM batch),
+  (SELECT count(*) FROM entry), (SELECT count(*) FROM mark), (SELECT count(*) FROM answer)')"
 
 widest=$(repeated 24 "$(repeated 8 F/AL/A1/2030-06-01/1/1 '|')" ';')
 answers "24 steps of 8 options" "begin $widest!0\n" "journey 5 begun"

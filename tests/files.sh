@@ -23,7 +23,8 @@ for n in 1 2 3; do
   closes_desk
 done
 answers "after the kills" "begin F/AL/A1/2030-06-01/1/1!0\n" "journey 4 begun"
-same "meta" "1|2|4|4" "$(rows 'SELECT * FROM meta')"
+# four journeys were begun, and each opening turned the one before it back
+same "meta" "1|2|7|4" "$(rows 'SELECT * FROM meta')"
 same "the file is sound" "ok" "$(rows 'PRAGMA integrity_check')"
 
 # usage <WORDS>: status 2, nothing on standard output
@@ -38,5 +39,7 @@ usage() {
 usage
 usage run
 usage run a.db b.db
+usage recover
+usage recover a.db b.db
 usage walk a.db
 finish

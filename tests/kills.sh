@@ -35,9 +35,15 @@ stand() {
   most=$2
 }
 
-# is_whole WHAT JOURNEYS: the tables stand for so many journeys of one step, numbered without a gap
+# is_whole WHAT JOURNEYS: the tables stand for so many journeys of one step, numbered without a gap, of which some were
+# turned back to their start by an opening, each once
 is_whole() {
-  same "$1: meta" "1|2|$2|$2" "$(rows 'SELECT * FROM meta')"
+  same "$1: meta" "1|2|$2" "$(rows 'SELECT one, version, journeys FROM meta')"
+  same "$1: each event is a begin or a turn" "$(rows 'SELECT events FROM meta')" \
+    "$(rows 'SELECT (SELECT count(*) FROM journey) + (SELECT count(*) FROM entry2)')"
+  same "$1: the turns" "0" "$(rows 'SELECT count(*) FROM entry2 WHERE (item, a, b) <> (2, 0, 0)')"
+  same "$1: who was turned is undone, once" "0" "$(rows 'SELECT count(*) FROM journey WHERE
+    (phase = 3) <> (SELECT count(*) FROM entry2 WHERE entry2.journey = journey.id)')"
   same "$1: the journeys" "$2|1|$2" "$(rows 'SELECT count(*), min(id), max(id) FROM journey')"
   same "$1: their steps" "$2|$2" "$(rows 'SELECT count(*), count(DISTINCT journey) FROM step')"
   same "$1: the file is sound" "ok" "$(rows 'PRAGMA integrity_check')"

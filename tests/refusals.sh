@@ -4,6 +4,8 @@
 
 flight=F/AL/A1/2030-06-01/1/1
 answers "a first journey" "begin $flight!0\n" "journey 1 begun"
+# the next opening turns that journey back to its start
+answers "no line" "" ""
 before=$(sqlite3 trips.db .dump | cksum)
 
 while IFS="~" read -r what line answer; do

@@ -2,3 +2,6 @@ pub mod ByteLemmas
 pub mod LineLemmas
 pub mod AnswerLemmas
 pub mod ServeLemmas
+pub mod WorldLemmas
+pub mod OrderLemmas
+pub mod OneLineLemmas

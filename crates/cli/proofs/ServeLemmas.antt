@@ -16,7 +16,7 @@ use Rattle.cli.proofs.ByteLemmas.{appends_more, appends_none, keeps_same}
 -- Lists of lines and of their answers, each longer by one.
 
 -- the state after one more line
-after_more : (s : State) (ls : List (List ℕ)) (line : List ℕ)
+pub after_more : (s : State) (ls : List (List ℕ)) (line : List ℕ)
     → state_after_lines s (ls ++ line ∷ []) ≡ (answer_line (state_after_lines s ls) line).after
 after_more s [] line = refl
 after_more s (l ∷ ls) line = after_more (answer_line s l).after ls line

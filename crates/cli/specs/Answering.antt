@@ -1,18 +1,10 @@
 -- What the answer to one line is, and where it leaves the book.
 use Rattle.std.specs.Prelude.{◌≡◌, ◌⊎◌, List, ℕ, Result, Ok, Err, String}
 use Rattle.std.specs.String.{string_bytes}
-use Rattle.commands.specs.Orders.{request_of}
 use Rattle.ledger.specs.Answer.{State}
 use Rattle.cli.specs.Lines.{Answered, Meaning, answer_line, answer_to, ended}
-use Rattle.cli.specs.declared.answers.Order.{Order}
-use Rattle.cli.specs.declared.answers.Order.TheVariants.{Do, Refuse}
 use Rattle.cli.specs.declared.faults.ServeFault.{ServeFault}
 use Rattle.cli.specs.declared.faults.ServeFault.TheVariants.{Memory, Store}
-
--- what an order of the program means
-abbrev pub meaning_of : Order → Meaning
-meaning_of (Do command) = Ok (request_of command)
-meaning_of (Refuse refusal) = Err refusal
 
 module _ (stands : State → Type 0) (leaves : State → State → Type 0) (s : State) where
   -- the text is this answer, and the book stands where it leads; or a fault came before or after

@@ -1,7 +1,7 @@
 -- How the program ends, and what it tells.
-use Rattle.std.specs.Prelude.{◌⊎◌, ⊤, ℕ, List, [], ◌∷◌, codes, decimal, Option}
+use Rattle.std.specs.Prelude.{◌≡◌, ◌⊎◌, ⊤, ℕ, List, [], ◌∷◌, codes, decimal, Option}
 use Rattle.std.specs.String.{string_bytes}
-use Rattle.std.specs.Io.KnownBytes.{Keeps}
+use Rattle.std.specs.Io.KnownBytes.{Appends, IsAtEnd, Keeps}
 use Rattle.commands.specs.Texts.{refusal_line, sentence}
 use Rattle.commands.specs.declared.refusals.Refusal.TheVariants as refusal
 use Rattle.tables.specs.declared.faults.OpenFault.{OpenFault}
@@ -14,6 +14,8 @@ use Rattle.cli.specs.declared.ends.ProgramFault.{ProgramFault}
 use Rattle.cli.specs.declared.ends.ProgramFault.TheVariants as fault
 use Rattle.cli.specs.declared.faults.ServeFault.{ServeFault}
 use Rattle.cli.specs.declared.faults.ServeFault.TheVariants as serve
+use Rattle.cli.specs.declared.jobs.Job.{Job}
+use Rattle.cli.specs.declared.jobs.Job.TheVariants.{Run, Recover}
 use Rattle.cli.specs.declared.jobs.JobFault.{JobFault}
 use Rattle.cli.specs.declared.jobs.JobFault.TheVariants as job
 
@@ -73,6 +75,11 @@ abbrev pub EndsJob : End → Type 0
 EndsJob (finish.Usage text) = ⊥
 EndsJob _ = ⊤
 
+-- a job ends so that not all was done
+abbrev pub EndsBadly : End → Type 0
+EndsBadly finish.Done = ⊥
+EndsBadly e = EndsJob e
+
 -- where all was done, this holds
 abbrev pub IfDone : End → Type 0 → Type 0
 IfDone finish.Done So = So
@@ -95,3 +102,21 @@ TellsError finish.Done held holds = Keeps held holds
 TellsError (finish.Refused refusal) held holds = TellsNoneOrFault held holds
 TellsError (finish.Fault f) held holds = WroteFront held holds (fault_line f)
 TellsError (finish.Usage text) held holds = WroteFront held holds (string_bytes text)
+
+-- how many commits recovery made: `recovered 3`
+abbrev pub recovered_line : ℕ → List ℕ
+recovered_line made = ended (sentence (codes "recovered" ∷ decimal made ∷ []))
+
+-- it is told how many commits recovery made, and nothing else
+abbrev pub TellsRecovered : Option (List ℕ) → Option (List ℕ) → Type 0
+TellsRecovered held holds = (made : ℕ) × Appends held holds (recovered_line made)
+
+-- what is told on standard output of a job that is done; of `run` it is the answers
+abbrev pub TellsOf : Job → Option (List ℕ) → Option (List ℕ) → Type 0
+TellsOf (Run file) held holds = ⊤
+TellsOf (Recover file) held holds = TellsRecovered held holds
+
+-- what is read for a job that is done: `run` reads to the end, and the others read nothing
+abbrev pub ReadsFor : Job → Option (List ℕ) → Option (List ℕ) → Type 0
+ReadsFor (Run file) before after = IsAtEnd after
+ReadsFor (Recover file) before after = after ≡ before

@@ -1,6 +1,6 @@
 -- The jobs that the words of the command line ask for. The first word names the subcommand, and the
 -- others are read by the rules of clap for that subcommand.
-use Rattle.std.specs.Prelude.{◌≡◌, ⊤, Bool, true, false, List, [], ◌∷◌, codes, bytes_eq, if◌then◌else◌, Option, Some, is_some, Result, Ok, Err}
+use Rattle.std.specs.Prelude.{◌≡◌, ⊤, Bool, true, false, List, [], ◌∷◌, codes, bytes_eq, if◌then◌else◌, Option, Some, is_some, Result, Ok, Err, String}
 use Rattle.std.specs.String.{string_bytes}
 use Rattle.clap.specs.Words.{App, Rule, Text, first_of, first_value, found_of, fault_of, matches_of, new_app, new_rule, with_rule, IsParsedFrom}
 use Rattle.clap.specs.Simple.{on_top}
@@ -8,9 +8,11 @@ use Rattle.clap.specs.declared.builder.ArgAction.TheVariants.{Set}
 use Rattle.clap.specs.declared.builder.Command.{Command}
 use Rattle.clap.specs.declared.parser.ArgMatches.{ArgMatches}
 use Rattle.cli.specs.declared.jobs.Job.{Job}
-use Rattle.cli.specs.declared.jobs.Job.TheVariants.{Run}
+use Rattle.cli.specs.declared.jobs.Job.TheVariants.{Run, Recover}
 use Rattle.cli.specs.declared.jobs.JobFault.{JobFault}
 use Rattle.cli.specs.declared.jobs.JobFault.TheVariants.{Usage, Memory}
+use Rattle.cli.specs.declared.words.OverFile.{OverFile}
+use Rattle.cli.specs.declared.words.OverFile.TheVariants as over
 
 -- a value that has to be there
 abbrev pub required_value : Text → Rule
@@ -20,9 +22,14 @@ required_value id = record (new_rule id) { action = Some Set; required = true }
 abbrev pub bare_app : Text → App
 bare_app name = on_top (λ s. record s { no_binary_name = true }) (new_app name)
 
--- the subcommand run: one file
-abbrev pub run_app : App
-run_app = with_rule (bare_app (codes "run")) (required_value (codes "FILE"))
+-- the word that names a subcommand
+abbrev pub name_of : OverFile → Text
+name_of over.Run = codes "run"
+name_of over.Recover = codes "recover"
+
+-- a subcommand that reads one file
+abbrev pub app_over : OverFile → App
+app_over o = with_rule (bare_app (name_of o)) (required_value (codes "FILE"))
 
 -- the value of this name that a subcommand reads from the words
 abbrev pub value_in : App → Text → List Text → Option Text
@@ -41,16 +48,20 @@ is_refused_by app words = has_any (fault_of app words)
 abbrev pub are_refused : List Text → Bool
 are_refused [] = true
 are_refused (name ∷ others) =
-    if bytes_eq name (codes "run") then is_refused_by run_app others else true
+    if bytes_eq name (codes "run") then is_refused_by (app_over over.Run) others
+    else if bytes_eq name (codes "recover") then is_refused_by (app_over over.Recover) others
+    else true
 
--- the job is to answer lines over the file that run reads from these words
-abbrev pub IsRun : List Text → Job → Type 0
-IsRun words (Run file) = value_in run_app (codes "FILE") words ≡ Some (string_bytes file)
+-- the file is the one that a subcommand reads from these words
+abbrev pub IsFileIn : {Z : Type 0} → App → List Text → String Z → Type 0
+IsFileIn app words file = value_in app (codes "FILE") words ≡ Some (string_bytes file)
 
 -- the job is the one that the first word names, with the values that are read from the others
 abbrev pub IsJob : List Text → Job → Type 0
 IsJob [] job = ⊥
-IsJob (name ∷ others) (Run file) = (name ≡ codes "run") × IsRun others (Run file)
+IsJob (name ∷ others) (Run file) = (name ≡ codes "run") × IsFileIn (app_over over.Run) others file
+IsJob (name ∷ others) (Recover file) =
+    (name ≡ codes "recover") × IsFileIn (app_over over.Recover) others file
 
 -- the fault is a usage
 abbrev pub IsText : JobFault → Type 0

@@ -1,6 +1,8 @@
 pub mod Jobs
 pub mod Lines
 pub mod Reading
+pub mod Orders
 pub mod Serving
+pub mod Worlds
 pub mod Answering
 pub mod Ends

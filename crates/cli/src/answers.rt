@@ -1,26 +1,16 @@
 //! The answer to one line.
-ghost use Rattle.std.specs.Prelude.{◌≡◌, List, ℕ, IfOk, IfErr, IsErrOf, IsTrue};
+ghost use Rattle.std.specs.Prelude.{List, ℕ, IsErrOf, IsTrue};
 ghost use Rattle.ledger.specs.Answer.{State};
-ghost use Rattle.plan.specs.PlanLine.{plan_in};
 ghost use Rattle.saga_core.specs.Books.{LeavesNoMore};
-ghost use Rattle.cli.specs.Lines.{begin_meaning, meaning_in, text_meaning};
+ghost use Rattle.cli.specs.Orders.{meaning_of};
 ghost use Rattle.cli.specs.Reading.{Keeps};
-ghost use Rattle.cli.specs.Answering.{AnswersLine, AnswersOrder, meaning_of};
+ghost use Rattle.cli.specs.Answering.{AnswersLine, AnswersOrder};
 
 use crate::faults::ServeFault;
 use crate::lines::Line;
-use commands::{Command, Refusal};
-use plan::{Plan, PlanFault};
+use crate::orders::{Order, order_of};
 use saga_core::Book;
 use std::alloc::Global;
-use std::str;
-
-/// What is to be done at a line: a command, or a refusal.
-#[derive(Drop)]
-pub(crate) enum Order {
-    Do(Command),
-    Refuse(Refusal),
-}
 
 /// Answers a line, for the house: the text of the answer, with a line feed behind it.
 pub(crate) fn answer<B: Book>(
@@ -61,42 +51,4 @@ fn carry_out<B: Book>(alloc: Global, order: &Order, book: &mut B) -> Result<Stri
     };
     text.push('\n')?;
     Ok(text)
-}
-
-/// What is to be done at a line.
-fn order_of(alloc: Global, line: &Line) -> Result<Order, ServeFault>
-    ensures order { IfOk result (λ order. (text : List ℕ) → Keeps line.now text →
-        meaning_of order ≡ meaning_in text) }
-    ensures memory { IfErr result (λ fault. fault ≡ ServeFault.Memory) }
-{
-    if line.is_long {
-        return Ok(Order::Refuse(Refusal::BadBody));
-    }
-    match str::from_utf8(line.kept.as_slice()) {
-        Ok(text) => order_of_text(alloc, text),
-        Err(_) => Ok(Order::Refuse(Refusal::BadBody)),
-    }
-}
-
-/// What is to be done at a line that can be read.
-fn order_of_text(alloc: Global, text: &str) -> Result<Order, ServeFault>
-    ensures order { IfOk result (λ order. meaning_of order ≡ text_meaning text.now) }
-    ensures memory { IfErr result (λ fault. fault ≡ ServeFault.Memory) }
-{
-    match text.strip_prefix("begin ") {
-        Some(plan) => order_of_plan(alloc, plan),
-        None => Ok(Order::Refuse(Refusal::BadBody)),
-    }
-}
-
-/// A journey is begun by its plan's line, and a bad line is refused.
-fn order_of_plan(alloc: Global, text: &str) -> Result<Order, ServeFault>
-    ensures order { IfOk result (λ order. meaning_of order ≡ begin_meaning (plan_in text.now)) }
-    ensures memory { IfErr result (λ fault. fault ≡ ServeFault.Memory) }
-{
-    match Plan::from_line(alloc, text) {
-        Ok(plan) => Ok(Order::Do(Command::Begin(plan))),
-        Err(PlanFault::Bad(bad)) => Ok(Order::Refuse(Refusal::BadPlan(bad))),
-        Err(PlanFault::Memory) => Err(ServeFault::Memory),
-    }
 }

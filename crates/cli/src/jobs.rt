@@ -7,8 +7,10 @@ use std::alloc::AllocError;
 /// What the program is to do.
 #[derive(Debug, Drop)]
 pub enum Job {
-    /// Answer the lines of standard input, over this file.
+    /// Recover the desk over this file, and answer the lines of standard input.
     Run { file: String },
+    /// Recover the desk over this file.
+    Recover { file: String },
 }
 
 /// Why the words are no job.

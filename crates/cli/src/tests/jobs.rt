@@ -13,29 +13,42 @@ fn words_of(alloc: Global, text: &str) -> Result<Vec<String>, AllocError> {
 
 // the words, with a bar between each two, and the file that is answered for
 #[rattlefmt::skip]
-const RUNS: [(&str, &str, &str); 4] = [
-    ("one file",                    "run|x.db",     "x.db"),
-    ("a file in a folder",          "run|a b/x.db", "a b/x.db"),
-    ("a file behind two dashes",    "run|--|-x.db", "-x.db"),
-    ("a file of one dash",          "run|-",        "-"),
+const FILES: [(&str, &str, &str); 4] = [
+    ("one file",                    "x.db",     "x.db"),
+    ("a file in a folder",          "a b/x.db", "a b/x.db"),
+    ("a file behind two dashes",    "--|-x.db", "-x.db"),
+    ("a file of one dash",          "-",        "-"),
 ];
+
+/// The words of a subcommand and of a table.
+fn job_of(alloc: Global, subcommand: &str, others: &str) -> Result<Job, JobFault> {
+    let text = format!(in alloc; "{subcommand}|{others}")?;
+    job(alloc, words_of(alloc, text.as_str())?)
+}
 
 #[test]
 fn run_names_its_file(rt: HostRuntime) {
-    let alloc = rt.alloc();
-    for (case, text, expected) in RUNS {
-        let words = words_of(alloc, text).expect(&rt, "memory");
-        let asked = job(alloc, words);
-        match &asked {
+    for (case, others, expected) in FILES {
+        match &job_of(rt.alloc(), "run", others) {
             Ok(Job::Run { file }) => assert_eq!(rt; file.as_str(), expected, "{case}"),
-            Err(fault) => assert!(rt; false, "{case}: {fault:?}"),
+            asked => assert!(rt; false, "{case}: {asked:?}"),
+        }
+    }
+}
+
+#[test]
+fn recover_names_its_file(rt: HostRuntime) {
+    for (case, others, expected) in FILES {
+        match &job_of(rt.alloc(), "recover", others) {
+            Ok(Job::Recover { file }) => assert_eq!(rt; file.as_str(), expected, "{case}"),
+            asked => assert!(rt; false, "{case}: {asked:?}"),
         }
     }
 }
 
 // the words, and how the usage begins
 #[rattlefmt::skip]
-const REFUSED: [(&str, &str, &str); 12] = [
+const REFUSED: [(&str, &str, &str); 15] = [
     ("another subcommand",       "fly|x.db",       "error: unrecognized subcommand 'fly'"),
     ("a subcommand in capitals", "RUN|x.db",       "error: unrecognized subcommand 'RUN'"),
     ("a part of a subcommand",   "ru|x.db",        "error: unrecognized subcommand 'ru'"),
@@ -47,6 +60,9 @@ const REFUSED: [(&str, &str, &str); 12] = [
     ("no file",                  "run",            "error: the following required arguments were not provided:\n  <FILE>\n\nUsage: desk run <FILE>\n"),
     ("two files",                "run|x.db|y.db",  "error: unexpected argument 'y.db' found\n\nUsage: desk run <FILE>\n"),
     ("a flag that run has not",  "run|--fast|x",   "error: unexpected argument '--fast' found"),
+    ("no file to recover",       "recover",        "error: the following required arguments were not provided:\n  <FILE>\n\nUsage: desk recover <FILE>\n"),
+    ("two files to recover",     "recover|x|y",    "error: unexpected argument 'y' found\n\nUsage: desk recover <FILE>\n"),
+    ("help of recover",          "recover|--help", "Take every unfinished journey to its end, as after a stop\n\nUsage: desk recover <FILE>\n"),
     ("help of run",              "run|--help",     "Answer the lines of standard input, one by one\n\nUsage: desk run <FILE>\n"),
 ];
 

@@ -1,7 +1,8 @@
 //! What lines are answered over a new book in memory, however they arrive, and what a fault leaves written.
+use super::desks::new_desk;
 use super::streams::{Pieces, Sink, Stuck};
 use crate::{ServeFault, run_lines};
-use saga_core::{Book, MemBook};
+use saga_core::Book;
 use std::alloc::{AllocError, Global};
 use std::test::Fail;
 
@@ -42,7 +43,7 @@ fn lines_are_answered_one_by_one(rt: HostRuntime) -> Result<(), Fail> {
     let alloc = rt.alloc();
     for (case, input, expected, lines) in LINES {
         for step in STEPS {
-            let mut book = MemBook::new(alloc);
+            let mut book = new_desk(alloc)?;
             let mut sink = Sink::new(alloc, step, ROOM)?;
             let count = run_lines(alloc, &mut Pieces::of(input, step), &mut sink, &mut book)?;
             assert_eq!(rt;
@@ -81,7 +82,7 @@ fn a_line_has_8192_bytes_at_most(rt: HostRuntime) -> Result<(), Fail> {
     for (length, expected) in LENGTHS {
         let input = long_lines(alloc, length)?;
         for step in [ALL, 1, 4096, 8191] {
-            let mut book = MemBook::new(alloc);
+            let mut book = new_desk(alloc)?;
             let mut sink = Sink::new(alloc, step, ROOM)?;
             let mut reader = Pieces::of(input.as_slice(), step);
             let count = run_lines(alloc, &mut reader, &mut sink, &mut book)?;
@@ -118,7 +119,7 @@ fn a_failed_read_leaves_the_lines_before_it_answered(rt: HostRuntime) -> Result<
     let alloc = rt.alloc();
     for read in 0..=CUT.len() {
         for step in [ALL, 1] {
-            let mut book = MemBook::new(alloc);
+            let mut book = new_desk(alloc)?;
             let mut sink = Sink::new(alloc, ALL, ROOM)?;
             let mut reader = Pieces::cut(&CUT[..read], step);
             let ended = run_lines(alloc, &mut reader, &mut sink, &mut book);
@@ -143,7 +144,7 @@ fn a_failed_write_leaves_a_beginning_of_the_answers(rt: HostRuntime) -> Result<(
     let alloc = rt.alloc();
     for room in 0..ANSWERS.len() {
         for step in [ALL, 1] {
-            let mut book = MemBook::new(alloc);
+            let mut book = new_desk(alloc)?;
             let mut sink = Sink::new(alloc, step, room)?;
             let mut reader = Pieces::of(CUT, step);
             let ended = run_lines(alloc, &mut reader, &mut sink, &mut book);
@@ -175,7 +176,7 @@ fn a_failed_write_leaves_a_beginning_of_the_answers(rt: HostRuntime) -> Result<(
 #[test]
 fn a_failed_flush_ends_the_run(rt: HostRuntime) -> Result<(), Fail> {
     let alloc = rt.alloc();
-    let mut book = MemBook::new(alloc);
+    let mut book = new_desk(alloc)?;
     let mut stuck = Stuck::new(alloc, ROOM)?;
     let ended = run_lines(alloc, &mut Pieces::of(CUT, ALL), &mut stuck, &mut book);
     assert_eq!(rt; ended, Err(ServeFault::Write));

@@ -3,7 +3,8 @@ use Rattle.std.proofs.Common.{◌≡◌, ◌∙◌, ap, sym, subst, Global}
 use Rattle.std.specs.Prelude.{Err}
 use Rattle.std.proofs.lemmas.Result.{err_from_is_err_and}
 use Rattle.commands.specs.Orders.{request_of}
-use Rattle.cli.specs.Answering.{AnswersOrder, meaning_of}
+use Rattle.cli.specs.Answering.{AnswersOrder}
+use Rattle.cli.specs.Orders.{meaning_of}
 use Rattle.cli.specs.Serving.{served_fault}
 use Rattle.cli.proofs.AnswerLemmas.{act_failed}
 use Rattle.cli.proofs.answers.carry_out.Goals as goal

@@ -1,9 +1,9 @@
--- A parse by `run` that succeeds has a file: the one value is required, and nothing excludes it.
+-- A parse by a subcommand that succeeds has a file: the one value is required, and nothing excludes it.
 use Rattle.std.proofs.Common.{◌≡◌, ℕ, List, [], rules, inl, inr, arith, refl, slice_index, codes, subst, is_some, true}
 use Rattle.std.proofs.lemmas.Result.{IfOk-weaker}
 use Rattle.clap.specs.Words.{first_value, found_of}
 use Rattle.clap.proofs.CallerLemmas.{one_required_value}
-use Rattle.cli.proofs.words.run_command.Goals as goal
+use Rattle.cli.proofs.words.command_over.Goals as goal
 
 pub returns-clause-file : goal.returns-clause-file
 returns-clause-file c =

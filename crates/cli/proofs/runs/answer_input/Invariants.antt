@@ -5,7 +5,7 @@ use Rattle.saga_core.specs.Books.{LeavesNoMore}
 use Rattle.cli.specs.Reading.{to_come}
 use Rattle.cli.specs.Serving.{scene}
 use Rattle.cli.proofs.ServeLemmas.{SoFar}
-use Rattle.cli.proofs.runs.run_lines.Given as goal
+use Rattle.cli.proofs.runs.answer_input.Given as goal
 
 -- the lines so far were answered, and the others are still to come
 abbrev pub invariant-loop-answered : goal.invariant-loop-answered

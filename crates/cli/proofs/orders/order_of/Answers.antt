@@ -2,9 +2,9 @@
 use Rattle.std.proofs.Common.{◌∙◌, subst, sym}
 use Rattle.std.specs.Str.{IsUtf8}
 use Rattle.std.proofs.lemmas.Result.{IfOk-weaker}
-use Rattle.cli.specs.Answering.{meaning_of}
-use Rattle.cli.proofs.AnswerLemmas.{means_as_text, means_no_text}
-use Rattle.cli.proofs.answers.order_of.Goals as goal
+use Rattle.cli.specs.Orders.{meaning_of}
+use Rattle.cli.proofs.OrderLemmas.{means_as_text, means_no_text}
+use Rattle.cli.proofs.orders.order_of.Goals as goal
 
 -- the text is what the line keeps
 pub returns-in-Ok-clause-order : goal.returns-in-Ok-clause-order

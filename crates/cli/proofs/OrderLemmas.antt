@@ -1,0 +1,105 @@
+-- What a line means by what is kept of it, and which number a word spells. For what is to be done at a line.
+use Rattle.std.proofs.Common.{◌≡◌, ◌≢◌, ◌∙◌, ap, sym, subst, refl, ℕ, ◌<◌, ◌≤◌, ◌^◌, List, [], ◌∷◌, Bool, true, false, true≢false, length, arith, Option, Some, None}
+use Rattle.std.specs.Prelude.{Err, bytes_eq, decimal, nat_le, option_and_then, IsTrue, if◌then◌else◌}
+use Rattle.std.specs.Str.{IsUtf8, is_utf8}
+use Rattle.std.specs.Str.Parse.{digits_value}
+use Rattle.std.proofs.lemmas.Str.{IsUtf8-from_is_utf8, is_utf8-from_IsUtf8}
+use Rattle.allotment.specs.Limits.{is_between}
+use Rattle.allotment.specs.Texts.{keep_if, number_from, number_in}
+use Rattle.allotment.proofs.TestLemmas.{keep_if_no, keep_if_some, keep_if_yes, same_bytes}
+use Rattle.std.specs.Borrow.{Bor}
+use Rattle.commands.specs.Readings.{Finds, texts_of}
+use Rattle.commands.specs.declared.refusals.Refusal.TheVariants.{BadBody}
+use Rattle.commands.proofs.NumberLemmas.{between_parts}
+use Rattle.plan.proofs.NumberLemmas.{number_again}
+use Rattle.cli.specs.Lines.{Meaning, is_readable, longest_line, meaning_in, request_of_words, text_meaning}
+use Rattle.cli.specs.Reading.{Keeps, KeepsWhere}
+use Rattle.cli.specs.declared.lines.Line.{Line}
+
+-- Lines.
+
+-- a line that is not long keeps its text, which is short
+kept_text : (line : Line) (text : List ℕ)
+    → line.is_long ≡ false
+    → Keeps line text
+    → (nat_le (length text) longest_line ≡ true) × (line.kept.items ≡ text)
+kept_text line text short kept = go (nat_le (length text) longest_line) refl kept
+  where
+    go : (b : Bool)
+        → nat_le (length text) longest_line ≡ b
+        → KeepsWhere b line text
+        → (nat_le (length text) longest_line ≡ true) × (line.kept.items ≡ text)
+    go true is where_kept = (is, where_kept.1)
+    go false is long = absurd (true≢false (sym long ∙ short))
+
+-- a text that is no UTF-8 has no test that says so
+not_utf8 : (text : List ℕ) → (IsUtf8 text → ⊥) → is_utf8 text ≡ false
+not_utf8 text other = go (is_utf8 text) refl
+  where
+    go : (b : Bool) → is_utf8 text ≡ b → b ≡ false
+    go true is = absurd (other (IsUtf8-from_is_utf8 text is))
+    go false is = refl
+
+-- what the text of a line means, the line means
+pub means_as_text : (line : Line) (read text : List ℕ) (meaning : Meaning)
+    → line.is_long ≡ false
+    → read ≡ line.kept.items
+    → IsUtf8 read
+    → meaning ≡ text_meaning read → Keeps line text → meaning ≡ meaning_in text
+means_as_text line read text meaning short is utf8 means kept =
+    let facts = kept_text line text short kept in
+    let same : read ≡ text = is ∙ facts.1 in
+    let readable : is_readable text ≡ true = rw (facts.0) (is_utf8-from_IsUtf8 text (subst IsUtf8 same utf8)) in
+    rw readable (means ∙ ap text_meaning same)
+
+-- a line that is no text is a bad body
+pub means_no_text : (line : Line) (read text : List ℕ)
+    → line.is_long ≡ false
+    → read ≡ line.kept.items
+    → (IsUtf8 read → ⊥)
+    → Keeps line text → Err BadBody ≡ meaning_in text
+means_no_text line read text short is other kept =
+    let facts = kept_text line text short kept in
+    let same : read ≡ text = is ∙ facts.1 in
+    let unreadable : is_readable text ≡ false = rw (facts.0) (not_utf8 text (λ utf8. other (subst IsUtf8 (sym same) utf8))) in
+    rw unreadable refl
+
+-- Numbers.
+
+-- what is not true is false
+not_so : (b : Bool) → (b ≡ true → ⊥) → b ≡ false
+not_so true other = absurd (other refl)
+not_so false other = refl
+
+-- a text that spells no number within the limits has none
+none_within : (low high : ℕ) (text : List ℕ) (o : Option ℕ)
+    → number_in text ≡ o
+    → ((n : ℕ) → IsTrue (is_between low high n) → text ≡ decimal n → ⊥)
+    → option_and_then (keep_if (is_between low high)) o ≡ None
+none_within low high text None is none = refl
+none_within low high text (Some n) is none =
+    let kept = keep_if_some (λ m. bytes_eq (decimal m) text) (digits_value 10 text) n is in
+    let spelled : text ≡ decimal n = sym (same_bytes (decimal n) text kept.1) in
+    keep_if_no (is_between low high) n (not_so (is_between low high n) (λ within. none n within spelled))
+
+-- what the reader of numbers finds is the number that the text spells
+pub found_number : (low high : ℕ) (text : List ℕ) (found : Option ℕ) → high < 2 ^ 64
+    → Finds (is_between low high) decimal text found → found ≡ number_from low high text
+found_number low high text None small none = sym (none_within low high text (number_in text) refl none)
+found_number low high text (Some n) small is =
+    let limits = between_parts low high n is.0 in
+    sym (ap (number_from low high) is.1
+    ∙ ap (option_and_then (keep_if (is_between low high))) (number_again n (omega arith))
+    ∙ keep_if_yes (is_between low high) n is.0)
+
+-- Words.
+
+-- fewer than two words, and more than four, ask for nothing
+pub other_words : (words : List (Bor (List ℕ))) → length words ≢ 2 → length words ≢ 3 → length words ≢ 4
+    → None ≡ request_of_words (texts_of words)
+other_words [] two three four = refl
+other_words (a ∷ []) two three four = refl
+other_words (a ∷ b ∷ []) two three four = absurd (omega arith)
+other_words (a ∷ b ∷ d ∷ []) two three four = absurd (omega arith)
+other_words (a ∷ b ∷ d ∷ e ∷ []) two three four = absurd (omega arith)
+other_words (a ∷ b ∷ d ∷ e ∷ f ∷ words) two three four = refl
