@@ -1,0 +1,267 @@
+# What ./bench measures with the built program over files. Each measure prints plain lines; times are the
+# processor's, in microseconds, so that other work on the machine disturbs them little.
+bench=$top/crates/bench/out/bench
+desk=${DESK:-$top/crates/desk/out/desk}
+
+say() { printf 'bench: %s\n' "$*" >&2; }
+
+# works_in_memory: goes to a folder of its own, on a file system without a disk where there is one
+works_in_memory() {
+  local base=/dev/shm
+  if [ ! -w "$base" ]; then
+    base=${TMPDIR:-/tmp}
+    say "there is no /dev/shm: the times have those of a disk in them"
+  fi
+  work=$(mktemp -d "$base/desk-bench.XXXXXX") && trap 'rm -rf "$work"' EXIT && cd "$work" || exit 2
+  # the program is built where that is due
+  if [ -z "${DESK:-}" ]; then
+    "$top/desk" run new.db </dev/null || exit 126
+  fi
+}
+
+# opens FILE: the desk runs over FILE as process $pid, told lines by asks; its answers go to the file answers
+opens() {
+  mkfifo line
+  "$desk" run "$1" <line >answers &
+  pid=$!
+  exec 3>line
+  rm line
+}
+
+# asks COUNT: the open desk answers so many lines, which stand on standard input
+asks() {
+  local all=$(($(wc -l <answers) + $1))
+  cat >&3
+  while [ "$(wc -l <answers)" -lt "$all" ]; do
+    kill -0 "$pid" 2>/dev/null || break
+    sleep 0.01
+  done
+  # until it waits for the next line
+  sleep 0.05
+}
+
+closes() {
+  exec 3>&-
+  wait "$pid"
+}
+
+# spent: the processor's nanoseconds that the open desk took so far
+spent() { cut -d ' ' -f 1 "/proc/$pid/schedstat"; }
+
+# times NAME COUNT: the same as asks, and prints how long a line took
+times() {
+  local before
+  before=$(spent)
+  asks "$2"
+  awk -v name="$1" -v count="$2" -v time="$(($(spent) - before))" \
+    'BEGIN { printf "%s %d %.1f\n", name, count, time / 1000 / count }'
+}
+
+# repeated COUNT LINE; numbered WORD FIRST LAST [REST]
+repeated() { yes "$2" | head -n "$1"; }
+numbered() { seq -f "$1 %.0f${4:-}" "$2" "$3"; }
+
+# night AT: the night that is so many after 2030-06-01, in the same month
+night() { printf '2030-06-%02d' $((1 + $1)); }
+
+# refused_none: no answer so far is a refusal
+refused_none() {
+  if grep -m 1 '^refused' answers >&2; then
+    say "the desk refused a line that it has to take"
+    return 1
+  fi
+}
+
+# goes NIGHTS OPTION COUNT FIRST: so many journeys begin, from this number on, and go through one step and
+# back, since their second step does not fit
+goes() {
+  local last=$(($4 + $3 - 1))
+  repeated "$3" "begin $2;F/NO/NONE/2030-06-01/1/1!0" | times "begin-$1" "$3"
+  numbered step "$4" "$last" | times "T-$1" "$3"
+  numbered step "$4" "$last" | times "B-$1" "$3"
+  numbered step "$4" "$last" | times "C-$1" "$3"
+}
+
+# goes_all COUNT: the journeys of `rows moves COUNT`, in the file moves.db
+goes_all() {
+  local at
+  opens moves.db
+  {
+    echo "set flight-1 F/AL/A1/$(night 0) 100000"
+    for ((at = 0; at < 30; at++)); do echo "set room-$((at + 1)) R/HOT/DBL/$(night "$at") 100000"; done
+  } | asks 31
+  goes 1 F/AL/A1/2030-06-01/1/1 "$1" 1
+  goes 30 R/HOT/DBL/2030-06-01/30/1 "$1" $(($1 + 1))
+  refused_none || return 1
+  closes
+}
+
+# shortest FILE: of each name the line with the shortest time
+shortest() {
+  awk '!($1 in time) { names[++n] = $1 }
+    !($1 in time) || $3 < time[$1] { time[$1] = $3; line[$1] = $0 }
+    END { for (i = 1; i <= n; i++) print line[names[i]] }' "$1"
+}
+
+# has_rows: the program that makes the same row changes by libsqlite3 is there, or it is said why it is not
+has_rows() {
+  rows=$top/crates/bench/out/rows
+  if ! command -v cc >/dev/null 2>&1; then
+    say "commits: skipped, there is no C compiler"
+    return 1
+  fi
+  if ! cc -O2 -o "$rows" "$top/crates/bench/rows.c" -lsqlite3 2>/dev/null; then
+    say "commits: skipped, there is no libsqlite3 to compile with (Debian: libsqlite3-dev)"
+    return 1
+  fi
+}
+
+# same_rows FILE OTHER: both files have the same tables and rows, where sqlite3 is there to say so
+same_rows() {
+  command -v sqlite3 >/dev/null 2>&1 || return 0
+  if ! cmp -s <(sqlite3 "$1" .dump) <(sqlite3 "$2" .dump); then
+    say "$1 and $2 have other rows, so their times say nothing"
+    return 1
+  fi
+}
+
+# The commit of each kind of event, beside the same row changes by libsqlite3, and beside these with the same
+# reads.
+measure_commits() (
+  has_rows || exit 0
+  works_in_memory
+  # many short rounds, of which the shortest time of each kind counts
+  count=500
+  for ((round = 0; round < 12; round++)); do
+    rm -f ./*.db*
+    "$rows" plain.db moves "$count" >>plain || exit 1
+    goes_all "$count" >>ours || exit 1
+    "$rows" reading.db moves "$count" reading >>reading || exit 1
+    same_rows moves.db plain.db || exit 1
+    "$rows" plain-loads.db loads 2 >>plain || exit 1
+    "$desk" run loads.db </dev/null || exit 1
+    "$bench" load loads.db 2 >>ours || exit 1
+    "$rows" reading-loads.db loads 2 reading >>reading || exit 1
+    same_rows loads.db plain-loads.db || exit 1
+  done
+  echo "event desk libsqlite3 ratio at-most reading-too ratio"
+  paste -d ' ' <(shortest ours | cut -d ' ' -f 1,3) <(shortest plain | cut -d ' ' -f 3) \
+    <(shortest reading | cut -d ' ' -f 3) |
+    awk 'BEGIN { most["begin-1"] = most["T-1"] = most["C-1"] = "2.0"; most["T-30"] = most["C-30"] = "1.7"
+        most["load-2000"] = "5.0" }
+      { printf "%s %.1f %.1f %.2f %s %.1f %.2f\n", $1, $2, $3, $2 / $3,
+          $1 in most ? most[$1] : "-", $4, $2 / $4 }'
+  shortest ours | awk '$1 == "load-2000" { printf "batch-2000 %.1f - - - - -\n", $4 }'
+)
+
+# ends COUNT FIRST: so many journeys of one step begin, from this number on, and end
+ends() {
+  repeated "$1" "begin F/AL/A1/2030-06-01/1/1!0"
+  numbered step "$2" $(($2 + $1 - 1))
+}
+
+# makes_grown FILE EVENTS: a file with so many events, with all journeys ended
+makes_grown() {
+  opens "$1"
+  echo "set flight-1 F/AL/A1/2030-06-01 100000" | asks 1
+  ends $(($2 / 2)) 1 | asks "$2"
+  refused_none
+}
+
+# Commits behind 10^5 events, beside those behind 10^3: journeys of one step begin and end.
+measure_growth() (
+  works_in_memory
+  makes_grown grown.db 1000 || exit 1
+  ends 1000 501 | times few 2000 >few
+  ends 48500 1501 | asks 97000
+  ends 1000 50001 | times many 2000 >many
+  refused_none || exit 1
+  closes
+  echo "commits at-1000-events at-100000-events ratio at-most"
+  paste -d ' ' few many | awk '{ printf "begin+T %.1f %.1f %.2f 1.3\n", $3, $6, $6 / $3 }'
+)
+
+# synced FILE COUNT: how often a run that commits so many events syncs
+synced() {
+  repeated "$2" "begin F/AL/A1/2030-06-01/1/1!0" |
+    strace -f -o trace -e trace=fdatasync,fsync "$desk" run "$1" >answers
+  grep -cE '(fdatasync|fsync)\(' trace
+}
+
+# How often a commit syncs.
+measure_syncs() (
+  if ! command -v strace >/dev/null 2>&1; then
+    say "syncs: skipped, there is no strace"
+    exit 0
+  fi
+  works_in_memory
+  few=$(synced few.db 10)
+  many=$(synced many.db 210)
+  echo "syncs commits a-commit"
+  awk -v syncs=$((many - few)) 'BEGIN { printf "%d 200 %.2f\n", syncs, syncs / 200 }'
+)
+
+# peak FILE: the most memory that the desk has taken once it has answered one line over FILE, in kB
+peak() {
+  opens "$1"
+  echo "begin F/AL/A1/2030-06-01/1/1!0" | asks 1
+  awk '/^VmHWM/ { print $2 }' "/proc/$pid/status"
+  closes
+}
+
+# Memory of a run over a file of 10^5 events.
+measure_memory() (
+  works_in_memory
+  makes_grown grown.db 100000 || exit 1
+  closes
+  few=$(peak few.db)
+  many=$(peak grown.db)
+  echo "events new-file-kB file-kB kB-an-event at-most"
+  awk -v few="$few" -v many="$many" \
+    'BEGIN { printf "100000 %d %d %.3f 0.3\n", few, many, (many - few) / 100000 }'
+)
+
+# has_recover: the program has the subcommand
+has_recover() {
+  "$desk" recover 2>&1 </dev/null | grep -q 'desk recover .*FILE'
+}
+
+# stands_at_one FILE COUNT: so many journeys of two steps, each behind its first; the desk stays open
+stands_at_one() {
+  opens "$1"
+  echo "set flight-1 F/AL/A1/2030-06-01 100000" | asks 1
+  {
+    repeated "$2" "begin F/AL/A1/2030-06-01/1/1;F/NO/NONE/2030-06-01/1/1!0"
+    numbered step 1 "$2"
+  } | asks $((2 * $2))
+  refused_none
+}
+
+# recovers FILE: the processor's milliseconds of a recovery, and what it prints
+recovers() {
+  local TIMEFORMAT='%3U %3S'
+  { time "$desk" recover "$1" >recovered; } 2>&1 | awk '{ print ($1 + $2) * 1000 }'
+}
+
+# Commits a second of a recovery of 2,000 journeys behind their first step, beside the same turns and
+# compensations by lines.
+measure_recovery() (
+  if ! has_recover; then
+    say "recovery: skipped, the program has no subcommand 'recover'"
+    exit 0
+  fi
+  works_in_memory
+  count=2000
+  stands_at_one recovered.db "$count" && closes || exit 1
+  all=$(recovers recovered.db)
+  told=$(<recovered)
+  told=${told#recovered }
+  opening=$(recovers recovered.db)
+  stands_at_one plain.db "$count" || exit 1
+  { numbered abort 1 "$count" " 0" && numbered step 1 "$count"; } | times plain $((2 * count)) >plain
+  refused_none && closes || exit 1
+  echo "recovery told commits/s plain-commits/s ratio at-least"
+  awk -v told="$told" -v time=$((all - opening)) -v count=$((2 * count)) \
+    '{ plain = 1e6 / $3; ours = count * 1000 / time
+      printf "%d %s %.0f %.0f %.2f 0.9\n", count, told, ours, plain, ours / plain }' plain
+)
