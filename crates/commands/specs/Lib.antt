@@ -4,3 +4,5 @@ pub mod Names
 pub mod Orders
 pub mod Texts
 pub mod Readings
+pub mod Batched
+pub mod Batches

@@ -7,6 +7,7 @@
 
 mod agents;
 mod asks;
+mod batches;
 mod faults;
 mod items;
 mod keys;
@@ -23,6 +24,7 @@ mod words;
 
 pub use agents::Agent;
 pub use asks::Ask;
+pub use batches::{BadBatch, Batch};
 pub use faults::Fault;
 pub use items::{Cause, Cursor, Item, Phase};
 pub use keys::Key;

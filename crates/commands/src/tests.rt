@@ -1,9 +1,11 @@
 // Values from outside: the tables of refusals, items, states and lines in the formats.
 use crate::{
-    Agent, Ask, Cause, CsvCause, Cursor, Item, Key, Name, Phase, Refusal, Reply,
+    Agent, Ask, BadBatch, Batch, Cause, CsvCause, Cursor, Item, Key, Name, Phase, Refusal, Reply,
     replies_have_one_line,
 };
+use allotment::{Cell, Night, Row};
 use plan::{BadPlan, PlanCause};
+use std::alloc::Global;
 use std::test::Fail;
 
 const BAD_NIGHT: BadPlan = BadPlan {
@@ -301,5 +303,71 @@ fn an_ask_keeps_its_parts(rt: HostRuntime) -> Result<(), Fail> {
     assert_eq!(rt; ask.agent(), house);
     assert_eq!(rt; ask.key(), key);
     assert_eq!(rt; ask.text(), b"/journeys\n".as_slice());
+    Ok(())
+}
+
+/// A row of each of so many nights, from the first one on.
+fn nights(alloc: Global, count: u16) -> Result<Vec<Row>, Fail> {
+    let mut rows = Vec::new(alloc);
+    for day in 0..count {
+        let night = Night::from_day(10957 + u32::from(day)).ok_or("no night")?;
+        let cell = Cell::parse("R/INN/DBL/2000-01-01").ok_or("no cell")?;
+        rows.push(Row::new(Cell { night, ..cell }, 4))?;
+    }
+    Ok(rows)
+}
+
+// how many rows there are, and what is wrong with them
+#[rattlefmt::skip]
+const COUNTS: [(u16, Option<BadBatch>); 4] = [
+    (0,    Some(BadBatch::Count)),
+    (1,    None),
+    (2000, None),
+    (2001, Some(BadBatch::Count)),
+];
+
+#[test]
+fn a_batch_has_at_most_2000_rows(rt: HostRuntime) -> Result<(), Fail> {
+    let name = Name::parse("b1").ok_or("no name")?;
+    for (count, wrong) in COUNTS {
+        let batch = Batch::new(name, nights(rt.alloc(), count)?);
+        assert_eq!(rt; batch.err(), wrong, "{count} rows");
+    }
+    Ok(())
+}
+
+// the cell of a row behind that of the room DBL of INN on 2030-06-01, and whether they are one
+#[rattlefmt::skip]
+const CELLS: [(&str, bool); 6] = [
+    ("R/INN/DBL/2030-06-01", true),
+    ("R/INN/DBL/2030-06-02", false),
+    ("R/INN/A/2030-06-01",   false),
+    ("R/INN2/DBL/2030-06-01", false),
+    ("C/INN/DBL/2030-06-01", false),
+    ("F/INN/DBL/2030-06-01", false),
+];
+
+#[test]
+fn a_batch_has_each_cell_once(rt: HostRuntime) -> Result<(), Fail> {
+    let alloc = rt.alloc();
+    let name = Name::parse("b1").ok_or("no name")?;
+    let first = Cell::parse("R/INN/DBL/2030-06-01").ok_or("no cell")?;
+    for (text, is_twice) in CELLS {
+        let other = Cell::parse(text).ok_or("no cell")?;
+        let rows = vec![in alloc; Row::new(first, 4), Row::new(other, 5)]?;
+        match Batch::new(name, rows) {
+            Err(wrong) => {
+                assert!(rt; is_twice, "{text}");
+                assert_eq!(rt; wrong, BadBatch::Twice);
+            }
+            Ok(batch) => {
+                assert!(rt; !is_twice, "{text}");
+                assert_eq!(rt; batch.name(), name);
+                let expected = [Row::new(first, 4), Row::new(other, 5)];
+                assert_eq!(rt; batch.rows(), expected.as_slice());
+                assert_eq!(rt; batch.clone(alloc)?.rows(), expected.as_slice());
+            }
+        }
+    }
     Ok(())
 }

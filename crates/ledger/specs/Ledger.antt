@@ -3,12 +3,11 @@
 use Rattle.std.specs.Prelude.{ℕ, ◌+◌, ◌==◌, ◌&&◌, not, Bool, true, false, List, [], ◌∷◌, ◌++◌, length, nat_le, if◌then◌else◌, filter, filter_map, flat_map, sum_by, Option, Some, None, option_map, unwrap_or, bytes_eq, IsTrue}
 use Rattle.std.specs.List.{list_any, list_all}
 use Rattle.allotment.specs.Want.{Wanted}
-use Rattle.allotment.specs.Limits.{is_between, is_good_cell, most_places}
 use Rattle.allotment.specs.Cells.{is_cell, cells_of, wants_cell, numbers_from}
 use Rattle.allotment.specs.declared.cells.Cell.{Cell}
 use Rattle.allotment.specs.declared.cells.Row.{Row}
 use Rattle.plan.specs.Planned.{Planned, is_plan, numbered, want_at}
-use Rattle.commands.specs.Names.{is_batch_name}
+pub use Rattle.commands.specs.Batches.{are_distinct, is_good_row, is_batch}
 use Rattle.commands.specs.declared.items.Item.{Item}
 use Rattle.commands.specs.declared.items.Phase.{Phase}
 use Rattle.ledger.specs.History.{last_of, net, phase, next_want, may_come}
@@ -112,22 +111,6 @@ may_do l j item a =
 -- there is a journey j, and this item may come next in it
 abbrev pub is_item_allowed : List Event → ℕ → Item → Bool
 is_item_allowed l j item = unwrap_or (option_map (may_do l j item) (journey_at l j)) false
-
--- the rows name each cell once
-abbrev pub are_distinct : List Row → Bool
-are_distinct [] = true
-are_distinct (r ∷ later) =
-    not (list_any (λ (s : Row). is_cell r.cell s.cell) later) && are_distinct later
-
--- the row keeps the limits: those of its cell, and at most 100,000 places
-abbrev pub is_good_row : Row → Bool
-is_good_row r = is_good_cell r.cell && nat_le r.places most_places
-
--- a batch keeps the limits: its name, 1 to 2,000 rows, and each cell once
-abbrev pub is_batch : List ℕ → List Row → Bool
-is_batch name rows =
-    is_batch_name name && is_between 1 2000 (length rows) && list_all is_good_row rows
-    && are_distinct rows
 
 -- the row has at least the places that journeys hold of its cell
 abbrev pub is_not_below_held : List Event → Row → Bool

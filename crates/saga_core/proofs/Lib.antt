@@ -1,5 +1,18 @@
-pub mod RunLemmas
-pub mod MemoryLemmas
+pub mod CellLemmas
+pub mod KeptLemmas
+pub mod RowLemmas
+pub mod JourneyLemmas
+pub mod PlaceLemmas
+pub mod StandLemmas
+pub mod GrowthLemmas
+pub mod BeginLemmas
+pub mod UnfinishedLemmas
+pub mod TellLemmas
+pub mod MoveLemmas
+pub mod StepLemmas
+pub mod ReadyLemmas
+pub mod ActLemmas
+pub mod LoadLemmas
 pub mod DecidingLemmas
-pub mod ShownLemmas
-mod WorldLemmas
+pub mod RunLemmas
+pub mod WorldLemmas

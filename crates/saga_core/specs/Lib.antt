@@ -1,6 +1,10 @@
 pub mod Books
 pub mod Shown
 pub mod Runs
+pub mod MemoryStock
+pub mod MemoryAnswers
+pub mod MemoryJourneys
+pub mod MemoryNext
 pub mod Memory
 pub mod Worlds
 pub mod Deciding

@@ -36,15 +36,13 @@ pub trait Book {
         ensures reply { is_sound self.new →
             Replies (stands self.old) (option_copied ask.entry) (request_of command.now) result }
         ensures after { is_sound self.new →
-            MovesOn (stands self.old) (stands self.new) (option_copied ask.entry)
-            (request_of command.now) result }
+            MovesOn (stands self.old) (stands self.new) (option_copied ask.entry) (request_of command.now) result }
 
         ensures memory { is_sound self.new →
             KeepsAtMemory (stands self.old) (stands self.new) result }
 
         ensures store { is_sound self.new →
-            LeavesAtStore (stands self.old) (leaves self.new) (option_copied ask.entry)
-            (request_of command.now) result }
+            LeavesAtStore (stands self.old) (leaves self.new) (option_copied ask.entry) (request_of command.now) result }
         ensures fails { IsErrOf result Fault.Store ↔ IsTrue (has_failed self.new) }
         ensures stays_failed { IsTrue (has_failed self.old) → IsTrue (has_failed self.new) }
         ensures stays_left { IsTrue (has_failed self.old) →

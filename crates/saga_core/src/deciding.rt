@@ -52,7 +52,6 @@ pub fn decide(plan: &Plan, marks: &Marks, cursor: &Cursor, fits: bool) -> Move
     match cursor.phase {
         Phase::Run => {
             if fits {
-                // a plan has at most 24 steps, so the next one has a number
                 prove!(cursor.pos < plan.steps());
                 let step = cursor.pos + 1;
                 Move::Take(step, option_at(plan, step, cursor.used))

@@ -14,7 +14,8 @@ mod tests;
 
 pub use books::Book;
 pub use commands::{
-    Agent, Ask, Cause, Command, CsvCause, Cursor, Fault, Item, Key, Name, Phase, Refusal, Reply,
+    Agent, Ask, BadBatch, Batch, Cause, Command, CsvCause, Cursor, Fault, Item, Key, Name, Phase,
+    Refusal, Reply,
 };
 pub use deciding::{Move, decide};
 pub use ledger;

@@ -1,227 +1,123 @@
 //! The desk in memory, which tests and other programs can run against. It never fails.
 //!
-//! It keeps the journeys in the order of their numbers, and the replies in the order in which they were kept.
-ghost use Rattle.std.specs.Prelude.{◌≡◌, ◌+◌, ◌<◌, ◌&&◌, [], bytes_eq, length, IfOk, OnOk, OnErr, IsTrue, Option, Some, None, Err, option_map};
-ghost use Rattle.commands.specs.Request as request;
-ghost use Rattle.plan.specs.Planned.{is_plan};
-ghost use Rattle.ledger.specs.Ledger.{journey_at};
-ghost use Rattle.ledger.specs.Answer.{State, start, answered_again};
-ghost use Rattle.saga_core.specs.Memory.{kept_of, kept_said, asked_of, ledger_of, journey_of, Begins, KeepsReply, StandsAsBefore, StandsFor};
-ghost use Rattle.saga_core.specs.Books.{Replies, MovesOn};
-ghost use Rattle.saga_core.specs.Shown.{record_of_journey};
+//! Beside the items of each journey it keeps what they have come to, and the places of all cells, so that a move costs
+//! what the nights of its want cost, however long the ledger is. All growth comes before any change, so that want of
+//! memory changes nothing.
+mod answers;
+mod journeys;
+mod keys;
+mod loading;
+mod moving;
+mod next;
+mod stock;
 
 use crate::books::Book;
+use crate::memory::answers::Answers;
+use crate::memory::journeys::Journey;
+use crate::memory::next::is_unfinished_above;
+use crate::memory::stock::Stock;
 use crate::records::{Brief, Record};
 use allotment::{Cell, Held, Night, Want};
-use commands::{Agent, Ask, Command, Cursor, Fault, Item, Key, Phase, Refusal, Reply};
+use commands::{Agent, Ask, Batch, Command, Fault, Item, Refusal, Reply};
 use plan::Plan;
-use savepoints::Marks;
 use std::alloc::{AllocError, Global};
 
 /// How many events a ledger may have.
-const MOST_EVENTS: usize = 999_999_999_999;
-
-/// A journey as it was begun.
-#[derive(Drop)]
-struct Begun {
-    agent: Agent,
-    plan: Plan,
-}
-
-/// A reply that is kept under an agent and a key, with the text that was asked.
-#[derive(Drop)]
-struct KeptAnswer {
-    agent: Agent,
-    key: Key,
-    text: Vec<u8>,
-    reply: Reply,
-}
-
-impl KeptAnswer {
-    /// Whether it is kept under this agent and key.
-    fn is_under(&self, agent: &Agent, key: &Key) -> bool
-        ensures under { result ≡
-            (bytes_eq agent.now self.now.agent && bytes_eq key.now self.now.key) }
-    {
-        *agent == self.agent && *key == self.key
-    }
-}
+const MOST_EVENTS: u64 = 999_999_999_999;
 
 /// The desk in memory.
 #[derive(Drop)]
 pub struct MemBook {
-    journeys: Vec<Begun>,
-    answers: Vec<KeptAnswer>,
+    /// In the order of their numbers, which count from 1.
+    journeys: Vec<Journey>,
+    stock: Stock,
+    /// In the order in which they were loaded.
+    batches: Vec<Batch>,
+    answers: Answers,
+    /// How many events the ledger has.
+    events: u64,
     alloc: Global,
 }
-
-/// The latest reply that is kept under the agent and the key of the ask.
-fn kept_under<'a>(answers: &'a [KeptAnswer], agent: &Agent, key: &Key) -> Option<&'a KeptAnswer>
-    ensures kept { option_map (λ k. kept_said k.now) result ≡
-        kept_of answers.now agent.now key.now }
-{
-    let mut found = None;
-    for answer in answers {
-        if answer.is_under(agent, key) {
-            found = Some(answer);
-        }
-    }
-    found
-}
-
-/// What a known key is answered: its kept reply, where the text is the same.
-fn again(answer: &KeptAnswer, text: &[u8]) -> Reply
-    ensures reply { (s : State) →
-        result ≡ (answered_again s text.now (kept_said answer.now)).reply }
-{
-    if answer.text.as_slice() == text {
-        answer.reply
-    } else {
-        Reply::Refused(Refusal::KeyReused)
-    }
-}
-
-/// A copy of the ask, with its reply.
-fn keeping(alloc: Global, ask: &Ask, reply: Reply) -> Result<KeptAnswer, AllocError>
-    ensures ask { IfOk result (λ k. asked_of k ≡ ask.now) }
-    ensures reply { IfOk result (λ k. k.reply ≡ reply) }
-{
-    Ok(KeptAnswer {
-        agent: ask.agent(),
-        key: ask.key(),
-        text: ask.text().to_vec(alloc)?,
-        reply,
-    })
-}
-
-/// Begins a journey of the house.
-fn begin(alloc: Global, journeys: &mut Vec<Begun>, plan: &Plan) -> Result<Reply, AllocError>
-    requires room { length journeys.old.items < MOST_EVENTS }
-
-    ensures reply { IfOk result (λ reply. reply ≡ Reply.Begun (length journeys.old.items + 1)) }
-    ensures begun { OnOk result (Begins journeys.old.items journeys.new.items plan.now None) }
-    ensures limits { IsTrue (is_plan plan.now) }
-
-    ensures same_journeys { OnErr result (journeys.new.items ≡ journeys.old.items) }
-{
-    let _steps = plan.steps();
-    let id = journeys.len() as u64 + 1;
-    let plan = plan.clone(alloc)?;
-    let agent = Agent::house();
-    journeys.push(Begun { agent, plan })?;
-    Ok(Reply::Begun { id })
-}
-
-/// Begins a journey of who asks, and keeps the reply.
-fn begin_for(
-    alloc: Global,
-    journeys: &mut Vec<Begun>,
-    answers: &mut Vec<KeptAnswer>,
-    plan: &Plan,
-    ask: &Ask,
-) -> Result<Reply, AllocError>
-    requires room { length journeys.old.items < MOST_EVENTS }
-
-    ensures reply { IfOk result (λ reply. reply ≡ Reply.Begun (length journeys.old.items + 1)) }
-    ensures begun { OnOk result
-        (Begins journeys.old.items journeys.new.items plan.now (Some ask.now)) }
-    ensures kept { IfOk result (λ reply.
-        KeepsReply answers.old.items answers.new.items reply ask.now) }
-    ensures limits { IsTrue (is_plan plan.now) }
-
-    ensures same_journeys { OnErr result (journeys.new.items ≡ journeys.old.items) }
-    ensures same_answers { OnErr result (answers.new.items ≡ answers.old.items) }
-{
-    let _steps = plan.steps();
-    let id = journeys.len() as u64 + 1;
-    let plan = plan.clone(alloc)?;
-    let answer = keeping(alloc, ask, Reply::Begun { id })?;
-    journeys.reserve(1)?;
-    answers.push(answer)?;
-    let agent = ask.agent();
-    journeys.push_reserved(Begun { agent, plan });
-    Ok(Reply::Begun { id })
-}
-
-/// A journey that is just begun.
-fn record_of(alloc: Global, begun: &Begun) -> Result<Record, AllocError>
-    ensures record { IfOk result (λ r. r ≡ record_of_journey [] (journey_of begun.now)) }
-{
-    let _steps = begun.plan.steps();
-    Ok(Record {
-        agent: begun.agent,
-        plan: begun.plan.clone(alloc)?,
-        cursor: AT_START,
-        marks: Marks::none(),
-    })
-}
-
-/// Where a journey begins.
-const AT_START: Cursor = Cursor {
-    pos: 0,
-    phase: Phase::Run,
-    used: 0,
-};
 
 impl MemBook {
+    ghost use Rattle.std.specs.Prelude.{◌≡◌, ◌≤◌, ◌<◌, ◌⊎◌, ◌↔◌, suc, length, IfSome, IfNone, IsTrue};
+    ghost use Rattle.std.specs.Option.{option_copied};
+    ghost use Rattle.commands.specs.Orders.{request_of};
+    ghost use Rattle.commands.specs.Request as request;
+    ghost use Rattle.ledger.specs.Answer.{start};
+    ghost use Rattle.saga_core.specs.Memory.{StandsFor, CarriesOut, KeepsBook};
+
     /// A new desk: no event, and no reply kept. It takes no memory.
     pub fn new(alloc: Global) -> MemBook
         ensures start { StandsFor result start }
     {
         MemBook {
             journeys: Vec::new(alloc),
-            answers: Vec::new(alloc),
+            stock: Stock::new(alloc),
+            batches: Vec::new(alloc),
+            answers: Answers::new(alloc),
+            events: 0,
             alloc,
         }
     }
 
-    /// Begins a journey of the house, where the ledger has room.
-    fn carry_out(&mut self, plan: &Plan) -> Result<Reply, Fault>
-        ensures reply { Replies (StandsFor self.old) None (request.Begin plan.now) result }
-        ensures after { MovesOn (StandsFor self.old) (StandsFor self.new) None (request.Begin plan.now) result }
-        ensures memory { OnErr result (result ≡ Err Fault.Memory) }
-        ensures same { OnErr result (StandsAsBefore self.old self.new) }
+    /// Whether the ledger has as many events as it may have.
+    fn is_full(&self) -> bool
+        ensures full { IsTrue result ↔ (MOST_EVENTS ≤ self.now.events) }
     {
-        if self.journeys.len() >= MOST_EVENTS {
-            return Ok(Reply::Refused(Refusal::Limit));
-        }
-        match begin(self.alloc, &mut self.journeys, plan) {
-            Ok(reply) => Ok(reply),
-            Err(_) => Err(Fault::Memory),
-        }
+        self.events >= MOST_EVENTS
     }
 
-    /// The same for who asks, unless the key is known.
-    fn carry_out_for(&mut self, plan: &Plan, ask: &Ask) -> Result<Reply, Fault>
-        ensures reply { Replies (StandsFor self.old) (Some ask.now) (request.Begin plan.now) result }
-        ensures after { MovesOn (StandsFor self.old) (StandsFor self.new) (Some ask.now) (request.Begin plan.now)
-            result }
-        ensures memory { OnErr result (result ≡ Err Fault.Memory) }
-        ensures same { OnErr result (StandsAsBefore self.old self.new) }
-    {
-        match kept_under(&self.answers, &ask.agent(), &ask.key()) {
-            Some(answer) => Ok(again(answer, ask.text())),
-            None => {
-                if self.journeys.len() >= MOST_EVENTS {
-                    return Ok(Reply::Refused(Refusal::Limit));
-                }
-                match begin_for(self.alloc, &mut self.journeys, &mut self.answers, plan, ask) {
-                    Ok(reply) => Ok(reply),
-                    Err(_) => Err(Fault::Memory),
-                }
-            }
-        }
-    }
+    /// The place of the journey with this number, if there is one.
+    fn place_of(&self, id: u64) -> Option<usize>
+        ensures within { IfSome result (λ place. place < length self.now.journeys.items) }
+        ensures number { IfSome result (λ place. id ≡ suc place) }
 
-    /// The journey with this number, if there is one.
-    fn begun(&self, id: u64) -> Option<&Begun>
-        ensures begun { option_map (λ b. journey_of b.now) result ≡
-            journey_at (ledger_of self.now.journeys.items) id }
+        ensures none { IfNone result ((id ≡ 0) ⊎ (length self.now.journeys.items < id)) }
     {
         if id == 0 || id > self.journeys.len() as u64 {
             return None;
         }
-        Some(&self.journeys[id as usize - 1])
+        Some(id as usize - 1)
+    }
+
+    /// Begins a journey of who asks, or of the house.
+    fn begin(&mut self, plan: &Plan, ask: Option<&Ask>) -> Result<Reply, AllocError>
+        ensures answer { CarriesOut self.old self.new (option_copied ask.entry)
+            (request.Begin plan.now) result }
+        ensures memory { KeepsBook self.old self.new result }
+    {
+        if self.is_full() {
+            return Ok(Reply::Refused(Refusal::Limit));
+        }
+        let agent = match ask {
+            Some(ask) => ask.agent(),
+            None => Agent::house(),
+        };
+        let plan = plan.clone(self.alloc)?;
+        let id = self.journeys.len() as u64 + 1;
+        self.journeys.reserve(1)?;
+        self.answers.keep(self.alloc, ask, Reply::Begun { id })?;
+        let journey = Journey::new(self.alloc, agent, plan);
+        self.journeys.push_reserved(journey);
+        self.events += 1;
+        Ok(Reply::Begun { id })
+    }
+
+    /// Answers a command whose key is not known.
+    fn answer(&mut self, command: &Command, ask: Option<&Ask>) -> Result<Reply, AllocError>
+        ensures answer { CarriesOut self.old self.new (option_copied ask.entry)
+            (request_of command.now) result }
+        ensures memory { KeepsBook self.old self.new result }
+    {
+        match command {
+            Command::Load(batch) => self.load(batch, ask),
+            Command::Begin(plan) => self.begin(plan, ask),
+            Command::Step(id) => self.step(*id, ask),
+            Command::Abort(id, p) => self.abort(*id, *p, ask),
+            Command::Stop(id) => self.stop(*id, ask),
+            Command::Save(id) => self.save(*id, ask),
+        }
     }
 }
 
@@ -243,45 +139,56 @@ impl Book for MemBook {
     ghost settled = { λ m s h. inl h };
 
     fn act(&mut self, command: &Command, ask: Option<&Ask>) -> Result<Reply, Fault> {
-        let Command::Begin(plan) = command;
-        match ask {
-            None => self.carry_out(plan),
-            Some(ask) => self.carry_out_for(plan, ask),
+        match self.answers.again(ask) {
+            Some(reply) => Ok(reply),
+            None => match self.answer(command, ask) {
+                Ok(reply) => Ok(reply),
+                Err(_) => Err(Fault::Memory),
+            },
         }
     }
 
     fn journey(&mut self, id: u64) -> Result<Option<Record>, Fault> {
-        match self.begun(id) {
+        match self.place_of(id) {
             None => Ok(None),
-            Some(begun) => match record_of(self.alloc, begun) {
+            Some(place) => match self.journeys[place].record(self.alloc) {
                 Ok(record) => Ok(Some(record)),
                 Err(_) => Err(Fault::Memory),
             },
         }
     }
 
-    fn history(&mut self, _id: u64) -> Result<Vec<Item>, Fault> {
-        Ok(Vec::new(self.alloc))
+    fn history(&mut self, id: u64) -> Result<Vec<Item>, Fault> {
+        match self.place_of(id) {
+            None => Ok(Vec::new(self.alloc)),
+            Some(place) => match Vec::from_slice(self.alloc, &self.journeys[place].items) {
+                Ok(items) => Ok(items),
+                Err(_) => Err(Fault::Memory),
+            },
+        }
     }
 
     fn first_unfinished(&mut self, after: u64) -> Result<Option<Brief>, Fault> {
-        if after >= self.journeys.len() as u64 {
-            return Ok(None);
+        for place in 0..self.journeys.len() {
+            let brief = self.journeys[place].brief(place as u64 + 1);
+            if is_unfinished_above(&brief, after) {
+                return Ok(Some(brief));
+            }
         }
-        let agent = self.journeys[after as usize].agent;
-        let _steps = self.journeys[after as usize].plan.steps();
-        Ok(Some(Brief {
-            id: after + 1,
-            agent,
-            cursor: AT_START,
-        }))
+        Ok(None)
     }
 
-    fn cells(&mut self, _want: &Want) -> Result<Vec<(Night, Held)>, Fault> {
-        Ok(Vec::new(self.alloc))
+    fn cells(&mut self, want: &Want) -> Result<Vec<(Night, Held)>, Fault> {
+        match self.stock.nights_of(self.alloc, want) {
+            Ok(nights) => Ok(nights),
+            Err(_) => Err(Fault::Memory),
+        }
     }
 
     fn stock(&mut self) -> Result<Vec<(Cell, Held)>, Fault> {
-        Ok(Vec::new(self.alloc))
+        match self.stock.rows(self.alloc) {
+            Ok(rows) => Ok(rows),
+            Err(_) => Err(Fault::Memory),
+        }
     }
 }

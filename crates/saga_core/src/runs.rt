@@ -13,8 +13,15 @@ use std::alloc::Global;
 fn keep_limits(command: &Command)
     ensures limits { IsTrue (is_request (request_of command.now)) }
 {
-    let Command::Begin(plan) = command;
-    let _steps = plan.steps();
+    match command {
+        Command::Load(batch) => {
+            let _rows = batch.rows();
+        }
+        Command::Begin(plan) => {
+            let _steps = plan.steps();
+        }
+        Command::Step(_) | Command::Abort(_, _) | Command::Stop(_) | Command::Save(_) => {}
+    }
 }
 
 /// Answers commands in order. At a fault, the replies so far come with it.
@@ -29,15 +36,13 @@ pub fn run<B: Book>(
         OnOk result (MovesOnBy (B.stands book.old) (B.stands book.new) commands.now) }
 
     ensures fault { B.is_sound book.new → IfErr result (λ e.
-        Stops (B.stands book.old) (B.stands book.new) (B.leaves book.new)
-        commands.now e.0.items e.1) }
+        Stops (B.stands book.old) (B.stands book.new) (B.leaves book.new) commands.now e.0.items e.1) }
     ensures failed { IfErr result (λ e. e.1 ≡ Fault.Store → IsTrue (B.has_failed book.new)) }
 
     ensures world { B.is_sound book.new →
         OnOk result (GoesOnWith (B.stands book.old) (B.stands book.new) commands.now) }
     ensures world_at_fault { B.is_sound book.new → IfErr result (λ e.
-        GoesOnAmong (B.stands book.old) (B.stands book.new) (B.leaves book.new)
-        commands.now e.0.items e.1) }
+        GoesOnAmong (B.stands book.old) (B.stands book.new) (B.leaves book.new) commands.now e.0.items e.1) }
 
     ensures sound { B.is_sound book.new → B.is_sound book.old }
 {

@@ -1,3 +1,8 @@
+mod lines;
+mod plain;
+mod random;
+mod rows;
+
 // What no clause says: that each call answers where memory is ample, on values from the rules, by hand.
 use crate::{Agent, Ask, Book, Command, Cursor, Fault, Key, MemBook, Phase, Refusal, Reply, run};
 use allotment::{Night, Want};

@@ -1,9 +1,14 @@
 pub mod AnswerLemmas
 pub mod CommitLemmas
+pub mod DueLemmas
 pub mod KeepLemmas
+pub mod LeadLemmas
+pub mod NextLemmas
 pub mod OpenKept
 pub mod ReadJourneys
 pub mod ReadLemmas
 pub mod ReadPlans
 pub mod ReadStock
+pub mod SmallLemmas
+pub mod StepLemmas
 pub mod WritingLemmas

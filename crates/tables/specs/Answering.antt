@@ -12,7 +12,7 @@ use Rattle.commands.specs.Texts.{reply_line, is_accepted}
 use Rattle.desk_sql.specs.declared.meta.Meta.{Meta}
 use Rattle.desk_sql.specs.declared.answers.KeptAnswer.{KeptAnswer}
 use Rattle.ledger.specs.Ledger.{journeys}
-use Rattle.ledger.specs.Answer.{State, KeptReply, kept_for, answered_again, outcome}
+use Rattle.ledger.specs.Answer.{State, KeptReply, most_events, kept_for, answered_again, outcome}
 use Rattle.standing.specs.Standing.{IsDesk}
 use Rattle.tables.specs.Keeping.{Keeps, MayLeave}
 use Rattle.tables.specs.Reading.{ShowsKept}
@@ -21,6 +21,11 @@ use Rattle.tables.specs.Reading.{ShowsKept}
 pub record Counts (s : State) (m : Meta) : Type 0 where
   pub events : m.events ≡ length s.ledger
   pub journeys_are : m.journeys ≡ length (journeys s.ledger)
+
+-- so many events and journeys are not too many
+pub record IsCounted (m : Meta) : Type 0 where
+  pub events : m.events ≤ most_events
+  pub journeys_are : m.journeys ≤ most_events
 
 -- what is found for an ask: nothing where its key is new, else the reply that any request gets, which
 -- changes nothing
@@ -62,17 +67,16 @@ module _ {S : Type 0} (g : Ghosts S) (old new : Held S) where
       (s : State) → IsDesk s → Keeps (state g old) s
       → MayLeave (state g new) s (outcome s ask asked).state
 
-  -- the same three, where nothing is kept for the ask
-  abbrev pub AnswersNew : Asked → Request → Result Reply Fault → Type 0
+  -- the same three, where nothing is kept for who asks
+  abbrev pub AnswersNew : Option Asked → Request → Result Reply Fault → Type 0
   AnswersNew ask asked result =
       HasCleanDisk (state g new) → (s : State) → IsDesk s → Keeps (state g old) s
-      → kept_for s (Some ask) ≡ None → IfOk result (λ r. r ≡ (outcome s (Some ask) asked).reply)
+      → kept_for s ask ≡ None → IfOk result (λ r. r ≡ (outcome s ask asked).reply)
 
-  abbrev pub KeepsNew : Asked → Request → Result Reply Fault → Type 0
+  abbrev pub KeepsNew : Option Asked → Request → Result Reply Fault → Type 0
   KeepsNew ask asked result = (s : State) → IsDesk s → Keeps (state g old) s
-      → kept_for s (Some ask) ≡ None
-      → OnOk result (Keeps (state g new) (outcome s (Some ask) asked).state)
+      → kept_for s ask ≡ None → OnOk result (Keeps (state g new) (outcome s ask asked).state)
 
-  abbrev pub LeavesNew : Asked → Request → Type 0
+  abbrev pub LeavesNew : Option Asked → Request → Type 0
   LeavesNew ask asked = (s : State) → IsDesk s → Keeps (state g old) s
-      → kept_for s (Some ask) ≡ None → MayLeave (state g new) s (outcome s (Some ask) asked).state
+      → kept_for s ask ≡ None → MayLeave (state g new) s (outcome s ask asked).state

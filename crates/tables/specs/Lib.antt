@@ -1,7 +1,9 @@
 pub mod Answering
 pub mod Booked
 pub mod Keeping
+pub mod Moving
 pub mod Opening
+pub mod Placing
 pub mod PlansTold
 pub mod Reading
 pub mod Writing

@@ -1,8 +1,9 @@
-//! What is answered to a begin.
+//! What is answered to a command.
 ghost use Rattle.std.specs.Prelude.{◌≡◌, false, IfOk, IsTrue, None, Some};
 ghost use Rattle.std.specs.Option.{option_copied as asker};
-ghost use Rattle.plan.specs.Planned.{is_plan};
+ghost use Rattle.commands.specs.Orders.{request_of};
 ghost use Rattle.commands.specs.Request.{Begin};
+ghost use Rattle.ledger.specs.Answer.{is_request};
 ghost use Rattle.tables.specs.Answering.{AnswersAgain, Finds, KeepsOn, KeepsAtMemory};
 ghost use Rattle.tables.specs.Answering.{Answers, KeepsNext, LeavesOld, AnswersNew, KeepsNew, LeavesNew};
 ghost use Rattle.tables.specs.Reading.{LeavesAsBefore, ShowsKept, WasClean};
@@ -11,7 +12,9 @@ use crate::beginning::{Beginner, Keeping};
 use crate::committing::commit_begin;
 use crate::counts::{MOST_EVENTS, read_counts};
 use crate::faults::fault_of;
-use commands::{Ask, Fault, Refusal, Reply};
+use crate::loading::answer_load;
+use crate::moves::{Motion, answer_move};
+use commands::{Ask, Command, Fault, Refusal, Reply};
 use desk_sql::{KeptAnswer, find_answer};
 use plan::Plan;
 use sqlite::{Alter, Connection};
@@ -62,10 +65,10 @@ fn begin<S: Alter>(conn: &mut Connection<S>, plan: &Plan) -> Result<Reply, Fault
     requires outside { conn.old.in_transaction ≡ false }
 
     ensures outside { conn.new.in_transaction ≡ false }
-    ensures reply { Answers S.Store conn.old conn.new None (Begin plan.now) result }
-    ensures after { KeepsNext S.Store conn.old conn.new None (Begin plan.now) result }
+    ensures reply { AnswersNew S.Store conn.old conn.new None (Begin plan.now) result }
+    ensures after { KeepsNew S.Store conn.old conn.new None (Begin plan.now) result }
     ensures memory { KeepsAtMemory S.Store conn.old conn.new result }
-    ensures left { LeavesOld S.Store conn.old conn.new None (Begin plan.now) }
+    ensures left { LeavesNew S.Store conn.old conn.new None (Begin plan.now) }
     ensures sound { WasClean S.Store conn.old conn.new }
 {
     let _steps = plan.steps();
@@ -88,10 +91,10 @@ fn begin_new<S: Alter>(
     requires outside { conn.old.in_transaction ≡ false }
 
     ensures outside { conn.new.in_transaction ≡ false }
-    ensures reply { AnswersNew S.Store conn.old conn.new ask.now (Begin plan.now) result }
-    ensures after { KeepsNew S.Store conn.old conn.new ask.now (Begin plan.now) result }
+    ensures reply { AnswersNew S.Store conn.old conn.new (Some ask.now) (Begin plan.now) result }
+    ensures after { KeepsNew S.Store conn.old conn.new (Some ask.now) (Begin plan.now) result }
     ensures memory { KeepsAtMemory S.Store conn.old conn.new result }
-    ensures left { LeavesNew S.Store conn.old conn.new ask.now (Begin plan.now) }
+    ensures left { LeavesNew S.Store conn.old conn.new (Some ask.now) (Begin plan.now) }
     ensures sound { WasClean S.Store conn.old conn.new }
 {
     let _steps = plan.steps();
@@ -117,31 +120,8 @@ fn begin_new<S: Alter>(
     Ok(reply)
 }
 
-/// The same, unless the key is known.
-fn begin_for<S: Alter>(
-    alloc: Global,
-    conn: &mut Connection<S>,
-    plan: &Plan,
-    ask: &Ask,
-) -> Result<Reply, Fault>
-    requires outside { conn.old.in_transaction ≡ false }
-
-    ensures outside { conn.new.in_transaction ≡ false }
-    ensures reply { Answers S.Store conn.old conn.new (Some ask.now) (Begin plan.now) result }
-    ensures after { KeepsNext S.Store conn.old conn.new (Some ask.now) (Begin plan.now) result }
-    ensures memory { KeepsAtMemory S.Store conn.old conn.new result }
-    ensures left { LeavesOld S.Store conn.old conn.new (Some ask.now) (Begin plan.now) }
-    ensures sound { WasClean S.Store conn.old conn.new }
-{
-    match find_reply(alloc, conn, ask) {
-        Ok(Some(reply)) => Ok(reply),
-        Ok(None) => begin_new(alloc, conn, plan, ask),
-        Err(fault) => Err(fault),
-    }
-}
-
-/// What is answered to a begin, of whoever asks or of the house.
-pub(crate) fn answer<S: Alter>(
+/// What is answered to a begin, where nothing is kept for who asks.
+fn answer_begin<S: Alter>(
     alloc: Global,
     conn: &mut Connection<S>,
     plan: &Plan,
@@ -150,16 +130,108 @@ pub(crate) fn answer<S: Alter>(
     requires outside { conn.old.in_transaction ≡ false }
 
     ensures outside { conn.new.in_transaction ≡ false }
-    ensures reply { Answers S.Store conn.old conn.new (asker ask.entry) (Begin plan.now) result }
-    ensures after { KeepsNext S.Store conn.old conn.new (asker ask.entry) (Begin plan.now) result }
+    ensures reply { AnswersNew S.Store conn.old conn.new (asker ask.entry) (Begin plan.now) result }
+    ensures after { KeepsNew S.Store conn.old conn.new (asker ask.entry) (Begin plan.now) result }
     ensures memory { KeepsAtMemory S.Store conn.old conn.new result }
-    ensures left { LeavesOld S.Store conn.old conn.new (asker ask.entry) (Begin plan.now) }
+    ensures left { LeavesNew S.Store conn.old conn.new (asker ask.entry) (Begin plan.now) }
     ensures sound { WasClean S.Store conn.old conn.new }
-    ensures limits { IsTrue (is_plan plan.now) }
 {
-    let _steps = plan.steps();
     match ask {
         None => begin(conn, plan),
-        Some(ask) => begin_for(alloc, conn, plan, ask),
+        Some(ask) => begin_new(alloc, conn, plan, ask),
+    }
+}
+
+/// What is answered to a command, where nothing is kept for who asks.
+fn answer_new<S: Alter>(
+    alloc: Global,
+    conn: &mut Connection<S>,
+    command: &Command,
+    ask: Option<&Ask>,
+) -> Result<Reply, Fault>
+    requires outside { conn.old.in_transaction ≡ false }
+
+    ensures outside { conn.new.in_transaction ≡ false }
+    ensures reply { AnswersNew S.Store conn.old conn.new (asker ask.entry) (request_of command.now)
+        result }
+    ensures after { KeepsNew S.Store conn.old conn.new (asker ask.entry) (request_of command.now)
+        result }
+    ensures memory { KeepsAtMemory S.Store conn.old conn.new result }
+    ensures left { LeavesNew S.Store conn.old conn.new (asker ask.entry) (request_of command.now) }
+    ensures sound { WasClean S.Store conn.old conn.new }
+{
+    match command {
+        Command::Load(batch) => answer_load(alloc, conn, batch, ask),
+        Command::Begin(plan) => answer_begin(alloc, conn, plan, ask),
+        Command::Step(id) => answer_move(alloc, conn, *id, Motion::Step, ask),
+        Command::Abort(id, position) => {
+            answer_move(alloc, conn, *id, Motion::Abort(*position), ask)
+        }
+        Command::Stop(id) => answer_move(alloc, conn, *id, Motion::Stop, ask),
+        Command::Save(id) => answer_move(alloc, conn, *id, Motion::Save, ask),
+    }
+}
+
+/// What is answered to a command of who asks: what is kept, where his key is known.
+fn answer_for<S: Alter>(
+    alloc: Global,
+    conn: &mut Connection<S>,
+    command: &Command,
+    ask: &Ask,
+) -> Result<Reply, Fault>
+    requires outside { conn.old.in_transaction ≡ false }
+
+    ensures outside { conn.new.in_transaction ≡ false }
+    ensures reply { Answers S.Store conn.old conn.new (Some ask.now) (request_of command.now)
+        result }
+    ensures after { KeepsNext S.Store conn.old conn.new (Some ask.now) (request_of command.now)
+        result }
+    ensures memory { KeepsAtMemory S.Store conn.old conn.new result }
+    ensures left { LeavesOld S.Store conn.old conn.new (Some ask.now) (request_of command.now) }
+    ensures sound { WasClean S.Store conn.old conn.new }
+{
+    match find_reply(alloc, conn, ask) {
+        Ok(Some(reply)) => Ok(reply),
+        Ok(None) => answer_new(alloc, conn, command, Some(ask)),
+        Err(fault) => Err(fault),
+    }
+}
+
+/// What is answered to a command, of whoever asks or of the house.
+pub(crate) fn answer<S: Alter>(
+    alloc: Global,
+    conn: &mut Connection<S>,
+    command: &Command,
+    ask: Option<&Ask>,
+) -> Result<Reply, Fault>
+    requires outside { conn.old.in_transaction ≡ false }
+
+    ensures outside { conn.new.in_transaction ≡ false }
+    ensures reply { Answers S.Store conn.old conn.new (asker ask.entry) (request_of command.now)
+        result }
+    ensures after { KeepsNext S.Store conn.old conn.new (asker ask.entry) (request_of command.now)
+        result }
+    ensures memory { KeepsAtMemory S.Store conn.old conn.new result }
+    ensures left { LeavesOld S.Store conn.old conn.new (asker ask.entry) (request_of command.now) }
+    ensures sound { WasClean S.Store conn.old conn.new }
+{
+    match ask {
+        None => answer_new(alloc, conn, command, None),
+        Some(ask) => answer_for(alloc, conn, command, ask),
+    }
+}
+
+/// A request that a command makes keeps the limits: there is no other.
+pub(crate) fn know_limits(command: &Command)
+    ensures limits { IsTrue (is_request (request_of command.now)) }
+{
+    match command {
+        Command::Begin(plan) => {
+            let _steps = plan.steps();
+        }
+        Command::Load(batch) => {
+            let _rows = batch.rows();
+        }
+        _ => {}
     }
 }

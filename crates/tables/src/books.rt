@@ -1,14 +1,13 @@
 //! The book over tables.
 ghost use Rattle.std.specs.Prelude.{◌≡◌, ◌↔◌, false, IfOk, IsOk, IsErrOf, IsTrue};
-ghost use Rattle.commands.specs.Request.{Begin};
+ghost use Rattle.commands.specs.Orders.{request_of};
 
-use crate::answering::answer;
+use crate::answering::{answer, know_limits};
 use crate::faults::OpenFault;
 use crate::opening::Opened;
 use crate::reading::{read_cells, read_first_unfinished, read_history, read_journey, read_stock};
 use allotment::{Cell, Held, Night, Want};
 use commands::{Ask, Command, Fault, Item, Reply};
-use plan::Plan;
 use saga_core::{Book, Brief, Record};
 use sqlite::{Alter, Connection};
 use std::alloc::Global;
@@ -39,12 +38,13 @@ impl<S: Alter> TableBook<S> {
     ghost use Rattle.tables.specs.Reading.{WasClean};
     ghost use Rattle.tables.specs.Booked.{Answers, MovesOn, KeepsAtMemory, LeavesAtStore, LeavesNoMore};
 
-    /// Answers a begin. Once the store has failed nothing is asked of it any more.
-    fn begin(&mut self, plan: &Plan, ask: Option<&Ask>) -> Result<Reply, Fault>
-        ensures reply { Answers S.Store self.old self.new ask.entry (Begin plan.now) result }
-        ensures after { MovesOn S.Store self.old self.new ask.entry (Begin plan.now) result }
+    /// Answers a command. Once the store has failed nothing is asked of it any more.
+    fn carry_out(&mut self, command: &Command, ask: Option<&Ask>) -> Result<Reply, Fault>
+        ensures reply { Answers S.Store self.old self.new ask.entry (request_of command.now) result }
+        ensures after { MovesOn S.Store self.old self.new ask.entry (request_of command.now) result }
         ensures memory { KeepsAtMemory S.Store self.old self.new result }
-        ensures store { LeavesAtStore S.Store self.old self.new ask.entry (Begin plan.now) result }
+        ensures store { LeavesAtStore S.Store self.old self.new ask.entry (request_of command.now)
+            result }
         ensures fails { IsErrOf result Fault.Store ↔ IsTrue self.new.failed }
         ensures stays_failed { IsTrue self.old.failed → IsTrue self.new.failed }
         ensures stays_left { IsTrue self.old.failed → LeavesNoMore S.Store self.old self.new }
@@ -53,7 +53,8 @@ impl<S: Alter> TableBook<S> {
         if self.failed {
             return Err(Fault::Store);
         }
-        match answer(self.alloc, &mut self.conn, plan, ask) {
+        know_limits(command);
+        match answer(self.alloc, &mut self.conn, command, ask) {
             Ok(reply) => Ok(reply),
             Err(Fault::Memory) => Err(Fault::Memory),
             Err(Fault::Store) => {
@@ -98,8 +99,7 @@ impl<S: Alter> Book for TableBook<S> {
     ghost settled = { λ b s h. settles h };
 
     fn act(&mut self, command: &Command, ask: Option<&Ask>) -> Result<Reply, Fault> {
-        let Command::Begin(plan) = command;
-        match self.begin(plan, ask) {
+        match self.carry_out(command, ask) {
             Ok(reply) => Ok(reply),
             Err(Fault::Memory) => Err(Fault::Memory),
             Err(Fault::Store) => Err(Fault::Store),

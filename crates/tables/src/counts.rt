@@ -1,6 +1,6 @@
 //! How many events and journeys there are.
-ghost use Rattle.std.specs.Prelude.{◌≡◌, ◌≤◌, false, IfOk};
-ghost use Rattle.tables.specs.Answering.{Counts, KeepsOn, KeepsAtMemory};
+ghost use Rattle.std.specs.Prelude.{◌≡◌, false, IfOk};
+ghost use Rattle.tables.specs.Answering.{Counts, IsCounted, KeepsOn, KeepsAtMemory};
 ghost use Rattle.tables.specs.Reading.{LeavesAsBefore, ShowsKept, WasClean};
 
 use crate::faults::fault_of;
@@ -17,7 +17,7 @@ pub(crate) fn read_counts<S: Alter>(conn: &mut Connection<S>) -> Result<Meta, Fa
 
     ensures outside { conn.new.in_transaction ≡ false }
     ensures counts { ShowsKept S.Store conn.old conn.new result Counts }
-    ensures small { IfOk result (λ m. (m.events ≤ MOST_EVENTS) × (m.journeys ≤ MOST_EVENTS)) }
+    ensures small { IfOk result IsCounted }
     ensures same { KeepsOn S.Store conn.old conn.new result }
     ensures memory { KeepsAtMemory S.Store conn.old conn.new result }
     ensures left { LeavesAsBefore S.Store conn.old conn.new }

@@ -12,9 +12,13 @@ mod books;
 mod committing;
 mod counts;
 mod faults;
+mod loading;
+mod moves;
+mod next;
 mod opening;
 mod plans_told;
 mod reading;
+mod stepping;
 mod telling;
 
 pub use books::TableBook;

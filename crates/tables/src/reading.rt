@@ -21,7 +21,7 @@ use sqlite::{Alter, Connection};
 use std::alloc::Global;
 
 /// The largest number that a store can be asked for.
-const LARGEST: u64 = i64::MAX as u64;
+pub(crate) const LARGEST: u64 = i64::MAX as u64;
 
 /// The unfinished journey with the least number above this one.
 pub(crate) fn read_first_unfinished<S: Alter>(

@@ -2,4 +2,5 @@
 mod begins;
 mod faults;
 mod helping;
+mod moves;
 mod opening;

@@ -11,7 +11,7 @@ use Rattle.tables.proofs.answering.begin.Goals as goal
 
 -- the commit that answered leads to the state that the begin comes to
 pub returns-clause-after : goal.returns-clause-after
-returns-clause-after g c s desk keeps clean =
+returns-clause-after g c s desk keeps new clean =
     let at_mid : HasCleanDisk (state g.S.Store c.read_counts.new.conn) = c.commit_begin.ensures.less clean in
     let counts = c.in_ok-counts.ensures.counts at_mid s desk keeps in
     let next : AreNext s (c.in_ok-counts.counts.journeys + 1) (c.in_ok-counts.counts.events + 1) =
@@ -21,7 +21,7 @@ returns-clause-after g c s desk keeps clean =
 
 -- and a stop leaves that state
 pub returns-clause-left : goal.returns-clause-left
-returns-clause-left g c s desk keeps clean =
+returns-clause-left g c s desk keeps new clean =
     let at_mid : HasCleanDisk (state g.S.Store c.read_counts.new.conn) = c.commit_begin.ensures.less clean in
     let counts = c.in_ok-counts.ensures.counts at_mid s desk keeps in
     let next : AreNext s (c.in_ok-counts.counts.journeys + 1) (c.in_ok-counts.counts.events + 1) =
@@ -31,7 +31,7 @@ returns-clause-left g c s desk keeps clean =
 
 -- where the commit failed, that one or the old one
 pub returns-in_err-commit_begin-clause-left : goal.returns-in_err-commit_begin-clause-left
-returns-in_err-commit_begin-clause-left g c s desk keeps clean =
+returns-in_err-commit_begin-clause-left g c s desk keeps new clean =
     let at_mid : HasCleanDisk (state g.S.Store c.read_counts.new.conn) = c.commit_begin.ensures.less clean in
     let counts = c.in_ok-counts.ensures.counts at_mid s desk keeps in
     let next : AreNext s (c.in_ok-counts.counts.journeys + 1) (c.in_ok-counts.counts.events + 1) =

@@ -1,17 +1,20 @@
-use Rattle.std.proofs.Common.{◌∙◌, ap, sym, []}
-use Rattle.std.specs.Prelude.{Some, option_map}
-use Rattle.ledger.specs.Answer.{State}
-use Rattle.ledger.specs.Ledger.{journey_at}
-use Rattle.saga_core.specs.Memory.{ledger_of}
-use Rattle.saga_core.specs.Shown.{record_of, record_of_journey}
-use Rattle.saga_core.proofs.MemoryLemmas.{history-ledger_of}
+use Rattle.std.proofs.Common.{◌≡◌, ap, sym, ◌∙◌}
+use Rattle.std.specs.Prelude.{Some}
+use Rattle.std.proofs.lemmas.Option.{slice_get-get_or}
+use Rattle.saga_core.proofs.StandLemmas.{record_of-past, record_of-kept}
 use Rattle.saga_core.proofs.memory.MemBookBook.journey.Goals as goal
 
--- the journey that was begun, without items
+-- there is no such journey
+pub returns-in-None-clause-journey : goal.returns-in-None-clause-journey
+returns-in-None-clause-journey c _ s here =
+    record_of-past c.args.self.now s here c.args.id c.in-None.ensures.none
+
+-- what is kept of it is copied
 pub returns-in-Ok-clause-journey : goal.returns-in-Ok-clause-journey
 returns-in-Ok-clause-journey c _ s here =
-    let js = c.args.self.now.journeys.items in
-    ap Some c.in-Ok.ensures.«record»
-    ∙ ap (option_map (record_of_journey [])) c.in-Some.ensures.begun
-    ∙ ap (λ h. option_map (record_of_journey h) (journey_at (ledger_of js) c.args.id)) (sym (history-ledger_of js c.args.id))
-    ∙ sym (ap (λ (t : State). record_of t.ledger c.args.id) here.state)
+    let m = c.args.self.now in
+    let at = slice_get-get_or m.journeys.items c.in-Some.place c.index.result.now
+    c.in-Some.ensures.within ∙ ap Some (sym c.index.ensures) in
+    record_of-kept m s here c.args.id c.in-Some.place c.index.result.now at c.in-Some.ensures.number
+    c.in-Ok.«record» c.in-Ok.ensures.agent c.in-Ok.ensures.plan c.in-Ok.ensures.cursor
+    c.in-Ok.ensures.marks

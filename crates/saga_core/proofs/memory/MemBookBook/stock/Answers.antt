@@ -1,7 +1,10 @@
-use Rattle.saga_core.proofs.MemoryLemmas.{IsStock-ledger_of}
+use Rattle.std.proofs.Common.{◌≡◌, subst, sym}
+use Rattle.saga_core.specs.Shown.{IsStock}
+use Rattle.saga_core.proofs.RowLemmas.{IsStock-rows}
 use Rattle.saga_core.proofs.memory.MemBookBook.stock.Goals as goal
 
--- no cell has an allotment yet
-pub returns-clause-stock : goal.returns-clause-stock
-returns-clause-stock c _ s here =
-    rw (c.new.ensures.items, here.state) (IsStock-ledger_of c.args.self.now.journeys.items)
+-- all cells are listed
+pub returns-in-Ok-clause-stock : goal.returns-in-Ok-clause-stock
+returns-in-Ok-clause-stock c _ s here =
+    subst (IsStock s.ledger) (sym c.in-Ok.ensures.rows)
+    (IsStock-rows s.ledger c.args.self.now.stock here.stock c.in-Ok.ensures.ordered)

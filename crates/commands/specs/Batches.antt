@@ -1,0 +1,36 @@
+-- Batches: rows that set the allotments of cells, under a name.
+use Rattle.std.specs.Prelude.{ℕ, ◌&&◌, not, Bool, true, List, [], ◌∷◌, length, nat_le, if◌then◌else◌, Result, Ok, Err}
+use Rattle.std.specs.List.{list_any, list_all}
+use Rattle.allotment.specs.Limits.{is_between, is_good_cell, most_places}
+use Rattle.allotment.specs.Cells.{is_cell}
+use Rattle.allotment.specs.declared.cells.Row.{Row}
+use Rattle.commands.specs.Names.{is_batch_name}
+use Rattle.commands.specs.declared.batches.BadBatch.{BadBatch}
+use Rattle.commands.specs.declared.batches.BadBatch.TheVariants.{Count, Twice}
+use Rattle.commands.specs.Batched.{Batched}
+
+-- no row is of this cell
+abbrev pub is_new_cell : Row → List Row → Bool
+is_new_cell r later = not (list_any (λ (s : Row). is_cell r.cell s.cell) later)
+
+-- the rows name each cell once
+abbrev pub are_distinct : List Row → Bool
+are_distinct [] = true
+are_distinct (r ∷ later) = is_new_cell r later && are_distinct later
+
+-- the row keeps the limits: those of its cell, and at most 100,000 places
+abbrev pub is_good_row : Row → Bool
+is_good_row r = is_good_cell r.cell && nat_le r.places most_places
+
+-- a batch keeps the limits: its name, 1 to 2,000 rows, and each cell once
+abbrev pub is_batch : List ℕ → List Row → Bool
+is_batch name rows =
+    is_batch_name name && is_between 1 2000 (length rows) && list_all is_good_row rows
+    && are_distinct rows
+
+-- the batch of this name and these rows, or the first limit that they pass
+abbrev pub batch_made : List ℕ → List Row → Result Batched BadBatch
+batch_made name rows =
+    if not (is_between 1 2000 (length rows)) then Err Count
+    else if are_distinct rows then Ok (record { name = name; rows = rows })
+    else Err Twice

@@ -1,0 +1,383 @@
+//! Worked rows, each on a new desk: a line, and what is answered.
+use crate::tests::lines::{answer, answers, command_of};
+use crate::{Agent, Ask, Book, Key, MemBook};
+use std::test::Fail;
+
+#[rattlefmt::skip]
+const LOAD_AND_STEP: [(&str, &str); 13] = [
+    ("begin @1/1/1!0",  "journey 1 begun"),
+    ("step 1",          "journey 1 B0r undone 0"),
+    ("step 1",          "refused 10 Finished"),
+    ("load a @1 10",    "loaded a 1"),
+    ("load a @1 10",    "loaded a 1"),
+    ("load a @1 11",    "refused 13 BatchDiffers"),
+    ("begin @1/1/3!0",  "journey 2 begun"),
+    ("step 2",          "journey 2 T1.1 ended 1"),
+    ("stock",           "F/AL/A1/2030-06-01 10 7"),
+    ("load b @1 2",     "refused 12 BelowHeld 1"),
+    ("load b @1 3",     "loaded b 1"),
+    ("free @1",         "0"),
+    ("step 9",          "refused 9 NoJourney"),
+];
+
+#[test]
+fn allotments_are_loaded_and_taken(rt: HostRuntime) -> Result<(), Fail> {
+    answers(&rt, rt.alloc(), &LOAD_AND_STEP)
+}
+
+#[rattlefmt::skip]
+const ONE_STEP: [(&str, &str); 5] = [
+    ("load a @1 10",   "loaded a 1"),
+    ("begin @1/1/1!0", "journey 1 begun"),
+    ("step 1",         "journey 1 T1.1 ended 1"),
+    ("free @1",        "9"),
+    ("abort 1 0",      "refused 10 Finished"),
+];
+
+#[test]
+fn a_journey_of_one_step_ends(rt: HostRuntime) -> Result<(), Fail> {
+    answers(&rt, rt.alloc(), &ONE_STEP)
+}
+
+#[rattlefmt::skip]
+const TWO_ROOMS: [(&str, &str); 11] = [
+    ("load a @1 10, @E 1",        "loaded a 2"),
+    ("begin @1/1/1;@E/1/1!0",     "journey 1 begun"),
+    ("begin @1/1/1;@E/1/1!0",     "journey 2 begun"),
+    ("step 1",                    "journey 1 T1.1 run 1"),
+    ("step 2",                    "journey 2 T1.1 run 1"),
+    ("step 1",                    "journey 1 T2.1 ended 2"),
+    ("step 2",                    "journey 2 B0r back 1 to 0"),
+    ("step 2",                    "journey 2 C1.1 undone 0"),
+    ("items 1",                   "T1.1 T2.1"),
+    ("items 2",                   "T1.1 B0r C1.1"),
+    ("free @1",                   "9"),
+];
+
+#[test]
+fn the_second_journey_finds_no_room(rt: HostRuntime) -> Result<(), Fail> {
+    answers(&rt, rt.alloc(), &TWO_ROOMS)
+}
+
+// a compensation gives back what was taken, and not the places that were free before it
+#[rattlefmt::skip]
+const GIVEN_BACK: [(&str, &str); 10] = [
+    ("load a @1 10",           "loaded a 1"),
+    ("begin @1/1/2;@X/1/1!0",  "journey 1 begun"),
+    ("step 1",                 "journey 1 T1.1 run 1"),
+    ("free @1",                "8"),
+    ("begin @1/1/3!0",         "journey 2 begun"),
+    ("step 2",                 "journey 2 T1.1 ended 1"),
+    ("free @1",                "5"),
+    ("abort 1 0",              "journey 1 B0a back 1 to 0"),
+    ("step 1",                 "journey 1 C1.1 undone 0"),
+    ("free @1",                "7"),
+];
+
+#[test]
+fn a_compensation_gives_its_count_back(rt: HostRuntime) -> Result<(), Fail> {
+    answers(&rt, rt.alloc(), &GIVEN_BACK)
+}
+
+#[rattlefmt::skip]
+const ABORTS: [(&str, &str); 11] = [
+    ("load a @1 10, @X 10",    "loaded a 2"),
+    ("begin @1/1/1;@X/1/1!0",  "journey 1 begun"),
+    ("step 1",                 "journey 1 T1.1 run 1"),
+    ("abort 1 1",              "refused 11 NoSavePoint"),
+    ("abort 1 0",              "journey 1 B0a back 1 to 0"),
+    ("abort 1 0",              "refused 11 NoSavePoint"),
+    ("stop 1",                 "refused 11 NoSavePoint"),
+    ("step 1",                 "journey 1 C1.1 undone 0"),
+    ("step 1",                 "refused 10 Finished"),
+    ("begin @1/1/1;@X/1/1!0",  "journey 2 begun"),
+    ("abort 2 0",              "journey 2 B0a undone 0"),
+];
+
+#[test]
+fn a_journey_is_turned_back_to_its_start(rt: HostRuntime) -> Result<(), Fail> {
+    answers(&rt, rt.alloc(), &ABORTS)
+}
+
+#[rattlefmt::skip]
+const RETRIES: [(&str, &str); 7] = [
+    ("load a @1 1, @A 0, @B 0, @C 1",           "loaded a 4"),
+    ("begin @1/1/1*;@A/1/1|@B/1/1|@C/1/1!2",    "journey 1 begun"),
+    ("step 1",                                  "journey 1 T1.1 run 1"),
+    ("step 1",                                  "journey 1 B1r run 1"),
+    ("step 1",                                  "journey 1 B1r run 1"),
+    ("step 1",                                  "journey 1 T2.3 ended 2"),
+    ("free @C",                                 "0"),
+];
+
+#[test]
+fn the_third_option_is_taken_after_two_refusals(rt: HostRuntime) -> Result<(), Fail> {
+    answers(&rt, rt.alloc(), &RETRIES)
+}
+
+#[rattlefmt::skip]
+const ONE_TRY: [(&str, &str); 7] = [
+    ("load a @1 1, @A 0, @B 0, @C 1",           "loaded a 4"),
+    ("begin @1/1/1*;@A/1/1|@B/1/1|@C/1/1!1",    "journey 1 begun"),
+    ("step 1",                                  "journey 1 T1.1 run 1"),
+    ("step 1",                                  "journey 1 B1r run 1"),
+    ("step 1",                                  "journey 1 B0r back 1 to 0"),
+    ("step 1",                                  "journey 1 C1.1 undone 0"),
+    ("free @1",                                 "1"),
+];
+
+#[test]
+fn a_journey_is_undone_once_its_tries_are_used_up(rt: HostRuntime) -> Result<(), Fail> {
+    answers(&rt, rt.alloc(), &ONE_TRY)
+}
+
+const SIX: &str = "load a @1 10, @2 10, @3 10, @4 10, @5 10, @6 10";
+
+const MARKED: &str = "begin @1/1/1;@2/1/1*;@3/1/1;@4/1/1*;@5/1/1;@6/1/1!0";
+
+#[rattlefmt::skip]
+const SAVE_POINTS: [(&str, &str); 18] = [
+    (SIX,          "loaded a 6"),
+    (MARKED,       "journey 1 begun"),
+    ("step 1",     "journey 1 T1.1 run 1"),
+    ("step 1",     "journey 1 T2.1 run 2"),
+    ("abort 1 1",  "refused 11 NoSavePoint"),
+    ("step 1",     "journey 1 T3.1 run 3"),
+    ("step 1",     "journey 1 T4.1 run 4"),
+    ("step 1",     "journey 1 T5.1 run 5"),
+    ("abort 1 2",  "journey 1 B2a back 5 to 2"),
+    ("step 1",     "journey 1 C5.1 back 4 to 2"),
+    ("stop 1",     "refused 11 NoSavePoint"),
+    ("step 1",     "journey 1 C4.1 back 3 to 2"),
+    ("step 1",     "journey 1 C3.1 run 2"),
+    ("step 1",     "journey 1 T3.1 run 3"),
+    ("step 1",     "journey 1 T4.1 run 4"),
+    ("step 1",     "journey 1 T5.1 run 5"),
+    ("step 1",     "journey 1 T6.1 ended 6"),
+    ("items 1",    "T1.1 T2.1 T3.1 T4.1 T5.1 B2a C5.1 C4.1 C3.1 T3.1 T4.1 T5.1 T6.1"),
+];
+
+#[test]
+fn a_journey_goes_on_from_a_save_point(rt: HostRuntime) -> Result<(), Fail> {
+    answers(&rt, rt.alloc(), &SAVE_POINTS)
+}
+
+#[rattlefmt::skip]
+const LOWER_TARGETS: [(&str, &str); 17] = [
+    (SIX,          "loaded a 6"),
+    (MARKED,       "journey 1 begun"),
+    ("step 1",     "journey 1 T1.1 run 1"),
+    ("step 1",     "journey 1 T2.1 run 2"),
+    ("step 1",     "journey 1 T3.1 run 3"),
+    ("step 1",     "journey 1 T4.1 run 4"),
+    ("step 1",     "journey 1 T5.1 run 5"),
+    ("abort 1 4",  "journey 1 B4a back 5 to 4"),
+    ("abort 1 2",  "journey 1 B2a back 5 to 2"),
+    ("abort 1 4",  "refused 11 NoSavePoint"),
+    ("step 1",     "journey 1 C5.1 back 4 to 2"),
+    ("abort 1 0",  "journey 1 B0a back 4 to 0"),
+    (MARKED,       "journey 2 begun"),
+    ("step 2",     "journey 2 T1.1 run 1"),
+    ("step 2",     "journey 2 T2.1 run 2"),
+    ("abort 2 2",  "journey 2 B2a run 2"),
+    ("step 2",     "journey 2 T3.1 run 3"),
+];
+
+#[test]
+fn a_journey_going_back_is_sent_further_down_alone(rt: HostRuntime) -> Result<(), Fail> {
+    answers(&rt, rt.alloc(), &LOWER_TARGETS)
+}
+
+// two stops, as recovery turns the journey back and goes on
+#[rattlefmt::skip]
+const STOPS: [(&str, &str); 18] = [
+    (SIX,                                                       "loaded a 6"),
+    ("begin @1/1/1*;@2/1/1;@3/1/1*;@4/1/1;@5/1/1;@6/1/1!0",     "journey 1 begun"),
+    ("step 1",                                                  "journey 1 T1.1 run 1"),
+    ("step 1",                                                  "journey 1 T2.1 run 2"),
+    ("stop 1",                                                  "journey 1 B1s back 2 to 1"),
+    ("step 1",                                                  "journey 1 C2.1 run 1"),
+    ("step 1",                                                  "journey 1 T2.1 run 2"),
+    ("step 1",                                                  "journey 1 T3.1 run 3"),
+    ("step 1",                                                  "journey 1 T4.1 run 4"),
+    ("step 1",                                                  "journey 1 T5.1 run 5"),
+    ("stop 1",                                                  "journey 1 B3s back 5 to 3"),
+    ("step 1",                                                  "journey 1 C5.1 back 4 to 3"),
+    ("step 1",                                                  "journey 1 C4.1 run 3"),
+    ("step 1",                                                  "journey 1 T4.1 run 4"),
+    ("step 1",                                                  "journey 1 T5.1 run 5"),
+    ("step 1",                                                  "journey 1 T6.1 ended 6"),
+    ("stop 1",                                                  "refused 10 Finished"),
+    ("items 1", "T1.1 T2.1 B1s C2.1 T2.1 T3.1 T4.1 T5.1 B3s C5.1 C4.1 T4.1 T5.1 T6.1"),
+];
+
+#[test]
+fn a_stop_turns_back_to_the_last_save_point(rt: HostRuntime) -> Result<(), Fail> {
+    answers(&rt, rt.alloc(), &STOPS)
+}
+
+#[rattlefmt::skip]
+const TWO_ROW_BATCHES: [(&str, &str); 9] = [
+    ("load b1 @1 10, @D 4",   "loaded b1 2"),
+    ("load b1 @1 10, @D 4",   "loaded b1 2"),
+    ("load b1 @1 11, @D 4",   "refused 13 BatchDiffers"),
+    ("load b1 @D 4, @1 10",   "refused 13 BatchDiffers"),
+    ("begin @D/1/2!0",        "journey 1 begun"),
+    ("step 1",                "journey 1 T1.1 ended 1"),
+    ("load b2 @1 12, @D 1",   "refused 12 BelowHeld 2"),
+    ("stock", "F/AL/A1/2030-06-01 10 10, R/INN/DBL/2030-06-01 4 2"),
+    ("load b2 @1 12, @D 2",   "loaded b2 2"),
+];
+
+#[test]
+fn a_batch_is_loaded_whole_or_not(rt: HostRuntime) -> Result<(), Fail> {
+    answers(&rt, rt.alloc(), &TWO_ROW_BATCHES)
+}
+
+// journey 2 gives the room back before journey 1 takes it
+#[rattlefmt::skip]
+const RECOVERED: [(&str, &str); 11] = [
+    ("load a @1 5, @Y 5, @Z 1",   "loaded a 3"),
+    ("begin @1/1/1*;@Z/1/1!0",    "journey 1 begun"),
+    ("begin @Z/1/1;@Y/1/1!0",     "journey 2 begun"),
+    ("step 1",                    "journey 1 T1.1 run 1"),
+    ("step 2",                    "journey 2 T1.1 run 1"),
+    ("stop 1",                    "journey 1 B1s run 1"),
+    ("stop 2",                    "journey 2 B0s back 1 to 0"),
+    ("step 2",                    "journey 2 C1.1 undone 0"),
+    ("step 1",                    "journey 1 T2.1 ended 2"),
+    ("items 1",                   "T1.1 B1s T2.1"),
+    ("items 2",                   "T1.1 B0s C1.1"),
+];
+
+#[test]
+fn two_journeys_want_one_room(rt: HostRuntime) -> Result<(), Fail> {
+    answers(&rt, rt.alloc(), &RECOVERED)
+}
+
+const THREE: &str = "begin @1/1/1;@X/1/1;@D/1/1!0";
+
+#[rattlefmt::skip]
+const SAVES: [(&str, &str); 13] = [
+    ("load a @1 10, @X 10, @D 10",  "loaded a 3"),
+    (THREE,                         "journey 1 begun"),
+    ("save 1",                      "refused 28 NoSave"),
+    ("step 1",                      "journey 1 T1.1 run 1"),
+    ("save 1",                      "journey 1 S1 run 1"),
+    ("save 1",                      "refused 28 NoSave"),
+    ("step 1",                      "journey 1 T2.1 run 2"),
+    ("stop 1",                      "journey 1 B1s back 2 to 1"),
+    ("step 1",                      "journey 1 C2.1 run 1"),
+    ("step 1",                      "journey 1 T2.1 run 2"),
+    ("step 1",                      "journey 1 T3.1 ended 3"),
+    ("items 1",                     "T1.1 S1 T2.1 B1s C2.1 T2.1 T3.1"),
+    ("save 1",                      "refused 10 Finished"),
+];
+
+#[test]
+fn a_save_point_is_taken_once(rt: HostRuntime) -> Result<(), Fail> {
+    answers(&rt, rt.alloc(), &SAVES)
+}
+
+// a save-point falls with the compensation of its step
+#[rattlefmt::skip]
+const SAVES_FALL: [(&str, &str); 13] = [
+    ("load a @1 10, @X 10, @D 10",  "loaded a 3"),
+    (THREE,                         "journey 1 begun"),
+    ("step 1",                      "journey 1 T1.1 run 1"),
+    ("save 1",                      "journey 1 S1 run 1"),
+    ("step 1",                      "journey 1 T2.1 run 2"),
+    ("save 1",                      "journey 1 S2 run 2"),
+    ("abort 1 1",                   "journey 1 B1a back 2 to 1"),
+    ("save 1",                      "refused 28 NoSave"),
+    ("step 1",                      "journey 1 C2.1 run 1"),
+    ("step 1",                      "journey 1 T2.1 run 2"),
+    ("abort 1 2",                   "refused 11 NoSavePoint"),
+    ("save 1",                      "journey 1 S2 run 2"),
+    ("abort 1 2",                   "journey 1 B2a run 2"),
+];
+
+#[test]
+fn a_save_point_falls_with_its_step(rt: HostRuntime) -> Result<(), Fail> {
+    answers(&rt, rt.alloc(), &SAVES_FALL)
+}
+
+// kind, supplier, product in byte order, night
+#[rattlefmt::skip]
+const IN_ORDER: [(&str, &str); 2] = [
+    ("load a C/CO/P/2030-06-01 1, R/INN/A10/2030-06-01 2, R/INN/A/2030-06-02 3, R/INN/A/2030-06-01 4, \
+        R/B/Z/2030-06-01 5, F/Z/Z/2030-06-01 6, T/A/A/2030-06-01 7, R/INN/9/2030-06-01 8", "loaded a 8"),
+    ("stock", "F/Z/Z/2030-06-01 6 6, R/B/Z/2030-06-01 5 5, R/INN/9/2030-06-01 8 8, R/INN/A/2030-06-01 4 4, \
+        R/INN/A/2030-06-02 3 3, R/INN/A10/2030-06-01 2 2, T/A/A/2030-06-01 7 7, C/CO/P/2030-06-01 1 1"),
+];
+
+#[test]
+fn cells_are_shown_in_their_order(rt: HostRuntime) -> Result<(), Fail> {
+    answers(&rt, rt.alloc(), &IN_ORDER)
+}
+
+#[test]
+fn a_room_without_its_last_night_is_not_taken(rt: HostRuntime) -> Result<(), Fail> {
+    let alloc = rt.alloc();
+    let mut load = String::from_str(alloc, "load a ")?;
+    for night in 1..31u8 {
+        if night > 1 {
+            load.push_str(", ")?;
+        }
+        let places = if night < 30 { 1u8 } else { 0 };
+        write!(load, "R/INN/DBL/2030-06-{night:02} {places}")?;
+    }
+    let rows = [
+        (load.as_str(), "loaded a 30"),
+        ("begin @D/30/1!0", "journey 1 begun"),
+        ("step 1", "journey 1 B0r undone 0"),
+        ("free R/INN/DBL/2030-06-01", "1"),
+        ("free R/INN/DBL/2030-06-29", "1"),
+        ("free R/INN/DBL/2030-06-30", "0"),
+    ];
+    let mut book = MemBook::new(alloc);
+    for (line, expected) in rows {
+        let answered = answer(alloc, &mut book, line)?;
+        assert_eq!(rt; answered.as_str(), expected, "{line}");
+    }
+    Ok(())
+}
+
+// who asks, under which key, what is asked, and what is answered
+#[rattlefmt::skip]
+const AGENTS: [(&str, &str, &str, &str); 9] = [
+    ("ann", "k1", "begin @1/1/1!0", "journey 1 begun"),
+    ("bob", "k1", "step 1",         "refused 9 NoJourney"),
+    ("bob", "k1", "abort 1 0",      "refused 9 NoJourney"),
+    ("ann", "k2", "step 1",         "journey 1 T1.1 ended 1"),
+    ("ann", "k2", "step 1",         "journey 1 T1.1 ended 1"),
+    ("ann", "k2", "abort 1 0",      "refused 14 KeyReused"),
+    ("ann", "k3", "abort 1 0",      "refused 10 Finished"),
+    ("ann", "k3", "begin @1/1/2!0", "journey 2 begun"),
+    ("bob", "k1", "begin @1/1/3!0", "journey 3 begun"),
+];
+
+#[test]
+fn agents_move_their_own_journeys(rt: HostRuntime) -> Result<(), Fail> {
+    let alloc = rt.alloc();
+    let mut book = MemBook::new(alloc);
+    assert_eq!(rt;
+        answer(alloc, &mut book, "load a @1 10")?.as_str(),
+        "loaded a 1"
+    );
+    for (agent, key, line, expected) in AGENTS {
+        let agent = Agent::parse(agent).ok_or("no agent")?;
+        let key = Key::parse(key).ok_or("no key")?;
+        let ask = Ask::new(agent, key, Vec::from_slice(alloc, line.as_bytes())?);
+        let command = command_of(alloc, line)?;
+        let reply = book.act(&command, Some(&ask))?;
+        assert_eq!(rt; reply.line(alloc)?.as_str(), expected, "{line}");
+    }
+    assert_eq!(rt; answer(alloc, &mut book, "items 1")?.as_str(), "T1.1");
+    assert_eq!(rt;
+        answer(alloc, &mut book, "step 3")?.as_str(),
+        "journey 3 T1.1 ended 1"
+    );
+    assert_eq!(rt; answer(alloc, &mut book, "free @1")?.as_str(), "6");
+    Ok(())
+}

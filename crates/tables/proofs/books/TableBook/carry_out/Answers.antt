@@ -1,0 +1,17 @@
+use Rattle.std.proofs.Common.{◌≡◌}
+use Rattle.std.specs.Option.{option_copied}
+use Rattle.commands.specs.Orders.{request_of}
+use Rattle.standing.proofs.Accepting.{outcome_keeps}
+use Rattle.tables.proofs.books.TableBook.carry_out.Goals as goal
+
+-- the reply is the one that the command comes to
+pub returns-in-Ok-clause-reply : goal.returns-in-Ok-clause-reply
+returns-in-Ok-clause-reply g c clean s here = c.in-Ok.ensures.reply clean s here.desk here.keeps
+
+-- the book works on, and its connection keeps what the command comes to
+pub returns-in-Ok-clause-after : goal.returns-in-Ok-clause-after
+returns-in-Ok-clause-after g c clean s here = record {
+  working = here.working;
+  desk = outcome_keeps s (option_copied c.args.ask) (request_of c.args.command.now) here.desk c.know_limits.ensures.limits;
+  keeps = c.in-Ok.ensures.after s here.desk here.keeps;
+}

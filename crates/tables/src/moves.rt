@@ -1,0 +1,257 @@
+//! What is answered to a move of a journey, where nothing is kept for who asks.
+//!
+//! All reads come first: the numbers of `meta`, the journey by its rows, and of a step what its want or its last option
+//! tell. Then the item that the rules name is written in one commit, with the reply where one is kept.
+ghost use Rattle.std.specs.Prelude.{◌≡◌, ◌<◌, ◌^◌, false, Ok, IfOk, IfSome};
+ghost use Rattle.std.specs.Option.{option_copied as asked_by};
+ghost use Rattle.ledger.specs.Answer.{asker};
+ghost use Rattle.ledger.specs.Replies.{sees};
+ghost use Rattle.writing.specs.Kinds.{IsSmall};
+ghost use Rattle.tables.specs.Answering.{AnswersNew, KeepsNew, LeavesNew, KeepsAtMemory, IsCounted};
+ghost use Rattle.tables.specs.Moving.{AnswersDue, KeepsDue, LeavesDue, IsEventOf, IsNext, asked_for};
+ghost use Rattle.tables.specs.Placing.{IsPlaced, MayBeMade, Sees, begun_as};
+ghost use Rattle.tables.specs.Reading.{KeepsOn, LeavesAsBefore, ShowsKept, WasClean};
+
+use crate::committing::commit_answered;
+use crate::counts::{MOST_EVENTS, read_counts};
+use crate::next::{cursor_after, is_placed, may_be_made, saved, turned};
+use crate::reading::{LARGEST, read_journey};
+use crate::stepping::next_step;
+use commands::{Ask, Cause, Cursor, Fault, Item, Refusal, Reply};
+use desk_sql::Meta;
+use plan::Plan;
+use saga_core::Record;
+use savepoints::Turn;
+use sqlite::{Alter, Connection};
+use std::alloc::Global;
+use writing::{Event, Numbers, SaveMade, StepMade, TurnMade};
+
+/// Whether who asks sees a journey: his own alone, and the house sees each.
+fn is_seen_by(journey: &Record, ask: Option<&Ask>) -> bool
+    ensures seen { result ≡ sees (asker (asked_by ask.entry)) (begun_as journey.now) }
+{
+    match ask {
+        None => true,
+        Some(ask) => ask.agent() == journey.agent,
+    }
+}
+
+/// The journey of that number, if who asks sees it. One that cannot be where its rows say is a fault of the store.
+fn find_seen<S: Alter>(
+    alloc: Global,
+    conn: &mut Connection<S>,
+    id: u64,
+    ask: Option<&Ask>,
+) -> Result<Option<Record>, Fault>
+    requires outside { conn.old.in_transaction ≡ false }
+
+    ensures outside { conn.new.in_transaction ≡ false }
+    ensures seen { ShowsKept S.Store conn.old conn.new result (Sees (asker (asked_by ask.entry)) id) }
+    ensures placed { IfOk result (λ found. IfSome found (λ r. IsPlaced r.plan r.cursor)) }
+    ensures small { IfOk result (λ found. IfSome found (λ r. id < 2 ^ 63)) }
+    ensures same { KeepsOn S.Store conn.old conn.new }
+    ensures stop { LeavesAsBefore S.Store conn.old conn.new }
+    ensures less { WasClean S.Store conn.old conn.new }
+{
+    match read_journey(alloc, conn, id) {
+        Ok(None) => Ok(None),
+        Ok(Some(journey)) => {
+            if !is_seen_by(&journey, ask) {
+                return Ok(None);
+            }
+            if id <= LARGEST && is_placed(&journey.plan, journey.cursor) {
+                Ok(Some(journey))
+            } else {
+                Err(Fault::Store)
+            }
+        }
+        Err(fault) => Err(fault),
+    }
+}
+
+/// The event of a journey with this plan that makes an item and is here then.
+fn event_of<'x>(id: u64, plan: &Plan, at: Cursor, item: Item) -> Event<'x>
+    requires id { id < 2 ^ 63 }
+    requires placed { IsPlaced plan.now at }
+    requires next { MayBeMade plan.now at item }
+
+    ensures event { IsEventOf id plan.now at item result }
+    ensures small { IsSmall result }
+{
+    let _steps = plan.steps();
+    let cursor = cursor_after(plan, at, item);
+    match item {
+        Item::Transaction { step, option } => Event::Transaction(StepMade {
+            journey: id,
+            step,
+            option,
+            want: plan.want(step, option),
+            cursor,
+        }),
+        Item::Compensation { step, option } => Event::Compensation(StepMade {
+            journey: id,
+            step,
+            option,
+            want: plan.want(step, option),
+            cursor,
+        }),
+        Item::Turn { target, cause } => Event::Turn(TurnMade {
+            journey: id,
+            target,
+            cause,
+            cursor,
+        }),
+        Item::Save { position } => Event::Save(SaveMade {
+            journey: id,
+            position,
+        }),
+    }
+}
+
+/// Makes an item of a journey, unless the ledger is full. An item that does not come next there is a fault of the
+/// store.
+fn make<S: Alter>(
+    alloc: Global,
+    conn: &mut Connection<S>,
+    counts: Meta,
+    id: u64,
+    journey: &Record,
+    item: Item,
+    ask: Option<&Ask>,
+) -> Result<Reply, Fault>
+    requires outside { conn.old.in_transaction ≡ false }
+    requires counted { IsCounted counts }
+    requires id { id < 2 ^ 63 }
+    requires placed { IsPlaced journey.now.plan journey.now.cursor }
+
+    ensures outside { conn.new.in_transaction ≡ false }
+    ensures reply { AnswersDue S.Store conn.old conn.new (asked_by ask.entry) counts id journey.now
+        (Ok item) result }
+    ensures after { KeepsDue S.Store conn.old conn.new (asked_by ask.entry) counts id journey.now
+        (Ok item) result }
+    ensures memory { KeepsAtMemory S.Store conn.old conn.new result }
+    ensures left { LeavesDue S.Store conn.old conn.new (asked_by ask.entry) counts id journey.now
+        (Ok item) }
+    ensures sound { WasClean S.Store conn.old conn.new }
+{
+    if counts.events >= MOST_EVENTS {
+        return Ok(Reply::Refused(Refusal::Limit));
+    }
+    if !may_be_made(&journey.plan, journey.cursor, item) {
+        return Err(Fault::Store);
+    }
+    let cursor = cursor_after(&journey.plan, journey.cursor, item);
+    let reply = Reply::Moved {
+        id,
+        item,
+        pos: cursor.pos,
+        phase: cursor.phase,
+    };
+    let numbers = Numbers {
+        num: counts.events + 1,
+        journeys: counts.journeys,
+    };
+    let event = event_of(id, &journey.plan, journey.cursor, item);
+    commit_answered(alloc, conn, numbers, &event, &reply, ask)?;
+    Ok(reply)
+}
+
+/// Answers why there is no item, or makes the item.
+fn carry_out<S: Alter>(
+    alloc: Global,
+    conn: &mut Connection<S>,
+    counts: Meta,
+    id: u64,
+    journey: &Record,
+    next: Result<Item, Refusal>,
+    ask: Option<&Ask>,
+) -> Result<Reply, Fault>
+    requires outside { conn.old.in_transaction ≡ false }
+    requires counted { IsCounted counts }
+    requires id { id < 2 ^ 63 }
+    requires placed { IsPlaced journey.now.plan journey.now.cursor }
+
+    ensures outside { conn.new.in_transaction ≡ false }
+    ensures reply { AnswersDue S.Store conn.old conn.new (asked_by ask.entry) counts id journey.now
+        next result }
+    ensures after { KeepsDue S.Store conn.old conn.new (asked_by ask.entry) counts id journey.now
+        next result }
+    ensures memory { KeepsAtMemory S.Store conn.old conn.new result }
+    ensures left { LeavesDue S.Store conn.old conn.new (asked_by ask.entry) counts id journey.now
+        next }
+    ensures sound { WasClean S.Store conn.old conn.new }
+{
+    match next {
+        Err(refusal) => Ok(Reply::Refused(refusal)),
+        Ok(item) => make(alloc, conn, counts, id, journey, item, ask),
+    }
+}
+
+/// What is asked of a journey.
+#[derive(Clone, Copy)]
+pub(crate) enum Motion {
+    /// Its next step, or its next compensation.
+    Step,
+    /// A turn back to a position.
+    Abort(usize),
+    /// A turn back to its last save-point.
+    Stop,
+    /// A save-point where it is.
+    Save,
+}
+
+/// What a move of a journey comes to.
+fn next_of<S: Alter>(
+    alloc: Global,
+    conn: &mut Connection<S>,
+    id: u64,
+    journey: &Record,
+    why: Motion,
+) -> Result<Result<Item, Refusal>, Fault>
+    requires outside { conn.old.in_transaction ≡ false }
+    requires id { id < 2 ^ 63 }
+    requires placed { IsPlaced journey.now.plan journey.now.cursor }
+
+    ensures outside { conn.new.in_transaction ≡ false }
+    ensures next { ShowsKept S.Store conn.old conn.new result (IsNext id journey.now why) }
+    ensures same { KeepsOn S.Store conn.old conn.new }
+    ensures stop { LeavesAsBefore S.Store conn.old conn.new }
+    ensures less { WasClean S.Store conn.old conn.new }
+{
+    match why {
+        Motion::Step => next_step(alloc, conn, id, journey),
+        Motion::Abort(position) => Ok(turned(journey, Turn::Asked(position), Cause::Asked)),
+        Motion::Stop => Ok(turned(journey, Turn::Stop, Cause::Stop)),
+        Motion::Save => Ok(saved(journey)),
+    }
+}
+
+/// What is answered to a move of a journey, where nothing is kept for who asks.
+pub(crate) fn answer_move<S: Alter>(
+    alloc: Global,
+    conn: &mut Connection<S>,
+    id: u64,
+    why: Motion,
+    ask: Option<&Ask>,
+) -> Result<Reply, Fault>
+    requires outside { conn.old.in_transaction ≡ false }
+
+    ensures outside { conn.new.in_transaction ≡ false }
+    ensures reply { AnswersNew S.Store conn.old conn.new (asked_by ask.entry) (asked_for id why)
+        result }
+    ensures after { KeepsNew S.Store conn.old conn.new (asked_by ask.entry) (asked_for id why)
+        result }
+    ensures memory { KeepsAtMemory S.Store conn.old conn.new result }
+    ensures left { LeavesNew S.Store conn.old conn.new (asked_by ask.entry) (asked_for id why) }
+    ensures sound { WasClean S.Store conn.old conn.new }
+{
+    let counts = read_counts(conn)?;
+    match find_seen(alloc, conn, id, ask) {
+        Ok(None) => Ok(Reply::Refused(Refusal::NoJourney)),
+        Ok(Some(journey)) => {
+            let next = next_of(alloc, conn, id, &journey, why)?;
+            carry_out(alloc, conn, counts, id, &journey, next, ask)
+        }
+        Err(fault) => Err(fault),
+    }
+}

@@ -1,0 +1,4 @@
+pub mod Chaining
+pub mod CommitLemmas
+pub mod LoadLemmas
+pub mod Batches

@@ -1,0 +1,243 @@
+// Each kind of event once, over a store in memory. The rows are those that the formats tell of each event.
+use super::*;
+use allotment::{Cell, Code, Held, Kind, Night, Want};
+use commands::{Cause, Cursor, Phase};
+use desk_sql::{
+    CellPlaces, Cursor as CursorRow, ItemFound, Meta, StepOption, find_answer, find_batch,
+    find_items, find_journey, find_marks, find_steps, find_stock, insert_journey, insert_mark,
+    insert_step, make_tables, mark_step, put_cell, read_meta,
+};
+use sqlite::{Alter, Connection, Error, Transaction};
+use std::alloc::Global;
+use std::test::Fail;
+
+// the option of the first step: two rooms for two nights from 2030-06-02 on
+const OPTION: StepOption<'static> = StepOption {
+    journey: 1,
+    place: 1,
+    opt: 1,
+    save: 0,
+    kind: 1,
+    supplier: "HT",
+    product: "H9",
+    night: 22067,
+    nights: 2,
+    places: 2,
+};
+
+// the third event, with one journey
+const THIRD: Numbers = Numbers {
+    num: 3,
+    journeys: 1,
+};
+
+const COUNTED: Meta = Meta {
+    version: 2,
+    events: 3,
+    journeys: 1,
+};
+
+// one of the nights, with five places
+fn night(night: u64, free: u64) -> CellPlaces<'static> {
+    CellPlaces {
+        kind: 1,
+        supplier: "HT",
+        product: "H9",
+        night,
+        allot: 5,
+        free,
+    }
+}
+
+// after two events: a journey, and two nights
+fn begin<S: Alter>(tx: &mut Transaction<'_, S>) -> Result<(), Error> {
+    make_tables(tx)?;
+    insert_journey(tx, 1, 2, "ann", 2, 0)?;
+    insert_step(tx, OPTION)?;
+    Ok(())
+}
+
+// where the journey is, and the items that it made
+fn told<S: Alter>(
+    alloc: Global,
+    conn: &mut Connection<S>,
+    cursor: CursorRow,
+    item: ItemFound,
+) -> Result<bool, Error> {
+    let journey = find_journey(conn, 1)?;
+    let items = find_items(alloc, conn, 1)?;
+    let meta = read_meta(conn)?;
+    Ok(
+        meta == COUNTED
+            && items.as_slice() == [item].as_slice()
+            && journey.is_some_and(|j| j.cursor == cursor),
+    )
+}
+
+#[test]
+fn a_step_is_done_and_compensated(rt: HostRuntime) -> Result<(), Fail> {
+    let alloc = rt.alloc();
+    let want = Want::new(Kind::Room, "HT", "H9", "2030-06-02", 2, 2)?;
+    for (is_done, before, after, pos, phase) in [
+        (true, 5, 3, 1, Phase::Run),
+        (false, 3, 5, 0, Phase::Undone),
+    ] {
+        let mut conn = Connection::open_in_memory(alloc)?;
+        let mut tx = conn.transaction();
+        begin(&mut tx)?;
+        put_cell(&mut tx, night(22067, before))?;
+        put_cell(&mut tx, night(22068, before))?;
+        let made = StepMade {
+            journey: 1,
+            step: 1,
+            option: 1,
+            want,
+            cursor: Cursor {
+                pos,
+                phase,
+                used: 0,
+            },
+        };
+        if is_done {
+            write_transaction(&mut tx, THIRD, made)?;
+        } else {
+            mark_step(&mut tx, 1, 1, 1, 1)?;
+            insert_mark(&mut tx, 1, 1)?;
+            write_compensation(&mut tx, THIRD, made)?;
+        }
+        tx.commit()?;
+        let row = CursorRow {
+            pos: pos as u64,
+            phase: if is_done { 0 } else { 3 },
+            target: 0,
+            used: 0,
+        };
+        let item = ItemFound {
+            num: 3,
+            item: if is_done { 0 } else { 1 },
+            a: 1,
+            b: 1,
+        };
+        assert!(rt; told(alloc, &mut conn, row, item)?);
+        assert!(rt;
+            find_stock(alloc, &mut conn)?
+                .iter()
+                .all(|cell| cell.free == after)
+        );
+        let taken = u64::from(is_done);
+        assert!(rt;
+            find_steps(alloc, &mut conn, 1)?
+                .iter()
+                .all(|step| step.taken == taken)
+        );
+        assert!(rt; find_marks(alloc, &mut conn, 1)?.is_empty());
+    }
+    Ok(())
+}
+
+#[test]
+fn a_journey_turns_back(rt: HostRuntime) -> Result<(), Fail> {
+    let alloc = rt.alloc();
+    let mut conn = Connection::open_in_memory(alloc)?;
+    let mut tx = conn.transaction();
+    begin(&mut tx)?;
+    let cursor = Cursor {
+        pos: 2,
+        phase: Phase::Back(1),
+        used: 1,
+    };
+    let made = TurnMade {
+        journey: 1,
+        target: 1,
+        cause: Cause::Refused,
+        cursor,
+    };
+    write_turn(&mut tx, THIRD, made)?;
+    tx.commit()?;
+    let row = CursorRow {
+        pos: 2,
+        phase: 1,
+        target: 1,
+        used: 1,
+    };
+    let item = ItemFound {
+        num: 3,
+        item: 2,
+        a: 1,
+        b: 1,
+    };
+    assert!(rt; told(alloc, &mut conn, row, item)?);
+    Ok(())
+}
+
+#[test]
+fn a_save_point_is_taken(rt: HostRuntime) -> Result<(), Fail> {
+    let alloc = rt.alloc();
+    let mut conn = Connection::open_in_memory(alloc)?;
+    let mut tx = conn.transaction();
+    begin(&mut tx)?;
+    let made = SaveMade {
+        journey: 1,
+        position: 1,
+    };
+    write_save(&mut tx, THIRD, made)?;
+    tx.commit()?;
+    let row = CursorRow {
+        pos: 0,
+        phase: 0,
+        target: 0,
+        used: 0,
+    };
+    let item = ItemFound {
+        num: 3,
+        item: 3,
+        a: 1,
+        b: 0,
+    };
+    assert!(rt; told(alloc, &mut conn, row, item)?);
+    let marks = find_marks(alloc, &mut conn, 1)?;
+    assert!(rt; marks.as_slice() == [1].as_slice());
+    Ok(())
+}
+
+#[test]
+fn a_batch_is_loaded_with_its_reply(rt: HostRuntime) -> Result<(), Fail> {
+    let alloc = rt.alloc();
+    let mut conn = Connection::open_in_memory(alloc)?;
+    let mut tx = conn.transaction();
+    begin(&mut tx)?;
+    put_cell(&mut tx, night(22067, 3))?;
+    tx.commit()?;
+    let supplier = Code::parse("HT").ok_or("a supplier")?;
+    let product = Code::parse("H9").ok_or("a product")?;
+    let first = Cell::new(Kind::Room, supplier, product, Night::parse("2030-06-02")?);
+    let second = Cell::new(Kind::Room, supplier, product, Night::parse("2030-06-03")?);
+    let cells = [
+        (first, Held { allot: 6, free: 4 }),
+        (second, Held { allot: 9, free: 9 }),
+    ];
+    let batch = BatchLoaded {
+        name: "june",
+        content: "R/HT/H9/2030-06-02/6\nR/HT/H9/2030-06-03/9\n",
+        cells: &cells,
+    };
+    let keeping = Keeping {
+        agent: "ann",
+        key: "k1",
+        text: b"load june",
+        line: "loaded june 2",
+    };
+    assert!(rt; commit_event(&mut conn, THIRD, &Event::Load(batch), Some(keeping)).is_ok());
+    assert!(rt; read_meta(&mut conn)? == COUNTED);
+    let stock = find_stock(alloc, &mut conn)?;
+    assert_eq!(rt; stock.len(), 2);
+    assert_eq!(rt; (stock[0].allot, stock[0].free), (6, 4));
+    assert_eq!(rt; (stock[1].allot, stock[1].free), (9, 9));
+    let found = find_batch(&mut conn, "june")?;
+    assert!(rt;
+        found.is_some_and(|b| b.num == 3 && b.content.as_slice() == batch.content.as_bytes())
+    );
+    let kept = find_answer(&mut conn, "ann", "k1")?;
+    assert!(rt; kept.is_some_and(|k| k.reply.as_str() == "loaded june 2"));
+    Ok(())
+}
