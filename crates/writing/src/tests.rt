@@ -1,4 +1,7 @@
 // Each kind of event once, over a store in memory. The rows are those that the formats tell of each event.
+ghost use Rattle.std.specs.Prelude.{◌≡◌, ◌<◌, ◌^◌, false, OnOk};
+ghost use Rattle.desk_sql.specs.Stock.{IsSmallCell};
+
 use super::*;
 use allotment::{Cell, Code, Held, Kind, Night, Want};
 use commands::{Cause, Cursor, Phase};
@@ -7,7 +10,7 @@ use desk_sql::{
     find_items, find_journey, find_marks, find_steps, find_stock, insert_journey, insert_mark,
     insert_step, make_tables, mark_step, put_cell, read_meta,
 };
-use sqlite::{Alter, Connection, Error, Transaction};
+use sqlite::{Alter, Connection, Error};
 use std::alloc::Global;
 use std::test::Fail;
 
@@ -38,7 +41,12 @@ const COUNTED: Meta = Meta {
 };
 
 // one of the nights, with five places
-fn night(night: u64, free: u64) -> CellPlaces<'static> {
+fn night(night: u64, free: u64) -> CellPlaces<'static>
+    requires night { night < 2 ^ 63 }
+    requires free { free < 2 ^ 63 }
+
+    ensures small { IsSmallCell result }
+{
     CellPlaces {
         kind: 1,
         supplier: "HT",
@@ -49,12 +57,20 @@ fn night(night: u64, free: u64) -> CellPlaces<'static> {
     }
 }
 
-// after two events: a journey, and two nights
-fn begin<S: Alter>(tx: &mut Transaction<'_, S>) -> Result<(), Error> {
-    make_tables(tx)?;
-    insert_journey(tx, 1, 2, "ann", 2, 0)?;
-    insert_step(tx, OPTION)?;
-    Ok(())
+// after two events: a journey, and two nights of which so many places are free
+fn begin<S: Alter>(conn: &mut Connection<S>, free: u64) -> Result<(), Error>
+    requires outside { conn.old.in_transaction ≡ false }
+    requires free { free < 2 ^ 63 }
+
+    ensures outside { OnOk result (conn.new.in_transaction ≡ false) }
+{
+    let mut tx = conn.transaction();
+    make_tables(&mut tx)?;
+    insert_journey(&mut tx, 1, 2, "ann", 2, 0)?;
+    insert_step(&mut tx, OPTION)?;
+    put_cell(&mut tx, night(22067, free))?;
+    put_cell(&mut tx, night(22068, free))?;
+    tx.commit()
 }
 
 // where the journey is, and the items that it made
@@ -74,64 +90,96 @@ fn told<S: Alter>(
     )
 }
 
+// whether both nights have so many free places, and the option is marked so
+fn held<S: Alter>(
+    alloc: Global,
+    conn: &mut Connection<S>,
+    free: u64,
+    taken: u64,
+) -> Result<bool, Error> {
+    let stock = find_stock(alloc, conn)?;
+    let steps = find_steps(alloc, conn, 1)?;
+    Ok(
+        stock.len() == 2
+            && steps.len() == 1
+            && stock.iter().all(|cell| cell.free == free)
+            && steps.iter().all(|step| step.taken == taken),
+    )
+}
+
 #[test]
-fn a_step_is_done_and_compensated(rt: HostRuntime) -> Result<(), Fail> {
+fn a_step_is_done(rt: HostRuntime) -> Result<(), Fail> {
     let alloc = rt.alloc();
-    let want = Want::new(Kind::Room, "HT", "H9", "2030-06-02", 2, 2)?;
-    for (is_done, before, after, pos, phase) in [
-        (true, 5, 3, 1, Phase::Run),
-        (false, 3, 5, 0, Phase::Undone),
-    ] {
-        let mut conn = Connection::open_in_memory(alloc)?;
-        let mut tx = conn.transaction();
-        begin(&mut tx)?;
-        put_cell(&mut tx, night(22067, before))?;
-        put_cell(&mut tx, night(22068, before))?;
-        let made = StepMade {
-            journey: 1,
-            step: 1,
-            option: 1,
-            want,
-            cursor: Cursor {
-                pos,
-                phase,
-                used: 0,
-            },
-        };
-        if is_done {
-            write_transaction(&mut tx, THIRD, made)?;
-        } else {
-            mark_step(&mut tx, 1, 1, 1, 1)?;
-            insert_mark(&mut tx, 1, 1)?;
-            write_compensation(&mut tx, THIRD, made)?;
-        }
-        tx.commit()?;
-        let row = CursorRow {
-            pos: pos as u64,
-            phase: if is_done { 0 } else { 3 },
-            target: 0,
+    let mut conn = Connection::open_in_memory(alloc)?;
+    begin(&mut conn, 5)?;
+    let made = StepMade {
+        journey: 1,
+        step: 1,
+        option: 1,
+        want: Want::new(Kind::Room, "HT", "H9", "2030-06-02", 2, 2)?,
+        cursor: Cursor {
+            pos: 1,
+            phase: Phase::Run,
             used: 0,
-        };
-        let item = ItemFound {
-            num: 3,
-            item: if is_done { 0 } else { 1 },
-            a: 1,
-            b: 1,
-        };
-        assert!(rt; told(alloc, &mut conn, row, item)?);
-        assert!(rt;
-            find_stock(alloc, &mut conn)?
-                .iter()
-                .all(|cell| cell.free == after)
-        );
-        let taken = u64::from(is_done);
-        assert!(rt;
-            find_steps(alloc, &mut conn, 1)?
-                .iter()
-                .all(|step| step.taken == taken)
-        );
-        assert!(rt; find_marks(alloc, &mut conn, 1)?.is_empty());
-    }
+        },
+    };
+    let mut tx = conn.transaction();
+    write_transaction(&mut tx, THIRD, made)?;
+    tx.commit()?;
+    let row = CursorRow {
+        pos: 1,
+        phase: 0,
+        target: 0,
+        used: 0,
+    };
+    let item = ItemFound {
+        num: 3,
+        item: 0,
+        a: 1,
+        b: 1,
+    };
+    assert!(rt; told(alloc, &mut conn, row, item)?);
+    assert!(rt; held(alloc, &mut conn, 3, 1)?);
+    Ok(())
+}
+
+// its save-point is gone with it
+#[test]
+fn a_step_is_compensated(rt: HostRuntime) -> Result<(), Fail> {
+    let alloc = rt.alloc();
+    let mut conn = Connection::open_in_memory(alloc)?;
+    begin(&mut conn, 3)?;
+    let made = StepMade {
+        journey: 1,
+        step: 1,
+        option: 1,
+        want: Want::new(Kind::Room, "HT", "H9", "2030-06-02", 2, 2)?,
+        cursor: Cursor {
+            pos: 0,
+            phase: Phase::Undone,
+            used: 0,
+        },
+    };
+    let mut tx = conn.transaction();
+    mark_step(&mut tx, 1, 1, 1, 1)?;
+    insert_mark(&mut tx, 1, 1)?;
+    write_compensation(&mut tx, THIRD, made)?;
+    tx.commit()?;
+    let row = CursorRow {
+        pos: 0,
+        phase: 3,
+        target: 0,
+        used: 0,
+    };
+    let item = ItemFound {
+        num: 3,
+        item: 1,
+        a: 1,
+        b: 1,
+    };
+    assert!(rt; told(alloc, &mut conn, row, item)?);
+    assert!(rt; held(alloc, &mut conn, 5, 0)?);
+    assert!(rt; find_marks(alloc, &mut conn, 1)?.is_empty());
     Ok(())
 }
 
@@ -139,19 +187,18 @@ fn a_step_is_done_and_compensated(rt: HostRuntime) -> Result<(), Fail> {
 fn a_journey_turns_back(rt: HostRuntime) -> Result<(), Fail> {
     let alloc = rt.alloc();
     let mut conn = Connection::open_in_memory(alloc)?;
-    let mut tx = conn.transaction();
-    begin(&mut tx)?;
-    let cursor = Cursor {
-        pos: 2,
-        phase: Phase::Back(1),
-        used: 1,
-    };
+    begin(&mut conn, 5)?;
     let made = TurnMade {
         journey: 1,
         target: 1,
         cause: Cause::Refused,
-        cursor,
+        cursor: Cursor {
+            pos: 2,
+            phase: Phase::Back(1),
+            used: 1,
+        },
     };
+    let mut tx = conn.transaction();
     write_turn(&mut tx, THIRD, made)?;
     tx.commit()?;
     let row = CursorRow {
@@ -174,12 +221,12 @@ fn a_journey_turns_back(rt: HostRuntime) -> Result<(), Fail> {
 fn a_save_point_is_taken(rt: HostRuntime) -> Result<(), Fail> {
     let alloc = rt.alloc();
     let mut conn = Connection::open_in_memory(alloc)?;
-    let mut tx = conn.transaction();
-    begin(&mut tx)?;
+    begin(&mut conn, 5)?;
     let made = SaveMade {
         journey: 1,
         position: 1,
     };
+    let mut tx = conn.transaction();
     write_save(&mut tx, THIRD, made)?;
     tx.commit()?;
     let row = CursorRow {
@@ -200,25 +247,23 @@ fn a_save_point_is_taken(rt: HostRuntime) -> Result<(), Fail> {
     Ok(())
 }
 
+// one night gets more places, and another one is new
 #[test]
 fn a_batch_is_loaded_with_its_reply(rt: HostRuntime) -> Result<(), Fail> {
     let alloc = rt.alloc();
     let mut conn = Connection::open_in_memory(alloc)?;
-    let mut tx = conn.transaction();
-    begin(&mut tx)?;
-    put_cell(&mut tx, night(22067, 3))?;
-    tx.commit()?;
+    begin(&mut conn, 3)?;
     let supplier = Code::parse("HT").ok_or("a supplier")?;
     let product = Code::parse("H9").ok_or("a product")?;
-    let first = Cell::new(Kind::Room, supplier, product, Night::parse("2030-06-02")?);
     let second = Cell::new(Kind::Room, supplier, product, Night::parse("2030-06-03")?);
+    let third = Cell::new(Kind::Room, supplier, product, Night::parse("2030-06-04")?);
     let cells = [
-        (first, Held { allot: 6, free: 4 }),
-        (second, Held { allot: 9, free: 9 }),
+        (second, Held { allot: 6, free: 4 }),
+        (third, Held { allot: 9, free: 9 }),
     ];
     let batch = BatchLoaded {
         name: "june",
-        content: "R/HT/H9/2030-06-02/6\nR/HT/H9/2030-06-03/9\n",
+        content: "R/HT/H9/2030-06-03/6\nR/HT/H9/2030-06-04/9\n",
         cells: &cells,
     };
     let keeping = Keeping {
@@ -230,9 +275,10 @@ fn a_batch_is_loaded_with_its_reply(rt: HostRuntime) -> Result<(), Fail> {
     assert!(rt; commit_event(&mut conn, THIRD, &Event::Load(batch), Some(keeping)).is_ok());
     assert!(rt; read_meta(&mut conn)? == COUNTED);
     let stock = find_stock(alloc, &mut conn)?;
-    assert_eq!(rt; stock.len(), 2);
-    assert_eq!(rt; (stock[0].allot, stock[0].free), (6, 4));
-    assert_eq!(rt; (stock[1].allot, stock[1].free), (9, 9));
+    assert_eq!(rt; stock.len(), 3);
+    assert_eq!(rt; (stock[0].allot, stock[0].free), (5, 3));
+    assert_eq!(rt; (stock[1].allot, stock[1].free), (6, 4));
+    assert_eq!(rt; (stock[2].allot, stock[2].free), (9, 9));
     let found = find_batch(&mut conn, "june")?;
     assert!(rt;
         found.is_some_and(|b| b.num == 3 && b.content.as_slice() == batch.content.as_bytes())
