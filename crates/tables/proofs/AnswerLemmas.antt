@@ -14,41 +14,23 @@ use Rattle.ledger.specs.Ledger.{journeys}
 use Rattle.ledger.specs.Answer.{State, KeptReply, Outcome, most_events, kept_for, outcome, answered_again}
 use Rattle.standing.specs.Standing.{StandsFor, IsDesk}
 use Rattle.standing.specs.Reading.{Tells, IsAnswerOf}
-use Rattle.standing.proofs.Beginning.{begin_stands}
+use Rattle.standing.proofs.Beginning.{beginner, begin_stands}
 use Rattle.standing.proofs.Readings.{next_is_above, answer_read}
 use Rattle.standing.proofs.Answered.{tells-some, tells-none, outcome-known}
-use Rattle.tables.specs.Writing.{LeadsTo}
+use Rattle.writing.specs.declared.events.Numbers.{Numbers}
+use Rattle.writing.specs.declared.events.JourneyBegun.{JourneyBegun}
+use Rattle.writing.specs.declared.events.Event.TheVariants.{Begin as BeginsOne}
+use Rattle.tables.specs.Moving.{LeadsTo}
 use Rattle.tables.specs.Answering.{AnswersAgain, Finds}
-use Rattle.tables.specs.declared.beginning.Keeping.{Keeping}
-use Rattle.tables.specs.declared.beginning.Beginner.TheVariants.{House, Asking}
 
--- the next numbers of a state
-pub record AreNext (s : State) (id num : ℕ) : Type 0 where
-  pub id_is : id ≡ length (journeys s.ledger) + 1
-  pub num_is : num ≡ length s.ledger + 1
-  pub room : length s.ledger < most_events
-
--- the rows of a journey of the house lead to what its begin comes to
-pub house_leads : (s : State) (plan : Planned) (id num : ℕ) → IsDesk s → IsTrue (is_plan plan) → AreNext s id num
-    → LeadsTo id num plan House s (outcome s None (Begin plan)).state
-house_leads s plan id num desk good next = record {
-  stands = λ t st. rw (next.id_is, next.num_is) (begin_stands t s None plan st desk.legal good next.room refl);
-  below = λ t st. rw next.id_is (next_is_above t s st desk);
-}
-
--- what is kept is what was asked, and the line of the reply
-pub record IsKeeping (k : Keeping) (ask : Asked) (id : ℕ) : Type 0 where
-  pub agent : k.agent.now ≡ ask.agent
-  pub key : k.key.now ≡ ask.key
-  pub text : k.text.now ≡ ask.text
-  pub line : k.line.now ≡ reply_line (Begins id)
-
--- and the rows of an agent's journey, with its reply
-pub agent_leads : (s : State) (ask : Asked) (plan : Planned) (id num : ℕ) (k : Keeping) → IsDesk s → IsTrue (is_plan plan) → AreNext s id num
-    → kept_for s (Some ask) ≡ None → IsKeeping k ask id → LeadsTo id num plan (Asking k) s (outcome s (Some ask) (Begin plan)).state
-agent_leads s ask plan id num k desk good next new is = record {
-  stands = λ t st. rw (is.agent, is.key, is.text, is.line, next.id_is, next.num_is) (begin_stands t s (Some ask) plan st desk.legal good next.room new);
-  below = λ t st. rw next.id_is (next_is_above t s st desk);
+-- under the next numbers of a state, the rows of a journey lead to what its begin comes to
+pub begin_leads : (s : State) (ask : Option Asked) (n : Numbers) (b : JourneyBegun) → IsDesk s → IsTrue (is_plan b.plan.now)
+    → n.num ≡ length s.ledger + 1 → n.journeys ≡ length (journeys s.ledger) + 1 → length s.ledger < most_events
+    → kept_for s ask ≡ None → b.agent.now ≡ beginner ask
+    → LeadsTo n (BeginsOne b) ask (Begins n.journeys) s (outcome s ask (Begin b.plan.now)).state
+begin_leads s ask n b desk good num journey room new agent = record {
+  fits = λ t st. rw journey (next_is_above t s st desk);
+  stands = λ t st. rw (agent, journey, num) (begin_stands t s ask b.plan.now st desk.legal good room new);
 }
 
 -- a row that was found tells that its key is known, and what is answered

@@ -1,5 +1,4 @@
 pub mod AnswerLemmas
-pub mod CommitLemmas
 pub mod DueLemmas
 pub mod KeepLemmas
 pub mod LeadLemmas
@@ -11,4 +10,3 @@ pub mod ReadPlans
 pub mod ReadStock
 pub mod SmallLemmas
 pub mod StepLemmas
-pub mod WritingLemmas

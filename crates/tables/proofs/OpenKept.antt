@@ -23,7 +23,7 @@ use Rattle.tables.specs.declared.faults.OpenFault.{OpenFault}
 use Rattle.tables.specs.declared.faults.OpenFault.TheVariants.{Store, Memory}
 use Rattle.tables.specs.Keeping.{Means, SeesDesk, IsKept, IsFound}
 use Rattle.tables.specs.Opening.{Tells, AreOfVersion}
-use Rattle.tables.proofs.CommitLemmas.{KeepsOne}
+use Rattle.writing.proofs.CommitLemmas.{KeepsOne}
 
 -- the desk's tables are some
 not_bare : desk_schema ≡ no_schema → ⊥

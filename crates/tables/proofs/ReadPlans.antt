@@ -8,9 +8,9 @@ use Rattle.standing.specs.Called.{step_rows_of, none_taken}
 use Rattle.standing.specs.Reading.{not_taken}
 use Rattle.standing.specs.Beginning.{first_steps}
 use Rattle.standing.proofs.PlanWriting.{step_rows-all}
-use Rattle.tables.specs.Writing.{first_rows_of_step, rows_of_option, rows_of_step}
+use Rattle.writing.specs.Begins.{first_rows_of_step, rows_of_option, rows_of_step}
 use Rattle.tables.specs.PlansTold.{first_rows, TellsOption, TellStep, TellPlan}
-use Rattle.tables.proofs.WritingLemmas.{first_rows_of_step-more, first_rows_of_step-all, step_rows_of-more}
+use Rattle.writing.proofs.PlanLemmas.{first_rows_of_step-more, first_rows_of_step-all, step_rows_of-more}
 
 take-whole : {X : Type 0} (xs : List X) → take (length xs) xs ≡ xs
 take-whole [] = refl

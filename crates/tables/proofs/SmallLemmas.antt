@@ -16,7 +16,7 @@ use Rattle.writing.specs.Kinds.{IsSmall}
 use Rattle.writing.specs.declared.events.Event.{Event}
 use Rattle.tables.specs.Moving.{IsEventOf}
 use Rattle.tables.specs.Placing.{IsPlaced, MayBeMade}
-use Rattle.tables.proofs.WritingLemmas.{few_steps, few_options}
+use Rattle.writing.proofs.PlanLemmas.{few_steps, few_options}
 
 -- small numbers are written small
 numbers_small : (pos used : ℕ) (p : Phase) → pos ≤ 25 → target_of p ≤ 25 → used ≤ 2 ^ 62

@@ -6,4 +6,3 @@ pub mod Opening
 pub mod Placing
 pub mod PlansTold
 pub mod Reading
-pub mod Writing

@@ -6,7 +6,7 @@ use Rattle.desk_sql.specs.Rows.{StepRow}
 use Rattle.desk_sql.specs.declared.steps.StepFound.{StepFound}
 use Rattle.standing.specs.Called.{step_rows_of}
 use Rattle.standing.specs.Reading.{not_taken}
-use Rattle.tables.specs.Writing.{rows_of_option, rows_of_step}
+use Rattle.writing.specs.Begins.{rows_of_option, rows_of_step}
 
 -- the rows that were found of a journey, as they stood when it began
 abbrev pub first_rows : ℕ → List StepFound → List StepRow

@@ -1,15 +1,15 @@
 //! What is answered to a command.
-ghost use Rattle.std.specs.Prelude.{◌≡◌, false, IfOk, IsTrue, None, Some};
-ghost use Rattle.std.specs.Option.{option_copied as asker};
+ghost use Rattle.std.specs.Prelude.{◌≡◌, false, IfOk, IsTrue, Some, unwrap_or};
+ghost use Rattle.std.specs.Option.{option_copied as asked_by};
+ghost use Rattle.commands.specs.Names.{house};
 ghost use Rattle.commands.specs.Orders.{request_of};
 ghost use Rattle.commands.specs.Request.{Begin};
-ghost use Rattle.ledger.specs.Answer.{is_request};
+ghost use Rattle.ledger.specs.Answer.{asker, is_request};
 ghost use Rattle.tables.specs.Answering.{AnswersAgain, Finds, KeepsOn, KeepsAtMemory};
 ghost use Rattle.tables.specs.Answering.{Answers, KeepsNext, LeavesOld, AnswersNew, KeepsNew, LeavesNew};
 ghost use Rattle.tables.specs.Reading.{LeavesAsBefore, ShowsKept, WasClean};
 
-use crate::beginning::{Beginner, Keeping};
-use crate::committing::commit_begin;
+use crate::committing::commit_answered;
 use crate::counts::{MOST_EVENTS, read_counts};
 use crate::faults::fault_of;
 use crate::loading::answer_load;
@@ -19,6 +19,7 @@ use desk_sql::{KeptAnswer, find_answer};
 use plan::Plan;
 use sqlite::{Alter, Connection};
 use std::alloc::Global;
+use writing::{Event, JourneyBegun, Numbers};
 
 /// What a known key is answered: its kept reply, where the text is the same. A line that is no reply's is a fault of the
 /// store.
@@ -60,41 +61,22 @@ fn find_reply<S: Alter>(
     }
 }
 
-/// Begins a journey of the house.
-fn begin<S: Alter>(conn: &mut Connection<S>, plan: &Plan) -> Result<Reply, Fault>
-    requires outside { conn.old.in_transaction ≡ false }
-
-    ensures outside { conn.new.in_transaction ≡ false }
-    ensures reply { AnswersNew S.Store conn.old conn.new None (Begin plan.now) result }
-    ensures after { KeepsNew S.Store conn.old conn.new None (Begin plan.now) result }
-    ensures memory { KeepsAtMemory S.Store conn.old conn.new result }
-    ensures left { LeavesNew S.Store conn.old conn.new None (Begin plan.now) }
-    ensures sound { WasClean S.Store conn.old conn.new }
-{
-    let _steps = plan.steps();
-    let counts = read_counts(conn)?;
-    if counts.events >= MOST_EVENTS {
-        return Ok(Reply::Refused(Refusal::Limit));
-    }
-    let id = counts.journeys + 1;
-    commit_begin(conn, id, counts.events + 1, plan, Beginner::House)?;
-    Ok(Reply::Begun { id })
-}
-
-/// Begins a journey of who asks, and keeps the reply.
-fn begin_new<S: Alter>(
+/// Begins a journey of who asks, or of the house.
+fn begin<S: Alter>(
     alloc: Global,
     conn: &mut Connection<S>,
     plan: &Plan,
-    ask: &Ask,
+    agent: &str,
+    ask: Option<&Ask>,
 ) -> Result<Reply, Fault>
     requires outside { conn.old.in_transaction ≡ false }
+    requires agent { agent.now ≡ unwrap_or (asker (asked_by ask.entry)) house }
 
     ensures outside { conn.new.in_transaction ≡ false }
-    ensures reply { AnswersNew S.Store conn.old conn.new (Some ask.now) (Begin plan.now) result }
-    ensures after { KeepsNew S.Store conn.old conn.new (Some ask.now) (Begin plan.now) result }
+    ensures reply { AnswersNew S.Store conn.old conn.new (asked_by ask.entry) (Begin plan.now) result }
+    ensures after { KeepsNew S.Store conn.old conn.new (asked_by ask.entry) (Begin plan.now) result }
     ensures memory { KeepsAtMemory S.Store conn.old conn.new result }
-    ensures left { LeavesNew S.Store conn.old conn.new (Some ask.now) (Begin plan.now) }
+    ensures left { LeavesNew S.Store conn.old conn.new (asked_by ask.entry) (Begin plan.now) }
     ensures sound { WasClean S.Store conn.old conn.new }
 {
     let _steps = plan.steps();
@@ -102,21 +84,15 @@ fn begin_new<S: Alter>(
     if counts.events >= MOST_EVENTS {
         return Ok(Reply::Refused(Refusal::Limit));
     }
-    let id = counts.journeys + 1;
-    let reply = Reply::Begun { id };
-    let line = match reply.line(alloc) {
-        Ok(line) => line,
-        Err(_) => return Err(Fault::Memory),
+    let numbers = Numbers {
+        num: counts.events + 1,
+        journeys: counts.journeys + 1,
     };
-    let agent = ask.agent();
-    let key = ask.key();
-    let keeping = Keeping {
-        agent: agent.as_str(),
-        key: key.as_str(),
-        text: ask.text(),
-        line: line.as_str(),
+    let reply = Reply::Begun {
+        id: numbers.journeys,
     };
-    commit_begin(conn, id, counts.events + 1, plan, Beginner::Asking(keeping))?;
+    let event = Event::Begin(JourneyBegun { agent, plan });
+    commit_answered(alloc, conn, numbers, &event, &reply, ask)?;
     Ok(reply)
 }
 
@@ -130,15 +106,15 @@ fn answer_begin<S: Alter>(
     requires outside { conn.old.in_transaction ≡ false }
 
     ensures outside { conn.new.in_transaction ≡ false }
-    ensures reply { AnswersNew S.Store conn.old conn.new (asker ask.entry) (Begin plan.now) result }
-    ensures after { KeepsNew S.Store conn.old conn.new (asker ask.entry) (Begin plan.now) result }
+    ensures reply { AnswersNew S.Store conn.old conn.new (asked_by ask.entry) (Begin plan.now) result }
+    ensures after { KeepsNew S.Store conn.old conn.new (asked_by ask.entry) (Begin plan.now) result }
     ensures memory { KeepsAtMemory S.Store conn.old conn.new result }
-    ensures left { LeavesNew S.Store conn.old conn.new (asker ask.entry) (Begin plan.now) }
+    ensures left { LeavesNew S.Store conn.old conn.new (asked_by ask.entry) (Begin plan.now) }
     ensures sound { WasClean S.Store conn.old conn.new }
 {
     match ask {
-        None => begin(conn, plan),
-        Some(ask) => begin_new(alloc, conn, plan, ask),
+        None => begin(alloc, conn, plan, "desk", None),
+        Some(by) => begin(alloc, conn, plan, by.agent().as_str(), ask),
     }
 }
 
@@ -152,12 +128,12 @@ fn answer_new<S: Alter>(
     requires outside { conn.old.in_transaction ≡ false }
 
     ensures outside { conn.new.in_transaction ≡ false }
-    ensures reply { AnswersNew S.Store conn.old conn.new (asker ask.entry) (request_of command.now)
+    ensures reply { AnswersNew S.Store conn.old conn.new (asked_by ask.entry) (request_of command.now)
         result }
-    ensures after { KeepsNew S.Store conn.old conn.new (asker ask.entry) (request_of command.now)
+    ensures after { KeepsNew S.Store conn.old conn.new (asked_by ask.entry) (request_of command.now)
         result }
     ensures memory { KeepsAtMemory S.Store conn.old conn.new result }
-    ensures left { LeavesNew S.Store conn.old conn.new (asker ask.entry) (request_of command.now) }
+    ensures left { LeavesNew S.Store conn.old conn.new (asked_by ask.entry) (request_of command.now) }
     ensures sound { WasClean S.Store conn.old conn.new }
 {
     match command {
@@ -207,12 +183,12 @@ pub(crate) fn answer<S: Alter>(
     requires outside { conn.old.in_transaction ≡ false }
 
     ensures outside { conn.new.in_transaction ≡ false }
-    ensures reply { Answers S.Store conn.old conn.new (asker ask.entry) (request_of command.now)
+    ensures reply { Answers S.Store conn.old conn.new (asked_by ask.entry) (request_of command.now)
         result }
-    ensures after { KeepsNext S.Store conn.old conn.new (asker ask.entry) (request_of command.now)
+    ensures after { KeepsNext S.Store conn.old conn.new (asked_by ask.entry) (request_of command.now)
         result }
     ensures memory { KeepsAtMemory S.Store conn.old conn.new result }
-    ensures left { LeavesOld S.Store conn.old conn.new (asker ask.entry) (request_of command.now) }
+    ensures left { LeavesOld S.Store conn.old conn.new (asked_by ask.entry) (request_of command.now) }
     ensures sound { WasClean S.Store conn.old conn.new }
 {
     match ask {

@@ -7,7 +7,6 @@
 #![tactic(auto)]
 
 mod answering;
-mod beginning;
 mod books;
 mod committing;
 mod counts;

@@ -2,3 +2,4 @@ pub mod Chaining
 pub mod CommitLemmas
 pub mod LoadLemmas
 pub mod Batches
+pub mod PlanLemmas

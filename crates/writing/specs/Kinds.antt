@@ -1,18 +1,20 @@
 -- The rows that an event of any kind makes, with those of the reply that is kept with it.
 use Rattle.std.specs.Prelude.{⊤, Option, Some, None}
 use Rattle.desk_sql.specs.Rows.{Tables}
-use Rattle.desk_sql.specs.Changes.{AreItemsBelow, adds_answer, kept}
+use Rattle.desk_sql.specs.Changes.{AreItemsBelow, AreJourneysBelow, adds_answer, kept}
 use Rattle.ledger.specs.Answer.{State}
 use Rattle.standing.specs.Standing.{StandsFor}
 use Rattle.writing.specs.declared.events.Numbers.{Numbers}
 use Rattle.writing.specs.declared.events.Keeping.{Keeping}
 use Rattle.writing.specs.declared.events.Event.{Event}
-use Rattle.writing.specs.declared.events.Event.TheVariants.{Transaction, Compensation, Turn, Save, Load}
+use Rattle.writing.specs.declared.events.Event.TheVariants.{Begin, Transaction, Compensation, Turn, Save, Load}
 use Rattle.writing.specs.Events.{IsSmallStep, IsSmallTurn, IsSmallSave, MayTake, MayGive, transaction_rows, compensation_rows, turn_rows, save_rows}
+use Rattle.writing.specs.Begins.{begin_rows}
 use Rattle.writing.specs.Loads.{MayLoad, load_rows}
 
 -- the numbers of an event fit the store's integers
 abbrev pub IsSmall : Event → Type 0
+IsSmall (Begin b) = ⊤
 IsSmall (Transaction m) = IsSmallStep m
 IsSmall (Compensation m) = IsSmallStep m
 IsSmall (Turn m) = IsSmallTurn m
@@ -21,6 +23,7 @@ IsSmall (Load b) = ⊤
 
 -- what an event asks of the rows before it
 abbrev pub Fits : Numbers → Event → Tables → Type 0
+Fits n (Begin b) t = AreJourneysBelow n.journeys t
 Fits n (Transaction m) t = MayTake n m t
 Fits n (Compensation m) t = MayGive n m t
 Fits n (Turn m) t = AreItemsBelow n.num t
@@ -29,6 +32,7 @@ Fits n (Load b) t = MayLoad t
 
 -- the rows after an event
 abbrev pub rows_after : Numbers → Event → Tables → Tables
+rows_after n (Begin b) t = begin_rows n b t
 rows_after n (Transaction m) t = transaction_rows n m t
 rows_after n (Compensation m) t = compensation_rows n m t
 rows_after n (Turn m) t = turn_rows n m t

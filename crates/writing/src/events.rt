@@ -3,6 +3,7 @@ ghost use Rattle.std.specs.Prelude.{◌<◌, ◌^◌};
 
 use allotment::{Cell, Held, Want};
 use commands::{Cause, Cursor};
+use plan::Plan;
 
 /// The numbers that `meta` has after an event.
 #[derive(Clone, Copy, Debug, PartialEq, Eq)]
@@ -13,6 +14,15 @@ pub struct Numbers {
     pub journeys: u64,
     ghost small_num: { num < 2 ^ 63 },
     ghost small_journeys: { journeys < 2 ^ 63 },
+}
+
+/// A journey that begins. Its number is that of the last journey.
+#[derive(Clone, Copy)]
+pub struct JourneyBegun<'a> {
+    /// Whose it is.
+    pub agent: &'a str,
+    /// Its plan.
+    pub plan: &'a Plan,
 }
 
 /// A step that a journey does, or compensates, with one of its options.
@@ -66,6 +76,8 @@ pub struct BatchLoaded<'a> {
 /// What happened.
 #[derive(Clone, Copy)]
 pub enum Event<'a> {
+    /// A journey begins.
+    Begin(JourneyBegun<'a>),
     /// A step is done.
     Transaction(StepMade),
     /// A step is compensated.

@@ -6,10 +6,11 @@ use super::*;
 use allotment::{Cell, Code, Held, Kind, Night, Want};
 use commands::{Cause, Cursor, Phase};
 use desk_sql::{
-    CellPlaces, Cursor as CursorRow, ItemFound, Meta, StepOption, find_answer, find_batch,
+    CellPlaces, Cursor as CursorRow, ItemFound, Meta, StepFound, StepOption, find_answer, find_batch,
     find_items, find_journey, find_marks, find_steps, find_stock, insert_journey, insert_mark,
     insert_step, make_tables, mark_step, put_cell, read_meta,
 };
+use plan::Plan;
 use sqlite::{Alter, Connection, Error};
 use std::alloc::Global;
 use std::test::Fail;
@@ -73,6 +74,13 @@ fn begin<S: Alter>(conn: &mut Connection<S>, free: u64) -> Result<(), Error>
     tx.commit()
 }
 
+// the numbers of an option: step, option, save-point, taken, kind, night, nights, places
+fn numbers_of(row: &StepFound) -> [u64; 8] {
+    [
+        row.place, row.opt, row.save, row.taken, row.kind, row.night, row.nights, row.places,
+    ]
+}
+
 // where the journey is, and the items that it made
 fn told<S: Alter>(
     alloc: Global,
@@ -105,6 +113,39 @@ fn held<S: Alter>(
             && stock.iter().all(|cell| cell.free == free)
             && steps.iter().all(|step| step.taken == taken),
     )
+}
+
+// two steps, a save-point behind the first, and two options of the second
+#[test]
+fn a_journey_begins(rt: HostRuntime) -> Result<(), Fail> {
+    let alloc = rt.alloc();
+    let plan = Plan::from_line(
+        alloc,
+        "F/AL/A1/2030-06-01/1/2*;R/INN/A/2030-06-01/2/3|R/INN/B/2030-06-02/1/4!5",
+    )?;
+    let mut conn = Connection::open_in_memory(alloc)?;
+    let mut tx = conn.transaction();
+    make_tables(&mut tx)?;
+    write_begin(&mut tx, THIRD, JourneyBegun { agent: "ann", plan: &plan })?;
+    tx.commit()?;
+    assert!(rt; read_meta(&mut conn)? == COUNTED);
+    let journey = find_journey(&mut conn, 1)?.ok_or("no journey")?;
+    assert_eq!(rt; (journey.num, journey.steps, journey.tries), (3, 2, 5));
+    assert!(rt; journey.agent.as_str() == "ann");
+    let start = CursorRow {
+        pos: 0,
+        phase: 0,
+        target: 0,
+        used: 0,
+    };
+    assert!(rt; journey.cursor == start);
+    let steps = find_steps(alloc, &mut conn, 1)?;
+    assert_eq!(rt; steps.len(), 3);
+    assert_eq!(rt; numbers_of(&steps[0]), [1, 1, 1, 0, 0, 22066, 1, 2]);
+    assert_eq!(rt; numbers_of(&steps[1]), [2, 1, 0, 0, 1, 22066, 2, 3]);
+    assert_eq!(rt; numbers_of(&steps[2]), [2, 2, 0, 0, 1, 22067, 1, 4]);
+    assert!(rt; steps[0].supplier.as_str() == "AL" && steps[2].product.as_str() == "B");
+    Ok(())
 }
 
 #[test]

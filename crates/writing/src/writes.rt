@@ -4,6 +4,7 @@ ghost use Rattle.desk_sql.specs.Calls.{StaysInside, WasOpen, CommitsNothing, Lea
 ghost use Rattle.writing.specs.Writing.{WritesRows};
 ghost use Rattle.writing.specs.Kinds.{IsSmall, Fits, rows_after, with_kept, event_rows};
 
+use crate::beginning::write_begin;
 use crate::events::{Event, Keeping, Numbers};
 use crate::journeys::{write_compensation, write_save, write_transaction, write_turn};
 use crate::loads::write_load;
@@ -27,6 +28,7 @@ fn write_rows<S: Alter>(
     ensures survives { LeavesNoMore S.Store tx.old.conn.now tx.new.conn.now }
 {
     match *event {
+        Event::Begin(begun) => write_begin(tx, numbers, begun),
         Event::Transaction(made) => write_transaction(tx, numbers, made),
         Event::Compensation(made) => write_compensation(tx, numbers, made),
         Event::Turn(made) => write_turn(tx, numbers, made),

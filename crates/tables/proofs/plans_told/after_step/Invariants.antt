@@ -2,7 +2,7 @@
 use Rattle.std.proofs.Common.{◌≡◌, ◌+◌, ◌≤◌, ◌++◌, ℕ, take, length}
 use Rattle.plan.specs.Planned.{option_count}
 use Rattle.tables.specs.PlansTold.{first_rows}
-use Rattle.tables.specs.Writing.{first_rows_of_step}
+use Rattle.writing.specs.Begins.{first_rows_of_step}
 use Rattle.tables.proofs.plans_told.after_step.Given as goal
 
 abbrev pub invariant-loop-option : goal.invariant-loop-option

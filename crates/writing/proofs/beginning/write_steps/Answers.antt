@@ -5,9 +5,9 @@ use Rattle.desk_sql.specs.Rows.{StepRow}
 use Rattle.standing.specs.Called.{step_rows_of, none_taken}
 use Rattle.standing.specs.Beginning.{adds_steps, first_steps}
 use Rattle.standing.proofs.PlanWriting.{step_rows-all}
-use Rattle.tables.specs.Writing.{HasWritten, rows_of_step}
-use Rattle.tables.proofs.WritingLemmas.{HasWritten-more, step_rows_of-more}
-use Rattle.tables.proofs.beginning.write_steps.Goals as goal
+use Rattle.writing.specs.Begins.{HasWritten, rows_of_step}
+use Rattle.writing.proofs.PlanLemmas.{HasWritten-more, step_rows_of-more}
+use Rattle.writing.proofs.beginning.write_steps.Goals as goal
 
 -- the rows of one more step are written
 pub loop-step-preserved : goal.loop-step-preserved

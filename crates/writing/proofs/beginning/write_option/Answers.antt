@@ -1,6 +1,6 @@
 use Rattle.std.proofs.Common.{◌≡◌, ◌<◌, Bool, true, false, arith, lit<}
 use mir.Val.{bool_byte}
-use Rattle.tables.proofs.beginning.write_option.Goals as goal
+use Rattle.writing.proofs.beginning.write_option.Goals as goal
 
 -- a flag is a small number
 flag_small : (b : Bool) → bool_byte b < 9223372036854775808

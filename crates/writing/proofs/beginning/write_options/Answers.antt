@@ -3,9 +3,9 @@ use Rattle.sqlite.specs.Held.{Held, state}
 use Rattle.desk_sql.specs.Calls.{Makes}
 use Rattle.desk_sql.specs.Rows.{StepRow}
 use Rattle.standing.specs.Beginning.{adds_steps}
-use Rattle.tables.specs.Writing.{HasWritten, first_rows_of_step, rows_of_option}
-use Rattle.tables.proofs.WritingLemmas.{few_options, HasWritten-more, first_rows_of_step-more, first_rows_of_step-all}
-use Rattle.tables.proofs.beginning.write_options.Goals as goal
+use Rattle.writing.specs.Begins.{HasWritten, first_rows_of_step, rows_of_option}
+use Rattle.writing.proofs.PlanLemmas.{few_options, HasWritten-more, first_rows_of_step-more, first_rows_of_step-all}
+use Rattle.writing.proofs.beginning.write_options.Goals as goal
 
 pub write_option-requires-clause-options : goal.write_option-requires-clause-options
 write_option-requires-clause-options g c =

@@ -15,29 +15,8 @@ use Rattle.desk_sql.specs.Rows.{Tables, StepRow}
 use Rattle.standing.specs.Called.{option_row, option_rows, step_rows_of, none_taken}
 use Rattle.standing.specs.Beginning.{adds_steps, first_options, first_steps}
 use Rattle.standing.proofs.PlanWriting.{option_rows-more, option_rows-all, step_rows-more}
-use Rattle.tables.specs.Writing.{HasWritten, rows_of_step, rows_of_option, first_rows_of_step}
-
--- Two writes, one after the other.
-
--- what was committed stays so over both
-pub keeps_then : (a b c : State) → KeepsCommit a b → KeepsCommit b c → KeepsCommit a c
-keeps_then a b c one two = record {
-  was_open = λ h. one.was_open (two.was_open h);
-  committed = λ h. two.committed h ∙ one.committed (two.was_open h);
-}
-
--- the second write goes on where the first one ended
-pub makes_then : (a b c : State) (t : Tables) (first second : Tables → Tables) → Makes a b (first t)
-    → (MayRun b (first t) → IsTrue b.is_open → Makes b c (second (first t))) → Makes a c (second (first t))
-makes_then a b c t first second one two =
-    let m = two (record { inside = one.inside; sees = λ _. one.sees }) one.is_open in
-    record {
-      was_open = one.was_open;
-      is_open = m.is_open;
-      inside = m.inside;
-      sees = m.sees;
-      committed = m.committed ∙ one.committed;
-    }
+use Rattle.writing.specs.Begins.{HasWritten, rows_of_step, rows_of_option, first_rows_of_step}
+use Rattle.writing.proofs.Chaining.{makes_then, keeps_then}
 
 -- rows that are added after others are added with them
 pub adds_steps-append : (rows more : List StepRow) (t : Tables) → adds_steps more (adds_steps rows t) ≡ adds_steps (rows ++ more) t
@@ -59,7 +38,8 @@ HasWritten-more g old mid new rows more has survives commit inside made =
       inside = λ clean in_tx. inside clean (has.inside (early clean) in_tx);
       made = λ clean t may live.
           subst (Makes (state g old) (state g new)) (adds_steps-append rows more t)
-          (makes_then (state g old) (state g mid) (state g new) t (adds_steps rows) (adds_steps more) (has.made (early clean) t may live) (made clean (adds_steps rows t)));
+          (makes_then (state g old) (state g mid) (state g new) t (adds_steps rows) (adds_steps more) (has.made (early clean) t may live)
+          (λ m. made clean (adds_steps rows t) m (has.made (early clean) t may live).is_open));
     }
 
 -- The options of a step.

@@ -1,22 +1,17 @@
--- What writing a journey that begins makes of the rows.
+-- The rows that a journey that begins makes, option by option.
 use Rattle.std.specs.Prelude.{ℕ, false, List, [], ◌∷◌, Result, OnOk, IsTrue, option_map, unwrap_or}
 use Rattle.sqlite.specs.Store.{Ghosts}
 use Rattle.sqlite.specs.Held.{Held, state}
 use Rattle.sqlite.specs.State.{HasCleanDisk, KeepsCommit, Survives}
 use Rattle.sqlite.specs.declared.error.Error.{Error}
-use Rattle.desk_sql.specs.Calls.{MayRun, Makes}
-use Rattle.desk_sql.specs.Rows.{Tables, StepRow}
 use Rattle.allotment.specs.Want.{Wanted}
 use Rattle.plan.specs.Planned.{Planned, StepPlan, numbered, is_marked_at, want_at}
+use Rattle.desk_sql.specs.Calls.{MayRun, Makes}
+use Rattle.desk_sql.specs.Rows.{Tables, StepRow}
 use Rattle.standing.specs.Called.{option_row, option_rows, step_rows_of, none_taken}
 use Rattle.standing.specs.Beginning.{adds_steps, first_options, with_journey}
-use Rattle.desk_sql.specs.Changes.{AreJourneysBelow, adds_answer, kept}
-use Rattle.commands.specs.Names.{house}
-use Rattle.ledger.specs.Answer.{State}
-use Rattle.standing.specs.Standing.{StandsFor}
-use Rattle.tables.specs.declared.beginning.Keeping.{Keeping}
-use Rattle.tables.specs.declared.beginning.Beginner.{Beginner}
-use Rattle.tables.specs.declared.beginning.Beginner.TheVariants.{House, Asking}
+use Rattle.writing.specs.declared.events.Numbers.{Numbers}
+use Rattle.writing.specs.declared.events.JourneyBegun.{JourneyBegun}
 
 -- in an open transaction, a success leaves what it makes of the rows
 module _ {S : Type 0} (g : Ghosts S) (old new : Held S) where
@@ -70,39 +65,6 @@ module _ {S : Type 0} (g : Ghosts S) (old now : Held S) where
     pub made : HasCleanDisk (state g now) → (t : Tables) → MayRun (state g old) t
         → IsTrue (state g old).is_open → Makes (state g old) (state g now) (adds_steps rows t)
 
--- the rows of a journey that begins, and of the reply that is kept with it
-abbrev pub with_kept : ℕ → ℕ → Planned → Keeping → Tables → Tables
-with_kept id num plan k t =
-    adds_answer (kept k.agent.now k.key.now k.text.now k.line.now)
-    (with_journey id num k.agent.now plan t)
-
-module _ {S : Type 0} (g : Ghosts S) (old new : Held S) where
-  -- a success adds the rows of a journey that begins
-  abbrev pub WritesJourney : {V : Type 0} → Result V Error → ℕ → ℕ → List ℕ → Planned → Type 0
-  WritesJourney result id num agent plan =
-      HasCleanDisk (state g new) → (t : Tables) → MayRun (state g old) t → AreJourneysBelow id t
-      → OnOk result (Makes (state g old) (state g new) (with_journey id num agent plan t))
-
-  -- a success adds the rows of a journey that begins, and of the reply that is kept with it
-  abbrev pub WritesKept : {V : Type 0} → Result V Error → ℕ → ℕ → Planned → Keeping → Type 0
-  WritesKept result id num plan k =
-      HasCleanDisk (state g new) → (t : Tables) → MayRun (state g old) t → AreJourneysBelow id t
-      → OnOk result (Makes (state g old) (state g new) (with_kept id num plan k t))
-
--- the rows of a journey that begins, for whoever begins it
-abbrev pub begun_rows : ℕ → ℕ → Planned → Beginner → Tables → Tables
-begun_rows id num plan House t = with_journey id num house plan t
-begun_rows id num plan (Asking k) t = with_kept id num plan k t
-
--- where tables stand for the old state, these rows make them stand for the new one, and no journey has
--- the number yet
-pub record LeadsTo (id num : ℕ) (plan : Planned) (by : Beginner) (old new : State) : Type 0 where
-  pub stands : (t : Tables) → StandsFor t old → StandsFor (begun_rows id num plan by t) new
-  pub below : (t : Tables) → StandsFor t old → AreJourneysBelow id t
-
-module _ {S : Type 0} (g : Ghosts S) (old new : Held S) where
-  -- a success adds the rows of a journey that begins
-  abbrev pub WritesBegin : {V : Type 0} → Result V Error → ℕ → ℕ → Planned → Beginner → Type 0
-  WritesBegin result id num plan by =
-      HasCleanDisk (state g new) → (t : Tables) → MayRun (state g old) t → AreJourneysBelow id t
-      → OnOk result (Makes (state g old) (state g new) (begun_rows id num plan by t))
+-- the rows after a begin, whose journey is the last one
+abbrev pub begin_rows : Numbers → JourneyBegun → Tables → Tables
+begin_rows n b t = with_journey n.journeys n.num b.agent.now b.plan.now t

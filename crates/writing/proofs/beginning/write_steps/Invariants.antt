@@ -3,8 +3,8 @@ use Rattle.std.proofs.Common.{◌≡◌}
 use Rattle.plan.specs.Planned.{step_count}
 use Rattle.standing.specs.Called.{step_rows_of}
 use Rattle.standing.specs.Beginning.{first_steps}
-use Rattle.tables.specs.Writing.{HasWritten}
-use Rattle.tables.proofs.beginning.write_steps.Given as goal
+use Rattle.writing.specs.Begins.{HasWritten}
+use Rattle.writing.proofs.beginning.write_steps.Given as goal
 
 abbrev pub invariant-loop-step : goal.invariant-loop-step
 invariant-loop-step g l =

@@ -6,8 +6,8 @@ use Rattle.sqlite.specs.Held.{state}
 use Rattle.desk_sql.specs.Calls.{MayRun, Makes, LeavesNoMore, CommitsNothing}
 use Rattle.desk_sql.specs.Rows.{Tables}
 use Rattle.plan.specs.Planned.{option_count}
-use Rattle.tables.specs.Writing.{HasWritten, first_rows_of_step}
-use Rattle.tables.proofs.beginning.write_options.Given as goal
+use Rattle.writing.specs.Begins.{HasWritten, first_rows_of_step}
+use Rattle.writing.proofs.beginning.write_options.Given as goal
 
 abbrev pub invariant-loop-option : goal.invariant-loop-option
 invariant-loop-option g l =

@@ -1,11 +1,13 @@
-//! The rows of a journey that begins, one after another in one transaction.
+//! The rows of a journey that begins: its own, and one for each option of each step of its plan.
 ghost use Rattle.std.specs.Prelude.{◌≡◌, ◌<◌, ◌≤◌, ◌^◌};
 ghost use Rattle.plan.specs.Planned.{step_count, option_count};
 ghost use Rattle.desk_sql.specs.Calls.{StaysInside, WasOpen, CommitsNothing, LeavesNoMore};
-ghost use Rattle.tables.specs.Writing.{WritesOption, WritesStep, WritesSteps};
-ghost use Rattle.tables.specs.Writing.{WritesJourney, WritesKept, WritesBegin};
+ghost use Rattle.desk_sql.specs.Changes.{AreJourneysBelow};
+ghost use Rattle.writing.specs.Writing.{WritesRows};
+ghost use Rattle.writing.specs.Begins.{WritesOption, WritesStep, WritesSteps, begin_rows};
 
-use desk_sql::{StepOption, insert_answer, insert_journey, insert_step, update_meta};
+use crate::events::{JourneyBegun, Numbers};
+use desk_sql::{StepOption, insert_journey, insert_step, update_meta};
 use plan::Plan;
 use sqlite::{Alter, Error, Transaction};
 
@@ -92,100 +94,29 @@ fn write_steps<S: Alter>(tx: &mut Transaction<'_, S>, id: u64, plan: &Plan) -> R
 }
 
 /// The rows of a journey that begins: its own, those of its plan, and the numbers of `meta`.
-fn write_journey<S: Alter>(
+pub fn write_begin<S: Alter>(
     tx: &mut Transaction<'_, S>,
-    id: u64,
-    num: u64,
-    agent: &str,
-    plan: &Plan,
+    numbers: Numbers,
+    begun: JourneyBegun<'_>,
 ) -> Result<(), Error>
-    requires id { id < 2 ^ 63 }
-    requires num { num < 2 ^ 63 }
-
     ensures same_reference { tx.new.conn.ghost_name ≡ tx.old.conn.ghost_name }
-    ensures made { WritesJourney S.Store tx.old.conn.now tx.new.conn.now result
-        id num agent.now plan.now }
+    ensures made { WritesRows S.Store tx.old.conn.now tx.new.conn.now
+        (AreJourneysBelow numbers.journeys) result (begin_rows numbers begun.entry) }
     ensures live { WasOpen S.Store tx.old.conn.now tx.new.conn.now result }
     ensures inside { StaysInside S.Store tx.old.conn.now tx.new.conn.now result }
     ensures commit { CommitsNothing S.Store tx.old.conn.now tx.new.conn.now }
     ensures survives { LeavesNoMore S.Store tx.old.conn.now tx.new.conn.now }
 {
+    let JourneyBegun { agent, plan } = begun;
     insert_journey(
         tx,
-        id,
-        num,
+        numbers.journeys,
+        numbers.num,
         agent,
         plan.steps() as u64,
         u64::from(plan.tries()),
     )?;
-    write_steps(tx, id, plan)?;
-    update_meta(tx, 2, num, id)?;
+    write_steps(tx, numbers.journeys, plan)?;
+    update_meta(tx, 2, numbers.num, numbers.journeys)?;
     Ok(())
-}
-
-/// A reply that is kept with a journey that begins.
-#[derive(Clone, Copy)]
-pub(crate) struct Keeping<'a> {
-    pub agent: &'a str,
-    pub key: &'a str,
-    pub text: &'a [u8],
-    pub line: &'a str,
-}
-
-/// Who begins a journey.
-#[derive(Clone, Copy)]
-pub(crate) enum Beginner<'a> {
-    /// The house.
-    House,
-    /// An agent, whose reply is kept.
-    Asking(Keeping<'a>),
-}
-
-/// The rows of a journey that begins, and of the reply that is kept with it.
-fn write_kept_journey<S: Alter>(
-    tx: &mut Transaction<'_, S>,
-    id: u64,
-    num: u64,
-    plan: &Plan,
-    keeping: Keeping<'_>,
-) -> Result<(), Error>
-    requires id { id < 2 ^ 63 }
-    requires num { num < 2 ^ 63 }
-
-    ensures same_reference { tx.new.conn.ghost_name ≡ tx.old.conn.ghost_name }
-    ensures made { WritesKept S.Store tx.old.conn.now tx.new.conn.now result
-        id num plan.now keeping.entry }
-    ensures live { WasOpen S.Store tx.old.conn.now tx.new.conn.now result }
-    ensures inside { StaysInside S.Store tx.old.conn.now tx.new.conn.now result }
-    ensures commit { CommitsNothing S.Store tx.old.conn.now tx.new.conn.now }
-    ensures survives { LeavesNoMore S.Store tx.old.conn.now tx.new.conn.now }
-{
-    write_journey(tx, id, num, keeping.agent, plan)?;
-    insert_answer(tx, keeping.agent, keeping.key, keeping.text, keeping.line)?;
-    Ok(())
-}
-
-/// The rows of a journey that begins, for whoever begins it.
-pub(crate) fn write_begin<S: Alter>(
-    tx: &mut Transaction<'_, S>,
-    id: u64,
-    num: u64,
-    plan: &Plan,
-    by: Beginner<'_>,
-) -> Result<(), Error>
-    requires id { id < 2 ^ 63 }
-    requires num { num < 2 ^ 63 }
-
-    ensures same_reference { tx.new.conn.ghost_name ≡ tx.old.conn.ghost_name }
-    ensures made { WritesBegin S.Store tx.old.conn.now tx.new.conn.now result
-        id num plan.now by.entry }
-    ensures live { WasOpen S.Store tx.old.conn.now tx.new.conn.now result }
-    ensures inside { StaysInside S.Store tx.old.conn.now tx.new.conn.now result }
-    ensures commit { CommitsNothing S.Store tx.old.conn.now tx.new.conn.now }
-    ensures survives { LeavesNoMore S.Store tx.old.conn.now tx.new.conn.now }
-{
-    match by {
-        Beginner::House => write_journey(tx, id, num, "desk", plan),
-        Beginner::Asking(keeping) => write_kept_journey(tx, id, num, plan, keeping),
-    }
 }
