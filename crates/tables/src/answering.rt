@@ -70,7 +70,7 @@ fn begin<S: Alter>(
     ask: Option<&Ask>,
 ) -> Result<Reply, Fault>
     requires outside { conn.old.in_transaction ≡ false }
-    requires agent { agent.now ≡ unwrap_or (asker (asked_by ask.entry)) house }
+    requires agent { agent.now ≡ unwrap_or (asker (asked_by ask)) house }
 
     ensures outside { conn.new.in_transaction ≡ false }
     ensures reply { AnswersNew S.Store conn.old conn.new (asked_by ask.entry) (Begin plan.now) result }

@@ -35,6 +35,17 @@ const THIRD: Numbers = Numbers {
     journeys: 1,
 };
 
+// the third event, which begins a second journey, and the one behind it
+const SECOND: Numbers = Numbers {
+    num: 3,
+    journeys: 2,
+};
+
+const FOURTH: Numbers = Numbers {
+    num: 4,
+    journeys: 2,
+};
+
 const COUNTED: Meta = Meta {
     version: 2,
     events: 3,
@@ -288,12 +299,18 @@ fn a_save_point_is_taken(rt: HostRuntime) -> Result<(), Fail> {
     Ok(())
 }
 
-// one night gets more places, and another one is new
+// a second journey; then one night gets more places, and another one is new
 #[test]
-fn a_batch_is_loaded_with_its_reply(rt: HostRuntime) -> Result<(), Fail> {
+fn an_event_is_committed_with_its_reply(rt: HostRuntime) -> Result<(), Fail> {
     let alloc = rt.alloc();
     let mut conn = Connection::open_in_memory(alloc)?;
     begin(&mut conn, 3)?;
+    let plan = Plan::from_line(alloc, "F/AL/A1/2030-06-01/1/1!0")?;
+    let event = Event::Begin(JourneyBegun {
+        agent: "desk",
+        plan: &plan,
+    });
+    assert!(rt; commit_event(&mut conn, SECOND, &event, None).is_ok());
     let supplier = Code::parse("HT").ok_or("a supplier")?;
     let product = Code::parse("H9").ok_or("a product")?;
     let second = Cell::new(Kind::Room, supplier, product, Night::parse("2030-06-03")?);
@@ -313,8 +330,10 @@ fn a_batch_is_loaded_with_its_reply(rt: HostRuntime) -> Result<(), Fail> {
         text: b"load june",
         line: "loaded june 2",
     };
-    assert!(rt; commit_event(&mut conn, THIRD, &Event::Load(batch), Some(keeping)).is_ok());
-    assert!(rt; read_meta(&mut conn)? == COUNTED);
+    assert!(rt; commit_event(&mut conn, FOURTH, &Event::Load(batch), Some(keeping)).is_ok());
+    let meta = read_meta(&mut conn)?;
+    assert_eq!(rt; (meta.events, meta.journeys), (4, 2));
+    assert!(rt; find_journey(&mut conn, 2)?.is_some_and(|j| j.num == 3));
     let stock = find_stock(alloc, &mut conn)?;
     assert_eq!(rt; stock.len(), 3);
     assert_eq!(rt; (stock[0].allot, stock[0].free), (5, 3));
@@ -322,7 +341,7 @@ fn a_batch_is_loaded_with_its_reply(rt: HostRuntime) -> Result<(), Fail> {
     assert_eq!(rt; (stock[2].allot, stock[2].free), (9, 9));
     let found = find_batch(&mut conn, "june")?;
     assert!(rt;
-        found.is_some_and(|b| b.num == 3 && b.content.as_slice() == batch.content.as_bytes())
+        found.is_some_and(|b| b.num == 4 && b.content.as_slice() == batch.content.as_bytes())
     );
     let kept = find_answer(&mut conn, "ann", "k1")?;
     assert!(rt; kept.is_some_and(|k| k.reply.as_str() == "loaded june 2"));
