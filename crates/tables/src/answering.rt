@@ -113,7 +113,7 @@ fn answer_begin<S: Alter>(
     ensures sound { WasClean S.Store conn.old conn.new }
 {
     match ask {
-        None => begin(alloc, conn, plan, "desk", None),
+        None => begin(alloc, conn, plan, "desk", ask),
         Some(by) => begin(alloc, conn, plan, by.agent().as_str(), ask),
     }
 }
