@@ -91,7 +91,7 @@ fn batch_of(alloc: Global, number: u32) -> io::Result<Batch> {
     let Some(name) = Name::parse(name.as_str()) else {
         return Err(fault());
     };
-    match Batch::new(name, rows) {
+    match Batch::new(alloc, name, rows) {
         Ok(batch) => Ok(batch),
         Err(_) => Err(fault()),
     }

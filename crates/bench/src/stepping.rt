@@ -84,7 +84,7 @@ fn seats(alloc: Global) -> io::Result<Batch> {
     let Some(name) = Name::parse("seats") else {
         return Err(unexpected());
     };
-    match Batch::new(name, rows) {
+    match Batch::new(alloc, name, rows) {
         Ok(batch) => Ok(batch),
         Err(_) => Err(unexpected()),
     }

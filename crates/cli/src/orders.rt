@@ -14,7 +14,7 @@ ghost use Rattle.cli.specs.Reading.{Keeps};
 use crate::faults::ServeFault;
 use crate::lines::Line;
 use allotment::{Cell, Row};
-use commands::{Batch, Command, Name, Refusal, number_in};
+use commands::{BadBatch, Batch, Command, Name, Refusal, number_in};
 use plan::{Plan, PlanFault};
 use std::alloc::{AllocError, Global};
 use std::str;
@@ -158,7 +158,11 @@ fn load_of(
         return Ok(None);
     };
     let rows = vec![in alloc; row]?;
-    Ok(Batch::new(name, rows).ok().map(Command::Load))
+    match Batch::new(alloc, name, rows) {
+        Ok(batch) => Ok(Some(Command::Load(batch))),
+        Err(BadBatch::Memory) => Err(AllocError),
+        Err(BadBatch::Count | BadBatch::Twice) => Ok(None),
+    }
 }
 
 /// So many places of a cell.

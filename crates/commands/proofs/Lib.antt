@@ -7,3 +7,5 @@ pub mod WordLemmas
 pub mod BlankLemmas
 pub mod LineLemmas
 pub mod OneLineLemmas
+pub mod CellKeyLemmas
+pub mod RepeatLemmas

@@ -1,5 +1,5 @@
 -- Batches: rows that set the allotments of cells, under a name.
-use Rattle.std.specs.Prelude.{ℕ, ◌&&◌, not, Bool, true, List, [], ◌∷◌, length, nat_le, if◌then◌else◌, Result, Ok, Err}
+use Rattle.std.specs.Prelude.{ℕ, ◌&&◌, not, Bool, true, List, [], ◌∷◌, ◌++◌, length, nat_le, if◌then◌else◌, Option, Some, None, Result, Ok, Err}
 use Rattle.std.specs.List.{list_any, list_all}
 use Rattle.allotment.specs.Limits.{is_between, is_good_cell, most_places}
 use Rattle.allotment.specs.Cells.{is_cell}
@@ -17,6 +17,16 @@ is_new_cell r later = not (list_any (λ (s : Row). is_cell r.cell s.cell) later)
 abbrev pub are_distinct : List Row → Bool
 are_distinct [] = true
 are_distinct (r ∷ later) = is_new_cell r later && are_distinct later
+
+-- among rows that stand behind these, the first one whose cell stands in a row before it: its place, from 0
+abbrev pub repeat_behind : List Row → List Row → Option ℕ
+repeat_behind earlier [] = None
+repeat_behind earlier (r ∷ later) =
+    if is_new_cell r earlier then repeat_behind (earlier ++ (r ∷ [])) later else Some (length earlier)
+
+-- the place, from 0, of the first row whose cell stands in an earlier row
+abbrev pub repeat_among : List Row → Option ℕ
+repeat_among rows = repeat_behind [] rows
 
 -- the row keeps the limits: those of its cell, and at most 100,000 places
 abbrev pub is_good_row : Row → Bool

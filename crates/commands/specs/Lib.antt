@@ -6,3 +6,5 @@ pub mod Texts
 pub mod Readings
 pub mod Batched
 pub mod Batches
+pub mod Making
+pub mod CellKeys

@@ -1,11 +1,11 @@
 //! Batches of allotments.
-ghost use Rattle.std.specs.Prelude.{◌≡◌, IsTrue};
+ghost use Rattle.std.specs.Prelude.{IsTrue};
 ghost use Rattle.std.specs.List.{list_all};
-ghost use Rattle.allotment.specs.Cells.{is_cell};
-ghost use Rattle.commands.specs.Batches.{is_new_cell, are_distinct, is_good_row};
+ghost use Rattle.commands.specs.Batches.{is_good_row};
 
 use crate::names::Name;
-use allotment::{Cell, Row};
+use crate::repeats::first_repeat;
+use allotment::Row;
 use std::alloc::{AllocError, Global};
 use std::marker::Model;
 
@@ -19,6 +19,8 @@ pub enum BadBatch {
     Count,
     /// A cell stands in two rows.
     Twice,
+    /// Memory ran out.
+    Memory,
 }
 
 /// A name, and 1 to 2,000 rows, each of another cell. To a contract it is the record of these.
@@ -44,20 +46,22 @@ impl Model for Batch {
 impl Batch {
     ghost use Rattle.std.specs.Prelude.{◌≡◌, IsTrue, IfOk};
     ghost use Rattle.commands.specs.Batches.{batch_made, is_batch};
+    ghost use Rattle.commands.specs.Making.{IsMade};
 
     /// The batch of this name and these rows, unless they are too many or none, or two of them are of one cell.
-    pub fn new(name: Name, rows: Vec<Row>) -> Result<Batch, BadBatch>
-        ensures { result ≡ batch_made name rows.items }
+    #[tactic(auto, using(crate::proofs::RepeatLemmas::distinct_if_none, crate::proofs::RepeatLemmas::repeated_if_some))]
+    pub fn new(alloc: Global, name: Name, rows: Vec<Row>) -> Result<Batch, BadBatch>
+        ensures made { IsMade (batch_made name rows.items) result }
     {
         let _name = name.as_str();
         know_limits(&rows);
         if rows.is_empty() || rows.len() > MOST_ROWS {
             return Err(BadBatch::Count);
         }
-        if has_each_cell_once(&rows) {
-            Ok(Batch { name, rows })
-        } else {
-            Err(BadBatch::Twice)
+        match first_repeat(alloc, &rows) {
+            Ok(None) => Ok(Batch { name, rows }),
+            Ok(Some(_)) => Err(BadBatch::Twice),
+            Err(_) => Err(BadBatch::Memory),
         }
     }
 
@@ -86,33 +90,6 @@ impl Batch {
             rows: Vec::from_slice(alloc, &self.rows)?,
         })
     }
-}
-
-/// Whether the two are one cell.
-fn is_same_cell(cell: Cell, other: Cell) -> bool
-    ensures same { result ≡ is_cell cell other }
-{
-    cell == other
-}
-
-/// Whether none of the rows is of this row's cell.
-fn is_new(row: &Row, later: &[Row]) -> bool
-    ensures new { result ≡ is_new_cell row.now later.now }
-{
-    let cell = row.cell();
-    !later.iter().any(|other| is_same_cell(cell, other.cell()))
-}
-
-/// Whether no cell stands in two rows.
-fn has_each_cell_once(rows: &[Row]) -> bool
-    ensures once { result ≡ are_distinct rows.now }
-{
-    for (i, row) in rows.iter().enumerate() {
-        if !is_new(row, &rows[i + 1..]) {
-            return false;
-        }
-    }
-    true
 }
 
 /// A row keeps the limits: there is no other.

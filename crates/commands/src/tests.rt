@@ -1,7 +1,7 @@
 // Values from outside: the tables of refusals, items, states and lines in the formats.
 use crate::{
     Agent, Ask, BadBatch, Batch, Cause, CsvCause, Cursor, Item, Key, Name, Phase, Refusal, Reply,
-    replies_have_one_line,
+    first_repeat, replies_have_one_line,
 };
 use allotment::{Cell, Night, Row};
 use plan::{BadPlan, PlanCause};
@@ -330,7 +330,7 @@ const COUNTS: [(u16, Option<BadBatch>); 4] = [
 fn a_batch_has_at_most_2000_rows(rt: HostRuntime) -> Result<(), Fail> {
     let name = Name::parse("b1").ok_or("no name")?;
     for (count, wrong) in COUNTS {
-        let batch = Batch::new(name, nights(rt.alloc(), count)?);
+        let batch = Batch::new(rt.alloc(), name, nights(rt.alloc(), count)?);
         assert_eq!(rt; batch.err(), wrong, "{count} rows");
     }
     Ok(())
@@ -355,7 +355,7 @@ fn a_batch_has_each_cell_once(rt: HostRuntime) -> Result<(), Fail> {
     for (text, is_twice) in CELLS {
         let other = Cell::parse(text).ok_or("no cell")?;
         let rows = vec![in alloc; Row::new(first, 4), Row::new(other, 5)]?;
-        match Batch::new(name, rows) {
+        match Batch::new(alloc, name, rows) {
             Err(wrong) => {
                 assert!(rt; is_twice, "{text}");
                 assert_eq!(rt; wrong, BadBatch::Twice);
@@ -368,6 +368,35 @@ fn a_batch_has_each_cell_once(rt: HostRuntime) -> Result<(), Fail> {
                 assert_eq!(rt; batch.clone(alloc)?.rows(), expected.as_slice());
             }
         }
+    }
+    Ok(())
+}
+
+// the cells of some rows, and the place of the first one that stood before
+#[rattlefmt::skip]
+const REPEATS: [(&[&str], Option<usize>); 5] = [
+    (&[],                                                          None),
+    (&["F/AL/A1/2030-06-01"],                                      None),
+    (&["F/AL/A1/2030-06-01", "F/AL/A1/2030-06-02"],                None),
+    (&["F/AL/A1/2030-06-01", "F/AL/A1/2030-06-01"],                Some(1)),
+    (&["F/A/A/2030-06-01", "R/A/A/2030-06-01", "F/A/A/2030-06-01"], Some(2)),
+];
+
+/// A row of each of these cells.
+fn rows_at(alloc: Global, cells: &[&str]) -> Result<Vec<Row>, Fail> {
+    let mut rows = Vec::new(alloc);
+    for text in cells {
+        let cell = Cell::parse(text).ok_or("no cell")?;
+        rows.push(Row::new(cell, 4))?;
+    }
+    Ok(rows)
+}
+
+#[test]
+fn a_repeat_is_found_at_its_place(rt: HostRuntime) -> Result<(), Fail> {
+    for (cells, place) in &REPEATS {
+        let rows = rows_at(rt.alloc(), cells)?;
+        assert_eq!(rt; first_repeat(rt.alloc(), &rows)?, *place, "{cells:?}");
     }
     Ok(())
 }

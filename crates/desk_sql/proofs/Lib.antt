@@ -4,6 +4,10 @@ pub mod Changing
 pub mod Creating
 pub mod Finding
 pub mod Framing
+pub mod HandedRows
+pub mod HandedCells
+pub mod HandedItems
+pub mod HandedJourneys
 pub mod Inserting
 pub mod Keyed
 pub mod Listings

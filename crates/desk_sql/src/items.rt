@@ -23,7 +23,7 @@ pub struct ItemFound {
     pub b: u64,
 }
 
-fn read_item(row: &Row) -> Result<ItemFound, Error>
+pub(crate) fn read_item(row: &Row) -> Result<ItemFound, Error>
     ensures { IfOk result (λ i. shows_item i ≡ four_of row.now) }
 {
     let num = row.get(0)?;

@@ -52,7 +52,7 @@ fn read_cursor(row: &Row) -> Result<Cursor, Error>
     })
 }
 
-fn read_journey(row: &Row) -> Result<JourneyFound, Error>
+pub(crate) fn read_journey(row: &Row) -> Result<JourneyFound, Error>
     ensures { IfOk result (λ j. shows_journey j ≡ nine_of row.now) }
 {
     let id = row.get(0)?;

@@ -9,6 +9,7 @@
 mod answers;
 mod batches;
 mod founding;
+mod handing;
 mod items;
 mod journeys;
 mod marks;
@@ -20,6 +21,9 @@ mod stock;
 pub use answers::{KeptAnswer, find_answer, insert_answer};
 pub use batches::{BatchFound, find_batch, insert_batch};
 pub use founding::make_tables;
+pub use handing::{
+    ItemsHanded, StockHanded, UnfinishedHanded, hand_items, hand_stock, hand_unfinished,
+};
 pub use items::{ItemFound, find_items, insert_item};
 pub use journeys::{
     Cursor, JourneyFound, find_journey, first_unfinished, insert_journey, move_journey,

@@ -92,7 +92,7 @@ pub struct CellFound {
     pub free: u64,
 }
 
-fn read_cell(row: &Row) -> Result<CellFound, Error>
+pub(crate) fn read_cell(row: &Row) -> Result<CellFound, Error>
     ensures { IfOk result (λ c. shows_cell c ≡ six_of row.now) }
 {
     let kind = row.get(0)?;

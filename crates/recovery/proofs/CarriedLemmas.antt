@@ -16,7 +16,7 @@ use Rattle.recovery.specs.Growing.{with_events, room_of, Grew, GrewFull, MayHave
 use Rattle.recovery.specs.Passes.{goes_on, makes, Carry, CarryOut, IsUnderWay, IsThrough}
 use Rattle.recovery.specs.declared.passes.Pass.{Pass}
 use Rattle.recovery.proofs.CarryLemmas.{in-open}
-use Rattle.recovery.proofs.FirstLemmas.{IsFirst, first-found, first-none}
+use Rattle.saga_core.proofs.FirstLemmas.{IsFirst, first-found, first-none}
 use Rattle.recovery.proofs.PassLemmas.{with_more, grew-join, may-join, may-just, journeys-fewer}
 use Rattle.recovery.proofs.ReachLemmas.{reached-further, reached-carried, reached-past}
 use Rattle.recovery.proofs.TurnedLemmas.{first-in}

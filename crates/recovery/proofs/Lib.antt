@@ -1,6 +1,5 @@
 pub mod AskLemmas
 pub mod TellLemmas
-pub mod FirstLemmas
 pub mod ReachLemmas
 pub mod TurnLemmas
 pub mod PassLemmas

@@ -15,7 +15,7 @@ use Rattle.saga_core.specs.declared.records.Brief.{Brief}
 use Rattle.recovery.specs.Asking.{stop_of, Stops, StopsOrNot, IsAtMost, none, one}
 use Rattle.recovery.specs.Growing.{with_events, room_of, Grew, GrewFull, MayHaveGrown}
 use Rattle.recovery.specs.Passes.{AreStops, AreFirstStops}
-use Rattle.recovery.proofs.FirstLemmas.{IsFirst, first-found, first-none}
+use Rattle.saga_core.proofs.FirstLemmas.{IsFirst, first-found, first-none}
 use Rattle.recovery.proofs.PassLemmas.{with_more, may-join, may-just, journeys-fewer}
 use Rattle.recovery.proofs.TellLemmas.{is_there}
 use Rattle.recovery.proofs.TurnLemmas.{Turning, turning-start, turning-more, turning-further, turns-none, turns_above, phase-same}

@@ -35,7 +35,7 @@ fn command_of(alloc: Global, line: &str) -> Result<Command, Fail> {
     Ok(match word {
         "load" => {
             let name = Name::parse("a").ok_or("no name")?;
-            Command::Load(Batch::new(name, rows_of(alloc, rest)?)?)
+            Command::Load(Batch::new(alloc, name, rows_of(alloc, rest)?)?)
         }
         "begin" => Command::Begin(Plan::from_line(alloc, rest)?),
         "abort" => {

@@ -13,84 +13,13 @@ use Rattle.allotment.specs.Want.{Wanted}
 use Rattle.allotment.specs.Cells.{is_cell, kind_number, cell_at, cells_of, numbers_from}
 use Rattle.allotment.specs.declared.cells.Cell.{Cell}
 use Rattle.allotment.specs.declared.places.Held.{Held}
+pub use Rattle.commands.proofs.CellKeyLemmas.{key_of, is_eq-then, is_eq-texts, is_eq-cells, is_cell-swap}
 use Rattle.ledger.proofs.Cells.{is_cell-same}
 use Rattle.saga_core.specs.Shown.{Places, places_said}
 use Rattle.saga_core.specs.MemoryStock.{cell_key_cmp, stock_at, with_less, with_back}
-use Rattle.saga_core.specs.declared.memory.keys.CellKey.{CellKey}
 use Rattle.saga_core.specs.declared.memory.stock.Stock.{Stock}
 
--- Cells as keys.
-
--- a cell as a key
-abbrev pub key_of : Cell → CellKey
-key_of x = record { cell = x }
-
--- two orders, one after the other, tell equal where both do
-pub is_eq-then : (a b : Ordering) → is_eq (ordering_then a b) ≡ (is_eq a && is_eq b)
-is_eq-then Less b = refl
-is_eq-then Equal b = refl
-is_eq-then Greater b = refl
-
--- three tests may be joined from either end
-and_three : (a b c : Bool) → (a && (b && c)) ≡ ((a && b) && c)
-and_three true b c = refl
-and_three false b c = refl
-
--- so may four
-and_four : (a b c d : Bool) → (a && (b && (c && d))) ≡ (((a && b) && c) && d)
-and_four true b c d = and_three b c d
-and_four false b c d = refl
-
--- four orders, one after another, tell equal where all do
-is_eq-four : (a b c d : Ordering)
-    → is_eq (ordering_then a (ordering_then b (ordering_then c d)))
-    ≡ (((is_eq a && is_eq b) && is_eq c) && is_eq d)
-is_eq-four a b c d =
-    is_eq-then a (ordering_then b (ordering_then c d))
-    ∙ ap (λ t. is_eq a && t) (is_eq-then b (ordering_then c d)
-    ∙ ap (λ t. is_eq b && t) (is_eq-then c d))
-    ∙ and_four (is_eq a) (is_eq b) (is_eq c) (is_eq d)
-
--- texts that are ordered alike are one text
-pub is_eq-texts : (a b : List ℕ) → is_eq (slice_cmp nat_cmp a b) ≡ bytes_eq a b
-is_eq-texts a b = sym (texts_ties a b)
-
--- numbers that are ordered alike are one number
-is_eq-numbers : (a b : ℕ) → is_eq (nat_cmp a b) ≡ (a == b)
-is_eq-numbers a b = sym (unsigned_ties a b)
-
--- two keys are alike where the cells are one
-pub is_eq-cells : (k x : Cell) → is_eq (cell_key_cmp (key_of k) (key_of x)) ≡ is_cell k x
-is_eq-cells k x =
-    is_eq-four (nat_cmp (kind_number k.kind) (kind_number x.kind))
-    (slice_cmp nat_cmp k.supplier x.supplier) (slice_cmp nat_cmp k.product x.product)
-    (nat_cmp k.night x.night)
-    ∙ ap (λ t. ((t && is_eq (slice_cmp nat_cmp k.supplier x.supplier))
-    && is_eq (slice_cmp nat_cmp k.product x.product)) && is_eq (nat_cmp k.night x.night))
-    (is_eq-numbers (kind_number k.kind) (kind_number x.kind))
-    ∙ ap (λ t. (((kind_number k.kind == kind_number x.kind) && t)
-    && is_eq (slice_cmp nat_cmp k.product x.product)) && is_eq (nat_cmp k.night x.night))
-    (is_eq-texts k.supplier x.supplier)
-    ∙ ap (λ t. (((kind_number k.kind == kind_number x.kind) && bytes_eq k.supplier x.supplier) && t)
-    && is_eq (nat_cmp k.night x.night)) (is_eq-texts k.product x.product)
-    ∙ ap (λ t. (((kind_number k.kind == kind_number x.kind) && bytes_eq k.supplier x.supplier)
-    && bytes_eq k.product x.product) && t) (is_eq-numbers k.night x.night)
-
--- it does not matter which of two cells is named first
-pub is_cell-swap : (x y : Cell) → is_cell x y ≡ is_cell y x
-is_cell-swap x y =
-    let kind = nat_eq_equiv.symm (kind_number x.kind) (kind_number y.kind) in
-    let supplier = nat_list_eq_equiv.symm x.supplier y.supplier in
-    let product = nat_list_eq_equiv.symm x.product y.product in
-    let night = nat_eq_equiv.symm x.night y.night in
-    ap (λ t. ((t && bytes_eq x.supplier y.supplier) && bytes_eq x.product y.product)
-    && (x.night == y.night)) kind
-    ∙ ap (λ t. (((kind_number y.kind == kind_number x.kind) && t) && bytes_eq x.product y.product)
-    && (x.night == y.night)) supplier
-    ∙ ap (λ t. (((kind_number y.kind == kind_number x.kind) && bytes_eq y.supplier x.supplier) && t)
-    && (x.night == y.night)) product
-    ∙ ap (λ t. (((kind_number y.kind == kind_number x.kind) && bytes_eq y.supplier x.supplier)
-    && bytes_eq y.product x.product) && t) night
+-- Places of cells.
 
 -- what is written at a key is found there, and elsewhere what was there
 pub stock_at-put : (old new : Stock) (k : Cell) (held : Held)

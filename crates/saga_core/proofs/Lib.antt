@@ -16,3 +16,4 @@ pub mod LoadLemmas
 pub mod DecidingLemmas
 pub mod RunLemmas
 pub mod WorldLemmas
+pub mod FirstLemmas

@@ -4,6 +4,7 @@ pub mod Runs
 pub mod MemoryStock
 pub mod MemoryAnswers
 pub mod MemoryJourneys
+pub mod RowSources
 pub mod Rulings
 pub mod MemoryNext
 pub mod Memory

@@ -2,28 +2,18 @@
 use Rattle.std.specs.Prelude.{◌≡◌, ℕ, ◌+◌, ◌-◌, ◌≤◌, ⊤, Bool, true, false, List, filter, nat_le, nat_lt, if◌then◌else◌, Option, Some, option_map, unwrap_or}
 use Rattle.std.specs.List.{list_all}
 use Rattle.std.specs.BTreeMap as tree
-use Rattle.std.specs.Ordering.{nat_cmp, on, then_cmp}
-use Rattle.std.specs.Cmp.Lexicographic.{slice_cmp}
-use Rattle.std.specs.declared.cmp.Ordering.{Ordering}
 use Rattle.allotment.specs.Want.{Wanted}
-use Rattle.allotment.specs.Cells.{kind_number, is_cell, cells_of}
+use Rattle.allotment.specs.Cells.{is_cell, cells_of}
 use Rattle.allotment.specs.declared.cells.Cell.{Cell}
 use Rattle.allotment.specs.declared.cells.Row.{Row}
 use Rattle.plan.specs.Planned.{Planned, step_count, option_count, want_at}
+pub use Rattle.commands.specs.CellKeys.{cell_key_cmp}
 use Rattle.commands.specs.declared.items.Item.{Item}
 use Rattle.commands.specs.declared.items.Item.TheVariants.{Transaction, Compensation}
 use Rattle.ledger.specs.History.{last_of}
 use Rattle.ledger.specs.Ledger.{places_in}
 use Rattle.saga_core.specs.Shown.{Places, places_said}
-use Rattle.saga_core.specs.declared.memory.keys.CellKey.{CellKey}
 use Rattle.saga_core.specs.declared.memory.stock.Stock.{Stock}
-
--- cells as keys are ordered by kind, supplier, product and night
-abbrev pub cell_key_cmp : CellKey → CellKey → Ordering
-cell_key_cmp =
-    then_cmp (on (λ k. kind_number k.cell.kind) nat_cmp)
-    (then_cmp (on (λ k. k.cell.supplier) (slice_cmp nat_cmp))
-    (then_cmp (on (λ k. k.cell.product) (slice_cmp nat_cmp)) (on (λ k. k.cell.night) nat_cmp)))
 
 -- what the stock has of a cell
 abbrev pub stock_at : Stock → Cell → Option Places

@@ -8,6 +8,7 @@ mod books;
 mod deciding;
 mod memory;
 mod records;
+mod row_sources;
 mod rulings;
 mod runs;
 #[cfg(test)]
@@ -22,5 +23,6 @@ pub use deciding::{Move, decide};
 pub use ledger;
 pub use memory::MemBook;
 pub use records::{Brief, Record};
+pub use row_sources::{Listed, RowSource};
 pub use rulings::{going, is_finished, is_running, saved, turned};
 pub use runs::run;

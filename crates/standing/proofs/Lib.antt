@@ -19,3 +19,5 @@ pub mod RecordRows
 pub mod Readings
 pub mod Founding
 pub mod Accepting
+pub mod PlanParts
+pub mod KeepLemmas

@@ -1,12 +1,13 @@
 -- The rows that beginning a journey writes.
-use Rattle.std.specs.Prelude.{ℕ, List, ◌++◌, take, Option, Some, None}
-use Rattle.plan.specs.Planned.{Planned, StepPlan, step_count}
+use Rattle.std.specs.Prelude.{ℕ, false, List, [], ◌∷◌, ◌++◌, take, Option, Some, None, option_map, unwrap_or}
+use Rattle.allotment.specs.Want.{Wanted}
+use Rattle.plan.specs.Planned.{Planned, StepPlan, numbered, is_marked_at, want_at, step_count}
 use Rattle.commands.specs.Asked.{Asked}
 use Rattle.commands.specs.Texts.{reply_line}
 use Rattle.commands.specs.declared.replies.Reply.{Reply}
 use Rattle.desk_sql.specs.Rows.{Tables, MetaRow, StepRow, AnswerRow}
 use Rattle.desk_sql.specs.Changes.{counts, begun, adds_journey, adds_answer, kept}
-use Rattle.standing.specs.Called.{step_rows_of}
+use Rattle.standing.specs.Called.{option_row, option_rows, step_rows_of, none_taken}
 
 -- the row of meta, where the last event and the last journey have these numbers
 abbrev pub meta_row_at : ℕ → ℕ → MetaRow
@@ -39,3 +40,23 @@ answer_row_of ask reply = kept ask.agent ask.key ask.text (reply_line reply)
 abbrev pub with_answer : Option Asked → Reply → Tables → Tables
 with_answer None reply t = t
 with_answer (Some ask) reply t = adds_answer (answer_row_of ask reply) t
+
+-- the rows of the options of one step of a plan that begins
+abbrev pub rows_of_step : ℕ → Planned → ℕ → List StepRow
+rows_of_step id plan i =
+    unwrap_or
+    (option_map (λ (s : StepPlan). option_rows none_taken id i s) (numbered plan.steps i)) []
+
+-- the row of that option, where there is one
+abbrev pub rows_of_option : ℕ → Planned → ℕ → ℕ → List StepRow
+rows_of_option id plan i c =
+    unwrap_or
+    (option_map (λ (w : Wanted). option_row id i (is_marked_at plan i) c false w ∷ [])
+    (want_at plan i c)) []
+
+-- the rows of the first options of a step, so many of them
+abbrev pub first_rows_of_step : ℕ → Planned → ℕ → ℕ → List StepRow
+first_rows_of_step id plan i n =
+    unwrap_or
+    (option_map (λ (s : StepPlan). option_rows none_taken id i (first_options n s))
+    (numbered plan.steps i)) []

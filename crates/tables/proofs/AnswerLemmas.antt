@@ -1,19 +1,18 @@
 -- What a begin comes to, and the rows that lead there. For the functions that answer.
-use Rattle.std.proofs.Common.{◌≡◌, ℕ, ◌+◌, ◌<◌, List, [], ◌∷◌, length, Option, Some, None, IsTrue, refl, sym, ap, subst, ◌∙◌}
-use Rattle.std.specs.Prelude.{option_map, string_bytes}
+use Rattle.std.proofs.Common.{◌≡◌, ℕ, ◌+◌, ◌<◌, length, Some, None, IsTrue, refl, sym, ap, ◌∙◌}
 use Rattle.commands.specs.Asked.{Asked}
 use Rattle.commands.specs.Texts.{reply_line}
-use Rattle.commands.specs.Request.{Request, Begin}
+use Rattle.commands.specs.Request.{Begin}
 use Rattle.commands.specs.declared.replies.Reply.{Reply}
 use Rattle.commands.specs.declared.replies.Reply.TheVariants.{Begun as Begins}
-use Rattle.desk_sql.specs.Rows.{Tables, AnswerRow}
+use Rattle.desk_sql.specs.Rows.{Tables}
 use Rattle.desk_sql.specs.Found.{FindsAnswer, answer_of}
 use Rattle.desk_sql.specs.declared.answers.KeptAnswer.{KeptAnswer}
 use Rattle.plan.specs.Planned.{Planned, is_plan}
 use Rattle.ledger.specs.Ledger.{journeys}
-use Rattle.ledger.specs.Answer.{State, KeptReply, Outcome, most_events, kept_for, outcome, answered_again}
+use Rattle.ledger.specs.Answer.{State, Outcome, most_events, kept_for, outcome}
 use Rattle.standing.specs.Standing.{StandsFor, IsDesk}
-use Rattle.standing.specs.Reading.{Tells, IsAnswerOf}
+use Rattle.standing.specs.Reading.{IsAnswerOf}
 use Rattle.standing.proofs.Beginning.{begin_stands}
 use Rattle.standing.proofs.Readings.{next_is_above, answer_read}
 use Rattle.standing.proofs.Answered.{tells-some, tells-none, outcome-known}

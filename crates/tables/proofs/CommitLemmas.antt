@@ -1,15 +1,15 @@
 -- What the commit of an event keeps. For the functions of `committing`.
-use Rattle.std.proofs.Common.{◌≡◌, ◌⊎◌, inl, inr, ℕ, true, false, IsTrue, refl, sym, ap, subst, ◌∙◌}
+use Rattle.std.proofs.Common.{◌≡◌, ◌⊎◌, inl, inr, true, false, IsTrue, refl, sym, ap, subst, ◌∙◌}
 use Rattle.sqlite.specs.Tree.{Trees}
 use Rattle.sqlite.specs.Store.{Ghosts}
 use Rattle.sqlite.specs.Effect.{Database}
 use Rattle.sqlite.specs.State.{State as Connected, Shows as Sees2}
 use Rattle.sqlite.specs.Held.{Held, state}
-use Rattle.desk_sql.specs.Calls.{MayRun, Makes, Sees}
+use Rattle.desk_sql.specs.Calls.{MayRun, Makes}
 use Rattle.desk_sql.specs.Rows.{Tables, Shows}
 use Rattle.ledger.specs.Answer.{State}
 use Rattle.standing.specs.Standing.{StandsFor}
-use Rattle.tables.specs.Keeping.{IsKept, SeesDesk, Means, MeansDesk, Leaves}
+use Rattle.tables.specs.Keeping.{IsKept, SeesDesk, Means, MeansDesk}
 
 -- While a store is open, a stop leaves its last commit and nothing else: a law that each store keeps.
 abbrev pub KeepsOne : {S : Type 0} → Ghosts S → Type 0

@@ -1,18 +1,15 @@
 -- What a request for a move of a journey comes to, by what the rules answer. For `make` and `carry_out`.
 use Rattle.std.proofs.Common.{◌≡◌, ℕ, ◌+◌, ◌<◌, ◌≤◌, length, Option, Some, None, IsTrue, refl, sym, ap, subst, ◌∙◌}
 use Rattle.std.specs.Prelude.{Ok, Err}
-use Rattle.plan.specs.Planned.{Planned}
 use Rattle.commands.specs.Asked.{Asked}
 use Rattle.commands.specs.declared.items.Cursor.{Cursor}
 use Rattle.commands.specs.declared.items.Item.{Item}
 use Rattle.commands.specs.declared.refusals.Refusal.{Refusal}
 use Rattle.commands.specs.declared.refusals.Refusal.TheVariants.{NoJourney, NoSavePoint, NoSave, Limit}
-use Rattle.commands.specs.declared.replies.Reply.{Reply}
 use Rattle.commands.specs.declared.replies.Reply.TheVariants as reply
 use Rattle.ledger.specs.Answer.{State, Outcome, asker, answer_within, is_request, most_events, kept_for, carried_out, state_with, outcome}
 use Rattle.ledger.specs.Replies.{Answer, refused, seen_journey, answer_move, step_choices, abort_choices, stop_choices, save_choices}
-use Rattle.ledger.specs.Ledger.{Did, is_allowed, journeys}
-use Rattle.changes.specs.Answered.{moves}
+use Rattle.ledger.specs.Ledger.{Did}
 use Rattle.changes.specs.Changed.{cursor_after}
 use Rattle.saga_core.specs.declared.records.Record.{Record}
 use Rattle.desk_sql.specs.declared.meta.Meta.{Meta}
@@ -23,7 +20,7 @@ use Rattle.tables.specs.Moving.{asked_for, IsDue, IsEventOf, LeadsTo}
 use Rattle.tables.specs.Placing.{begun_as}
 use Rattle.tables.specs.declared.moves.Motion.{Motion}
 use Rattle.tables.specs.declared.moves.Motion.TheVariants as motion
-use Rattle.tables.proofs.LeadLemmas.{IsMade, item_leads}
+use Rattle.tables.proofs.LeadLemmas.{item_leads}
 
 -- each request for a move keeps the limits
 move_request : (id : ℕ) (why : Motion) → IsTrue (is_request (asked_for id why))

@@ -1,6 +1,5 @@
 -- The rows of each event of a journey lead to the state with it. For `make` and `commit_answered`.
-use Rattle.std.proofs.Common.{◌≡◌, ℕ, ◌+◌, ◌<◌, length, Option, Some, None, IsTrue, refl, sym, ap, subst, ◌∙◌}
-use Rattle.std.specs.Prelude.{string_bytes}
+use Rattle.std.proofs.Common.{◌≡◌, ℕ, ◌+◌, length, Option, Some, None, IsTrue, sym, ap, subst, ◌∙◌}
 use Rattle.allotment.specs.Want.{Wanted}
 use Rattle.plan.specs.Planned.{want_at}
 use Rattle.commands.specs.Asked.{Asked}

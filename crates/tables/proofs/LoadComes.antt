@@ -1,5 +1,5 @@
 -- What a load comes to, and the rows that lead there. For the functions of `loading` that answer.
-use Rattle.std.proofs.Common.{◌≡◌, ℕ, ◌+◌, ◌<◌, ◌≤◌, List, [], ◌∷◌, length, Bool, true, false, if◌then◌else◌, Option, Some, None, IsTrue, inl, refl, sym, ap, subst, ◌∙◌}
+use Rattle.std.proofs.Common.{◌≡◌, ℕ, ◌+◌, ◌<◌, ◌≤◌, List, length, Bool, true, false, if◌then◌else◌, Option, Some, None, IsTrue, inl, refl, sym, ap, subst, ◌∙◌}
 use Rattle.std.specs.Prelude.{position, not, bytes_eq, ◌&&◌, Result, Ok, Err, IfOk, OnOk}
 use Rattle.std.specs.List.{list_all}
 use Rattle.std.proofs.lemmas.Bool.{and_parts}
@@ -16,7 +16,7 @@ use Rattle.commands.specs.declared.refusals.Refusal.TheVariants.{BelowHeld, Batc
 use Rattle.commands.specs.declared.replies.Reply.{Reply}
 use Rattle.commands.specs.declared.replies.Reply.TheVariants as reply
 use Rattle.ledger.specs.Answer.{State, Answer, Outcome, asker, answer_within, most_events, kept_for, carried_out, state_with, outcome}
-use Rattle.ledger.specs.Ledger.{Event, Loaded, batches_named, journeys, is_allowed, is_not_below_held}
+use Rattle.ledger.specs.Ledger.{Loaded, journeys, is_allowed, is_not_below_held}
 use Rattle.ledger.specs.Replies.{refused, loaded, answer_known, answer_new, answer_load, are_same_rows}
 use Rattle.sqlite_rules.specs.Lists.{Has}
 use Rattle.desk_sql.specs.Rows.{Tables}

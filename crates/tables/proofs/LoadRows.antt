@@ -1,6 +1,6 @@
 -- What is read of the rows of a batch, one after another. For `read_held`, `read_places` and `cells_of`.
-use Rattle.std.proofs.Common.{◌≡◌, ℕ, zero, suc, ◌+◌, ◌<◌, List, [], ◌∷◌, ◌++◌, length, map, take, get_or, cond, Bool, true, false, Option, Some, None, IsTrue, refl, sym, ap, ap₂, ◌∙◌, arith, append_assoc, append-nil}
-use Rattle.std.specs.Prelude.{position, not, nat_lt, ◌&&◌}
+use Rattle.std.proofs.Common.{◌≡◌, ℕ, zero, suc, ◌+◌, ◌<◌, List, [], ◌∷◌, ◌++◌, length, map, take, get_or, cond, Bool, true, false, Some, None, refl, sym, ap, ap₂, ◌∙◌, arith, append_assoc, append-nil}
+use Rattle.std.specs.Prelude.{position, not, nat_lt}
 use Rattle.std.specs.List.{list_all, position_or_len}
 use Rattle.std.proofs.lemmas.Bool.{and_parts, and_from, lt-ltb}
 use Rattle.std.proofs.lemmas.Bool.Decides.{nat_tests}
@@ -15,7 +15,6 @@ use Rattle.allotment.specs.Texts.{row_text, line_feed}
 use Rattle.allotment.specs.declared.cells.Cell.{Cell}
 use Rattle.allotment.specs.declared.cells.Row.{Row}
 use Rattle.allotment.specs.declared.places.Held.{Held as HeldPlaces}
-use Rattle.commands.specs.declared.refusals.Refusal.{Refusal}
 use Rattle.ledger.specs.Answer.{State}
 use Rattle.ledger.specs.Ledger.{held, is_not_below_held}
 use Rattle.desk_sql.specs.Rows.{StockRow}
@@ -28,8 +27,8 @@ use Rattle.writing.specs.Loads.{put_each}
 use Rattle.writing.proofs.LoadLemmas.{take-more}
 use Rattle.tables.specs.Keeping.{Keeps}
 use Rattle.tables.specs.Loading.{GetsPlaces, HavePlaces, HasLooked, row_loaded}
-use Rattle.tables.specs.Reading.{OnlyReads}
-use Rattle.tables.proofs.ReadLemmas.{reads_then}
+use Rattle.reading.specs.Reading.{OnlyReads}
+use Rattle.reading.proofs.ReadLemmas.{reads_then}
 
 -- Places.
 

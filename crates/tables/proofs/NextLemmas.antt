@@ -1,6 +1,6 @@
 -- What a record that is seen tells of its journey, and what the rules answer to its moves. For `moves` and `stepping`.
 use Rattle.std.proofs.Common.{◌≡◌, ℕ, Bool, true, false, List, Option, Some, None, refl, ap, sym, ◌∙◌, subst}
-use Rattle.std.specs.Prelude.{◌&&◌, not, nat_lt, if◌then◌else◌, option_map, Result, Ok, Err, MatchResult, IsTrue}
+use Rattle.std.specs.Prelude.{◌&&◌, not, nat_lt, if◌then◌else◌, option_map, Result, Ok, Err}
 use Rattle.plan.specs.Planned.{Planned}
 use Rattle.savepoints.specs.Marks.{is_taken_in}
 use Rattle.savepoints.specs.Turns.{may_be_made}
@@ -16,7 +16,7 @@ use Rattle.commands.specs.declared.items.Phase.TheVariants.{Run, Back, Ended, Un
 use Rattle.commands.specs.declared.refusals.Refusal.{Refusal}
 use Rattle.commands.specs.declared.refusals.Refusal.TheVariants.{NoSavePoint, NoSave}
 use Rattle.ledger.specs.Answer.{State}
-use Rattle.ledger.specs.Replies.{Answer, refused, answer_move, sees, seen_journey, step_choices, abort_choices, stop_choices, save_choices}
+use Rattle.ledger.specs.Replies.{Answer, refused, answer_move, sees, seen_journey, abort_choices, stop_choices, save_choices}
 use Rattle.ledger.specs.Ledger.{Event, Journey, journey_at, history, IsLegal}
 use Rattle.ledger.specs.History.{last_save, position_of, phase, is_finished}
 use Rattle.changes.specs.Answered.{moves}

@@ -8,7 +8,7 @@ use Rattle.commands.specs.declared.items.Item.{Item}
 use Rattle.commands.specs.declared.items.Item.TheVariants as item
 use Rattle.commands.specs.declared.items.Phase.{Phase}
 use Rattle.commands.specs.declared.items.Phase.TheVariants.{Run, Back, Ended, Undone}
-use Rattle.changes.specs.Changed.{phase_up, phase_down, phase_back, used_after, cursor_after}
+use Rattle.changes.specs.Changed.{phase_up, phase_down, phase_back, cursor_after}
 use Rattle.desk_sql.specs.Changes.{IsSmallCursor}
 use Rattle.standing.specs.Called.{target_of}
 use Rattle.moving.specs.Moving.{cursor_written}
@@ -16,7 +16,7 @@ use Rattle.writing.specs.Kinds.{IsSmall}
 use Rattle.writing.specs.declared.events.Event.{Event}
 use Rattle.tables.specs.Moving.{IsEventOf}
 use Rattle.tables.specs.Placing.{IsPlaced, MayBeMade}
-use Rattle.tables.proofs.WritingLemmas.{few_steps, few_options}
+use Rattle.standing.proofs.PlanParts.{few_steps, few_options}
 
 -- small numbers are written small
 numbers_small : (pos used : ℕ) (p : Phase) → pos ≤ 25 → target_of p ≤ 25 → used ≤ 2 ^ 62

@@ -1,6 +1,6 @@
 -- What is decided of a step of a journey is what the rules answer to it. For `next_step`.
 use Rattle.std.proofs.Common.{◌≡◌, ℕ, ◌==◌, Bool, true, false, List, Option, Some, None, IsTrue, refl, ap, ap₂, sym, ◌∙◌, subst, eqb-true}
-use Rattle.std.specs.Prelude.{◌&&◌, ◌↔◌, find, option_map, Result, Ok, Err}
+use Rattle.std.specs.Prelude.{◌↔◌, find, option_map, Result, Ok, Err}
 use Rattle.std.proofs.lemmas.Bool.{and_parts}
 use Rattle.plan.specs.Planned.{Planned}
 use Rattle.savepoints.specs.Rules as rules
@@ -13,8 +13,8 @@ use Rattle.commands.specs.declared.items.Phase.TheVariants.{Run, Back, Ended, Un
 use Rattle.commands.specs.declared.refusals.Refusal.{Refusal}
 use Rattle.commands.specs.declared.refusals.Refusal.TheVariants.{Finished, NoSavePoint}
 use Rattle.ledger.specs.Answer.{State}
-use Rattle.ledger.specs.History.{net, last_of, next_want, phase, is_running, is_finished, is_open, may_come}
-use Rattle.ledger.specs.Ledger.{Event, Journey, journey_at, history, fits, IsLegal}
+use Rattle.ledger.specs.History.{next_want, phase, is_running, is_finished, is_open, may_come}
+use Rattle.ledger.specs.Ledger.{Journey, journey_at, history, fits, IsLegal}
 use Rattle.ledger.specs.Recovery.{is_forward}
 use Rattle.ledger.specs.Replies.{answer_move, seen_journey, step_choices}
 use Rattle.ledger.proofs.Lists.{find-passes}
@@ -32,7 +32,7 @@ use Rattle.desk_sql.specs.declared.steps.StepFound.{StepFound}
 use Rattle.standing.specs.Standing.{StandsFor, IsDesk}
 use Rattle.standing.proofs.Readings.{steps_read}
 use Rattle.moving.proofs.Taken.{taken_row}
-use Rattle.saga_core.specs.Deciding.{names, IsHere, NamesStep}
+use Rattle.saga_core.specs.Deciding.{names, NamesStep}
 use Rattle.saga_core.specs.declared.deciding.Move.{Move}
 use Rattle.saga_core.specs.declared.deciding.Move.TheVariants as move
 use Rattle.saga_core.specs.declared.records.Record.{Record}

@@ -1,5 +1,5 @@
 -- What a call over a connection keeps, reads and leaves.
-use Rattle.std.specs.Prelude.{◌≡◌, ℕ, ◌≤◌, List, length, Option, Some, None, Result, Err, OnOk, IfOk, IsTrue, string_bytes}
+use Rattle.std.specs.Prelude.{◌≡◌, ◌≤◌, length, Option, Some, None, Result, Err, OnOk, IfOk, IsTrue, string_bytes}
 use Rattle.sqlite.specs.Store.{Ghosts}
 use Rattle.sqlite.specs.Held.{Held, state}
 use Rattle.sqlite.specs.State.{HasCleanDisk}
@@ -15,7 +15,7 @@ use Rattle.ledger.specs.Ledger.{journeys}
 use Rattle.ledger.specs.Answer.{State, KeptReply, most_events, kept_for, answered_again, outcome}
 use Rattle.standing.specs.Standing.{IsDesk}
 use Rattle.tables.specs.Keeping.{Keeps, MayLeave}
-use Rattle.tables.specs.Reading.{ShowsKept}
+use Rattle.reading.specs.Reading.{ShowsKept}
 
 -- the row of meta counts the events and the journeys
 pub record Counts (s : State) (m : Meta) : Type 0 where

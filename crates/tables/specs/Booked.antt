@@ -1,9 +1,9 @@
 -- What a book over tables answers, keeps and leaves: the words of every book, at its fields.
-use Rattle.std.specs.Prelude.{Option, Result}
+use Rattle.std.specs.Prelude.{◌≡◌, ℕ, Option, Result}
 use Rattle.std.specs.Borrow.{Bor}
 use Rattle.std.specs.Option.{option_copied}
 use Rattle.sqlite.specs.Store.{Ghosts}
-use Rattle.sqlite.specs.Held.{Held, state}
+use Rattle.sqlite.specs.Held.{state}
 use Rattle.sqlite.specs.State.{HasCleanDisk}
 use Rattle.commands.specs.Asked.{Asked}
 use Rattle.commands.specs.Request.{Request}
@@ -11,15 +11,28 @@ use Rattle.commands.specs.declared.faults.Fault.{Fault}
 use Rattle.commands.specs.declared.replies.Reply.{Reply}
 use Rattle.ledger.specs.Answer.{State}
 use Rattle.saga_core.specs.Books as books
+use Rattle.saga_core.specs.Shown.{first_unfinished}
+use Rattle.saga_core.specs.declared.records.Brief.{Brief}
 use Rattle.tables.specs.Keeping.{Stands, MayLeave}
 use Rattle.tables.specs.declared.books.TableBook.{TableBook}
 
 module _ {S : Type 0} (g : Ghosts S) where
   -- the book stands for this state
   abbrev pub StandsBook : TableBook S g → State → Type 0
-  StandsBook b s = Stands b.failed (state g b.conn) s
+  StandsBook b s = Stands b.failed b.finished (state g b.conn) s
 
   module _ (old new : TableBook S g) where
+    -- the first unfinished journey above a number is shown
+    abbrev pub ShowsFirst : ℕ → Result (Option Brief) Fault → Type 0
+    ShowsFirst after result =
+        HasCleanDisk (state g new.conn)
+        → books.Shows (StandsBook old) (λ s found. found ≡ first_unfinished s.ledger after) result
+
+    -- unless the store failed, the book stands for what it stood for
+    abbrev pub KeepsKnowing : {V : Type 0} → Result V Fault → Type 0
+    KeepsKnowing result =
+        HasCleanDisk (state g new.conn) → books.Keeps (StandsBook old) (StandsBook new) result
+
     abbrev pub Answers : Option (Bor Asked) → Request → Result Reply Fault → Type 0
     Answers ask asked result =
         HasCleanDisk (state g new.conn)

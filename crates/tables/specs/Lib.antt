@@ -1,10 +1,9 @@
 pub mod Answering
 pub mod Booked
+pub mod Finished
 pub mod Keeping
 pub mod Loading
 pub mod Moving
 pub mod Opening
 pub mod Placing
-pub mod PlansTold
-pub mod Reading
 pub mod Writing

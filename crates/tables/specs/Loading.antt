@@ -1,5 +1,5 @@
 -- What a load of a batch finds, comes to and leaves.
-use Rattle.std.specs.Prelude.{◌≡◌, ℕ, ◌+◌, ◌-◌, not, Bool, true, false, List, [], ◌∷◌, map, position, nat_le, Option, Some, None, Result, IfOk, OnOk, MatchResult, IsTrue}
+use Rattle.std.specs.Prelude.{◌≡◌, ℕ, ◌+◌, ◌-◌, not, true, false, List, [], ◌∷◌, map, position, nat_le, Option, Some, None, Result, IfOk, OnOk, IsTrue}
 use Rattle.std.specs.List.{list_all}
 use Rattle.sqlite.specs.Store.{Ghosts}
 use Rattle.sqlite.specs.Held.{Held, state}
@@ -27,7 +27,7 @@ use Rattle.standing.specs.Standing.{IsDesk}
 use Rattle.moving.specs.Loading.{loaded_row}
 use Rattle.tables.specs.Answering.{Counts}
 use Rattle.tables.specs.Keeping.{Keeps, MayLeave}
-use Rattle.tables.specs.Reading.{OnlyReads}
+use Rattle.reading.specs.Reading.{OnlyReads}
 
 -- Known batches.
 

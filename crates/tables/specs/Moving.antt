@@ -30,7 +30,7 @@ use Rattle.writing.specs.Kinds as kinds
 use Rattle.writing.specs.Kinds.{rows_after}
 use Rattle.writing.specs.declared.events.Numbers.{Numbers}
 use Rattle.writing.specs.declared.events.Event.{Event}
-use Rattle.writing.specs.declared.events.Event.TheVariants.{Transaction, Compensation, Turn, Save, Load}
+use Rattle.writing.specs.declared.events.Event.TheVariants.{Transaction, Compensation, Turn, Save}
 use Rattle.tables.specs.Answering.{Counts}
 use Rattle.tables.specs.Keeping.{Keeps, MayLeave}
 use Rattle.tables.specs.Placing.{IsSeen, Fits}

@@ -1,10 +1,10 @@
 -- Where a journey stands by what a record shows of it, and what may come of it next.
-use Rattle.std.specs.Prelude.{◌≡◌, ℕ, ◌+◌, ◌-◌, ◌<◌, ◌≤◌, ◌^◌, Bool, List, IsTrue, Option, Some, None, Result, MatchResult}
+use Rattle.std.specs.Prelude.{◌≡◌, ℕ, ◌+◌, ◌<◌, ◌≤◌, ◌^◌, List, IsTrue, Option, Some, None, Result, MatchResult}
 use Rattle.plan.specs.Planned.{Planned, step_count, option_count}
 use Rattle.commands.specs.declared.items.Cursor.{Cursor}
 use Rattle.commands.specs.declared.items.Item.{Item}
 use Rattle.commands.specs.declared.items.Item.TheVariants.{Transaction, Compensation, Turn, Save}
-use Rattle.commands.specs.declared.items.Phase.TheVariants.{Run, Back}
+use Rattle.commands.specs.declared.items.Phase.TheVariants.{Back}
 use Rattle.commands.specs.declared.refusals.Refusal.{Refusal}
 use Rattle.ledger.specs.History.{is_open}
 use Rattle.ledger.specs.Ledger as l

@@ -1,15 +1,14 @@
 -- What writing a journey that begins makes of the rows.
-use Rattle.std.specs.Prelude.{ℕ, false, List, [], ◌∷◌, Result, OnOk, IsTrue, option_map, unwrap_or}
+use Rattle.std.specs.Prelude.{ℕ, List, Result, OnOk, IsTrue}
 use Rattle.sqlite.specs.Store.{Ghosts}
 use Rattle.sqlite.specs.Held.{Held, state}
 use Rattle.sqlite.specs.State.{HasCleanDisk, KeepsCommit, Survives}
 use Rattle.sqlite.specs.declared.error.Error.{Error}
 use Rattle.desk_sql.specs.Calls.{MayRun, Makes}
 use Rattle.desk_sql.specs.Rows.{Tables, StepRow}
-use Rattle.allotment.specs.Want.{Wanted}
-use Rattle.plan.specs.Planned.{Planned, StepPlan, numbered, is_marked_at, want_at}
-use Rattle.standing.specs.Called.{option_row, option_rows, step_rows_of, none_taken}
-use Rattle.standing.specs.Beginning.{adds_steps, first_options, with_journey}
+use Rattle.plan.specs.Planned.{Planned}
+use Rattle.standing.specs.Called.{step_rows_of}
+use Rattle.standing.specs.Beginning.{adds_steps, rows_of_step, rows_of_option, with_journey}
 use Rattle.desk_sql.specs.Changes.{AreJourneysBelow, adds_answer, kept}
 use Rattle.commands.specs.Names.{house}
 use Rattle.ledger.specs.Answer.{State}
@@ -25,19 +24,6 @@ module _ {S : Type 0} (g : Ghosts S) (old new : Held S) where
       HasCleanDisk (state g new) → (t : Tables) → MayRun (state g old) t
       → IsTrue (state g old).is_open → OnOk result (Makes (state g old) (state g new) (after t))
 
--- the rows of the options of one step of a plan that begins
-abbrev pub rows_of_step : ℕ → Planned → ℕ → List StepRow
-rows_of_step id plan i =
-    unwrap_or
-    (option_map (λ (s : StepPlan). option_rows none_taken id i s) (numbered plan.steps i)) []
-
--- the row of that option, where there is one
-abbrev pub rows_of_option : ℕ → Planned → ℕ → ℕ → List StepRow
-rows_of_option id plan i c =
-    unwrap_or
-    (option_map (λ (w : Wanted). option_row id i (is_marked_at plan i) c false w ∷ [])
-    (want_at plan i c)) []
-
 module _ {S : Type 0} (g : Ghosts S) (old new : Held S) where
   -- a success adds the row of that option
   abbrev pub WritesOption : {V : Type 0} → Result V Error → ℕ → Planned → ℕ → ℕ → Type 0
@@ -51,13 +37,6 @@ module _ {S : Type 0} (g : Ghosts S) (old new : Held S) where
   -- a success adds the rows of all steps
   abbrev pub WritesSteps : {V : Type 0} → Result V Error → ℕ → Planned → Type 0
   WritesSteps result id plan = WritesOn g old new result (adds_steps (step_rows_of id plan))
-
--- the rows of the first options of a step, so many of them
-abbrev pub first_rows_of_step : ℕ → Planned → ℕ → ℕ → List StepRow
-first_rows_of_step id plan i n =
-    unwrap_or
-    (option_map (λ (s : StepPlan). option_rows none_taken id i (first_options n s))
-    (numbered plan.steps i)) []
 
 -- so far these rows of steps are written, in one open transaction, and nothing is committed
 module _ {S : Type 0} (g : Ghosts S) (old now : Held S) where

@@ -6,17 +6,17 @@ ghost use Rattle.commands.specs.Request.{Begin};
 ghost use Rattle.ledger.specs.Answer.{is_request};
 ghost use Rattle.tables.specs.Answering.{AnswersAgain, Finds, KeepsOn, KeepsAtMemory};
 ghost use Rattle.tables.specs.Answering.{Answers, KeepsNext, LeavesOld, AnswersNew, KeepsNew, LeavesNew};
-ghost use Rattle.tables.specs.Reading.{LeavesAsBefore, ShowsKept, WasClean};
+ghost use Rattle.reading.specs.Reading.{LeavesAsBefore, ShowsKept, WasClean};
 
 use crate::beginning::{Beginner, Keeping};
 use crate::committing::commit_begin;
 use crate::counts::{MOST_EVENTS, read_counts};
-use crate::faults::fault_of;
 use crate::loading::answer_load;
 use crate::moves::{Motion, answer_move};
 use commands::{Ask, Command, Fault, Refusal, Reply};
 use desk_sql::{KeptAnswer, find_answer};
 use plan::Plan;
+use reading::fault_of;
 use sqlite::{Alter, Connection};
 use std::alloc::Global;
 

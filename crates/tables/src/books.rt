@@ -3,11 +3,12 @@ ghost use Rattle.std.specs.Prelude.{◌≡◌, ◌↔◌, false, IfOk, IsOk, IsE
 ghost use Rattle.commands.specs.Orders.{request_of};
 
 use crate::answering::{answer, know_limits};
+use crate::counts::read_counts;
 use crate::faults::OpenFault;
 use crate::opening::Opened;
-use crate::reading::{read_cells, read_first_unfinished, read_history, read_journey, read_stock};
 use allotment::{Cell, Held, Night, Want};
 use commands::{Ask, Command, Fault, Item, Reply};
+use reading::{read_cells, read_first_unfinished, read_history, read_journey, read_stock};
 use saga_core::{Book, Brief, Record};
 use sqlite::{Alter, Connection};
 use std::alloc::Global;
@@ -18,6 +19,8 @@ pub struct TableBook<S: Alter> {
     conn: Connection<S>,
     alloc: Global,
     failed: bool,
+    /// The journeys up to this number have finished, so that none of them is looked at for one that has not.
+    finished: u64,
     ghost outside: { conn.in_transaction ≡ false },
 }
 
@@ -30,14 +33,49 @@ impl<S: Alter> TableBook<S> {
             conn,
             alloc: _,
             failed: _,
+            finished: _,
         } = self;
         conn
     }
 }
 
 impl<S: Alter> TableBook<S> {
-    ghost use Rattle.tables.specs.Reading.{WasClean};
+    ghost use Rattle.reading.specs.Reading.{WasClean};
     ghost use Rattle.tables.specs.Booked.{Answers, MovesOn, KeepsAtMemory, LeavesAtStore, LeavesNoMore};
+    ghost use Rattle.tables.specs.Booked.{ShowsFirst, KeepsKnowing};
+    ghost use Rattle.reading.specs.Reading.{LeavesAsBefore};
+
+    /// The first journey that has not finished, and from then on those before it are known to have.
+    fn look_on(&mut self) -> Result<Option<Brief>, Fault>
+        ensures first { ShowsFirst S.Store self.old self.new self.old.finished result }
+        ensures same { KeepsKnowing S.Store self.old self.new result }
+        ensures stop { LeavesAsBefore S.Store self.old.conn self.new.conn }
+        ensures failed { self.new.failed ≡ self.old.failed }
+        ensures sound { WasClean S.Store self.old.conn self.new.conn }
+    {
+        let found = read_first_unfinished(&mut self.conn, self.finished)?;
+        self.finished = match &found {
+            Some(brief) => brief.id.saturating_sub(1),
+            None => read_counts(&mut self.conn)?.journeys,
+        };
+        Ok(found)
+    }
+
+    /// The unfinished journey with the least number above this one. Those that are known to have finished are not
+    /// looked at again.
+    fn look(&mut self, after: u64) -> Result<Option<Brief>, Fault>
+        ensures first { ShowsFirst S.Store self.old self.new after result }
+        ensures same { KeepsKnowing S.Store self.old self.new result }
+        ensures stop { LeavesAsBefore S.Store self.old.conn self.new.conn }
+        ensures failed { self.new.failed ≡ self.old.failed }
+        ensures sound { WasClean S.Store self.old.conn self.new.conn }
+    {
+        if after <= self.finished {
+            self.look_on()
+        } else {
+            read_first_unfinished(&mut self.conn, after)
+        }
+    }
 
     /// Answers a command. Once the store has failed nothing is asked of it any more.
     fn carry_out(&mut self, command: &Command, ask: Option<&Ask>) -> Result<Reply, Fault>
@@ -71,13 +109,18 @@ impl<S: Alter> Opened<S> {
     pub fn into_book(self, alloc: Global) -> Result<TableBook<S>, (Opened<S>, OpenFault)>
         ensures book { IfOk result (λ b. b.conn ≡ self.conn) }
         ensures working { IfOk result (λ b. b.failed ≡ false) }
-        ensures ready { IsOk result }
+        ensures unknown { IfOk result (λ b. b.finished ≡ 0) }
+        ensures ready { self.conn.in_transaction ≡ false → IsOk result }
     {
+        if !self.is_outside() {
+            return Err((self, OpenFault::Store));
+        }
         let conn = self.into_connection();
         Ok(TableBook {
             conn,
             alloc,
             failed: false,
+            finished: 0,
         })
     }
 }
@@ -89,7 +132,7 @@ impl<S: Alter> Book for TableBook<S> {
 
     ghost is_sound = { λ b. HasCleanDisk (state S.Store b.conn) };
 
-    ghost stands = { λ b s. Stands b.failed (state S.Store b.conn) s };
+    ghost stands = { λ b s. Stands b.failed b.finished (state S.Store b.conn) s };
 
     ghost leaves = { λ b s t. MayLeave (state S.Store b.conn) s t };
 
@@ -139,7 +182,7 @@ impl<S: Alter> Book for TableBook<S> {
         if self.failed {
             return Err(Fault::Store);
         }
-        match read_first_unfinished(&mut self.conn, after) {
+        match self.look(after) {
             Ok(shown) => Ok(shown),
             Err(Fault::Memory) => Err(Fault::Memory),
             Err(Fault::Store) => {

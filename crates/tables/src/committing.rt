@@ -7,13 +7,13 @@ ghost use Rattle.writing.specs.Kinds.{IsSmall};
 ghost use Rattle.tables.specs.Answering.{KeepsAtMemory};
 ghost use Rattle.tables.specs.Keeping.{Keeps, MayLeave};
 ghost use Rattle.tables.specs.Moving.{LeadsTo as LeadsToWith};
-ghost use Rattle.tables.specs.Reading.{WasClean};
+ghost use Rattle.reading.specs.Reading.{WasClean};
 ghost use Rattle.tables.specs.Writing.{LeadsTo};
 
 use crate::beginning::{Beginner, write_begin};
-use crate::faults::fault_of;
 use commands::{Ask, Fault, Reply};
 use plan::Plan;
+use reading::fault_of;
 use sqlite::{Alter, Connection};
 use std::alloc::Global;
 use writing::{Event, Keeping, Numbers, commit_event};

@@ -1,11 +1,11 @@
 //! How many events and journeys there are.
 ghost use Rattle.std.specs.Prelude.{◌≡◌, false, IfOk};
 ghost use Rattle.tables.specs.Answering.{Counts, IsCounted, KeepsOn, KeepsAtMemory};
-ghost use Rattle.tables.specs.Reading.{LeavesAsBefore, ShowsKept, WasClean};
+ghost use Rattle.reading.specs.Reading.{LeavesAsBefore, ShowsKept, WasClean};
 
-use crate::faults::fault_of;
 use commands::Fault;
 use desk_sql::{Meta, read_meta};
+use reading::fault_of;
 use sqlite::{Alter, Connection};
 
 /// How many events a ledger may have.

@@ -1,8 +1,4 @@
-//! Faults of the store, as the desk tells them.
-ghost use Rattle.std.specs.Prelude.{◌≡◌, ◌↔◌};
-
-use commands::Fault;
-use sqlite::{Error, ErrorCode};
+//! Why a store could not be opened.
 
 /// Why a store could not be opened.
 #[derive(Clone, Copy, Debug, PartialEq, Eq)]
@@ -13,14 +9,4 @@ pub enum OpenFault {
     Store,
     /// Memory ran out.
     Memory,
-}
-
-/// The fault of an error before the commit: nothing has changed, so want of memory is told as such.
-pub(crate) fn fault_of(error: &Error) -> Fault
-    ensures memory { result ≡ Fault.Memory ↔ error.now ≡ Error.SqliteFailure ErrorCode.OutOfMemory }
-{
-    match error {
-        Error::SqliteFailure(ErrorCode::OutOfMemory) => Fault::Memory,
-        _ => Fault::Store,
-    }
 }

@@ -16,10 +16,7 @@ mod loading;
 mod moves;
 mod next;
 mod opening;
-mod plans_told;
-mod reading;
 mod stepping;
-mod telling;
 
 pub use books::TableBook;
 pub use faults::OpenFault;

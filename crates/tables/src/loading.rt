@@ -12,14 +12,14 @@ ghost use Rattle.tables.specs.Answering.{AnswersNew, KeepsNew, LeavesNew, KeepsA
 ghost use Rattle.tables.specs.Loading.{TellsName, AnswersKnown, IsHeldOf, LeavesPlaces, GetsPlaces};
 ghost use Rattle.tables.specs.Loading.{HavePlaces, TellsBelow, IsNewName, IsLoadDue};
 ghost use Rattle.tables.specs.Loading.{AnswersWhere, KeepsWhere, LeavesWhere};
-ghost use Rattle.tables.specs.Reading.{KeepsOn, LeavesAsBefore, ShowsKept, WasClean};
+ghost use Rattle.reading.specs.Reading.{KeepsOn, LeavesAsBefore, ShowsKept, WasClean};
 
 use crate::committing::commit_answered;
 use crate::counts::{MOST_EVENTS, read_counts};
-use crate::faults::fault_of;
 use allotment::{Cell, Held, Row};
 use commands::{Ask, Batch, Fault, Refusal, Reply};
 use desk_sql::{BatchFound, Meta, NightFound, NightRange, find_batch, find_nights};
+use reading::fault_of;
 use sqlite::{Alter, Connection};
 use std::alloc::{AllocError, Global};
 use writing::{BatchLoaded, Event, Numbers};

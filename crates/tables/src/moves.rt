@@ -10,16 +10,16 @@ ghost use Rattle.writing.specs.Kinds.{IsSmall};
 ghost use Rattle.tables.specs.Answering.{AnswersNew, KeepsNew, LeavesNew, KeepsAtMemory, IsCounted};
 ghost use Rattle.tables.specs.Moving.{AnswersDue, KeepsDue, LeavesDue, IsEventOf, IsNext, asked_for};
 ghost use Rattle.tables.specs.Placing.{IsPlaced, MayBeMade, Sees, begun_as};
-ghost use Rattle.tables.specs.Reading.{KeepsOn, LeavesAsBefore, ShowsKept, WasClean};
+ghost use Rattle.reading.specs.Reading.{KeepsOn, LeavesAsBefore, ShowsKept, WasClean};
 
 use crate::committing::commit_answered;
 use crate::counts::{MOST_EVENTS, read_counts};
 use crate::next::{cursor_after, is_placed, may_be_made};
-use crate::reading::{LARGEST, read_journey};
 use crate::stepping::next_step;
 use commands::{Ask, Cause, Cursor, Fault, Item, Refusal, Reply};
 use desk_sql::Meta;
 use plan::Plan;
+use reading::{LARGEST, read_journey};
 use saga_core::{Record, saved, turned};
 use savepoints::Turn;
 use sqlite::{Alter, Connection};

@@ -11,13 +11,20 @@ ghost use Rattle.sqlite.specs.State.{HasCleanDisk};
 ghost use Rattle.sqlite.specs.Held.{state};
 ghost use Rattle.desk_sql.specs.Schema.{no_schema};
 ghost use Rattle.tables.specs.Opening.{KeepsIt, LeavesIt, SawVersion, Tells};
-ghost use Rattle.tables.specs.Reading.{WasClean};
+ghost use Rattle.reading.specs.Reading.{WasClean};
 
-use crate::faults::{OpenFault, fault_of};
-use commands::Fault;
+use crate::faults::OpenFault;
+use allotment::{Cell, Held};
+use commands::{Fault, Item};
 use desk_sql::{make_tables, read_meta};
+use reading::{
+    ItemRows, StockRows, UnfinishedRows, fault_of, item_rows, read_journey, stock_rows,
+    unfinished_rows,
+};
+use saga_core::{Brief, Record, RowSource};
 use sqlite::{Alter, Connection};
 use sqlite_schema::schema::Schema;
+use std::alloc::Global;
 
 /// The version of the tables that are made and read here.
 const VERSION: u64 = 2;
@@ -26,17 +33,84 @@ const VERSION: u64 = 2;
 #[derive(Drop)]
 pub struct Opened<S: Alter> {
     conn: Connection<S>,
-    ghost outside: { conn.in_transaction ≡ false },
 }
 
 impl<S: Alter> Opened<S> {
     /// Its connection, as it is.
     pub(crate) fn into_connection(self) -> Connection<S>
         ensures same { result ≡ self.conn }
-        ensures outside { result.in_transaction ≡ false }
     {
         let Opened { conn } = self;
         conn
+    }
+
+    /// Whether its connection is in no transaction, as each is that was opened.
+    pub(crate) fn is_outside(&self) -> bool
+        ensures outside { IsTrue result ↔ (self.now.conn.in_transaction ≡ false) }
+    {
+        self.conn.is_autocommit()
+    }
+}
+
+impl<S: Alter> Opened<S> {
+    ghost use Rattle.ledger.specs.Ledger.{history};
+    ghost use Rattle.saga_core.specs.Shown.{IsStock};
+    ghost use Rattle.reading.specs.Handing.{BeginsKept, IsLeftAsItWas, unfinished_of};
+    ghost use Rattle.reading.specs.Reading.{IsRecordAt, KeepsOn, LeavesAsBefore, ShowsKept};
+
+    /// The journey of that number, if there is one. A fault changes nothing, and a later call asks the store again.
+    pub fn journey_of(&mut self, alloc: Global, id: u64) -> Result<Option<Record>, Fault>
+        ensures journey { ShowsKept S.Store self.old.conn self.new.conn result (IsRecordAt id) }
+        ensures same { KeepsOn S.Store self.old.conn self.new.conn }
+        ensures stop { LeavesAsBefore S.Store self.old.conn self.new.conn }
+        ensures sound { WasClean S.Store self.old.conn self.new.conn }
+    {
+        if !self.is_outside() {
+            return Err(Fault::Store);
+        }
+        read_journey(alloc, &mut self.conn, id)
+    }
+
+    /// The cells that have an allotment, with their places, by kind, supplier, product and night. Like all rows that are
+    /// handed out here they are asked for by one statement, and nothing is gathered before.
+    pub fn stock_rows<'c>(&'c mut self) -> Result<StockRows<'c, S>, Fault>
+        ensures rows { IfOk result (λ it. BeginsKept S.Store self.old.conn it.handed.rows.conn.now
+            (λ s rows. IsStock s.ledger rows)
+            (⟦<StockRows<'c, S> as RowSource<(Cell, Held)>>⟧.rests it)) }
+        ensures none { IfOk result (λ it.
+            ⟦<StockRows<'c, S> as RowSource<(Cell, Held)>>⟧.given it ≡ 0) }
+        ensures kept { IfOk result (λ it.
+            IsLeftAsItWas S.Store self.old.conn it.handed.rows.conn.now) }
+    {
+        stock_rows(&mut self.conn)
+    }
+
+    /// The journeys that are not finished, in short, by rising number.
+    pub fn unfinished_rows<'c>(&'c mut self) -> Result<UnfinishedRows<'c, S>, Fault>
+        ensures rows { IfOk result (λ it. BeginsKept S.Store self.old.conn it.handed.rows.conn.now
+            (λ s briefs. briefs ≡ unfinished_of s.ledger)
+            (⟦<UnfinishedRows<'c, S> as RowSource<Brief>>⟧.rests it)) }
+        ensures none { IfOk result (λ it.
+            ⟦<UnfinishedRows<'c, S> as RowSource<Brief>>⟧.given it ≡ 0) }
+        ensures kept { IfOk result (λ it.
+            IsLeftAsItWas S.Store self.old.conn it.handed.rows.conn.now) }
+    {
+        unfinished_rows(&mut self.conn)
+    }
+
+    /// The items of the journey of that number, oldest first; none where it is absent.
+    pub fn item_rows<'c>(&'c mut self, id: u64) -> Result<ItemRows<'c, S>, Fault>
+        ensures rows { IfOk result (λ it. BeginsKept S.Store self.old.conn it.handed.rows.conn.now
+            (λ s items. items ≡ history s.ledger id)
+            (⟦<ItemRows<'c, S> as RowSource<Item>>⟧.rests it)) }
+        ensures none { IfOk result (λ it. ⟦<ItemRows<'c, S> as RowSource<Item>>⟧.given it ≡ 0) }
+        ensures kept { IfOk result (λ it.
+            IsLeftAsItWas S.Store self.old.conn it.handed.rows.conn.now) }
+    {
+        if !self.is_outside() {
+            return Err(Fault::Store);
+        }
+        item_rows(&mut self.conn, id)
     }
 }
 
@@ -109,6 +183,7 @@ pub fn open_from<S: Alter>(mut conn: Connection<S>) -> Result<Opened<S>, (Connec
 
     ensures finds { IfOk result (λ o. KeepsIt S.Store conn o.conn) }
     ensures version { IfOk result (λ o. SawVersion S.Store conn o.conn 2) }
+    ensures ready { IfOk result (λ o. o.conn.in_transaction ≡ false) }
     ensures unlimited { IfOk result (λ o. o.conn.step_limit ≡ None) }
     ensures sound { IfOk result (λ o. WasClean S.Store conn o.conn) }
     ensures outside { IfErr result (λ e. e.0.in_transaction ≡ false) }

@@ -2,14 +2,13 @@
 ghost use Rattle.std.specs.Prelude.{◌≡◌, ◌<◌, ◌^◌, false, find, option_map};
 ghost use Rattle.tables.specs.Moving.{IsNext, FitsNext, IsLastOption, is_taken_row, option_of_row};
 ghost use Rattle.tables.specs.Placing.{IsPlaced};
-ghost use Rattle.tables.specs.Reading.{KeepsOn, LeavesAsBefore, ShowsKept, WasClean};
+ghost use Rattle.reading.specs.Reading.{KeepsOn, LeavesAsBefore, ShowsKept, WasClean};
 ghost use Rattle.tables.specs.declared.moves.Motion.TheVariants as motion;
 
-use crate::faults::fault_of;
-use crate::reading::read_cells;
 use allotment::fits;
 use commands::{Cause, Fault, Item, Refusal};
 use desk_sql::{StepFound, find_steps};
+use reading::{fault_of, read_cells};
 use saga_core::{Move, Record, decide, is_running};
 use savepoints::option_at;
 use sqlite::{Alter, Connection};

@@ -9,7 +9,7 @@ use Rattle.desk_sql.specs.Calls.{MayRun, Makes}
 use Rattle.desk_sql.specs.Rows.{Tables, Shows}
 use Rattle.ledger.specs.Answer.{State}
 use Rattle.standing.specs.Standing.{StandsFor}
-use Rattle.writing.specs.Keeping.{IsKept, Keeps, SeesDesk, Means, MeansDesk}
+use Rattle.standing.specs.Keeping.{IsKept, Keeps, SeesDesk, Means, MeansDesk}
 
 -- While a store is open, a stop leaves its last commit and nothing else: a law that each store keeps.
 abbrev pub KeepsOne : {S : Type 0} → Ghosts S → Type 0

@@ -2,7 +2,7 @@
 ghost use Rattle.std.specs.Prelude.{◌≡◌, false, Err, OnOk};
 ghost use Rattle.sqlite.specs.Held.{state};
 ghost use Rattle.ledger.specs.Answer.{State};
-ghost use Rattle.writing.specs.Keeping.{Keeps, MayLeave, WasClean};
+ghost use Rattle.standing.specs.Keeping.{Keeps, MayLeave, WasClean};
 ghost use Rattle.writing.specs.Kinds.{IsSmall, LeadsTo};
 
 use crate::events::{Event, Keeping, Numbers};

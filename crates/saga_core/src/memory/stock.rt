@@ -1,6 +1,6 @@
 //! The places of all cells, kept by cell.
-use crate::memory::keys::CellKey;
 use allotment::{Cell, Held, Night, Row, Want, give, set, take};
+use commands::CellKey;
 use std::alloc::{AllocError, Global};
 use std::collections::BTreeMap;
 

@@ -76,7 +76,7 @@ pub fn command_of(alloc: Global, line: &str) -> Result<Command, Fail> {
         "load" => {
             let (name, rows) = rest.split_once(' ').ok_or("no rows")?;
             let name = Name::parse(name).ok_or("no name")?;
-            Command::Load(Batch::new(name, rows_of(alloc, rows)?)?)
+            Command::Load(Batch::new(alloc, name, rows_of(alloc, rows)?)?)
         }
         "begin" => Command::Begin(Plan::from_line(alloc, rest)?),
         "step" => Command::Step(rest.parse()?),

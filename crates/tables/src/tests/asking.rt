@@ -47,7 +47,7 @@ fn batch_of(alloc: Global, name: &str, cells: &[(&str, u32)]) -> Result<Batch, F
         rows.push(Row::new(cell, (*places).min(100_000)))?;
     }
     let name = Name::parse(name).ok_or("no name")?;
-    Ok(Batch::new(name, rows)?)
+    Ok(Batch::new(alloc, name, rows)?)
 }
 
 pub(super) fn command_of(alloc: Global, asked: Asked) -> Result<Command, Fail> {

@@ -25,7 +25,7 @@ fn batch_of(alloc: Global, name: &str, cells: &[(&str, u32)]) -> Result<Batch, F
         rows.push(Row::new(cell, (*places).min(100_000)))?;
     }
     let name = Name::parse(name).ok_or("no name")?;
-    Ok(Batch::new(name, rows).map_err(|_| "no batch")?)
+    Ok(Batch::new(alloc, name, rows).map_err(|_| "no batch")?)
 }
 
 fn command_of(alloc: Global, asked: Asked) -> Result<Command, Fail> {

@@ -81,7 +81,7 @@ fn load(alloc: Global, dice: &mut Dice) -> Result<Command, Fail> {
         let places = dice.roll(9).min(100_000) as u32;
         rows.push(Row::new(cell, places))?;
     }
-    Ok(Command::Load(Batch::new(name, rows)?))
+    Ok(Command::Load(Batch::new(alloc, name, rows)?))
 }
 
 /// The number of one of the last journeys, or one that is not there yet.

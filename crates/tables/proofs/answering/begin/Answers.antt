@@ -1,11 +1,9 @@
-use Rattle.std.proofs.Common.{◌≡◌, ◌+◌, arith, ap}
+use Rattle.std.proofs.Common.{◌+◌, arith, ap}
 use Rattle.std.specs.Prelude.{None}
 use Rattle.sqlite.specs.State.{HasCleanDisk}
 use Rattle.sqlite.specs.Held.{state}
 use Rattle.commands.specs.Request.{Begin}
 use Rattle.ledger.specs.Answer.{outcome}
-use Rattle.tables.specs.Writing.{LeadsTo}
-use Rattle.tables.specs.declared.beginning.Beginner.TheVariants.{House}
 use Rattle.tables.proofs.AnswerLemmas.{AreNext, house_leads}
 use Rattle.tables.proofs.answering.begin.Goals as goal
 

@@ -1,11 +1,9 @@
-use Rattle.std.proofs.Common.{◌≡◌, ◌+◌, arith, ap, ◌∙◌}
-use Rattle.std.specs.Prelude.{Some, None}
+use Rattle.std.proofs.Common.{◌+◌, arith, ap, ◌∙◌}
+use Rattle.std.specs.Prelude.{Some}
 use Rattle.sqlite.specs.State.{HasCleanDisk}
 use Rattle.sqlite.specs.Held.{state}
 use Rattle.commands.specs.Request.{Begin}
 use Rattle.ledger.specs.Answer.{outcome}
-use Rattle.tables.specs.Writing.{LeadsTo}
-use Rattle.tables.specs.declared.beginning.Beginner.TheVariants.{Asking}
 use Rattle.tables.proofs.AnswerLemmas.{AreNext, agent_leads, IsKeeping}
 use Rattle.tables.proofs.answering.begin_new.Goals as goal
 

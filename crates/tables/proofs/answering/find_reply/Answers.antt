@@ -1,9 +1,7 @@
-use Rattle.std.proofs.Common.{◌≡◌, arith, IsTrue, inl}
-use Rattle.std.specs.Prelude.{Some, None}
+use Rattle.std.proofs.Common.{arith}
 use Rattle.sqlite.specs.State.{HasCleanDisk}
 use Rattle.sqlite.specs.Held.{state}
-use Rattle.desk_sql.specs.Found.{FindsAnswer}
-use Rattle.tables.proofs.KeepLemmas.{seen_by, unchanged_keeps, quiet_keeps}
+use Rattle.standing.proofs.KeepLemmas.{seen_by, unchanged_keeps}
 use Rattle.tables.proofs.AnswerLemmas.{known_reply, new_key}
 use Rattle.tables.proofs.answering.find_reply.Goals as goal
 

@@ -1,4 +1,4 @@
-use Rattle.std.proofs.Common.{◌≡◌, ◌<◌, Bool, true, false, arith, lit<}
+use Rattle.std.proofs.Common.{◌<◌, Bool, true, false, arith, lit<}
 use mir.Val.{bool_byte}
 use Rattle.tables.proofs.beginning.write_option.Goals as goal
 

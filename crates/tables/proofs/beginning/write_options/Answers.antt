@@ -1,10 +1,12 @@
-use Rattle.std.proofs.Common.{◌≡◌, ◌+◌, ◌++◌, List, refl, sym, ap, subst, ◌∙◌, arith, rules}
-use Rattle.sqlite.specs.Held.{Held, state}
+use Rattle.std.proofs.Common.{◌+◌, List, sym, subst, ◌∙◌, arith}
+use Rattle.sqlite.specs.Held.{state}
 use Rattle.desk_sql.specs.Calls.{Makes}
 use Rattle.desk_sql.specs.Rows.{StepRow}
 use Rattle.standing.specs.Beginning.{adds_steps}
-use Rattle.tables.specs.Writing.{HasWritten, first_rows_of_step, rows_of_option}
-use Rattle.tables.proofs.WritingLemmas.{few_options, HasWritten-more, first_rows_of_step-more, first_rows_of_step-all}
+use Rattle.standing.specs.Beginning.{first_rows_of_step, rows_of_option}
+use Rattle.tables.specs.Writing.{HasWritten}
+use Rattle.standing.proofs.PlanParts.{few_options, first_rows_of_step-more, first_rows_of_step-all}
+use Rattle.tables.proofs.WritingLemmas.{HasWritten-more}
 use Rattle.tables.proofs.beginning.write_options.Goals as goal
 
 pub write_option-requires-clause-options : goal.write_option-requires-clause-options

@@ -1,12 +1,8 @@
 -- So far the rows of the first options are written.
-use Rattle.std.proofs.Common.{◌≡◌, ◌+◌, ◌≤◌}
-use Rattle.std.specs.Prelude.{IsTrue}
-use Rattle.sqlite.specs.State.{HasCleanDisk, KeepsCommit, Survives}
-use Rattle.sqlite.specs.Held.{state}
-use Rattle.desk_sql.specs.Calls.{MayRun, Makes, LeavesNoMore, CommitsNothing}
-use Rattle.desk_sql.specs.Rows.{Tables}
+use Rattle.std.proofs.Common.{◌≡◌}
 use Rattle.plan.specs.Planned.{option_count}
-use Rattle.tables.specs.Writing.{HasWritten, first_rows_of_step}
+use Rattle.standing.specs.Beginning.{first_rows_of_step}
+use Rattle.tables.specs.Writing.{HasWritten}
 use Rattle.tables.proofs.beginning.write_options.Given as goal
 
 abbrev pub invariant-loop-option : goal.invariant-loop-option

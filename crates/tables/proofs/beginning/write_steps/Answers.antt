@@ -1,12 +1,14 @@
-use Rattle.std.proofs.Common.{◌≡◌, ◌+◌, ◌++◌, List, refl, sym, ap, subst, ◌∙◌, arith}
+use Rattle.std.proofs.Common.{◌+◌, List, sym, ap, subst, ◌∙◌, arith}
 use Rattle.sqlite.specs.Held.{state}
 use Rattle.desk_sql.specs.Calls.{Makes}
 use Rattle.desk_sql.specs.Rows.{StepRow}
 use Rattle.standing.specs.Called.{step_rows_of, none_taken}
 use Rattle.standing.specs.Beginning.{adds_steps, first_steps}
 use Rattle.standing.proofs.PlanWriting.{step_rows-all}
-use Rattle.tables.specs.Writing.{HasWritten, rows_of_step}
-use Rattle.tables.proofs.WritingLemmas.{HasWritten-more, step_rows_of-more}
+use Rattle.standing.specs.Beginning.{rows_of_step}
+use Rattle.tables.specs.Writing.{HasWritten}
+use Rattle.standing.proofs.PlanParts.{step_rows_of-more}
+use Rattle.tables.proofs.WritingLemmas.{HasWritten-more}
 use Rattle.tables.proofs.beginning.write_steps.Goals as goal
 
 -- the rows of one more step are written

@@ -1,4 +1,4 @@
-use Rattle.std.proofs.Common.{◌≡◌, subst}
+use Rattle.std.proofs.Common.{subst}
 use Rattle.std.specs.Option.{option_copied}
 use Rattle.tables.specs.Moving.{LeadsTo}
 use Rattle.tables.proofs.LeadLemmas.{unkept_leads}

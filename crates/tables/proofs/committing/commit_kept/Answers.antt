@@ -1,4 +1,4 @@
-use Rattle.std.proofs.Common.{◌≡◌, ◌∙◌}
+use Rattle.std.proofs.Common.{◌∙◌}
 use Rattle.tables.proofs.LeadLemmas.{IsKeeping, kept_leads}
 use Rattle.tables.proofs.committing.commit_kept.Goals as goal
 

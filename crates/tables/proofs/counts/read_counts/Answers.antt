@@ -1,8 +1,7 @@
-use Rattle.std.proofs.Common.{◌≡◌, arith, IsTrue, inl}
+use Rattle.std.proofs.Common.{arith}
 use Rattle.sqlite.specs.State.{HasCleanDisk}
 use Rattle.sqlite.specs.Held.{state}
-use Rattle.tables.specs.Reading.{WasClean}
-use Rattle.tables.proofs.KeepLemmas.{seen_by, unchanged_keeps}
+use Rattle.standing.proofs.KeepLemmas.{seen_by, unchanged_keeps}
 use Rattle.standing.proofs.Readings.{meta_read}
 use Rattle.tables.proofs.counts.read_counts.Goals as goal
 

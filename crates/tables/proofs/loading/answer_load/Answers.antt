@@ -1,6 +1,6 @@
 -- A known name is answered by the text that was found of it, and a new one by what loading it comes to.
 use Rattle.std.proofs.Common.{◌≡◌, ◌∙◌, inl, sym, subst, rules}
-use Rattle.std.specs.Prelude.{None, Some}
+use Rattle.std.specs.Prelude.{None}
 use Rattle.std.specs.Option.{option_copied}
 use Rattle.sqlite.specs.Held.{state}
 use Rattle.sqlite.specs.State.{HasCleanDisk}
@@ -9,7 +9,7 @@ use Rattle.commands.specs.Request.{Load}
 use Rattle.tables.specs.Keeping.{IsKept, Keeps}
 use Rattle.tables.specs.Loading.{IsNewName, TellsName, IsTextOf, AnswersKnown}
 use Rattle.tables.proofs.LoadComes.{known_comes, where_clean, on_ok}
-use Rattle.tables.proofs.ReadLemmas.{also_ok}
+use Rattle.reading.proofs.ReadLemmas.{also_ok}
 use Rattle.tables.proofs.loading.answer_load.Goals as goal
 
 -- a new name

@@ -5,7 +5,7 @@ use Rattle.allotment.specs.declared.cells.Cell.{Cell}
 use Rattle.ledger.specs.Ledger.{is_not_below_held}
 use Rattle.writing.proofs.LoadLemmas.{take-more}
 use Rattle.tables.specs.Loading.{GetsPlaces, HasLooked}
-use Rattle.tables.specs.Reading.{OnlyReads}
+use Rattle.reading.specs.Reading.{OnlyReads}
 use Rattle.tables.proofs.LoadRows.{first_below, looked_more}
 use Rattle.tables.proofs.loading.cells_of.Goals as goal
 

@@ -1,5 +1,5 @@
 -- One more row, and the line feed behind it.
-use Rattle.std.proofs.Common.{◌≡◌, ◌<◌, ◌++◌, ◌∙◌, ℕ, List, length, ap, ap₂, arith}
+use Rattle.std.proofs.Common.{◌<◌, ◌++◌, ◌∙◌, ℕ, List, length, ap, ap₂, arith}
 use Rattle.std.specs.Prelude.{string_bytes}
 use Rattle.tables.proofs.LoadRows.{text_more}
 use Rattle.tables.proofs.loading.content_of.Goals as goal

@@ -1,8 +1,7 @@
 -- What is found of a name tells of the batch that has it, and a read changes nothing.
-use Rattle.std.proofs.Common.{◌≡◌}
 use Rattle.desk_sql.specs.Found.{FindsBatch}
 use Rattle.tables.proofs.LoadComes.{name_told}
-use Rattle.tables.proofs.ReadLemmas.{keeps_on, has_found}
+use Rattle.reading.proofs.ReadLemmas.{keeps_on, has_found}
 use Rattle.tables.proofs.loading.find_known.Goals as goal
 
 pub returns-in-Ok-clause-known : goal.returns-in-Ok-clause-known

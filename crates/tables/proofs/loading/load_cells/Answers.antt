@@ -1,5 +1,5 @@
 -- The rows of the batch lead to what the load comes to.
-use Rattle.std.proofs.Common.{◌≡◌, ◌<◌, ◌≤◌, ◌∙◌, length, refl, ap, arith}
+use Rattle.std.proofs.Common.{◌<◌, ◌≤◌, ◌∙◌, length, refl, ap, arith}
 use Rattle.std.specs.Option.{option_copied}
 use Rattle.commands.specs.Request.{Load}
 use Rattle.ledger.specs.Answer.{outcome, most_events}

@@ -7,7 +7,7 @@ use Rattle.standing.specs.Reading.{IsRangeOf}
 use Rattle.standing.proofs.Readings.{nights_read}
 use Rattle.moving.specs.Loading.{one_night, held_seen}
 use Rattle.moving.proofs.Fitting.{cell_told}
-use Rattle.tables.proofs.ReadLemmas.{keeps_on, has_found, also_ok}
+use Rattle.reading.proofs.ReadLemmas.{keeps_on, has_found, also_ok}
 use Rattle.tables.proofs.loading.read_held.Goals as goal
 
 pub returns-in-Ok-clause-held : goal.returns-in-Ok-clause-held

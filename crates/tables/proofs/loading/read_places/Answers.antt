@@ -1,5 +1,5 @@
 -- What is not held of a row's places is left.
-use Rattle.std.proofs.Common.{◌≡◌, ◌∙◌, ap, subst}
+use Rattle.std.proofs.Common.{◌∙◌, ap, subst}
 use Rattle.ledger.specs.Ledger.{held}
 use Rattle.tables.specs.Loading.{LeavesPlaces}
 use Rattle.tables.proofs.loading.read_places.Goals as goal

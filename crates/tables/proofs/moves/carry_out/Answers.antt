@@ -1,4 +1,4 @@
-use Rattle.std.proofs.Common.{◌≡◌, sym, subst, inl}
+use Rattle.std.proofs.Common.{subst}
 use Rattle.tables.specs.Moving.{IsDue, asked_for}
 use Rattle.std.specs.Option.{option_copied}
 use Rattle.tables.proofs.DueLemmas.{due_refused}

@@ -1,4 +1,4 @@
-use Rattle.std.proofs.Common.{◌≡◌, ◌∙◌, ap, sym, subst}
+use Rattle.std.proofs.Common.{◌∙◌, ap, sym, subst}
 use Rattle.commands.specs.declared.items.Cursor.{Cursor}
 use Rattle.changes.specs.Changed.{cursor_after}
 use Rattle.writing.specs.declared.events.Event.{Event}

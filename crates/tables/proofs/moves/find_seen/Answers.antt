@@ -1,7 +1,6 @@
-use Rattle.std.proofs.Common.{◌≡◌, ◌∙◌, sym}
 use Rattle.std.specs.Option.{option_copied}
 use Rattle.ledger.specs.Answer.{asker}
-use Rattle.tables.proofs.NextLemmas.{none_seen, record_seen, record_unseen}
+use Rattle.tables.proofs.NextLemmas.{none_seen}
 use Rattle.tables.proofs.moves.find_seen.Goals as goal
 
 -- no row: there is no journey to see

@@ -1,4 +1,4 @@
-use Rattle.std.proofs.Common.{◌≡◌, ◌<◌, length, refl, arith}
+use Rattle.std.proofs.Common.{◌<◌, length, refl, arith}
 use Rattle.std.specs.Option.{option_copied}
 use Rattle.ledger.specs.Answer.{outcome, most_events}
 use Rattle.tables.specs.Moving.{asked_for}

@@ -1,5 +1,4 @@
 -- What is said of a record that is seen is what the rules answer.
-use Rattle.std.proofs.Common.{◌≡◌}
 use Rattle.tables.proofs.NextLemmas.{abort_next, stop_next, save_next}
 use Rattle.tables.proofs.moves.next_of.Goals as goal
 

@@ -1,9 +1,9 @@
 -- The rows of a journey's options tell the one that was taken last, and a read changes nothing.
-use Rattle.std.proofs.Common.{◌≡◌, subst, sym, rules}
+use Rattle.std.proofs.Common.{◌≡◌, subst, rules}
 use Rattle.std.specs.Prelude.{Some, find, option_map}
 use Rattle.desk_sql.specs.Found.{FindsSteps}
 use Rattle.tables.specs.Moving.{is_taken_row, option_of_row}
-use Rattle.tables.proofs.ReadLemmas.{keeps_on, has_found}
+use Rattle.reading.proofs.ReadLemmas.{keeps_on, has_found}
 use Rattle.tables.proofs.StepLemmas.{last_told}
 use Rattle.tables.proofs.stepping.last_option.Goals as goal
 

@@ -1,6 +1,6 @@
 -- The next want of a running journey fits the nights that are read of it where it fits the ledger.
-use Rattle.std.proofs.Common.{◌≡◌, ◌+◌, ◌-◌, ◌<◌, ◌∙◌, ap, sym, subst, arith, rules}
-use Rattle.std.specs.Prelude.{Some, ℕ}
+use Rattle.std.proofs.Common.{◌≡◌, ◌+◌, ◌-◌, ◌<◌, ◌∙◌, ap, sym, arith, rules}
+use Rattle.std.specs.Prelude.{Some}
 use Rattle.allotment.specs.Places.{fits_in}
 use Rattle.plan.specs.Planned.{step_count, want_at}
 use Rattle.savepoints.specs.Rules as rule

@@ -1,0 +1,121 @@
+-- The five fields of a record, by their places. For `fields`.
+use Rattle.std.proofs.Common.{◌≡◌, ◌≢◌, ◌∙◌, ap, refl, ℕ, zero, suc, ◌<◌, List, [], ◌∷◌, Bool, true, false, length, arith, Some, None}
+use Rattle.std.specs.Prelude.{◌==◌, ◌&&◌, bytes_eq, codes, option_map, unwrap_or}
+use Rattle.std.specs.List.{list_all}
+use Rattle.std.proofs.lemmas.Bool.{and_parts, ne_eqb}
+use Rattle.std.specs.Str.{IsUtf8, is_utf8}
+use Rattle.std.proofs.lemmas.Str.{IsUtf8-from_is_utf8, is_utf8-from_IsUtf8}
+use Rattle.csv.specs.Records.{field_at}
+use Rattle.allotment.specs.Texts.{keep_if}
+use Rattle.allotment.proofs.TestLemmas.{keep_if_no, keep_if_some, keep_if_none, keep_if_yes}
+use Rattle.allotment_csv.specs.Fields.{text_at, is_at}
+use Rattle.allotment_csv.specs.Rows.{has_shape, is_heading, are_same, heading}
+
+-- a text is what is kept of its bytes
+pub text_there : (bytes : List ℕ) → IsUtf8 bytes → keep_if is_utf8 bytes ≡ Some bytes
+text_there bytes text = keep_if_yes is_utf8 bytes (is_utf8-from_IsUtf8 bytes text)
+
+-- of bytes that are no text nothing is kept
+pub text_gone : (bytes : List ℕ) → (IsUtf8 bytes → ⊥) → keep_if is_utf8 bytes ≡ None
+text_gone bytes other = keep_if_no is_utf8 bytes (go (is_utf8 bytes) refl)
+  where
+    go : (b : Bool) → is_utf8 bytes ≡ b → b ≡ false
+    go true is = absurd (other (IsUtf8-from_is_utf8 bytes is))
+    go false is = refl
+
+-- a field that is no text spoils all
+none_text : (fields : List (List ℕ)) (k : ℕ) → text_at fields k ≡ None → k < length fields
+    → list_all is_utf8 fields ≡ false
+unfolding field_at
+none_text [] k none within = absurd (omega arith)
+none_text (f ∷ fields) zero none within = ap (λ b. b && list_all is_utf8 fields) (keep_if_none is_utf8 f none)
+none_text (f ∷ fields) (suc k) none within =
+    ap (λ b. is_utf8 f && b) (none_text fields k none (omega arith)) ∙ and_false (is_utf8 f)
+  where
+    and_false : (b : Bool) → (b && false) ≡ false
+    and_false true = refl
+    and_false false = refl
+
+-- with a field that is no text the record has not the shape of a row
+pub no_shape_at : (fields : List (List ℕ)) (k : ℕ) → k < 5 → length fields ≡ 5 → text_at fields k ≡ None
+    → keep_if has_shape fields ≡ None
+no_shape_at fields k low five none =
+    keep_if_no has_shape fields
+    (ap (λ n. (n == 5) && list_all is_utf8 fields) five ∙ none_text fields k none (omega arith))
+
+-- with another number of fields it has not either
+pub no_shape : (fields : List (List ℕ)) → length fields ≢ 5 → keep_if has_shape fields ≡ None
+no_shape fields other = keep_if_no has_shape fields (ap (λ b. b && list_all is_utf8 fields) (ne_eqb (length fields) 5 other))
+
+-- five tests that hold hold together
+all_texts : (v w x y z : Bool) → v ≡ true → w ≡ true → x ≡ true → y ≡ true → z ≡ true
+    → (v && (w && (x && (y && (z && true))))) ≡ true
+all_texts v w x y z a b c d e =
+    ap (λ m. m && (w && (x && (y && (z && true))))) a ∙ ap (λ m. m && (x && (y && (z && true)))) b
+    ∙ ap (λ m. m && (y && (z && true))) c ∙ ap (λ m. m && (z && true)) d ∙ ap (λ m. m && true) e
+
+-- with five texts it has
+pub has_texts : (fields : List (List ℕ)) (a b c d e : List ℕ) → length fields ≡ 5
+    → text_at fields 0 ≡ Some a → text_at fields 1 ≡ Some b → text_at fields 2 ≡ Some c → text_at fields 3 ≡ Some d
+    → text_at fields 4 ≡ Some e → keep_if has_shape fields ≡ Some (a ∷ b ∷ c ∷ d ∷ e ∷ [])
+unfolding field_at
+has_texts [] a b c d e five p q r s t = absurd (omega (arith, five))
+has_texts (v ∷ []) a b c d e five p q r s t = absurd (omega (arith, five))
+has_texts (v ∷ w ∷ []) a b c d e five p q r s t = absurd (omega (arith, five))
+has_texts (v ∷ w ∷ x ∷ []) a b c d e five p q r s t = absurd (omega (arith, five))
+has_texts (v ∷ w ∷ x ∷ y ∷ []) a b c d e five p q r s t = absurd (omega (arith, five))
+has_texts (v ∷ w ∷ x ∷ y ∷ z ∷ []) a b c d e five p q r s t =
+    let one = keep_if_some is_utf8 v a p in
+    let two = keep_if_some is_utf8 w b q in
+    let three = keep_if_some is_utf8 x c r in
+    let four = keep_if_some is_utf8 y d s in
+    let last = keep_if_some is_utf8 z e t in
+    keep_if_yes has_shape (v ∷ w ∷ x ∷ y ∷ z ∷ [])
+    (all_texts (is_utf8 v) (is_utf8 w) (is_utf8 x) (is_utf8 y) (is_utf8 z) (ap is_utf8 one.0 ∙ one.1)
+    (ap is_utf8 two.0 ∙ two.1) (ap is_utf8 three.0 ∙ three.1) (ap is_utf8 four.0 ∙ four.1) (ap is_utf8 last.0 ∙ last.1))
+    ∙ ap (λ m. Some (m ∷ w ∷ x ∷ y ∷ z ∷ [])) one.0
+    ∙ ap (λ m. Some (a ∷ m ∷ x ∷ y ∷ z ∷ [])) two.0
+    ∙ ap (λ m. Some (a ∷ b ∷ m ∷ y ∷ z ∷ [])) three.0
+    ∙ ap (λ m. Some (a ∷ b ∷ c ∷ m ∷ z ∷ [])) four.0
+    ∙ ap (λ m. Some (a ∷ b ∷ c ∷ d ∷ m ∷ [])) last.0
+has_texts (v ∷ w ∷ x ∷ y ∷ z ∷ more ∷ later) a b c d e five p q r s t = absurd (omega (arith, five))
+
+-- fields that are the same are as many
+as_many : (xs ys : List (List ℕ)) → are_same xs ys ≡ true → length xs ≡ length ys
+as_many [] [] same = refl
+as_many [] (y ∷ ys) same = cc
+as_many (x ∷ xs) [] same = cc
+as_many (x ∷ xs) (y ∷ ys) same = ap (λ n. suc n) (as_many xs ys (and_parts (bytes_eq x y) (are_same xs ys) same).1)
+
+-- a record with another number of fields is not the heading
+pub not_heading : (fields : List (List ℕ)) → length fields ≢ 5 → is_heading fields ≡ false
+not_heading fields other = go (is_heading fields) refl
+  where
+    go : (b : Bool) → is_heading fields ≡ b → b ≡ false
+    go true is = absurd (other (as_many fields heading is))
+    go false is = refl
+
+-- the field at this place is this word of the heading
+pub at_word : (fields : List (List ℕ)) (place : ℕ) (word field : List ℕ) → Some field ≡ field_at fields place
+    → bytes_eq field word ≡ is_at fields place word
+at_word fields place word field there = ap (λ o. unwrap_or (option_map (λ f. bytes_eq f word) o) false) there
+
+-- the heading, word by word
+pub heading_words : (fields : List (List ℕ)) → length fields ≡ 5
+    → is_heading fields
+    ≡ (is_at fields 0 (codes "kind") && (is_at fields 1 (codes "supplier") && (is_at fields 2 (codes "product")
+    && (is_at fields 3 (codes "night") && is_at fields 4 (codes "places")))))
+unfolding field_at
+heading_words [] five = absurd (omega (arith, five))
+heading_words (v ∷ []) five = absurd (omega (arith, five))
+heading_words (v ∷ w ∷ []) five = absurd (omega (arith, five))
+heading_words (v ∷ w ∷ x ∷ []) five = absurd (omega (arith, five))
+heading_words (v ∷ w ∷ x ∷ y ∷ []) five = absurd (omega (arith, five))
+heading_words (v ∷ w ∷ x ∷ y ∷ z ∷ []) five =
+    ap (λ b. bytes_eq v (codes "kind") && (bytes_eq w (codes "supplier") && (bytes_eq x (codes "product")
+    && (bytes_eq y (codes "night") && b)))) (and_true (bytes_eq z (codes "places")))
+  where
+    and_true : (b : Bool) → (b && true) ≡ b
+    and_true true = refl
+    and_true false = refl
+heading_words (v ∷ w ∷ x ∷ y ∷ z ∷ more ∷ later) five = absurd (omega (arith, five))

@@ -1,0 +1,316 @@
+-- What a front of rows comes to: which of the faults of all rows is the first. For `fronts`.
+use Rattle.std.proofs.Common.{◌≡◌, ◌∙◌, ap, sym, subst, refl, ℕ, zero, suc, ◌+◌, ◌<◌, ◌≤◌, List, [], ◌∷◌, ◌++◌, Bool, true, false, length, map, append_assoc, arith, Option, Some, None}
+use Rattle.std.specs.Prelude.{◌==◌, ◌&&◌, not, nat_le, option_map, unwrap_or, if◌then◌else◌, Ok, Err}
+use Rattle.std.specs.List.{cons_option}
+use Rattle.std.proofs.Common.{length-append}
+use Rattle.std.proofs.lemmas.Bool.{eq-eqb, eqb-true, le-leb}
+use Rattle.allotment.specs.Limits.{is_between}
+use Rattle.commands.proofs.RepeatLemmas.{distinct_if_none}
+use Rattle.std.proofs.lemmas.List.{append-nil}
+use Rattle.allotment.specs.Making.{unless, first_fault}
+use Rattle.allotment.specs.declared.cells.Row.{Row}
+use Rattle.commands.specs.Batches.{is_new_cell, repeat_behind, repeat_among}
+use Rattle.commands.specs.declared.refusals.CsvCause.{CsvCause}
+use Rattle.commands.specs.declared.refusals.CsvCause.TheVariants as cause
+use Rattle.allotment_csv.specs.Rows.{record_causes, row_of_record}
+use Rattle.allotment_csv.specs.Files.{in_csv, most_rows, rows_of, comes_again, causes_at, row_faults, faults_behind, rows_faults}
+use Rattle.allotment_csv.specs.Fronts.{AreRows, Ends, IsFront, AreManyAndDistinct}
+use Rattle.allotment_csv.specs.Told.{IsFirst}
+
+-- Rows of records.
+
+-- so many rows as records
+pub as_many_rows : (front : List (List (List ℕ))) (rows : List Row) → AreRows front rows → length front ≡ length rows
+as_many_rows [] [] are = refl
+as_many_rows [] (r ∷ rows) are = absurd are
+as_many_rows (fields ∷ front) [] are = absurd are
+as_many_rows (fields ∷ front) (r ∷ rows) are = ap (λ n. suc n) (as_many_rows front rows are.2)
+
+-- one more
+pub one_more_row : (front : List (List (List ℕ))) (rows : List Row) (fields : List (List ℕ)) (r : Row)
+    → AreRows front rows → record_causes fields ≡ [] → row_of_record fields ≡ Some r
+    → AreRows (front ++ (fields ∷ [])) (rows ++ (r ∷ []))
+one_more_row [] [] fields r are good is = (good, is, tt)
+one_more_row [] (s ∷ rows) fields r are good is = absurd are
+one_more_row (f ∷ front) [] fields r are good is = absurd are
+one_more_row (f ∷ front) (s ∷ rows) fields r are good is =
+    (are.0, are.1, one_more_row front rows fields r are.2 good is)
+
+-- they are the rows of the records
+pub rows_of-front : (front : List (List (List ℕ))) (rows : List Row) → AreRows front rows → rows_of front ≡ rows
+rows_of-front [] [] are = refl
+rows_of-front [] (r ∷ rows) are = absurd are
+rows_of-front (fields ∷ front) [] are = absurd are
+rows_of-front (fields ∷ front) (r ∷ rows) are =
+    ap (λ o. cons_option o (rows_of front)) are.1 ∙ ap (λ xs. r ∷ xs) (rows_of-front front rows are.2)
+
+-- no rows are those of no records
+no_rows : (front : List (List (List ℕ))) → AreRows front [] → front ≡ []
+no_rows [] are = refl
+no_rows (fields ∷ front) are = absurd are
+
+-- Faults of rows.
+
+-- twice the other way is the same way
+not_not : (b : Bool) → not (not b) ≡ b
+not_not true = refl
+not_not false = refl
+
+-- a row is wrong where its cell stands before, and nowhere else
+row_faults-front : (earlier : List (List (List ℕ))) (before : List Row) (fields : List (List ℕ)) (r : Row)
+    → AreRows earlier before → record_causes fields ≡ [] → row_of_record fields ≡ Some r → length before + 1 ≤ most_rows
+    → row_faults earlier fields ≡ unless (is_new_cell r before) (in_csv (length before + 1) cause.Twice)
+row_faults-front earlier before fields r are good is few =
+    ap (λ n. map (in_csv (n + 1)) (causes_at (n + 1) fields) ++ unless (not (comes_again earlier fields)) (in_csv (n + 1) cause.Twice))
+    (as_many_rows earlier before are)
+    ∙ ap (λ cs. map (in_csv (length before + 1)) (unless (nat_le (length before + 1) most_rows) cause.Many ++ cs) ++ unless (not (comes_again earlier fields)) (in_csv (length before + 1) cause.Twice))
+    good
+    ∙ ap (λ b. map (in_csv (length before + 1)) (unless b cause.Many ++ []) ++ unless (not (comes_again earlier fields)) (in_csv (length before + 1) cause.Twice))
+    (le-leb (length before + 1) most_rows few)
+    ∙ ap (λ o. unless (not (unwrap_or (option_map (λ (s : Row). not (is_new_cell s (rows_of earlier))) o) false)) (in_csv (length before + 1) cause.Twice))
+    is
+    ∙ ap (λ b. unless b (in_csv (length before + 1) cause.Twice)) (not_not (is_new_cell r (rows_of earlier)))
+    ∙ ap (λ rows. unless (is_new_cell r rows) (in_csv (length before + 1) cause.Twice)) (rows_of-front earlier before are)
+
+-- what a front comes to among all that is wrong behind some rows: nothing, or that a cell comes again
+abbrev ComesTo : List (List (List ℕ)) → List (List (List ℕ)) → List (List (List ℕ)) → Option ℕ → Type 0
+ComesTo earlier front rest None = faults_behind earlier (front ++ rest) ≡ faults_behind (earlier ++ front) rest
+ComesTo earlier front rest (Some i) = IsFirst (in_csv (i + 1) cause.Twice) (faults_behind earlier (front ++ rest))
+
+-- with a good row before it, it comes to the same
+behind_new : (earlier front rest : List (List (List ℕ))) (fields : List (List ℕ)) (o : Option ℕ)
+    → row_faults earlier fields ≡ [] → ComesTo (earlier ++ (fields ∷ [])) front rest o
+    → ComesTo earlier (fields ∷ front) rest o
+behind_new earlier front rest fields None none comes =
+    ap (λ xs. xs ++ faults_behind (earlier ++ (fields ∷ [])) (front ++ rest)) none
+    ∙ comes
+    ∙ ap (λ xs. faults_behind xs rest) (append_assoc earlier (fields ∷ []) front)
+behind_new earlier front rest fields (Some i) none comes =
+    (comes.0, ap (λ xs. xs ++ faults_behind (earlier ++ (fields ∷ [])) (front ++ rest)) none ∙ comes.1)
+
+-- with a row before it whose cell comes again, it comes to that
+behind_old : (earlier front rest : List (List (List ℕ))) (fields : List (List ℕ)) (n : ℕ) (o : Option ℕ)
+    → row_faults earlier fields ≡ in_csv (n + 1) cause.Twice ∷ [] → Some n ≡ o
+    → ComesTo earlier (fields ∷ front) rest o
+behind_old earlier front rest fields n None again is = cc
+behind_old earlier front rest fields n (Some i) again is =
+    let same : n ≡ i = cc in (
+      faults_behind (earlier ++ (fields ∷ [])) (front ++ rest),
+      ap (λ xs. xs ++ faults_behind (earlier ++ (fields ∷ [])) (front ++ rest)) again
+          ∙ ap (λ m. in_csv (m + 1) cause.Twice ∷ faults_behind (earlier ++ (fields ∷ [])) (front ++ rest)) same,
+    )
+
+-- a row decides, or those behind it do
+at_row : (earlier front rest : List (List (List ℕ))) (fields : List (List ℕ)) (before rows : List Row) (r : Row)
+    → (o : Option ℕ) (b : Bool) → is_new_cell r before ≡ b
+    → row_faults earlier fields ≡ unless (is_new_cell r before) (in_csv (length before + 1) cause.Twice)
+    → (repeat_behind (before ++ (r ∷ [])) rows ≡ o → ComesTo (earlier ++ (fields ∷ [])) front rest o)
+    → (if is_new_cell r before then repeat_behind (before ++ (r ∷ [])) rows else Some (length before)) ≡ o
+    → ComesTo earlier (fields ∷ front) rest o
+at_row earlier front rest fields before rows r o true new faults on is =
+    behind_new earlier front rest fields o
+    (faults ∙ ap (λ b. unless b (in_csv (length before + 1) cause.Twice)) new)
+    (on (sym (ap (λ b. if b then repeat_behind (before ++ (r ∷ [])) rows else Some (length before)) new) ∙ is))
+at_row earlier front rest fields before rows r o false old faults on is =
+    behind_old earlier front rest fields (length before) o
+    (faults ∙ ap (λ b. unless b (in_csv (length before + 1) cause.Twice)) old)
+    (sym (ap (λ b. if b then repeat_behind (before ++ (r ∷ [])) rows else Some (length before)) old) ∙ is)
+
+-- the first row whose cell comes again decides
+comes_to : (earlier front rest : List (List (List ℕ))) (before rows : List Row) (o : Option ℕ)
+    → AreRows earlier before → AreRows front rows → length before + length rows ≤ most_rows
+    → repeat_behind before rows ≡ o → ComesTo earlier front rest o
+comes_to earlier [] rest before [] None are good few is = ap (λ xs. faults_behind xs rest) (sym (append-nil earlier))
+comes_to earlier [] rest before [] (Some i) are good few is = cc
+comes_to earlier [] rest before (r ∷ rows) o are good few is = absurd good
+comes_to earlier (fields ∷ front) rest before [] o are good few is = absurd good
+comes_to earlier (fields ∷ front) rest before (r ∷ rows) o are good few is =
+    at_row earlier front rest fields before rows r o (is_new_cell r before) refl
+    (row_faults-front earlier before fields r are good.0 good.1 (omega (arith, few)))
+    (λ later. comes_to (earlier ++ (fields ∷ [])) front rest (before ++ (r ∷ [])) rows o
+    (one_more_row earlier before fields r are good.0 good.1) good.2
+    (omega (arith, few, length-append before (r ∷ []))) later)
+    is
+
+-- All rows.
+
+-- the first thing that is wrong is told
+told : {X F : Type 0} (value : X) (x : F) (xs : List F) → IsFirst x xs → first_fault value xs ≡ Err x
+told value x xs first = ap (first_fault value) first.1
+
+-- it is the first too where more is wrong
+first-append : {F : Type 0} (x : F) (xs ys : List F) → IsFirst x xs → IsFirst x (xs ++ ys)
+first-append x xs ys first = (first.0 ++ ys, ap (λ zs. zs ++ ys) first.1)
+
+-- what stands behind a front
+behind : (all front : List (List (List ℕ))) (rows : List Row) (wrong : Option CsvCause) → Ends all front rows wrong
+    → (rest : List (List (List ℕ))) × (all ≡ front ++ rest)
+behind all front rows None end = ([], end ∙ sym (append-nil front))
+behind all front rows (Some cause) end = (end.fields ∷ end.later, end.parts)
+
+-- what a front comes to, from the first row on
+front_comes_to : (front rest : List (List (List ℕ))) (rows : List Row) (o : Option ℕ)
+    → AreRows front rows → length rows ≤ most_rows → repeat_among rows ≡ o → ComesTo [] front rest o
+front_comes_to front rest rows o good few is = comes_to [] front rest [] rows o tt good (omega (arith, few)) is
+
+-- a cell comes again in the front
+pub whole_again : (all : List (List (List ℕ))) (rows : List Row) (wrong : Option CsvCause) (i : ℕ)
+    → IsFront all rows wrong → repeat_among rows ≡ Some i
+    → first_fault (rows_of all) (rows_faults all) ≡ Err (in_csv (i + 1) cause.Twice)
+whole_again all rows wrong i is again =
+    let rest = behind all is.front rows wrong is.end in
+    told (rows_of all) (in_csv (i + 1) cause.Twice) (rows_faults all)
+    (first-append (in_csv (i + 1) cause.Twice) (faults_behind [] all) (unless (nat_le 1 (length all)) (in_csv 0 cause.Empty))
+    (subst (λ xs. IsFirst (in_csv (i + 1) cause.Twice) (faults_behind [] xs)) (sym rest.1)
+    (front_comes_to is.front rest.0 rows (Some i) is.good is.few again)))
+
+-- the first thing that is wrong with a row by itself is the first that is wrong with it
+row_first : (earlier : List (List (List ℕ))) (n : ℕ) (fields : List (List ℕ)) (c : CsvCause) → length earlier ≡ n
+    → IsFirst c (causes_at (n + 1) fields) → IsFirst (in_csv (n + 1) c) (row_faults earlier fields)
+row_first earlier n fields c many first = (
+  map (in_csv (n + 1)) first.0 ++ unless (not (comes_again earlier fields)) (in_csv (n + 1) cause.Twice),
+  ap (λ m. map (in_csv (m + 1)) (causes_at (m + 1) fields) ++ unless (not (comes_again earlier fields)) (in_csv (m + 1) cause.Twice)) many
+      ∙ ap (λ cs. map (in_csv (n + 1)) cs ++ unless (not (comes_again earlier fields)) (in_csv (n + 1) cause.Twice)) first.1,
+)
+
+-- the front has no cell twice, and behind it stands a record that is no row
+pub whole_stopped : (all : List (List (List ℕ))) (rows : List Row) (c : CsvCause)
+    → IsFront all rows (Some c) → repeat_among rows ≡ None
+    → first_fault (rows_of all) (rows_faults all) ≡ Err (in_csv (length rows + 1) c)
+whole_stopped all rows c is none =
+    let end = is.end in
+    let x = in_csv (length rows + 1) c in
+    let first : IsFirst x (faults_behind is.front (end.fields ∷ end.later))
+    = first-append x (row_faults is.front end.fields) (faults_behind (is.front ++ (end.fields ∷ [])) end.later)
+    (row_first is.front (length rows) end.fields c (as_many_rows is.front rows is.good) end.first) in
+    told (rows_of all) x (rows_faults all)
+    (first-append x (faults_behind [] all) (unless (nat_le 1 (length all)) (in_csv 0 cause.Empty))
+    (subst (λ xs. IsFirst x (faults_behind [] xs)) (sym end.parts)
+    (subst (λ fs. IsFirst x fs)
+    (sym (front_comes_to is.front (end.fields ∷ end.later) rows None is.good is.few none)) first)))
+
+-- there is no row
+pub whole_empty : (all : List (List (List ℕ))) (rows : List Row) → IsFront all rows None → rows ≡ []
+    → first_fault (rows_of all) (rows_faults all) ≡ Err (in_csv 0 cause.Empty)
+whole_empty all rows is none =
+    ap (λ xs. first_fault (rows_of xs) (rows_faults xs))
+    (is.end ∙ no_rows is.front (subst (AreRows is.front) none is.good))
+
+-- nothing is wrong
+pub whole_good : (all : List (List (List ℕ))) (rows : List Row) → IsFront all rows None → repeat_among rows ≡ None
+    → 1 ≤ length rows → first_fault (rows_of all) (rows_faults all) ≡ Ok rows
+whole_good all rows is none some =
+    ap (λ xs. first_fault (rows_of xs) (rows_faults xs)) is.end
+    ∙ ap (λ fs. first_fault (rows_of is.front) (fs ++ unless (nat_le 1 (length is.front)) (in_csv 0 cause.Empty)))
+    (ap (faults_behind []) (sym (append-nil is.front)) ∙ front_comes_to is.front [] rows None is.good is.few none)
+    ∙ ap (λ n. first_fault (rows_of is.front) (unless (nat_le 1 n) (in_csv 0 cause.Empty))) (as_many_rows is.front rows is.good)
+    ∙ ap (λ b. first_fault (rows_of is.front) (unless b (in_csv 0 cause.Empty))) (le-leb 1 (length rows) some)
+    ∙ ap (λ xs. Ok xs) (rows_of-front is.front rows is.good)
+
+-- such rows are as many as a batch may have, and each is of another cell
+pub whole_distinct : (all : List (List (List ℕ))) (rows : List Row) → IsFront all rows None → repeat_among rows ≡ None
+    → 1 ≤ length rows → AreManyAndDistinct rows
+whole_distinct all rows is none some =
+    record {
+      many = between (length rows) some is.few;
+      distinct = distinct_if_none rows none;
+    }
+  where
+    between : (n : ℕ) → 1 ≤ n → n ≤ most_rows → is_between 1 2000 n ≡ true
+    between n low high = ap (λ b. b && nat_le n 2000) (le-leb 1 n low) ∙ le-leb n 2000 high
+
+-- Reading.
+
+-- so many of these records were read, all rows, and these are left
+pub record IsReadTo (all left : List (List (List ℕ))) (rows : List Row) : Type 0 where
+  pub front : List (List (List ℕ))
+  pub good : AreRows front rows
+  pub parts : all ≡ front ++ left
+
+-- nothing was read yet
+pub read_to_start : (all left : List (List (List ℕ))) (rows : List Row) → all ≡ left → rows ≡ [] → IsReadTo all left rows
+read_to_start all left rows same none =
+    record { front = []; good = subst (AreRows []) (sym none) tt; parts = same }
+
+-- one more row
+pub read_to_more : (all left later : List (List (List ℕ))) (rows : List Row) (fields : List (List ℕ)) (r : Row)
+    → IsReadTo all left rows → left ≡ fields ∷ later → record_causes fields ≡ [] → row_of_record fields ≡ Some r
+    → IsReadTo all later (rows ++ (r ∷ []))
+read_to_more all left later rows fields r is next good row =
+    record {
+      front = is.front ++ (fields ∷ []);
+      good = one_more_row is.front rows fields r is.good good row;
+      parts = is.parts ∙ ap (λ xs. is.front ++ xs) next ∙ sym (append_assoc is.front (fields ∷ []) later);
+    }
+
+-- no record is left
+pub read_to_end : (all left : List (List (List ℕ))) (rows : List Row) → IsReadTo all left rows → left ≡ []
+    → length rows ≤ most_rows → IsFront all rows None
+read_to_end all left rows is none few =
+    record {
+      front = is.front;
+      good = is.good;
+      few = few;
+      end = is.parts ∙ ap (λ xs. is.front ++ xs) none ∙ append-nil is.front;
+    }
+
+-- the next record is no row
+pub read_to_stop : (all left later : List (List (List ℕ))) (rows : List Row) (fields : List (List ℕ)) (c : CsvCause)
+    → IsReadTo all left rows → left ≡ fields ∷ later → IsFirst c (record_causes fields) → length rows < most_rows
+    → IsFront all rows (Some c)
+read_to_stop all left later rows fields c is next first few =
+    record {
+      front = is.front;
+      good = is.good;
+      few = omega (arith, few);
+      end = record {
+        fields = fields;
+        later = later;
+        parts = is.parts ∙ ap (λ xs. is.front ++ xs) next;
+        first = (
+          first.0,
+          ap (λ b. unless b cause.Many ++ record_causes fields) (le-leb (length rows + 1) most_rows (omega (arith, few)))
+              ∙ first.1,
+        );
+      };
+    }
+
+-- the next record is one too many
+pub read_to_many : (all left later : List (List (List ℕ))) (rows : List Row) (fields : List (List ℕ))
+    → IsReadTo all left rows → left ≡ fields ∷ later → length rows ≡ most_rows → IsFront all rows (Some cause.Many)
+read_to_many all left later rows fields is next full =
+    record {
+      front = is.front;
+      good = is.good;
+      few = omega (arith, full);
+      end = record {
+        fields = fields;
+        later = later;
+        parts = is.parts ∙ ap (λ xs. is.front ++ xs) next;
+        first = (
+          record_causes fields,
+          ap (λ n. unless (nat_le (n + 1) most_rows) cause.Many ++ record_causes fields) full,
+        );
+      };
+    }
+
+-- no row is there
+pub none_if_empty : (rows : List Row) (n : ℕ) → n ≡ length rows → (n == 0) ≡ true → rows ≡ []
+none_if_empty [] n is empty = refl
+none_if_empty (r ∷ rows) n is empty = absurd (omega (arith, is, eqb-true n 0 empty))
+
+-- a row is there
+pub some_if_not : (n m : ℕ) → n ≡ m → (n == 0) ≡ false → 1 ≤ m
+some_if_not n m is some = go n refl
+  where
+    go : (k : ℕ) → n ≡ k → 1 ≤ m
+    go zero none = absurd (contrary (sym some ∙ eq-eqb n 0 none))
+      where
+        contrary : false ≡ true → ⊥
+        contrary e = cc
+    go (suc k) more = omega (arith, is, more)
+
+-- what is none of its kind is none
+pub none_if_not : {X : Type 0} (o : Option X) → ((x : X) → o ≡ Some x → ⊥) → o ≡ None
+none_if_not None other = refl
+none_if_not (Some x) other = absurd (other x refl)

@@ -1,0 +1,4 @@
+pub mod ReadLemmas
+pub mod FieldLemmas
+pub mod RowLemmas
+pub mod FrontLemmas

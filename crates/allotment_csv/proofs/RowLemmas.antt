@@ -1,0 +1,234 @@
+-- The row of a record, and the first thing that is wrong with one that is none. For `rows`.
+use Rattle.std.proofs.Common.{◌≡◌, ◌∙◌, ap, sym, subst, refl, ℕ, ◌<◌, ◌≤◌, ◌^◌, List, [], ◌∷◌, ◌++◌, Bool, true, false, arith, Option, Some, None}
+use Rattle.std.specs.Prelude.{◌&&◌, bytes_eq, decimal, is_some, option_and_then, IsTrue, if◌then◌else◌, Result, Ok, Err, MatchResult}
+use Rattle.std.specs.Option.{ok_or}
+use Rattle.std.specs.Str.Parse.{digits_value}
+use Rattle.allotment.specs.Cells.{the_cell}
+use Rattle.allotment.specs.Limits.{is_between, is_code, is_good_cell, is_night}
+use Rattle.allotment.specs.Making.{unless}
+use Rattle.allotment.specs.Nights.{night_in, is_text_of, named_night, night_text}
+use Rattle.allotment.specs.Rows.{allotted}
+use Rattle.allotment.specs.Texts.{keep_if, kind_of_word, cell_from, number_from, number_in, places_in}
+use Rattle.allotment.specs.declared.cells.Row.{Row}
+use Rattle.allotment.specs.declared.kinds.Kind.{Kind}
+use Rattle.allotment.proofs.TestLemmas.{keep_if_no, keep_if_some, keep_if_none, keep_if_yes, same_bytes}
+use Rattle.commands.specs.Readings.{Finds}
+use Rattle.commands.specs.declared.refusals.CsvCause.{CsvCause}
+use Rattle.commands.specs.declared.refusals.CsvCause.TheVariants as cause
+use Rattle.commands.proofs.NumberLemmas.{between_parts}
+use Rattle.plan.proofs.NumberLemmas.{number_again}
+use Rattle.allotment_csv.specs.Rows.{field_causes, record_causes, has_shape, row_from, row_of_record}
+use Rattle.allotment_csv.specs.Told.{IsFirst}
+
+-- Places.
+
+-- what is not true is false
+not_so : (b : Bool) → (b ≡ true → ⊥) → b ≡ false
+not_so true other = absurd (other refl)
+not_so false other = refl
+
+-- a text that spells no number within the limits has none
+none_within : (low high : ℕ) (text : List ℕ) (o : Option ℕ)
+    → number_in text ≡ o
+    → ((n : ℕ) → IsTrue (is_between low high n) → text ≡ decimal n → ⊥)
+    → option_and_then (keep_if (is_between low high)) o ≡ None
+none_within low high text None is none = refl
+none_within low high text (Some n) is none =
+    let kept = keep_if_some (λ m. bytes_eq (decimal m) text) (digits_value 10 text) n is in
+    let spelled : text ≡ decimal n = sym (same_bytes (decimal n) text kept.1) in
+    keep_if_no (is_between low high) n (not_so (is_between low high n) (λ within. none n within spelled))
+
+-- what the reader of numbers finds is the number that the text spells
+pub found_number : (low high : ℕ) (text : List ℕ) (found : Option ℕ) → high < 2 ^ 64
+    → Finds (is_between low high) decimal text found → found ≡ number_from low high text
+found_number low high text None small none = sym (none_within low high text (number_in text) refl none)
+found_number low high text (Some n) small is =
+    let limits = between_parts low high n is.0 in
+    sym (ap (number_from low high) is.1
+    ∙ ap (option_and_then (keep_if (is_between low high))) (number_again n (omega arith))
+    ∙ keep_if_yes (is_between low high) n is.0)
+
+-- a number that is found is at most the upper limit
+pub found_low : (low high : ℕ) (text : List ℕ) (n : ℕ) → Finds (is_between low high) decimal text (Some n) → n ≤ high
+found_low low high text n is = (between_parts low high n is.0).1
+
+-- Fields.
+
+-- the causes of five fields, by whether each is what stands there
+abbrev causes_by : Bool → Bool → Bool → Bool → List CsvCause
+causes_by kind codes night places =
+    unless kind cause.Kind ++ unless codes cause.Code ++ unless night cause.Night ++ unless places cause.Places
+
+-- whether there is a value
+found_none : {X : Type 0} (o : Option X) → o ≡ None → is_some o ≡ false
+found_none None e = refl
+found_none (Some x) e = cc
+
+found_some : {X : Type 0} (o : Option X) (x : X) → o ≡ Some x → is_some o ≡ true
+found_some None x e = cc
+found_some (Some y) x e = refl
+
+-- the kind is none
+pub no_kind : (kind supplier product night places : List ℕ) → kind_of_word kind ≡ None
+    → IsFirst cause.Kind (field_causes (kind ∷ supplier ∷ product ∷ night ∷ places ∷ []))
+no_kind kind supplier product night places none = (
+  causes_by true (is_code supplier && is_code product) (is_some (night_in night)) (is_some (places_in places)),
+  ap (λ b. causes_by b (is_code supplier && is_code product) (is_some (night_in night)) (is_some (places_in places)))
+      (found_none (kind_of_word kind) none),
+)
+
+-- of the codes one is none
+pub no_codes : (kind supplier product night places : List ℕ) (k : Kind) → kind_of_word kind ≡ Some k
+    → (is_code supplier && is_code product) ≡ false
+    → IsFirst cause.Code (field_causes (kind ∷ supplier ∷ product ∷ night ∷ places ∷ []))
+no_codes kind supplier product night places k is none = (
+  causes_by true true (is_some (night_in night)) (is_some (places_in places)),
+  ap (λ b. causes_by b (is_code supplier && is_code product) (is_some (night_in night)) (is_some (places_in places)))
+      (found_some (kind_of_word kind) k is)
+      ∙ ap (λ b. causes_by true b (is_some (night_in night)) (is_some (places_in places))) none,
+)
+
+-- the supplier is none
+pub no_supplier : (kind supplier product night places : List ℕ) (k : Kind) → kind_of_word kind ≡ Some k
+    → keep_if is_code supplier ≡ None
+    → IsFirst cause.Code (field_causes (kind ∷ supplier ∷ product ∷ night ∷ places ∷ []))
+no_supplier kind supplier product night places k is none =
+    no_codes kind supplier product night places k is
+    (ap (λ b. b && is_code product) (keep_if_none is_code supplier none))
+
+-- whatever stands before it, a test that fails makes all fail
+and_false : (b : Bool) → (b && false) ≡ false
+and_false true = refl
+and_false false = refl
+
+-- the product is none
+pub no_product : (kind supplier product night places : List ℕ) (k : Kind) → kind_of_word kind ≡ Some k
+    → keep_if is_code product ≡ None
+    → IsFirst cause.Code (field_causes (kind ∷ supplier ∷ product ∷ night ∷ places ∷ []))
+no_product kind supplier product night places k is none =
+    no_codes kind supplier product night places k is
+    (ap (λ b. is_code supplier && b) (keep_if_none is_code product none) ∙ and_false (is_code supplier))
+
+-- what is kept is a code
+is_one : (text code : List ℕ) → keep_if is_code text ≡ Some code → is_code text ≡ true
+is_one text code kept = let one = keep_if_some is_code text code kept in ap is_code one.0 ∙ one.1
+
+-- both codes are codes
+both_codes : (supplier product s p : List ℕ) → keep_if is_code supplier ≡ Some s → keep_if is_code product ≡ Some p
+    → (is_code supplier && is_code product) ≡ true
+both_codes supplier product s p first second =
+    ap (λ b. b && is_code product) (is_one supplier s first) ∙ is_one product p second
+
+-- the night is none
+pub no_night : (kind supplier product night places : List ℕ) (k : Kind) (s p : List ℕ) → kind_of_word kind ≡ Some k
+    → keep_if is_code supplier ≡ Some s → keep_if is_code product ≡ Some p → night_in night ≡ None
+    → IsFirst cause.Night (field_causes (kind ∷ supplier ∷ product ∷ night ∷ places ∷ []))
+no_night kind supplier product night places k s p is first second none = (
+  causes_by true true true (is_some (places_in places)),
+  ap (λ b. causes_by b (is_code supplier && is_code product) (is_some (night_in night)) (is_some (places_in places)))
+      (found_some (kind_of_word kind) k is)
+      ∙ ap (λ b. causes_by true b (is_some (night_in night)) (is_some (places_in places)))
+      (both_codes supplier product s p first second)
+      ∙ ap (λ b. causes_by true true b (is_some (places_in places))) (found_none (night_in night) none),
+)
+
+-- what hangs on the places alone
+up_to_places : (kind supplier product night places : List ℕ) (k : Kind) (s p : List ℕ) (n : ℕ)
+    → kind_of_word kind ≡ Some k → keep_if is_code supplier ≡ Some s → keep_if is_code product ≡ Some p
+    → night_in night ≡ Some n
+    → field_causes (kind ∷ supplier ∷ product ∷ night ∷ places ∷ []) ≡ causes_by true true true (is_some (places_in places))
+up_to_places kind supplier product night places k s p n is first second there =
+    ap (λ b. causes_by b (is_code supplier && is_code product) (is_some (night_in night)) (is_some (places_in places)))
+    (found_some (kind_of_word kind) k is)
+    ∙ ap (λ b. causes_by true b (is_some (night_in night)) (is_some (places_in places)))
+    (both_codes supplier product s p first second)
+    ∙ ap (λ b. causes_by true true b (is_some (places_in places))) (found_some (night_in night) n there)
+
+-- the places are none
+pub no_places : (kind supplier product night places : List ℕ) (k : Kind) (s p : List ℕ) (n : ℕ)
+    → kind_of_word kind ≡ Some k → keep_if is_code supplier ≡ Some s → keep_if is_code product ≡ Some p
+    → night_in night ≡ Some n → places_in places ≡ None
+    → IsFirst cause.Places (field_causes (kind ∷ supplier ∷ product ∷ night ∷ places ∷ []))
+no_places kind supplier product night places k s p n is first second there none = (
+  [],
+  up_to_places kind supplier product night places k s p n is first second there
+      ∙ ap (λ b. causes_by true true true b) (found_none (places_in places) none),
+)
+
+-- all is there
+pub no_causes : (kind supplier product night places : List ℕ) (k : Kind) (s p : List ℕ) (n m : ℕ)
+    → kind_of_word kind ≡ Some k → keep_if is_code supplier ≡ Some s → keep_if is_code product ≡ Some p
+    → night_in night ≡ Some n → places_in places ≡ Some m
+    → field_causes (kind ∷ supplier ∷ product ∷ night ∷ places ∷ []) ≡ []
+no_causes kind supplier product night places k s p n m is first second there some =
+    up_to_places kind supplier product night places k s p n is first second there
+    ∙ ap (λ b. causes_by true true true b) (found_some (places_in places) m some)
+
+-- what a text names as a night is one
+named_is_night : (text : List ℕ) (named n : ℕ) → (if is_text_of text named then Some named else None) ≡ Some n
+    → is_night n ≡ true
+named_is_night text named n e = go (is_night named) refl e
+  where
+    go : (b : Bool) → is_night named ≡ b
+        → (if b && bytes_eq (night_text named) text then Some named else None) ≡ Some n → is_night n ≡ true
+    go true is found = whole (bytes_eq (night_text named) text) found
+      where
+        whole : (d : Bool) → (if d then Some named else None) ≡ Some n → is_night n ≡ true
+        whole true one = let same : named ≡ n = cc in subst (λ m. is_night m ≡ true) same is
+        whole false one = cc
+    go false is found = cc
+
+-- and they are the row
+pub the_row : (kind supplier product night places : List ℕ) (k : Kind) (s p : List ℕ) (n m : ℕ)
+    → kind_of_word kind ≡ Some k → keep_if is_code supplier ≡ Some s → keep_if is_code product ≡ Some p
+    → night_in night ≡ Some n → places_in places ≡ Some m
+    → row_of_record (kind ∷ supplier ∷ product ∷ night ∷ places ∷ []) ≡ Some (allotted (the_cell k s p n) m)
+the_row kind supplier product night places k s p n m is first second there some =
+    let one = keep_if_some is_code supplier s first in
+    let two = keep_if_some is_code product p second in
+    let cell = the_cell k supplier product n in
+    let good : is_good_cell cell ≡ true
+    = ap (λ b. (b && is_code product) && is_night n) (is_one supplier s first)
+    ∙ ap (λ b. b && is_night n) (is_one product p second)
+    ∙ named_is_night night (named_night night) n there in
+    ap (λ o. row_from (cell_from o supplier product (night_in night)) (places_in places)) is
+    ∙ ap (λ o. row_from (cell_from (Some k) supplier product o) (places_in places)) there
+    ∙ ap (λ o. row_from o (places_in places)) (keep_if_yes is_good_cell cell good)
+    ∙ ap (λ o. row_from (Some cell) o) some
+    ∙ ap (λ t. Some (allotted (the_cell k t product n) m)) one.0
+    ∙ ap (λ t. Some (allotted (the_cell k s t n) m)) two.0
+
+-- a reading that fails found nothing
+pub found_nothing : {X E : Type 0} (o : Option X) (why e : E) → Err e ≡ ok_or o why → o ≡ None
+found_nothing None why e is = refl
+found_nothing (Some x) why e is = cc
+
+-- a reading that succeeds found its value
+pub found_value : {X E : Type 0} (o : Option X) (why : E) (x : X) → Ok x ≡ ok_or o why → o ≡ Some x
+found_value None why x is = cc
+found_value (Some y) why x is = let same : y ≡ x = cc in ap (λ z. Some z) same
+
+-- a record that has not the shape of a row is told so
+pub shape_first : (fields : List (List ℕ)) → None ≡ keep_if has_shape fields → IsFirst cause.Shape (record_causes fields)
+shape_first fields none =
+    (field_causes fields, ap (λ b. unless b cause.Shape ++ field_causes fields) (keep_if_none has_shape fields (sym none)))
+
+-- with the shape of a row, what is wrong is wrong with the fields
+pub causes_of_fields : (fields texts : List (List ℕ)) → Some texts ≡ keep_if has_shape fields
+    → record_causes fields ≡ field_causes texts
+causes_of_fields fields texts kept =
+    let one = keep_if_some has_shape fields texts (sym kept) in
+    ap (λ b. unless b cause.Shape ++ field_causes fields) (ap has_shape one.0 ∙ one.1) ∙ ap field_causes one.0
+
+-- and the row is that of the fields
+pub row_of_fields : (fields texts : List (List ℕ)) → Some texts ≡ keep_if has_shape fields
+    → row_of_record fields ≡ row_of_record texts
+row_of_fields fields texts kept = ap row_of_record (keep_if_some has_shape fields texts (sym kept)).0
+
+-- what holds of the fields holds of the record
+pub record_read : (fields texts : List (List ℕ)) (result : Result Row CsvCause) → Some texts ≡ keep_if has_shape fields
+    → MatchResult result (λ row. (field_causes texts ≡ []) × (row_of_record texts ≡ Some row)) (λ c. IsFirst c (field_causes texts))
+    → MatchResult result (λ row. (record_causes fields ≡ []) × (row_of_record fields ≡ Some row)) (λ c. IsFirst c (record_causes fields))
+record_read fields texts (Ok row) kept is =
+    (causes_of_fields fields texts kept ∙ is.0, row_of_fields fields texts kept ∙ is.1)
+record_read fields texts (Err c) kept is = (is.0, causes_of_fields fields texts kept ∙ is.1)

@@ -1,0 +1,14 @@
+use Rattle.std.proofs.Common.{◌≡◌, ◌≤◌, ◌-◌, length, vec_len}
+use Rattle.allotment_csv.specs.Reading.{IsReading, records_left}
+use Rattle.allotment_csv.proofs.FrontLemmas.{IsReadTo}
+use Rattle.allotment_csv.proofs.fronts.read_front.Given as goal
+
+-- the records so far are rows, at most as many as a file may have, and the reader has the others left
+abbrev pub invariant-loop-reader : goal.invariant-loop-reader
+invariant-loop-reader l =
+    IsReading l.reader × IsReadTo (records_left l.fn.reader) (records_left l.reader) l.rows.items
+    × (length l.rows.items ≡ vec_len l.rows) × (vec_len l.rows ≤ 2000)
+
+-- there may be so many rows more
+abbrev pub decreases-loop-reader : goal.decreases-loop-reader
+decreases-loop-reader l = 2000 - vec_len l.rows

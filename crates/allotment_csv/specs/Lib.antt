@@ -1,0 +1,7 @@
+pub mod Rows
+pub mod Files
+pub mod Told
+pub mod Fields
+pub mod Reading
+pub mod Fronts
+pub mod Examples

@@ -1,0 +1,158 @@
+-- Rows whose cell stands in an earlier row: what a set of the cells passed so far tells, and that a list without such a
+-- row has distinct cells. For `first_repeat` and `Batch::new`.
+use Rattle.std.proofs.Common.{◌≡◌, ℕ, ◌+◌, ◌<◌, ◌≤◌, Bool, true, false, cond, List, [], ◌∷◌, ◌++◌, refl, ap, sym, ◌∙◌, subst, take, drop, get_or, arith, length-take-le}
+use Rattle.std.proofs.lemmas.List.{take_more, drop_more}
+use Rattle.std.specs.Prelude.{◌&&◌, ◌||◌, not, if◌then◌else◌, length, Option, Some, None, is_none}
+use Rattle.std.specs.List.{list_any, list_all}
+use Rattle.std.specs.BTreeSet as set
+use Rattle.allotment.specs.Cells.{is_cell}
+use Rattle.allotment.specs.declared.cells.Cell.{Cell}
+use Rattle.allotment.specs.declared.cells.Row.{Row}
+use Rattle.commands.specs.Batches.{is_new_cell, are_distinct, repeat_behind, repeat_among}
+use Rattle.commands.specs.CellKeys.{cell_key_cmp}
+use Rattle.commands.specs.declared.cell_keys.CellKey.{CellKey}
+use Rattle.commands.proofs.CellKeyLemmas.{key_of, is_eq-cells, is_cell-swap}
+
+-- one of these rows is of this cell
+abbrev pub has_row_of : List Row → Cell → Bool
+has_row_of rows x = list_any (λ (s : Row). is_cell x s.cell) rows
+
+-- the set has the cells of these rows
+abbrev pub HasCellsOf : set.BTreeSet CellKey → List Row → Type 0
+HasCellsOf seen rows = (x : Cell) → set.contains cell_key_cmp seen (key_of x) ≡ has_row_of rows x
+
+-- one more row is of this cell, or one of those before it
+has_row_of-more : (rows : List Row) (r : Row) (x : Cell)
+    → has_row_of (rows ++ (r ∷ [])) x ≡ (if is_cell x r.cell then true else has_row_of rows x)
+has_row_of-more [] r x = or_false (is_cell x r.cell)
+  where
+    or_false : (b : Bool) → (b || false) ≡ (if b then true else false)
+    or_false true = refl
+    or_false false = refl
+has_row_of-more (s ∷ rows) r x =
+    ap (λ t. is_cell x s.cell || t) (has_row_of-more rows r x) ∙ swap (is_cell x s.cell) (is_cell x r.cell) (has_row_of rows x)
+  where
+    swap : (a b c : Bool) → (a || (if b then true else c)) ≡ (if b then true else (a || c))
+    swap true true c = refl
+    swap true false c = refl
+    swap false b c = refl
+
+-- once the cell of a row is put into it, the set has the cells of one more row
+pub has_cells_of-more : (old new : set.BTreeSet CellKey) (rows : List Row) (r : Row) → HasCellsOf old rows
+    → set.Updates cell_key_cmp old new (key_of r.cell) true → HasCellsOf new (rows ++ (r ∷ []))
+has_cells_of-more old new rows r has updates x =
+    updates.0 (key_of x)
+    ∙ ap (λ b. cond b true (set.contains cell_key_cmp old (key_of x)))
+    (is_eq-cells r.cell x ∙ is_cell-swap r.cell x)
+    ∙ ap (λ b. cond (is_cell x r.cell) true b) (has x)
+    ∙ sym (has_row_of-more rows r x)
+
+-- the row at hand is passed, since its cell is new
+pub repeat_behind-new : (earlier later : List Row) (r : Row) → has_row_of earlier r.cell ≡ false
+    → repeat_behind earlier (r ∷ later) ≡ repeat_behind (earlier ++ (r ∷ [])) later
+repeat_behind-new earlier later r new =
+    ap (λ b. if not b then repeat_behind (earlier ++ (r ∷ [])) later else Some (length earlier)) new
+
+-- the row at hand is the first one whose cell stands in an earlier row
+pub repeat_behind-old : (earlier later : List Row) (r : Row) → has_row_of earlier r.cell ≡ true
+    → repeat_behind earlier (r ∷ later) ≡ Some (length earlier)
+repeat_behind-old earlier later r old =
+    ap (λ b. if not b then repeat_behind (earlier ++ (r ∷ [])) later else Some (length earlier)) old
+
+-- none of the later rows is of a cell of these
+abbrev are_new : List Row → List Row → Bool
+are_new earlier later = list_all (λ (r : Row). is_new_cell r earlier) later
+
+-- the later rows are of other cells than one more row, where they are so for those before it and for that row
+are_new-more : (earlier : List Row) (r : Row) (later : List Row)
+    → are_new (earlier ++ (r ∷ [])) later ≡ (are_new earlier later && is_new_cell r later)
+are_new-more earlier r [] = refl
+are_new-more earlier r (s ∷ later) =
+    ap (λ b. not b && are_new (earlier ++ (r ∷ [])) later) (has_row_of-more earlier r s.cell)
+    ∙ ap (λ b. not (if is_cell s.cell r.cell then true else has_row_of earlier s.cell) && b) (are_new-more earlier r later)
+    ∙ ap (λ b. not (if b then true else has_row_of earlier s.cell) && (are_new earlier later && is_new_cell r later))
+    (is_cell-swap s.cell r.cell)
+    ∙ parts (is_cell r.cell s.cell) (has_row_of earlier s.cell) (are_new earlier later) (has_row_of later r.cell)
+  where
+    parts : (a b c d : Bool) → (not (if a then true else b) && (c && not d)) ≡ ((not b && c) && not (a || d))
+    parts true true c d = refl
+    parts true false true d = refl
+    parts true false false d = refl
+    parts false true c d = refl
+    parts false false c d = refl
+
+-- no cell comes again behind these rows where the later ones are of other cells, and of distinct ones
+repeat_behind-none : (earlier later : List Row)
+    → is_none (repeat_behind earlier later) ≡ (are_new earlier later && are_distinct later)
+repeat_behind-none earlier [] = refl
+repeat_behind-none earlier (r ∷ later) =
+    at_row (is_new_cell r earlier)
+    ∙ ap (λ b. is_new_cell r earlier && b)
+    (repeat_behind-none (earlier ++ (r ∷ [])) later
+    ∙ ap (λ b. b && are_distinct later) (are_new-more earlier r later)
+    ∙ three (are_new earlier later) (is_new_cell r later) (are_distinct later))
+    ∙ four (is_new_cell r earlier) (are_new earlier later) (is_new_cell r later && are_distinct later)
+  where
+    at_row : (b : Bool) → is_none (if b then repeat_behind (earlier ++ (r ∷ [])) later else Some (length earlier))
+        ≡ (b && is_none (repeat_behind (earlier ++ (r ∷ [])) later))
+    at_row true = refl
+    at_row false = refl
+
+    three : (a b c : Bool) → ((a && b) && c) ≡ (a && (b && c))
+    three true b c = refl
+    three false b c = refl
+
+    four : (a b c : Bool) → (a && (b && c)) ≡ ((a && b) && c)
+    four true b c = refl
+    four false b c = refl
+
+-- no cell comes again exactly where all are distinct
+pub repeat_among-none : (rows : List Row) → is_none (repeat_among rows) ≡ are_distinct rows
+repeat_among-none rows = repeat_behind-none [] rows ∙ ap (λ b. b && are_distinct rows) (none_before rows)
+  where
+    none_before : (later : List Row) → are_new [] later ≡ true
+    none_before [] = refl
+    none_before (r ∷ later) = none_before later
+
+-- where no cell comes again all are distinct
+pub distinct_if_none : (rows : List Row) → repeat_among rows ≡ None → are_distinct rows ≡ true
+distinct_if_none rows none = sym (repeat_among-none rows) ∙ ap (λ (o : Option ℕ). is_none o) none
+
+-- where one comes again they are not
+pub repeated_if_some : (rows : List Row) (i : ℕ) → repeat_among rows ≡ Some i → are_distinct rows ≡ false
+repeated_if_some rows i some = sym (repeat_among-none rows) ∙ ap (λ (o : Option ℕ). is_none o) some
+
+-- the rows up to a place and the row there are those up to the next place
+up_to : (rows : List Row) (i : ℕ) (r : Row) → i < length rows → r ≡ get_or rows i r
+    → take (i + 1) rows ≡ take i rows ++ (r ∷ [])
+up_to rows i r within at = take_more rows i r within ∙ ap (λ x. take i rows ++ (x ∷ [])) (sym at)
+
+-- the rows from a place on are the row there and those from the next place on
+from_on : (rows : List Row) (i : ℕ) (r : Row) → i < length rows → r ≡ get_or rows i r
+    → drop i rows ≡ r ∷ drop (i + 1) rows
+from_on rows i r within at = drop_more rows i r within ∙ ap (λ x. x ∷ drop (i + 1) rows) (sym at)
+
+-- the row at a place is of a new cell, so the search goes on behind it
+pub repeat_at-new : (rows : List Row) (i : ℕ) (r : Row) → i < length rows → r ≡ get_or rows i r
+    → has_row_of (take i rows) r.cell ≡ false
+    → repeat_behind (take i rows) (drop i rows) ≡ repeat_behind (take (i + 1) rows) (drop (i + 1) rows)
+repeat_at-new rows i r within at new =
+    ap (repeat_behind (take i rows)) (from_on rows i r within at)
+    ∙ repeat_behind-new (take i rows) (drop (i + 1) rows) r new
+    ∙ ap (λ xs. repeat_behind xs (drop (i + 1) rows)) (sym (up_to rows i r within at))
+
+-- the cell of the row at a place stands before it, so the search ends there
+pub repeat_at-old : (rows : List Row) (i : ℕ) (r : Row) → i < length rows → r ≡ get_or rows i r
+    → has_row_of (take i rows) r.cell ≡ true → repeat_behind (take i rows) (drop i rows) ≡ Some i
+repeat_at-old rows i r within at old =
+    let low : i ≤ length rows = omega (arith, within) in
+    ap (repeat_behind (take i rows)) (from_on rows i r within at)
+    ∙ repeat_behind-old (take i rows) (drop (i + 1) rows) r old
+    ∙ ap (λ n. Some n) (length-take-le i rows low)
+
+-- the set with the cells of the rows up to a place has those up to the next one, once the cell there is put into it
+pub has_cells_of-next : (old new : set.BTreeSet CellKey) (rows : List Row) (i : ℕ) (r : Row) → i < length rows
+    → r ≡ get_or rows i r → HasCellsOf old (take i rows)
+    → set.Updates cell_key_cmp old new (key_of r.cell) true → HasCellsOf new (take (i + 1) rows)
+has_cells_of-next old new rows i r within at has updates =
+    subst (HasCellsOf new) (sym (up_to rows i r within at)) (has_cells_of-more old new (take i rows) r has updates)

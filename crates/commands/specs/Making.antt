@@ -1,0 +1,12 @@
+-- What came of making a batch, memory aside.
+use Rattle.std.specs.Prelude.{◌≡◌, ⊤, Result, Ok, Err}
+use Rattle.commands.specs.Batched.{Batched}
+use Rattle.commands.specs.declared.batches.BadBatch.{BadBatch}
+use Rattle.commands.specs.declared.batches.BadBatch.TheVariants.{Count, Twice, Memory}
+
+-- this came of it, unless memory ran out
+abbrev pub IsMade : Result Batched BadBatch → Result Batched BadBatch → Type 0
+IsMade made (Ok batch) = made ≡ Ok batch
+IsMade made (Err Count) = made ≡ Err Count
+IsMade made (Err Twice) = made ≡ Err Twice
+IsMade made (Err Memory) = ⊤

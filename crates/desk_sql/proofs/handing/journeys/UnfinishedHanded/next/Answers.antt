@@ -1,0 +1,29 @@
+-- The row at which the query stands is the first of those to come.
+use Rattle.std.proofs.Common.{◌≡◌, Some, None, rules}
+use Rattle.sqlite.specs.Given.{row_if}
+use Rattle.desk_sql.specs.Found.{journey_of}
+use Rattle.desk_sql.specs.Handing.{journey_shown}
+use Rattle.desk_sql.specs.Texts.{first_unfinished_text}
+use Rattle.desk_sql.specs.Meanings.{first_unfinished_query, journey_names}
+use Rattle.desk_sql.proofs.Meaning.{first_unfinished_means}
+use Rattle.desk_sql.proofs.HandedRows.{hands_row, hands_none}
+use Rattle.desk_sql.proofs.HandedJourneys.{journey_back}
+use Rattle.desk_sql.proofs.handing.journeys.UnfinishedHanded.next.Goals as goal
+
+pub returns-in_ok-journey-in-Some-clause-next : goal.returns-in_ok-journey-in-Some-clause-next
+returns-in_ok-journey-in-Some-clause-next g c clean =
+    let rows = c.advance.new.self in
+    let told = c.in_ok-advance.ensures in
+    let row = c.in-Some.row.now in
+    let stands : row_if rows.has_row rows.conn.now ≡ Some row = search rules in
+    hands_row g.S.Store first_unfinished_text first_unfinished_query journey_names first_unfinished_means journey_shown c.args.self.now.rows.conn.now rows.conn.now
+    rows.has_row (told.ok clean) row (Some (journey_of c.in_ok-journey-in-Some.journey)) stands (told.same clean) (λ over. (told.ended over).0)
+    (λ x is. journey_back row c.in_ok-journey-in-Some.journey x c.in_ok-journey-in-Some.ensures is)
+
+pub returns-in-None-clause-next : goal.returns-in-None-clause-next
+returns-in-None-clause-next g c clean =
+    let rows = c.advance.new.self in
+    let told = c.in_ok-advance.ensures in
+    let none : row_if rows.has_row rows.conn.now ≡ None = search rules in
+    hands_none g.S.Store first_unfinished_text first_unfinished_query journey_names first_unfinished_means journey_shown c.args.self.now.rows.conn.now rows.conn.now
+    rows.has_row (told.ok clean) none told.ends

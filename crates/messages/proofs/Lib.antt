@@ -1,0 +1,9 @@
+pub mod ListFacts
+pub mod FieldLemmas
+pub mod WordLemmas
+pub mod LengthLemmas
+pub mod ToldLemmas
+pub mod PlaceLemmas
+pub mod HeadLemmas
+pub mod IncomingLemmas
+pub mod MessageLemmas

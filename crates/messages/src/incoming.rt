@@ -1,0 +1,164 @@
+//! What was read of a stream and is not yet used.
+ghost use Rattle.std.specs.Prelude.{◌≡◌, ◌≤◌, ◌<◌, [], length, take, drop, true, false, IfOk, IsNone, IsSome, OnErr, OnOk};
+ghost use Rattle.std.specs.Io.KnownBytes.{Consumes, IsAtEnd, Keeps};
+ghost use Rattle.messages.specs.Messages.{first_told};
+ghost use Rattle.messages.specs.Reading.{FindsTold, HasCount, HasMessage, IsNext, ReadsOn, to_come};
+
+use crate::faults::ReadFault;
+use crate::heads::Head;
+use crate::places::Search;
+use crate::requests::Message;
+use std::alloc::{AllocError, Global};
+use std::io::{ErrorKind, Read};
+use std::marker::Model;
+
+/// How many bytes are read at once, at most.
+const CHUNK: usize = 8192;
+
+/// What was read of a stream and is not yet used.
+///
+/// It holds at most a message that is not yet whole, and what came in one more read.
+#[derive(Drop)]
+pub struct Incoming {
+    waiting: Vec<u8>,
+    /// Where bytes are read into.
+    chunk: Vec<u8>,
+    /// How many bytes may still be read.
+    left: u64,
+}
+
+impl Model for Incoming {
+    ghost use Rattle.std.specs.Prelude.{◌<◌, length};
+    ghost use Rattle.messages.specs.Reading.{Unused};
+
+    ghost Value = { Unused };
+
+    ghost view = { λ a. record { waiting = a.waiting.items; left = a.left } };
+
+    ghost invariant = { λ a. 0 < length a.chunk.items };
+}
+
+impl Incoming {
+    /// Nothing was read, and 2^64 - 1 bytes may be.
+    pub fn new(alloc: Global) -> Result<Incoming, AllocError>
+        ensures empty { IfOk result (λ incoming. incoming.waiting ≡ []) }
+    {
+        Ok(Incoming {
+            waiting: Vec::new(alloc),
+            chunk: vec![in alloc; 0u8; CHUNK]?,
+            left: u64::MAX,
+        })
+    }
+
+    /// The next message, or none where the input ends before one is whole.
+    ///
+    /// It is given as soon as its bytes were read: nothing is read where they are waiting. After a
+    /// fault the call may be tried again.
+    pub fn next_message<R: Read>(&mut self, reader: &mut R) -> Result<Option<Message>, ReadFault>
+        ensures next { IfOk result (IsNext (to_come self.old (R.remaining reader.old))
+            (to_come self.new (R.remaining reader.new))) }
+        ensures end { IfOk result (λ found. IsNone found → IsAtEnd (R.remaining reader.new)) }
+        ensures at_once { HasMessage self.old.waiting → reader.new ≡ reader.old }
+
+        ensures fault { OnErr result (Keeps (to_come self.old (R.remaining reader.old))
+            (to_come self.new (R.remaining reader.new))) }
+    {
+        let Some(end) = self.find_front(reader)? else {
+            return Ok(None);
+        };
+        let front = &self.waiting[..end];
+        let Some(head) = Head::read(front) else {
+            self.forget(end);
+            return Ok(Some(Message::NoHead));
+        };
+        let alloc = *self.waiting.allocator();
+        let mut request = head.request(alloc, front)?;
+        let whole = end + head.body_length(front);
+        if !self.wait_for(whole, reader)? {
+            return Ok(None);
+        }
+        request.body.extend_from_slice(&self.waiting[end..whole])?;
+        self.forget(whole);
+        Ok(Some(Message::Asks(request)))
+    }
+
+    /// Reads until a front of what waits is told, and says where it ends.
+    fn find_front<R: Read>(&mut self, reader: &mut R) -> Result<Option<usize>, ReadFault>
+        ensures found { IfOk result (FindsTold self.new (R.remaining reader.new)) }
+        ensures at_once { IsSome (first_told self.old.waiting) →
+            (self.new.waiting ≡ self.old.waiting) × (reader.new ≡ reader.old) }
+
+        ensures reads { ReadsOn self.old self.new (R.remaining reader.old) (R.remaining reader.new) }
+    {
+        let mut search = Search::new();
+        loop {
+            if search.go_on(&self.waiting) {
+                return Ok(Some(search.looked));
+            }
+            if !self.fill(reader)? {
+                return Ok(None);
+            }
+        }
+    }
+
+    /// Reads until so many bytes wait, and says whether they do.
+    fn wait_for<R: Read>(&mut self, count: usize, reader: &mut R) -> Result<bool, ReadFault>
+        ensures count { IfOk result (HasCount self.new (R.remaining reader.new) count) }
+        ensures at_once { count ≤ length self.old.waiting →
+            (self.new.waiting ≡ self.old.waiting) × (reader.new ≡ reader.old) }
+
+        ensures reads { ReadsOn self.old self.new (R.remaining reader.old) (R.remaining reader.new) }
+    {
+        while self.waiting.len() < count {
+            if !self.fill(reader)? {
+                return Ok(false);
+            }
+        }
+        Ok(true)
+    }
+
+    /// Reads more behind what waits, and says whether there was any.
+    fn fill<R: Read>(&mut self, reader: &mut R) -> Result<bool, ReadFault>
+        ensures reads { ReadsOn self.old self.new (R.remaining reader.old) (R.remaining reader.new) }
+        ensures end { IfOk result (λ more. more ≡ false →
+            (self.new ≡ self.old) × IsAtEnd (R.remaining reader.new)) }
+        ensures fewer { IfOk result (λ more. more ≡ true → self.new.left < self.old.left) }
+    {
+        if self.left < self.chunk.len() as u64 {
+            return Err(ReadFault::Read);
+        }
+        self.waiting.reserve(self.chunk.len())?;
+        let count = read_some(reader, self.chunk.as_mut_slice())?;
+        self.waiting.extend_from_slice(&self.chunk[..count])?;
+        self.left -= count as u64;
+        Ok(count > 0)
+    }
+
+    /// Forgets the first bytes that wait, which were used.
+    fn forget(&mut self, count: usize)
+        requires { count ≤ length self.old.waiting }
+        ensures rest { self.new.waiting ≡ drop count self.old.waiting }
+    {
+        self.waiting.drain(..count);
+    }
+}
+
+/// Reads once, and again where a read was interrupted.
+fn read_some<R: Read>(reader: &mut R, buffer: &mut [u8]) -> Result<usize, ReadFault>
+    ensures bound { IfOk result (λ count. count ≤ length buffer.new) }
+    ensures bytes { IfOk result (λ count.
+        Consumes (R.remaining reader.old) (R.remaining reader.new) (take count buffer.new)) }
+    ensures end { IfOk result (λ count. count ≡ 0 → 0 < length buffer.new →
+        IsAtEnd (R.remaining reader.new)) }
+
+    ensures fault { OnErr result (Keeps (R.remaining reader.old) (R.remaining reader.new)) }
+{
+    for _ in 0..u64::MAX {
+        match reader.read(buffer) {
+            Ok(count) => return Ok(count),
+            Err(error) if error.kind() == ErrorKind::Interrupted => {}
+            Err(_) => return Err(ReadFault::Read),
+        }
+    }
+    Err(ReadFault::Read)
+}

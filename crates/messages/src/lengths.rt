@@ -1,0 +1,33 @@
+//! How long the body is, as a head tells it.
+ghost use Rattle.std.specs.Prelude.{◌≡◌};
+ghost use Rattle.std.specs.Str.Parse.{digits_value};
+ghost use Rattle.allotment.specs.Texts.{keep_if};
+ghost use Rattle.messages.specs.Fields.{length_of};
+
+/// How long the body is, as a head tells it.
+#[derive(Clone, Copy)]
+pub(crate) enum Length {
+    /// No length is told.
+    Untold,
+    /// The body has so many bytes.
+    Bytes(usize),
+    /// Two lengths are told, or one that is none.
+    Bad,
+}
+
+/// The length that one to nine digits tell.
+pub(crate) fn length_in(text: &[u8]) -> Option<usize>
+    ensures digits { result ≡ length_of text.now }
+{
+    if text.is_empty() || text.len() > 9 {
+        return None;
+    }
+    let mut length = 0;
+    for byte in text {
+        if !byte.is_ascii_digit() {
+            return None;
+        }
+        length = 10 * length + usize::from(*byte - b'0');
+    }
+    Some(length)
+}

@@ -1,0 +1,4 @@
+pub mod NumberLemmas
+pub mod TextLemmas
+pub mod FloatLemmas
+pub mod HeadLemmas

@@ -1,0 +1,9 @@
+pub mod Verbs
+pub mod Routes
+pub mod RouteExamples
+pub mod Admitting
+pub mod Statuses
+pub mod Bodies
+pub mod Members
+pub mod Pages
+pub mod PageExamples

@@ -1,0 +1,49 @@
+//! What is wrong with a request before its body is looked at.
+ghost use Rattle.std.specs.Prelude.{◌≡◌, is_some, IfErr};
+ghost use Rattle.pages.specs.Admitting.{admitted, is_of_method, plain};
+
+use crate::routes::{Route, Unrouted};
+use crate::verbs::Verb;
+use commands::Refusal;
+
+/// A refusal, and the method that the path has where that is what is wrong.
+#[derive(Clone, Copy, Debug, PartialEq, Eq)]
+pub struct Denied {
+    pub refusal: Refusal,
+    /// For the field `Allow`.
+    pub allow: Option<Verb>,
+}
+
+/// What is asked for, or the first thing that is wrong: the path, its method, the agent, the key of
+/// a POST, the parts of the path.
+pub fn admit(
+    found: Result<Route, Unrouted>,
+    has_agent: bool,
+    has_key: bool,
+    is_post: bool,
+) -> Result<Route, Denied>
+    ensures admitted { result ≡ admitted found has_agent has_key is_post }
+    ensures allow { IfErr result (λ denied. is_some denied.allow ≡ is_of_method denied.refusal) }
+{
+    match found {
+        Err(Unrouted::UnknownPath) => Err(plain(Refusal::UnknownPath)),
+        Err(Unrouted::WrongMethod(verb)) => Err(Denied {
+            refusal: Refusal::WrongMethod,
+            allow: Some(verb),
+        }),
+        _ if !has_agent => Err(plain(Refusal::NoAgent)),
+        _ if is_post && !has_key => Err(plain(Refusal::NoKey)),
+        Err(Unrouted::BadPart) => Err(plain(Refusal::BadBody)),
+        Ok(route) => Ok(route),
+    }
+}
+
+/// A refusal that has nothing to do with the method.
+fn plain(refusal: Refusal) -> Denied
+    ensures plain { result ≡ plain refusal }
+{
+    Denied {
+        refusal,
+        allow: None,
+    }
+}

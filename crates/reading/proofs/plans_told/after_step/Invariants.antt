@@ -1,0 +1,13 @@
+-- So far the rows are those of the first options.
+use Rattle.std.proofs.Common.{◌≡◌, ◌+◌, ◌≤◌, ◌++◌, ℕ, take, length}
+use Rattle.plan.specs.Planned.{option_count}
+use Rattle.reading.specs.PlansTold.{first_rows}
+use Rattle.standing.specs.Beginning.{first_rows_of_step}
+use Rattle.reading.proofs.plans_told.after_step.Given as goal
+
+abbrev pub invariant-loop-option : goal.invariant-loop-option
+invariant-loop-option l =
+    record {
+      within : l.from + l.option ≤ length l.rows;
+      told : (id : ℕ) → first_rows id (take (l.from + l.option) l.rows) ≡ first_rows id (take l.from l.rows) ++ first_rows_of_step id l.plan l.step l.option;
+    }

@@ -1,0 +1,100 @@
+-- What a source of rows has still to hand out, and what it leaves of the connection under it.
+use Rattle.std.specs.Prelude.{◌≡◌, ℕ, List, map, filter, filter_map, not, false, refl}
+use Rattle.std.specs.Borrow.{MutBor}
+use Rattle.std.proofs.Common.{◌∙◌}
+use Rattle.allotment.specs.declared.cells.Cell.{Cell}
+use Rattle.allotment.specs.declared.places.Held.{Held as HeldPlaces}
+use Rattle.commands.specs.declared.items.Item.{Item}
+use Rattle.ledger.specs.Answer.{State}
+use Rattle.ledger.specs.History.{is_finished}
+use Rattle.ledger.specs.Ledger.{Event, numbers}
+use Rattle.saga_core.specs.Shown.{brief_of}
+use Rattle.saga_core.specs.declared.records.Brief.{Brief}
+use Rattle.sqlite.specs.Store.{Ghosts}
+use Rattle.sqlite.specs.Held.{Held, state}
+use Rattle.sqlite.specs.State.{HasCleanDisk}
+use Rattle.desk_sql.specs.Handing.{CellsRest, JourneysRest, ItemsRest}
+use Rattle.desk_sql.specs.Rows.{JourneyRow, CursorRow}
+use Rattle.desk_sql.specs.declared.items.ItemFound.{ItemFound}
+use Rattle.standing.specs.Called.{cursor_row}
+use Rattle.standing.specs.Keeping.{Keeps}
+use Rattle.standing.specs.Reading.{stock_row_of}
+use Rattle.standing.specs.Standing.{IsDesk}
+use Rattle.reading.specs.Reading.{OnlyReads, TellItems}
+
+-- the journeys that are not finished, in short, by rising number
+abbrev pub unfinished_of : List Event → List Brief
+unfinished_of l =
+    filter (λ (b : Brief). not (is_finished b.cursor.phase)) (filter_map (brief_of l) (numbers l))
+
+-- what a row tells of a journey in short
+pub record Short : Type 0 where
+  pub id : ℕ
+  pub agent : List ℕ
+  pub cursor : CursorRow
+
+abbrev pub short_of : JourneyRow → Short
+short_of r = record { id = r.id; agent = r.agent; cursor = r.cursor }
+
+-- a journey in short, as a row tells it
+abbrev pub short_told : Brief → Short
+short_told b = record { id = b.id; agent = b.agent; cursor = cursor_row b.cursor }
+
+-- the rows tell these journeys in short
+abbrev pub TellBriefs : List JourneyRow → List Brief → Type 0
+TellBriefs rows briefs = map short_of rows ≡ map short_told briefs
+
+module _ {S : Type 0} (g : Ghosts S) where
+  -- these rows of the desk are still to come
+
+  abbrev pub StockRests : Held S → List (Cell × HeldPlaces) → Type 0
+  StockRests h rows = CellsRest g h (map stock_row_of rows)
+
+  abbrev pub BriefsRest : Held S → List Brief → Type 0
+  BriefsRest h briefs = (rows : List JourneyRow) × JourneysRest g h rows × TellBriefs rows briefs
+
+  abbrev pub HistoryRests : Held S → List Item → Type 0
+  HistoryRests h items = (rows : List ItemFound) × ItemsRest g h rows × TellItems rows items
+
+  module _ (old new : Held S) where
+    -- the connection keeps what it kept, and stays out of a transaction
+    pub record IsLeftAsItWas : Type 0 where
+      pub reads : OnlyReads g old new
+      pub outside : old.in_transaction ≡ false → new.in_transaction ≡ false
+
+    -- while the store returns what was written, such a list of each desk that the connection kept is
+    -- still to come
+    abbrev pub BeginsKept : {X : Type 0} → (State → List X → Type 0) → (List X → Type 0) → Type 0
+    BeginsKept {X} IsList Rests =
+        HasCleanDisk (state g new) → (s : State) → IsDesk s → Keeps (state g old) s
+        → (rows : List X) → IsList s rows → Rests rows
+
+  -- the reference is the same, and the connection behind it is left as it was
+  pub record StaysUnder (a b : MutBor (Held S)) : Type 0 where
+    pub same_reference : b.ghost_name ≡ a.ghost_name
+    pub left : IsLeftAsItWas a.now b.now
+
+-- it stays so where nothing is handed out, and from one row to the next
+pub stays_alone : {S : Type 0} {g : Ghosts S} (a : MutBor (Held S)) → StaysUnder g a a
+stays_alone a = record {
+  same_reference = refl;
+  left = record {
+    reads = record { keeps = λ s keeps. keeps; stop = λ clean db may. may; less = λ clean. clean };
+    outside = λ outside. outside;
+  };
+}
+
+pub stays_twice : {S : Type 0} {g : Ghosts S} (a b c : MutBor (Held S))
+    → StaysUnder g a b → StaysUnder g b c → StaysUnder g a c
+stays_twice a b c one two = record {
+  same_reference = two.same_reference ∙ one.same_reference;
+  left = record {
+    reads = record {
+      keeps = λ s keeps. two.left.reads.keeps s (one.left.reads.keeps s keeps);
+      stop = λ clean db may.
+          one.left.reads.stop (two.left.reads.less clean) db (two.left.reads.stop clean db may);
+      less = λ clean. one.left.reads.less (two.left.reads.less clean);
+    };
+    outside = λ outside. two.left.outside (one.left.outside outside);
+  };
+}

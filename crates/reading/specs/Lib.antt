@@ -1,0 +1,3 @@
+pub mod Handing
+pub mod PlansTold
+pub mod Reading

@@ -1,0 +1,214 @@
+//! Reads of the tables, in the words of the desk. A read changes nothing, whatever comes of it.
+ghost use Rattle.std.specs.Prelude.{◌≡◌, ◌<◌, ◌^◌, false};
+ghost use Rattle.ledger.specs.Ledger.{history};
+ghost use Rattle.saga_core.specs.Shown.{ShowsCells, IsStock};
+ghost use Rattle.reading.specs.Reading.{ShowsKept, KeepsOn, LeavesAsBefore, WasClean};
+ghost use Rattle.reading.specs.Reading.{IsFirstAbove, HasNone, IsRecordAt, AreMarksAt, IsPlanOf};
+
+use crate::faults::fault_of;
+use crate::plans_told::plan_told;
+use crate::telling::{brief_of, cells_told, items_told, marks_told, nights_told, record_of};
+use allotment::{Cell, Held, Night, Want};
+use commands::{Fault, Item};
+use desk_sql::{
+    NightRange, find_items, find_journey, find_marks, find_nights, find_steps, find_stock,
+    first_unfinished, read_meta,
+};
+use plan::Plan;
+use saga_core::{Brief, Record};
+use savepoints::Marks;
+use sqlite::{Alter, Connection};
+use std::alloc::Global;
+
+/// The largest number that a store can be asked for.
+pub const LARGEST: u64 = i64::MAX as u64;
+
+/// The unfinished journey with the least number above this one.
+pub fn read_first_unfinished<S: Alter>(
+    conn: &mut Connection<S>,
+    after: u64,
+) -> Result<Option<Brief>, Fault>
+    requires { conn.old.in_transaction ≡ false }
+
+    ensures outside { conn.new.in_transaction ≡ false }
+    ensures first { ShowsKept S.Store conn.old conn.new result (IsFirstAbove after) }
+    ensures same { KeepsOn S.Store conn.old conn.new }
+    ensures stop { LeavesAsBefore S.Store conn.old conn.new }
+    ensures less { WasClean S.Store conn.old conn.new }
+{
+    match first_unfinished(conn, after.min(LARGEST)) {
+        Ok(None) => Ok(None),
+        Ok(Some(found)) => match brief_of(&found) {
+            Some(brief) if after <= LARGEST => Ok(Some(brief)),
+            _ => Err(Fault::Store),
+        },
+        Err(error) => Err(fault_of(&error)),
+    }
+}
+
+/// Finds that no journey has a number that is above all that a store can be asked for.
+pub(crate) fn check_absent<S: Alter>(conn: &mut Connection<S>, id: u64) -> Result<(), Fault>
+    requires { conn.old.in_transaction ≡ false }
+
+    ensures outside { conn.new.in_transaction ≡ false }
+    ensures absent { ShowsKept S.Store conn.old conn.new result (HasNone id) }
+    ensures same { KeepsOn S.Store conn.old conn.new }
+    ensures stop { LeavesAsBefore S.Store conn.old conn.new }
+    ensures less { WasClean S.Store conn.old conn.new }
+{
+    match read_meta(conn) {
+        Ok(meta) if meta.journeys < id => Ok(()),
+        Ok(_) => Err(Fault::Store),
+        Err(error) => Err(fault_of(&error)),
+    }
+}
+
+/// The items of the journey of that number, in order; none where it is absent.
+pub fn read_history<S: Alter>(
+    alloc: Global,
+    conn: &mut Connection<S>,
+    id: u64,
+) -> Result<Vec<Item>, Fault>
+    requires { conn.old.in_transaction ≡ false }
+
+    ensures outside { conn.new.in_transaction ≡ false }
+    ensures items { ShowsKept S.Store conn.old conn.new result
+        (λ s items. items.items ≡ history s.ledger id) }
+    ensures same { KeepsOn S.Store conn.old conn.new }
+    ensures stop { LeavesAsBefore S.Store conn.old conn.new }
+    ensures less { WasClean S.Store conn.old conn.new }
+{
+    if id > LARGEST {
+        check_absent(conn, id)?;
+        return Ok(Vec::new(alloc));
+    }
+    match find_items(alloc, conn, id) {
+        Ok(found) => items_told(alloc, found.as_slice()),
+        Err(error) => Err(fault_of(&error)),
+    }
+}
+
+/// The plan of the journey of that number, where it has so many tries.
+fn read_plan<S: Alter>(
+    alloc: Global,
+    conn: &mut Connection<S>,
+    id: u64,
+    tries: u64,
+) -> Result<Plan, Fault>
+    requires outside { conn.old.in_transaction ≡ false }
+    requires small { id < 2 ^ 63 }
+
+    ensures outside { conn.new.in_transaction ≡ false }
+    ensures plan { ShowsKept S.Store conn.old conn.new result (IsPlanOf id tries) }
+    ensures same { KeepsOn S.Store conn.old conn.new }
+    ensures stop { LeavesAsBefore S.Store conn.old conn.new }
+    ensures less { WasClean S.Store conn.old conn.new }
+{
+    match find_steps(alloc, conn, id) {
+        Ok(found) => plan_told(alloc, found.as_slice(), tries),
+        Err(error) => Err(fault_of(&error)),
+    }
+}
+
+/// The save-points that the journey of that number took and that stand.
+fn read_marks<S: Alter>(alloc: Global, conn: &mut Connection<S>, id: u64) -> Result<Marks, Fault>
+    requires outside { conn.old.in_transaction ≡ false }
+    requires small { id < 2 ^ 63 }
+
+    ensures outside { conn.new.in_transaction ≡ false }
+    ensures marks { ShowsKept S.Store conn.old conn.new result (AreMarksAt id) }
+    ensures same { KeepsOn S.Store conn.old conn.new }
+    ensures stop { LeavesAsBefore S.Store conn.old conn.new }
+    ensures less { WasClean S.Store conn.old conn.new }
+{
+    match find_marks(alloc, conn, id) {
+        Ok(found) => match marks_told(found.as_slice()) {
+            Some(marks) => Ok(marks),
+            None => Err(Fault::Store),
+        },
+        Err(error) => Err(fault_of(&error)),
+    }
+}
+
+/// The journey of that number, if there is one.
+pub fn read_journey<S: Alter>(
+    alloc: Global,
+    conn: &mut Connection<S>,
+    id: u64,
+) -> Result<Option<Record>, Fault>
+    requires { conn.old.in_transaction ≡ false }
+
+    ensures outside { conn.new.in_transaction ≡ false }
+    ensures journey { ShowsKept S.Store conn.old conn.new result (IsRecordAt id) }
+    ensures same { KeepsOn S.Store conn.old conn.new }
+    ensures stop { LeavesAsBefore S.Store conn.old conn.new }
+    ensures less { WasClean S.Store conn.old conn.new }
+{
+    if id > LARGEST {
+        check_absent(conn, id)?;
+        return Ok(None);
+    }
+    match find_journey(conn, id) {
+        Ok(None) => Ok(None),
+        Ok(Some(found)) => {
+            let plan = read_plan(alloc, conn, id, found.tries)?;
+            let marks = read_marks(alloc, conn, id)?;
+            match record_of(&found, plan, marks) {
+                Some(record) => Ok(Some(record)),
+                None => Err(Fault::Store),
+            }
+        }
+        Err(error) => Err(fault_of(&error)),
+    }
+}
+
+/// The places of a want's nights, by rising night, without those that have no allotment.
+pub fn read_cells<S: Alter>(
+    alloc: Global,
+    conn: &mut Connection<S>,
+    want: &Want,
+) -> Result<Vec<(Night, Held)>, Fault>
+    requires { conn.old.in_transaction ≡ false }
+
+    ensures outside { conn.new.in_transaction ≡ false }
+    ensures cells { ShowsKept S.Store conn.old conn.new result
+        (λ s cells. ShowsCells want.now s cells.items) }
+    ensures same { KeepsOn S.Store conn.old conn.new }
+    ensures stop { LeavesAsBefore S.Store conn.old conn.new }
+    ensures less { WasClean S.Store conn.old conn.new }
+{
+    let supplier = want.supplier();
+    let product = want.product();
+    let first = u64::from(want.first().day());
+    let range = NightRange {
+        kind: u64::from(want.kind().number()),
+        supplier: supplier.as_str(),
+        product: product.as_str(),
+        first,
+        last: first + u64::from(want.nights()) - 1,
+    };
+    match find_nights(alloc, conn, range) {
+        Ok(found) => nights_told(alloc, found.as_slice()),
+        Err(error) => Err(fault_of(&error)),
+    }
+}
+
+/// The places of every cell that has an allotment, by kind, supplier, product and night.
+pub fn read_stock<S: Alter>(
+    alloc: Global,
+    conn: &mut Connection<S>,
+) -> Result<Vec<(Cell, Held)>, Fault>
+    requires { conn.old.in_transaction ≡ false }
+
+    ensures outside { conn.new.in_transaction ≡ false }
+    ensures stock { ShowsKept S.Store conn.old conn.new result
+        (λ s rows. IsStock s.ledger rows.items) }
+    ensures same { KeepsOn S.Store conn.old conn.new }
+    ensures stop { LeavesAsBefore S.Store conn.old conn.new }
+    ensures less { WasClean S.Store conn.old conn.new }
+{
+    match find_stock(alloc, conn) {
+        Ok(found) => cells_told(alloc, found.as_slice()),
+        Err(error) => Err(fault_of(&error)),
+    }
+}

@@ -1,0 +1,5 @@
+pub mod ByteLemmas
+pub mod FillLemmas
+pub mod HistoryLemmas
+pub mod PartLemmas
+pub mod RowLemmas

@@ -1,0 +1,43 @@
+-- The parts in which a report is written: its head, what is shown of each row, and its ending.
+use Rattle.std.specs.Prelude.{ℕ, List, [], ◌∷◌, ◌++◌, length, codes}
+use Rattle.std.specs.List.{flat_map}
+use Rattle.allotment.specs.Nights.{night_text}
+use Rattle.allotment.specs.Texts.{blank, kind_word, line_feed}
+use Rattle.allotment.specs.declared.cells.Cell.{Cell}
+use Rattle.commands.specs.Texts.{item_text, sentence}
+use Rattle.commands.specs.declared.items.Cursor.{Cursor}
+use Rattle.commands.specs.declared.items.Item.{Item}
+use Rattle.saga_core.specs.declared.records.Record.{Record}
+use Rattle.reports.specs.Columns.{left}
+use Rattle.reports.specs.Layouts.{count_line, history_heading, history_ending}
+use Rattle.reports.specs.declared.endings.Ending.{Ending}
+use Rattle.reports.specs.declared.endings.Ending.TheVariants.{Count, Text}
+
+-- what is written of a cell: its kind, supplier, product and night, each in its column
+abbrev pub cell_columns : Cell → List ℕ
+cell_columns cell =
+    sentence
+    (left 8 (kind_word cell.kind) ∷ left 8 cell.supplier ∷ left 8 cell.product
+    ∷ left 10 (night_text cell.night) ∷ [])
+
+-- what is written of an item: its text behind one blank
+abbrev pub item_word : Item → List ℕ
+item_word item = blank ∷ item_text item
+
+-- what is written before the items of a history
+abbrev pub history_head : ℕ → Record → List ℕ
+history_head id journey = history_heading id journey ++ codes "items"
+
+-- what is written behind them
+abbrev pub history_tail : Cursor → List ℕ
+history_tail cursor = line_feed ∷ history_ending cursor
+
+-- what an ending says behind so many rows
+abbrev pub ending_text : Ending → ℕ → List ℕ
+ending_text (Count what) count = count_line what.now count
+ending_text (Text text) count = text.now
+
+-- a report in its parts
+abbrev pub whole_report : {T : Type 0} → (T → List ℕ) → List ℕ → Ending → List T → List ℕ
+whole_report shown head ending rows =
+    head ++ flat_map shown rows ++ ending_text ending (length rows)

@@ -1,0 +1,37 @@
+//! Why a report ended early.
+ghost use Rattle.std.specs.Prelude.{◌≡◌};
+ghost use Rattle.reports.specs.Faults.{report_fault};
+ghost use Rattle.reports.specs.declared.faults.ReportFault.TheVariants.{Memory};
+
+use commands::Fault;
+use std::alloc::AllocError;
+
+/// Why a report ended early.
+#[derive(Clone, Copy, Debug, PartialEq, Eq)]
+pub enum ReportFault {
+    /// Memory ran out.
+    Memory,
+    /// The store failed to hand out a row.
+    Store,
+    /// A write failed, or took nothing.
+    Write,
+}
+
+impl From<Fault> for ReportFault {
+    ghost from_gives = { λ fault told. told ≡ report_fault fault };
+
+    fn from(fault: Fault) -> ReportFault {
+        match fault {
+            Fault::Memory => ReportFault::Memory,
+            Fault::Store => ReportFault::Store,
+        }
+    }
+}
+
+impl From<AllocError> for ReportFault {
+    ghost from_gives = { λ _ fault. fault ≡ Memory };
+
+    fn from(_error: AllocError) -> ReportFault {
+        ReportFault::Memory
+    }
+}

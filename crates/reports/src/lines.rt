@@ -1,0 +1,72 @@
+//! The lines of reports, each as one text in memory.
+ghost use Rattle.std.specs.Prelude.{◌≡◌, IfOk, string_bytes};
+ghost use Rattle.reports.specs.Layouts.{stock_heading, stock_line, journey_line};
+ghost use Rattle.reports.specs.Parts.{cell_columns, history_head, history_tail, item_word};
+
+use allotment::{Cell, Held};
+use commands::{Cursor, Item};
+use saga_core::{Brief, Record};
+use std::alloc::{AllocError, Global};
+
+/// The heading of the stock report.
+pub(crate) fn heading() -> &'static str
+    ensures heading { result.now ≡ stock_heading }
+{
+    "kind     supplier product  night       allot   held   free\n"
+}
+
+/// The line of a cell and its places.
+pub(crate) fn stock_line(alloc: Global, cell: &Cell, places: &Held) -> Result<String, AllocError>
+    ensures line { IfOk result (λ text. string_bytes text ≡ stock_line (cell.now, places.now)) }
+{
+    let cell = cell_columns(alloc, cell)?;
+    let Held { allot, free, .. } = *places;
+    let held = places.held();
+    format!(in alloc; "{cell} {allot:>6} {held:>6} {free:>6}\n")
+}
+
+/// The columns of a cell: its kind, supplier, product and night.
+fn cell_columns(alloc: Global, cell: &Cell) -> Result<String, AllocError>
+    ensures columns { IfOk result (λ text. string_bytes text ≡ cell_columns cell.now) }
+{
+    let kind = cell.kind.word();
+    let supplier = cell.supplier.as_str();
+    let product = cell.product.as_str();
+    let night = cell.night;
+    format!(in alloc; "{kind:<8} {supplier:<8} {product:<8} {night}")
+}
+
+/// The line of an unfinished journey.
+pub(crate) fn journey_line(alloc: Global, brief: &Brief) -> Result<String, AllocError>
+    ensures line { IfOk result (λ text. string_bytes text ≡ journey_line brief.now) }
+{
+    let id = brief.id;
+    let agent = brief.agent.as_str();
+    let state = brief.cursor.state(alloc)?;
+    format!(in alloc; "{id:>12} {agent:<16} {state}\n")
+}
+
+/// The word of an item, behind one blank.
+pub(crate) fn item_word(alloc: Global, item: &Item) -> Result<String, AllocError>
+    ensures word { IfOk result (λ text. string_bytes text ≡ item_word item.now) }
+{
+    let word = item.text(alloc)?;
+    format!(in alloc; " {word}")
+}
+
+/// What stands before the items of a history: who has the journey, its plan, and the word `items`.
+pub(crate) fn history_head(alloc: Global, id: u64, journey: &Record) -> Result<String, AllocError>
+    ensures head { IfOk result (λ text. string_bytes text ≡ history_head id journey.now) }
+{
+    let agent = journey.agent.as_str();
+    let plan = journey.plan.line(alloc)?;
+    format!(in alloc; "journey {id} agent {agent}\nplan {plan}\nitems")
+}
+
+/// What stands behind the items of a history: where the journey is.
+pub(crate) fn history_tail(alloc: Global, cursor: &Cursor) -> Result<String, AllocError>
+    ensures line { IfOk result (λ text. string_bytes text ≡ history_tail cursor.now) }
+{
+    let state = cursor.state(alloc)?;
+    format!(in alloc; "\nstate {state}\n")
+}

@@ -1,0 +1,167 @@
+-- The first journey that is not finished, and what that says of the others. For recovery, and for books that know of
+-- journeys that have finished.
+use Rattle.std.proofs.Common.{◌≡◌, ℕ, zero, suc, ◌+◌, ◌<◌, ◌≤◌, List, [], ◌∷◌, length, cond, refl, ap, sym, ◌∙◌, arith, eqb-true, subst}
+use Rattle.std.proofs.lemmas.Bool.{and_parts, eqb-false, ltb-true, ltb-false}
+use Rattle.std.proofs.lemmas.Option.{slice_get_past}
+use Rattle.std.specs.Prelude.{Bool, true, false, ◌==◌, ◌&&◌, not, nat_lt, Option, Some, None, find, filter_map, option_map, unwrap_or}
+use Rattle.std.specs.List.{cons_option}
+use Rattle.allotment.specs.Cells.{numbers_from}
+use Rattle.commands.specs.declared.items.Phase.{Phase}
+use Rattle.ledger.specs.History.{phase, is_finished, is_open}
+use Rattle.ledger.specs.Ledger.{Event, Journey, journeys, journey_at, history, phase_of, is_in}
+use Rattle.ledger.proofs.Phases.{passing}
+use Rattle.saga_core.specs.Shown.{brief_of, brief_of_journey, first_unfinished, is_unfinished_above}
+use Rattle.saga_core.specs.declared.records.Brief.{Brief}
+
+-- what a journey's brief tells: its number and its phase
+pub record Tells (m : List Event) (j : ℕ) (b : Brief) : Type 0 where
+  pub number : b.id ≡ j
+  pub phase_is : phase_of m j ≡ Some b.cursor.phase
+
+pub tells : (m : List Event) (j : ℕ) (b : Brief) → brief_of m j ≡ Some b → Tells m j b
+tells m j b is = go (journey_at m j) refl is
+  where
+    go : (o : Option Journey) → journey_at m j ≡ o
+        → option_map (brief_of_journey j (history m j)) o ≡ Some b → Tells m j b
+    go None at e = cc
+    go (Some a) at e =
+        let same : brief_of_journey j (history m j) a ≡ b = cc in
+        record {
+          number = sym (ap (λ (c : Brief). c.id) same);
+          phase_is =
+              ap (option_map (λ (c : Journey). phase c.plan (history m j))) at
+              ∙ ap (λ (c : Brief). Some c.cursor.phase) same;
+        }
+
+-- a journey that has no brief is not there
+untold : (m : List Event) (j : ℕ) → brief_of m j ≡ None → is_in is_open m j ≡ false
+untold m j is = go (journey_at m j) refl is
+  where
+    go : (o : Option Journey) → journey_at m j ≡ o
+        → option_map (brief_of_journey j (history m j)) o ≡ None → is_in is_open m j ≡ false
+    go None at e = ap (passing is_open (history m j)) at
+    go (Some a) at e = cc
+
+-- what was found among so many numbers from the first on
+data Found (m : List Event) (after first n : ℕ) : Option Brief → Type 0 where
+  found : (b : Brief) → b.id < first + n → after < b.id
+      → phase_of m b.id ≡ Some b.cursor.phase → is_open b.cursor.phase ≡ true
+      → ((k : ℕ) → first ≤ k → after < k → k < b.id → is_in is_open m k ≡ false)
+      → first ≤ b.id → Found m after first n (Some b)
+  none : ((k : ℕ) → first ≤ k → after < k → k < first + n → is_in is_open m k ≡ false)
+      → Found m after first n None
+
+-- of a first number that passes below, what holds of the others holds of all
+at_first : (m : List Event) (after first k : ℕ)
+    → (after < first → is_in is_open m first ≡ false) → first ≤ k → after < k
+    → (suc first ≤ k → is_in is_open m k ≡ false) → (v : Bool) → (first == k) ≡ v
+    → is_in is_open m k ≡ false
+at_first m after first k closed low above rest true e =
+    let same = eqb-true first k e in ap (is_in is_open m) (sym same) ∙ closed (omega arith)
+at_first m after first k closed low above rest false e =
+    let ne = eqb-false first k e in rest (omega arith)
+
+-- a first number that is not found leaves what is found behind it
+skip : (m : List Event) (after first n : ℕ) (o : Option Brief)
+    → (after < first → is_in is_open m first ≡ false)
+    → Found m after (suc first) n o → Found m after first (suc n) o
+skip m after first n _ closed (found b high above is unfinished before low) =
+    found b (omega arith) above is unfinished
+    (λ k lowk abovek below.
+    at_first m after first k closed lowk abovek (λ up. before k up abovek below) (first == k) refl)
+    (omega arith)
+skip m after first n _ closed (none before) =
+    none (λ k lowk abovek below.
+    at_first m after first k closed lowk abovek (λ up. before k up abovek (omega arith))
+    (first == k) refl)
+
+-- a journey whose test fails is not above, or it is finished
+not_open : (after : ℕ) (m : List Event) (first : ℕ) (b : Brief) → Tells m first b
+    → is_unfinished_above after b ≡ false → after < first → is_in is_open m first ≡ false
+not_open after m first b t fails above =
+    ap (λ o. unwrap_or (option_map is_open o) false) t.phase_is
+    ∙ go (nat_lt after b.id) (not (is_finished b.cursor.phase)) refl fails
+  where
+    go : (v w : Bool) → nat_lt after b.id ≡ v → (v && w) ≡ false → w ≡ false
+    go true w e f = f
+    go false w e f = let high = ltb-false _ _ e in let same = t.number in absurd (omega arith)
+
+-- the journeys are looked at one after another
+found-from : (m : List Event) (after n first : ℕ)
+    → Found m after first n
+    (find (is_unfinished_above after) (filter_map (brief_of m) (numbers_from first n)))
+found-from m after zero first = none (λ k low above high. absurd (omega arith))
+found-from m after (suc n) first =
+    by_brief (brief_of m first) refl (found-from m after n (suc first))
+  where
+    by_test : (b : Brief) → Tells m first b → (v : Bool) → is_unfinished_above after b ≡ v
+        → Found m after (suc first) n
+        (find (is_unfinished_above after) (filter_map (brief_of m) (numbers_from (suc first) n)))
+        → Found m after first (suc n) (cond v (Some b)
+        (find (is_unfinished_above after) (filter_map (brief_of m) (numbers_from (suc first) n))))
+    by_test b t true passes rest =
+        let both = and_parts (nat_lt after b.id) (not (is_finished b.cursor.phase)) passes in
+        let same = t.number in
+        let above = ltb-true _ _ both.0 in
+        found b (omega arith) above (ap (phase_of m) same ∙ t.phase_is) both.1
+        (λ k low abovek below. absurd (omega arith)) (omega arith)
+    by_test b t false fails rest = skip m after first n _ (not_open after m first b t fails) rest
+
+    by_brief : (o : Option Brief) → brief_of m first ≡ o
+        → Found m after (suc first) n
+        (find (is_unfinished_above after) (filter_map (brief_of m) (numbers_from (suc first) n)))
+        → Found m after first (suc n)
+        (find (is_unfinished_above after)
+        (cons_option o (filter_map (brief_of m) (numbers_from (suc first) n))))
+    by_brief None is rest = skip m after first n _ (λ above. untold m first is) rest
+    by_brief (Some b) is rest =
+        by_test b (tells m first b is) (is_unfinished_above after b) refl rest
+
+-- the first open journey above a number: it is open, and those between are not
+pub record IsFirst (m : List Event) (after : ℕ) (b : Brief) : Type 0 where
+  pub above : after < b.id
+  pub within : b.id ≤ length (journeys m)
+  pub phase_is : phase_of m b.id ≡ Some b.cursor.phase
+  pub unfinished : is_open b.cursor.phase ≡ true
+  pub between : (k : ℕ) → after < k → k < b.id → is_in is_open m k ≡ false
+
+pub first-found : (m : List Event) (after : ℕ) (b : Brief)
+    → Some b ≡ first_unfinished m after → IsFirst m after b
+first-found m after b is =
+    go (first_unfinished m after) (found-from m after (length (journeys m)) 1) is
+  where
+    go : (o : Option Brief) → Found m after 1 (length (journeys m)) o → Some b ≡ o
+        → IsFirst m after b
+    go _ (none before) e = cc
+    go _ (found c high above phase_is unfinished between low) e =
+        let same : c ≡ b = cc in
+        subst (IsFirst m after) same (record {
+          above = above;
+          within = omega arith;
+          phase_is = phase_is;
+          unfinished = unfinished;
+          between = λ k abovek below. between k (omega arith) abovek below;
+        })
+
+-- where none is found there is none above
+pub first-none : (m : List Event) (after : ℕ) → None ≡ first_unfinished m after
+    → (k : ℕ) → after < k → is_in is_open m k ≡ false
+first-none m after is =
+    go (first_unfinished m after) (found-from m after (length (journeys m)) 1) is
+  where
+    beyond : (k : ℕ) → length (journeys m) < k → is_in is_open m k ≡ false
+    beyond zero far = absurd (omega arith)
+    beyond (suc i) far =
+        ap (passing is_open (history m (suc i))) (slice_get_past (journeys m) i (omega arith))
+
+    at : (k : ℕ) → ((k ≤ length (journeys m)) → is_in is_open m k ≡ false) → (v : Bool)
+        → nat_lt (length (journeys m)) k ≡ v → is_in is_open m k ≡ false
+    at k within true e = beyond k (ltb-true _ _ e)
+    at k within false e = within (ltb-false _ _ e)
+
+    go : (o : Option Brief) → Found m after 1 (length (journeys m)) o → None ≡ o
+        → (k : ℕ) → after < k → is_in is_open m k ≡ false
+    go _ (none before) e =
+        λ k above. at k (λ low. before k (omega arith) above (omega arith))
+        (nat_lt (length (journeys m)) k) refl
+    go _ (found c high above phase_is unfinished between low) e = cc

@@ -1,0 +1,80 @@
+//! Lists of rows that are handed out one at a time.
+//!
+//! A source hands out the rows of one list, in its order, each once. It is *sound* while its store has returned what
+//! was written; that may end at any call, and never comes back.
+ghost use Rattle.std.specs.Prelude.{◌≡◌, ◌≤◌, ◌^◌, ◌<◌, ◌+◌, ⊤, ℕ, List, drop, length, IfOk};
+ghost use Rattle.saga_core.specs.RowSources.{count_of, Hands};
+
+use commands::Fault;
+
+/// A list of rows, handed out one at a time.
+pub trait RowSource<T> {
+    /// The store returned what was written, so far.
+    ghost is_sound: { Self → Type 0 };
+
+    /// The rows that are still to come, in order, are these.
+    ghost rests: { Self → List T → Type 0 };
+
+    /// So many rows were handed out.
+    ghost given: { Self → ℕ };
+
+    /// What the source stands on may have become this by handing out rows.
+    ghost becomes: { Self → Self → Type 0 };
+
+    /// The next row; None after the last one.
+    fn next_row(&mut self) -> Result<Option<T>, Fault>
+        ensures next { is_sound self.new → IfOk result (Hands (rests self.old) (rests self.new)) }
+        ensures counted { IfOk result (λ found. given self.new ≡ count_of found + given self.old) }
+        ensures few { given self.new < 2 ^ 64 }
+
+        ensures kept { becomes self.old self.new }
+        ensures sound { is_sound self.new → is_sound self.old };
+
+    /// A source that hands out nothing stays as it is.
+    ghost stays: { (s : Self) → becomes s s };
+
+    /// What became of it in two parts became of it.
+    ghost joins: { (a b c : Self) → becomes a b → becomes b c → becomes a c };
+}
+
+/// The rows of a list in memory.
+#[derive(Drop)]
+pub struct Listed<'a, T> {
+    rows: &'a [T],
+    next: usize,
+    ghost within: { next ≤ length rows.now },
+}
+
+impl<'a, T: Copy> Listed<'a, T> {
+    /// All of them, from the first on.
+    pub fn new(rows: &'a [T]) -> Listed<'a, T>
+        ensures rows { ⟦<Listed<'a, T> as RowSource<T>>⟧.rests result rows.now }
+        ensures none { ⟦<Listed<'a, T> as RowSource<T>>⟧.given result ≡ 0 }
+    {
+        Listed { rows, next: 0 }
+    }
+}
+
+impl<T: Copy> RowSource<T> for Listed<'_, T> {
+    ghost is_sound = { λ _. ⊤ };
+
+    ghost rests = { λ s rows. rows ≡ drop s.next s.rows.now };
+
+    ghost given = { λ s. s.next };
+
+    ghost becomes = { λ _ _. ⊤ };
+
+    ghost stays = { λ _. tt };
+
+    ghost joins = { λ _ _ _ _ _. tt };
+
+    fn next_row(&mut self) -> Result<Option<T>, Fault> {
+        match self.rows.get(self.next) {
+            Some(row) => {
+                self.next += 1;
+                Ok(Some(*row))
+            }
+            None => Ok(None),
+        }
+    }
+}

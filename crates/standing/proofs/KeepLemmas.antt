@@ -1,0 +1,57 @@
+-- What a read keeps. For the functions that read.
+use Rattle.std.proofs.Common.{◌≡◌, ◌⊎◌, inl, inr, Bool, true, false, IsTrue, refl, sym, ap, subst, ◌∙◌}
+use Rattle.sqlite.specs.Tree.{Trees}
+use Rattle.sqlite.specs.Effect.{Database}
+use Rattle.sqlite.specs.State.{State as Connected, HasCleanDisk, IsUnchanged, IsRolledBack, Survives}
+use Rattle.desk_sql.specs.Calls.{MaySee}
+use Rattle.desk_sql.specs.Rows.{Tables, Shows, no_rows}
+use Rattle.ledger.specs.Answer.{State}
+use Rattle.standing.specs.Standing.{StandsFor}
+use Rattle.standing.specs.Keeping.{IsKept, SeesDesk}
+
+-- a connection that keeps a state may see tables that, as far as it is open, stand for it
+pub record IsSeen (c : Connected) (s : State) : Type 0 where
+  pub tables : Tables
+  pub may : MaySee c tables
+  pub stands : IsTrue c.is_open → StandsFor tables s
+
+-- whether it is open or not
+pub seen_by : (c : Connected) (s : State) → IsKept c s → IsSeen c s
+seen_by c s kept = by_cases c.is_open refl
+  where
+    by_cases : (b : Bool) → c.is_open ≡ b → IsSeen c s
+    by_cases true e = let saw = kept.sees e in
+        record { tables = saw.tables; may = λ _. record { schema = saw.schema; rows = saw.shown }; stands = λ _. saw.stands }
+    by_cases false e =
+        let shut : IsTrue c.is_open → ⊥ = λ live. (let no : true ≡ false = sym live ∙ e in cc) in
+        record { tables = no_rows; may = λ live. absurd (shut live); stands = λ live. absurd (shut live) }
+
+-- what a stop may leave after a read it could leave before
+pub left_before : (a b : Connected) → Survives a b (λ _. ⊥) → HasCleanDisk b → (db : Trees) → b.may_leave db → a.may_leave db
+left_before a b less clean db may = elim (less.crash clean db may) [ inl before ↦ before | inr none ↦ absurd none ]
+
+-- a desk that is seen stays so where both databases are the same
+same_desk : (a b : Connected) (s : State) → SeesDesk a s → b.now ≡ a.now → b.committed ≡ a.committed → SeesDesk b s
+same_desk a b s saw now committed = record {
+  schema = ap (λ (d : Database). d.schema) now ∙ saw.schema;
+  committed = now ∙ saw.committed ∙ sym committed;
+  tables = saw.tables;
+  shown = subst (λ (d : Database). Shows d.trees saw.tables) (sym now) saw.shown;
+  stands = saw.stands;
+}
+
+-- a read that answers keeps the state
+pub unchanged_keeps : (a b : Connected) (s : State) → IsKept a s → IsUnchanged a b → Survives a b (λ _. ⊥) → HasCleanDisk b → IsKept b s
+unchanged_keeps a b s kept same less clean = record {
+  sees = λ _. same_desk a b s (kept.sees same.0.was_open) same.0.now_is same.0.committed_is;
+  leaves = λ db may. kept.leaves db (left_before a b less clean db may);
+}
+
+-- and so does one that fails, whether it changed nothing or was rolled back
+pub quiet_keeps : (a b : Connected) (s : State) → IsKept a s → IsUnchanged a b ⊎ IsRolledBack a b → Survives a b (λ _. ⊥) → HasCleanDisk b → IsKept b s
+quiet_keeps a b s kept (inl same) less clean = unchanged_keeps a b s kept same less clean
+quiet_keeps a b s kept (inr back) less clean = record {
+  sees = λ live. (let saw = kept.sees (back.was_open live) in
+      same_desk a b s saw ((back.undone live).0 ∙ sym saw.committed) (back.undone live).1);
+  leaves = λ db may. kept.leaves db (left_before a b less clean db may);
+}

@@ -1,0 +1,11 @@
+use Rattle.std.proofs.Common.{◌≡◌, subst}
+use Rattle.std.specs.Prelude.{IfOk}
+use Rattle.tables.proofs.FinishedLemmas.{first-from}
+use Rattle.tables.proofs.books.TableBook.look.Goals as goal
+
+-- above the number up to which all have finished the same is found
+pub returns-then-after-self-clause-first : goal.returns-then-after-self-clause-first
+returns-then-after-self-clause-first g c clean s here =
+    subst (λ o. IfOk c.look_on.result (λ found. found ≡ o))
+    (first-from s.ledger c.args.self.now.finished c.args.after here.known c.if-after-self.true)
+    (c.look_on.ensures.first clean s here)

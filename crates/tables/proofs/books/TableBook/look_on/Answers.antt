@@ -1,0 +1,44 @@
+use Rattle.std.proofs.Common.{sym, ap, subst, ◌∙◌}
+use Rattle.sqlite.specs.Held.{state}
+use Rattle.sqlite.specs.State.{HasCleanDisk}
+use Rattle.standing.specs.Keeping.{Keeps}
+use Rattle.tables.specs.Finished.{AreFinishedTo}
+use Rattle.tables.proofs.FinishedLemmas.{finished-found, finished-all}
+use Rattle.tables.proofs.books.TableBook.look_on.Goals as goal
+use Rattle.tables.proofs.books.TableBook.look_on.Goals.{in-Some, in-None+in_ok-self-in-None}
+
+-- those before the one that was found have finished, or all have
+pub returns-clause-same : goal.returns-clause-same
+returns-clause-same g c clean s here = elim c.match-found.branch [
+  | in-Some w ↦
+      let there = ap (λ p. p.1.0) w.self-is in
+      let was = subst (λ h. HasCleanDisk (state g.S.Store h)) there clean in
+      record {
+        working = here.working;
+        known =
+            subst (AreFinishedTo s.ledger) (sym (w.self2-is ∙ w.saturating_sub-self.ensures))
+            (finished-found s.ledger c.args.self.now.finished w.in-Some.brief here.known
+            (sym w.in-Some.is ∙ c.in_ok-found.ensures.first was s here.desk here.keeps));
+        desk = here.desk;
+        keeps =
+            subst (λ h. Keeps (state g.S.Store h) s) (sym there)
+            (c.in_ok-found.ensures.same s here.keeps);
+      }
+  | in-None+in_ok-self-in-None w ↦
+      let there = ap (λ p. p.1.0) w.self-is in
+      let was = subst (λ h. HasCleanDisk (state g.S.Store h)) there clean in
+      let early = w.in_ok-self-in-None.ensures.sound was in
+      let kept = c.in_ok-found.ensures.same s here.keeps in
+      record {
+        working = here.working;
+        known =
+            subst (AreFinishedTo s.ledger)
+            (sym (w.self2-is ∙ (w.in_ok-self-in-None.ensures.counts was s here.desk kept).journeys_are))
+            (finished-all s.ledger c.args.self.now.finished here.known
+            (sym w.in-None.is ∙ c.in_ok-found.ensures.first early s here.desk here.keeps));
+        desk = here.desk;
+        keeps =
+            subst (λ h. Keeps (state g.S.Store h) s) (sym there)
+            (w.in_ok-self-in-None.ensures.same s kept);
+      }
+]
