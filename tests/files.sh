@@ -41,5 +41,13 @@ usage run
 usage run a.db b.db
 usage recover
 usage recover a.db b.db
+usage stock
+usage unfinished a.db b.db
+usage history a.db
+usage history a.db 1 2
+usage load a.db b.csv
+usage load a.db --batch b1
+usage load a.db b.csv --batch b1 --batch b2
+usage load a.db b.csv c.csv --batch b1
 usage walk a.db
 finish

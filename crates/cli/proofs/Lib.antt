@@ -1,3 +1,4 @@
+pub mod SubcommandLemmas
 pub mod ByteLemmas
 pub mod LineLemmas
 pub mod AnswerLemmas

@@ -1,5 +1,5 @@
 -- A text asks for a request exactly where it is the line of that request. For the law of lines.
-use Rattle.std.proofs.Common.{◌≡◌, ◌∙◌, ap, sym, subst, refl, ℕ, ◌<◌, ◌≤◌, ◌^◌, ◌==◌, ◌&&◌, not, List, [], ◌∷◌, ◌++◌, Bool, true, false, length, drop, take, take-append-drop, arith, Option, Some, None}
+use Rattle.std.proofs.Common.{◌≡◌, ◌∙◌, ap, sym, subst, refl, ℕ, ◌<◌, ◌^◌, ◌==◌, ◌&&◌, not, List, [], ◌∷◌, ◌++◌, Bool, true, false, length, drop, take, take-append-drop, arith, Option, Some, None}
 use Rattle.std.specs.Prelude.{Result, Ok, Err, bytes_eq, codes, decimal, nat_le, option_and_then, option_map, IsTrue, if◌then◌else◌}
 use Rattle.std.specs.Str.Parse.{digits_value}
 use Rattle.std.proofs.lemmas.Bool.{and_from, and_parts, le-leb}
@@ -8,7 +8,7 @@ use Rattle.std.proofs.lemmas.List.Splits.{join_with_byte-slice_split}
 use Rattle.allotment.specs.Limits.{is_between, is_good_cell, most_places}
 use Rattle.allotment.specs.Nights.{night_text}
 use Rattle.allotment.specs.Rows.{allotted}
-use Rattle.allotment.specs.Texts.{blank, parts, slash, joined, kind_letter, keep_if, number_from, number_in, cell_in, cell_text, places_in}
+use Rattle.allotment.specs.Texts.{blank, parts, kind_letter, keep_if, number_from, number_in, cell_in, cell_text, places_in}
 use Rattle.allotment.specs.declared.cells.Cell.{Cell}
 use Rattle.allotment.specs.declared.cells.Row.{Row}
 use Rattle.allotment.proofs.LawLemmas.{cell_again, cell_read, is_sound}
@@ -25,7 +25,7 @@ use Rattle.commands.specs.Request.{Request, Load, Begin, Step, Abort, Stop, Save
 use Rattle.commands.specs.Texts.{is_journey, most_journeys, sentence}
 use Rattle.commands.specs.declared.replies.Reply.TheVariants.{Loaded}
 use Rattle.commands.proofs.BlankLemmas.{has_no_blank, number_lacks, parts_joined, words_no_blank}
-use Rattle.cli.specs.Lines.{IsLineOf, HaveOneLine, abort_line, abort_of, begin_meaning, begin_word, found_meaning, is_begin, is_named_position, journey_in, load_of, name_in, position_in, request_of_two, request_of_words, row_of, save_line, set_line, step_line, text_meaning}
+use Rattle.cli.specs.Lines.{IsLineOf, abort_line, abort_of, begin_meaning, begin_word, found_meaning, is_begin, is_named_position, journey_in, load_of, name_in, position_in, request_of_words, row_of, save_line, set_line, step_line, text_meaning}
 use Rattle.cli.proofs.OrderLemmas.{found_number}
 
 -- What words are, where something is read of them.

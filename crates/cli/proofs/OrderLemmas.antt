@@ -1,6 +1,6 @@
 -- What a line means by what is kept of it, and which number a word spells. For what is to be done at a line.
-use Rattle.std.proofs.Common.{◌≡◌, ◌≢◌, ◌∙◌, ap, sym, subst, refl, ℕ, ◌<◌, ◌≤◌, ◌^◌, List, [], ◌∷◌, Bool, true, false, true≢false, length, arith, Option, Some, None}
-use Rattle.std.specs.Prelude.{Err, bytes_eq, decimal, nat_le, option_and_then, IsTrue, if◌then◌else◌}
+use Rattle.std.proofs.Common.{◌≡◌, ◌≢◌, ◌∙◌, ap, sym, subst, refl, ℕ, ◌<◌, ◌^◌, List, [], ◌∷◌, Bool, true, false, true≢false, length, arith, Option, Some, None}
+use Rattle.std.specs.Prelude.{Err, bytes_eq, decimal, nat_le, option_and_then, IsTrue}
 use Rattle.std.specs.Str.{IsUtf8, is_utf8}
 use Rattle.std.specs.Str.Parse.{digits_value}
 use Rattle.std.proofs.lemmas.Str.{IsUtf8-from_is_utf8, is_utf8-from_IsUtf8}

@@ -1,5 +1,5 @@
 -- How a world goes on with the lines of an input. For run_lines.
-use Rattle.std.proofs.Common.{◌≡◌, ◌∙◌, ap, sym, subst, refl, inl, inr, List, [], ◌∷◌, ◌++◌, ℕ, Bool, true, false, append_assoc, append-nil, IsTrue}
+use Rattle.std.proofs.Common.{◌≡◌, ◌∙◌, ap, sym, subst, refl, inl, inr, List, [], ◌∷◌, ◌++◌, ℕ, Bool, true, false, append_assoc, IsTrue}
 use Rattle.std.specs.Prelude.{Option, Some, None, Result, Ok, Err, IfOk, IfErr, IfSome, OnOk, if◌then◌else◌}
 use Rattle.commands.specs.Request.{Request, Load, Begin, Step, Abort, Stop, Save}
 use Rattle.commands.specs.declared.refusals.Refusal.TheVariants.{BadBody}

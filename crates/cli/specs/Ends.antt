@@ -1,12 +1,16 @@
 -- How the program ends, and what it tells.
-use Rattle.std.specs.Prelude.{◌≡◌, ◌⊎◌, ⊤, ℕ, List, [], ◌∷◌, codes, decimal, Option}
+use Rattle.std.specs.Prelude.{◌≡◌, ◌⊎◌, ⊤, ℕ, List, [], ◌∷◌, codes, decimal, Option, None, Result, Ok, Err}
 use Rattle.std.specs.String.{string_bytes}
 use Rattle.std.specs.Io.KnownBytes.{Appends, IsAtEnd, Keeps}
-use Rattle.commands.specs.Texts.{refusal_line, sentence}
+use Rattle.commands.specs.Texts.{refusal_line, reply_line, sentence}
 use Rattle.commands.specs.declared.refusals.Refusal.TheVariants as refusal
+use Rattle.commands.specs.declared.replies.Reply.{Reply}
+use Rattle.commands.specs.declared.replies.Reply.TheVariants as reply
 use Rattle.tables.specs.declared.faults.OpenFault.{OpenFault}
 use Rattle.tables.specs.declared.faults.OpenFault.TheVariants as opening
-use Rattle.cli.specs.Lines.{ended}
+use Rattle.reports.specs.declared.faults.ReportFault.{ReportFault}
+use Rattle.reports.specs.declared.faults.ReportFault.TheVariants as report
+use Rattle.cli.specs.Lines.{ended, journey_in}
 use Rattle.cli.specs.Serving.{WroteFront}
 use Rattle.cli.specs.declared.ends.End.{End}
 use Rattle.cli.specs.declared.ends.End.TheVariants as finish
@@ -15,7 +19,7 @@ use Rattle.cli.specs.declared.ends.ProgramFault.TheVariants as fault
 use Rattle.cli.specs.declared.faults.ServeFault.{ServeFault}
 use Rattle.cli.specs.declared.faults.ServeFault.TheVariants as serve
 use Rattle.cli.specs.declared.jobs.Job.{Job}
-use Rattle.cli.specs.declared.jobs.Job.TheVariants.{Run, Recover}
+use Rattle.cli.specs.declared.jobs.Job.TheVariants.{Run, Recover, Load, Stock, Unfinished, History}
 use Rattle.cli.specs.declared.jobs.JobFault.{JobFault}
 use Rattle.cli.specs.declared.jobs.JobFault.TheVariants as job
 
@@ -51,6 +55,22 @@ fault_of_run serve.Memory = fault.Memory
 fault_of_run serve.Store = fault.Store
 fault_of_run serve.Read = fault.Read
 fault_of_run serve.Write = fault.Write
+
+-- the fault of a report, as one of the program
+abbrev pub fault_of_report : ReportFault → ProgramFault
+fault_of_report report.Memory = fault.Memory
+fault_of_report report.Store = fault.Store
+fault_of_report report.Write = fault.Write
+
+-- what was done ends the program well, or by its fault
+abbrev pub end_of_result : {T : Type 0} → Result T ProgramFault → End
+end_of_result (Ok done) = finish.Done
+end_of_result (Err f) = finish.Fault f
+
+-- the first end, or where all was done, the second one
+abbrev pub end_of_both : End → End → End
+end_of_both finish.Done after = after
+end_of_both first after = first
 
 -- words that ask for no job end the program with the usage, or for want of memory
 abbrev pub end_of_job : JobFault → End
@@ -111,12 +131,32 @@ recovered_line made = ended (sentence (codes "recovered" ∷ decimal made ∷ []
 abbrev pub TellsRecovered : Option (List ℕ) → Option (List ℕ) → Type 0
 TellsRecovered held holds = (made : ℕ) × Appends held holds (recovered_line made)
 
--- what is told on standard output of a job that is done; of `run` it is the answers
+-- the reply is no refusal
+abbrev pub IsAccepted : Reply → Type 0
+IsAccepted (reply.Refused refusal) = ⊥
+IsAccepted _ = ⊤
+
+-- a reply is told that is no refusal, and nothing else
+abbrev pub TellsAccepted : Option (List ℕ) → Option (List ℕ) → Type 0
+TellsAccepted held holds =
+    (told : Reply) × IsAccepted told × Appends held holds (ended (reply_line told))
+
+-- what is told on standard output of a job that is done; of `run` it is the answers, and else, where
+-- nothing is said of it, the report
 abbrev pub TellsOf : Job → Option (List ℕ) → Option (List ℕ) → Type 0
 TellsOf (Run file) held holds = ⊤
 TellsOf (Recover file) held holds = TellsRecovered held holds
+TellsOf (Load file csv batch) held holds = TellsAccepted held holds
+TellsOf (Stock file) held holds = ⊤
+TellsOf (Unfinished file) held holds = ⊤
+TellsOf (History file id) held holds = ⊤
+
+-- a history is asked of a word that is no number of a journey
+abbrev pub HasBadId : Job → Type 0
+HasBadId (History file id) = journey_in (string_bytes id) ≡ None
+HasBadId _ = ⊥
 
 -- what is read for a job that is done: `run` reads to the end, and the others read nothing
 abbrev pub ReadsFor : Job → Option (List ℕ) → Option (List ℕ) → Type 0
 ReadsFor (Run file) before after = IsAtEnd after
-ReadsFor (Recover file) before after = after ≡ before
+ReadsFor _ before after = after ≡ before

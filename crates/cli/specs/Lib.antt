@@ -1,3 +1,4 @@
+pub mod Subcommands
 pub mod Jobs
 pub mod Lines
 pub mod Reading
@@ -5,4 +6,5 @@ pub mod Orders
 pub mod Serving
 pub mod Worlds
 pub mod Answering
+pub mod Loading
 pub mod Ends

@@ -1,5 +1,5 @@
 -- What an order of the program means, and what its words are.
-use Rattle.std.specs.Prelude.{List, ℕ, Ok, Err, Option, option_map}
+use Rattle.std.specs.Prelude.{Ok, Err, Option, option_map}
 use Rattle.commands.specs.Orders.{request_of}
 use Rattle.commands.specs.Request.{Request}
 use Rattle.commands.specs.declared.orders.Command.{Command}

@@ -3,14 +3,15 @@
 //! A refusal is told on standard output; a fault, and the usage, on standard error.
 ghost use Rattle.std.specs.Prelude.{◌≡◌};
 ghost use Rattle.commands.specs.Texts.{refusal_line};
-ghost use Rattle.cli.specs.Ends.{end_of_job, fault_line, fault_name, fault_number, fault_of_run, status_of, told_out, TellsError, TellsNoneOrFault};
+ghost use Rattle.cli.specs.Ends.{end_of_both, end_of_job, end_of_result, fault_line, fault_name, fault_number, fault_of_report, fault_of_run, status_of, told_out, TellsError, TellsNoneOrFault};
 ghost use Rattle.cli.specs.Lines.{ended};
-ghost use Rattle.cli.specs.Serving.{WroteFront};
+ghost use Rattle.cli.specs.Serving.{served_fault, WroteFront};
 
 use crate::faults::ServeFault;
 use crate::jobs::JobFault;
 use crate::outputs::send;
-use commands::Refusal;
+use commands::{Fault, Refusal};
+use reports::ReportFault;
 use std::alloc::Global;
 use std::io::Write;
 
@@ -96,6 +97,29 @@ impl From<ServeFault> for ProgramFault {
     }
 }
 
+impl From<Fault> for ProgramFault {
+    ghost from_gives = { λ fault told. told ≡ fault_of_run (served_fault fault) };
+
+    fn from(fault: Fault) -> ProgramFault {
+        match fault {
+            Fault::Memory => ProgramFault::Memory,
+            Fault::Store => ProgramFault::Store,
+        }
+    }
+}
+
+impl From<ReportFault> for ProgramFault {
+    ghost from_gives = { λ fault told. told ≡ fault_of_report fault };
+
+    fn from(fault: ReportFault) -> ProgramFault {
+        match fault {
+            ReportFault::Memory => ProgramFault::Memory,
+            ReportFault::Store => ProgramFault::Store,
+            ReportFault::Write => ProgramFault::Write,
+        }
+    }
+}
+
 /// How the program ends.
 #[derive(Debug, Drop)]
 pub enum End {
@@ -120,7 +144,28 @@ impl From<JobFault> for End {
     }
 }
 
+impl From<Result<(), ProgramFault>> for End {
+    ghost from_gives = { λ done end. end ≡ end_of_result done };
+
+    fn from(done: Result<(), ProgramFault>) -> End {
+        match done {
+            Ok(()) => End::Done,
+            Err(fault) => End::Fault(fault),
+        }
+    }
+}
+
 impl End {
+    /// This end, or where all was done, how what came after it ended.
+    pub(crate) fn then(self, after: End) -> End
+        ensures end { result ≡ end_of_both self after }
+    {
+        match self {
+            End::Done => after,
+            end => end,
+        }
+    }
+
     /// The exit status: 0 done, 1 refused or fault, 2 usage.
     pub fn status(&self) -> u8
         ensures status { result ≡ status_of self.now }

@@ -8,9 +8,32 @@ use std::alloc::AllocError;
 #[derive(Debug, Drop)]
 pub enum Job {
     /// Recover the desk over this file, and answer the lines of standard input.
-    Run { file: String },
+    Run {
+        file: String,
+    },
     /// Recover the desk over this file.
-    Recover { file: String },
+    Recover {
+        file: String,
+    },
+    /// Recover the desk over this file, and load this allotment file as a batch of this name.
+    Load {
+        file: String,
+        csv: String,
+        batch: String,
+    },
+    /// Print the stock of the desk over this file.
+    Stock {
+        file: String,
+    },
+    /// Print the unfinished journeys of the desk over this file.
+    Unfinished {
+        file: String,
+    },
+    /// Print the history of a journey of the desk over this file.
+    History {
+        file: String,
+        id: String,
+    },
 }
 
 /// Why the words are no job.

@@ -6,15 +6,19 @@
 #![tactic(auto)]
 
 mod answers;
+mod desks;
 mod ends;
 mod faults;
 mod jobs;
 mod laws;
 mod lines;
+mod loads;
 mod orders;
 mod outputs;
 mod programs;
 mod runs;
+mod subcommands;
+mod telling;
 #[cfg(test)]
 mod tests;
 mod unread;

@@ -175,7 +175,7 @@ fn row_of(cell: &str, places: &str) -> Option<Row>
 }
 
 /// The journey that a word names.
-fn journey_in(word: &str) -> Option<u64>
+pub(crate) fn journey_in(word: &str) -> Option<u64>
     ensures journey { result ≡ journey_of word.now }
 {
     number_between(word, 1, 999_999_999_999).map(|id| id as u64)

@@ -2,50 +2,18 @@
 //!
 //! The first word names the subcommand. `clap` reads the others, by its rules for that subcommand
 //! alone. Words that name none get the usage of them all.
-ghost use Rattle.std.specs.Prelude.{◌≡◌, ◌≢◌, false, true, codes, map, IfOk, IsErr, IsOk};
+ghost use Rattle.std.specs.Prelude.{◌≡◌, false, true, map, All, IfErr, IfOk, IsOk, Some, is_some};
 ghost use Rattle.std.specs.String.{string_bytes};
-ghost use Rattle.clap.specs.Words.{app_of, kind_of};
-ghost use Rattle.cli.specs.Jobs.{app_over, name_of, are_refused, is_refused_by, IsFileIn, IsJob, IsText, IsUsage, Requires};
+ghost use Rattle.clap.specs.Words.{first_value, found_of, kind_of, matches_of, rows_of};
+ghost use Rattle.cli.specs.Jobs.{are_refused, IsJob, IsJobOf, IsText, IsUsage};
+ghost use Rattle.cli.specs.Subcommands.{app_for, ids_of, is_refused_by};
+ghost use Rattle.std.specs.Prelude.{◌≢◌};
 
 use crate::jobs::{Job, JobFault};
+use crate::subcommands::Subcommand;
 use clap::error::ErrorKind;
-use clap::{Arg, ArgAction, Command, Error};
+use clap::{ArgMatches, Command, Error};
 use std::alloc::{AllocError, Global};
-
-/// The subcommands that read one file.
-#[derive(Clone, Copy)]
-enum OverFile {
-    Run,
-    Recover,
-}
-
-impl OverFile {
-    /// The word that names the subcommand.
-    fn name<'a>(self) -> &'a str
-        ensures name { result.now ≡ name_of self }
-    {
-        match self {
-            OverFile::Run => "run",
-            OverFile::Recover => "recover",
-        }
-    }
-
-    /// The words that stand before the others, as the usage shows them.
-    fn called<'a>(self) -> &'a str {
-        match self {
-            OverFile::Run => "desk run",
-            OverFile::Recover => "desk recover",
-        }
-    }
-
-    /// What the subcommand does.
-    fn about<'a>(self) -> &'a str {
-        match self {
-            OverFile::Run => "Answer the lines of standard input, one by one",
-            OverFile::Recover => "Take every unfinished journey to its end, as after a stop",
-        }
-    }
-}
 
 /// The job that these words ask for, which follow the program's name.
 pub fn job(alloc: Global, words: Vec<String>) -> Result<Job, JobFault>
@@ -54,50 +22,71 @@ pub fn job(alloc: Global, words: Vec<String>) -> Result<Job, JobFault>
     ensures taken { IsOk result → are_refused (map string_bytes words.items) ≡ false }
     ensures usage { IsUsage result → are_refused (map string_bytes words.items) ≡ true }
 {
-    match words.split_first() {
-        Some((name, others)) if name.as_str() == "run" => {
-            let file = file_in(alloc, OverFile::Run, others)?;
-            Ok(Job::Run { file })
-        }
-        Some((name, others)) if name.as_str() == "recover" => {
-            let file = file_in(alloc, OverFile::Recover, others)?;
-            Ok(Job::Recover { file })
-        }
-        _ => Err(usage_of_all(alloc, words.as_slice())),
+    let Some((name, others)) = words.split_first() else {
+        return Err(usage_of_all(alloc, words.as_slice()));
+    };
+    match Subcommand::named(name.as_str()) {
+        Some(subcommand) => job_of(alloc, subcommand, others),
+        None => Err(usage_of_all(alloc, words.as_slice())),
     }
 }
 
-/// The file that the words name which follow a subcommand.
-fn file_in(alloc: Global, over: OverFile, words: &[String]) -> Result<String, JobFault>
-    ensures file { IfOk result (IsFileIn (app_over over) (map string_bytes words.now)) }
+/// The job of a subcommand, with the values that the words name which follow it.
+fn job_of(alloc: Global, subcommand: Subcommand, words: &[String]) -> Result<Job, JobFault>
+    ensures job { IfOk result (IsJobOf subcommand (map string_bytes words.now)) }
     ensures taken { IsOk result →
-        is_refused_by (app_over over) (map string_bytes words.now) ≡ false }
+        is_refused_by (app_for subcommand) (map string_bytes words.now) ≡ false }
     ensures usage { IsUsage result →
-        is_refused_by (app_over over) (map string_bytes words.now) ≡ true }
+        is_refused_by (app_for subcommand) (map string_bytes words.now) ≡ true }
 {
-    let command = command_over(alloc, over)?;
-    let matches = match command.try_get_matches_from(words) {
-        Ok(matches) => matches,
-        Err(error) => return Err(fault_of(alloc, &error)),
-    };
-    let file = matches.get_str("FILE").unwrap();
-    Ok(String::from_str(alloc, file)?)
+    let matches = matches_in(alloc, subcommand, words)?;
+    let file = value_of(alloc, &matches, "FILE")?;
+    match subcommand {
+        Subcommand::Run => Ok(Job::Run { file }),
+        Subcommand::Recover => Ok(Job::Recover { file }),
+        Subcommand::Load => {
+            let csv = value_of(alloc, &matches, "CSV")?;
+            let batch = value_of(alloc, &matches, "NAME")?;
+            Ok(Job::Load { file, csv, batch })
+        }
+        Subcommand::Stock => Ok(Job::Stock { file }),
+        Subcommand::Unfinished => Ok(Job::Unfinished { file }),
+        Subcommand::History => {
+            let id = value_of(alloc, &matches, "ID")?;
+            Ok(Job::History { file, id })
+        }
+    }
 }
 
-/// How `clap` reads the words that follow a subcommand: one file.
-fn command_over<'a>(alloc: Global, over: OverFile) -> Result<Command<'a>, AllocError>
-    ensures app { IfOk result (λ command. app_of command ≡ app_over over) }
-    ensures file { IfOk result (λ command. Requires command (codes "FILE")) }
+/// What `clap` reads of the words that follow a subcommand.
+fn matches_in<'a>(
+    alloc: Global,
+    subcommand: Subcommand,
+    words: &'a [String],
+) -> Result<ArgMatches<'a>, JobFault>
+    ensures rows { IfOk result (λ matches. rows_of (found_of matches)
+        ≡ matches_of (app_for subcommand) (map string_bytes words.entry.now)) }
+    ensures each { IfOk result (λ matches.
+        All (λ id. is_some (first_value (found_of matches) id) ≡ true) (ids_of subcommand)) }
+    ensures taken { IsOk result →
+        is_refused_by (app_for subcommand) (map string_bytes words.entry.now) ≡ false }
+    ensures usage { IsUsage result →
+        is_refused_by (app_for subcommand) (map string_bytes words.entry.now) ≡ true }
 {
-    let file = Arg::new(alloc, "FILE")
-        .help("The database file, which is made where it is absent")
-        .required(true)
-        .action(ArgAction::Set);
-    Command::new(alloc, over.name())
-        .about(over.about())
-        .no_binary_name(true)
-        .bin_name(over.called())?
-        .arg(file)
+    let command = subcommand.command(alloc)?;
+    match command.try_get_matches_from(words) {
+        Ok(matches) => Ok(matches),
+        Err(error) => Err(fault_of(alloc, &error)),
+    }
+}
+
+/// The value of this name, which is there.
+fn value_of(alloc: Global, matches: &ArgMatches, id: &str) -> Result<String, AllocError>
+    requires { is_some (first_value (found_of matches.now) id.now) ≡ true }
+    ensures value { IfOk result (λ value.
+        first_value (found_of matches.now) id.now ≡ Some (string_bytes value)) }
+{
+    String::from_str(alloc, matches.get_str(id).unwrap())
 }
 
 /// What is wrong with words that name no subcommand, with the usage of all.
@@ -114,9 +103,10 @@ fn usage_text(alloc: Global, words: &[String]) -> Result<JobFault, AllocError> {
         .about("A booking desk for travel agencies")
         .no_binary_name(true)
         .subcommand_required(true)
-        .arg_required_else_help(true)
-        .subcommand(command_over(alloc, OverFile::Run)?)?
-        .subcommand(command_over(alloc, OverFile::Recover)?)?;
+        .arg_required_else_help(true);
+    for subcommand in Subcommand::ALL {
+        desk = desk.subcommand(subcommand.command(alloc)?)?;
+    }
     match desk.try_get_matches_from_mut(words) {
         Err(error) => Ok(fault_of(alloc, &error)),
         Ok(_) => Ok(JobFault::Usage(desk.render_usage()?)),

@@ -1,0 +1,115 @@
+//! Loads of allotment files.
+ghost use Rattle.std.specs.Prelude.{◌≡◌, OnOk};
+ghost use Rattle.std.specs.Io.KnownBytes.{Appends};
+ghost use Rattle.ledger.specs.Answer.{State};
+ghost use Rattle.commands.specs.Texts.{reply_line};
+ghost use Rattle.allotment_csv.specs.Files.{batch_of};
+ghost use Rattle.cli.specs.Ends.{EndsJob, IfDone, TellsAccepted};
+ghost use Rattle.cli.specs.Lines.{ended};
+ghost use Rattle.cli.specs.Loading.{LoadsFile};
+
+use crate::desks::{FileDesk, close_desk, open_recovered};
+use crate::ends::{End, ProgramFault};
+use crate::faults::ServeFault;
+use crate::outputs::send;
+use allotment_csv::{CsvFault, read_batch};
+use commands::{Command, Refusal, Reply};
+use saga_core::Book;
+use std::alloc::Global;
+use std::fs;
+use std::io::{ErrorKind, Read, Write};
+
+/// How many bytes of an allotment file are read: one more than it may have.
+const MOST_READ: u64 = 262_145;
+
+/// Loads an allotment file as a batch into the desk over the database in a file, once it is recovered, and tells the
+/// reply.
+pub(crate) fn load_file<O: Write>(
+    rt: &HostRuntime,
+    alloc: Global,
+    file: &str,
+    csv: &str,
+    name: &str,
+    out: &mut O,
+) -> End
+    ensures job { EndsJob result }
+    ensures told { IfDone result (TellsAccepted (O.contents out.old) (O.contents out.new)) }
+{
+    let mut desk = match open_recovered(rt, alloc, file) {
+        Ok((desk, _)) => desk,
+        Err(end) => return end,
+    };
+    let loaded = load_into(rt, alloc, csv, name, &mut desk, out);
+    let closed = close_desk(desk);
+    loaded.then(closed)
+}
+
+/// The same into a desk that is open.
+fn load_into<O: Write>(
+    rt: &HostRuntime,
+    alloc: Global,
+    csv: &str,
+    name: &str,
+    desk: &mut FileDesk,
+    out: &mut O,
+) -> End
+    ensures job { EndsJob result }
+    ensures told { IfDone result (TellsAccepted (O.contents out.old) (O.contents out.new)) }
+{
+    let bytes = match read_csv(rt, alloc, csv) {
+        Ok(bytes) => bytes,
+        Err(fault) => return End::Fault(fault),
+    };
+    match load(alloc, name, bytes.as_slice(), desk) {
+        Ok(Reply::Refused(refusal)) => End::Refused(refusal),
+        Ok(reply) => match send_reply(alloc, &reply, out) {
+            Ok(()) => End::Done,
+            Err(fault) => End::Fault(fault.into()),
+        },
+        Err(fault) => End::Fault(fault.into()),
+    }
+}
+
+/// Loads the bytes of an allotment file under a name, and gives the reply: the book's, or what is wrong with name or
+/// bytes.
+fn load<B: Book>(alloc: Global, name: &str, bytes: &[u8], book: &mut B) -> Result<Reply, ServeFault>
+    ensures loads { B.is_sound book.new → (s : State) → B.stands book.old s →
+        LoadsFile (B.stands book.new) (B.leaves book.new) s (batch_of name.now bytes.now) result }
+{
+    let batch = match read_batch(alloc, name, bytes) {
+        Ok(batch) => batch,
+        Err(CsvFault::Memory) => return Err(ServeFault::Memory),
+        Err(CsvFault::BadBody) => return Ok(Reply::Refused(Refusal::BadBody)),
+        Err(CsvFault::BadCsv { row, cause }) => {
+            return Ok(Reply::Refused(Refusal::BadCsv { row, cause }));
+        }
+    };
+    match book.act(&Command::Load(batch), None) {
+        Ok(reply) => Ok(reply),
+        Err(fault) => Err(fault.into()),
+    }
+}
+
+/// The bytes of an allotment file, up to one more than it may have.
+fn read_csv(rt: &HostRuntime, alloc: Global, csv: &str) -> Result<Vec<u8>, ProgramFault> {
+    let mut bytes = Vec::new(alloc);
+    let read = match fs::open(rt, csv) {
+        Ok(file) => file.take(MOST_READ).read_to_end(&mut bytes),
+        Err(error) => Err(error),
+    };
+    match read {
+        Ok(_) => Ok(bytes),
+        Err(error) if error.kind() == ErrorKind::OutOfMemory => Err(ProgramFault::Memory),
+        Err(_) => Err(ProgramFault::File),
+    }
+}
+
+/// Writes a reply's line out.
+fn send_reply<O: Write>(alloc: Global, reply: &Reply, out: &mut O) -> Result<(), ServeFault>
+    ensures sent { OnOk result (Appends (O.contents out.old) (O.contents out.new)
+        (ended (reply_line reply.now))) }
+{
+    let mut line = reply.line(alloc)?;
+    line.push('\n')?;
+    send(out, line.as_bytes())
+}
