@@ -1,8 +1,9 @@
-# What the scripts here share. Each works in a folder of its own, which is gone at its end.
+# What the scripts here share. Each works in a folder of its own, which is gone at its end; in_memory, if it is set before,
+# is the file system in memory that has this folder.
 set -u
 : "${DESK:?the program to drive}"
 tests=$(cd "$(dirname "${BASH_SOURCE[0]}")" && pwd)
-work=$(mktemp -d)
+work=$(mktemp -d ${in_memory:+-p "$in_memory"})
 trap 'rm -rf "$work"' EXIT
 cd "$work" || exit 2
 wrong=0

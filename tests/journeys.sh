@@ -39,15 +39,17 @@ begin $a1/1/3!0 | journey 2 begun
 step 2          | journey 2 T1.1 ended 1
 set b $a1 2     | refused 12 BelowHeld 1
 set b $a1 3     | loaded b 1
+begin $a1/1/1!0 | journey 3 begun
+step 3          | journey 3 B0r undone 0
 step 9          | refused 9 NoJourney
 ROWS
-same "one step: meta" "1|2|6|2" "$(rows 'SELECT * FROM meta')"
+same "one step: meta" "1|2|8|3" "$(rows 'SELECT * FROM meta')"
 same "one step: the cell" "0|AL|A1|$day|3|0" "$(stock)"
 same "one step: the batches" "a|3|$a1/10 b|6|$a1/3" \
   "$(rows "SELECT name, num, rtrim(CAST(content AS TEXT), char(10)) FROM batch ORDER BY num")"
 same "one step: each row of a batch is ended" "1|1" \
   "$(rows "SELECT sum(CAST(content AS TEXT) LIKE '%' || char(10)) = count(*), count(*) > 0 FROM batch")"
-same "one step: the journeys" "1|1|desk|1|0|0|3|0|1 2|4|desk|1|0|1|2|0|0" "$(journeys)"
+same "one step: the journeys" "1|1|desk|1|0|0|3|0|1 2|4|desk|1|0|1|2|0|0 3|7|desk|1|0|0|3|0|1" "$(journeys)"
 same "one step: the turn of the first" "2|2|0|1" "$(items 1)"
 same "one step: the transaction of the second" "5|0|1|1" "$(items 2)"
 same "one step: what the first took" "" "$(taken 1)"
@@ -62,7 +64,10 @@ step 1                             | journey 1 T1.1 run 1
 step 2                             | journey 2 T1.1 run 1
 step 1                             | journey 1 T2.1 ended 2
 step 2                             | journey 2 B0r back 1 to 0
+save 2                             | refused 28 NoSave
 step 2                             | journey 2 C1.1 undone 0
+step 2                             | refused 10 Finished
+abort 1 0                          | refused 10 Finished
 ROWS
 same "two journeys: meta" "1|2|9|2" "$(rows 'SELECT * FROM meta')"
 same "two journeys: the cells" "0|AL|A1|$day|10|9 1|INN|DBL|2030-06-02|1|0" "$(stock)"
@@ -79,8 +84,14 @@ begin $a1/1/3!0          | journey 2 begun
 step 2                   | journey 2 T1.1 ended 1
 abort 1 0                | journey 1 B0a back 1 to 0
 step 1                   | journey 1 C1.1 undone 0
+begin $a1/1/8!0          | journey 3 begun
+step 3                   | journey 3 B0r undone 0
+begin $a1/1/7!0          | journey 4 begun
+step 4                   | journey 4 T1.1 ended 1
+set b $a1 9              | refused 12 BelowHeld 1
+set b $a1 10             | loaded b 1
 ROWS
-same "a count is given back: the cell" "0|AL|A1|$day|10|7" "$(stock)"
+same "a count is given back: the cell" "0|AL|A1|$day|10|0" "$(stock)"
 
 goes "turns" <<ROWS
 set a $a1 10             | loaded a 1
@@ -92,6 +103,7 @@ abort 1 0                | journey 1 B0a back 1 to 0
 abort 1 0                | refused 11 NoSavePoint
 step 1                   | journey 1 C1.1 undone 0
 step 1                   | refused 10 Finished
+abort 1 0                | refused 10 Finished
 begin $a1/1/1;$bus/1/1!0 | journey 2 begun
 abort 2 0                | journey 2 B0a undone 0
 ROWS
@@ -103,15 +115,21 @@ set a $a1 1           | loaded a 1
 set b R/INN/A/$day 0  | loaded b 1
 set c R/INN/B/$day 0  | loaded c 1
 set d R/INN/C/$day 1  | loaded d 1
-begin $a1/1/1*;R/INN/A/$day/1/1!!R/INN/B/$day/1/1!!R/INN/C/$day/1/1!2 | journey 1 begun
+begin $a1/1/1*;R/INN/A/$day/1/1!!R/INN/B/$day/1/1!!R/INN/C/$day/1/1!1 | journey 1 begun
 step 1                | journey 1 T1.1 run 1
 step 1                | journey 1 B1r run 1
-step 1                | journey 1 B1r run 1
-step 1                | journey 1 T2.3 ended 2
+step 1                | journey 1 B0r back 1 to 0
+step 1                | journey 1 C1.1 undone 0
+begin $a1/1/1*;R/INN/A/$day/1/1!!R/INN/B/$day/1/1!!R/INN/C/$day/1/1!2 | journey 2 begun
+step 2                | journey 2 T1.1 run 1
+step 2                | journey 2 B1r run 1
+step 2                | journey 2 B1r run 1
+step 2                | journey 2 T2.3 ended 2
 ROWS
-same "options: the journey" "1|5|desk|2|2|2|2|0|2" "$(journeys)"
-same "options: its items" "6|0|1|1 7|2|1|1 8|2|1|1 9|0|2|3" "$(items 1)"
-same "options: what it took" "1|1 2|3" "$(taken 1)"
+same "options: the journeys" "1|5|desk|2|1|0|3|0|2 2|10|desk|2|2|2|2|0|2" "$(journeys)"
+same "options: the items of the second" "11|0|1|1 12|2|1|1 13|2|1|1 14|0|2|3" "$(items 2)"
+same "options: what it took" "1|1 2|3" "$(taken 2)"
+same "options: what the first took" "" "$(taken 1)"
 
 goes "thirty nights of which one is full" <<ROWS
 $(for n in {01..30}; do echo "set n$n R/INN/DBL/2030-06-$n $((10#$n == 30 ? 0 : 1)) | loaded n$n 1"; done)
@@ -134,10 +152,21 @@ abort 1 4 | journey 1 B4a back 5 to 4
 abort 1 2 | journey 1 B2a back 5 to 2
 abort 1 4 | refused 11 NoSavePoint
 step 1    | journey 1 C5.1 back 4 to 2
-abort 1 0 | journey 1 B0a back 4 to 0
+step 1    | journey 1 C4.1 back 3 to 2
+step 1    | journey 1 C3.1 run 2
+step 1    | journey 1 T3.1 run 3
+step 1    | journey 1 T4.1 run 4
+step 1    | journey 1 T5.1 run 5
+abort 1 4 | journey 1 B4a back 5 to 4
+abort 1 0 | journey 1 B0a back 5 to 0
+step 1    | journey 1 C5.1 back 4 to 0
+step 1    | journey 1 C4.1 back 3 to 0
+step 1    | journey 1 C3.1 back 2 to 0
+step 1    | journey 1 C2.1 back 1 to 0
+step 1    | journey 1 C1.1 undone 0
 ROWS
-same "save-points of a plan: the journey" "1|7|desk|6|0|4|1|0|0" "$(journeys)"
-same "save-points of a plan: what it took" "1|1 2|1 3|1 4|1" "$(taken 1)"
+same "save-points of a plan: the journey" "1|7|desk|6|0|0|3|0|0" "$(journeys)"
+same "save-points of a plan: what it took" "" "$(taken 1)"
 same "save-points of a plan: no mark" "0" "$(rows 'SELECT count(*) FROM mark')"
 
 goes "save-points that are taken" <<ROWS

@@ -21,11 +21,17 @@ same "its rows" "0|AL|A1|10|10 1|INN|DBL|4|4" "$(rows 'SELECT kind, supplier, pr
 loads "the file again" b1 "$both" "loaded b1 2" 0
 same "one event in all" "1" "$(rows 'SELECT events FROM meta')"
 loads "with 11 for 10" b1 "$header\nflight,AL,A1,2030-06-01,11\nroom,INN,DBL,2030-06-01,4\n" "refused 13 BatchDiffers" 1
+loads "in another order" b1 "$header\nroom,INN,DBL,2030-06-01,4\nflight,AL,A1,2030-06-01,10\n" "refused 13 BatchDiffers" 1
+loads "without its last row" b1 "$header\nflight,AL,A1,2030-06-01,10\n" "refused 13 BatchDiffers" 1
 
 answers "two rooms" "begin R/INN/DBL/2030-06-01/1/2!0\nstep 1\n" "journey 1 begun
 journey 1 T1.1 ended 1"
 loads "fewer rooms than are held" b2 "$header\nflight,AL,A1,2030-06-01,12\nroom,INN,DBL,2030-06-01,1\n" "refused 12 BelowHeld 2" 1
+loads "the same, the room first" b2 "$header\nroom,INN,DBL,2030-06-01,1\nflight,AL,A1,2030-06-01,12\n" "refused 12 BelowHeld 1" 1
 same "the places stay" "10|10 4|2" "$(rows 'SELECT allot, free FROM stock ORDER BY kind')"
+loads "as many rooms as are held" b0 "$header\nflight,AL,A1,2030-06-01,12\nroom,INN,DBL,2030-06-01,2\n" "loaded b0 2" 0
+same "no room is free" "12|12 2|0" "$(rows 'SELECT allot, free FROM stock ORDER BY kind')"
+same "the batches" "b1|1 b0|4" "$(rows 'SELECT name, num FROM batch ORDER BY num')"
 
 one=flight,AL,A1,2030-06-01,1
 before=$(rows 'SELECT events FROM meta')
@@ -48,6 +54,16 @@ same "262145 bytes" "refused 6 BadCsv 0 size" "$("$DESK" load trips.db places.cs
 fill 600000 >places.csv
 same "many bytes" "refused 6 BadCsv 0 size" "$("$DESK" load trips.db places.csv --batch b5)"
 
+# a file that sqlite3 writes, with its own line ends, and the report cut by awk beside the rows
+sqlite3 -csv -header :memory: "SELECT 'cover' AS kind, 'INS' AS supplier, 'X' AS product, '2030-07-01' AS night, 7 AS places
+  UNION ALL SELECT 'transfer', 'BUS', 'X', '2030-07-02', 100000 UNION ALL SELECT 'room', 'INN', 'DBL', '2030-06-01', 3" >made.csv
+same "a file of sqlite3" "loaded b6 3" "$("$DESK" load trips.db made.csv --batch b6)"
+cp trips.db copy.db
+same "the report and the rows" "$(sqlite3 -separator ' ' copy.db "SELECT CASE kind WHEN 0 THEN 'flight' WHEN 1 THEN 'room'
+  WHEN 2 THEN 'transfer' ELSE 'cover' END, supplier, product, date('1970-01-01', '+' || night || ' days'), allot,
+  allot - free, free FROM stock ORDER BY kind, supplier, product, night")" \
+  "$("$DESK" stock trips.db | awk 'NR > 1 && NF == 7 { print $1, $2, $3, $4, $5, $6, $7 }')"
+
 # faults WHAT FAULT WORDS: the program ends with 1, and tells this fault alone
 faults() {
   local what=$1 fault=$2 found status
@@ -58,13 +74,13 @@ faults() {
   same "$what: standard error" "$fault" "$(cat err)"
   same "$what: the status" 1 "$status"
 }
-faults "an absent allotment file" "fault 26 File" load trips.db absent.csv --batch b6
+faults "an absent allotment file" "fault 26 File" load trips.db absent.csv --batch b7
 mkdir folder
-faults "a folder for an allotment file" "fault 26 File" load trips.db folder --batch b6
+faults "a folder for an allotment file" "fault 26 File" load trips.db folder --batch b7
 faults "an absent allotment file and a bad name" "fault 26 File" load trips.db absent.csv --batch B6
-faults "an absent allotment file and a new database" "fault 26 File" load new.db absent.csv --batch b6
+faults "an absent allotment file and a new database" "fault 26 File" load new.db absent.csv --batch b7
 same "the new database is made" "0|0" "$(sqlite3 new.db 'SELECT events, journeys FROM meta')"
-faults "a folder for a database" "fault 21 Store" load folder absent.csv --batch b6
+faults "a folder for a database" "fault 21 Store" load folder absent.csv --batch b7
 
 # recovery comes first, and its commits stand where the load is refused
 answers "a journey" "begin F/AL/A1/2030-06-01/1/1;T/BUS/X/2030-06-01/1/1!0\nstep 2\n" "journey 2 begun

@@ -1,6 +1,7 @@
 #!/usr/bin/env bash
 # Each allocation of a run is refused in turn. The program tells a fault of memory or of the store, or answers as ever;
 # what it answered stands, and what was under way stands wholly or not at all.
+[ -w /dev/shm ] && in_memory=/dev/shm
 . "$(dirname "${BASH_SOURCE[0]}")/helping.bash"
 
 cc -O1 -shared -fPIC -o refuse.so "$tests/refuse.c" || exit 1

@@ -1,6 +1,7 @@
 #!/usr/bin/env bash
 # Each allocation of each test of the lower crates is refused in turn. The test then fails for want of memory, or passes
 # still: no call answers another value in place of that fault, nor at the next call.
+[ -w /dev/shm ] && in_memory=/dev/shm
 . "$(dirname "${BASH_SOURCE[0]}")/helping.bash"
 
 cc -O1 -shared -fPIC -o refuse.so "$tests/refuse.c" || exit 1

@@ -53,8 +53,42 @@ flight   AL       A1       2030-06-01     10      2      8
 room     INN      DBL      2030-06-02      1      1      0
 cells 2" "" stock trips.db
 
+# two journeys by turns: one is left where a save-point was taken, the other on its way back
+rm -f trips.db trips.db-*
+answers "by turns" "set a $a1 10\nset b $room 5\nbegin $a1/1/1!0\nbegin $a1/1/1;$room/1/1!0\nbegin $a1/1/1;$room/1/1!0
+step 1\nstep 2\nstep 3\nsave 2\nabort 3 0\n" "loaded a 1
+loaded b 1
+journey 1 begun
+journey 2 begun
+journey 3 begun
+journey 1 T1.1 ended 1
+journey 2 T1.1 run 1
+journey 3 T1.1 run 1
+journey 2 S1 run 1
+journey 3 B0a back 1 to 0"
+tells "the two are unfinished" 0 "           2 desk             run 1
+           3 desk             back 1 to 0
+unfinished 2" "" unfinished trips.db
+tells "the items of one" 0 "journey 2 agent desk
+plan $a1/1/1;$room/1/1!0
+items T1.1 S1
+state run 1" "" history trips.db 2
+tells "the items of the other" 0 "journey 3 agent desk
+plan $a1/1/1;$room/1/1!0
+items T1.1 B0a
+state back 1 to 0" "" history trips.db 3
+
+# a row that is written by hand, and of no night: what comes before it is told
+cp trips.db bad.db
+sqlite3 bad.db 'UPDATE stock SET night = 1099511627776 WHERE kind = 1'
+tells "a night that no calendar has" 1 "kind     supplier product  night       allot   held   free
+flight   AL       A1       2030-06-01     10      3      7" "fault 18 Store" stock bad.db
+tells "the other reports of that file" 0 "           2 desk             run 1
+           3 desk             back 1 to 0
+unfinished 2" "" unfinished bad.db
+
 before=$(rows 'SELECT events FROM meta')
-tells "an absent journey" 1 "refused 9 NoJourney" "" history trips.db 3
+tells "an absent journey" 1 "refused 9 NoJourney" "" history trips.db 4
 tells "the last number" 1 "refused 9 NoJourney" "" history trips.db 999999999999
 for id in 0 01 1000000000000 one "" +1 "1 "; do
   tells "the number '$id'" 1 "refused 4 BadBody" "" history trips.db "$id"

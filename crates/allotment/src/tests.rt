@@ -1,9 +1,29 @@
 //! Texts. Values from outside: dates of the calendar, and texts as the formats have them.
+ghost use Rattle.std.specs.Prelude.{IsTrue};
+
 mod places;
 mod wants;
 
 use crate::{Bad, Cell, Code, Kind, Night, Row, Short, values_have_one_text};
-use std::test::Fail;
+use std::alloc::AllocError;
+use std::process::Abort;
+
+// stops the test where this is not so
+fn holds(rt: &impl Abort, case: &str, is_so: bool)
+    ensures { IsTrue is_so }
+{
+    assert!(rt; is_so, "{case}");
+}
+
+// stops the test where another text was found
+fn reads(rt: &impl Abort, case: &str, found: &str, expected: &str) {
+    assert_eq!(rt; found, expected, "{case}");
+}
+
+// stops the test where another text was written, or where there was no memory for it
+fn is_written(rt: &impl Abort, case: &str, written: Result<String, AllocError>, expected: &str) {
+    reads(rt, case, written.expect(rt, case).as_str(), expected);
+}
 
 // the kind, its number, its letter, its word, how many nights a want of it may have
 #[rattlefmt::skip]
@@ -16,14 +36,14 @@ const KINDS: [(Kind, u8, &str, &str, u8); 4] = [
 
 #[test]
 fn a_kind_is_read_as_it_is_written(rt: HostRuntime) {
-    for (kind, number, letter, word, most) in KINDS {
-        assert_eq!(rt; kind.number(), number, "{word}");
-        assert_eq!(rt; kind.letter(), letter, "{word}");
-        assert_eq!(rt; kind.word(), word, "{word}");
-        assert_eq!(rt; kind.most_nights(), most, "{word}");
-        assert_eq!(rt; Kind::from_number(number), Some(kind), "{word}");
-        assert_eq!(rt; Kind::from_letter(letter), Some(kind), "{word}");
-        assert_eq!(rt; Kind::from_word(word), Some(kind), "{word}");
+    for &(kind, number, letter, word, most) in &KINDS {
+        holds(&rt, word, kind.number() == number);
+        reads(&rt, word, kind.letter(), letter);
+        reads(&rt, word, kind.word(), word);
+        holds(&rt, word, kind.most_nights() == most);
+        holds(&rt, word, Kind::from_number(number) == Some(kind));
+        holds(&rt, word, Kind::from_letter(letter) == Some(kind));
+        holds(&rt, word, Kind::from_word(word) == Some(kind));
     }
 }
 
@@ -40,11 +60,11 @@ const NO_KINDS: [(&str, &str); 7] = [
 
 #[test]
 fn another_text_is_no_kind(rt: HostRuntime) {
-    for (case, text) in NO_KINDS {
-        assert_eq!(rt; Kind::from_letter(text), None, "{case}");
-        assert_eq!(rt; Kind::from_word(text), None, "{case}");
+    for &(case, text) in &NO_KINDS {
+        holds(&rt, case, Kind::from_letter(text).is_none());
+        holds(&rt, case, Kind::from_word(text).is_none());
     }
-    assert_eq!(rt; Kind::from_number(4), None);
+    holds(&rt, "past the last number", Kind::from_number(4).is_none());
 }
 
 #[rattlefmt::skip]
@@ -63,15 +83,16 @@ const CODES: [(&str, &str, bool); 10] = [
 
 #[test]
 fn a_code_has_one_to_eight_capitals_and_digits(rt: HostRuntime) {
-    for (case, text, is_code) in CODES {
+    for &(case, text, is_code) in &CODES {
         let code = Code::parse(text);
-        assert_eq!(rt; code.is_some(), is_code, "{case}");
+        holds(&rt, case, code.is_some() == is_code);
         if let Some(code) = code {
-            assert_eq!(rt; code.as_str(), text, "{case}");
-            assert!(rt; Code::parse(text) == Some(code), "{case}");
+            reads(&rt, case, code.as_str(), text);
+            holds(&rt, case, Code::parse(text) == Some(code));
         }
     }
-    assert!(rt; Code::parse("A1") != Code::parse("A2"));
+    let is_other = Code::parse("A1") != Code::parse("A2");
+    holds(&rt, "other codes differ", is_other);
 }
 
 #[rattlefmt::skip]
@@ -86,17 +107,18 @@ const SHORTS: [(&str, &str, bool); 6] = [
 
 #[test]
 fn a_short_text_is_ascii_and_fits(rt: HostRuntime) {
-    for (case, text, is_short) in SHORTS {
+    for &(case, text, is_short) in &SHORTS {
         let short = Short::<4>::new(text);
-        assert_eq!(rt; short.is_some(), is_short, "{case}");
+        holds(&rt, case, short.is_some() == is_short);
         if let Some(short) = short {
-            assert_eq!(rt; short.as_str(), text, "{case}");
-            assert_eq!(rt; short.len(), text.len(), "{case}");
-            assert_eq!(rt; short.is_empty(), text.is_empty(), "{case}");
-            assert!(rt; Short::<4>::new(text) == Some(short), "{case}");
+            reads(&rt, case, short.as_str(), text);
+            holds(&rt, case, short.len() == text.len());
+            holds(&rt, case, short.is_empty() == text.is_empty());
+            holds(&rt, case, Short::<4>::new(text) == Some(short));
         }
     }
-    assert!(rt; Short::<4>::new("ab") != Short::<4>::new("abc"));
+    let is_other = Short::<4>::new("ab") != Short::<4>::new("abc");
+    holds(&rt, "other texts differ", is_other);
 }
 
 // the days between these dates and 1970-01-01, by the Gregorian calendar
@@ -117,16 +139,13 @@ const NIGHTS: [(&str, u32); 12] = [
 ];
 
 #[test]
-fn a_night_is_read_as_it_is_written(rt: HostRuntime) -> Result<(), Fail> {
-    for (text, day) in NIGHTS {
-        let night = Night::parse(text);
-        assert_eq!(rt; night.map(|night| night.day()), Ok(day), "day {day}");
-        if let Some(night) = Night::from_day(day) {
-            assert_eq!(rt; night.text(rt.alloc())?.as_str(), text, "day {day}");
-            assert_eq!(rt; Night::parse(text), Ok(night), "day {day}");
-        }
+fn a_night_is_read_as_it_is_written(rt: HostRuntime) {
+    for &(text, day) in &NIGHTS {
+        let night = Night::from_day(day).expect(&rt, text);
+        holds(&rt, text, night.day() == day);
+        is_written(&rt, text, night.text(rt.alloc()), text);
+        holds(&rt, text, Night::parse(text) == Ok(night));
     }
-    Ok(())
 }
 
 #[rattlefmt::skip]
@@ -156,11 +175,15 @@ const NO_NIGHTS: [(&str, &str); 21] = [
 
 #[test]
 fn another_text_is_no_night(rt: HostRuntime) {
-    for (case, text) in NO_NIGHTS {
-        assert_eq!(rt; Night::parse(text), Err(Bad::Night), "{case}");
+    for &(case, text) in &NO_NIGHTS {
+        holds(&rt, case, Night::parse(text) == Err(Bad::Night));
     }
-    assert_eq!(rt; Night::from_day(10956), None);
-    assert_eq!(rt; Night::from_day(47482), None);
+    holds(
+        &rt,
+        "before the first day",
+        Night::from_day(10956).is_none(),
+    );
+    holds(&rt, "after the last day", Night::from_day(47482).is_none());
 }
 
 #[rattlefmt::skip]
@@ -184,33 +207,30 @@ const CELLS: [(&str, &str, bool); 16] = [
 ];
 
 #[test]
-fn a_cell_is_read_as_it_is_written(rt: HostRuntime) -> Result<(), Fail> {
-    for (case, text, is_cell) in CELLS {
+fn a_cell_is_read_as_it_is_written(rt: HostRuntime) {
+    for &(case, text, is_cell) in &CELLS {
         let cell = Cell::parse(text);
-        assert_eq!(rt; cell.is_some(), is_cell, "{case}");
+        holds(&rt, case, cell.is_some() == is_cell);
         if let Some(cell) = cell {
-            assert_eq!(rt; cell.text(rt.alloc())?.as_str(), text, "{case}");
+            is_written(&rt, case, cell.text(rt.alloc()), text);
             let same = Cell::new(cell.kind(), cell.supplier(), cell.product(), cell.night());
-            assert!(rt; same == cell, "{case}");
+            holds(&rt, case, same == cell);
         }
     }
-    Ok(())
 }
 
 #[test]
-fn a_row_is_its_cell_and_its_places(rt: HostRuntime) -> Result<(), Fail> {
+fn a_row_is_its_cell_and_its_places(rt: HostRuntime) {
     let cell = Cell::parse("R/INN/DBL/2030-06-01").expect(&rt, "a cell");
     let full = Row::new(cell, 100_000);
     let none = Row::new(cell, 0);
-    assert_eq!(rt;
-        full.text(rt.alloc())?.as_str(),
-        "R/INN/DBL/2030-06-01/100000"
-    );
-    assert_eq!(rt; none.text(rt.alloc())?.as_str(), "R/INN/DBL/2030-06-01/0");
-    assert!(rt; full.cell() == cell);
-    assert_eq!(rt; full.places(), 100_000);
-    assert!(rt; full != none);
-    Ok(())
+    let text = full.text(rt.alloc());
+    is_written(&rt, "the most places", text, "R/INN/DBL/2030-06-01/100000");
+    let text = none.text(rt.alloc());
+    is_written(&rt, "no places", text, "R/INN/DBL/2030-06-01/0");
+    holds(&rt, "the cell", full.cell() == cell);
+    holds(&rt, "the places", full.places() == 100_000);
+    holds(&rt, "rows with other places differ", full != none);
 }
 
 // a law does nothing when it runs

@@ -1,10 +1,37 @@
 // Values from outside: the files and their answers of the formats and of the worked rows.
 use crate::{CsvFault, read_batch};
 use allotment::{Cell, Night, Row};
-use commands::{Batch, CsvCause};
-use std::alloc::{AllocError, Global};
+use commands::CsvCause;
+use std::alloc::Global;
 use std::fmt::Write;
-use std::test::Fail;
+use std::process::Abort;
+
+/// Stops the test where something else is told of a file under a name.
+fn is_told(
+    rt: &impl Abort,
+    alloc: Global,
+    name: &str,
+    file: &[u8],
+    expected: Option<CsvFault>,
+    case: &str,
+) {
+    let length = file.len();
+    let told = read_batch(alloc, name, file).err();
+    assert!(rt; told == expected, "{case:?}, {length} bytes: {told:?}");
+}
+
+/// This is wrong in this row.
+fn bad(row: usize, cause: CsvCause) -> Option<CsvFault> {
+    Some(CsvFault::BadCsv { row, cause })
+}
+
+/// This is wrong with a file, if anything is.
+fn whole(cause: Option<CsvCause>) -> Option<CsvFault> {
+    match cause {
+        Some(cause) => bad(0, cause),
+        None => None,
+    }
+}
 
 /// A heading alone.
 const HEADING: &str = "kind,supplier,product,night,places\n";
@@ -48,26 +75,19 @@ const REFUSED: [(&str, usize, CsvCause); 28] = [
     ("\"flight,AL,A1,2030-06-01,1\n",                           1, CsvCause::Shape),
 ];
 
-/// What is read of the heading and what stands behind it.
-fn read_behind(alloc: Global, behind: &str) -> Result<Result<Batch, CsvFault>, AllocError> {
-    let file = format!(in alloc; "{HEADING}{behind}")?;
-    Ok(read_batch(alloc, "b1", file.as_bytes()))
+/// The heading and what stands behind it.
+fn headed(rt: &impl Abort, alloc: Global, behind: &str) -> String {
+    let file = format!(in alloc; "{HEADING}{behind}");
+    file.expect(rt, "memory")
 }
 
 #[test]
-fn the_first_fault_is_told_with_its_row(rt: HostRuntime) -> Result<(), Fail> {
-    for (behind, row, cause) in &REFUSED {
-        let told = CsvFault::BadCsv {
-            row: *row,
-            cause: *cause,
-        };
-        assert_eq!(rt;
-            read_behind(rt.alloc(), behind)?.err(),
-            Some(told),
-            "{behind:?}"
-        );
+fn the_first_fault_is_told_with_its_row(rt: HostRuntime) {
+    for &(behind, row, cause) in &REFUSED {
+        let file = headed(&rt, rt.alloc(), behind);
+        let told = bad(row, cause);
+        is_told(&rt, rt.alloc(), "b1", file.as_bytes(), told, behind);
     }
-    Ok(())
 }
 
 // what stands behind the heading of files that have the rows of `TWO`
@@ -81,22 +101,26 @@ const READ: [&str; 6] = [
     "\"flight\",\"AL\",A1,2030-06-01,\"10\"\r\n\"room\",INN,DBL,2030-06-01,4\r\n",
 ];
 
-/// The rows of `TWO`.
-fn two_rows(alloc: Global) -> Result<Vec<Row>, Fail> {
-    let flight = Cell::parse("F/AL/A1/2030-06-01").ok_or("no cell")?;
-    let room = Cell::parse("R/INN/DBL/2030-06-01").ok_or("no cell")?;
-    Ok(vec![in alloc; Row::new(flight, 10), Row::new(room, 4)]?)
+/// The cell of this text.
+fn cell(rt: &impl Abort, text: &str) -> Cell {
+    Cell::parse(text).expect(rt, "a cell")
+}
+
+/// Stops the test where these rows are not those of the batch that stands behind a heading.
+fn is_read(rt: &impl Abort, alloc: Global, behind: &str, rows: &[Row]) {
+    let file = headed(rt, alloc, behind);
+    let batch = read_batch(alloc, "b1", file.as_bytes()).expect(rt, "a batch");
+    assert!(rt; batch.name().as_str() == "b1", "{behind:?}");
+    assert!(rt; batch.rows() == rows, "{behind:?}");
 }
 
 #[test]
-fn quotes_ends_and_empty_lines_are_good(rt: HostRuntime) -> Result<(), Fail> {
-    let rows = two_rows(rt.alloc())?;
-    for behind in &READ {
-        let batch = read_behind(rt.alloc(), behind)?.ok().ok_or("no batch")?;
-        assert_eq!(rt; batch.name().as_str(), "b1");
-        assert_eq!(rt; batch.rows(), rows.as_slice(), "{behind:?}");
+fn quotes_ends_and_empty_lines_are_good(rt: HostRuntime) {
+    let flight = Row::new(cell(&rt, "F/AL/A1/2030-06-01"), 10);
+    let room = Row::new(cell(&rt, "R/INN/DBL/2030-06-01"), 4);
+    for &behind in &READ {
+        is_read(&rt, rt.alloc(), behind, &[flight, room]);
     }
-    Ok(())
 }
 
 // files by their bytes, and what is told of them: nothing, where they have the rows of `TWO`
@@ -115,25 +139,17 @@ const FILES: [(&[u8], Option<CsvCause>); 9] = [
 
 #[test]
 fn a_file_has_its_heading(rt: HostRuntime) {
-    for (bytes, cause) in &FILES {
-        let told = cause.map(|cause| CsvFault::BadCsv { row: 0, cause });
-        assert_eq!(rt;
-            read_batch(rt.alloc(), "b1", bytes).err(),
-            told,
-            "{bytes:?}"
-        );
+    for &(file, cause) in &FILES {
+        is_told(&rt, rt.alloc(), "b1", file, whole(cause), "heading");
     }
 }
 
 #[test]
 fn bytes_that_are_no_text_have_no_shape(rt: HostRuntime) {
-    let bytes =
+    let file =
         b"kind,supplier,product,night,places\nflight,AL,A1,2030-06-01,1\nflight,\xff,A1,2030-06-01,1\n";
-    let told = CsvFault::BadCsv {
-        row: 2,
-        cause: CsvCause::Shape,
-    };
-    assert_eq!(rt; read_batch(rt.alloc(), "b1", bytes).err(), Some(told));
+    let told = bad(2, CsvCause::Shape);
+    is_told(&rt, rt.alloc(), "b1", file, told, "no text");
 }
 
 // names, whether they are good
@@ -147,28 +163,18 @@ const NAMES: [(&str, bool); 6] = [
     ("b 1",                       false),
 ];
 
+/// What is told where the name is good, and else that it is not.
+fn named(good: bool, told: Option<CsvFault>) -> Option<CsvFault> {
+    if good { told } else { Some(CsvFault::BadBody) }
+}
+
 #[test]
 fn a_bad_name_comes_before_the_file(rt: HostRuntime) {
-    for (name, good) in &NAMES {
-        let told = if *good { None } else { Some(CsvFault::BadBody) };
-        assert_eq!(rt;
-            read_batch(rt.alloc(), name, TWO.as_bytes()).err(),
-            told,
-            "{name}"
-        );
-        let empty = if *good {
-            CsvFault::BadCsv {
-                row: 0,
-                cause: CsvCause::Header,
-            }
-        } else {
-            CsvFault::BadBody
-        };
-        assert_eq!(rt;
-            read_batch(rt.alloc(), name, b"").err(),
-            Some(empty),
-            "{name}"
-        );
+    let empty = bad(0, CsvCause::Header);
+    for &(name, good) in &NAMES {
+        let told = named(good, None);
+        is_told(&rt, rt.alloc(), name, TWO.as_bytes(), told, name);
+        is_told(&rt, rt.alloc(), name, b"", named(good, empty), name);
     }
 }
 
@@ -185,14 +191,14 @@ fn each_front_of_a_file_is_a_batch_or_refused(rt: HostRuntime) {
 }
 
 /// A file of so many rows, one a night, and what stands behind them.
-fn nights(alloc: Global, count: u32, behind: &str) -> Result<String, Fail> {
-    let mut file = String::from_str(alloc, HEADING)?;
+fn nights(rt: &impl Abort, alloc: Global, count: u32, behind: &str) -> String {
+    let mut file = String::from_str(alloc, HEADING).expect(rt, "memory");
     for day in 0..count {
-        let night = Night::from_day(day.saturating_add(10957)).ok_or("no night")?;
-        write!(file, "room,INN,DBL,{night},4\n")?;
+        let night = Night::from_day(day.saturating_add(10957)).expect(rt, "a night");
+        write!(file, "room,INN,DBL,{night},4\n").expect(rt, "memory");
     }
-    file.push_str(behind)?;
-    Ok(file)
+    file.push_str(behind).expect(rt, "memory");
+    file
 }
 
 // how many good rows there are, what stands behind them, and what is told
@@ -207,17 +213,15 @@ const LONG: [(u32, &str, Option<(usize, CsvCause)>); 6] = [
 ];
 
 #[test]
-fn a_file_has_at_most_2000_rows(rt: HostRuntime) -> Result<(), Fail> {
-    for (count, behind, told) in &LONG {
-        let file = nights(rt.alloc(), *count, behind)?;
-        let told = told.map(|(row, cause)| CsvFault::BadCsv { row, cause });
-        assert_eq!(rt;
-            read_batch(rt.alloc(), "b1", file.as_bytes()).err(),
-            told,
-            "{count} {behind:?}"
-        );
+fn a_file_has_at_most_2000_rows(rt: HostRuntime) {
+    for &(count, behind, told) in &LONG {
+        let file = nights(&rt, rt.alloc(), count, behind);
+        let told = match told {
+            Some((row, cause)) => bad(row, cause),
+            None => None,
+        };
+        is_told(&rt, rt.alloc(), "b1", file.as_bytes(), told, behind);
     }
-    Ok(())
 }
 
 // how many bytes a file has, with empty lines at its end, and what is told
@@ -227,15 +231,19 @@ const SIZES: [(usize, Option<CsvCause>); 2] = [
     (262_145, Some(CsvCause::Size)),
 ];
 
-#[test]
-fn a_file_has_at_most_262144_bytes(rt: HostRuntime) -> Result<(), Fail> {
-    for (size, cause) in &SIZES {
-        let mut file = vec![in rt.alloc(); b'\n'; *size]?;
-        for (byte, good) in file.iter_mut().zip(TWO.as_bytes()) {
-            *byte = *good;
-        }
-        let told = cause.map(|cause| CsvFault::BadCsv { row: 0, cause });
-        assert_eq!(rt; read_batch(rt.alloc(), "b1", &file).err(), told, "{size}");
+/// A file of so many bytes, with the rows of `TWO` and empty lines.
+fn sized(rt: &impl Abort, alloc: Global, size: usize) -> Vec<u8> {
+    let mut file = vec![in alloc; b'\n'; size].expect(rt, "memory");
+    for (byte, good) in file.iter_mut().zip(TWO.as_bytes()) {
+        *byte = *good;
     }
-    Ok(())
+    file
+}
+
+#[test]
+fn a_file_has_at_most_262144_bytes(rt: HostRuntime) {
+    for &(size, cause) in &SIZES {
+        let file = sized(&rt, rt.alloc(), size);
+        is_told(&rt, rt.alloc(), "b1", &file, whole(cause), "size");
+    }
 }

@@ -18,10 +18,7 @@ mod outputs;
 mod programs;
 mod runs;
 mod subcommands;
-mod telling;
-#[cfg(test)]
-mod tests;
-mod unread;
+mod telling;mod unread;
 mod words;
 
 pub use ends::{End, ProgramFault};

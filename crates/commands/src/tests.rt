@@ -5,8 +5,34 @@ use crate::{
 };
 use allotment::{Cell, Night, Row};
 use plan::{BadPlan, PlanCause};
-use std::alloc::Global;
-use std::test::Fail;
+use std::alloc::{AllocError, Global};
+use std::process::Abort;
+
+// stops the test where this is not so
+fn holds(rt: &impl Abort, case: &str, is_so: bool) {
+    assert!(rt; is_so, "{case}");
+}
+
+// stops the test where another text was found
+fn reads(rt: &impl Abort, case: &str, found: &str, expected: &str) {
+    assert_eq!(rt; found, expected, "{case}");
+}
+
+// stops the test where another text was written, or where there was no memory for it
+fn is_written(rt: &impl Abort, written: Result<String, AllocError>, expected: &str) {
+    reads(
+        rt,
+        expected,
+        written.expect(rt, expected).as_str(),
+        expected,
+    );
+}
+
+// stops the test where the line is read as another reply, or where there was no memory for it
+fn is_read(rt: &impl Abort, alloc: Global, case: &str, line: &str, expected: Option<Reply>) {
+    let found = Reply::from_line(alloc, line).expect(rt, case);
+    assert_eq!(rt; found, expected, "{case}");
+}
 
 const BAD_NIGHT: BadPlan = BadPlan {
     step: 2,
@@ -44,16 +70,14 @@ const REFUSALS: [(Refusal, u8, &str, &str); 20] = [
 ];
 
 #[test]
-fn a_refusal_is_known_by_number_name_and_line(rt: HostRuntime) -> Result<(), Fail> {
-    let alloc = rt.alloc();
-    for (refusal, number, name, line) in REFUSALS {
-        assert_eq!(rt; refusal.number(), number);
-        assert!(rt; refusal.name() == name, "{number}");
-        assert_eq!(rt; refusal.line(alloc)?.as_str(), line);
-        assert_eq!(rt; Reply::Refused(refusal).line(alloc)?.as_str(), line);
-        assert_eq!(rt; Reply::from_line(alloc, line)?, None, "{number}");
+fn a_refusal_is_known_by_number_name_and_line(rt: HostRuntime) {
+    for &(refusal, number, name, line) in &REFUSALS {
+        holds(&rt, line, refusal.number() == number);
+        reads(&rt, line, refusal.name(), name);
+        is_written(&rt, refusal.line(rt.alloc()), line);
+        is_written(&rt, Reply::Refused(refusal).line(rt.alloc()), line);
+        is_read(&rt, rt.alloc(), line, line, None);
     }
-    Ok(())
 }
 
 #[rattlefmt::skip]
@@ -72,8 +96,8 @@ const CSV_CAUSES: [(CsvCause, &str); 10] = [
 
 #[test]
 fn a_cause_is_one_word(rt: HostRuntime) {
-    for (cause, word) in CSV_CAUSES {
-        assert_eq!(rt; cause.word(), word);
+    for &(cause, word) in &CSV_CAUSES {
+        reads(&rt, word, cause.word(), word);
     }
 }
 
@@ -91,11 +115,10 @@ const ITEMS: [(Item, &str); 9] = [
 ];
 
 #[test]
-fn an_item_has_its_text(rt: HostRuntime) -> Result<(), Fail> {
-    for (item, text) in ITEMS {
-        assert_eq!(rt; item.text(rt.alloc())?.as_str(), text);
+fn an_item_has_its_text(rt: HostRuntime) {
+    for &(item, text) in &ITEMS {
+        is_written(&rt, item.text(rt.alloc()), text);
     }
-    Ok(())
 }
 
 // the position, the phase, the state, its first word
@@ -110,17 +133,16 @@ const STATES: [(usize, Phase, &str, &str); 6] = [
 ];
 
 #[test]
-fn a_state_tells_where_a_journey_is(rt: HostRuntime) -> Result<(), Fail> {
-    for (pos, phase, state, word) in STATES {
+fn a_state_tells_where_a_journey_is(rt: HostRuntime) {
+    for &(pos, phase, state, word) in &STATES {
         let cursor = Cursor {
             pos,
             phase,
             used: 3,
         };
-        assert_eq!(rt; cursor.state(rt.alloc())?.as_str(), state);
-        assert_eq!(rt; phase.word(), word);
+        is_written(&rt, cursor.state(rt.alloc()), state);
+        reads(&rt, state, phase.word(), word);
     }
-    Ok(())
 }
 
 #[rattlefmt::skip]
@@ -146,13 +168,11 @@ const LINES: [&str; 18] = [
 ];
 
 #[test]
-fn a_line_is_read_and_written_back(rt: HostRuntime) -> Result<(), Fail> {
-    let alloc = rt.alloc();
-    for line in LINES {
-        let reply = Reply::from_line(alloc, line)?.ok_or("no reply")?;
-        assert_eq!(rt; reply.line(alloc)?.as_str(), line);
+fn a_line_is_read_and_written_back(rt: HostRuntime) {
+    for &line in &LINES {
+        let reply = Reply::from_line(rt.alloc(), line).expect(&rt, line);
+        is_written(&rt, reply.expect(&rt, line).line(rt.alloc()), line);
     }
-    Ok(())
 }
 
 #[rattlefmt::skip]
@@ -206,40 +226,34 @@ const NO_LINES: [(&str, &str); 46] = [
 ];
 
 #[test]
-fn another_line_is_no_reply(rt: HostRuntime) -> Result<(), Fail> {
-    for (case, line) in NO_LINES {
-        assert_eq!(rt; Reply::from_line(rt.alloc(), line)?, None, "{case}");
+fn another_line_is_no_reply(rt: HostRuntime) {
+    for &(case, line) in &NO_LINES {
+        is_read(&rt, rt.alloc(), case, line, None);
     }
-    Ok(())
 }
 
 #[test]
-fn a_reply_is_read_with_all_its_parts(rt: HostRuntime) -> Result<(), Fail> {
+fn a_reply_is_read_with_all_its_parts(rt: HostRuntime) {
     let alloc = rt.alloc();
-    let name = Name::parse("b1").ok_or("no name")?;
+    let name = Name::parse("b1").expect(&rt, "a name");
     let loaded = Reply::Loaded { name, rows: 2 };
-    assert_eq!(rt; Reply::from_line(alloc, "loaded b1 2")?, Some(loaded));
+    is_read(&rt, alloc, "loaded", "loaded b1 2", Some(loaded));
     let begun = Reply::Begun { id: 7 };
-    assert_eq!(rt; Reply::from_line(alloc, "journey 7 begun")?, Some(begun));
-    for (item, text) in ITEMS {
-        for (pos, phase, state, _) in STATES {
-            let line = format!(in alloc; "journey 3 {text} {state}")?;
+    is_read(&rt, alloc, "begun", "journey 7 begun", Some(begun));
+    for &(item, text) in &ITEMS {
+        for &(pos, phase, state, _) in &STATES {
+            let line = format!(in alloc; "journey 3 {text} {state}").expect(&rt, "a line");
             let moved = Reply::Moved {
                 id: 3,
                 item,
                 pos,
                 phase,
             };
-            assert_eq!(rt; moved.line(alloc)?.as_str(), line.as_str());
-            assert_eq!(rt;
-                Reply::from_line(alloc, line.as_str())?,
-                Some(moved),
-                "{line}"
-            );
+            is_written(&rt, moved.line(alloc), &line);
+            is_read(&rt, alloc, &line, &line, Some(moved));
         }
     }
     replies_have_one_line();
-    Ok(())
 }
 
 // what is tried, the text, and whether it is a batch's name, an agent, a key
@@ -265,75 +279,80 @@ const NAMES: [(&str, &str, bool, bool, bool); 16] = [
 
 #[test]
 fn names_agents_and_keys_have_their_forms(rt: HostRuntime) {
-    for (case, text, is_name, is_agent, is_key) in NAMES {
+    for &(case, text, is_name, is_agent, is_key) in &NAMES {
         let name = Name::parse(text);
-        assert!(rt; name.is_some() == is_name, "{case}");
+        holds(&rt, case, name.is_some() == is_name);
         if let Some(name) = name {
-            assert!(rt; name.as_str() == text, "{case}");
+            reads(&rt, case, name.as_str(), text);
         }
         let agent = Agent::parse(text);
-        assert!(rt; agent.is_some() == is_agent, "{case}");
+        holds(&rt, case, agent.is_some() == is_agent);
         if let Some(agent) = agent {
-            assert!(rt; agent.as_str() == text, "{case}");
+            reads(&rt, case, agent.as_str(), text);
         }
         let key = Key::parse(text);
-        assert!(rt; key.is_some() == is_key, "{case}");
+        holds(&rt, case, key.is_some() == is_key);
         if let Some(key) = key {
-            assert!(rt; key.as_str() == text, "{case}");
+            reads(&rt, case, key.as_str(), text);
         }
     }
 }
 
 #[test]
 fn names_are_equal_where_their_texts_are(rt: HostRuntime) {
-    assert_eq!(rt; Name::parse("a-1"), Name::parse("a-1"));
-    assert!(rt; Name::parse("a-1") != Name::parse("a-2"));
-    assert_eq!(rt; Agent::parse("ann"), Agent::parse("ann"));
-    assert!(rt; Agent::parse("ann") != Agent::parse("anne"));
-    assert_eq!(rt; Key::parse("K"), Key::parse("K"));
-    assert!(rt; Key::parse("K") != Key::parse("k"));
+    holds(&rt, "a name", Name::parse("a-1") == Name::parse("a-1"));
+    holds(&rt, "names", Name::parse("a-1") != Name::parse("a-2"));
+    holds(&rt, "an agent", Agent::parse("ann") == Agent::parse("ann"));
+    holds(&rt, "agents", Agent::parse("ann") != Agent::parse("anne"));
+    holds(&rt, "a key", Key::parse("K") == Key::parse("K"));
+    holds(&rt, "keys", Key::parse("K") != Key::parse("k"));
 }
 
 #[test]
-fn an_ask_keeps_its_parts(rt: HostRuntime) -> Result<(), Fail> {
+fn an_ask_keeps_its_parts(rt: HostRuntime) {
     let house = Agent::house();
-    assert_eq!(rt; house.as_str(), "desk");
-    let key = Key::parse("k1").ok_or("no key")?;
-    let ask = Ask::new(house, key, Vec::from_slice(rt.alloc(), b"/journeys\n")?);
-    assert_eq!(rt; ask.agent(), house);
-    assert_eq!(rt; ask.key(), key);
-    assert_eq!(rt; ask.text(), b"/journeys\n".as_slice());
-    Ok(())
+    reads(&rt, "the house", house.as_str(), "desk");
+    let key = Key::parse("k1").expect(&rt, "a key");
+    let text = Vec::from_slice(rt.alloc(), b"/journeys\n").expect(&rt, "a text");
+    let ask = Ask::new(house, key, text);
+    holds(&rt, "the agent", ask.agent() == house);
+    holds(&rt, "the key", ask.key() == key);
+    holds(&rt, "the text", ask.text() == b"/journeys\n".as_slice());
+}
+
+// stops the test where something else is wrong with a batch
+fn is_wrong(rt: &impl Abort, case: &str, found: Option<BadBatch>, expected: Option<BadBatch>) {
+    assert_eq!(rt; found, expected, "{case}");
 }
 
 /// A row of each of so many nights, from the first one on.
-fn nights(alloc: Global, count: u16) -> Result<Vec<Row>, Fail> {
+fn nights(rt: &impl Abort, alloc: Global, count: u16) -> Vec<Row> {
+    let cell = Cell::parse("R/INN/DBL/2000-01-01").expect(rt, "a cell");
     let mut rows = Vec::new(alloc);
     for day in 0..count {
-        let night = Night::from_day(10957 + u32::from(day)).ok_or("no night")?;
-        let cell = Cell::parse("R/INN/DBL/2000-01-01").ok_or("no cell")?;
-        rows.push(Row::new(Cell { night, ..cell }, 4))?;
+        let night = Night::from_day(10957 + u32::from(day)).expect(rt, "a night");
+        rows.push(Row::new(Cell { night, ..cell }, 4))
+            .expect(rt, "a row");
     }
-    Ok(rows)
+    rows
 }
 
 // how many rows there are, and what is wrong with them
 #[rattlefmt::skip]
-const COUNTS: [(u16, Option<BadBatch>); 4] = [
-    (0,    Some(BadBatch::Count)),
-    (1,    None),
-    (2000, None),
-    (2001, Some(BadBatch::Count)),
+const COUNTS: [(&str, u16, Option<BadBatch>); 4] = [
+    ("no row",           0,    Some(BadBatch::Count)),
+    ("one row",          1,    None),
+    ("the most rows",    2000, None),
+    ("one row too many", 2001, Some(BadBatch::Count)),
 ];
 
 #[test]
-fn a_batch_has_at_most_2000_rows(rt: HostRuntime) -> Result<(), Fail> {
-    let name = Name::parse("b1").ok_or("no name")?;
-    for (count, wrong) in COUNTS {
-        let batch = Batch::new(rt.alloc(), name, nights(rt.alloc(), count)?);
-        assert_eq!(rt; batch.err(), wrong, "{count} rows");
+fn a_batch_has_at_most_2000_rows(rt: HostRuntime) {
+    let name = Name::parse("b1").expect(&rt, "a name");
+    for &(case, count, wrong) in &COUNTS {
+        let batch = Batch::new(rt.alloc(), name, nights(&rt, rt.alloc(), count));
+        is_wrong(&rt, case, batch.err(), wrong);
     }
-    Ok(())
 }
 
 // the cell of a row behind that of the room DBL of INN on 2030-06-01, and whether they are one
@@ -348,28 +367,23 @@ const CELLS: [(&str, bool); 6] = [
 ];
 
 #[test]
-fn a_batch_has_each_cell_once(rt: HostRuntime) -> Result<(), Fail> {
-    let alloc = rt.alloc();
-    let name = Name::parse("b1").ok_or("no name")?;
-    let first = Cell::parse("R/INN/DBL/2030-06-01").ok_or("no cell")?;
-    for (text, is_twice) in CELLS {
-        let other = Cell::parse(text).ok_or("no cell")?;
-        let rows = vec![in alloc; Row::new(first, 4), Row::new(other, 5)]?;
-        match Batch::new(alloc, name, rows) {
-            Err(wrong) => {
-                assert!(rt; is_twice, "{text}");
-                assert_eq!(rt; wrong, BadBatch::Twice);
-            }
-            Ok(batch) => {
-                assert!(rt; !is_twice, "{text}");
-                assert_eq!(rt; batch.name(), name);
-                let expected = [Row::new(first, 4), Row::new(other, 5)];
-                assert_eq!(rt; batch.rows(), expected.as_slice());
-                assert_eq!(rt; batch.clone(alloc)?.rows(), expected.as_slice());
-            }
+fn a_batch_has_each_cell_once(rt: HostRuntime) {
+    let name = Name::parse("b1").expect(&rt, "a name");
+    for &(text, is_twice) in &CELLS {
+        let first = Cell::parse("R/INN/DBL/2030-06-01").expect(&rt, text);
+        let other = Cell::parse(text).expect(&rt, text);
+        let expected = [Row::new(first, 4), Row::new(other, 5)];
+        let rows = Vec::from_slice(rt.alloc(), &expected).expect(&rt, text);
+        let batch = Batch::new(rt.alloc(), name, rows);
+        if let Ok(batch) = &batch {
+            holds(&rt, text, batch.name() == name);
+            holds(&rt, text, batch.rows() == expected.as_slice());
+            let again = batch.clone(rt.alloc()).expect(&rt, text);
+            holds(&rt, text, again.rows() == expected.as_slice());
         }
+        let wrong = is_twice.then_some(BadBatch::Twice);
+        is_wrong(&rt, text, batch.err(), wrong);
     }
-    Ok(())
 }
 
 // the cells of some rows, and the place of the first one that stood before
@@ -383,20 +397,20 @@ const REPEATS: [(&[&str], Option<usize>); 5] = [
 ];
 
 /// A row of each of these cells.
-fn rows_at(alloc: Global, cells: &[&str]) -> Result<Vec<Row>, Fail> {
+fn rows_at(rt: &impl Abort, alloc: Global, cells: &[&str]) -> Vec<Row> {
     let mut rows = Vec::new(alloc);
     for text in cells {
-        let cell = Cell::parse(text).ok_or("no cell")?;
-        rows.push(Row::new(cell, 4))?;
+        let cell = Cell::parse(text).expect(rt, text);
+        rows.push(Row::new(cell, 4)).expect(rt, text);
     }
-    Ok(rows)
+    rows
 }
 
 #[test]
-fn a_repeat_is_found_at_its_place(rt: HostRuntime) -> Result<(), Fail> {
+fn a_repeat_is_found_at_its_place(rt: HostRuntime) {
     for (cells, place) in &REPEATS {
-        let rows = rows_at(rt.alloc(), cells)?;
-        assert_eq!(rt; first_repeat(rt.alloc(), &rows)?, *place, "{cells:?}");
+        let rows = rows_at(&rt, rt.alloc(), cells);
+        let found = first_repeat(rt.alloc(), &rows).expect(&rt, "a place");
+        assert_eq!(rt; found, *place, "{cells:?}");
     }
-    Ok(())
 }

@@ -35,6 +35,3 @@ pub use stock::{
     CellFound, CellPlaces, NightFound, NightRange, find_nights, find_stock, give_nights, put_cell,
     take_nights,
 };
-
-#[cfg(test)]
-mod tests;

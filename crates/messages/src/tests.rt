@@ -4,9 +4,41 @@ mod texts;
 
 use crate::Incoming;
 use std::alloc::{AllocError, Global};
-use std::test::Fail;
+use std::process::Abort;
 use streams::Pieces;
 use texts::told;
+
+/// Stops the test where something else is told of these bytes, behind what waits.
+fn goes_on(
+    rt: &impl Abort,
+    alloc: Global,
+    incoming: &mut Incoming,
+    mut pieces: Pieces<'_>,
+    expected: &str,
+    case: &str,
+) {
+    let (length, step) = (pieces.len(), pieces.step());
+    let text = told(alloc, incoming, &mut pieces).expect(rt, "memory");
+    assert!(rt;
+        text.as_str() == expected,
+        "{case}, {length} bytes, {step} at a time: {text}"
+    );
+}
+
+/// Stops the test where something else is told of these bytes alone.
+fn is_told(rt: &impl Abort, alloc: Global, pieces: Pieces<'_>, expected: &str, case: &str) {
+    let mut incoming = Incoming::new(alloc).expect(rt, "memory");
+    goes_on(rt, alloc, &mut incoming, pieces, expected, case);
+}
+
+/// Stops the test where something else is told of the input of a row, so many bytes at a time.
+fn are_told(rt: &impl Abort, alloc: Global, rows: &[(&str, &[u8], &str)], steps: &[usize]) {
+    for &(case, input, expected) in rows {
+        for &step in steps {
+            is_told(rt, alloc, Pieces::of(input, step), expected, case);
+        }
+    }
+}
 
 /// More than all that a test reads.
 const ALL: usize = 100_000;
@@ -37,16 +69,8 @@ const STREAMS: [(&str, &[u8], &str); 10] = [
 ];
 
 #[test]
-fn messages_are_told_one_by_one(rt: HostRuntime) -> Result<(), Fail> {
-    let alloc = rt.alloc();
-    for (case, input, expected) in &STREAMS {
-        for step in STEPS {
-            let mut incoming = Incoming::new(alloc)?;
-            let text = told(alloc, &mut incoming, &mut Pieces::of(input, step))?;
-            assert_eq!(rt; text.as_str(), *expected, "{case}, {step} at a time");
-        }
-    }
-    Ok(())
+fn messages_are_told_one_by_one(rt: HostRuntime) {
+    are_told(&rt, rt.alloc(), &STREAMS, &STEPS);
 }
 
 // the lines of a head behind `HTTP/1.1`, or all of it, with the method and what is told
@@ -83,43 +107,47 @@ const HEADS: [(&str, &[u8], &str); 28] = [
 ];
 
 #[test]
-fn a_head_is_refused_for_its_first_fault(rt: HostRuntime) -> Result<(), Fail> {
-    let alloc = rt.alloc();
-    for (case, input, expected) in &HEADS {
-        let mut incoming = Incoming::new(alloc)?;
-        let text = told(alloc, &mut incoming, &mut Pieces::of(input, 5))?;
-        assert_eq!(rt; text.as_str(), *expected, "{case}");
-    }
-    Ok(())
+fn a_head_is_refused_for_its_first_fault(rt: HostRuntime) {
+    are_told(&rt, rt.alloc(), &HEADS, &[5]);
 }
 
 #[test]
-fn what_is_cut_off_is_no_message(rt: HostRuntime) -> Result<(), Fail> {
-    let alloc = rt.alloc();
+fn what_is_cut_off_is_no_message(rt: HostRuntime) {
     for read in 0..GET.len() {
-        for step in STEPS {
-            let mut incoming = Incoming::new(alloc)?;
-            let text = told(alloc, &mut incoming, &mut Pieces::of(&GET[..read], step))?;
-            assert_eq!(rt; text.as_str(), "", "{read}, {step} at a time");
-        }
+        are_told(&rt, rt.alloc(), &[("cut off", &GET[..read], "")], &STEPS);
     }
-    Ok(())
 }
 
-/// So many times this byte between two texts.
+/// So many times these bytes between two texts.
 fn filled(
     alloc: Global,
     front: &[u8],
-    byte: u8,
+    bytes: &[u8],
     count: usize,
     rest: &[u8],
 ) -> Result<Vec<u8>, AllocError> {
     let mut text = front.to_vec(alloc)?;
     for _ in 0..count {
-        text.push(byte)?;
+        text.extend_from_slice(bytes)?;
     }
     text.extend_from_slice(rest)?;
     Ok(text)
+}
+
+/// Stops the test where something else is told of so many times these bytes between two texts.
+fn each_is_told(
+    rt: &impl Abort,
+    alloc: Global,
+    rows: &[(usize, &str)],
+    front: &[u8],
+    bytes: &[u8],
+    rest: &[u8],
+    steps: &[usize],
+) {
+    for &(count, expected) in rows {
+        let input = filled(alloc, front, bytes, count, rest).expect(rt, "memory");
+        are_told(rt, alloc, &[("filled", &input, expected)], steps);
+    }
 }
 
 // how many bytes `A`, and what is told of them
@@ -131,105 +159,75 @@ const LONG: [(usize, &str); 4] = [
 ];
 
 #[test]
-fn a_front_is_told_at_8192_bytes(rt: HostRuntime) -> Result<(), Fail> {
-    let alloc = rt.alloc();
-    for (count, expected) in LONG {
-        let input = filled(alloc, b"", b'A', count, b"")?;
-        for step in STEPS {
-            let mut incoming = Incoming::new(alloc)?;
-            let text = told(
-                alloc,
-                &mut incoming,
-                &mut Pieces::of(input.as_slice(), step),
-            )?;
-            assert_eq!(rt; text.as_str(), expected, "{count}, {step} at a time");
-        }
-    }
-    Ok(())
+fn a_front_is_told_at_8192_bytes(rt: HostRuntime) {
+    each_is_told(&rt, rt.alloc(), &LONG, b"", b"A", b"", &STEPS);
 }
 
 // how many bytes a value has, and what is told of its head, of 41 bytes more, and of three more
 const VALUES: [(usize, &str); 2] = [(8151, "GET / ann -  open;none;"), (8152, "none;none;")];
 
 #[test]
-fn a_head_has_8192_bytes_at_most(rt: HostRuntime) -> Result<(), Fail> {
-    let alloc = rt.alloc();
-    for (count, expected) in VALUES {
-        let front = b"GET / HTTP/1.1\r\nHost:";
-        let input = filled(
-            alloc,
-            front,
-            b'd',
-            count,
-            b"\r\nDesk-Agent:ann\r\n\r\nA\n\n",
-        )?;
-        let mut incoming = Incoming::new(alloc)?;
-        let text = told(
-            alloc,
-            &mut incoming,
-            &mut Pieces::of(input.as_slice(), 4096),
-        )?;
-        assert_eq!(rt; text.as_str(), expected, "{count}");
-    }
-    Ok(())
+fn a_head_has_8192_bytes_at_most(rt: HostRuntime) {
+    let front = b"GET / HTTP/1.1\r\nHost:";
+    let rest = b"\r\nDesk-Agent:ann\r\n\r\nA\n\n";
+    each_is_told(&rt, rt.alloc(), &VALUES, front, b"d", rest, &[4096]);
 }
 
 // how many fields stand behind the host, and what is told
 const FIELDS: [(usize, &str); 2] = [(31, "GET / - -  open;"), (32, "none;")];
 
 #[test]
-fn a_head_has_32_fields_at_most(rt: HostRuntime) -> Result<(), Fail> {
-    let alloc = rt.alloc();
-    for (count, expected) in FIELDS {
-        let mut input = b"GET / HTTP/1.1\r\nHost: d\r\n".to_vec(alloc)?;
-        for _ in 0..count {
-            input.extend_from_slice(b"A: b\r\n")?;
-        }
-        input.extend_from_slice(b"\r\n")?;
-        let mut incoming = Incoming::new(alloc)?;
-        let text = told(alloc, &mut incoming, &mut Pieces::of(input.as_slice(), 64))?;
-        assert_eq!(rt; text.as_str(), expected, "{count}");
-    }
-    Ok(())
+fn a_head_has_32_fields_at_most(rt: HostRuntime) {
+    let front = b"GET / HTTP/1.1\r\nHost: d\r\n";
+    each_is_told(&rt, rt.alloc(), &FIELDS, front, b"A: b\r\n", b"\r\n", &[64]);
 }
 
 #[test]
-fn a_body_has_262144_bytes_at_most(rt: HostRuntime) -> Result<(), Fail> {
+fn a_body_has_262144_bytes_at_most(rt: HostRuntime) -> Result<(), AllocError> {
     let alloc = rt.alloc();
     let front = b"POST / HTTP/1.1\r\nHost: d\r\nContent-Length: 262144\r\n\r\n";
-    let input = filled(alloc, front, b'x', 262_144, b"A\n\n")?;
+    let input = filled(alloc, front, b"x", 262_144, b"A\n\n")?;
     let mut incoming = Incoming::new(alloc)?;
-    let text = told(alloc, &mut incoming, &mut Pieces::of(input.as_slice(), ALL))?;
-    assert_eq!(rt; text.len(), 262_144 + 22);
+    let text = told(alloc, &mut incoming, &mut Pieces::of(&input, ALL))?;
+    assert!(rt; text.len() == 262_144 + 22);
     assert!(rt; text.as_str().ends_with("x open;none;"));
     Ok(())
 }
 
 // A reader that fails if it is asked once more shows that it is not asked.
 #[test]
-fn a_message_is_given_before_the_next_read(rt: HostRuntime) -> Result<(), Fail> {
-    let alloc = rt.alloc();
-    for step in STEPS {
-        let mut incoming = Incoming::new(alloc)?;
-        let text = told(alloc, &mut incoming, &mut Pieces::cut(GET, step))?;
-        assert_eq!(rt;
-            text.as_str(),
-            "GET /unfinished ann -  open;Read",
-            "{step} at a time"
-        );
+fn a_message_is_given_before_the_next_read(rt: HostRuntime) {
+    let expected = "GET /unfinished ann -  open;Read";
+    for &step in &STEPS {
+        is_told(&rt, rt.alloc(), Pieces::cut(GET, step), expected, "GET");
     }
-    Ok(())
+}
+
+/// Stops the test where a failed read between these two parts of a request is not told, or not made good.
+fn is_resumed(rt: &impl Abort, alloc: Global, front: &[u8], rest: &[u8], expected: &str) {
+    let mut incoming = Incoming::new(alloc).expect(rt, "memory");
+    goes_on(
+        rt,
+        alloc,
+        &mut incoming,
+        Pieces::cut(front, 3),
+        "Read",
+        "front",
+    );
+    goes_on(
+        rt,
+        alloc,
+        &mut incoming,
+        Pieces::of(rest, 3),
+        expected,
+        "rest",
+    );
 }
 
 #[test]
-fn after_a_failed_read_the_message_goes_on(rt: HostRuntime) -> Result<(), Fail> {
-    let alloc = rt.alloc();
+fn after_a_failed_read_the_message_goes_on(rt: HostRuntime) {
+    let expected = "GET /unfinished ann -  open;";
     for read in 0..GET.len() {
-        let mut incoming = Incoming::new(alloc)?;
-        let text = told(alloc, &mut incoming, &mut Pieces::cut(&GET[..read], 3))?;
-        assert_eq!(rt; text.as_str(), "Read", "{read}");
-        let text = told(alloc, &mut incoming, &mut Pieces::of(&GET[read..], 3))?;
-        assert_eq!(rt; text.as_str(), "GET /unfinished ann -  open;", "{read}");
+        is_resumed(&rt, rt.alloc(), &GET[..read], &GET[read..], expected);
     }
-    Ok(())
 }

@@ -1,12 +1,26 @@
 // Values from outside: the tables of routes and codes, and bodies and pages as the formats give them.
 use crate::{
-    Body, Denied, Paths, Route, Status, Unrouted, Verb, admit, denied_page, journey_body,
+    Body, Denied, Page, Paths, Route, Status, Unrouted, Verb, admit, denied_page, journey_body,
     page_bytes, refusal_body, refused_page, reply_body, reply_page, shown_page, unfinished_body,
 };
 use commands::{Agent, Cause, CsvCause, Cursor, Item, Name, Phase, Refusal, Reply};
 use plan::{BadPlan, PlanCause};
 use saga_core::Brief;
-use std::test::Fail;
+use std::alloc::{AllocError, Global};
+use std::process::Abort;
+
+/// Stops the test where this is not so.
+fn holds(rt: &impl Abort, case: &str, is_so: bool) {
+    assert!(rt; is_so, "{case}");
+}
+
+/// What a method and a target ask for.
+type Found = Result<Route, Unrouted>;
+
+/// Stops the test where a method and a target ask for something else.
+fn asks(rt: &impl Abort, paths: &Paths, method: &str, target: &[u8], expected: Found, case: &str) {
+    holds(rt, case, paths.route(method, target) == expected);
+}
 
 // the method, the target, what they ask for
 #[rattlefmt::skip]
@@ -22,16 +36,17 @@ const ROUTES: [(&str, &str, Route); 9] = [
     ("GET",  "/stock",                      Route::ShowStock),
 ];
 
-#[test]
-fn a_method_and_a_target_ask_for_one_thing(rt: HostRuntime) -> Result<(), Fail> {
-    let paths = Paths::new(rt.alloc())?;
-    for (method, target, route) in &ROUTES {
-        assert_eq!(rt;
-            paths.route(method, target.as_bytes()),
-            Ok(*route),
-            r#"{method} {target}"#
-        );
+/// Stops the test where the method and the target of a row ask for something else than it tells.
+fn each_asks(rt: &impl Abort, paths: &Paths, rows: &[(&str, &str, Route)]) {
+    for &(method, target, route) in rows {
+        asks(rt, paths, method, target.as_bytes(), Ok(route), target);
     }
+}
+
+#[test]
+fn a_method_and_a_target_ask_for_one_thing(rt: HostRuntime) -> Result<(), AllocError> {
+    let paths = Paths::new(rt.alloc())?;
+    each_asks(&rt, &paths, &ROUTES);
     Ok(())
 }
 
@@ -55,11 +70,10 @@ const BAD_PARTS: [(&str, &str); 14] = [
 ];
 
 #[test]
-fn a_part_of_another_form_is_bad(rt: HostRuntime) -> Result<(), Fail> {
+fn a_part_of_another_form_is_bad(rt: HostRuntime) -> Result<(), AllocError> {
     let paths = Paths::new(rt.alloc())?;
-    for (method, target) in &BAD_PARTS {
-        let found = paths.route(method, target.as_bytes());
-        assert_eq!(rt; found, Err(Unrouted::BadPart), r#"{target}"#);
+    for &(method, target) in &BAD_PARTS {
+        asks(&rt, &paths, method, target.as_bytes(), BAD, target);
     }
     Ok(())
 }
@@ -71,14 +85,12 @@ const NOWHERE_AT_ALL: [&str; 14] = [
 ];
 
 #[test]
-fn a_target_that_is_no_path_is_unknown(rt: HostRuntime) -> Result<(), Fail> {
+fn a_target_that_is_no_path_is_unknown(rt: HostRuntime) -> Result<(), AllocError> {
     let paths = Paths::new(rt.alloc())?;
-    for target in &NOWHERE_AT_ALL {
-        let found = paths.route("POST", target.as_bytes());
-        assert_eq!(rt; found, Err(Unrouted::UnknownPath), r#"{target}"#);
+    for &target in &NOWHERE_AT_ALL {
+        asks(&rt, &paths, "POST", target.as_bytes(), NOWHERE, target);
     }
-    let found = paths.route("GET", [b'/', b's', 0xff].as_slice());
-    assert_eq!(rt; found, Err(Unrouted::UnknownPath), "no text");
+    asks(&rt, &paths, "GET", &[b'/', b's', 0xff], NOWHERE, "no text");
     Ok(())
 }
 
@@ -95,39 +107,42 @@ const WRONG_METHODS: [(&str, &str, Verb); 7] = [
 ];
 
 #[test]
-fn a_path_has_one_method(rt: HostRuntime) -> Result<(), Fail> {
+fn a_path_has_one_method(rt: HostRuntime) -> Result<(), AllocError> {
     let paths = Paths::new(rt.alloc())?;
-    for (method, target, verb) in &WRONG_METHODS {
-        let found = paths.route(method, target.as_bytes());
-        assert_eq!(rt;
-            found,
-            Err(Unrouted::WrongMethod(*verb)),
-            r#"{method} {target}"#
-        );
+    for &(method, target, verb) in &WRONG_METHODS {
+        let expected = Err(Unrouted::WrongMethod(verb));
+        asks(&rt, &paths, method, target.as_bytes(), expected, target);
     }
     Ok(())
 }
 
+/// The name of a batch.
+fn batch(rt: &impl Abort) -> Name {
+    match Name::parse("b1") {
+        Some(name) => name,
+        None => panic!(rt; "no name"),
+    }
+}
+
 #[test]
-fn a_batch_is_loaded_under_its_name(rt: HostRuntime) -> Result<(), Fail> {
+fn a_batch_is_loaded_under_its_name(rt: HostRuntime) -> Result<(), AllocError> {
     let paths = Paths::new(rt.alloc())?;
-    let name = Name::parse("b1").ok_or("no name")?;
-    let found = paths.route("POST", b"/batches/b1".as_slice());
-    assert_eq!(rt; found, Ok(Route::LoadBatch(name)));
+    let expected = Ok(Route::LoadBatch(batch(&rt)));
+    asks(&rt, &paths, "POST", b"/batches/b1", expected, "/batches/b1");
     Ok(())
 }
 
-const STEP: Result<Route, Unrouted> = Ok(Route::Step(1));
+const STEP: Found = Ok(Route::Step(1));
 
-const BAD: Result<Route, Unrouted> = Err(Unrouted::BadPart);
+const BAD: Found = Err(Unrouted::BadPart);
 
-const OTHER: Result<Route, Unrouted> = Err(Unrouted::WrongMethod(Verb::Post));
+const OTHER: Found = Err(Unrouted::WrongMethod(Verb::Post));
 
-const NOWHERE: Result<Route, Unrouted> = Err(Unrouted::UnknownPath);
+const NOWHERE: Found = Err(Unrouted::UnknownPath);
 
 // what was found; whether there are an agent and a key, and the method is POST; what is wrong
 #[rattlefmt::skip]
-const ORDER: [(Result<Route, Unrouted>, bool, bool, bool, Option<Refusal>); 10] = [
+const ORDER: [(Found, bool, bool, bool, Option<Refusal>); 10] = [
     (STEP,    true,  true,  true,  None),
     (STEP,    true,  false, false, None),
     (NOWHERE, false, false, true,  Some(Refusal::UnknownPath)),
@@ -140,14 +155,24 @@ const ORDER: [(Result<Route, Unrouted>, bool, bool, bool, Option<Refusal>); 10] 
     (BAD,     true,  false, false, Some(Refusal::BadBody)),
 ];
 
+/// What is wrong, if something is.
+fn wrong(found: Found, agent: bool, key: bool, post: bool) -> Option<Refusal> {
+    match admit(found, agent, key, post) {
+        Ok(_) => None,
+        Err(denied) => Some(denied.refusal),
+    }
+}
+
+/// Stops the test where something else is wrong with the request of a row.
+fn each_is_admitted(rt: &impl Abort, rows: &[(Found, bool, bool, bool, Option<Refusal>)]) {
+    for &(found, agent, key, post, refusal) in rows {
+        assert_eq!(rt; wrong(found, agent, key, post), refusal);
+    }
+}
+
 #[test]
 fn the_first_thing_that_is_wrong_is_told(rt: HostRuntime) {
-    for (found, agent, key, post, refusal) in ORDER {
-        let told = admit(found, agent, key, post)
-            .err()
-            .map(|denied| denied.refusal);
-        assert_eq!(rt; told, refusal);
-    }
+    each_is_admitted(&rt, &ORDER);
 }
 
 const BAD_NIGHT: BadPlan = BadPlan {
@@ -183,14 +208,38 @@ const REFUSALS: [(Refusal, Status, &str, usize); 18] = [
     (Refusal::NoSave,               Status::Conflict,       r#"{"name":"NoSave","refused":28}"#,                          30),
 ];
 
+/// Stops the test where a body is another text than this one, of so many bytes.
+fn reads(
+    rt: &impl Abort,
+    body: Result<String, AllocError>,
+    expected: &str,
+    length: usize,
+) -> Result<(), AllocError> {
+    let body = body?;
+    assert_eq!(rt; body.as_str(), expected);
+    holds(rt, expected, body.len() == length);
+    Ok(())
+}
+
+/// Stops the test where a refusal has another status, or another body than this one, of so many bytes.
+fn is_refused(
+    rt: &impl Abort,
+    alloc: Global,
+    refusal: &Refusal,
+    status: Status,
+    expected: &str,
+    length: usize,
+) -> Result<(), AllocError> {
+    let page = refused_page(alloc, refusal)?;
+    holds(rt, expected, page.status == status);
+    reads(rt, refusal_body(alloc, refusal), expected, length)
+}
+
 #[test]
-fn a_refusal_has_a_status_and_a_body(rt: HostRuntime) -> Result<(), Fail> {
-    for (refusal, status, expected, length) in &REFUSALS {
-        let body = refusal_body(rt.alloc(), refusal)?;
-        assert_eq!(rt; body.as_str(), *expected);
-        assert_eq!(rt; body.len(), *length, r#"{expected}"#);
-        let page = refused_page(rt.alloc(), refusal)?;
-        assert_eq!(rt; page.status, *status, r#"{expected}"#);
+fn a_refusal_has_a_status_and_a_body(rt: HostRuntime) -> Result<(), AllocError> {
+    let alloc = rt.alloc();
+    for &(refusal, status, expected, length) in &REFUSALS {
+        is_refused(&rt, alloc, &refusal, status, expected, length)?;
     }
     Ok(())
 }
@@ -217,32 +266,30 @@ const MOVES: [(Item, usize, Phase, &str, usize); 5] = [
 ];
 
 #[test]
-fn a_move_is_told_with_its_target_in_back_alone(rt: HostRuntime) -> Result<(), Fail> {
-    for (item, pos, phase, expected, length) in MOVES {
+fn a_move_is_told_with_its_target_in_back_alone(rt: HostRuntime) -> Result<(), AllocError> {
+    let id = 1;
+    for &(item, pos, phase, expected, length) in &MOVES {
         let reply = Reply::Moved {
-            id: 1,
+            id,
             item,
             pos,
             phase,
         };
-        let body = reply_body(rt.alloc(), &reply)?;
-        assert_eq!(rt; body.as_str(), expected);
-        assert_eq!(rt; body.len(), length, r#"{expected}"#);
+        reads(&rt, reply_body(rt.alloc(), &reply), expected, length)?;
     }
     Ok(())
 }
 
 #[test]
-fn other_replies_are_told(rt: HostRuntime) -> Result<(), Fail> {
+fn other_replies_are_told(rt: HostRuntime) -> Result<(), AllocError> {
     let alloc = rt.alloc();
-    let name = Name::parse("b1").ok_or("no name")?;
-    let body = reply_body(alloc, &Reply::Loaded { name, rows: 2 })?;
-    assert_eq!(rt; body.as_str(), r#"{"batch":"b1","rows":2}"#);
-    let body = reply_body(alloc, &Reply::Begun { id: 1 })?;
-    assert_eq!(rt; body.as_str(), r#"{"journey":1}"#);
-    let body = reply_body(alloc, &Reply::Refused(Refusal::NoSave))?;
-    assert_eq!(rt; body.as_str(), r#"{"name":"NoSave","refused":28}"#);
-    Ok(())
+    let (name, rows) = (batch(&rt), 2);
+    let body = reply_body(alloc, &Reply::Loaded { name, rows });
+    reads(&rt, body, r#"{"batch":"b1","rows":2}"#, 23)?;
+    let body = reply_body(alloc, &Reply::Begun { id: 1 });
+    reads(&rt, body, r#"{"journey":1}"#, 13)?;
+    let body = reply_body(alloc, &Reply::Refused(Refusal::NoSave));
+    reads(&rt, body, r#"{"name":"NoSave","refused":28}"#, 30)
 }
 
 const AT_ONE: Cursor = Cursor {
@@ -258,33 +305,29 @@ const AT_THE_END: Cursor = Cursor {
 };
 
 #[test]
-fn a_journey_is_shown_with_its_history(rt: HostRuntime) -> Result<(), Fail> {
+fn a_journey_is_shown_with_its_history(rt: HostRuntime) -> Result<(), AllocError> {
     let alloc = rt.alloc();
-    let body = journey_body(alloc, 1, AT_THE_END, &[FIRST_STEP])?;
+    let body = journey_body(alloc, 1, AT_THE_END, &[FIRST_STEP]);
     let expected = r#"{"history":["T1.1"],"journey":1,"pos":1,"state":"ended"}"#;
-    assert_eq!(rt; body.as_str(), expected);
-    assert_eq!(rt; body.len(), 56);
-    let body = journey_body(alloc, 2, AT_ONE, &[FIRST_STEP, ASKED_BACK])?;
+    reads(&rt, body, expected, 56)?;
+    let body = journey_body(alloc, 2, AT_ONE, &[FIRST_STEP, ASKED_BACK]);
     let expected = r#"{"history":["T1.1","B0a"],"journey":2,"pos":1,"state":"back","target":0}"#;
-    assert_eq!(rt; body.as_str(), expected);
-    Ok(())
+    reads(&rt, body, expected, 72)
 }
 
 #[test]
-fn journeys_that_are_not_finished_are_shown(rt: HostRuntime) -> Result<(), Fail> {
+fn journeys_that_are_not_finished_are_shown(rt: HostRuntime) -> Result<(), AllocError> {
     let alloc = rt.alloc();
-    assert_eq!(rt;
-        unfinished_body(alloc, &[])?.as_str(),
-        r#"{"unfinished":[]}"#
-    );
+    let body = unfinished_body(alloc, &[]);
+    reads(&rt, body, r#"{"unfinished":[]}"#, 17)?;
     let brief = Brief {
         id: 7,
         agent: Agent::house(),
         cursor: AT_ONE,
     };
+    let body = unfinished_body(alloc, &[brief]);
     let expected = r#"{"unfinished":[{"journey":7,"pos":1,"state":"back","target":0}]}"#;
-    assert_eq!(rt; unfinished_body(alloc, &[brief])?.as_str(), expected);
-    Ok(())
+    reads(&rt, body, expected, 64)
 }
 
 const NOT_ALLOWED: Denied = Denied {
@@ -306,45 +349,53 @@ const DENIED: [(bool, bool, Denied, &str); 4] = [
     (true,  false, TOO_LARGE,   "HTTP/1.1 413 Content Too Large\r\nContent-Length: 32\r\nContent-Type: application/json\r\nConnection: close\r\n\r\n{\"name\":\"TooLarge\",\"refused\":15}"),
 ];
 
+/// Stops the test where a page goes out otherwise.
+fn goes_out(
+    rt: &impl Abort,
+    alloc: Global,
+    page: Result<Page, AllocError>,
+    closes: bool,
+    is_head: bool,
+    expected: &str,
+) -> Result<(), AllocError> {
+    let bytes = page_bytes(alloc, &page?, closes, is_head)?;
+    holds(rt, expected, bytes.as_slice() == expected.as_bytes());
+    Ok(())
+}
+
 #[test]
-fn a_page_tells_its_status_its_fields_and_its_body(rt: HostRuntime) -> Result<(), Fail> {
-    let alloc = rt.alloc();
-    for (closes, is_head, denied, expected) in &DENIED {
-        let page = denied_page(alloc, denied)?;
-        let bytes = page_bytes(alloc, &page, *closes, *is_head)?;
-        assert_eq!(rt; bytes.as_slice(), expected.as_bytes());
+fn a_page_tells_its_status_its_fields_and_its_body(rt: HostRuntime) -> Result<(), AllocError> {
+    for &(closes, is_head, denied, expected) in &DENIED {
+        let page = denied_page(rt.alloc(), &denied);
+        goes_out(&rt, rt.alloc(), page, closes, is_head, expected)?;
     }
     Ok(())
 }
 
 #[test]
-fn what_is_shown_goes_out_whole(rt: HostRuntime) -> Result<(), Fail> {
+fn what_is_shown_goes_out_whole(rt: HostRuntime) -> Result<(), AllocError> {
     let alloc = rt.alloc();
-    let page = shown_page(Body::Json(unfinished_body(alloc, &[])?));
-    let bytes = page_bytes(alloc, &page, false, false)?;
+    let nothing = unfinished_body(alloc, &[])?;
+    let page = Ok(shown_page(Body::Json(nothing)));
     let expected =
         "HTTP/1.1 200 OK\r\nContent-Length: 17\r\nContent-Type: application/json\r\n\r\n{\"unfinished\":[]}";
-    assert_eq!(rt; bytes.as_slice(), expected.as_bytes());
+    goes_out(&rt, rt.alloc(), page, false, false, expected)?;
     let report = Vec::from_slice(alloc, b"cells 0\n".as_slice())?;
-    let bytes = page_bytes(alloc, &shown_page(Body::Text(report)), false, false)?;
+    let page = Ok(shown_page(Body::Text(report)));
     let expected =
         "HTTP/1.1 200 OK\r\nContent-Length: 8\r\nContent-Type: text/plain\r\n\r\ncells 0\n";
-    assert_eq!(rt; bytes.as_slice(), expected.as_bytes());
-    Ok(())
+    goes_out(&rt, rt.alloc(), page, false, false, expected)
 }
 
 #[test]
-fn a_reply_has_a_page(rt: HostRuntime) -> Result<(), Fail> {
+fn a_reply_has_a_page(rt: HostRuntime) -> Result<(), AllocError> {
     let alloc = rt.alloc();
-    let page = reply_page(alloc, &Reply::Begun { id: 1 })?;
-    let bytes = page_bytes(alloc, &page, true, false)?;
+    let page = reply_page(alloc, &Reply::Begun { id: 1 });
     let expected =
         "HTTP/1.1 200 OK\r\nContent-Length: 13\r\nContent-Type: application/json\r\nConnection: close\r\n\r\n{\"journey\":1}";
-    assert_eq!(rt; bytes.as_slice(), expected.as_bytes());
-    let page = reply_page(alloc, &Reply::Refused(Refusal::NoJourney))?;
-    let bytes = page_bytes(alloc, &page, false, false)?;
+    goes_out(&rt, rt.alloc(), page, true, false, expected)?;
+    let page = reply_page(alloc, &Reply::Refused(Refusal::NoJourney));
     let expected =
         "HTTP/1.1 404 Not Found\r\nContent-Length: 32\r\nContent-Type: application/json\r\n\r\n{\"name\":\"NoJourney\",\"refused\":9}";
-    assert_eq!(rt; bytes.as_slice(), expected.as_bytes());
-    Ok(())
+    goes_out(&rt, rt.alloc(), page, false, false, expected)
 }

@@ -21,6 +21,3 @@ pub use history_rows::{ItemRows, item_rows};
 pub use reads::{
     LARGEST, read_cells, read_first_unfinished, read_history, read_journey, read_stock,
 };
-
-#[cfg(test)]
-mod tests;

@@ -4,19 +4,34 @@ mod streams;
 use crate::{ReportFault, history_text, stock_text, unfinished_text};
 use allotment::{Cell, Held};
 use commands::{Agent, Cause, Cursor, Fault, Item, Phase};
-use plan::Plan;
+use plan::{Plan, PlanFault};
 use saga_core::{Brief, Listed, Record};
 use savepoints::Marks;
-use std::alloc::Global;
-use std::test::Fail;
+use std::alloc::{AllocError, Global};
+use std::process::Abort;
 use streams::{Failing, Sink};
+
+/// What a report answers: how many rows it tells.
+type Answer = Result<u64, ReportFault>;
+
+/// Stops the test where a report answered otherwise, or wrote something else.
+fn is_told(rt: &impl Abort, case: &str, answer: Answer, expected: Answer, out: &[u8], text: &[u8]) {
+    assert!(rt; answer == expected, "{case}: {answer:?}");
+    assert!(rt; out == text, "{case}");
+}
 
 /// More than all that a test writes.
 const ROOM: usize = 1000;
 
 const HEADING: &str = "kind     supplier product  night       allot   held   free\n";
 
-const FLIGHT_LINE: &str = "flight   AL       A1       2030-06-01     10      1      9\n";
+const FIRST_LINES: &str = "kind     supplier product  night       allot   held   free
+flight   AL       A1       2030-06-01     10      1      9
+";
+
+const NO_STOCK: &str = "kind     supplier product  night       allot   held   free
+cells 0
+";
 
 const STOCK: &str = "kind     supplier product  night       allot   held   free
 flight   AL       A1       2030-06-01     10      1      9
@@ -26,55 +41,79 @@ cover    CO       P        2030-06-30      0      0      0
 cells 4
 ";
 
-/// The four cells of that text.
-fn four_cells() -> Result<[(Cell, Held); 4], Fail> {
-    let flight = Cell::parse("F/AL/A1/2030-06-01").ok_or("flight")?;
-    let room = Cell::parse("R/INN/DBL/2000-01-01").ok_or("room")?;
-    let transfer = Cell::parse("T/ABCDEFGH/12345678/2099-12-31").ok_or("transfer")?;
-    let cover = Cell::parse("C/CO/P/2030-06-30").ok_or("cover")?;
-    Ok([
-        (flight, Held { allot: 10, free: 9 }),
-        (room, Held { allot: 1, free: 0 }),
-        (
-            transfer,
-            Held {
-                allot: 100_000,
-                free: 100_000,
-            },
-        ),
-        (cover, Held { allot: 0, free: 0 }),
-    ])
+/// The cell of this text.
+fn cell(rt: &impl Abort, text: &str) -> Cell {
+    match Cell::parse(text) {
+        Some(cell) => cell,
+        None => panic!(rt; "{text}"),
+    }
 }
 
-#[test]
-fn stock_is_shown_by_cell(rt: HostRuntime) -> Result<(), Fail> {
-    let alloc = rt.alloc();
-    let rows = four_cells()?;
-    for step in [ROOM, 1, 7] {
-        let mut sink = Sink::new(alloc, step, ROOM)?;
-        let count = stock_text(alloc, &mut Listed::new(&rows), &mut sink)?;
-        assert_eq!(rt; count, 4);
-        assert_eq!(rt; sink.taken(), STOCK.as_bytes(), "{step} at a time");
-    }
+/// The four cells of that text.
+fn four_cells(rt: &impl Abort) -> [(Cell, Held); 4] {
+    let flight = cell(rt, "F/AL/A1/2030-06-01");
+    let room = cell(rt, "R/INN/DBL/2000-01-01");
+    let transfer = cell(rt, "T/ABCDEFGH/12345678/2099-12-31");
+    let cover = cell(rt, "C/CO/P/2030-06-30");
+    let (allot, free) = (100_000, 100_000);
+    [
+        (flight, Held { allot: 10, free: 9 }),
+        (room, Held { allot: 1, free: 0 }),
+        (transfer, Held { allot, free }),
+        (cover, Held { allot: 0, free: 0 }),
+    ]
+}
+
+/// Stops the test where a writer that takes so many bytes at a time, and no more than it has room for,
+/// gets another report of these rows.
+fn is_written(
+    rt: &impl Abort,
+    alloc: Global,
+    rows: &[(Cell, Held)],
+    step: usize,
+    room: usize,
+    expected: Answer,
+    text: &[u8],
+) -> Result<(), AllocError> {
+    let mut sink = Sink::new(alloc, step, room)?;
+    let answer = stock_text(alloc, &mut Listed::new(rows), &mut sink);
+    assert!(rt;
+        answer == expected,
+        "{step} at a time, {room} in all: {answer:?}"
+    );
+    assert!(rt; sink.taken() == text, "{step} at a time, {room} in all");
     Ok(())
 }
 
 #[test]
-fn a_report_of_no_row_says_so(rt: HostRuntime) -> Result<(), Fail> {
+fn stock_is_shown_by_cell(rt: HostRuntime) -> Result<(), AllocError> {
+    let rows = four_cells(&rt);
+    let whole = STOCK.as_bytes();
+    is_written(&rt, rt.alloc(), &rows, ROOM, ROOM, Ok(4), whole)?;
+    is_written(&rt, rt.alloc(), &rows, 1, ROOM, Ok(4), whole)?;
+    is_written(&rt, rt.alloc(), &rows, 7, ROOM, Ok(4), whole)
+}
+
+#[test]
+fn a_report_of_no_row_says_so(rt: HostRuntime) {
     let alloc = rt.alloc();
     let mut stock = Vec::new(alloc);
     let cells: [(Cell, Held); 0] = [];
-    assert_eq!(rt; stock_text(alloc, &mut Listed::new(&cells), &mut stock)?, 0);
-    assert_eq!(rt; stock.len(), 67);
-    assert!(rt; stock.as_slice().starts_with(HEADING.as_bytes()));
-    assert!(rt; stock.as_slice().ends_with(b"cells 0\n"));
+    let answer = stock_text(alloc, &mut Listed::new(&cells), &mut stock);
+    is_told(&rt, "stock", answer, Ok(0), &stock, NO_STOCK.as_bytes());
+    assert!(rt; stock.len() == 67);
 
     let mut unfinished = Vec::new(alloc);
     let briefs: [Brief; 0] = [];
-    let count = unfinished_text(alloc, &mut Listed::new(&briefs), &mut unfinished)?;
-    assert_eq!(rt; count, 0);
-    assert_eq!(rt; unfinished.as_slice(), b"unfinished 0\n".as_slice());
-    Ok(())
+    let answer = unfinished_text(alloc, &mut Listed::new(&briefs), &mut unfinished);
+    is_told(
+        &rt,
+        "unfinished",
+        answer,
+        Ok(0),
+        &unfinished,
+        b"unfinished 0\n",
+    );
 }
 
 /// A journey at a position, in a phase.
@@ -99,29 +138,25 @@ const JOURNEYS: [(u64, &str, usize, Phase, &str); 4] = [
         "         120 ann              back 24 to 0\nunfinished 1\n"),
 ];
 
+/// The agent of this name.
+fn agent(rt: &impl Abort, name: &str) -> Agent {
+    match Agent::parse(name) {
+        Some(agent) => agent,
+        None => panic!(rt; "{name}"),
+    }
+}
+
 #[test]
-fn an_unfinished_journey_has_a_line(rt: HostRuntime) -> Result<(), Fail> {
+fn an_unfinished_journey_has_a_line(rt: HostRuntime) {
     let alloc = rt.alloc();
-    for (id, name, pos, phase, expected) in JOURNEYS {
-        let agent = Agent::parse(name).ok_or("agent")?;
+    for &(id, name, pos, phase, expected) in &JOURNEYS {
+        let agent = agent(&rt, name);
         let cursor = at(pos, phase);
         let rows = [Brief { id, agent, cursor }];
         let mut out = Vec::new(alloc);
-        let count = unfinished_text(alloc, &mut Listed::new(&rows), &mut out)?;
-        assert_eq!(rt; count, 1);
-        assert_eq!(rt; out.as_slice(), expected.as_bytes(), "{id}");
+        let answer = unfinished_text(alloc, &mut Listed::new(&rows), &mut out);
+        is_told(&rt, name, answer, Ok(1), &out, expected.as_bytes());
     }
-    Ok(())
-}
-
-/// A journey of the house without save-points, of this plan.
-fn journey(alloc: Global, plan: &str, cursor: Cursor) -> Result<Record, Fail> {
-    Ok(Record {
-        agent: Agent::house(),
-        plan: Plan::from_line(alloc, plan)?,
-        cursor,
-        marks: Marks::none(),
-    })
 }
 
 const STOPPED: &str = "journey 1 agent desk
@@ -142,37 +177,46 @@ items
 state run 0
 ";
 
+const STOP: Item = Item::Turn {
+    target: 0,
+    cause: Cause::Stop,
+};
+
+const DONE: Item = Item::Transaction { step: 1, option: 1 };
+
+const TAKEN_BACK: Item = Item::Compensation { step: 1, option: 1 };
+
+const ONE_STEP: &str = "F/AL/A1/2030-06-01/1/1!0";
+
+const TWO_STEPS: &str = "R/INN/X/2030-06-01/1/1;T/BUS/Y/2030-06-01/1/1!0";
+
+// the journeys: their plans, where they are, their items, how many these are, and the report
+#[rattlefmt::skip]
+const HISTORIES: [(u64, &str, Phase, &[Item], u64, &str); 3] = [
+    (1, ONE_STEP,  Phase::Undone, &[STOP],                   1, STOPPED),
+    (2, TWO_STEPS, Phase::Undone, &[DONE, STOP, TAKEN_BACK], 3, REFUSED),
+    (3, ONE_STEP,  Phase::Run,    &[],                       0, NEW),
+];
+
+/// A journey of the house without save-points, of this plan, at 0.
+fn journey(alloc: Global, plan: &str, phase: Phase) -> Result<Record, PlanFault> {
+    Ok(Record {
+        agent: Agent::house(),
+        plan: Plan::from_line(alloc, plan)?,
+        cursor: at(0, phase),
+        marks: Marks::none(),
+    })
+}
+
 #[test]
-fn a_history_tells_the_items_in_one_line(rt: HostRuntime) -> Result<(), Fail> {
+fn a_history_tells_the_items_in_one_line(rt: HostRuntime) -> Result<(), PlanFault> {
     let alloc = rt.alloc();
-    let stop = Item::Turn {
-        target: 0,
-        cause: Cause::Stop,
-    };
-    let (step, option) = (1, 1);
-    let done = Item::Transaction { step, option };
-    let taken_back = Item::Compensation { step, option };
-
-    let one = journey(alloc, "F/AL/A1/2030-06-01/1/1!0", at(0, Phase::Undone))?;
-    let mut out = Vec::new(alloc);
-    let count = history_text(alloc, 1, &one, &mut Listed::new(&[stop]), &mut out)?;
-    assert_eq!(rt; count, 1);
-    assert_eq!(rt; out.as_slice(), STOPPED.as_bytes());
-
-    let plan = "R/INN/X/2030-06-01/1/1;T/BUS/Y/2030-06-01/1/1!0";
-    let two = journey(alloc, plan, at(0, Phase::Undone))?;
-    let items = [done, stop, taken_back];
-    let mut out = Vec::new(alloc);
-    let count = history_text(alloc, 2, &two, &mut Listed::new(&items), &mut out)?;
-    assert_eq!(rt; count, 3);
-    assert_eq!(rt; out.as_slice(), REFUSED.as_bytes());
-
-    let three = journey(alloc, "F/AL/A1/2030-06-01/1/1!0", at(0, Phase::Run))?;
-    let none: [Item; 0] = [];
-    let mut out = Vec::new(alloc);
-    let count = history_text(alloc, 3, &three, &mut Listed::new(&none), &mut out)?;
-    assert_eq!(rt; count, 0);
-    assert_eq!(rt; out.as_slice(), NEW.as_bytes());
+    for &(id, plan, phase, items, count, expected) in &HISTORIES {
+        let record = journey(alloc, plan, phase)?;
+        let mut out = Vec::new(alloc);
+        let answer = history_text(alloc, id, &record, &mut Listed::new(items), &mut out);
+        is_told(&rt, expected, answer, Ok(count), &out, expected.as_bytes());
+    }
     Ok(())
 }
 
@@ -182,35 +226,36 @@ const FAULTS: [(Fault, ReportFault); 2] = [
     (Fault::Memory, ReportFault::Memory),
 ];
 
-#[test]
-fn a_source_that_fails_ends_the_report_between_rows(rt: HostRuntime) -> Result<(), Fail> {
-    let alloc = rt.alloc();
-    let rows = four_cells()?;
-    let expected = format!(in alloc; "{HEADING}{FLIGHT_LINE}")?;
-    for (fault, told) in FAULTS {
-        let mut out = Vec::new(alloc);
-        let answer = stock_text(alloc, &mut Failing::new(&rows[..1], fault), &mut out);
-        assert_eq!(rt; answer, Err(told));
-        assert_eq!(rt; out.as_slice(), expected.as_bytes());
-
-        let mut out = Vec::new(alloc);
-        let answer = stock_text(alloc, &mut Failing::new(&rows[..0], fault), &mut out);
-        assert_eq!(rt; answer, Err(told));
-        assert_eq!(rt; out.as_slice(), HEADING.as_bytes());
-    }
-    Ok(())
+/// Stops the test where a source that has these rows, and then this fault, has another report.
+fn is_cut(
+    rt: &impl Abort,
+    alloc: Global,
+    rows: &[(Cell, Held)],
+    fault: Fault,
+    told: ReportFault,
+    text: &str,
+) {
+    let mut out = Vec::new(alloc);
+    let answer = stock_text(alloc, &mut Failing::new(rows, fault), &mut out);
+    is_told(rt, text, answer, Err(told), &out, text.as_bytes());
 }
 
 #[test]
-fn a_writer_that_fails_has_a_beginning(rt: HostRuntime) -> Result<(), Fail> {
-    let alloc = rt.alloc();
-    let rows = four_cells()?;
+fn a_source_that_fails_ends_the_report_between_rows(rt: HostRuntime) {
+    let rows = four_cells(&rt);
+    for &(fault, told) in &FAULTS {
+        is_cut(&rt, rt.alloc(), &rows[..1], fault, told, FIRST_LINES);
+        is_cut(&rt, rt.alloc(), &rows[..0], fault, told, HEADING);
+    }
+}
+
+#[test]
+fn a_writer_that_fails_has_a_beginning(rt: HostRuntime) -> Result<(), AllocError> {
+    let rows = four_cells(&rt);
     let whole = STOCK.as_bytes();
     for room in 0..whole.len() {
-        let mut sink = Sink::new(alloc, 3, room)?;
-        let answer = stock_text(alloc, &mut Listed::new(&rows), &mut sink);
-        assert_eq!(rt; answer, Err(ReportFault::Write), "{room}");
-        assert_eq!(rt; sink.taken(), &whole[..room], "{room}");
+        let told = Err(ReportFault::Write);
+        is_written(&rt, rt.alloc(), &rows, 3, room, told, &whole[..room])?;
     }
     Ok(())
 }

@@ -1,5 +1,5 @@
 //! What the rules mean, by tables. Plans are told by their lines, of which the tries stand apart.
-ghost use Rattle.std.specs.Prelude.{◌<◌, IfSome, IsTrue};
+ghost use Rattle.std.specs.Prelude.{◌≡◌, ◌<◌, IfSome, IsTrue};
 
 use crate::marks::Marks;
 use crate::options::option_at;
@@ -8,7 +8,6 @@ use crate::turns::{NoSavePoint, Turn, target};
 use plan::Plan;
 use std::alloc::Global;
 use std::process::Abort;
-use std::test::Fail;
 
 // six steps, of which the second and the fourth are marked
 const SIX: &str = "F/AL/A1/2030-06-01/1/1;F/AL/A2/2030-06-01/1/1*;F/AL/A3/2030-06-01/1/1;\
@@ -26,9 +25,23 @@ const EIGHT: &str = "F/AL/A1/2030-06-01/1/1|F/AL/A2/2030-06-01/1/1|F/AL/A3/2030-
     F/AL/A4/2030-06-01/1/1|F/AL/A5/2030-06-01/1/1|F/AL/A6/2030-06-01/1/1|\
     F/AL/A7/2030-06-01/1/1|F/AL/A8/2030-06-01/1/1";
 
-fn plan_of(alloc: Global, steps: &str, tries: u8) -> Result<Plan, Fail> {
-    let line = format!(in alloc; "{steps}!{tries}")?;
-    Ok(Plan::from_line(alloc, &line)?)
+// stops the test where this is not so
+fn holds(rt: &impl Abort, case: &str, is_so: bool)
+    ensures { IsTrue is_so }
+{
+    assert!(rt; is_so, "{case}");
+}
+
+// stops the test where another number was found
+fn counts(rt: &impl Abort, case: &str, found: usize, expected: usize)
+    ensures { found ≡ expected }
+{
+    assert_eq!(rt; found, expected, "{case}");
+}
+
+fn plan_of(rt: &impl Abort, alloc: Global, steps: &str, tries: u8) -> Plan {
+    let line = format!(in alloc; "{steps}!{tries}").expect(rt, "a line");
+    Plan::from_line(alloc, &line).expect(rt, "a plan")
 }
 
 fn marks_of(rt: &impl Abort, taken: &[usize]) -> Marks {
@@ -54,15 +67,15 @@ const CUTS: [(&str, &[usize], usize, &[usize]); 7] = [
 
 #[test]
 fn save_points_above_a_position_are_dropped(rt: HostRuntime) {
-    for (case, taken, pos, left) in CUTS {
+    for &(case, taken, pos, left) in &CUTS {
         let marks = marks_of(&rt, taken);
         let mut rest = marks;
         rest.cut(pos);
         for p in 0..30 {
-            assert_eq!(rt; marks.has(p), taken.contains(&p), "{case}: {p} before");
-            assert_eq!(rt; rest.has(p), left.contains(&p), "{case}: {p} after");
+            holds(&rt, case, marks.has(p) == taken.contains(&p));
+            holds(&rt, case, rest.has(p) == left.contains(&p));
         }
-        assert_eq!(rt; rest, marks_of(&rt, left), "{case}");
+        holds(&rt, case, rest == marks_of(&rt, left));
     }
 }
 
@@ -88,38 +101,28 @@ const LAST: [(&str, &str, usize, &[usize], usize); 10] = [
 ];
 
 #[test]
-fn the_last_save_point_is_the_greatest(rt: HostRuntime) -> Result<(), Fail> {
-    for (case, steps, pos, taken, last) in LAST {
-        let plan = plan_of(rt.alloc(), steps, 0)?;
+fn the_last_save_point_is_the_greatest(rt: HostRuntime) {
+    for &(case, steps, pos, taken, last) in &LAST {
+        let plan = plan_of(&rt, rt.alloc(), steps, 0);
         let marks = marks_of(&rt, taken);
-        assert!(rt; pos <= plan.steps(), "{case}");
-        assert_eq!(rt; last_save(&plan, &marks, pos), last, "{case}");
-        assert_eq!(rt; is_save_point(&plan, &marks, pos, last), last > 0, "{case}");
-        assert!(rt; !is_save_point(&plan, &marks, pos, last + 1), "{case}");
+        holds(&rt, case, pos <= plan.steps());
+        counts(&rt, case, last_save(&plan, &marks, pos), last);
+        let stands = is_save_point(&plan, &marks, pos, last);
+        holds(&rt, case, stands == (last > 0));
+        holds(&rt, case, !is_save_point(&plan, &marks, pos, last + 1));
     }
-    Ok(())
 }
 
 #[test]
-fn the_longest_plan_may_have_a_save_point_after_each_step_but_the_last(
-    rt: HostRuntime,
-) -> Result<(), Fail> {
-    let alloc = rt.alloc();
-    let mut steps = String::new(alloc);
-    for _ in 1..24 {
-        steps.push_str("F/AL/A1/2030-06-01/1/1*;")?;
-    }
-    steps.push_str("F/AL/A1/2030-06-01/1/1")?;
-    let plan = plan_of(alloc, &steps, 9)?;
-    assert_eq!(rt; plan.steps(), 24);
+fn the_longest_plan_may_have_a_save_point_after_each_step_but_the_last(rt: HostRuntime) {
+    let step = "F/AL/A1/2030-06-01/1/1";
+    let steps = [step; 24].join(rt.alloc(), "*;").expect(&rt, "24 steps");
+    let plan = plan_of(&rt, rt.alloc(), &steps, 9);
+    counts(&rt, "24 steps", plan.steps(), 24);
     for pos in 0..25 {
-        assert_eq!(rt;
-            last_save(&plan, &Marks::none(), pos),
-            pos.min(23),
-            "at {pos}"
-        );
+        let last = last_save(&plan, &Marks::none(), pos);
+        counts(&rt, "at each position", last, pos.min(23));
     }
-    Ok(())
 }
 
 // the step, how many steps were refused, and the option that is tried
@@ -136,13 +139,12 @@ const OPTIONS: [(&str, &str, usize, usize, usize); 8] = [
 ];
 
 #[test]
-fn options_are_tried_in_order(rt: HostRuntime) -> Result<(), Fail> {
-    for (case, steps, step, used, option) in OPTIONS {
-        let plan = plan_of(rt.alloc(), steps, 0)?;
-        assert!(rt; 1 <= step && step <= plan.steps(), "{case}");
-        assert_eq!(rt; option_at(&plan, step, used), option, "{case}");
+fn options_are_tried_in_order(rt: HostRuntime) {
+    for &(case, steps, step, used, option) in &OPTIONS {
+        let plan = plan_of(&rt, rt.alloc(), steps, 0);
+        holds(&rt, case, 1 <= step && step <= plan.steps());
+        counts(&rt, case, option_at(&plan, step, used), option);
     }
-    Ok(())
 }
 
 // the tries of the plan with a marked step, how many steps were refused, and where the next refused turn leads
@@ -159,16 +161,13 @@ const REFUSED: [(&str, u8, usize, usize); 8] = [
 ];
 
 #[test]
-fn a_refused_turn_leads_to_the_start_once_the_tries_are_used_up(
-    rt: HostRuntime,
-) -> Result<(), Fail> {
-    for (case, tries, used, expected) in REFUSED {
-        let plan = plan_of(rt.alloc(), ROOMS, tries)?;
-        assert!(rt; 1 < plan.steps(), "{case}");
+fn a_refused_turn_leads_to_the_start_once_the_tries_are_used_up(rt: HostRuntime) {
+    for &(case, tries, used, expected) in &REFUSED {
+        let plan = plan_of(&rt, rt.alloc(), ROOMS, tries);
+        holds(&rt, case, 1 < plan.steps());
         let found = target(&plan, &Marks::none(), 1, used, Turn::Refused, None);
-        assert_eq!(rt; found, Ok(expected), "{case}");
+        holds(&rt, case, found == Ok(expected));
     }
-    Ok(())
 }
 
 // the plan, the position, the save-points that are taken, the turn, where the journey is going, and where it turns
@@ -209,13 +208,13 @@ fn is_above(pos: usize, going: Option<usize>) -> bool
 }
 
 #[test]
-fn turns_lead_down_to_save_points_alone(rt: HostRuntime) -> Result<(), Fail> {
-    for (case, steps, pos, taken, turn, going, expected) in TURNS {
-        let plan = plan_of(rt.alloc(), steps, 0)?;
+fn turns_lead_down_to_save_points_alone(rt: HostRuntime) {
+    for &(case, steps, pos, taken, turn, going, expected) in &TURNS {
+        let plan = plan_of(&rt, rt.alloc(), steps, 0);
         let marks = marks_of(&rt, taken);
-        assert!(rt; pos < plan.steps() && is_above(pos, going), "{case}");
+        holds(&rt, case, pos < plan.steps());
+        holds(&rt, case, is_above(pos, going));
         let found = target(&plan, &marks, pos, 0, turn, going);
-        assert_eq!(rt; found, expected.ok_or(NoSavePoint), "{case}");
+        holds(&rt, case, found == expected.ok_or(NoSavePoint));
     }
-    Ok(())
 }

@@ -21,6 +21,3 @@ mod stepping;
 pub use books::TableBook;
 pub use faults::OpenFault;
 pub use opening::{Opened, open_from};
-
-#[cfg(test)]
-mod tests;

@@ -21,6 +21,3 @@ pub use events::{BatchLoaded, Event, Keeping, Numbers, SaveMade, StepMade, TurnM
 pub use journeys::{write_compensation, write_save, write_transaction, write_turn};
 pub use loads::write_load;
 pub use writes::write_event;
-
-#[cfg(test)]
-mod tests;

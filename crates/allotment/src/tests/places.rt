@@ -1,6 +1,7 @@
 //! Places: what stays held, what is taken and given back, and which wants fit.
+use super::holds;
 use crate::{BelowHeld, Held, Kind, Night, Want, fits, give, set, take};
-use std::test::Fail;
+use std::alloc::{AllocError, Global};
 
 // places allotted and free; how many are asked for; what is free then, or that it is below what is held
 #[rattlefmt::skip]
@@ -18,19 +19,15 @@ const SETS: [(&str, u32, u32, u32, Option<u32>); 9] = [
 
 #[test]
 fn places_that_are_held_stay_held(rt: HostRuntime) {
-    for (case, allot, free, places, expected) in SETS {
-        let held = Held { allot, free };
-        let told = set(held, places);
-        match expected {
-            Some(free) => assert_eq!(rt;
-                told,
-                Ok(Held {
-                    allot: places,
-                    free
-                }),
-                "{case}"
-            ),
-            None => assert_eq!(rt; told, Err(BelowHeld), "{case}"),
+    for &(case, allot, free, places, expected) in &SETS {
+        holds(&rt, case, free <= allot && allot <= 100_000);
+        holds(&rt, case, places <= 100_000);
+        match set(Held { allot, free }, places) {
+            Ok(held) => {
+                holds(&rt, case, held.allot == places);
+                holds(&rt, case, Some(held.free) == expected);
+            }
+            Err(BelowHeld) => holds(&rt, case, expected.is_none()),
         }
     }
 }
@@ -38,17 +35,16 @@ fn places_that_are_held_stay_held(rt: HostRuntime) {
 #[test]
 fn what_is_taken_can_be_given_back(rt: HostRuntime) {
     let held = Held { allot: 10, free: 3 };
-    assert_eq!(rt; held.held(), 7);
-    assert_eq!(rt; take(held, 3), Held { allot: 10, free: 0 });
-    assert_eq!(rt; take(held, 0), held);
-    assert_eq!(rt; give(take(held, 2), 2), held);
-    assert_eq!(rt;
-        give(held, 7),
-        Held {
-            allot: 10,
-            free: 10
-        }
-    );
+    let none_free = Held { allot: 10, free: 0 };
+    let all_free = Held {
+        allot: 10,
+        free: 10,
+    };
+    holds(&rt, "seven are held", held.held() == 7);
+    holds(&rt, "the last three", take(held, 3) == none_free);
+    holds(&rt, "none is taken", take(held, 0) == held);
+    holds(&rt, "two come back", give(take(held, 2), 2) == held);
+    holds(&rt, "all come back", give(held, 7) == all_free);
 }
 
 // the free places of two nights, as many as the want has, from the first on; whether it fits
@@ -63,23 +59,25 @@ const FITS: [(&str, &[(u32, u32)], bool); 7] = [
     ("there is no night",       &[],                                     false),
 ];
 
-#[test]
-fn a_want_fits_where_each_night_has_room(rt: HostRuntime) -> Result<(), Fail> {
-    let want = Want::new(Kind::Room, "INN", "DBL", "2030-06-01", 2, 2).expect(&rt, "a want");
-    for (case, free_places, expected) in FITS {
-        let mut rows = Vec::new(rt.alloc());
-        for (day, free) in free_places {
-            if let (Some(night), true) = (Night::from_day(*day), *free <= 10) {
-                rows.push((
-                    night,
-                    Held {
-                        allot: 10,
-                        free: *free,
-                    },
-                ))?;
-            }
+// the nights of these days, each with ten places
+fn rows_of(alloc: Global, free_places: &[(u32, u32)]) -> Result<Vec<(Night, Held)>, AllocError> {
+    let mut rows = Vec::new(alloc);
+    for &(day, free) in free_places {
+        if let Some(night) = Night::from_day(day)
+            && free <= 10
+        {
+            rows.push((night, Held { allot: 10, free }))?;
         }
-        assert_eq!(rt; fits(&rows, &want), expected, "{case}");
     }
-    Ok(())
+    Ok(rows)
+}
+
+#[test]
+fn a_want_fits_where_each_night_has_room(rt: HostRuntime) {
+    let want = Want::new(Kind::Room, "INN", "DBL", "2030-06-01", 2, 2).expect(&rt, "a want");
+    for &(case, free_places, expected) in &FITS {
+        let rows = rows_of(rt.alloc(), free_places).expect(&rt, case);
+        holds(&rt, case, rows.len() == free_places.len());
+        holds(&rt, case, fits(&rows, &want) == expected);
+    }
 }

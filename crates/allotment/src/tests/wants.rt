@@ -1,6 +1,7 @@
 //! Wants: their limits, the order of their faults, and their cells.
+use super::{holds, is_written, reads};
 use crate::{Bad, Kind, Night, Want, WantCells};
-use std::test::Fail;
+use std::alloc::{AllocError, Global};
 
 // the parts of a want, and its text
 #[rattlefmt::skip]
@@ -16,18 +17,17 @@ const WANTS: [(Kind, &str, &str, &str, u64, u64, &str); 8] = [
 ];
 
 #[test]
-fn a_want_is_written_as_its_parts(rt: HostRuntime) -> Result<(), Fail> {
-    for (kind, supplier, product, first, nights, count, text) in WANTS {
-        let want = Want::new(kind, supplier, product, first, nights, count).expect(&rt, "a want");
-        assert_eq!(rt; want.text(rt.alloc())?.as_str(), text);
-        assert_eq!(rt; want.kind(), kind);
-        assert_eq!(rt; want.supplier().as_str(), supplier);
-        assert_eq!(rt; want.product().as_str(), product);
-        assert_eq!(rt; Night::parse(first), Ok(want.first()));
-        assert_eq!(rt; u64::from(want.nights()), nights);
-        assert_eq!(rt; u64::from(want.count()), count);
+fn a_want_is_written_as_its_parts(rt: HostRuntime) {
+    for &(kind, supplier, product, first, nights, count, text) in &WANTS {
+        let want = Want::new(kind, supplier, product, first, nights, count).expect(&rt, text);
+        is_written(&rt, text, want.text(rt.alloc()), text);
+        holds(&rt, text, want.kind() == kind);
+        reads(&rt, text, want.supplier().as_str(), supplier);
+        reads(&rt, text, want.product().as_str(), product);
+        holds(&rt, text, Night::parse(first) == Ok(want.first()));
+        holds(&rt, text, u64::from(want.nights()) == nights);
+        holds(&rt, text, u64::from(want.count()) == count);
     }
-    Ok(())
 }
 
 // the parts of no want, and the first fault
@@ -63,9 +63,9 @@ const NO_WANTS: [(&str, Kind, &str, &str, &str, u64, u64, Bad); 26] = [
 
 #[test]
 fn the_first_fault_of_a_want_is_told(rt: HostRuntime) {
-    for (case, kind, supplier, product, first, nights, count, fault) in NO_WANTS {
+    for &(case, kind, supplier, product, first, nights, count, fault) in &NO_WANTS {
         let told = Want::new(kind, supplier, product, first, nights, count).err();
-        assert_eq!(rt; told, Some(fault), "{case}");
+        holds(&rt, case, told == Some(fault));
     }
 }
 
@@ -80,21 +80,27 @@ const RUNS: [(&str, u64, &str); 6] = [
     ("2099-12-30", 2, "2099-12-30 2099-12-31 "),
 ];
 
-#[test]
-fn the_cells_of_a_want_rise_by_a_night(rt: HostRuntime) -> Result<(), Fail> {
-    for (first, nights, expected) in RUNS {
-        let want = Want::new(Kind::Room, "INN", "DBL", first, nights, 1).expect(&rt, "a want");
-        let mut told = String::new(rt.alloc());
-        for cell in want.cells() {
-            assert_eq!(rt; cell.kind(), Kind::Room, "{first}");
-            assert!(rt; cell.supplier() == want.supplier(), "{first}");
-            assert!(rt; cell.product() == want.product(), "{first}");
-            told.push_str(cell.night().text(rt.alloc())?.as_str())?;
-            told.push_str(" ")?;
-        }
-        assert_eq!(rt; told.as_str(), expected, "{first}");
+// the nights of the cells of a want, each with a blank behind it
+fn nights_of(alloc: Global, want: &Want) -> Result<String, AllocError> {
+    let mut told = String::new(alloc);
+    for cell in want.cells() {
+        told.push_str(cell.night().text(alloc)?.as_str())?;
+        told.push_str(" ")?;
     }
-    Ok(())
+    Ok(told)
+}
+
+#[test]
+fn the_cells_of_a_want_rise_by_a_night(rt: HostRuntime) {
+    for &(first, nights, expected) in &RUNS {
+        let want = Want::new(Kind::Room, "INN", "DBL", first, nights, 1).expect(&rt, first);
+        for cell in want.cells() {
+            holds(&rt, first, cell.kind() == Kind::Room);
+            holds(&rt, first, cell.supplier() == want.supplier());
+            holds(&rt, first, cell.product() == want.product());
+        }
+        is_written(&rt, first, nights_of(rt.alloc(), &want), expected);
+    }
 }
 
 // the kind, the most nights of it, how many cells they are
@@ -108,12 +114,12 @@ const MOST: [(Kind, u64, usize); 4] = [
 
 #[test]
 fn a_want_has_a_cell_for_each_of_the_most_nights(rt: HostRuntime) {
-    for (kind, nights, cells) in MOST {
+    for &(kind, nights, cells) in &MOST {
         let want = Want::new(kind, "INN", "DBL", "2030-06-01", nights, 1).expect(&rt, "a want");
         let mut counted = 0usize;
         for _cell in WantCells::new(&want) {
             counted = counted.wrapping_add(1);
         }
-        assert_eq!(rt; counted, cells, "{nights} nights");
+        holds(&rt, kind.word(), counted == cells);
     }
 }

@@ -31,6 +31,16 @@ impl<'a> Pieces<'a> {
             is_interrupted: false,
         }
     }
+
+    /// How many bytes are left.
+    pub(super) fn len(&self) -> usize {
+        self.left.len()
+    }
+
+    /// How many bytes a read gives, at most.
+    pub(super) fn step(&self) -> usize {
+        self.step
+    }
 }
 
 impl<'a> Read for Pieces<'a> {

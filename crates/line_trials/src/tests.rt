@@ -1,0 +1,6 @@
+mod desks;
+mod ends;
+mod forms;
+mod jobs;
+mod runs;
+mod streams;

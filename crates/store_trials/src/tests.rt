@@ -1,0 +1,9 @@
+mod asking;
+mod asks;
+mod begins;
+mod faults;
+mod files;
+mod helping;
+mod moves;
+mod opening;
+mod stops;

@@ -1,0 +1,277 @@
+//! Stores that fail from some call on and are opened again: what was answered stands, what was under way wholly or not.
+ghost use Rattle.std.specs.Prelude.{◌≡◌, false, None, IsTrue, IfOk};
+ghost use Rattle.sqlite_disk.specs.Memory.{memory_is_usable};
+
+use crate::tests::files::ClosedFile;
+use crate::tests::helping::{
+    ANN, Asking, PLAN, begin, book_over, counts, disk_of, holds, opened, over_files, told,
+};
+use commands::{Command, Fault, Reply};
+use desk_sql::read_meta;
+use saga_core::Book;
+use sqlite::{Alter, Connection, Files, Options};
+use sqlite_disk::{Crash, Disk, Fuse, Memory};
+use std::alloc::Global;
+use std::io;
+use std::process::Abort;
+use std::test::Fail;
+use tables::{TableBook, open_from};
+
+/// A journey that is begun, by its number: by the house, or by an agent under a key.
+type Turn = (u64, Option<Asking<'static>>);
+
+#[rattlefmt::skip]
+const TURNS: [Turn; 4] = [
+    (1, None),
+    (2, Some(ANN)),
+    (3, Some(("ann", "k2", "begin"))),
+    (4, Some(("bob", "k1", "begin"))),
+];
+
+// how many rows stand for so many journeys: of journeys, of steps, and of kept replies
+const JOURNEYS: &str = "SELECT count(*) FROM journey";
+
+const STEPS: &str = "SELECT count(*) FROM step";
+
+const REPLIES: &str = "SELECT count(*) FROM answer";
+
+#[rattlefmt::skip]
+const ROWS: [[(&str, i64); 3]; 5] = [
+    [(JOURNEYS, 0), (STEPS, 0),  (REPLIES, 0)],
+    [(JOURNEYS, 1), (STEPS, 3),  (REPLIES, 0)],
+    [(JOURNEYS, 2), (STEPS, 6),  (REPLIES, 1)],
+    [(JOURNEYS, 3), (STEPS, 9),  (REPLIES, 2)],
+    [(JOURNEYS, 4), (STEPS, 12), (REPLIES, 3)],
+];
+
+// more calls than any run here makes of one disk
+const MOST_CALLS: u64 = 1_000;
+
+/// A disk after the program has ended: it has what was written, or after a crash of the machine only what was synced.
+fn left_of(alloc: Global, mut disk: Fuse<Memory>, crashes: bool) -> io::Result<Memory>
+    ensures { IfOk result (λ m. IsTrue (memory_is_usable m)) }
+{
+    if crashes {
+        disk.crash();
+    }
+    disk_of(alloc, disk.inner().bytes())
+}
+
+fn has_blown<D: Disk>(disk: &mut D) -> bool {
+    !disk.may_be_used() || disk.len().is_err()
+}
+
+/// What the house or an agent is answered.
+fn answered<S: Alter>(
+    alloc: Global,
+    book: &mut TableBook<S>,
+    command: &Command,
+    asking: Option<Asking<'_>>,
+) -> Result<Reply, Fault> {
+    match asking {
+        Some(asking) => told(alloc, book, command, asking),
+        None => book.act(command, None),
+    }
+}
+
+/// Begins journeys; the last that was answered. Once the store has failed, nothing is answered any more.
+fn begin_in<S: Alter>(
+    rt: &impl Abort,
+    alloc: Global,
+    book: &mut TableBook<S>,
+    command: &Command,
+    turns: &[Turn],
+) -> Option<u64> {
+    let mut last = None;
+    let mut failed = false;
+    for &(id, asking) in turns {
+        match answered(alloc, book, command, asking) {
+            Ok(reply) => {
+                holds(rt, "no answer after a fault", !failed);
+                holds(rt, "the next journey", reply == Reply::Begun { id });
+                last = Some(id);
+            }
+            Err(fault) => {
+                holds(rt, "a fault of the store", fault == Fault::Store);
+                failed = true;
+            }
+        }
+    }
+    last
+}
+
+/// Opens the store and begins journeys; the last that was answered, and the files as they were left.
+fn begin_some(
+    rt: &impl Abort,
+    alloc: Global,
+    files: Files<Fuse<Memory>>,
+    command: &Command,
+    turns: &[Turn],
+) -> Result<(Option<u64>, Files<Fuse<Memory>>), Fail> {
+    if !files.log.may_be_used() || !files.db.may_be_used() {
+        return Ok((None, files));
+    }
+    let conn = match Connection::open_files(alloc, files, Options::new(1)) {
+        Ok(conn) => conn,
+        Err((_, left)) => return Ok((None, left.into_files())),
+    };
+    let opened = match open_from(conn) {
+        Ok(opened) => opened,
+        Err((conn, _)) => return Ok((None, conn.into_store().close())),
+    };
+    let mut book = match opened.into_book(alloc) {
+        Ok(book) => book,
+        Err(_) => return Err(Fail::from("no book is made")),
+    };
+    let last = begin_in(rt, alloc, &mut book, command, turns);
+    Ok((last, book.into_store().into_store().close()))
+}
+
+/// Where a disk fails from some call on, and whether the machine or the program ends then.
+#[derive(Drop)]
+struct Stop {
+    log_calls: u64,
+    db_calls: u64,
+    crashes: bool,
+}
+
+/// The rows of so many journeys are there, and no others.
+fn check_rows<S: Alter>(
+    rt: &impl Abort,
+    conn: &mut Connection<S>,
+    journeys: u64,
+) -> Result<(), Fail> {
+    let rows = ROWS.get(journeys as usize).ok_or("rows")?;
+    counts(rt, conn, rows)
+}
+
+/// Who asks again gets the reply that was kept, and all others begin the journeys that are still to come.
+fn check_replies<S: Alter + Drop>(
+    rt: &impl Abort,
+    alloc: Global,
+    conn: Connection<S>,
+    command: &Command,
+    journeys: u64,
+) -> Result<(), Fail>
+    requires outside { conn.in_transaction ≡ false }
+    requires unlimited { conn.step_limit ≡ None }
+{
+    let mut book = book_over(alloc, conn)?;
+    for &(id, asking) in &TURNS {
+        if asking.is_some() || id > journeys {
+            let reply = answered(alloc, &mut book, command, asking)?;
+            holds(rt, "the journey of this turn", reply == Reply::Begun { id });
+        }
+    }
+    check_rows(rt, &mut book.into_store(), 4)
+}
+
+/// What has to stand after a stop, where so many journeys were answered: those, or one more, which was under way.
+fn check_left(
+    rt: &impl Abort,
+    alloc: Global,
+    left: Files<Memory>,
+    command: &Command,
+    answered: u64,
+) -> Result<(), Fail>
+    requires log { IsTrue (memory_is_usable left.log) }
+    requires db { IsTrue (memory_is_usable left.db) }
+{
+    let mut conn = opened(alloc, over_files(alloc, left)?)?;
+    let found = read_meta(&mut conn)?;
+    holds(
+        rt,
+        "an event a journey",
+        found.version == 2 && found.events == found.journeys,
+    );
+    let more = found.journeys.checked_sub(answered);
+    holds(rt, "what stands", matches!(more, Some(0 | 1)));
+    check_rows(rt, &mut conn, found.journeys)?;
+    conn.set_step_limit(None);
+    holds(rt, "no transaction", conn.is_autocommit());
+    check_replies(rt, alloc, conn, command, found.journeys)
+}
+
+/// One run over disks with this database, stopped and opened again; whether a call failed.
+fn stop_once(
+    rt: &impl Abort,
+    alloc: Global,
+    bytes: &[u8],
+    begun: u64,
+    command: &Command,
+    stop: &Stop,
+) -> Result<bool, Fail> {
+    let log = Fuse::new(Memory::new(alloc), stop.log_calls);
+    let db = Fuse::new(disk_of(alloc, bytes)?, stop.db_calls);
+    let turns = TURNS.get(begun as usize..).ok_or("turns")?;
+    let (last, files) = begin_some(rt, alloc, Files { log, db }, command, turns)?;
+    let Files { mut log, mut db } = files;
+    let met = has_blown(&mut log) || has_blown(&mut db);
+    holds(
+        rt,
+        "all is answered, or a call failed",
+        met || last == Some(4),
+    );
+    let left = Files {
+        log: left_of(alloc, log, stop.crashes)?,
+        db: left_of(alloc, db, stop.crashes)?,
+    };
+    check_left(rt, alloc, left, command, last.unwrap_or(begun))?;
+    Ok(met)
+}
+
+/// Each call of one disk fails in turn, until a run ends without meeting the fault.
+fn stop_at_each_call_of(
+    rt: &impl Abort,
+    alloc: Global,
+    bytes: &[u8],
+    begun: u64,
+    in_log: bool,
+    crashes: bool,
+) -> Result<(), Fail> {
+    let command = begin(alloc, PLAN)?;
+    let mut met = true;
+    for calls in 0..MOST_CALLS {
+        let stop = Stop {
+            log_calls: if in_log { calls } else { u64::MAX },
+            db_calls: if in_log { u64::MAX } else { calls },
+            crashes,
+        };
+        met = stop_once(rt, alloc, bytes, begun, &command, &stop)?;
+        if !met {
+            break;
+        }
+    }
+    holds(rt, "a run without a fault", !met);
+    Ok(())
+}
+
+/// The same for each disk, where the program ends and where the machine crashes.
+fn stop_at_each_call(rt: &impl Abort, alloc: Global, bytes: &[u8], begun: u64) -> Result<(), Fail> {
+    for &(in_log, crashes) in &[(false, false), (false, true), (true, false), (true, true)] {
+        stop_at_each_call_of(rt, alloc, bytes, begun, in_log, crashes)?;
+    }
+    Ok(())
+}
+
+/// A store with the first two journeys, closed in good order.
+fn of_two_journeys(rt: &impl Abort, alloc: Global) -> Result<ClosedFile, Fail> {
+    let command = begin(alloc, PLAN)?;
+    let mut book = ClosedFile::new(alloc).open(alloc)?;
+    for &(id, asking) in TURNS.iter().take(2) {
+        let reply = answered(alloc, &mut book, &command, asking)?;
+        holds(rt, "one of two", reply == Reply::Begun { id });
+    }
+    ClosedFile::of(alloc, book)
+}
+
+#[test]
+fn a_new_store_may_fail_at_any_call(rt: HostRuntime) -> Result<(), Fail> {
+    stop_at_each_call(&rt, rt.alloc(), &[], 0)
+}
+
+#[test]
+fn a_store_that_is_opened_again_may_fail_at_any_call(rt: HostRuntime) -> Result<(), Fail> {
+    let begun = of_two_journeys(&rt, rt.alloc())?;
+    stop_at_each_call(&rt, rt.alloc(), begun.bytes(), 2)
+}
