@@ -1,64 +1,44 @@
 // Values from outside: plans in JSON as the format has them, and the fault that each wrong one is told.
-use crate::{BadPlan, Plan, PlanCause, PlanFault};
+use crate::tests::{is_told, reads, repeated};
+use crate::{Plan, PlanCause, PlanFault};
 use serde_json::{Error, Value};
 use std::alloc::{AllocError, Global};
 use std::process::Abort;
 use std::test::Fail;
 
-/// An option of these members: its kind, supplier, product, first night, nights and count, each as it stands in JSON.
-fn option(alloc: Global, members: [&str; 6]) -> Result<String, AllocError> {
-    let [kind, supplier, product, first, nights, count] = members;
-    let mut text = format!(in alloc; "{{\"count\":{count},\"first\":{first},\"kind\":{kind},")?;
-    write!(
-        text,
-        "\"nights\":{nights},\"product\":{product},\"supplier\":{supplier}}}"
-    )?;
-    Ok(text)
-}
+/// What stands before each member of an option.
+const NAMES: [&str; 6] = [
+    r#"{"count":"#,
+    r#","first":"#,
+    r#","kind":"#,
+    r#","nights":"#,
+    r#","product":"#,
+    r#","supplier":"#,
+];
 
-/// A step of these options.
-fn step(alloc: Global, options: &str, save: bool) -> Result<String, AllocError> {
-    format!(in alloc; "{{\"options\":[{options}],\"save\":{save}}}")
-}
-
-/// A plan of these steps.
-fn plan(alloc: Global, steps: &str, tries: u8) -> Result<String, AllocError> {
-    format!(in alloc; "{{\"steps\":[{steps}],\"tries\":{tries}}}")
-}
-
-/// So many times this text, with a comma between each two.
-fn listed(alloc: Global, text: &str, count: u8) -> Result<String, AllocError> {
-    let mut list = String::new(alloc);
-    for i in 0..count {
-        if i > 0 {
-            list.push_str(",")?;
-        }
-        list.push_str(text)?;
+/// An option of these members, each as it stands in JSON, with a comma and a blank between each two.
+fn option(alloc: Global, members: &str) -> Result<String, AllocError> {
+    let mut text = String::new(alloc);
+    let mut rest = members;
+    for name in &NAMES {
+        let (member, behind) = rest.split_once(", ").unwrap_or((rest, ""));
+        text.push_str(name)?;
+        text.push_str(member)?;
+        rest = behind;
     }
-    Ok(list)
+    text.push('}')?;
+    Ok(text)
 }
 
 /// A plan of one step, of these options.
 fn one_step(alloc: Global, options: &str) -> Result<String, AllocError> {
-    let only = step(alloc, options, false)?;
-    plan(alloc, only.as_str(), 0)
+    format!(in alloc; "{{\"steps\":[{{\"options\":[{options}],\"save\":false}}],\"tries\":0}}")
 }
 
 /// A plan of one step, of an option of these members.
-fn one_option(alloc: Global, members: [&str; 6]) -> Result<String, AllocError> {
+fn one_option(alloc: Global, members: &str) -> Result<String, AllocError> {
     let option = option(alloc, members)?;
-    one_step(alloc, option.as_str())
-}
-
-/// A plan of so many marked steps, and of a last one.
-fn marked_steps(alloc: Global, marked: u8, save: bool) -> Result<String, AllocError> {
-    let flight = option(alloc, [FLIGHT, AL, A1, DAY, "1", "1"])?;
-    let front = step(alloc, flight.as_str(), true)?;
-    let mut steps = listed(alloc, front.as_str(), marked)?;
-    steps.push_str(",")?;
-    let last = step(alloc, flight.as_str(), save)?;
-    steps.push_str(last.as_str())?;
-    plan(alloc, steps.as_str(), 9)
+    one_step(alloc, &option)
 }
 
 /// The line of the plan that this text spells.
@@ -73,25 +53,6 @@ fn told(alloc: Global, text: &str) -> Result<Option<PlanFault>, Error> {
     let value = Value::from_str(alloc, text)?;
     Ok(Plan::from_json(alloc, &value).err())
 }
-
-/// This is wrong at this step.
-fn wrong(step: usize, cause: PlanCause) -> Option<PlanFault> {
-    Some(PlanFault::Bad(BadPlan { step, cause }))
-}
-
-const FLIGHT: &str = "\"flight\"";
-
-const ROOM: &str = "\"room\"";
-
-const TRANSFER: &str = "\"transfer\"";
-
-const COVER: &str = "\"cover\"";
-
-const AL: &str = "\"AL\"";
-
-const A1: &str = "\"A1\"";
-
-const DAY: &str = "\"2030-06-01\"";
 
 // a value, and the line of its plan
 #[rattlefmt::skip]
@@ -116,105 +77,99 @@ const VALUES: [(&str, &str, &str); 3] = [
 
 #[test]
 fn a_value_is_read_as_the_plan_of_a_line(rt: HostRuntime) -> Result<(), Fail> {
-    for (case, text, line) in VALUES {
+    for &(case, text, line) in &VALUES {
         let read = line_of(rt.alloc(), text)?;
-        assert_eq!(rt; read.as_str(), line, "{case}");
+        reads(&rt, case, &read, line);
     }
     Ok(())
 }
 
-// an option, and the line of a plan that has no other
+// the members of an option in their order, and the line of a plan that has no other option
 #[rattlefmt::skip]
-const OPTIONS: [(&str, [&str; 6], &str); 9] = [
-    ("the most places",      [FLIGHT, AL, A1, DAY, "1", "50"],                         "F/AL/A1/2030-06-01/1/50!0"),
-    ("a transfer",           [TRANSFER, "\"BUS\"", "\"X\"", DAY, "1", "9"],            "T/BUS/X/2030-06-01/1/9!0"),
-    ("the most of a room",   [ROOM, "\"INN\"", "\"DBL\"", DAY, "30", "1"],             "R/INN/DBL/2030-06-01/30/1!0"),
-    ("the most of cover",    [COVER, "\"CO\"", "\"P\"", DAY, "60", "1"],               "C/CO/P/2030-06-01/60/1!0"),
-    ("a code of eight",      [FLIGHT, "\"A\"", "\"1234WXYZ\"", DAY, "1", "1"],         "F/A/1234WXYZ/2030-06-01/1/1!0"),
-    ("the first night",      [ROOM, "\"INN\"", "\"DBL\"", "\"2000-01-01\"", "1", "1"], "R/INN/DBL/2000-01-01/1/1!0"),
-    ("the last night",       [ROOM, "\"INN\"", "\"DBL\"", "\"2099-12-31\"", "1", "1"], "R/INN/DBL/2099-12-31/1/1!0"),
-    ("up to the last night", [ROOM, "\"INN\"", "\"DBL\"", "\"2099-12-30\"", "2", "1"], "R/INN/DBL/2099-12-30/2/1!0"),
-    ("a day in a leap year", [COVER, "\"CO\"", "\"P\"", "\"2028-02-29\"", "1", "1"],   "C/CO/P/2028-02-29/1/1!0"),
+const OPTIONS: [(&str, &str, &str); 9] = [
+    ("the most places",            r#"50, "2030-06-01", "flight", 1, "A1", "AL""#,     "F/AL/A1/2030-06-01/1/50!0"),
+    ("a transfer",                 r#"9, "2030-06-01", "transfer", 1, "X", "BUS""#,    "T/BUS/X/2030-06-01/1/9!0"),
+    ("the most of a room",         r#"1, "2030-06-01", "room", 30, "DBL", "INN""#,     "R/INN/DBL/2030-06-01/30/1!0"),
+    ("the most of cover",          r#"1, "2030-06-01", "cover", 60, "P", "CO""#,       "C/CO/P/2030-06-01/60/1!0"),
+    ("a code of eight",            r#"1, "2030-06-01", "flight", 1, "1234WXYZ", "A""#, "F/A/1234WXYZ/2030-06-01/1/1!0"),
+    ("the first night",            r#"1, "2000-01-01", "room", 1, "DBL", "INN""#,      "R/INN/DBL/2000-01-01/1/1!0"),
+    ("the last night",             r#"1, "2099-12-31", "room", 1, "DBL", "INN""#,      "R/INN/DBL/2099-12-31/1/1!0"),
+    ("up to the last night",       r#"1, "2099-12-30", "room", 2, "DBL", "INN""#,      "R/INN/DBL/2099-12-30/2/1!0"),
+    ("a day in a leap year",       r#"1, "2028-02-29", "cover", 1, "P", "CO""#,        "C/CO/P/2028-02-29/1/1!0"),
 ];
 
 #[test]
 fn an_option_is_read_as_that_of_a_line(rt: HostRuntime) -> Result<(), Fail> {
-    for (case, members, line) in &OPTIONS {
-        let text = one_option(rt.alloc(), *members)?;
-        let read = line_of(rt.alloc(), text.as_str())?;
-        assert_eq!(rt; read.as_str(), *line, "{case}");
+    for &(case, members, line) in &OPTIONS {
+        let text = one_option(rt.alloc(), members)?;
+        let read = line_of(rt.alloc(), &text)?;
+        reads(&rt, case, &read, line);
     }
     Ok(())
 }
 
 // a wrong option, and what is told of it
 #[rattlefmt::skip]
-const WRONG: [(&str, [&str; 6], PlanCause); 38] = [
-    ("a kind's letter",           ["\"F\"", AL, A1, DAY, "1", "1"],                 PlanCause::Kind),
-    ("a kind in capitals",        ["\"Flight\"", AL, A1, DAY, "1", "1"],            PlanCause::Kind),
-    ("an empty kind",             ["\"\"", AL, A1, DAY, "1", "1"],                  PlanCause::Kind),
-    ("a kind's number",           ["0", AL, A1, DAY, "1", "1"],                     PlanCause::Kind),
-    ("a null for a kind",         ["null", AL, A1, DAY, "1", "1"],                  PlanCause::Kind),
-    ("a small supplier",          [FLIGHT, "\"al\"", A1, DAY, "1", "1"],            PlanCause::Code),
-    ("an empty supplier",         [FLIGHT, "\"\"", A1, DAY, "1", "1"],              PlanCause::Code),
-    ("nine bytes of a supplier",  [FLIGHT, "\"ABCDEFGHI\"", A1, DAY, "1", "1"],     PlanCause::Code),
-    ("a number for a supplier",   [FLIGHT, "7", A1, DAY, "1", "1"],                 PlanCause::Code),
-    ("a small product",           [FLIGHT, AL, "\"a1\"", DAY, "1", "1"],            PlanCause::Code),
-    ("a list for a product",      [FLIGHT, AL, "[\"A1\"]", DAY, "1", "1"],          PlanCause::Code),
-    ("no such day",               [COVER, AL, A1, "\"2030-02-29\"", "1", "1"],      PlanCause::Night),
-    ("a day before 2000",         [COVER, AL, A1, "\"1999-12-31\"", "1", "1"],      PlanCause::Night),
-    ("a day past 2099",           [COVER, AL, A1, "\"2100-01-01\"", "1", "1"],      PlanCause::Night),
-    ("another spelling of a day", [COVER, AL, A1, "\"20300601\"", "1", "1"],        PlanCause::Night),
-    ("a number for a day",        [COVER, AL, A1, "20300601", "1", "1"],            PlanCause::Night),
-    ("two nights of a flight",    [FLIGHT, AL, A1, DAY, "2", "1"],                  PlanCause::Nights),
-    ("two nights of a transfer",  [TRANSFER, AL, A1, DAY, "2", "1"],                PlanCause::Nights),
-    ("31 nights of a room",       [ROOM, AL, A1, DAY, "31", "1"],                   PlanCause::Nights),
-    ("61 nights of cover",        [COVER, AL, A1, DAY, "61", "1"],                  PlanCause::Nights),
-    ("past the last night",       [ROOM, AL, A1, "\"2099-12-31\"", "2", "1"],       PlanCause::Nights),
-    ("no nights",                 [ROOM, AL, A1, DAY, "0", "1"],                    PlanCause::Nights),
-    ("nights below 0",            [ROOM, AL, A1, DAY, "-1", "1"],                   PlanCause::Nights),
-    ("257 nights are not one",    [ROOM, AL, A1, DAY, "257", "1"],                  PlanCause::Nights),
-    ("2^64 and one are not one",  [ROOM, AL, A1, DAY, "18446744073709551617", "1"], PlanCause::Nights),
-    ("nights with a point",       [FLIGHT, AL, A1, DAY, "1.0", "1"],                PlanCause::Nights),
-    ("nights with an exponent",   [FLIGHT, AL, A1, DAY, "1e0", "1"],                PlanCause::Nights),
-    ("a text for nights",         [FLIGHT, AL, A1, DAY, "\"1\"", "1"],              PlanCause::Nights),
-    ("a truth for nights",        [FLIGHT, AL, A1, DAY, "true", "1"],               PlanCause::Nights),
-    ("51 places",                 [FLIGHT, AL, A1, DAY, "1", "51"],                 PlanCause::Count),
-    ("no place",                  [FLIGHT, AL, A1, DAY, "1", "0"],                  PlanCause::Count),
-    ("minus no place",            [FLIGHT, AL, A1, DAY, "1", "-0"],                 PlanCause::Count),
-    ("a count below 0",           [FLIGHT, AL, A1, DAY, "1", "-1"],                 PlanCause::Count),
-    ("257 places are not one",    [FLIGHT, AL, A1, DAY, "1", "257"],                PlanCause::Count),
-    ("a count with a point",      [FLIGHT, AL, A1, DAY, "1", "1.0"],                PlanCause::Count),
-    ("half a place more",         [FLIGHT, AL, A1, DAY, "1", "1.5"],                PlanCause::Count),
-    ("a text for a count",        [FLIGHT, AL, A1, DAY, "1", "\"1\""],              PlanCause::Count),
-    ("a null for a count",        [FLIGHT, AL, A1, DAY, "1", "null"],               PlanCause::Count),
+const WRONG: [(&str, &str, PlanCause); 38] = [
+    ("a kind's letter",            r#"1, "2030-06-01", "F", 1, "A1", "AL""#,                       PlanCause::Kind),
+    ("a kind in capitals",         r#"1, "2030-06-01", "Flight", 1, "A1", "AL""#,                  PlanCause::Kind),
+    ("an empty kind",              r#"1, "2030-06-01", "", 1, "A1", "AL""#,                        PlanCause::Kind),
+    ("a kind's number",            r#"1, "2030-06-01", 0, 1, "A1", "AL""#,                         PlanCause::Kind),
+    ("a null for a kind",          r#"1, "2030-06-01", null, 1, "A1", "AL""#,                      PlanCause::Kind),
+    ("a small supplier",           r#"1, "2030-06-01", "flight", 1, "A1", "al""#,                  PlanCause::Code),
+    ("an empty supplier",          r#"1, "2030-06-01", "flight", 1, "A1", """#,                    PlanCause::Code),
+    ("nine bytes of a supplier",   r#"1, "2030-06-01", "flight", 1, "A1", "ABCDEFGHI""#,           PlanCause::Code),
+    ("a number for a supplier",    r#"1, "2030-06-01", "flight", 1, "A1", 7"#,                     PlanCause::Code),
+    ("a small product",            r#"1, "2030-06-01", "flight", 1, "a1", "AL""#,                  PlanCause::Code),
+    ("a list for a product",       r#"1, "2030-06-01", "flight", 1, ["A1"], "AL""#,                PlanCause::Code),
+    ("no such day",                r#"1, "2030-02-29", "cover", 1, "A1", "AL""#,                   PlanCause::Night),
+    ("a day before 2000",          r#"1, "1999-12-31", "cover", 1, "A1", "AL""#,                   PlanCause::Night),
+    ("a day past 2099",            r#"1, "2100-01-01", "cover", 1, "A1", "AL""#,                   PlanCause::Night),
+    ("another spelling of a day",  r#"1, "20300601", "cover", 1, "A1", "AL""#,                     PlanCause::Night),
+    ("a number for a day",         r#"1, 20300601, "cover", 1, "A1", "AL""#,                       PlanCause::Night),
+    ("two nights of a flight",     r#"1, "2030-06-01", "flight", 2, "A1", "AL""#,                  PlanCause::Nights),
+    ("two nights of a transfer",   r#"1, "2030-06-01", "transfer", 2, "A1", "AL""#,                PlanCause::Nights),
+    ("31 nights of a room",        r#"1, "2030-06-01", "room", 31, "A1", "AL""#,                   PlanCause::Nights),
+    ("61 nights of cover",         r#"1, "2030-06-01", "cover", 61, "A1", "AL""#,                  PlanCause::Nights),
+    ("past the last night",        r#"1, "2099-12-31", "room", 2, "A1", "AL""#,                    PlanCause::Nights),
+    ("no nights",                  r#"1, "2030-06-01", "room", 0, "A1", "AL""#,                    PlanCause::Nights),
+    ("nights below 0",             r#"1, "2030-06-01", "room", -1, "A1", "AL""#,                   PlanCause::Nights),
+    ("257 nights are not one",     r#"1, "2030-06-01", "room", 257, "A1", "AL""#,                  PlanCause::Nights),
+    ("2^64 and one are not one",   r#"1, "2030-06-01", "room", 18446744073709551617, "A1", "AL""#, PlanCause::Nights),
+    ("nights with a point",        r#"1, "2030-06-01", "flight", 1.0, "A1", "AL""#,                PlanCause::Nights),
+    ("nights with an exponent",    r#"1, "2030-06-01", "flight", 1e0, "A1", "AL""#,                PlanCause::Nights),
+    ("a text for nights",          r#"1, "2030-06-01", "flight", "1", "A1", "AL""#,                PlanCause::Nights),
+    ("a truth for nights",         r#"1, "2030-06-01", "flight", true, "A1", "AL""#,               PlanCause::Nights),
+    ("51 places",                  r#"51, "2030-06-01", "flight", 1, "A1", "AL""#,                 PlanCause::Count),
+    ("no place",                   r#"0, "2030-06-01", "flight", 1, "A1", "AL""#,                  PlanCause::Count),
+    ("minus no place",             r#"-0, "2030-06-01", "flight", 1, "A1", "AL""#,                 PlanCause::Count),
+    ("a count below 0",            r#"-1, "2030-06-01", "flight", 1, "A1", "AL""#,                 PlanCause::Count),
+    ("257 places are not one",     r#"257, "2030-06-01", "flight", 1, "A1", "AL""#,                PlanCause::Count),
+    ("a count with a point",       r#"1.0, "2030-06-01", "flight", 1, "A1", "AL""#,                PlanCause::Count),
+    ("half a place more",          r#"1.5, "2030-06-01", "flight", 1, "A1", "AL""#,                PlanCause::Count),
+    ("a text for a count",         r#""1", "2030-06-01", "flight", 1, "A1", "AL""#,                PlanCause::Count),
+    ("a null for a count",         r#"null, "2030-06-01", "flight", 1, "A1", "AL""#,               PlanCause::Count),
 ];
 
 // an option with two faults, of which the first is told
 #[rattlefmt::skip]
-const FIRST: [(&str, [&str; 6], PlanCause); 5] = [
-    ("a kind, a supplier",   ["\"F\"", "\"al\"", A1, DAY, "1", "1"],            PlanCause::Kind),
-    ("a supplier, a night",  [FLIGHT, "\"al\"", A1, "\"2030-06-31\"", "1", "1"], PlanCause::Code),
-    ("a product, a night",   [FLIGHT, AL, "\"a1\"", "\"2030-06-31\"", "1", "1"], PlanCause::Code),
-    ("a night, nights",      [FLIGHT, AL, A1, "\"2030-06-31\"", "2", "1"],      PlanCause::Night),
-    ("nights, a count",      [FLIGHT, AL, A1, DAY, "2", "51"],                  PlanCause::Nights),
+const FIRST: [(&str, &str, PlanCause); 5] = [
+    ("a kind, a supplier",         r#"1, "2030-06-01", "F", 1, "A1", "al""#,       PlanCause::Kind),
+    ("a supplier, a night",        r#"1, "2030-06-31", "flight", 1, "A1", "al""#,  PlanCause::Code),
+    ("a product, a night",         r#"1, "2030-06-31", "flight", 1, "a1", "AL""#,  PlanCause::Code),
+    ("a night, nights",            r#"1, "2030-06-31", "flight", 2, "A1", "AL""#,  PlanCause::Night),
+    ("nights, a count",            r#"51, "2030-06-01", "flight", 2, "A1", "AL""#, PlanCause::Nights),
 ];
-
-/// What is told of a plan with this option alone.
-fn told_of(alloc: Global, members: [&str; 6]) -> Result<Option<PlanFault>, Fail> {
-    let text = one_option(alloc, members)?;
-    Ok(told(alloc, text.as_str())?)
-}
 
 /// Each option is told the cause that stands behind it.
 fn each_is_told(
     rt: &impl Abort,
     alloc: Global,
-    options: &[(&str, [&str; 6], PlanCause)],
+    options: &[(&str, &str, PlanCause)],
 ) -> Result<(), Fail> {
-    for (case, members, cause) in options {
-        let told = told_of(alloc, *members)?;
-        assert_eq!(rt; told, wrong(1, *cause), "{case}");
+    for &(case, members, cause) in options {
+        let text = one_option(alloc, members)?;
+        is_told(rt, case, told(alloc, &text)?, Some((1, cause)));
     }
     Ok(())
 }
@@ -290,9 +245,8 @@ const PLANS: [(&str, &str, usize, PlanCause); 40] = [
 
 #[test]
 fn a_wrong_value_is_told_its_first_fault(rt: HostRuntime) -> Result<(), Fail> {
-    for (case, text, step, cause) in &PLANS {
-        let told = told(rt.alloc(), *text)?;
-        assert_eq!(rt; told, wrong(*step, *cause), "{case}");
+    for &(case, text, step, cause) in &PLANS {
+        is_told(&rt, case, told(rt.alloc(), text)?, Some((step, cause)));
     }
     Ok(())
 }
@@ -316,24 +270,41 @@ const MANY: [(&str, u8, &str, Option<(usize, PlanCause)>); 4] = [
     ("nine options of no place",  9, "0", Some((1, PlanCause::Options))),
 ];
 
+/// A step of one flight, which is marked.
+const MARKED: &str = "{\"options\":[{\"count\":1,\"first\":\"2030-06-01\",\"kind\":\"flight\",\
+    \"nights\":1,\"product\":\"A1\",\"supplier\":\"AL\"}],\"save\":true}";
+
+/// A plan of so many marked steps, and of a last one.
+fn marked_steps(alloc: Global, marked: u8, save: bool) -> Result<String, AllocError> {
+    let front = repeated(alloc, MARKED, marked, ",", ",")?;
+    let flight = option(alloc, "1, \"2030-06-01\", \"flight\", 1, \"A1\", \"AL\"")?;
+    format!(in alloc;
+        "{{\"steps\":[{front}{{\"options\":[{flight}],\"save\":{save}}}],\"tries\":9}}"
+    )
+}
+
 #[test]
 fn a_value_has_so_many_steps(rt: HostRuntime) -> Result<(), Fail> {
-    for (case, marked, save, expected) in STEPS {
+    for &(case, marked, save, expected) in &STEPS {
         let text = marked_steps(rt.alloc(), marked, save)?;
-        let expected = expected.map(|(step, cause)| PlanFault::Bad(BadPlan { step, cause }));
-        assert_eq!(rt; told(rt.alloc(), text.as_str())?, expected, "{case}");
+        is_told(&rt, case, told(rt.alloc(), &text)?, expected);
     }
     Ok(())
 }
 
+/// A plan of one step, of so many flights with this number of places.
+fn many_options(alloc: Global, count: u8, places: &str) -> Result<String, AllocError> {
+    let members = format!(in alloc; "{places}, \"2030-06-01\", \"flight\", 1, \"A1\", \"AL\"")?;
+    let flight = option(alloc, &members)?;
+    let options = repeated(alloc, &flight, count, ",", "")?;
+    one_step(alloc, &options)
+}
+
 #[test]
 fn a_step_has_so_many_options(rt: HostRuntime) -> Result<(), Fail> {
-    for (case, count, places, expected) in MANY {
-        let flight = option(rt.alloc(), [FLIGHT, AL, A1, DAY, "1", places])?;
-        let options = listed(rt.alloc(), flight.as_str(), count)?;
-        let text = one_step(rt.alloc(), options.as_str())?;
-        let expected = expected.map(|(step, cause)| PlanFault::Bad(BadPlan { step, cause }));
-        assert_eq!(rt; told(rt.alloc(), text.as_str())?, expected, "{case}");
+    for &(case, count, places, expected) in &MANY {
+        let text = many_options(rt.alloc(), count, places)?;
+        is_told(&rt, case, told(rt.alloc(), &text)?, expected);
     }
     Ok(())
 }

@@ -5,6 +5,32 @@ use std::alloc::{AllocError, Global};
 use std::process::Abort;
 use std::test::Fail;
 
+/// Stops the test where another text is found.
+pub fn reads(rt: &impl Abort, case: &str, found: &str, expected: &str) {
+    assert!(rt; found == expected, "{case}: {found}");
+}
+
+/// Stops the test where something else is told: the step and the cause are expected, or no fault.
+pub fn is_told(
+    rt: &impl Abort,
+    case: &str,
+    told: Option<PlanFault>,
+    expected: Option<(usize, PlanCause)>,
+) {
+    let expected = match expected {
+        Some((step, cause)) => Some(PlanFault::Bad(BadPlan { step, cause })),
+        None => None,
+    };
+    assert!(rt; told == expected, "{case}: {told:?}");
+}
+
+/// Stops the test where the plan is not printed as this line.
+fn prints(rt: &impl Abort, alloc: Global, plan: &Plan, line: &str) -> Result<(), AllocError> {
+    let printed = plan.line(alloc)?;
+    reads(rt, "the line of a plan", &printed, line);
+    Ok(())
+}
+
 // a line, and how many steps and tries it has
 #[rattlefmt::skip]
 const LINES: [(&str, &str, usize, u8); 13] = [
@@ -25,28 +51,19 @@ const LINES: [(&str, &str, usize, u8); 13] = [
 
 #[test]
 fn a_line_is_read_and_printed_again(rt: HostRuntime) -> Result<(), Fail> {
-    for (case, line, steps, tries) in &LINES {
-        let plan = Plan::from_line(rt.alloc(), *line)?;
-        assert_eq!(rt; plan.steps(), *steps, "{case}");
-        assert_eq!(rt; plan.tries(), *tries, "{case}");
-        is_printed(&rt, rt.alloc(), &plan, *line)?;
+    let alloc = rt.alloc();
+    for &(case, line, steps, tries) in &LINES {
+        let plan = Plan::from_line(alloc, line)?;
+        assert_eq!(rt; (plan.steps(), plan.tries()), (steps, tries), "{case}");
+        prints(&rt, alloc, &plan, line)?;
+        prints(&rt, alloc, &plan.clone(alloc)?, line)?;
     }
-    Ok(())
-}
-
-/// The plan is printed as this line, and so is its copy.
-fn is_printed(rt: &impl Abort, alloc: Global, plan: &Plan, line: &str) -> Result<(), AllocError> {
-    let printed = plan.line(alloc)?;
-    assert_eq!(rt; printed.as_str(), line);
-    let copy = plan.clone(alloc)?;
-    let copied = copy.line(alloc)?;
-    assert_eq!(rt; copied.as_str(), line);
     Ok(())
 }
 
 // a wrong line, and what is told of it
 #[rattlefmt::skip]
-const WRONG: [(&str, &str, usize, PlanCause); 49] = [
+const WRONG: [(&str, &str, usize, PlanCause); 50] = [
     ("nothing",                     "", 0, PlanCause::Tries),
     ("no tries",                    "F/AL/A1/2030-06-01/1/1", 0, PlanCause::Tries),
     ("no number of tries",          "F/AL/A1/2030-06-01/1/1!", 0, PlanCause::Tries),
@@ -96,6 +113,8 @@ const WRONG: [(&str, &str, usize, PlanCause); 49] = [
     ("256 places",                  "F/AL/A1/2030-06-01/1/256!0", 1, PlanCause::Count),
     ("a second option",             "F/AL/A1/2030-06-01/1/1|X/AL/A1/2030-06-01/1/1!0", 1, PlanCause::Kind),
     ("a second step",               "F/AL/A1/2030-06-01/1/1;F/AL/A1/2030-06-31/1/1!0", 2, PlanCause::Night),
+    ("nine options of the second step, which are none",
+     "F/AL/A1/2030-06-01/1/1;x|x|x|x|x|x|x|x|x!0", 2, PlanCause::Options),
 ];
 
 #[test]
@@ -105,13 +124,13 @@ fn a_wrong_line_is_told_its_fault(rt: HostRuntime) {
 
 /// Each line is told the step and the cause that stand behind it.
 fn each_is_told(rt: &impl Abort, alloc: Global, lines: &[(&str, &str, usize, PlanCause)]) {
-    for (case, line, step, cause) in lines {
-        let told = Plan::from_line(alloc, *line).err();
-        let expected = PlanFault::Bad(BadPlan {
-            step: *step,
-            cause: *cause,
-        });
-        assert_eq!(rt; told, Some(expected), "{case}");
+    for &(case, line, step, cause) in lines {
+        is_told(
+            rt,
+            case,
+            Plan::from_line(alloc, line).err(),
+            Some((step, cause)),
+        );
     }
 }
 
@@ -136,7 +155,7 @@ fn the_first_fault_is_told(rt: HostRuntime) {
 }
 
 /// So many times this text, with this between, and this at the end.
-fn repeated(
+pub fn repeated(
     alloc: Global,
     text: &str,
     count: u8,
@@ -170,25 +189,15 @@ const MANY: [(&str, u8, &str, &str, Option<(usize, PlanCause)>); 9] = [
 
 #[test]
 fn there_are_so_many_steps_and_options(rt: HostRuntime) -> Result<(), Fail> {
-    for (case, count, between, end, expected) in MANY {
+    for &(case, count, between, end, expected) in &MANY {
         let line = repeated(rt.alloc(), "F/AL/A1/2030-06-01/1/1", count, between, end)?;
-        let told = Plan::from_line(rt.alloc(), line.as_str()).err();
-        let expected = expected.map(|(step, cause)| PlanFault::Bad(BadPlan { step, cause }));
-        assert_eq!(rt; told, expected, "{case}");
+        is_told(
+            &rt,
+            case,
+            Plan::from_line(rt.alloc(), &line).err(),
+            expected,
+        );
     }
-    let nine = repeated(rt.alloc(), "x", 9, "|", "!0")?;
-    let mut line = String::from_str(rt.alloc(), "F/AL/A1/2030-06-01/1/1;")?;
-    line.push_str(nine.as_str())?;
-    let told = Plan::from_line(rt.alloc(), line.as_str()).err();
-    let expected = BadPlan {
-        step: 2,
-        cause: PlanCause::Options,
-    };
-    assert_eq!(rt;
-        told,
-        Some(PlanFault::Bad(expected)),
-        "nine options of the second step, which are none"
-    );
     Ok(())
 }
 
@@ -196,12 +205,11 @@ fn there_are_so_many_steps_and_options(rt: HostRuntime) -> Result<(), Fail> {
 fn the_longest_line_is_read_and_printed_again(rt: HostRuntime) -> Result<(), Fail> {
     let option = "C/ABCDEFGH/12345678/2030-06-01/60/50";
     let marked = repeated(rt.alloc(), option, 8, "|", "*;")?;
-    let mut line = repeated(rt.alloc(), marked.as_str(), 23, "", "")?;
     let last = repeated(rt.alloc(), option, 8, "|", "!9")?;
-    line.push_str(last.as_str())?;
+    let line = repeated(rt.alloc(), &marked, 23, "", &last)?;
     assert_eq!(rt; line.len(), 7128);
-    let plan = Plan::from_line(rt.alloc(), line.as_str())?;
-    assert_eq!(rt; plan.line(rt.alloc())?.as_str(), line.as_str());
+    let plan = Plan::from_line(rt.alloc(), &line)?;
+    prints(&rt, rt.alloc(), &plan, &line)?;
     Ok(())
 }
 
@@ -237,7 +245,7 @@ const STEPS: [(&str, u8, u8, u8, u8, Option<(usize, PlanCause)>); 14] = [
 
 #[test]
 fn a_plan_is_made_of_steps(rt: HostRuntime) -> Result<(), Fail> {
-    for (case, count, options, marked, tries, expected) in STEPS {
+    for &(case, count, options, marked, tries, expected) in &STEPS {
         let mut steps = Vec::new(rt.alloc());
         for number in 0..count {
             steps.push(step(
@@ -246,16 +254,14 @@ fn a_plan_is_made_of_steps(rt: HostRuntime) -> Result<(), Fail> {
                 u16::from(number) + 1 == u16::from(marked),
             )?)?;
         }
-        let made = Plan::from_steps(steps, tries);
-        let expected = expected.map(|(step, cause)| PlanFault::Bad(BadPlan { step, cause }));
-        assert_eq!(rt; made.err(), expected, "{case}");
+        is_told(&rt, case, Plan::from_steps(steps, tries).err(), expected);
     }
     let mut steps = Vec::new(rt.alloc());
     steps.push(step(rt.alloc(), 2, true)?)?;
     steps.push(step(rt.alloc(), 1, false)?)?;
     let plan = Plan::from_steps(steps, 4)?;
     let line = "F/AL/A1/2030-06-01/1/1|F/AL/A1/2030-06-01/1/1*;F/AL/A1/2030-06-01/1/1!4";
-    assert_eq!(rt; plan.line(rt.alloc())?.as_str(), line);
+    prints(&rt, rt.alloc(), &plan, line)?;
     Ok(())
 }
 
@@ -263,19 +269,11 @@ fn a_plan_is_made_of_steps(rt: HostRuntime) -> Result<(), Fail> {
 fn a_plan_shows_its_steps(rt: HostRuntime) -> Result<(), Fail> {
     let line = "F/AL/A1/2030-06-01/1/1*;R/INN/A/2030-06-01/1/1|R/INN/B/2030-06-01/1/2!2";
     let plan = Plan::from_line(rt.alloc(), line)?;
-    if plan.steps() == 2 {
-        assert_eq!(rt; plan.marked(1), true);
-        assert_eq!(rt; plan.marked(2), false);
-        assert_eq!(rt; plan.options(1), 1);
-        assert_eq!(rt; plan.options(2), 2);
-        if plan.options(2) == 2 {
-            let want = plan.want(2, 2);
-            assert_eq!(rt; want.product().as_str(), "B");
-            assert_eq!(rt; want.count(), 2);
-        }
-    } else {
-        assert!(rt; false, "the plan has two steps");
-    }
+    assert!(rt; plan.steps() == 2, "the plan has two steps");
+    assert!(rt; plan.marked(1) && !plan.marked(2));
+    assert!(rt; plan.options(1) == 1 && plan.options(2) == 2);
+    let want = plan.want(2, 2);
+    assert!(rt; want.product().as_str() == "B" && want.count() == 2);
     Ok(())
 }
 
@@ -296,7 +294,7 @@ const WORDS: [(PlanCause, &str); 10] = [
 
 #[test]
 fn each_cause_has_its_word(rt: HostRuntime) {
-    for (cause, word) in WORDS {
-        assert_eq!(rt; cause.word(), word);
+    for &(cause, word) in &WORDS {
+        reads(&rt, word, cause.word(), word);
     }
 }
