@@ -18,7 +18,8 @@ mod outputs;
 mod programs;
 mod runs;
 mod subcommands;
-mod telling;mod unread;
+mod telling;
+mod unread;
 mod words;
 
 pub use ends::{End, ProgramFault};
