@@ -17,6 +17,11 @@ fn holds(rt: &impl Abort, case: &str, is_so: bool) {
 /// What a method and a target ask for.
 type Found = Result<Route, Unrouted>;
 
+/// The paths of the desk.
+fn paths(rt: &impl Abort, alloc: Global) -> Paths {
+    Paths::new(alloc).expect(rt, "memory")
+}
+
 /// Stops the test where a method and a target ask for something else.
 fn asks(rt: &impl Abort, paths: &Paths, method: &str, target: &[u8], expected: Found, case: &str) {
     holds(rt, case, paths.route(method, target) == expected);
@@ -44,10 +49,9 @@ fn each_asks(rt: &impl Abort, paths: &Paths, rows: &[(&str, &str, Route)]) {
 }
 
 #[test]
-fn a_method_and_a_target_ask_for_one_thing(rt: HostRuntime) -> Result<(), AllocError> {
-    let paths = Paths::new(rt.alloc())?;
+fn a_method_and_a_target_ask_for_one_thing(rt: HostRuntime) {
+    let paths = paths(&rt, rt.alloc());
     each_asks(&rt, &paths, &ROUTES);
-    Ok(())
 }
 
 // the method and the target
@@ -70,12 +74,11 @@ const BAD_PARTS: [(&str, &str); 14] = [
 ];
 
 #[test]
-fn a_part_of_another_form_is_bad(rt: HostRuntime) -> Result<(), AllocError> {
-    let paths = Paths::new(rt.alloc())?;
+fn a_part_of_another_form_is_bad(rt: HostRuntime) {
+    let paths = paths(&rt, rt.alloc());
     for &(method, target) in &BAD_PARTS {
         asks(&rt, &paths, method, target.as_bytes(), BAD, target);
     }
-    Ok(())
 }
 
 #[rattlefmt::skip]
@@ -85,13 +88,12 @@ const NOWHERE_AT_ALL: [&str; 14] = [
 ];
 
 #[test]
-fn a_target_that_is_no_path_is_unknown(rt: HostRuntime) -> Result<(), AllocError> {
-    let paths = Paths::new(rt.alloc())?;
+fn a_target_that_is_no_path_is_unknown(rt: HostRuntime) {
+    let paths = paths(&rt, rt.alloc());
     for &target in &NOWHERE_AT_ALL {
         asks(&rt, &paths, "POST", target.as_bytes(), NOWHERE, target);
     }
     asks(&rt, &paths, "GET", &[b'/', b's', 0xff], NOWHERE, "no text");
-    Ok(())
 }
 
 // the method, the target, the method that its path has
@@ -107,29 +109,24 @@ const WRONG_METHODS: [(&str, &str, Verb); 7] = [
 ];
 
 #[test]
-fn a_path_has_one_method(rt: HostRuntime) -> Result<(), AllocError> {
-    let paths = Paths::new(rt.alloc())?;
+fn a_path_has_one_method(rt: HostRuntime) {
+    let paths = paths(&rt, rt.alloc());
     for &(method, target, verb) in &WRONG_METHODS {
         let expected = Err(Unrouted::WrongMethod(verb));
         asks(&rt, &paths, method, target.as_bytes(), expected, target);
     }
-    Ok(())
 }
 
 /// The name of a batch.
 fn batch(rt: &impl Abort) -> Name {
-    match Name::parse("b1") {
-        Some(name) => name,
-        None => panic!(rt; "no name"),
-    }
+    Name::parse("b1").expect(rt, "a name")
 }
 
 #[test]
-fn a_batch_is_loaded_under_its_name(rt: HostRuntime) -> Result<(), AllocError> {
-    let paths = Paths::new(rt.alloc())?;
+fn a_batch_is_loaded_under_its_name(rt: HostRuntime) {
+    let paths = paths(&rt, rt.alloc());
     let expected = Ok(Route::LoadBatch(batch(&rt)));
     asks(&rt, &paths, "POST", b"/batches/b1", expected, "/batches/b1");
-    Ok(())
 }
 
 const STEP: Found = Ok(Route::Step(1));
@@ -209,16 +206,10 @@ const REFUSALS: [(Refusal, Status, &str, usize); 18] = [
 ];
 
 /// Stops the test where a body is another text than this one, of so many bytes.
-fn reads(
-    rt: &impl Abort,
-    body: Result<String, AllocError>,
-    expected: &str,
-    length: usize,
-) -> Result<(), AllocError> {
-    let body = body?;
+fn reads(rt: &impl Abort, body: Result<String, AllocError>, expected: &str, length: usize) {
+    let body = body.expect(rt, "memory");
     assert_eq!(rt; body.as_str(), expected);
     holds(rt, expected, body.len() == length);
-    Ok(())
 }
 
 /// Stops the test where a refusal has another status, or another body than this one, of so many bytes.
@@ -229,19 +220,18 @@ fn is_refused(
     status: Status,
     expected: &str,
     length: usize,
-) -> Result<(), AllocError> {
-    let page = refused_page(alloc, refusal)?;
+) {
+    let page = refused_page(alloc, refusal).expect(rt, "memory");
     holds(rt, expected, page.status == status);
-    reads(rt, refusal_body(alloc, refusal), expected, length)
+    reads(rt, refusal_body(alloc, refusal), expected, length);
 }
 
 #[test]
-fn a_refusal_has_a_status_and_a_body(rt: HostRuntime) -> Result<(), AllocError> {
+fn a_refusal_has_a_status_and_a_body(rt: HostRuntime) {
     let alloc = rt.alloc();
     for &(refusal, status, expected, length) in &REFUSALS {
-        is_refused(&rt, alloc, &refusal, status, expected, length)?;
+        is_refused(&rt, alloc, &refusal, status, expected, length);
     }
-    Ok(())
 }
 
 const FIRST_STEP: Item = Item::Transaction { step: 1, option: 1 };
@@ -266,7 +256,7 @@ const MOVES: [(Item, usize, Phase, &str, usize); 5] = [
 ];
 
 #[test]
-fn a_move_is_told_with_its_target_in_back_alone(rt: HostRuntime) -> Result<(), AllocError> {
+fn a_move_is_told_with_its_target_in_back_alone(rt: HostRuntime) {
     let id = 1;
     for &(item, pos, phase, expected, length) in &MOVES {
         let reply = Reply::Moved {
@@ -275,19 +265,18 @@ fn a_move_is_told_with_its_target_in_back_alone(rt: HostRuntime) -> Result<(), A
             pos,
             phase,
         };
-        reads(&rt, reply_body(rt.alloc(), &reply), expected, length)?;
+        reads(&rt, reply_body(rt.alloc(), &reply), expected, length);
     }
-    Ok(())
 }
 
 #[test]
-fn other_replies_are_told(rt: HostRuntime) -> Result<(), AllocError> {
+fn other_replies_are_told(rt: HostRuntime) {
     let alloc = rt.alloc();
     let (name, rows) = (batch(&rt), 2);
     let body = reply_body(alloc, &Reply::Loaded { name, rows });
-    reads(&rt, body, r#"{"batch":"b1","rows":2}"#, 23)?;
+    reads(&rt, body, r#"{"batch":"b1","rows":2}"#, 23);
     let body = reply_body(alloc, &Reply::Begun { id: 1 });
-    reads(&rt, body, r#"{"journey":1}"#, 13)?;
+    reads(&rt, body, r#"{"journey":1}"#, 13);
     let body = reply_body(alloc, &Reply::Refused(Refusal::NoSave));
     reads(&rt, body, r#"{"name":"NoSave","refused":28}"#, 30)
 }
@@ -305,21 +294,21 @@ const AT_THE_END: Cursor = Cursor {
 };
 
 #[test]
-fn a_journey_is_shown_with_its_history(rt: HostRuntime) -> Result<(), AllocError> {
+fn a_journey_is_shown_with_its_history(rt: HostRuntime) {
     let alloc = rt.alloc();
     let body = journey_body(alloc, 1, AT_THE_END, &[FIRST_STEP]);
     let expected = r#"{"history":["T1.1"],"journey":1,"pos":1,"state":"ended"}"#;
-    reads(&rt, body, expected, 56)?;
+    reads(&rt, body, expected, 56);
     let body = journey_body(alloc, 2, AT_ONE, &[FIRST_STEP, ASKED_BACK]);
     let expected = r#"{"history":["T1.1","B0a"],"journey":2,"pos":1,"state":"back","target":0}"#;
-    reads(&rt, body, expected, 72)
+    reads(&rt, body, expected, 72);
 }
 
 #[test]
-fn journeys_that_are_not_finished_are_shown(rt: HostRuntime) -> Result<(), AllocError> {
+fn journeys_that_are_not_finished_are_shown(rt: HostRuntime) {
     let alloc = rt.alloc();
     let body = unfinished_body(alloc, &[]);
-    reads(&rt, body, r#"{"unfinished":[]}"#, 17)?;
+    reads(&rt, body, r#"{"unfinished":[]}"#, 17);
     let brief = Brief {
         id: 7,
         agent: Agent::house(),
@@ -327,7 +316,7 @@ fn journeys_that_are_not_finished_are_shown(rt: HostRuntime) -> Result<(), Alloc
     };
     let body = unfinished_body(alloc, &[brief]);
     let expected = r#"{"unfinished":[{"journey":7,"pos":1,"state":"back","target":0}]}"#;
-    reads(&rt, body, expected, 64)
+    reads(&rt, body, expected, 64);
 }
 
 const NOT_ALLOWED: Denied = Denied {
@@ -357,45 +346,44 @@ fn goes_out(
     closes: bool,
     is_head: bool,
     expected: &str,
-) -> Result<(), AllocError> {
-    let bytes = page_bytes(alloc, &page?, closes, is_head)?;
+) {
+    let page = page.expect(rt, "memory");
+    let bytes = page_bytes(alloc, &page, closes, is_head).expect(rt, "memory");
     holds(rt, expected, bytes.as_slice() == expected.as_bytes());
-    Ok(())
 }
 
 #[test]
-fn a_page_tells_its_status_its_fields_and_its_body(rt: HostRuntime) -> Result<(), AllocError> {
+fn a_page_tells_its_status_its_fields_and_its_body(rt: HostRuntime) {
     for &(closes, is_head, denied, expected) in &DENIED {
         let page = denied_page(rt.alloc(), &denied);
-        goes_out(&rt, rt.alloc(), page, closes, is_head, expected)?;
+        goes_out(&rt, rt.alloc(), page, closes, is_head, expected);
     }
-    Ok(())
 }
 
 #[test]
-fn what_is_shown_goes_out_whole(rt: HostRuntime) -> Result<(), AllocError> {
+fn what_is_shown_goes_out_whole(rt: HostRuntime) {
     let alloc = rt.alloc();
-    let nothing = unfinished_body(alloc, &[])?;
+    let nothing = unfinished_body(alloc, &[]).expect(&rt, "memory");
     let page = Ok(shown_page(Body::Json(nothing)));
     let expected =
         "HTTP/1.1 200 OK\r\nContent-Length: 17\r\nContent-Type: application/json\r\n\r\n{\"unfinished\":[]}";
-    goes_out(&rt, rt.alloc(), page, false, false, expected)?;
-    let report = Vec::from_slice(alloc, b"cells 0\n".as_slice())?;
+    goes_out(&rt, rt.alloc(), page, false, false, expected);
+    let report = Vec::from_slice(alloc, b"cells 0\n".as_slice()).expect(&rt, "memory");
     let page = Ok(shown_page(Body::Text(report)));
     let expected =
         "HTTP/1.1 200 OK\r\nContent-Length: 8\r\nContent-Type: text/plain\r\n\r\ncells 0\n";
-    goes_out(&rt, rt.alloc(), page, false, false, expected)
+    goes_out(&rt, rt.alloc(), page, false, false, expected);
 }
 
 #[test]
-fn a_reply_has_a_page(rt: HostRuntime) -> Result<(), AllocError> {
+fn a_reply_has_a_page(rt: HostRuntime) {
     let alloc = rt.alloc();
     let page = reply_page(alloc, &Reply::Begun { id: 1 });
     let expected =
         "HTTP/1.1 200 OK\r\nContent-Length: 13\r\nContent-Type: application/json\r\nConnection: close\r\n\r\n{\"journey\":1}";
-    goes_out(&rt, rt.alloc(), page, true, false, expected)?;
+    goes_out(&rt, rt.alloc(), page, true, false, expected);
     let page = reply_page(alloc, &Reply::Refused(Refusal::NoJourney));
     let expected =
         "HTTP/1.1 404 Not Found\r\nContent-Length: 32\r\nContent-Type: application/json\r\n\r\n{\"name\":\"NoJourney\",\"refused\":9}";
-    goes_out(&rt, rt.alloc(), page, false, false, expected)
+    goes_out(&rt, rt.alloc(), page, false, false, expected);
 }
