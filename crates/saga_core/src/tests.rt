@@ -2,10 +2,12 @@ mod lines;
 mod rows;
 
 // What no clause says: that each call answers where memory is ample, on values from the rules, by hand.
+ghost use Rattle.std.specs.Prelude.{IsTrue};
+
 use crate::{Agent, Ask, Book, Command, Cursor, Fault, Key, MemBook, Phase, Refusal, Reply, run};
-use allotment::{Night, Want};
 use plan::Plan;
 use std::alloc::Global;
+use std::process::Abort;
 use std::test::Fail;
 
 const FLIGHT: &str = "F/AL/A1/2030-06-01/1/1!0";
@@ -18,18 +20,37 @@ const AT_START: Cursor = Cursor {
 
 const REUSED: Reply = Reply::Refused(Refusal::KeyReused);
 
+/// Stops the test where this is not so.
+pub fn holds(rt: &impl Abort, case: &str, is_so: bool)
+    ensures { IsTrue is_so }
+{
+    assert!(rt; is_so, "{case}");
+}
+
 /// To begin the journey of one flight.
 fn begin(alloc: Global) -> Result<Command, Fail> {
     Ok(Command::Begin(Plan::from_line(alloc, FLIGHT)?))
 }
 
 /// This agent asks, under this key and with this text.
-fn ask(alloc: Global, agent: &str, key: &str, text: &str) -> Result<Option<Ask>, Fail> {
-    let text = text.as_bytes().to_vec(alloc)?;
-    match (Agent::parse(agent), Key::parse(key)) {
-        (Some(agent), Some(key)) => Ok(Some(Ask::new(agent, key, text))),
-        _ => Ok(None),
-    }
+pub fn ask(alloc: Global, agent: &str, key: &str, text: &str) -> Result<Ask, Fail> {
+    let agent = Agent::parse(agent).ok_or("no agent")?;
+    let key = Key::parse(key).ok_or("no key")?;
+    Ok(Ask::new(agent, key, text.as_bytes().to_vec(alloc)?))
+}
+
+/// Stops the test where the book answers something else to this command.
+fn replies(
+    rt: &impl Abort,
+    case: &str,
+    book: &mut MemBook,
+    command: &Command,
+    ask: Option<&Ask>,
+    expected: Reply,
+) -> Result<(), Fault> {
+    let reply = book.act(command, ask)?;
+    holds(rt, case, reply == expected);
+    Ok(())
 }
 
 #[test]
@@ -39,20 +60,18 @@ fn journeys_are_numbered_from_1(rt: HostRuntime) -> Result<(), Fail> {
     let commands = vec![in alloc; (begin(alloc)?, None), (begin(alloc)?, None)]?;
     match run(alloc, &mut book, &commands) {
         Ok(replies) => {
-            assert!(rt;
-                replies.as_slice() == [Reply::Begun { id: 1 }, Reply::Begun { id: 2 }].as_slice()
-            );
+            let begun = [Reply::Begun { id: 1 }, Reply::Begun { id: 2 }];
+            holds(&rt, "two are begun", replies.as_slice() == begun.as_slice());
+            Ok(())
         }
-        Err((replies, fault)) => {
-            assert_eq!(rt; fault, Fault::Memory);
-            assert_eq!(rt;
-                replies.len(),
-                2,
-                "memory ran out before a command was answered"
-            );
-        }
+        Err((_replies, fault)) => Err(fault.into()),
     }
-    Ok(())
+}
+
+/// Whether the book has a journey with this number.
+fn has_journey(book: &mut MemBook, id: u64) -> Result<bool, Fault> {
+    let record = book.journey(id)?;
+    Ok(record.is_some())
 }
 
 // who asks, under which key, with which text, and what is answered
@@ -71,12 +90,30 @@ fn a_key_acts_once(rt: HostRuntime) -> Result<(), Fail> {
     let alloc = rt.alloc();
     let mut book = MemBook::new(alloc);
     let command = begin(alloc)?;
-    for (case, agent, key, text, reply) in ASKS {
+    for &(case, agent, key, text, reply) in &ASKS {
         let ask = ask(alloc, agent, key, text)?;
-        assert_eq!(rt; book.act(&command, ask.as_ref())?, reply, "{case}");
+        replies(&rt, case, &mut book, &command, Some(&ask), reply)?;
     }
-    assert!(rt; book.journey(3)?.is_some());
-    assert!(rt; book.journey(4)?.is_none());
+    holds(&rt, "there are three", has_journey(&mut book, 3)?);
+    holds(&rt, "and no fourth", !has_journey(&mut book, 4)?);
+    Ok(())
+}
+
+/// Stops the test where this journey is not at its start, or is another agent's.
+fn is_shown(
+    rt: &impl Abort,
+    alloc: Global,
+    book: &mut MemBook,
+    id: u64,
+    agent: &str,
+) -> Result<(), Fail> {
+    let record = book.journey(id)?.ok_or("no journey")?;
+    let line = record.plan.line(alloc)?;
+    holds(rt, agent, record.agent.as_str() == agent);
+    holds(rt, agent, line.as_str() == FLIGHT);
+    holds(rt, agent, record.cursor == AT_START);
+    holds(rt, agent, !record.marks.has(1));
+    holds(rt, agent, book.history(id)?.is_empty());
     Ok(())
 }
 
@@ -86,49 +123,12 @@ fn a_journey_is_shown_as_it_was_begun(rt: HostRuntime) -> Result<(), Fail> {
     let mut book = MemBook::new(alloc);
     let command = begin(alloc)?;
     let ask = ask(alloc, "anna", "k1", "one")?;
-    assert_eq!(rt; book.act(&command, ask.as_ref())?, Reply::Begun { id: 1 });
-    assert_eq!(rt; book.act(&command, None)?, Reply::Begun { id: 2 });
-    for (id, agent) in [(1, "anna"), (2, "desk")] {
-        match book.journey(id)? {
-            None => assert!(rt; false, "journey {id} is not shown"),
-            Some(record) => {
-                assert!(rt; record.agent.as_str() == agent, "{id}");
-                assert_eq!(rt; record.plan.line(alloc)?.as_str(), FLIGHT, "{id}");
-                assert_eq!(rt; record.cursor, AT_START, "{id}");
-                assert!(rt; !record.marks.has(1), "{id}");
-            }
-        }
-        assert!(rt; book.history(id)?.is_empty(), "{id}");
-    }
-    assert!(rt; book.journey(0)?.is_none());
-    Ok(())
-}
-
-#[test]
-fn unfinished_journeys_come_by_their_numbers(rt: HostRuntime) -> Result<(), Fail> {
-    let alloc = rt.alloc();
-    let mut book = MemBook::new(alloc);
-    assert!(rt; book.first_unfinished(0)?.is_none());
-    let command = begin(alloc)?;
-    for id in [1, 2] {
-        assert_eq!(rt; book.act(&command, None)?, Reply::Begun { id });
-    }
-    for (after, found) in [(0, Some(1)), (1, Some(2)), (2, None)] {
-        let brief = book.first_unfinished(after)?;
-        assert_eq!(rt; brief.map(|b| b.id), found, "after {after}");
-    }
-    Ok(())
-}
-
-#[test]
-fn nothing_is_allotted(rt: HostRuntime) -> Result<(), Fail> {
-    let alloc = rt.alloc();
-    let mut book = MemBook::new(alloc);
-    let plan = Plan::from_line(alloc, FLIGHT)?;
-    assert_eq!(rt; plan.steps(), 1);
-    assert_eq!(rt; plan.options(1), 1);
-    let want = plan.want(1, 1);
-    assert!(rt; book.cells(&want)?.is_empty());
-    assert!(rt; book.stock()?.is_empty());
+    let one = Reply::Begun { id: 1 };
+    replies(&rt, "anna's", &mut book, &command, Some(&ask), one)?;
+    let two = Reply::Begun { id: 2 };
+    replies(&rt, "the house's", &mut book, &command, None, two)?;
+    is_shown(&rt, alloc, &mut book, 1, "anna")?;
+    is_shown(&rt, alloc, &mut book, 2, "desk")?;
+    holds(&rt, "they count from 1", !has_journey(&mut book, 0)?);
     Ok(())
 }

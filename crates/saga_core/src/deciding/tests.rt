@@ -1,7 +1,9 @@
 // What the rules let a journey do next, by a table. Its plan stands apart from the tries.
+use crate::tests::holds;
 use crate::{Cursor, Move, Phase, decide};
 use plan::Plan;
 use savepoints::Marks;
+use std::process::Abort;
 use std::test::Fail;
 
 // a marked step, one with three options, and one with a single option
@@ -31,20 +33,27 @@ const MOVES: [(&str, u8, &[usize], usize, Phase, usize, bool, Move); 15] = [
     ("nor once it is undone",                  2, &[],     0, Phase::Undone,  1, true,  Move::Nothing),
 ];
 
+/// Save-points at these positions.
+fn marks_at(rt: &impl Abort, positions: &[usize]) -> Marks {
+    let mut marks = Marks::none();
+    for &p in positions {
+        assert!(rt; 1 <= p && p <= 23);
+        marks.add(p);
+    }
+    marks
+}
+
 #[test]
 fn a_journey_has_one_step(rt: HostRuntime) -> Result<(), Fail> {
     let alloc = rt.alloc();
-    for (case, tries, taken, pos, phase, used, fits, expected) in MOVES {
+    for &(case, tries, taken, pos, phase, used, fits, expected) in &MOVES {
         let line = format!(in alloc; "{STEPS}!{tries}")?;
         let plan = Plan::from_line(alloc, &line)?;
-        let mut marks = Marks::none();
-        for p in taken {
-            assert!(rt; 1 <= *p && *p <= 23);
-            marks.add(*p);
-        }
-        assert!(rt; pos < plan.steps() || phase != Phase::Run, "{case}");
+        let marks = marks_at(&rt, taken);
+        holds(&rt, case, pos < plan.steps() || phase != Phase::Run);
         let cursor = Cursor { pos, phase, used };
-        assert_eq!(rt; decide(&plan, &marks, &cursor, fits), expected, "{case}");
+        let found = decide(&plan, &marks, &cursor, fits);
+        holds(&rt, case, found == expected);
     }
     Ok(())
 }

@@ -30,15 +30,14 @@ const NAMES: [(char, &str); 14] = [
     ('Z', "R/INN/X/2030-06-01"),
 ];
 
-/// Pushes what this stands for, and what stands behind it.
-fn push_named(line: &mut String, text: &str) -> Result<(), Fail> {
-    for (letter, cell) in NAMES {
+/// What this stands for, and what stands behind it.
+fn named(text: &str) -> Option<(&'static str, &str)> {
+    for &(letter, cell) in &NAMES {
         if let Some(rest) = text.strip_prefix(letter) {
-            line.push_str(cell)?;
-            line.push_str(rest)?;
+            return Some((cell, rest));
         }
     }
-    Ok(())
+    None
 }
 
 /// The line with its names written out.
@@ -48,45 +47,69 @@ fn written_out(alloc: Global, line: &str) -> Result<String, Fail> {
         if i == 0 {
             written.push_str(part)?;
         } else {
-            push_named(&mut written, part)?;
+            let (cell, rest) = named(part).ok_or("no such name")?;
+            written.push_str(cell)?;
+            written.push_str(rest)?;
         }
     }
     Ok(written)
+}
+
+/// A cell and its places.
+fn row_of(text: &str) -> Option<Row> {
+    let (cell, places) = text.split_once(' ')?;
+    let cell = Cell::parse(cell)?;
+    let places = places.parse::<u32>().ok()?;
+    if places <= 100_000 {
+        Some(Row::new(cell, places))
+    } else {
+        None
+    }
 }
 
 /// The rows that stand between commas, each a cell and its places.
 fn rows_of(alloc: Global, text: &str) -> Result<Vec<Row>, Fail> {
     let mut rows = Vec::new(alloc);
     for part in text.split(", ") {
-        let (cell, places) = part.split_once(' ').ok_or("no places")?;
-        let cell = Cell::parse(cell).ok_or("no cell")?;
-        let places = places.parse::<u32>()?;
-        if places <= 100_000 {
-            rows.push(Row::new(cell, places))?;
-        }
+        rows.push(row_of(part).ok_or("no row")?)?;
     }
     Ok(rows)
 }
 
+/// The batch of a name and its rows.
+fn batch_of(alloc: Global, text: &str) -> Result<Batch, Fail> {
+    let (name, rows) = text.split_once(' ').ok_or("no rows")?;
+    let name = Name::parse(name).ok_or("no name")?;
+    Ok(Batch::new(alloc, name, rows_of(alloc, rows)?)?)
+}
+
+/// The move of a journey with this word.
+fn move_of(word: &str, text: &str) -> Option<Command> {
+    let (id, position) = text.split_once(' ').unwrap_or((text, "0"));
+    let id = id.parse().ok()?;
+    let position = position.parse().ok()?;
+    match word {
+        "step" => Some(Command::Step(id)),
+        "abort" => Some(Command::Abort(id, position)),
+        "stop" => Some(Command::Stop(id)),
+        "save" => Some(Command::Save(id)),
+        _ => None,
+    }
+}
+
+/// The command of a line that is written out.
+fn written_command(alloc: Global, line: &str) -> Result<Command, Fail> {
+    let (word, rest) = line.split_once(' ').ok_or("no command")?;
+    match word {
+        "load" => Ok(Command::Load(batch_of(alloc, rest)?)),
+        "begin" => Ok(Command::Begin(Plan::from_line(alloc, rest)?)),
+        _ => Ok(move_of(word, rest).ok_or("no command")?),
+    }
+}
+
 /// The command of a line.
 pub fn command_of(alloc: Global, line: &str) -> Result<Command, Fail> {
-    let line = written_out(alloc, line)?;
-    let (word, rest) = line.as_str().split_once(' ').ok_or("no command")?;
-    Ok(match word {
-        "load" => {
-            let (name, rows) = rest.split_once(' ').ok_or("no rows")?;
-            let name = Name::parse(name).ok_or("no name")?;
-            Command::Load(Batch::new(alloc, name, rows_of(alloc, rows)?)?)
-        }
-        "begin" => Command::Begin(Plan::from_line(alloc, rest)?),
-        "step" => Command::Step(rest.parse()?),
-        "abort" => {
-            let (id, position) = rest.split_once(' ').ok_or("no position")?;
-            Command::Abort(id.parse()?, position.parse()?)
-        }
-        "stop" => Command::Stop(rest.parse()?),
-        _ => Command::Save(rest.parse()?),
-    })
+    written_command(alloc, written_out(alloc, line)?.as_str())
 }
 
 /// The items of a journey, with a blank between them.
@@ -119,7 +142,7 @@ fn cells(alloc: Global, book: &mut MemBook, want: &str) -> Result<String, Fail> 
     let plan = Plan::from_line(alloc, format!(in alloc; "{want}!0")?.as_str())?;
     let mut line = String::new(alloc);
     if plan.steps() < 1 || plan.options(1) < 1 {
-        return Ok(line);
+        return Err("no want".into());
     }
     for (night, held) in &book.cells(&plan.want(1, 1))? {
         if !line.is_empty() {
@@ -168,7 +191,7 @@ pub fn reply(book: &mut MemBook, command: &Command, ask: Option<&Ask>) -> Result
 }
 
 /// What a book answers to a line of the house.
-pub fn answer(alloc: Global, book: &mut MemBook, line: &str) -> Result<String, Fail> {
+fn answer(alloc: Global, book: &mut MemBook, line: &str) -> Result<String, Fail> {
     let written = written_out(alloc, line)?;
     match written.as_str().split_once(' ') {
         None => stock(alloc, book),
@@ -176,16 +199,30 @@ pub fn answer(alloc: Global, book: &mut MemBook, line: &str) -> Result<String, F
         Some(("unfinished", after)) => unfinished(alloc, book, after.parse()?),
         Some(("free", cell)) => free(alloc, book, cell),
         Some(("cells", want)) => cells(alloc, book, want),
-        Some(_) => Ok(reply(book, &command_of(alloc, line)?, None)?.line(alloc)?),
+        Some(_) => Ok(reply(book, &written_command(alloc, &written)?, None)?.line(alloc)?),
     }
+}
+
+/// Stops the test where another text is answered to this line.
+pub fn reads(rt: &impl Abort, line: &str, answered: &str, expected: &str) {
+    assert!(rt; answered == expected, "{line}: {answered}");
+}
+
+/// Goes through a table of lines and answers.
+pub fn goes_on(
+    rt: &impl Abort,
+    alloc: Global,
+    book: &mut MemBook,
+    rows: &[(&str, &str)],
+) -> Result<(), Fail> {
+    for &(line, expected) in rows {
+        let answered = answer(alloc, book, line)?;
+        reads(rt, line, &answered, expected);
+    }
+    Ok(())
 }
 
 /// Goes through a table of lines and answers, on a new desk.
 pub fn answers(rt: &impl Abort, alloc: Global, rows: &[(&str, &str)]) -> Result<(), Fail> {
-    let mut book = MemBook::new(alloc);
-    for (line, expected) in rows {
-        let answered = answer(alloc, &mut book, line)?;
-        assert_eq!(rt; answered.as_str(), *expected, "{line}");
-    }
-    Ok(())
+    goes_on(rt, alloc, &mut MemBook::new(alloc), rows)
 }

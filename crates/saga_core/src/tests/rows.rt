@@ -1,6 +1,8 @@
 //! Worked rows, each on a new desk: a line, and what is answered.
-use crate::tests::lines::{answer, answers, command_of, reply};
-use crate::{Agent, Ask, Key, MemBook};
+use crate::MemBook;
+use crate::tests::ask;
+use crate::tests::lines::{answers, command_of, goes_on, reads, reply};
+use std::alloc::Global;
 use std::test::Fail;
 
 #[rattlefmt::skip]
@@ -40,6 +42,32 @@ const NO_JOURNEYS: [(&str, &str); 7] = [
 #[test]
 fn a_new_desk_has_no_journey(rt: HostRuntime) -> Result<(), Fail> {
     answers(&rt, rt.alloc(), &NO_JOURNEYS)
+}
+
+#[rattlefmt::skip]
+const NOTHING_LOADED: [(&str, &str); 2] = [
+    ("cells @1/1/1", ""),
+    ("stock",        ""),
+];
+
+#[test]
+fn nothing_is_allotted(rt: HostRuntime) -> Result<(), Fail> {
+    answers(&rt, rt.alloc(), &NOTHING_LOADED)
+}
+
+#[rattlefmt::skip]
+const UNFINISHED: [(&str, &str); 6] = [
+    ("unfinished 0",   "none"),
+    ("begin @1/1/1!0", "journey 1 begun"),
+    ("begin @1/1/1!0", "journey 2 begun"),
+    ("unfinished 0",   "1 desk run 0"),
+    ("unfinished 1",   "2 desk run 0"),
+    ("unfinished 2",   "none"),
+];
+
+#[test]
+fn unfinished_journeys_come_by_their_numbers(rt: HostRuntime) -> Result<(), Fail> {
+    answers(&rt, rt.alloc(), &UNFINISHED)
 }
 
 #[rattlefmt::skip]
@@ -397,13 +425,10 @@ fn cells_are_shown_in_their_order(rt: HostRuntime) -> Result<(), Fail> {
 fn a_room_without_its_last_night_is_not_taken(rt: HostRuntime) -> Result<(), Fail> {
     let alloc = rt.alloc();
     let mut load = String::from_str(alloc, "load a ")?;
-    for night in 1..31u8 {
-        if night > 1 {
-            load.push_str(", ")?;
-        }
-        let places = if night < 30 { 1u8 } else { 0 };
-        write!(load, "R/INN/DBL/2030-06-{night:02} {places}")?;
+    for night in 1..30u8 {
+        write!(load, "R/INN/DBL/2030-06-{night:02} 1, ")?;
     }
+    load.push_str("R/INN/DBL/2030-06-30 0")?;
     let rows = [
         (load.as_str(), "loaded a 30"),
         ("begin @D/30/1!0", "journey 1 begun"),
@@ -412,12 +437,7 @@ fn a_room_without_its_last_night_is_not_taken(rt: HostRuntime) -> Result<(), Fai
         ("free R/INN/DBL/2030-06-29", "1"),
         ("free R/INN/DBL/2030-06-30", "0"),
     ];
-    let mut book = MemBook::new(alloc);
-    for (line, expected) in rows {
-        let answered = answer(alloc, &mut book, line)?;
-        assert_eq!(rt; answered.as_str(), expected, "{line}");
-    }
-    Ok(())
+    answers(&rt, alloc, &rows)
 }
 
 // who asks, under which key, what is asked, and what is answered
@@ -440,27 +460,34 @@ const AGENTS: [(&str, &str, &str, &str); 15] = [
     ("ann", "k4", "step 9",         "refused 14 KeyReused"),
 ];
 
+#[rattlefmt::skip]
+const AFTERWARDS: [(&str, &str); 3] = [
+    ("items 1", "T1.1"),
+    ("step 3",  "journey 3 T1.1 ended 1"),
+    ("free @1", "6"),
+];
+
+/// What a book answers to a line of an agent, who asks it under this key.
+fn answer_to(
+    alloc: Global,
+    book: &mut MemBook,
+    agent: &str,
+    key: &str,
+    line: &str,
+) -> Result<String, Fail> {
+    let ask = ask(alloc, agent, key, line)?;
+    let command = command_of(alloc, line)?;
+    Ok(reply(book, &command, Some(&ask))?.line(alloc)?)
+}
+
 #[test]
 fn agents_move_their_own_journeys(rt: HostRuntime) -> Result<(), Fail> {
     let alloc = rt.alloc();
     let mut book = MemBook::new(alloc);
-    assert_eq!(rt;
-        answer(alloc, &mut book, "load a @1 10")?.as_str(),
-        "loaded a 1"
-    );
-    for (agent, key, line, expected) in AGENTS {
-        let agent = Agent::parse(agent).ok_or("no agent")?;
-        let key = Key::parse(key).ok_or("no key")?;
-        let ask = Ask::new(agent, key, Vec::from_slice(alloc, line.as_bytes())?);
-        let command = command_of(alloc, line)?;
-        let reply = reply(&mut book, &command, Some(&ask))?;
-        assert_eq!(rt; reply.line(alloc)?.as_str(), expected, "{line}");
+    goes_on(&rt, alloc, &mut book, &[("load a @1 10", "loaded a 1")])?;
+    for &(agent, key, line, expected) in &AGENTS {
+        let answered = answer_to(alloc, &mut book, agent, key, line)?;
+        reads(&rt, line, &answered, expected);
     }
-    assert_eq!(rt; answer(alloc, &mut book, "items 1")?.as_str(), "T1.1");
-    assert_eq!(rt;
-        answer(alloc, &mut book, "step 3")?.as_str(),
-        "journey 3 T1.1 ended 1"
-    );
-    assert_eq!(rt; answer(alloc, &mut book, "free @1")?.as_str(), "6");
-    Ok(())
+    goes_on(&rt, alloc, &mut book, &AFTERWARDS)
 }
