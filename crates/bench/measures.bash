@@ -265,3 +265,50 @@ measure_recovery() (
     '{ plain = 1e6 / $3; ours = count * 1000 / time
       printf "%d %s %.0f %.0f %.2f 0.9\n", count, told, ours, plain, ours / plain }' plain
 )
+
+# took WORDS: the processor's milliseconds of this command, the least of five runs; its output goes to the file out
+took() {
+  local TIMEFORMAT='%3U %3S' run
+  for run in 1 2 3 4 5; do
+    { time "$@" >out; } 2>&1
+  done | awk '{ spent = ($1 + $2) * 1000 } NR == 1 || spent < least { least = spent } END { print least }'
+}
+
+# peak_of_report FILE LINES: the most memory, in kB, that the stock report of FILE has taken after so many lines, while it
+# waits for its reader
+peak_of_report() {
+  mkfifo report
+  "$desk" stock "$1" >report &
+  pid=$!
+  exec 4<report
+  rm report
+  head -n "$2" <&4 >lines
+  sleep 0.2
+  awk '/^VmHWM/ { print $2 }' "/proc/$pid/status"
+  cat <&4 >/dev/null
+  exec 4<&-
+  wait "$pid"
+}
+
+# The stock report of 10^5 cells, beside sqlite3's own dump of the table, and its memory.
+measure_stock() (
+  if ! command -v sqlite3 >/dev/null 2>&1; then
+    say "stock: skipped, there is no sqlite3"
+    exit 0
+  fi
+  works_in_memory
+  "$desk" run cells.db </dev/null || exit 1
+  "$bench" load cells.db 50 >loaded || exit 1
+  ours=$(took "$desk" stock cells.db)
+  told=$(tail -n 1 out)
+  plain=$(took sqlite3 cells.db '.dump stock')
+  echo "stock report-ms dump-ms ratio at-most"
+  awk -v told="$told" -v ours="$ours" -v plain="$plain" \
+    'BEGIN { sub("cells ", "", told); printf "%d %.0f %.0f %.2f 3.0\n", told, ours, plain, ours / plain }'
+  "$desk" run few.db </dev/null
+  "$bench" load few.db 1 >loaded || exit 1
+  few=$(peak_of_report few.db 500)
+  many=$(peak_of_report cells.db 90000)
+  echo "stock few-kB many-kB more-kB at-most"
+  awk -v few="$few" -v many="$many" 'BEGIN { printf "100000 %d %d %d 20000\n", few, many, many - few }'
+)

@@ -2,11 +2,13 @@
 //!
 //! With the word `plan-line` it prints a row for lines of 6, 12 and 24 steps: the bytes of the line, how
 //! often it is read in a second, how often it is split, and the ratio of the two. With the word `steps` it
-//! prints how fast the desk in memory does steps, a row for each number of events before. With
+//! prints how fast the desk in memory does steps, a row for each number of events before. With the word `file`
+//! it prints how long an allotment file of 2,000 rows is read, and its records alone. With
 //! `load FILE COUNT` it loads so many batches of 2,000 new rows into the database FILE, and prints how long the
 //! shortest took. Nothing is promised about time; the program is proved safe, as each is.
 #![tactic(auto)]
 
+mod files;
 mod loads;
 mod plan_lines;
 mod stepping;
@@ -21,6 +23,7 @@ fn main(rt: HostRuntime) -> io::Result<()> {
     match (what.as_str(), file, count) {
         ("plan-line", None, _) => plan_lines::compare(&rt),
         ("steps", None, _) => stepping::compare(&rt),
+        ("file", None, _) => files::compare(&rt),
         ("load", Some(file), Some(count)) => loads::load_batches(
             &rt,
             file.as_str(),
@@ -31,5 +34,5 @@ fn main(rt: HostRuntime) -> io::Result<()> {
 }
 
 fn usage(rt: &impl Print) -> io::Result<()> {
-    println!(rt; "usage: bench plan-line | steps | load FILE COUNT")
+    println!(rt; "usage: bench plan-line | steps | file | load FILE COUNT")
 }
