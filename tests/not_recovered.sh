@@ -1,5 +1,6 @@
 #!/usr/bin/env bash
-# A desk that was not recovered answers no lines: a program that hands one to run_lines does not compile.
+# A desk that was not recovered answers no lines and no requests: a program that hands one to run_lines or serve does not
+# compile.
 . "$(dirname "${BASH_SOURCE[0]}")/helping.bash"
 
 top=$(dirname "$tests")
@@ -7,12 +8,25 @@ cp "$top/crates.txt" "$top/HANDLES" .
 mkdir crates
 (cd "$top/crates" && tar -cf - --exclude=out .) | tar -xf - -C crates
 
-# the program that ./check has just built, but for the desk that it hands over
-programs=crates/cli/src/programs.rt
-recovered='run_lines(alloc, reader, out, &mut desk)'
-same "the desk is handed over once" 1 "$(grep -cF "$recovered" "$programs")"
-sed -i 's/run_lines(alloc, reader, out, &mut desk)/run_lines(alloc, reader, out, \&mut desk.into_inner())/' "$programs"
-said=$(cd crates/desk && rt try 2>&1 </dev/null)
-same "what the compiler says" 'error[mismatched-types]: expected `&mut Ready<_>`' \
-  "$(grep -o 'error\[[a-z-]*\]: expected `&mut Ready<_>`' <<<"$said" | head -n 1)"
+# is_refused FILE TEXT CHANGED: the program that ./check has just built does not compile, where this text in this file is
+# changed so that a desk is handed over that was not recovered
+is_refused() {
+  local said
+  same "$1: the text is there" yes "$(grep -qF "$2" "$1" && echo yes)"
+  cp "$1" kept
+  python3 - "$1" "$2" "$3" <<'EDIT'
+import sys
+path, old, new = sys.argv[1:]
+text = open(path, encoding="utf-8").read()
+open(path, "w", encoding="utf-8").write(text.replace(old, new))
+EDIT
+  said=$(cd crates/desk && rt try 2>&1 </dev/null)
+  same "$1: what the compiler says" 'error[mismatched-types]: expected `&mut Ready<_>`' \
+    "$(grep -o 'error\[[a-z-]*\]: expected `&mut Ready<_>`' <<<"$said" | head -n 1)"
+  cp kept "$1"
+}
+
+is_refused crates/cli/src/programs.rt 'run_lines(alloc, reader, out, &mut desk)' \
+  'run_lines(alloc, reader, out, &mut desk.into_inner())'
+is_refused crates/cli/src/listening.rt 'book: &mut Ready<B>' 'book: &mut B'
 finish

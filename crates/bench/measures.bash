@@ -1,5 +1,6 @@
 # What ./bench measures with the built program over files. Each measure prints plain lines; times are the
-# processor's, in microseconds, so that other work on the machine disturbs them little.
+# processor's, in microseconds, so that other work on the machine disturbs them little. Over HTTP a client waits,
+# so there those of the clock stand beside them.
 bench=$top/crates/bench/out/bench
 desk=${DESK:-$top/crates/desk/out/desk}
 
@@ -103,15 +104,14 @@ shortest() {
     END { for (i = 1; i <= n; i++) print line[names[i]] }' "$1"
 }
 
-# has_rows: the program that makes the same row changes by libsqlite3 is there, or it is said why it is not
-has_rows() {
-  rows=$top/crates/bench/out/rows
+# has_c MEASURE NAME: the C program of this name is compiled, or it is said why the measure is skipped
+has_c() {
   if ! command -v cc >/dev/null 2>&1; then
-    say "commits: skipped, there is no C compiler"
+    say "$1: skipped, there is no C compiler"
     return 1
   fi
-  if ! cc -O2 -o "$rows" "$top/crates/bench/rows.c" -lsqlite3 2>/dev/null; then
-    say "commits: skipped, there is no libsqlite3 to compile with (Debian: libsqlite3-dev)"
+  if ! cc -O2 -o "$top/crates/bench/out/$2" "$top/crates/bench/$2.c" -lsqlite3 2>/dev/null; then
+    say "$1: skipped, there is no libsqlite3 to compile with (Debian: libsqlite3-dev)"
     return 1
   fi
 }
@@ -128,7 +128,8 @@ same_rows() {
 # The commit of each kind of event, beside the same row changes by libsqlite3, and beside these with the same
 # reads.
 measure_commits() (
-  has_rows || exit 0
+  has_c commits rows || exit 0
+  rows=$top/crates/bench/out/rows
   works_in_memory
   # many short rounds, of which the shortest time of each kind counts
   count=500
@@ -266,6 +267,30 @@ measure_recovery() (
       printf "%d %s %.0f %.0f %.2f 0.9\n", count, told, ours, plain, ours / plain }' plain
 )
 
+# makes_ended FILE COUNT: a file with so many journeys of three steps, each of which ended before the next began
+makes_ended() {
+  local flight=F/AL/A1/2030-06-01/1/1
+  opens "$1"
+  echo "set flight-1 F/AL/A1/2030-06-01 100000" | asks 1
+  seq "$2" | awk -v plan="$flight;$flight;$flight!0" \
+    '{ print "begin " plan; for (step = 1; step <= 3; step++) print "step " $1 }' | asks $((4 * $2))
+  refused_none
+  closes
+}
+
+# The history of a journey among 10^5 events, beside that of one among 10^2, both asked without the opening: of the
+# first journey, which ended early, and of the one begun last.
+measure_history() (
+  works_in_memory
+  makes_ended few.db 25 && makes_ended many.db 25000 || exit 1
+  echo "history at-100-events at-100000-events ratio at-most"
+  for journey in "first 1 1" "last 25 25000"; do
+    read -r name few many <<<"$journey"
+    paste -d ' ' <("$bench" history few.db "$few") <("$bench" history many.db "$many") |
+      awk -v name="$name" '{ printf "%s %.1f %.1f %.2f 5.0\n", name, $4, $8, $8 / $4 }'
+  done
+)
+
 # took WORDS: the processor's milliseconds of this command, the least of five runs; its output goes to the file out
 took() {
   local TIMEFORMAT='%3U %3S' run
@@ -301,14 +326,113 @@ measure_stock() (
   "$bench" load cells.db 50 >loaded || exit 1
   ours=$(took "$desk" stock cells.db)
   told=$(tail -n 1 out)
+  # a journey that is absent: the file is opened, and closed again
+  opening=$(took "$desk" history cells.db 1)
   plain=$(took sqlite3 cells.db '.dump stock')
-  echo "stock report-ms dump-ms ratio at-most"
-  awk -v told="$told" -v ours="$ours" -v plain="$plain" \
-    'BEGIN { sub("cells ", "", told); printf "%d %.0f %.0f %.2f 3.0\n", told, ours, plain, ours / plain }'
+  echo "stock report-ms of-it-opening-ms dump-ms ratio without-opening at-most"
+  awk -v told="$told" -v ours="$ours" -v opening="$opening" -v plain="$plain" \
+    'BEGIN { sub("cells ", "", told)
+             printf "%d %.0f %.0f %.0f %.2f %.2f 3.0\n", told, ours, opening, plain, ours / plain, (ours - opening) / plain }'
   "$desk" run few.db </dev/null
   "$bench" load few.db 1 >loaded || exit 1
   few=$(peak_of_report few.db 500)
   many=$(peak_of_report cells.db 90000)
   echo "stock few-kB many-kB more-kB at-most"
   awk -v few="$few" -v many="$many" 'BEGIN { printf "100000 %d %d %d 20000\n", few, many, many - few }'
+)
+
+# What serves on the port that is given, each over a file of its own: the desk; the same row changes by libsqlite3;
+# these with the same reads
+desk_at() { exec "$desk" serve desk.db --port "$1" --connections 1; }
+rows_at() { exec "$top/crates/bench/out/http" rows.db "$1"; }
+reading_at() { exec "$top/crates/bench/out/http" reading.db "$1" reading; }
+
+# serves SERVER: it serves on $port as process $pid; another port is tried where one is in use
+serves() {
+  local try
+  for try in 1 2 3 4 5; do
+    port=$((20000 + RANDOM % 10000))
+    : >told
+    "$1" "$port" >told 2>server-errors &
+    pid=$!
+    while kill -0 "$pid" 2>/dev/null && [ ! -s told ]; do sleep 0.01; done
+    [ -s told ] && return 0
+    wait "$pid"
+  done
+  say "$1 does not serve"
+  cat server-errors >&2
+  return 1
+}
+
+# asked SERVER: how long its requests take; its last pages go to the file SERVER.pages
+asked() {
+  serves "$1" || return 1
+  if ! "$top/crates/bench/out/ask" "$port" "$pid" "$1.pages"; then
+    kill "$pid" 2>/dev/null
+    cat server-errors >&2
+    return 1
+  fi
+  wait "$pid"
+}
+
+# same_pages SERVER OTHER: both answered by the same bytes
+same_pages() {
+  if ! cmp -s "$1.pages" "$2.pages"; then
+    say "$1 and $2 have other pages, so their times say nothing"
+    return 1
+  fi
+}
+
+# asked_all: each server in turn, over new files; the times go to the files ours, plain and with-reads
+asked_all() {
+  rm -f ./*.db*
+  echo "set flight-1 F/AL/A1/2030-06-01 100000" | "$desk" run desk.db >answers || return 1
+  refused_none || return 1
+  asked desk_at >>ours && asked rows_at >>plain && asked reading_at >>with-reads || return 1
+  same_pages desk_at rows_at && same_pages desk_at reading_at && same_rows desk.db rows.db
+}
+
+# The tables of the measure below. Each line of the file `all` has a name, the desk's time, that of the same row
+# changes, and that of these with the same reads.
+table_of_requests() {
+  echo "request desk libsqlite3 ratio at-most reading-too ratio"
+  awk 'BEGIN { most["get"] = most["step"] = "2.0" }
+    { printf "%s %.1f %.1f %.2f %s %.1f %.2f\n", $1, $2, $3, $2 / $3, $1 in most ? most[$1] : "-", $4, $2 / $4 }' all
+}
+
+table_of_bytewise() {
+  echo "bytewise-over-whole desk libsqlite3 at-most"
+  awk 'function told(whole, bytewise, most) {
+      printf "%s %.2f %.2f %s\n", whole, desk[bytewise] / desk[whole], plain[bytewise] / plain[whole], most
+    }
+    { desk[$1] = $2; plain[$1] = $3 }
+    END {
+      told("get", "get-bytewise", "3.0"); told("get-processor", "get-bytewise-processor", "-")
+      told("step", "step-bytewise", "-"); told("step-processor", "step-bytewise-processor", "-")
+    }' all
+}
+
+table_of_heads() {
+  echo "a-byte-of-a-head at-2048 at-4096 at-8192 ratio at-most"
+  awk 'function told(name, time, most,   few, many) {
+      few = time["head-2048"] / 2048
+      many = time["head-8192"] / 8192
+      printf "%s %.3f %.3f %.3f %.2f %s\n", name, few, time["head-4096"] / 4096, many, many / few, most
+    }
+    { desk[$1] = $2; plain[$1] = $3 }
+    END { told("desk", desk, "1.3"); told("libsqlite3", plain, "-") }' all
+}
+
+# Requests over HTTP, beside a plain loop that makes the same row changes by libsqlite3, and beside this with the
+# same reads; requests that come byte by byte, beside those that come whole; and what a byte of a head takes as the
+# head grows.
+measure_http() (
+  has_c http http && has_c http ask || exit 0
+  works_in_memory
+  for ((round = 0; round < 10; round++)); do asked_all || exit 1; done
+  paste -d ' ' <(shortest ours | cut -d ' ' -f 1,3) <(shortest plain | cut -d ' ' -f 3) \
+    <(shortest with-reads | cut -d ' ' -f 3) >all
+  table_of_requests
+  table_of_bytewise
+  table_of_heads
 )

@@ -8,6 +8,8 @@
    were, and how many microseconds of the processor one took; of loads the shortest time. With the word
    `reading` each event first reads what a desk has to read for its decision.
 
+   The program http.c has the same rows: it is compiled with this file in front of it, without its `main`.
+
    The tables and rows are those of docs/FORMATS.md. Statements are prepared once; each event is one
    transaction, in WAL mode with synchronous FULL and foreign keys on, as the desk has them. */
 #include <sqlite3.h>
@@ -20,8 +22,8 @@ enum { ROWS = 2000, PLACES = 100000, FIRST = 22066 /* 2030-06-01, in days from 1
 
 /* the statements */
 enum {
-  BEGIN, COMMIT, META, PUT, BATCH, JOURNEY, STEP, TAKEN, MOVE, ENTRY, UNMARK,
-  READ_META, READ_JOURNEY, READ_STEPS, READ_MARKS, READ_NIGHTS, READ_BATCH, STATEMENTS
+  BEGIN, COMMIT, META, PUT, BATCH, JOURNEY, STEP, TAKEN, MOVE, ENTRY, UNMARK, ANSWER,
+  READ_META, READ_JOURNEY, READ_OPTIONS, READ_STEPS, READ_MARKS, READ_NIGHTS, READ_BATCH, READ_ANSWER, UNFINISHED, STATEMENTS
 };
 static const char *const texts[STATEMENTS] = {
   [BEGIN] = "BEGIN",
@@ -30,21 +32,27 @@ static const char *const texts[STATEMENTS] = {
   [PUT] = "INSERT INTO stock VALUES (?1, ?2, ?3, ?4, ?5, ?6) ON CONFLICT(kind, supplier, product, night) "
           "DO UPDATE SET allot = excluded.allot, free = excluded.free",
   [BATCH] = "INSERT INTO batch VALUES (?1, ?2, ?3)",
-  [JOURNEY] = "INSERT INTO journey VALUES (?1, ?2, 'desk', 2, 0, 0, 0, 0, 0)",
+  [JOURNEY] = "INSERT INTO journey VALUES (?1, ?2, ?4, ?3, 0, 0, 0, 0, 0)",
   [STEP] = "INSERT INTO step VALUES (?1, ?2, 1, 0, 0, ?3, ?4, ?5, ?6, ?7, 1)",
-  [TAKEN] = "UPDATE step SET taken = ?2 WHERE journey = ?1 AND place = 1 AND opt = 1",
+  [TAKEN] = "UPDATE step SET taken = ?3 WHERE journey = ?1 AND place = ?2 AND opt = 1",
   [MOVE] = "UPDATE journey SET pos = ?2, phase = ?3, target = 0, used = ?4 WHERE id = ?1",
   [ENTRY] = "INSERT INTO entry2 VALUES (?1, ?2, ?3, ?4, ?5)",
   [UNMARK] = "DELETE FROM mark WHERE journey = ?1 AND pos = 1",
+  [ANSWER] = "INSERT INTO answer VALUES (?1, ?2, ?4, ?3)",
   [READ_META] = "SELECT version, events, journeys FROM meta WHERE one = 1",
   [READ_JOURNEY] = "SELECT id, num, agent, steps, tries, pos, phase, target, used FROM journey "
                    "WHERE id = ?1",
+  [READ_OPTIONS] = "SELECT place, opt, save, taken, kind, supplier, product, night, nights, places "
+                   "FROM step WHERE journey = ?1 AND place = ?2 ORDER BY place, opt",
   [READ_STEPS] = "SELECT place, opt, save, taken, kind, supplier, product, night, nights, places "
                  "FROM step WHERE journey = ?1 ORDER BY place, opt",
   [READ_MARKS] = "SELECT pos FROM mark WHERE journey = ?1 ORDER BY pos",
   [READ_NIGHTS] = "SELECT night, allot, free FROM stock WHERE kind = ?1 AND supplier = ?2 AND product = ?3 "
                   "AND night BETWEEN ?4 AND ?5 ORDER BY night",
   [READ_BATCH] = "SELECT num, content FROM batch WHERE name = ?1",
+  [READ_ANSWER] = "SELECT ask, reply FROM answer WHERE agent = ?1 AND mark = ?2",
+  [UNFINISHED] = "SELECT id, num, agent, steps, tries, pos, phase, target, used FROM journey "
+                 "WHERE id > ?1 AND phase <= 1 ORDER BY id",
 };
 static const char tables[] =
   "PRAGMA journal_mode = WAL; PRAGMA synchronous = FULL; PRAGMA foreign_keys = ON; BEGIN;"
@@ -115,8 +123,16 @@ static void read_nights(const struct want *want, long first, long last) {
       (const char *const[]){want->supplier, want->product});
 }
 
-/* what a desk reads of a journey that moves */
-static void read_journey(long id) {
+/* what a desk reads of a step */
+static void read_step(long id, int place) {
+  if (!reads) return;
+  RUN(READ_META, "", 0);
+  RUN(READ_JOURNEY, "i", id);
+  RUN(READ_OPTIONS, "ii", id, place);
+}
+
+/* and besides where the journey turns */
+static void read_plan(long id) {
   if (!reads) return;
   RUN(READ_META, "", 0);
   RUN(READ_JOURNEY, "i", id);
@@ -154,7 +170,7 @@ static void load(const char *name, const struct want *wants, int products) {
 static void begin(const struct want *want) {
   if (reads) RUN(READ_META, "", 0);
   RUN(BEGIN, "", 0);
-  RUN(JOURNEY, "ii", ++journeys, ++events);
+  run(JOURNEY, "iiit", (const long[]){++journeys, ++events, 2}, (const char *const[]){"desk"});
   run(STEP, "iiittii", (const long[]){journeys, 1, want->kind, want->first, want->nights},
       (const char *const[]){want->supplier, want->product});
   run(STEP, "iiittii", (const long[]){journeys, 2, 0, FIRST, 1}, (const char *const[]){"NO", "NONE"});
@@ -163,21 +179,26 @@ static void begin(const struct want *want) {
 }
 
 /* the rows of an item, and of where its journey is then */
-static void move(long id, long item, long a, long b, long pos, long phase, long used) {
+static void put_item(long id, long item, long a, long b, long pos, long phase, long used) {
   RUN(MOVE, "iiii", id, pos, phase, used);
   RUN(ENTRY, "iiiii", ++events, id, item, a, b);
   RUN(META, "ii", events, journeys);
+}
+
+/* The same, with which the transaction ends. */
+static void move(long id, long item, long a, long b, long pos, long phase, long used) {
+  put_item(id, item, a, b, pos, phase, used);
   RUN(COMMIT, "", 0);
 }
 
 /* The first step takes its places. */
 static void take(struct want *want, long id) {
-  read_journey(id);
+  read_step(id, 1);
   if (reads) read_nights(want, want->first, want->first + want->nights - 1);
   RUN(BEGIN, "", 0);
   want->free--;
   for (int night = want->first; night < want->first + want->nights; night++) put(want, night, want->free);
-  RUN(TAKEN, "ii", id, 1);
+  RUN(TAKEN, "iii", id, 1, 1);
   move(id, 0, 1, 1, 1, 0, 0);
 }
 
@@ -185,20 +206,20 @@ static void take(struct want *want, long id) {
 static void turn(struct want *want, long id) {
   static const struct want none = {0, FIRST, 1, 0, "F", "NO", "NONE"};
   (void)want;
-  read_journey(id);
+  read_step(id, 2);
   if (reads) read_nights(&none, FIRST, FIRST);
+  read_plan(id);
   RUN(BEGIN, "", 0);
   move(id, 2, 0, 1, 1, 1, 1);
 }
 
 /* The first step is compensated, and the journey is undone. */
 static void give(struct want *want, long id) {
-  read_journey(id);
-  if (reads) RUN(READ_STEPS, "i", id);
+  read_step(id, 1);
   RUN(BEGIN, "", 0);
   want->free++;
   for (int night = want->first; night < want->first + want->nights; night++) put(want, night, want->free);
-  RUN(TAKEN, "ii", id, 0);
+  RUN(TAKEN, "iii", id, 1, 0);
   RUN(UNMARK, "i", id);
   move(id, 1, 1, 1, 0, 3, 1);
 }
@@ -259,6 +280,23 @@ static void load_batches(int count) {
   printf("load-%d %d %.1f\n", ROWS, count, shortest);
 }
 
+/* Makes a file with the tables, and prepares the statements. */
+static void open_rows(const char *file) {
+  if (sqlite3_open(file, &db) != SQLITE_OK) fail();
+  if (sqlite3_exec(db, tables, NULL, NULL, NULL) != SQLITE_OK) fail();
+  for (int at = 0; at < STATEMENTS; at++) {
+    int status = sqlite3_prepare_v3(db, texts[at], -1, SQLITE_PREPARE_PERSISTENT, &statements[at], NULL);
+    if (status != SQLITE_OK) fail();
+  }
+}
+
+/* Closes the file, and gives the status with which the program ends. */
+static int close_rows(void) {
+  for (int at = 0; at < STATEMENTS; at++) sqlite3_finalize(statements[at]);
+  return sqlite3_close(db) == SQLITE_OK ? 0 : 1;
+}
+
+#ifndef WITHOUT_MAIN
 int main(int words, char **word) {
   struct want flight = {0, FIRST, 1, PLACES, "F", "AL", "A1"};
   struct want room = {1, FIRST, 30, PLACES, "R", "HOT", "DBL"};
@@ -267,12 +305,7 @@ int main(int words, char **word) {
     return 2;
   }
   reads = words == 5;
-  if (sqlite3_open(word[1], &db) != SQLITE_OK) fail();
-  if (sqlite3_exec(db, tables, NULL, NULL, NULL) != SQLITE_OK) fail();
-  for (int at = 0; at < STATEMENTS; at++) {
-    int status = sqlite3_prepare_v3(db, texts[at], -1, SQLITE_PREPARE_PERSISTENT, &statements[at], NULL);
-    if (status != SQLITE_OK) fail();
-  }
+  open_rows(word[1]);
   if (strcmp(word[2], "loads") == 0) {
     load_batches(atoi(word[3]));
   } else {
@@ -281,6 +314,6 @@ int main(int words, char **word) {
     go(&flight, atoi(word[3]));
     go(&room, atoi(word[3]));
   }
-  for (int at = 0; at < STATEMENTS; at++) sqlite3_finalize(statements[at]);
-  return sqlite3_close(db) == SQLITE_OK ? 0 : 1;
+  return close_rows();
 }
+#endif

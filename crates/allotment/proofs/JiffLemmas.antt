@@ -1,19 +1,20 @@
 -- The text of a night is the text of `jiff`'s date with that day number, and what reads as a night is what `jiff` reads.
-use Rattle.std.proofs.Common.{◌≡◌, ℕ, zero, suc, ◌+◌, ◌-◌, ◌*◌, ◌/◌, ◌%◌, ◌<◌, ◌≤◌, Bool, true, false, cond, ◌==◌, List, [], ◌∷◌, ◌++◌, refl, sym, ap, subst, ◌∙◌, arith, ℤ, pos, Option, Some, None, Ok, Err}
+use Rattle.std.proofs.Common.{◌≡◌, ℕ, zero, suc, ◌+◌, ◌-◌, ◌*◌, ◌/◌, ◌%◌, ◌<◌, ◌≤◌, Bool, true, false, cond, ◌==◌, List, [], ◌∷◌, ◌++◌, length, get_or, refl, sym, ap, subst, ◌∙◌, arith, ℤ, pos, Option, Some, None, Ok}
+use Rattle.std.proofs.lemmas.Slice.Eq.{text_from_reads}
 use Rattle.std.proofs.lemmas.Bool.Decides.{nat_tests}
 use Rattle.jiff_core.specs.declared.civil.date.Date.{Date}
-use Rattle.jiff_core.specs.declared.error.Error.{Error}
-use Rattle.jiff_core.specs.Date.{epoch_day}
-use Rattle.jiff_core.specs.Calendar.{is_leap_year, days_in_month, days_of_months, day_count, days_from_civil}
+use Rattle.jiff_core.specs.Date.{epoch_day, IsYmd}
+use Rattle.jiff_core.specs.Calendar.{IsDate, is_leap_year, days_in_month, days_of_months, day_count, days_from_civil}
 use Rattle.jiff_core.proofs.SignedLemmas.{signed_arith}
 use Rattle.jiff_core.proofs.MarchLemmas.{days_of_years-march_days}
-use Rattle.jiff_core.proofs.CalendarLemmas.{days_from_civil-day_count}
+use Rattle.jiff_core.proofs.CalendarLemmas.{days_from_civil-day_count, days_in_month_bounds}
 use Rattle.jiff_core.proofs.DateLemmas.{epoch_day_injective, epoch_day_same}
 use Rattle.jiff_fmt.specs.Text.{pad2, year_text, date_text}
 use Rattle.jiff_fmt.specs.Temporal.{parse_date, date_parts}
 use Rattle.jiff_fmt.proofs.RoundTrip.{parse_date-date_text}
 use Rattle.allotment.specs.Limits.{first_night, is_night}
-use Rattle.allotment.specs.Nights.{year_of, days_before, months_if, months, days_of, month_and_day, night_text, night_in}
+use Rattle.allotment.specs.Nights.{year_of, days_before, months_if, months, days_of, month_and_day, two_digits, four_digits, night_text, night_in}
+use Rattle.allotment.specs.Dates.{IsPair, IsNoDate, IsDateText}
 use Rattle.allotment.proofs.NightLemmas.{is_civil, night_range, night_in-night_text, night_text-night_in}
 
 -- the year y from 2000 on, as `jiff` counts
@@ -71,6 +72,8 @@ night_day y m d over n within low high first sums is =
 
 -- the date of a night has its day number and its text
 pub record IsDateOf (n : ℕ) (d : Date) : Type 0 where
+  pub year : d.year ≡ year_at (year_of (n - first_night))
+  pub within : year_of (n - first_night) ≤ 99
   pub day : epoch_day d ≡ pos n
   pub shown : night_text n ≡ date_text d
 
@@ -98,7 +101,7 @@ night_date n e =
         month_in = (m_low, m_high);
         day_in = (c.place.day, subst (λ z. r.1 ≤ days_in_month (year_at y) z) next in_month);
       },
-      record { day = night_day y r.0 r.1 over n c.year m_low m_high c.place.day c.place.sums is_now; shown = refl },
+      record { year = refl; within = c.year; day = night_day y r.0 r.1 over n c.year m_low m_high c.place.day c.place.sums is_now; shown = refl },
     )
 
 -- dates of the same year, month and day have the same text
@@ -126,6 +129,8 @@ night_of_date t d n shown day e =
 -- a text that is read as a night is that of a date which `jiff` reads
 pub record Comes (t : List ℕ) (n : ℕ) : Type 0 where
   pub date : Date
+  pub year : date.year ≡ year_at (year_of (n - first_night))
+  pub within : year_of (n - first_night) ≤ 99
   pub night : is_night n ≡ true
   pub day : epoch_day date ≡ pos n
   pub text : t ≡ date_text date
@@ -139,6 +144,8 @@ comes_from t n e =
     let spelled : t ≡ date_text d.0 = sym both.1 ∙ d.1.shown in
     record {
       date = d.0;
+      year = d.1.year;
+      within = d.1.within;
       night = both.0;
       day = d.1.day;
       text = spelled;
@@ -149,12 +156,6 @@ comes_from t n e =
 none_if : (o : Option ℕ) → ((n : ℕ) → o ≡ Some n → ⊥) → o ≡ None
 none_if None h = refl
 none_if (Some n) h = absurd (h n refl)
-
--- what `jiff` does not read is not read
-pub unread : (t : List ℕ) (e : Error) → Err e ≡ parse_date t → night_in t ≡ None
-unread t e h =
-    none_if (night_in t)
-    (λ n is. let c = comes_from t n is in let p = c.parsed in let no_error : Err e ≡ Ok (date_parts c.date) = h ∙ p in cc)
 
 -- what it reads is the date that the text is of
 pub same_date : (t : List ℕ) (found : Date) (n : ℕ) → Ok (date_parts found) ≡ parse_date t → Comes t n
@@ -173,8 +174,92 @@ pub out_of_range : (t : List ℕ) (found : Date) → Ok (date_parts found) ≡ p
 out_of_range t found h far =
     none_if (night_in t) (λ n is. let c = comes_from t n is in far n (same_date t found n h c).0 c.night)
 
--- another spelling of a date is not read as a night
-pub other_text : (t : List ℕ) (found : Date) → Ok (date_parts found) ≡ parse_date t → (date_text found ≡ t → ⊥)
-    → night_in t ≡ None
-other_text t found h apart =
-    none_if (night_in t) (λ n is. let c = comes_from t n is in apart (same_date t found n h c).1)
+-- Texts of numbers in the places of a date.
+
+-- the numbers that two pairs of digits are, one behind the other
+hundreds : (c y : ℕ) → y < 100 → ((100 * c + y) / 100 ≡ c) × ((100 * c + y) % 100 ≡ y)
+hundreds c y small = (omega arith, omega arith)
+
+-- ten bytes with two dashes, and with digits elsewhere, are the text of the numbers that these digits are
+pub date_shown : (t : List ℕ) (c y m d : ℕ) → length t ≡ 10 → get_or t 4 0 ≡ 45 → get_or t 7 0 ≡ 45
+    → IsPair (get_or t 0 0) (get_or t 1 0) c → IsPair (get_or t 2 0) (get_or t 3 0) y
+    → IsPair (get_or t 5 0) (get_or t 6 0) m → IsPair (get_or t 8 0) (get_or t 9 0) d
+    → IsDateText t (100 * c + y) m d
+date_shown t c y m d long one two century year month day =
+    let parts = hundreds c y year.small in
+    let ce = century.digits in
+    let ye = year.digits in
+    let me = month.digits in
+    let de = day.digits in
+    let read : t ≡ two_digits c ++ two_digits y ++ 45 ∷ two_digits m ++ 45 ∷ two_digits d
+    = text_from_reads t (two_digits c ++ two_digits y ++ 45 ∷ two_digits m ++ 45 ∷ two_digits d) long
+    ((cc), ((cc), ((cc), ((cc), (one, ((cc), ((cc), (two, ((cc), ((cc), tt)))))))))) in
+    record {
+      year_small = omega (arith, century.small, year.small);
+      month_small = month.small;
+      day_small = day.small;
+      shown = rw parts.0 (rw parts.1 read);
+    }
+
+-- the text of a night is one
+pub comes_shown : (t : List ℕ) (n : ℕ) → (c : Comes t n)
+    → IsDateText t (2000 + year_of (n - first_night)) c.date.month c.date.day
+comes_shown t n c =
+    let short = (days_in_month_bounds c.date.year c.date.month).0 in
+    record {
+      year_small = omega (arith, c.within);
+      month_small = omega (arith, c.date.month_in.1);
+      day_small = omega (arith, c.date.day_in.1, short);
+      shown = c.text ∙ ap (λ z. year_text z ++ 45 ∷ [] ++ pad2 c.date.month ++ 45 ∷ [] ++ pad2 c.date.day) c.year;
+    }
+
+-- a text of no numbers is not read as a night
+pub no_date : (t : List ℕ) → IsNoDate t → night_in t ≡ None
+no_date t none = none_if (night_in t) (λ n is. none _ _ _ (comes_shown t n (comes_from t n is)))
+
+-- two digits tell one number
+pair_same : (a b : ℕ) → 48 + a / 10 ≡ 48 + b / 10 → 48 + a % 10 ≡ 48 + b % 10 → a ≡ b
+pair_same a b tens ones = omega arith
+
+-- a text has one year, one month and one day
+pub numbers_same : (t : List ℕ) (y m d z n e : ℕ) → IsDateText t y m d → IsDateText t z n e
+    → (y ≡ z) × (m ≡ n) × (d ≡ e)
+numbers_same t y m d z n e a b =
+    let both : four_digits y ++ 45 ∷ two_digits m ++ 45 ∷ two_digits d ≡ four_digits z ++ 45 ∷ two_digits n ++ 45 ∷ two_digits e
+    = sym a.shown ∙ b.shown in
+    let century = pair_same (y / 100) (z / 100) (cc) (cc) in
+    let year = pair_same (y % 100) (z % 100) (cc) (cc) in
+    (omega arith, pair_same m n (cc) (cc), pair_same d e (cc) (cc))
+
+-- numbers of which the calendar has no day are no night
+pub no_day : (t : List ℕ) (y m d : ℕ) → IsDateText t y m d → (IsDate (pos y) (pos m) (pos d) → ⊥) → night_in t ≡ None
+no_day t y m d shown none =
+    none_if (night_in t)
+    (λ n is.
+    let c = comes_from t n is in
+    let same = numbers_same t _ _ _ _ _ _ shown (comes_shown t n c) in
+    let date = c.date in
+    let year : date.year ≡ pos y = c.year ∙ ap (λ z. pos z) (sym same.0) in
+    let month : m ≡ date.month = same.1 in
+    let day : d ≡ date.day = same.2 in
+    let short : date.day ≤ days_in_month (pos y) m = subst (λ z. date.day ≤ days_in_month z m) year (subst (λ z. date.day ≤ days_in_month date.year z) (sym month) date.day_in.1) in
+    none (
+      (omega (arith, signed_arith, shown.year_small), omega (arith, signed_arith, shown.year_small)),
+      (omega (arith, signed_arith, date.month_in.0), omega (arith, signed_arith, date.month_in.1)),
+      (omega (arith, signed_arith, date.day_in.0), omega (arith, signed_arith, short)),
+    ))
+
+-- the date of the numbers has the text
+pub date_text-numbers : (t : List ℕ) (y m d : ℕ) (found : Date) → IsDateText t y m d → IsYmd (pos y) (pos m) (pos d) found
+    → date_text found ≡ t
+date_text-numbers t y m d found shown is =
+    let month : found.month ≡ m = omega (arith, signed_arith, is.1) in
+    let day : found.day ≡ d = omega (arith, signed_arith, is.2) in
+    ap (λ z. year_text z ++ 45 ∷ [] ++ pad2 found.month ++ 45 ∷ [] ++ pad2 found.day) is.0
+    ∙ ap (λ z. four_digits y ++ 45 ∷ [] ++ pad2 z ++ 45 ∷ [] ++ pad2 found.day) month
+    ∙ ap (λ z. four_digits y ++ 45 ∷ [] ++ pad2 m ++ 45 ∷ [] ++ pad2 z) day
+    ∙ sym shown.shown
+
+-- a date is read as its text says
+pub parsed-text : (t : List ℕ) (found : Date) → date_text found ≡ t → Ok (date_parts found) ≡ parse_date t
+parsed-text t found shown = sym (parse_date-date_text found) ∙ ap parse_date shown

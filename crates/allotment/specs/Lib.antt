@@ -3,6 +3,7 @@ pub mod Cells
 pub mod Limits
 pub mod Making
 pub mod Nights
+pub mod Dates
 pub mod Places
 pub mod Rows
 pub mod Short

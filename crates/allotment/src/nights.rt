@@ -1,9 +1,9 @@
 //! Nights, as days of the Gregorian calendar, and their texts.
-ghost use Rattle.std.specs.Prelude.{◌≡◌};
+ghost use Rattle.std.specs.Prelude.{◌≡◌, MatchOption};
 ghost use Rattle.allotment.specs.Nights.{night_in};
+ghost use Rattle.allotment.specs.Dates.{IsNoPair, IsPair, IsNoDate, IsDateText};
 
 use crate::faults::Bad;
-use jiff::civil;
 use jiff_core::civil::Date;
 use jiff_fmt::temporal::DateTimePrinter;
 use std::alloc::{AllocError, Global};
@@ -102,22 +102,42 @@ impl fmt::Display for Night {
     }
 }
 
-/// The day of the night that is written so. `jiff` also reads other spellings of dates, so what it would write is
-/// compared with the text.
+/// The day of the night that is written so.
 fn day_of(text: &str) -> Option<u32>
     ensures { result ≡ night_in text.now }
 {
-    let Ok(found) = text.parse::<civil::Date>() else {
+    let (year, month, day) = date_in(text.as_bytes())?;
+    let Ok(date) = Date::new(year as i16, month as i8, day as i8) else {
         return None;
     };
-    let date = found.to_plain();
     let day = date.to_unix_epoch_day();
     if day < FIRST || day > LAST {
         return None;
     }
-    let shown = DateTimePrinter::new().date_text(date);
-    if shown.as_str() == text {
-        Some(day as u32)
+    Some(day as u32)
+}
+
+/// The year, the month and the day whose digits stand in the text as in `YYYY-MM-DD`, whether the calendar has them or
+/// not.
+fn date_in(text: &[u8]) -> Option<(u16, u8, u8)>
+    ensures { MatchOption result (IsNoDate text.now) (λ p. IsDateText text.now p.0 p.1 p.2) }
+{
+    if text.len() != 10 || text[4] != b'-' || text[7] != b'-' {
+        return None;
+    }
+    let century = two_in(text[0], text[1])?;
+    let year = two_in(text[2], text[3])?;
+    let month = two_in(text[5], text[6])?;
+    let day = two_in(text[8], text[9])?;
+    Some((100 * century as u16 + year as u16, month, day))
+}
+
+/// The number whose two digits these are.
+fn two_in(tens: u8, ones: u8) -> Option<u8>
+    ensures { MatchOption result (IsNoPair tens ones) (IsPair tens ones) }
+{
+    if tens.is_ascii_digit() && ones.is_ascii_digit() {
+        Some(10 * (tens - b'0') + (ones - b'0'))
     } else {
         None
     }

@@ -55,10 +55,8 @@ impl<const N: usize> Short<N> {
         ensures text { result.now ≡ self.now }
         ensures limits { IsTrue (is_short N self.now) }
     {
-        match str::from_utf8(&self.bytes[..self.len]) {
-            Ok(text) => text,
-            Err(_) => unreachable!(),
-        }
+        // the text is ASCII, as the invariant says, so it need not be looked through again
+        unsafe { str::from_utf8_unchecked(&self.bytes[..self.len]) }
     }
 
     /// How many bytes the text has.

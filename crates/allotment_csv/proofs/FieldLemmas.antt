@@ -1,11 +1,11 @@
 -- The five fields of a record, by their places. For `fields`.
-use Rattle.std.proofs.Common.{◌≡◌, ◌≢◌, ◌∙◌, ap, refl, ℕ, zero, suc, ◌<◌, List, [], ◌∷◌, Bool, true, false, length, arith, Some, None}
+use Rattle.std.proofs.Common.{◌≡◌, ◌≢◌, ◌∙◌, ap, sym, subst, refl, ℕ, zero, suc, ◌-◌, ◌<◌, take, drop, List, [], ◌∷◌, Bool, true, false, length, arith, Some, None}
 use Rattle.std.specs.Prelude.{◌==◌, ◌&&◌, bytes_eq, codes, option_map, unwrap_or}
 use Rattle.std.specs.List.{list_all}
 use Rattle.std.proofs.lemmas.Bool.{and_parts, ne_eqb}
-use Rattle.std.specs.Str.{IsUtf8, is_utf8}
-use Rattle.std.proofs.lemmas.Str.{IsUtf8-from_is_utf8, is_utf8-from_IsUtf8}
-use Rattle.csv.specs.Records.{field_at}
+use Rattle.std.specs.Str.{IsAscii, IsUtf8, is_utf8}
+use Rattle.std.proofs.lemmas.Str.{IsAscii-drop, IsAscii-take, IsUtf8-from_ascii, IsUtf8-from_is_utf8, is_utf8-from_IsUtf8}
+use Rattle.csv.specs.Records.{Row, cut_from, field_at, fields_of, text_of}
 use Rattle.allotment.specs.Texts.{keep_if}
 use Rattle.allotment.proofs.TestLemmas.{keep_if_no, keep_if_some, keep_if_none, keep_if_yes}
 use Rattle.allotment_csv.specs.Fields.{text_at, is_at}
@@ -14,6 +14,21 @@ use Rattle.allotment_csv.specs.Rows.{has_shape, is_heading, are_same, heading}
 -- a text is what is kept of its bytes
 pub text_there : (bytes : List ℕ) → IsUtf8 bytes → keep_if is_utf8 bytes ≡ Some bytes
 text_there bytes text = keep_if_yes is_utf8 bytes (is_utf8-from_IsUtf8 bytes text)
+
+-- each field of a text of ASCII is ASCII
+ascii_at : (start : ℕ) (ends bytes : List ℕ) (i : ℕ) (field : List ℕ) → IsAscii bytes
+    → field_at (cut_from start ends bytes) i ≡ Some field → IsAscii field
+unfolding field_at cut_from
+ascii_at start [] bytes i field ascii is = cc
+ascii_at start (end ∷ ends) bytes zero field ascii is =
+    let here : take (end - start) (drop start bytes) ≡ field = cc in
+    subst IsAscii here (IsAscii-take (drop start bytes) (end - start) (IsAscii-drop bytes start ascii))
+ascii_at start (end ∷ ends) bytes (suc i) field ascii is = ascii_at end ends bytes i field ascii is
+
+-- so it is text
+pub text_of_ascii : (r : Row) (i : ℕ) (field : List ℕ) → IsAscii (text_of r) → Some field ≡ field_at (fields_of r) i
+    → IsUtf8 field
+text_of_ascii r i field ascii is = IsUtf8-from_ascii field (ascii_at 0 r.ends r.bytes i field ascii (sym is))
 
 -- of bytes that are no text nothing is kept
 pub text_gone : (bytes : List ℕ) → (IsUtf8 bytes → ⊥) → keep_if is_utf8 bytes ≡ None

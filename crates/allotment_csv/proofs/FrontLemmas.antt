@@ -1,7 +1,7 @@
 -- What a front of rows comes to: which of the faults of all rows is the first. For `fronts`.
 use Rattle.std.proofs.Common.{◌≡◌, ◌∙◌, ap, sym, subst, refl, ℕ, zero, suc, ◌+◌, ◌<◌, ◌≤◌, List, [], ◌∷◌, ◌++◌, Bool, true, false, length, map, append_assoc, arith, Option, Some, None}
 use Rattle.std.specs.Prelude.{◌==◌, ◌&&◌, not, nat_le, option_map, unwrap_or, if◌then◌else◌, Ok, Err}
-use Rattle.std.specs.List.{cons_option}
+use Rattle.std.specs.List.{cons_option, list_all}
 use Rattle.std.proofs.Common.{length-append}
 use Rattle.std.proofs.lemmas.Bool.{eq-eqb, eqb-true, le-leb}
 use Rattle.allotment.specs.Limits.{is_between}
@@ -9,13 +9,15 @@ use Rattle.commands.proofs.RepeatLemmas.{distinct_if_none}
 use Rattle.std.proofs.lemmas.List.{append-nil}
 use Rattle.allotment.specs.Making.{unless, first_fault}
 use Rattle.allotment.specs.declared.cells.Row.{Row}
-use Rattle.commands.specs.Batches.{is_new_cell, repeat_behind, repeat_among}
+use Rattle.commands.specs.Batches.{is_new_cell, is_good_row, repeat_behind, repeat_among}
 use Rattle.commands.specs.declared.refusals.CsvCause.{CsvCause}
 use Rattle.commands.specs.declared.refusals.CsvCause.TheVariants as cause
 use Rattle.allotment_csv.specs.Rows.{record_causes, row_of_record}
 use Rattle.allotment_csv.specs.Files.{in_csv, most_rows, rows_of, comes_again, causes_at, row_faults, faults_behind, rows_faults}
-use Rattle.allotment_csv.specs.Fronts.{AreRows, Ends, IsFront, AreManyAndDistinct}
+use Rattle.allotment_csv.specs.Fronts.{AreRows, Ends, IsFront, AreRowsOfBatch}
 use Rattle.allotment_csv.specs.Told.{IsFirst}
+use Rattle.allotment.proofs.TestLemmas.{and_make}
+use Rattle.allotment_csv.proofs.RowLemmas.{good_row}
 
 -- Rows of records.
 
@@ -44,6 +46,14 @@ rows_of-front (fields ∷ front) [] are = absurd are
 rows_of-front (fields ∷ front) (r ∷ rows) are =
     ap (λ o. cons_option o (rows_of front)) are.1 ∙ ap (λ xs. r ∷ xs) (rows_of-front front rows are.2)
 
+-- they keep the limits
+all_good : (front : List (List (List ℕ))) (rows : List Row) → AreRows front rows → list_all is_good_row rows ≡ true
+all_good [] [] are = refl
+all_good [] (r ∷ rows) are = absurd are
+all_good (fields ∷ front) [] are = absurd are
+all_good (fields ∷ front) (r ∷ rows) are =
+    and_make (is_good_row r) (list_all is_good_row rows) (good_row fields r are.1) (all_good front rows are.2)
+
 -- no rows are those of no records
 no_rows : (front : List (List (List ℕ))) → AreRows front [] → front ≡ []
 no_rows [] are = refl
@@ -57,7 +67,7 @@ not_not true = refl
 not_not false = refl
 
 -- a row is wrong where its cell stands before, and nowhere else
-row_faults-front : (earlier : List (List (List ℕ))) (before : List Row) (fields : List (List ℕ)) (r : Row)
+pub row_faults-front : (earlier : List (List (List ℕ))) (before : List Row) (fields : List (List ℕ)) (r : Row)
     → AreRows earlier before → record_causes fields ≡ [] → row_of_record fields ≡ Some r → length before + 1 ≤ most_rows
     → row_faults earlier fields ≡ unless (is_new_cell r before) (in_csv (length before + 1) cause.Twice)
 row_faults-front earlier before fields r are good is few =
@@ -207,11 +217,12 @@ whole_good all rows is none some =
     ∙ ap (λ b. first_fault (rows_of is.front) (unless b (in_csv 0 cause.Empty))) (le-leb 1 (length rows) some)
     ∙ ap (λ xs. Ok xs) (rows_of-front is.front rows is.good)
 
--- such rows are as many as a batch may have, and each is of another cell
-pub whole_distinct : (all : List (List (List ℕ))) (rows : List Row) → IsFront all rows None → repeat_among rows ≡ None
-    → 1 ≤ length rows → AreManyAndDistinct rows
-whole_distinct all rows is none some =
+-- such rows are those of a batch
+pub whole_of_batch : (all : List (List (List ℕ))) (rows : List Row) → IsFront all rows None → repeat_among rows ≡ None
+    → 1 ≤ length rows → AreRowsOfBatch rows
+whole_of_batch all rows is none some =
     record {
+      good = all_good is.front rows is.good;
       many = between (length rows) some is.few;
       distinct = distinct_if_none rows none;
     }

@@ -2,3 +2,4 @@ pub mod ReadLemmas
 pub mod FieldLemmas
 pub mod RowLemmas
 pub mod FrontLemmas
+pub mod LimitLemmas

@@ -1,17 +1,19 @@
 -- The row of a record, and the first thing that is wrong with one that is none. For `rows`.
 use Rattle.std.proofs.Common.{◌≡◌, ◌∙◌, ap, sym, subst, refl, ℕ, ◌<◌, ◌≤◌, ◌^◌, List, [], ◌∷◌, ◌++◌, Bool, true, false, arith, Option, Some, None}
-use Rattle.std.specs.Prelude.{◌&&◌, bytes_eq, decimal, is_some, option_and_then, IsTrue, if◌then◌else◌, Result, Ok, Err, MatchResult}
+use Rattle.std.specs.Prelude.{◌&&◌, nat_le, bytes_eq, decimal, is_some, option_and_then, IsTrue, if◌then◌else◌, Result, Ok, Err, MatchResult}
 use Rattle.std.specs.Option.{ok_or}
 use Rattle.std.specs.Str.Parse.{digits_value}
 use Rattle.allotment.specs.Cells.{the_cell}
-use Rattle.allotment.specs.Limits.{is_between, is_code, is_good_cell, is_night}
+use Rattle.allotment.specs.Limits.{is_between, is_code, is_good_cell, is_night, most_places}
 use Rattle.allotment.specs.Making.{unless}
 use Rattle.allotment.specs.Nights.{night_in, is_text_of, named_night, night_text}
 use Rattle.allotment.specs.Rows.{allotted}
 use Rattle.allotment.specs.Texts.{keep_if, kind_of_word, cell_from, number_from, number_in, places_in}
+use Rattle.allotment.specs.declared.cells.Cell.{Cell}
 use Rattle.allotment.specs.declared.cells.Row.{Row}
+use Rattle.commands.specs.Batches.{is_good_row}
 use Rattle.allotment.specs.declared.kinds.Kind.{Kind}
-use Rattle.allotment.proofs.TestLemmas.{keep_if_no, keep_if_some, keep_if_none, keep_if_yes, same_bytes}
+use Rattle.allotment.proofs.TestLemmas.{and_both, and_make, keep_if_no, keep_if_some, keep_if_none, keep_if_yes, same_bytes}
 use Rattle.commands.specs.Readings.{Finds}
 use Rattle.commands.specs.declared.refusals.CsvCause.{CsvCause}
 use Rattle.commands.specs.declared.refusals.CsvCause.TheVariants as cause
@@ -232,3 +234,40 @@ pub record_read : (fields texts : List (List ℕ)) (result : Result Row CsvCause
 record_read fields texts (Ok row) kept is =
     (causes_of_fields fields texts kept ∙ is.0, row_of_fields fields texts kept ∙ is.1)
 record_read fields texts (Err c) kept is = (is.0, causes_of_fields fields texts kept ∙ is.1)
+
+-- Limits of rows.
+
+-- a cell that is there keeps the limits
+good_cell : (k : Option Kind) (s p : List ℕ) (n : Option ℕ) (x : Cell) → cell_from k s p n ≡ Some x → is_good_cell x ≡ true
+good_cell None s p n x is = cc
+good_cell (Some k) s p None x is = cc
+good_cell (Some k) s p (Some n) x is = (keep_if_some is_good_cell (the_cell k s p n) x is).1
+
+-- so do places that are there
+few_places : (o : Option ℕ) (m : ℕ) → option_and_then (keep_if (is_between 0 most_places)) o ≡ Some m
+    → nat_le m most_places ≡ true
+few_places None m is = cc
+few_places (Some n) m is = (and_both _ _ (keep_if_some (is_between 0 most_places) n m is).1).1
+
+-- so does a row of both
+good_parts : (c : Option Cell) (n : Option ℕ) (r : Row) → row_from c n ≡ Some r
+    → ((x : Cell) → c ≡ Some x → is_good_cell x ≡ true) → ((m : ℕ) → n ≡ Some m → nat_le m most_places ≡ true)
+    → is_good_row r ≡ true
+good_parts None n r is cell places = cc
+good_parts (Some x) None r is cell places = cc
+good_parts (Some x) (Some m) r is cell places =
+    let same : allotted x m ≡ r = cc in
+    ap is_good_row (sym same) ∙ and_make (is_good_cell x) (nat_le m most_places) (cell x refl) (places m refl)
+
+-- so does the row of a record
+pub good_row : (fields : List (List ℕ)) (r : Row) → row_of_record fields ≡ Some r → is_good_row r ≡ true
+good_row [] r is = cc
+good_row (a ∷ []) r is = cc
+good_row (a ∷ b ∷ []) r is = cc
+good_row (a ∷ b ∷ c ∷ []) r is = cc
+good_row (a ∷ b ∷ c ∷ d ∷ []) r is = cc
+good_row (kind ∷ supplier ∷ product ∷ night ∷ places ∷ []) r is =
+    good_parts (cell_from (kind_of_word kind) supplier product (night_in night)) (places_in places) r is
+    (λ x e. good_cell (kind_of_word kind) supplier product (night_in night) x e)
+    (λ m e. few_places (number_in places) m e)
+good_row (a ∷ b ∷ c ∷ d ∷ e ∷ f ∷ more) r is = cc

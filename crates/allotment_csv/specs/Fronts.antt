@@ -2,7 +2,8 @@
 use Rattle.std.specs.Prelude.{◌≡◌, ℕ, ◌+◌, ◌≤◌, ⊤, true, List, [], ◌∷◌, ◌++◌, length, Option, Some, None}
 use Rattle.allotment.specs.Limits.{is_between}
 use Rattle.allotment.specs.declared.cells.Row.{Row}
-use Rattle.commands.specs.Batches.{are_distinct}
+use Rattle.std.specs.List.{list_all}
+use Rattle.commands.specs.Batches.{are_distinct, is_good_row}
 use Rattle.commands.specs.declared.refusals.CsvCause.{CsvCause}
 use Rattle.allotment_csv.specs.Rows.{record_causes, row_of_record}
 use Rattle.allotment_csv.specs.Files.{causes_at, most_rows}
@@ -34,7 +35,8 @@ pub record IsFront (all : List (List (List ℕ))) (rows : List Row) (wrong : Opt
   pub few : length rows ≤ most_rows
   pub end : Ends all front rows wrong
 
--- as many rows as a batch may have, each of another cell
-pub record AreManyAndDistinct (rows : List Row) : Type 0 where
+-- rows of a batch: as many as one may have, within the limits, each of another cell
+pub record AreRowsOfBatch (rows : List Row) : Type 0 where
   pub many : is_between 1 2000 (length rows) ≡ true
+  pub good : list_all is_good_row rows ≡ true
   pub distinct : are_distinct rows ≡ true

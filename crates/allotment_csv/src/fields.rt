@@ -1,7 +1,8 @@
 //! The five fields of a record.
-ghost use Rattle.std.specs.Prelude.{◌≡◌, option_map};
+ghost use Rattle.std.specs.Prelude.{◌≡◌, ◌↔◌, IsTrue, option_map};
+ghost use Rattle.std.specs.Str.{IsAscii};
 ghost use Rattle.allotment.specs.Texts.{keep_if};
-ghost use Rattle.csv.specs.Records.{fields_of};
+ghost use Rattle.csv.specs.Records.{fields_of, text_of};
 ghost use Rattle.allotment_csv.specs.Rows.{has_shape, is_heading};
 ghost use Rattle.allotment_csv.specs.Fields.{texts, text_at, is_at};
 
@@ -17,11 +18,22 @@ pub struct Fields<'a> {
     pub places: &'a str,
 }
 
-/// The field at this place, if it is there and is text.
-fn field_in(record: &ByteRecord, place: usize) -> Option<&str>
+/// Whether each byte of the record is ASCII, and so each field text.
+fn is_ascii(record: &ByteRecord) -> bool
+    ensures ascii { IsTrue result ↔ IsAscii (text_of record.now) }
+{
+    record.as_slice().is_ascii()
+}
+
+/// The field at this place, if it is there and is text. Where the record is known to be ASCII, no byte is looked at.
+fn field_in(record: &ByteRecord, place: usize, ascii: bool) -> Option<&str>
+    requires { IsTrue ascii → IsAscii (text_of record.now) }
     ensures { option_map (λ text. text.now) result ≡ text_at (fields_of record.now) place }
 {
     let field = record.get(place)?;
+    if ascii {
+        return Some(unsafe { str::from_utf8_unchecked(field) });
+    }
     match str::from_utf8(field) {
         Ok(text) => Some(text),
         Err(_) => None,
@@ -35,11 +47,12 @@ pub fn fields_in(record: &ByteRecord) -> Option<Fields<'_>>
     if record.len() != 5 {
         return None;
     }
-    let kind = field_in(record, 0)?;
-    let supplier = field_in(record, 1)?;
-    let product = field_in(record, 2)?;
-    let night = field_in(record, 3)?;
-    let places = field_in(record, 4)?;
+    let ascii = is_ascii(record);
+    let kind = field_in(record, 0, ascii)?;
+    let supplier = field_in(record, 1, ascii)?;
+    let product = field_in(record, 2, ascii)?;
+    let night = field_in(record, 3, ascii)?;
+    let places = field_in(record, 4, ascii)?;
     Some(Fields {
         kind,
         supplier,

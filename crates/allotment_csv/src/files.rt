@@ -1,7 +1,7 @@
 //! Batches from files.
 ghost use Rattle.std.specs.Prelude.{◌≡◌, Ok, IfOk, IfErr, MatchResult};
 ghost use Rattle.allotment_csv.specs.Files.{rows_in, batch_of};
-ghost use Rattle.allotment_csv.specs.Fronts.{AreManyAndDistinct};
+ghost use Rattle.allotment_csv.specs.Fronts.{AreRowsOfBatch};
 ghost use Rattle.allotment_csv.specs.Told.{IsTold};
 
 use crate::faults::{CsvFault, in_row};
@@ -9,7 +9,7 @@ use crate::fields::has_heading;
 use crate::fronts::{read_front, whole};
 use crate::records::{next_record, open};
 use allotment::Row;
-use commands::{BadBatch, Batch, CsvCause, Name};
+use commands::{Batch, CsvCause, Name};
 use csv::ByteRecord;
 use std::alloc::Global;
 
@@ -20,7 +20,7 @@ const MOST_BYTES: usize = 262_144;
 fn read_rows(alloc: Global, bytes: &[u8]) -> Result<Vec<Row>, CsvFault>
     ensures read { MatchResult result (λ rows. rows_in bytes.now ≡ Ok rows.items)
         (λ fault. IsTold (rows_in bytes.now) fault) }
-    ensures good { IfOk result (λ rows. AreManyAndDistinct rows.items) }
+    ensures good { IfOk result (λ rows. AreRowsOfBatch rows.items) }
 {
     if bytes.len() > MOST_BYTES {
         return Err(in_row(0, CsvCause::Size));
@@ -45,9 +45,5 @@ pub fn read_batch(alloc: Global, name: &str, bytes: &[u8]) -> Result<Batch, CsvF
         return Err(CsvFault::BadBody);
     };
     let rows = read_rows(alloc, bytes)?;
-    match Batch::new(alloc, name, rows) {
-        Ok(batch) => Ok(batch),
-        Err(BadBatch::Memory) => Err(CsvFault::Memory),
-        Err(BadBatch::Count | BadBatch::Twice) => unreachable!(),
-    }
+    Ok(Batch::of_rows(name, rows))
 }

@@ -2,7 +2,7 @@
 ghost use Rattle.std.specs.Prelude.{◌≡◌, Ok, IfOk, IfErr, MatchResult, List, ℕ};
 ghost use Rattle.allotment.specs.Making.{first_fault};
 ghost use Rattle.allotment_csv.specs.Files.{rows_of, rows_faults};
-ghost use Rattle.allotment_csv.specs.Fronts.{AreManyAndDistinct, IsFront};
+ghost use Rattle.allotment_csv.specs.Fronts.{AreRowsOfBatch, IsFront};
 ghost use Rattle.allotment_csv.specs.Reading.{IsReading, records_left};
 ghost use Rattle.allotment_csv.specs.Told.{IsTold};
 
@@ -63,7 +63,7 @@ pub fn whole(alloc: Global, front: Front) -> Result<Vec<Row>, CsvFault>
         (λ rows. first_fault (rows_of all) (rows_faults all) ≡ Ok rows.items)
         (λ fault. IsTold (first_fault (rows_of all) (rows_faults all)) fault) }
     ensures good { (all : List (List (List ℕ))) → IsFront all front.rows.items front.wrong
-        → IfOk result (λ rows. AreManyAndDistinct rows.items) }
+        → IfOk result (λ rows. AreRowsOfBatch rows.items) }
 {
     if let Some(place) = first_repeat(alloc, &front.rows)? {
         return Err(in_row(place + 1, CsvCause::Twice));

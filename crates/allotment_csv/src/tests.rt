@@ -185,7 +185,7 @@ fn each_front_of_a_file_is_a_batch_or_refused(rt: HostRuntime) {
         let fault = read_batch(rt.alloc(), "b1", &bytes[..end]).err();
         assert!(rt;
             !matches!(fault, Some(CsvFault::BadBody | CsvFault::Memory)),
-            "{end}"
+            "{end}: {fault:?}"
         );
     }
 }

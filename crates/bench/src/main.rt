@@ -5,10 +5,12 @@
 //! prints how fast the desk in memory does steps, a row for each number of events before. With the word `file`
 //! it prints how long an allotment file of 2,000 rows is read, and its records alone. With
 //! `load FILE COUNT` it loads so many batches of 2,000 new rows into the database FILE, and prints how long the
-//! shortest took. Nothing is promised about time; the program is proved safe, as each is.
+//! shortest took. With `history FILE JOURNEY` it prints how long it takes to ask the database FILE for a journey and its
+//! items. Nothing is promised about time; the program is proved safe, as each is.
 #![tactic(auto)]
 
 mod files;
+mod histories;
 mod loads;
 mod plan_lines;
 mod stepping;
@@ -29,10 +31,15 @@ fn main(rt: HostRuntime) -> io::Result<()> {
             file.as_str(),
             count.as_str(),
         ),
+        ("history", Some(file), Some(journey)) => histories::ask_history(
+            &rt,
+            file.as_str(),
+            journey.as_str(),
+        ),
         _ => usage(&rt),
     }
 }
 
 fn usage(rt: &impl Print) -> io::Result<()> {
-    println!(rt; "usage: bench plan-line | steps | file | load FILE COUNT")
+    println!(rt; "usage: bench plan-line | steps | file | load FILE COUNT | history FILE JOURNEY")
 }

@@ -8,7 +8,7 @@ use Rattle.commands.specs.declared.replies.Reply.{Reply}
 use Rattle.ledger.specs.Answer.{State}
 use Rattle.saga_core.specs.Books.{KeepsAtMemory, LeavesAtStore}
 use Rattle.cli.specs.Answering.{AnswersOrder}
-use Rattle.cli.specs.Serving.{served_fault}
+use Rattle.desk_http.specs.Serving.{served_fault}
 
 -- where a command failed, the book stands where it stood, or the store leaves that or what follows
 pub act_failed : (stood stands : State → Type 0) (leaves : State → State → Type 0) (s : State)

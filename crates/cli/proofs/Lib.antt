@@ -1,8 +1,9 @@
 pub mod SubcommandLemmas
-pub mod ByteLemmas
 pub mod LineLemmas
 pub mod AnswerLemmas
 pub mod ServeLemmas
 pub mod WorldLemmas
 pub mod OrderLemmas
 pub mod OneLineLemmas
+pub mod NumberLemmas
+pub mod LingerLemmas

@@ -11,7 +11,7 @@ use Rattle.std.specs.Io.KnownBytes.{Consumes, IsAtEnd}
 use Rattle.allotment.specs.Texts.{line_feed}
 use Rattle.cli.specs.Lines.{lines, with_first}
 use Rattle.cli.specs.Reading.{is_line_feed, HasNoLineFeed, Keeps, KeepsMore, LineOf, TakesLine, TakesPiece, Unanswered, to_come}
-use Rattle.cli.proofs.ByteLemmas.{consumes_more}
+use Rattle.streams.proofs.ByteLemmas.{consumes_more}
 use Rattle.cli.specs.declared.lines.Line.{Line}
 
 -- neither of two tests that are false together is true

@@ -7,11 +7,13 @@ use Rattle.ledger.specs.Answer.{State}
 use Rattle.cli.specs.Answering.{AnswersLine}
 use Rattle.cli.specs.Lines.{answer_line, answer_lines, ended, lines, state_after_lines, written}
 use Rattle.cli.specs.Reading.{IsOfReading, Keeps, TakesLine, Unanswered, to_come}
-use Rattle.cli.specs.Serving.{AnswersAll, AnswersSome, Leaves, Scene, WroteAll, WroteFront, scene}
-use Rattle.cli.specs.declared.faults.ServeFault.{ServeFault}
-use Rattle.cli.specs.declared.faults.ServeFault.TheVariants.{Memory, Read, Store, Write}
+use Rattle.streams.specs.Written.{WroteFront}
+use Rattle.desk_http.specs.Serving.{Scene, scene}
+use Rattle.cli.specs.Serving.{AnswersAll, AnswersSome, Leaves, WroteAll}
+use Rattle.desk_http.specs.declared.faults.ServeFault.{ServeFault}
+use Rattle.desk_http.specs.declared.faults.ServeFault.TheVariants.{Memory, Read, Store, Write}
 use Rattle.cli.specs.declared.lines.Line.{Line}
-use Rattle.cli.proofs.ByteLemmas.{appends_more, appends_none, keeps_same}
+use Rattle.streams.proofs.ByteLemmas.{appends_more, appends_none, keeps_same}
 
 -- Lists of lines and of their answers, each longer by one.
 
@@ -53,13 +55,6 @@ pub record SoFar (x : Scene) (s : State) (input : List ℕ) (left : Option (List
   pub stands : x.stands (state_after_lines s answered)
   pub counted : count ≡ length answered
   pub later : ComesAfter left input answered
-
--- what holds for known bytes, by an equation
-pub for_known : (known : Option (List ℕ)) (So : List ℕ → Type 0)
-    → ((input : List ℕ) → known ≡ Some input → So input)
-    → IfSome known So
-for_known None So each = tt
-for_known (Some input) So each = each input refl
 
 -- at first, nothing was answered
 pub starts : (held : Option (List ℕ)) (stands : State → Type 0) (leaves : State → State → Type 0)

@@ -14,7 +14,7 @@ use Rattle.clap.specs.declared.parser.ArgMatches.{ArgMatches}
 use Rattle.cli.specs.Jobs.{value_in}
 use Rattle.cli.specs.Subcommands.{bare_app, has_any, ids_in, ids_of, needed, rules_for, with_rules, IsNeeded, Requires}
 use Rattle.cli.specs.declared.subcommands.Subcommand.{Subcommand}
-use Rattle.cli.specs.declared.subcommands.Subcommand.TheVariants.{Run, Recover, Load, Stock, Unfinished, History}
+use Rattle.cli.specs.declared.subcommands.Subcommand.TheVariants.{Run, Serve, Recover, Load, Stock, Unfinished, History}
 
 -- the values behind the first one are needed too
 rest_needed : (x : Arg) (xs : List Arg) → All IsNeeded (x ∷ xs) → All IsNeeded xs
@@ -157,6 +157,7 @@ with_values name start cmd xs wanted chain app args groups globals negates neede
 pub ids_fit : (s : Subcommand) → fit_together (ids_of s) ≡ true
 unfolding clap_on_literals
 ids_fit Run = refl
+ids_fit Serve = refl
 ids_fit Recover = refl
 ids_fit Load = refl
 ids_fit Stock = refl
@@ -164,13 +165,15 @@ ids_fit Unfinished = refl
 ids_fit History = refl
 
 -- every other subcommand has a file alone
-pub rules_for-others : (s : Subcommand) → (s ≡ Load → ⊥) → (s ≡ History → ⊥) → rules_for s ≡ needed (codes "FILE") ∷ []
-rules_for-others Run load history = refl
-rules_for-others Recover load history = refl
-rules_for-others Load load history = absurd (load refl)
-rules_for-others Stock load history = refl
-rules_for-others Unfinished load history = refl
-rules_for-others History load history = absurd (history refl)
+pub rules_for-others : (s : Subcommand) → (s ≡ Serve → ⊥) → (s ≡ Load → ⊥) → (s ≡ History → ⊥)
+    → rules_for s ≡ needed (codes "FILE") ∷ []
+rules_for-others Run serve load history = refl
+rules_for-others Serve serve load history = absurd (serve refl)
+rules_for-others Recover serve load history = refl
+rules_for-others Load serve load history = absurd (load refl)
+rules_for-others Stock serve load history = refl
+rules_for-others Unfinished serve load history = refl
+rules_for-others History serve load history = absurd (history refl)
 
 -- one more value that is needed, before the others
 pub and_needed : (x : Arg) (xs : List Arg) → IsNeeded x → All IsNeeded xs → All IsNeeded (x ∷ xs)
@@ -193,7 +196,12 @@ pub long_rule : (a b : Arg) (name : Bor Text) (id : Text) → b ≡ record a { l
     → rule_of b ≡ record (needed id) { long = Some name.now }
 long_rule a b name id e is = ap rule_of e ∙ ap (λ (r : Rule). record r { long = Some name.now }) is
 
--- what clap reads under a name is the value that the matches have
+-- what clap reads under a name is what the matches have
+pub value_in-matches : (app : App) (words : List Text) (m : ArgMatches) (id : Text) → rows_of (found_of m) ≡ matches_of app words
+    → value_in app words id ≡ first_value (found_of m) id
+value_in-matches app words m id rows = ap (first_of id) (sym rows) ∙ sym (first_value-rows (found_of m) id)
+
+-- and so is a value
 pub value_read : (app : App) (words : List Text) (m : ArgMatches) (id value : Text) → rows_of (found_of m) ≡ matches_of app words
     → first_value (found_of m) id ≡ Some value → value_in app words id ≡ Some value
-value_read app words m id value rows is = ap (first_of id) (sym rows) ∙ sym (first_value-rows (found_of m) id) ∙ is
+value_read app words m id value rows is = value_in-matches app words m id rows ∙ is

@@ -8,10 +8,11 @@ use Rattle.ledger.specs.World.{Moment, after, GoesOn, IsWorld}
 use Rattle.saga_core.specs.Worlds.{StandsAtEnd, StoodAtEnd}
 use Rattle.saga_core.proofs.WorldLemmas.{after-append, GoesOn-append}
 use Rattle.cli.specs.Lines.{IsLineOf, Meaning, answer_line, answer_to, is_readable, lines, meaning_in, state_after_lines, text_meaning}
-use Rattle.cli.specs.Serving.{AnswersAll, AnswersSome, Leaves, Scene}
+use Rattle.desk_http.specs.Serving.{Scene}
+use Rattle.cli.specs.Serving.{AnswersAll, AnswersSome, Leaves}
 use Rattle.cli.specs.Worlds.{done_of, dones_of, cut_of, with_lines, CutsLine, EndsAmongLines, GoesOnWithLines, GoesOnAmongLines}
-use Rattle.cli.specs.declared.faults.ServeFault.{ServeFault}
-use Rattle.cli.specs.declared.faults.ServeFault.TheVariants.{Memory, Read, Store, Write}
+use Rattle.desk_http.specs.declared.faults.ServeFault.{ServeFault}
+use Rattle.desk_http.specs.declared.faults.ServeFault.TheVariants.{Memory, Read, Store, Write}
 use Rattle.cli.proofs.OneLineLemmas.{meant_is_line}
 use Rattle.cli.proofs.ServeLemmas.{after_more}
 

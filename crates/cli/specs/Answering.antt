@@ -3,8 +3,8 @@ use Rattle.std.specs.Prelude.{◌≡◌, ◌⊎◌, List, ℕ, Result, Ok, Err, 
 use Rattle.std.specs.String.{string_bytes}
 use Rattle.ledger.specs.Answer.{State}
 use Rattle.cli.specs.Lines.{Answered, Meaning, answer_line, answer_to, ended}
-use Rattle.cli.specs.declared.faults.ServeFault.{ServeFault}
-use Rattle.cli.specs.declared.faults.ServeFault.TheVariants.{Memory, Store}
+use Rattle.desk_http.specs.declared.faults.ServeFault.{ServeFault}
+use Rattle.desk_http.specs.declared.faults.ServeFault.TheVariants.{Memory, Store}
 
 module _ (stands : State → Type 0) (leaves : State → State → Type 0) (s : State) where
   -- the text is this answer, and the book stands where it leads; or a fault came before or after

@@ -11,15 +11,15 @@ use Rattle.tables.specs.declared.faults.OpenFault.TheVariants as opening
 use Rattle.reports.specs.declared.faults.ReportFault.{ReportFault}
 use Rattle.reports.specs.declared.faults.ReportFault.TheVariants as report
 use Rattle.cli.specs.Lines.{ended, journey_in}
-use Rattle.cli.specs.Serving.{WroteFront}
+use Rattle.streams.specs.Written.{WroteFront}
 use Rattle.cli.specs.declared.ends.End.{End}
 use Rattle.cli.specs.declared.ends.End.TheVariants as finish
 use Rattle.cli.specs.declared.ends.ProgramFault.{ProgramFault}
 use Rattle.cli.specs.declared.ends.ProgramFault.TheVariants as fault
-use Rattle.cli.specs.declared.faults.ServeFault.{ServeFault}
-use Rattle.cli.specs.declared.faults.ServeFault.TheVariants as serve
+use Rattle.desk_http.specs.declared.faults.ServeFault.{ServeFault}
+use Rattle.desk_http.specs.declared.faults.ServeFault.TheVariants as serve
 use Rattle.cli.specs.declared.jobs.Job.{Job}
-use Rattle.cli.specs.declared.jobs.Job.TheVariants.{Run, Recover, Load, Stock, Unfinished, History}
+use Rattle.cli.specs.declared.jobs.Job.TheVariants.{Run, Serve, Recover, Load, Stock, Unfinished, History}
 use Rattle.cli.specs.declared.jobs.JobFault.{JobFault}
 use Rattle.cli.specs.declared.jobs.JobFault.TheVariants as job
 
@@ -131,6 +131,14 @@ recovered_line made = ended (sentence (codes "recovered" ∷ decimal made ∷ []
 abbrev pub TellsRecovered : Option (List ℕ) → Option (List ℕ) → Type 0
 TellsRecovered held holds = (made : ℕ) × Appends held holds (recovered_line made)
 
+-- connections to this port are taken from now on: `ready 8080`
+abbrev pub ready_line : ℕ → List ℕ
+ready_line port = ended (sentence (codes "ready" ∷ decimal port ∷ []))
+
+-- it is told that connections to this port are taken, and nothing else
+abbrev pub TellsReady : ℕ → Option (List ℕ) → Option (List ℕ) → Type 0
+TellsReady port held holds = Appends held holds (ready_line port)
+
 -- the reply is no refusal
 abbrev pub IsAccepted : Reply → Type 0
 IsAccepted (reply.Refused refusal) = ⊥
@@ -145,6 +153,7 @@ TellsAccepted held holds =
 -- nothing is said of it, the report
 abbrev pub TellsOf : Job → Option (List ℕ) → Option (List ℕ) → Type 0
 TellsOf (Run file) held holds = ⊤
+TellsOf (Serve file port connections) held holds = TellsReady port held holds
 TellsOf (Recover file) held holds = TellsRecovered held holds
 TellsOf (Load file csv batch) held holds = TellsAccepted held holds
 TellsOf (Stock file) held holds = ⊤

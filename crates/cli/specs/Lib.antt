@@ -7,4 +7,5 @@ pub mod Serving
 pub mod Worlds
 pub mod Answering
 pub mod Loading
+pub mod Lingering
 pub mod Ends

@@ -4,8 +4,8 @@ use Rattle.std.specs.List.{list_any}
 use Rattle.allotment.specs.Texts.{line_feed}
 use Rattle.cli.specs.Lines.{lines, longest_line}
 use Rattle.cli.specs.declared.lines.Line.{Line}
-use Rattle.cli.specs.declared.faults.ServeFault.{ServeFault}
-use Rattle.cli.specs.declared.faults.ServeFault.TheVariants.{Memory, Read}
+use Rattle.desk_http.specs.declared.faults.ServeFault.{ServeFault}
+use Rattle.desk_http.specs.declared.faults.ServeFault.TheVariants.{Memory, Read}
 
 -- what was read and not yet given out, and how many bytes may still be read
 pub record Unanswered : Type 0 where

@@ -1,38 +1,10 @@
 -- What a run over the lines of a reader did: what it wrote, and where it left the book.
-use Rattle.std.specs.Prelude.{◌≡◌, ◌⊎◌, ℕ, List, [], ◌∷◌, ◌++◌, length, take, Option}
-use Rattle.std.specs.Io.KnownBytes.{Appends}
-use Rattle.commands.specs.declared.faults.Fault.{Fault}
-use Rattle.commands.specs.declared.faults.Fault.TheVariants as fault
+use Rattle.std.specs.Prelude.{◌≡◌, ◌⊎◌, ℕ, List, [], ◌∷◌, ◌++◌, length, take}
 use Rattle.ledger.specs.Answer.{State}
+use Rattle.desk_http.specs.Serving.{Scene, Wrote}
 use Rattle.cli.specs.Lines.{lines, answer_line, answer_lines, state_after_lines, ended, written}
-use Rattle.cli.specs.declared.faults.ServeFault.{ServeFault}
-use Rattle.cli.specs.declared.faults.ServeFault.TheVariants.{Memory, Store, Read, Write}
-
--- the fault of a book, as one of the run
-abbrev pub served_fault : Fault → ServeFault
-served_fault fault.Memory = Memory
-served_fault fault.Store = Store
-
--- what a writer held and holds, for which states a book stands, and what a stop may leave of it
-pub record Scene : Type 1 where
-  pub held : Option (List ℕ)
-  pub holds : Option (List ℕ)
-  pub stands : State → Type 0
-  pub leaves : State → State → Type 0
-
--- the same, in a row
-abbrev pub scene : Option (List ℕ) → Option (List ℕ) → (State → Type 0) → (State → State → Type 0)
-    → Scene
-scene held holds stands leaves =
-    record { held = held; holds = holds; stands = stands; leaves = leaves }
-
--- these bytes were written behind what the writer held
-abbrev pub Wrote : Scene → List ℕ → Type 0
-Wrote x bytes = Appends x.held x.holds bytes
-
--- a beginning of these bytes was written behind what the writer held
-abbrev pub WroteFront : Option (List ℕ) → Option (List ℕ) → List ℕ → Type 0
-WroteFront held holds bytes = (part : ℕ) × Appends held holds (take part bytes)
+use Rattle.desk_http.specs.declared.faults.ServeFault.{ServeFault}
+use Rattle.desk_http.specs.declared.faults.ServeFault.TheVariants.{Memory, Store, Read, Write}
 
 -- the answers to these lines were written
 abbrev pub WroteAll : Scene → State → List (List ℕ) → Type 0

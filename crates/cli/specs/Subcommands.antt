@@ -8,11 +8,12 @@ use Rattle.clap.specs.declared.builder.Arg.{Arg}
 use Rattle.clap.specs.declared.builder.Command.{Command}
 use Rattle.clap.specs.declared.parser.ArgMatches.{ArgMatches}
 use Rattle.cli.specs.declared.subcommands.Subcommand.{Subcommand}
-use Rattle.cli.specs.declared.subcommands.Subcommand.TheVariants.{Run, Recover, Load, Stock, Unfinished, History}
+use Rattle.cli.specs.declared.subcommands.Subcommand.TheVariants.{Run, Serve, Recover, Load, Stock, Unfinished, History}
 
 -- the word that names a subcommand
 abbrev pub name_of : Subcommand → Text
 name_of Run = codes "run"
+name_of Serve = codes "serve"
 name_of Recover = codes "recover"
 name_of Load = codes "load"
 name_of Stock = codes "stock"
@@ -23,6 +24,7 @@ name_of History = codes "history"
 abbrev pub subcommand_in : Text → Option Subcommand
 subcommand_in word =
     if bytes_eq word (codes "run") then Some Run
+    else if bytes_eq word (codes "serve") then Some Serve
     else if bytes_eq word (codes "recover") then Some Recover
     else if bytes_eq word (codes "load") then Some Load
     else if bytes_eq word (codes "stock") then Some Stock
@@ -38,9 +40,17 @@ needed id = record (new_rule id) { action = Some Set; required = true }
 abbrev pub batch_name : Rule
 batch_name = record (needed (codes "NAME")) { long = Some (codes "batch") }
 
+-- the port stands behind `--port`, and the number of connections behind `--connections`
+abbrev pub port_number : Rule
+port_number = record (needed (codes "PORT")) { long = Some (codes "port") }
+
+abbrev pub connections_number : Rule
+connections_number = record (needed (codes "N")) { long = Some (codes "connections") }
+
 -- the values that a subcommand reads, in their order
 abbrev pub rules_for : Subcommand → List Rule
 rules_for Run = needed (codes "FILE") ∷ []
+rules_for Serve = needed (codes "FILE") ∷ port_number ∷ connections_number ∷ []
 rules_for Recover = needed (codes "FILE") ∷ []
 rules_for Load = needed (codes "FILE") ∷ needed (codes "CSV") ∷ batch_name ∷ []
 rules_for Stock = needed (codes "FILE") ∷ []

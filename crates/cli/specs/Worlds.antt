@@ -6,8 +6,8 @@ use Rattle.ledger.specs.World.{Moment, Done, Cut, after}
 use Rattle.saga_core.specs.Worlds.{StandsAtEnd, LeavesEnd, StoodAtEnd}
 use Rattle.cli.specs.Lines.{Meaning, answer_line, lines, meaning_in}
 use Rattle.cli.specs.Serving.{ForNext}
-use Rattle.cli.specs.declared.faults.ServeFault.{ServeFault}
-use Rattle.cli.specs.declared.faults.ServeFault.TheVariants.{Memory, Store, Read, Write}
+use Rattle.desk_http.specs.declared.faults.ServeFault.{ServeFault}
+use Rattle.desk_http.specs.declared.faults.ServeFault.TheVariants.{Memory, Store, Read, Write}
 
 -- what a line asks for, answered; a line that is refused asks for nothing
 abbrev pub done_of : State → Meaning → List Moment

@@ -6,9 +6,9 @@ ghost use Rattle.cli.specs.Orders.{meaning_of};
 ghost use Rattle.cli.specs.Reading.{Keeps};
 ghost use Rattle.cli.specs.Answering.{AnswersLine, AnswersOrder};
 
-use crate::faults::ServeFault;
 use crate::lines::Line;
 use crate::orders::{Order, order_of};
+use desk_http::ServeFault;
 use saga_core::Book;
 use std::alloc::Global;
 

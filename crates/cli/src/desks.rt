@@ -3,8 +3,8 @@ ghost use Rattle.std.specs.Prelude.{◌≡◌, ◌≢◌, ◌↔◌, IfErr};
 ghost use Rattle.cli.specs.Ends.{end_of_open, EndsBadly, EndsJob};
 
 use crate::ends::{End, ProgramFault};
-use crate::faults::ServeFault;
 use commands::Refusal;
+use desk_http::ServeFault;
 use recovery::{Ready, recover};
 use sqlite::{Connection, Error, ErrorCode, File, FileStore};
 use std::alloc::Global;

@@ -5,15 +5,16 @@ ghost use Rattle.std.specs.Prelude.{◌≡◌};
 ghost use Rattle.commands.specs.Texts.{refusal_line};
 ghost use Rattle.cli.specs.Ends.{end_of_both, end_of_job, end_of_result, fault_line, fault_name, fault_number, fault_of_report, fault_of_run, status_of, told_out, TellsError, TellsNoneOrFault};
 ghost use Rattle.cli.specs.Lines.{ended};
-ghost use Rattle.cli.specs.Serving.{served_fault, WroteFront};
+ghost use Rattle.desk_http.specs.Serving.{served_fault};
+ghost use Rattle.streams.specs.Written.{WroteFront};
 
-use crate::faults::ServeFault;
 use crate::jobs::JobFault;
-use crate::outputs::send;
 use commands::{Fault, Refusal};
+use desk_http::ServeFault;
 use reports::ReportFault;
 use std::alloc::Global;
 use std::io::Write;
+use streams::send;
 
 /// A fault that ends the program.
 #[derive(Clone, Copy, Debug, PartialEq, Eq)]
@@ -214,7 +215,7 @@ fn send_refusal<O: Write>(alloc: Global, refusal: &Refusal, out: &mut O) -> Resu
 {
     let mut line = refusal.line(alloc)?;
     line.push('\n')?;
-    send(out, line.as_bytes())
+    Ok(send(out, line.as_bytes())?)
 }
 
 /// Tells a text. Where that fails, there is nothing left to tell it on.

@@ -11,6 +11,14 @@ pub enum Job {
     Run {
         file: String,
     },
+    /// Recover the desk over this file, and serve so many connections to a port of this host, one after another.
+    Serve {
+        file: String,
+        /// 1 to 65,535.
+        port: u16,
+        /// 1 to 1,000.
+        connections: u16,
+    },
     /// Recover the desk over this file.
     Recover {
         file: String,

@@ -8,13 +8,13 @@
 mod answers;
 mod desks;
 mod ends;
-mod faults;
 mod jobs;
 mod laws;
 mod lines;
+mod lingering;
+mod listening;
 mod loads;
 mod orders;
-mod outputs;
 mod programs;
 mod runs;
 mod subcommands;
@@ -22,8 +22,8 @@ mod telling;
 mod unread;
 mod words;
 
+pub use desk_http::ServeFault;
 pub use ends::{End, ProgramFault};
-pub use faults::ServeFault;
 pub use jobs::{Job, JobFault};
 pub use laws::commands_have_one_line;
 pub use programs::perform;

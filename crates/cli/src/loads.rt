@@ -10,14 +10,14 @@ ghost use Rattle.cli.specs.Loading.{LoadsFile};
 
 use crate::desks::{FileDesk, close_desk, open_recovered};
 use crate::ends::{End, ProgramFault};
-use crate::faults::ServeFault;
-use crate::outputs::send;
 use allotment_csv::{CsvFault, read_batch};
 use commands::{Command, Refusal, Reply};
+use desk_http::ServeFault;
 use saga_core::Book;
 use std::alloc::Global;
 use std::fs;
 use std::io::{ErrorKind, Read, Write};
+use streams::send;
 
 /// How many bytes of an allotment file are read: one more than it may have.
 const MOST_READ: u64 = 262_145;
@@ -111,5 +111,5 @@ fn send_reply<O: Write>(alloc: Global, reply: &Reply, out: &mut O) -> Result<(),
 {
     let mut line = reply.line(alloc)?;
     line.push('\n')?;
-    send(out, line.as_bytes())
+    Ok(send(out, line.as_bytes())?)
 }

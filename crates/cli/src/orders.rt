@@ -11,10 +11,10 @@ ghost use Rattle.cli.specs.Lines.{request_of_two, request_of_three, request_of_f
 ghost use Rattle.cli.specs.Orders.{meaning_of, request_if_any};
 ghost use Rattle.cli.specs.Reading.{Keeps};
 
-use crate::faults::ServeFault;
 use crate::lines::Line;
 use allotment::{Cell, Row};
 use commands::{BadBatch, Batch, Command, Name, Refusal, number_in};
+use desk_http::ServeFault;
 use plan::{Plan, PlanFault};
 use std::alloc::{AllocError, Global};
 use std::str;
@@ -189,7 +189,7 @@ fn position_in(word: &str) -> Option<usize>
 }
 
 /// The number between these limits that a word spells.
-fn number_between(word: &str, low: usize, high: usize) -> Option<usize>
+pub(crate) fn number_between(word: &str, low: usize, high: usize) -> Option<usize>
     ensures number { result ≡ number_from low high word.now }
     ensures high { IfSome result (λ number. number ≤ high) }
 {

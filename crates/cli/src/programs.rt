@@ -4,19 +4,20 @@ ghost use Rattle.std.specs.Io.KnownBytes.{Appends, IsAtEnd, Keeps};
 ghost use Rattle.commands.specs.Texts.{refusal_line};
 ghost use Rattle.cli.specs.Ends.{EndsJob, HasBadId, IfDone, ReadsFor, TellsNoneOrFault, TellsOf, TellsRecovered, recovered_line};
 ghost use Rattle.cli.specs.Lines.{ended};
-ghost use Rattle.cli.specs.Serving.{WroteFront};
+ghost use Rattle.streams.specs.Written.{WroteFront};
 
 use crate::desks::{close_desk, open_recovered};
 use crate::ends::End;
-use crate::faults::ServeFault;
 use crate::jobs::Job;
+use crate::listening::serve_file;
 use crate::loads::load_file;
-use crate::outputs::send;
 use crate::runs::run_lines;
 use crate::telling::{history_file, stock_file, unfinished_file};
 use commands::Refusal;
+use desk_http::ServeFault;
 use std::alloc::Global;
 use std::io::{Read, Write};
+use streams::send;
 
 /// Does a job, tells how it ended, and gives the exit status: 0 done, 1 refused or fault.
 ///
@@ -60,6 +61,11 @@ fn carry_out<R: Read, O: Write>(
 {
     match job {
         Job::Run { file } => run_file(rt, alloc, file.as_str(), reader, out),
+        Job::Serve {
+            file,
+            port,
+            connections,
+        } => serve_file(rt, alloc, file.as_str(), port, connections, out),
         Job::Recover { file } => recover_file(rt, alloc, file.as_str(), out),
         Job::Load { file, csv, batch } => {
             load_file(rt, alloc, file.as_str(), csv.as_str(), batch.as_str(), out)
@@ -117,5 +123,5 @@ fn send_recovered<O: Write>(alloc: Global, made: u64, out: &mut O) -> Result<(),
         (recovered_line made)) }
 {
     let line = format!(in alloc; "recovered {made}\n")?;
-    send(out, line.as_bytes())
+    Ok(send(out, line.as_bytes())?)
 }

@@ -3,18 +3,19 @@ ghost use Rattle.std.specs.Prelude.{◌≡◌, IfOk, IfErr, IfSome, IsErrOf, IsT
 ghost use Rattle.std.specs.Io.KnownBytes.{IsAtEnd};
 ghost use Rattle.ledger.specs.Answer.{State};
 ghost use Rattle.saga_core.specs.Books.{LeavesNoMore};
-ghost use Rattle.cli.specs.Serving.{AnswersAll, AnswersSome, scene};
+ghost use Rattle.desk_http.specs.Serving.{scene};
+ghost use Rattle.cli.specs.Serving.{AnswersAll, AnswersSome};
 ghost use Rattle.cli.specs.Worlds.{GoesOnWithLines, GoesOnAmongLines};
 
 use crate::answers::answer;
-use crate::faults::ServeFault;
 use crate::lines::Line;
-use crate::outputs::send;
 use crate::unread::Unread;
+use desk_http::ServeFault;
 use recovery::Ready;
 use saga_core::Book;
 use std::alloc::Global;
 use std::io::{Read, Write};
+use streams::send;
 
 /// Answers the lines of a reader, each by one line, and says how many there were.
 ///

@@ -10,6 +10,7 @@ use std::alloc::{AllocError, Global};
 #[derive(Clone, Copy)]
 pub(crate) enum Subcommand {
     Run,
+    Serve,
     Recover,
     Load,
     Stock,
@@ -19,8 +20,9 @@ pub(crate) enum Subcommand {
 
 impl Subcommand {
     /// All of them, in the order in which the usage shows them.
-    pub(crate) const ALL: [Subcommand; 6] = [
+    pub(crate) const ALL: [Subcommand; 7] = [
         Subcommand::Run,
+        Subcommand::Serve,
         Subcommand::Recover,
         Subcommand::Load,
         Subcommand::Stock,
@@ -35,6 +37,7 @@ impl Subcommand {
     {
         match word {
             "run" => Some(Subcommand::Run),
+            "serve" => Some(Subcommand::Serve),
             "recover" => Some(Subcommand::Recover),
             "load" => Some(Subcommand::Load),
             "stock" => Some(Subcommand::Stock),
@@ -50,6 +53,7 @@ impl Subcommand {
     {
         match self {
             Subcommand::Run => "run",
+            Subcommand::Serve => "serve",
             Subcommand::Recover => "recover",
             Subcommand::Load => "load",
             Subcommand::Stock => "stock",
@@ -62,6 +66,7 @@ impl Subcommand {
     fn called<'a>(self) -> &'a str {
         match self {
             Subcommand::Run => "desk run",
+            Subcommand::Serve => "desk serve",
             Subcommand::Recover => "desk recover",
             Subcommand::Load => "desk load",
             Subcommand::Stock => "desk stock",
@@ -74,6 +79,7 @@ impl Subcommand {
     fn about<'a>(self) -> &'a str {
         match self {
             Subcommand::Run => "Answer the lines of standard input, one by one",
+            Subcommand::Serve => "Answer requests over HTTP, one connection after another",
             Subcommand::Recover => "Take every unfinished journey to its end, as after a stop",
             Subcommand::Load => "Load the allotments of a file, as one batch",
             Subcommand::Stock => "Print the allotted, held and free places of each cell",
@@ -85,7 +91,7 @@ impl Subcommand {
     /// What its file is.
     fn file<'a>(self) -> &'a str {
         match self {
-            Subcommand::Run | Subcommand::Recover | Subcommand::Load => {
+            Subcommand::Run | Subcommand::Serve | Subcommand::Recover | Subcommand::Load => {
                 "The database file, which is made where it is absent"
             }
             Subcommand::Stock | Subcommand::Unfinished | Subcommand::History => {
@@ -105,6 +111,11 @@ impl Subcommand {
             .bin_name(self.called())?;
         let over_file = bare.arg(value(alloc, "FILE", self.file()))?;
         match self {
+            Subcommand::Serve => {
+                let port = value(alloc, "PORT", "The port to listen on, 1 to 65535").long("port");
+                let number = value(alloc, "N", "How many to serve, 1 to 1000").long("connections");
+                over_file.arg(port)?.arg(number)
+            }
             Subcommand::Load => {
                 let csv = value(alloc, "CSV", "The allotment file");
                 let name = value(alloc, "NAME", "The name of the batch").long("batch");

@@ -11,7 +11,7 @@ use commands::Refusal;
 use reports::{history_text, stock_text, unfinished_text};
 use saga_core::Record;
 use std::alloc::Global;
-use std::io::Write;
+use std::io::{BufWriter, Write};
 
 /// Tells the places of each cell.
 pub(crate) fn stock_file<O: Write>(rt: &HostRuntime, alloc: Global, file: &str, out: &mut O) -> End
@@ -77,8 +77,9 @@ fn tell_stock<O: Write>(
     out: &mut O,
 ) -> Result<(), ProgramFault> {
     let mut rows = opened.stock_rows()?;
-    stock_text(alloc, &mut rows, out)?;
-    flush(out)
+    let mut buffered = buffer(alloc, out)?;
+    stock_text(alloc, &mut rows, &mut buffered)?;
+    flush(&mut buffered)
 }
 
 /// Writes the report of unfinished journeys out.
@@ -88,8 +89,9 @@ fn tell_unfinished<O: Write>(
     out: &mut O,
 ) -> Result<(), ProgramFault> {
     let mut rows = opened.unfinished_rows()?;
-    unfinished_text(alloc, &mut rows, out)?;
-    flush(out)
+    let mut buffered = buffer(alloc, out)?;
+    unfinished_text(alloc, &mut rows, &mut buffered)?;
+    flush(&mut buffered)
 }
 
 /// Writes the history of a journey out.
@@ -101,8 +103,17 @@ fn tell_history<O: Write>(
     out: &mut O,
 ) -> Result<(), ProgramFault> {
     let mut rows = opened.item_rows(id)?;
-    history_text(alloc, id, journey, &mut rows, out)?;
-    flush(out)
+    let mut buffered = buffer(alloc, out)?;
+    history_text(alloc, id, journey, &mut rows, &mut buffered)?;
+    flush(&mut buffered)
+}
+
+/// The writer, with a buffer before it: a report is many short lines.
+fn buffer<O: Write>(alloc: Global, out: &mut O) -> Result<BufWriter<&mut O>, ProgramFault> {
+    match BufWriter::new(alloc, out) {
+        Ok(buffered) => Ok(buffered),
+        Err(_) => Err(ProgramFault::Memory),
+    }
 }
 
 /// Flushes what was written.

@@ -1,13 +1,14 @@
 //! What was read of the input and is not yet answered.
-ghost use Rattle.std.specs.Prelude.{◌≡◌, ◌<◌, ◌≤◌, [], length, position, take, true, false, IfOk, IfErr, OnOk};
+ghost use Rattle.std.specs.Prelude.{◌≡◌, ◌<◌, [], position, true, false, IfOk, IfErr, OnOk};
 ghost use Rattle.std.specs.Io.KnownBytes.{Consumes, IsAtEnd};
 ghost use Rattle.cli.specs.Reading.{is_line_feed, IsOfReading, TakesLine, TakesPiece, to_come};
 
-use crate::faults::ServeFault;
 use crate::lines::Line;
+use desk_http::ServeFault;
 use std::alloc::{AllocError, Global};
-use std::io::{ErrorKind, Read};
+use std::io::Read;
 use std::marker::Model;
+use streams::read_some;
 
 /// How many bytes are read at once, at most.
 const CHUNK: usize = 8192;
@@ -107,7 +108,9 @@ impl Unread {
         if self.left < self.chunk.len() as u64 {
             return Err(ServeFault::Read);
         }
-        let count = read_some(reader, self.chunk.as_mut_slice())?;
+        let Ok(count) = read_some(reader, self.chunk.as_mut_slice()) else {
+            return Err(ServeFault::Read);
+        };
         self.from = 0;
         self.to = count;
         self.left -= count as u64;
@@ -120,24 +123,4 @@ fn line_feed_in(bytes: &[u8]) -> Option<usize>
     ensures { result ≡ position is_line_feed bytes.now }
 {
     bytes.iter().position(|byte| *byte == b'\n')
-}
-
-/// Reads once, and again where a read was interrupted.
-fn read_some<R: Read>(reader: &mut R, buffer: &mut [u8]) -> Result<usize, ServeFault>
-    ensures bound { IfOk result (λ count. count ≤ length buffer.new) }
-    ensures bytes { IfOk result (λ count.
-        Consumes (R.remaining reader.old) (R.remaining reader.new) (take count buffer.new)) }
-    ensures end { IfOk result (λ count. count ≡ 0 → 0 < length buffer.new →
-        IsAtEnd (R.remaining reader.new)) }
-
-    ensures fault { IfErr result (λ fault. fault ≡ ServeFault.Read) }
-{
-    for _ in 0..u64::MAX {
-        match reader.read(buffer) {
-            Ok(count) => return Ok(count),
-            Err(error) if error.kind() == ErrorKind::Interrupted => {}
-            Err(_) => return Err(ServeFault::Read),
-        }
-    }
-    Err(ServeFault::Read)
 }

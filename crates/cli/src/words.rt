@@ -2,18 +2,24 @@
 //!
 //! The first word names the subcommand. `clap` reads the others, by its rules for that subcommand
 //! alone. Words that name none get the usage of them all.
-ghost use Rattle.std.specs.Prelude.{◌≡◌, false, true, map, All, IfErr, IfOk, IsOk, Some, is_some};
+ghost use Rattle.std.specs.Prelude.{◌≡◌, ◌≢◌, None, false, true, map, All, IfErr, IfOk, IsOk, Some, is_some};
 ghost use Rattle.std.specs.String.{string_bytes};
 ghost use Rattle.clap.specs.Words.{first_value, found_of, kind_of, matches_of, rows_of};
-ghost use Rattle.cli.specs.Jobs.{are_refused, IsJob, IsJobOf, IsText, IsUsage};
+ghost use Rattle.cli.specs.Jobs.{are_refused, number_named, refuses, IsJob, IsJobOf, IsText, IsUsage};
 ghost use Rattle.cli.specs.Subcommands.{app_for, ids_of, is_refused_by};
-ghost use Rattle.std.specs.Prelude.{◌≢◌};
 
 use crate::jobs::{Job, JobFault};
+use crate::orders::number_between;
 use crate::subcommands::Subcommand;
 use clap::error::ErrorKind;
 use clap::{ArgMatches, Command, Error};
 use std::alloc::{AllocError, Global};
+
+/// The highest port.
+const MOST_PORT: u16 = 65_535;
+
+/// How many connections are served, at most.
+const MOST_CONNECTIONS: u16 = 1000;
 
 /// The job that these words ask for, which follow the program's name.
 pub fn job(alloc: Global, words: Vec<String>) -> Result<Job, JobFault>
@@ -34,15 +40,22 @@ pub fn job(alloc: Global, words: Vec<String>) -> Result<Job, JobFault>
 /// The job of a subcommand, with the values that the words name which follow it.
 fn job_of(alloc: Global, subcommand: Subcommand, words: &[String]) -> Result<Job, JobFault>
     ensures job { IfOk result (IsJobOf subcommand (map string_bytes words.now)) }
-    ensures taken { IsOk result →
-        is_refused_by (app_for subcommand) (map string_bytes words.now) ≡ false }
-    ensures usage { IsUsage result →
-        is_refused_by (app_for subcommand) (map string_bytes words.now) ≡ true }
+    ensures taken { IsOk result → refuses subcommand (map string_bytes words.now) ≡ false }
+    ensures usage { IsUsage result → refuses subcommand (map string_bytes words.now) ≡ true }
 {
     let matches = matches_in(alloc, subcommand, words)?;
     let file = value_of(alloc, &matches, "FILE")?;
     match subcommand {
         Subcommand::Run => Ok(Job::Run { file }),
+        Subcommand::Serve => {
+            let port = number_of(alloc, &matches, "PORT", "--port", MOST_PORT)?;
+            let connections = number_of(alloc, &matches, "N", "--connections", MOST_CONNECTIONS)?;
+            Ok(Job::Serve {
+                file,
+                port,
+                connections,
+            })
+        }
         Subcommand::Recover => Ok(Job::Recover { file }),
         Subcommand::Load => {
             let csv = value_of(alloc, &matches, "CSV")?;
@@ -87,6 +100,38 @@ fn value_of(alloc: Global, matches: &ArgMatches, id: &str) -> Result<String, All
         first_value (found_of matches.now) id.now ≡ Some (string_bytes value)) }
 {
     String::from_str(alloc, matches.get_str(id).unwrap())
+}
+
+/// The number of this name, from 1 to `most`, which stands behind an option.
+fn number_of(
+    alloc: Global,
+    matches: &ArgMatches,
+    id: &str,
+    option: &str,
+    most: u16,
+) -> Result<u16, JobFault>
+    requires { is_some (first_value (found_of matches.now) id.now) ≡ true }
+    ensures number { IfOk result (λ number.
+        number_named most (first_value (found_of matches.now) id.now) ≡ Some number) }
+    ensures usage { IsUsage result →
+        number_named most (first_value (found_of matches.now) id.now) ≡ None }
+{
+    let word = matches.get_str(id).unwrap();
+    match number_between(word, 1, usize::from(most)) {
+        Some(number) => Ok(number as u16),
+        None => Err(no_number(alloc, word, id, option, most)),
+    }
+}
+
+/// What is wrong with a value that is no number from 1 to `most`.
+fn no_number(alloc: Global, word: &str, id: &str, option: &str, most: u16) -> JobFault {
+    let text = format!(in alloc;
+        "error: invalid value '{word}' for '{option} <{id}>': not a number from 1 to {most}\n\nFor more information, try '--help'.\n"
+    );
+    match text {
+        Ok(text) => JobFault::Usage(text),
+        Err(_) => JobFault::Memory,
+    }
 }
 
 /// What is wrong with words that name no subcommand, with the usage of all.

@@ -1,10 +1,11 @@
 -- Cells as keys: two keys are alike where the cells are one. For repeats, and for the maps of a book in memory.
-use Rattle.std.proofs.Common.{◌≡◌, ℕ, Bool, true, false, List, refl, ap, sym, ◌∙◌}
+use Rattle.std.proofs.Common.{rules, ◌≡◌, ℕ, Bool, true, false, List, refl, ap, sym, ◌∙◌}
 use Rattle.std.specs.Prelude.{◌==◌, ◌&&◌, bytes_eq}
 use Rattle.std.specs.Ordering.{is_eq, nat_cmp, ordering_then}
 use Rattle.std.specs.declared.cmp.Ordering.{Ordering}
 use Rattle.std.specs.declared.cmp.Ordering.TheVariants.{Less, Equal, Greater}
-use Rattle.std.specs.Cmp.{unsigned_ties, nat_eq_equiv}
+use Rattle.std.specs.Cmp.{IsTotalOrder, unsigned_ties, nat_eq_equiv}
+use Rattle.std.specs.Cmp.Rules.{comparing}
 use Rattle.std.specs.Cmp.Lexicographic.{slice_cmp, texts_ties, nat_list_eq_equiv}
 use Rattle.allotment.specs.Cells.{is_cell, kind_number}
 use Rattle.allotment.specs.declared.cells.Cell.{Cell}
@@ -14,6 +15,10 @@ use Rattle.commands.specs.declared.cell_keys.CellKey.{CellKey}
 -- a cell as a key
 abbrev pub key_of : Cell → CellKey
 key_of x = record { cell = x }
+
+-- the order of keys is total
+pub cell_key_total : IsTotalOrder cell_key_cmp
+cell_key_total = Prim.search (comparing, rules)
 
 -- two orders, one after the other, tell equal where both do
 pub is_eq-then : (a b : Ordering) → is_eq (ordering_then a b) ≡ (is_eq a && is_eq b)

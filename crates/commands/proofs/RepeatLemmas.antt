@@ -5,13 +5,16 @@ use Rattle.std.proofs.lemmas.List.{take_more, drop_more}
 use Rattle.std.specs.Prelude.{◌&&◌, ◌||◌, not, if◌then◌else◌, length, Option, Some, None, is_none}
 use Rattle.std.specs.List.{list_any, list_all}
 use Rattle.std.specs.BTreeSet as set
+use Rattle.std.specs.Ordering.{is_eq, is_lt}
+use Rattle.std.specs.declared.cmp.Ordering.{Ordering}
+use Rattle.std.specs.declared.cmp.Ordering.TheVariants.{Less, Equal, Greater}
 use Rattle.allotment.specs.Cells.{is_cell}
 use Rattle.allotment.specs.declared.cells.Cell.{Cell}
 use Rattle.allotment.specs.declared.cells.Row.{Row}
 use Rattle.commands.specs.Batches.{is_new_cell, are_distinct, repeat_behind, repeat_among}
-use Rattle.commands.specs.CellKeys.{cell_key_cmp}
+use Rattle.commands.specs.CellKeys.{cell_key_cmp, row_key, is_above, rises_above, rises}
 use Rattle.commands.specs.declared.cell_keys.CellKey.{CellKey}
-use Rattle.commands.proofs.CellKeyLemmas.{key_of, is_eq-cells, is_cell-swap}
+use Rattle.commands.proofs.CellKeyLemmas.{key_of, cell_key_total, is_eq-cells, is_cell-swap}
 
 -- one of these rows is of this cell
 abbrev pub has_row_of : List Row → Cell → Bool
@@ -156,3 +159,53 @@ pub has_cells_of-next : (old new : set.BTreeSet CellKey) (rows : List Row) (i : 
     → set.Updates cell_key_cmp old new (key_of r.cell) true → HasCellsOf new (take (i + 1) rows)
 has_cells_of-next old new rows i r within at has updates =
     subst (HasCellsOf new) (sym (up_to rows i r within at)) (has_cells_of-more old new (take i rows) r has updates)
+
+-- Rows that rise.
+
+-- what is above a cell is another cell
+is_other : (k x : Cell) → is_above (Some (key_of k)) (key_of x) ≡ true → is_cell x k ≡ false
+is_other k x above = is_cell-swap x k ∙ sym (is_eq-cells k x) ∙ apart (cell_key_cmp (key_of k) (key_of x)) above
+  where
+    apart : (o : Ordering) → is_lt o ≡ true → is_eq o ≡ false
+    apart Less e = refl
+    apart Equal e = cc
+    apart Greater e = refl
+
+-- what is above a cell is above all that this is above
+above_too : (last : Option CellKey) (k x : CellKey) → is_above last k ≡ true → is_above (Some k) x ≡ true
+    → is_above last x ≡ true
+above_too None k x below above = refl
+above_too (Some before) k x below above =
+    ap is_lt (cell_key_total.trans before k x (is_less _ below) (is_less _ above))
+  where
+    is_less : (o : Ordering) → is_lt o ≡ true → o ≡ Less
+    is_less Less e = refl
+    is_less Equal e = cc
+    is_less Greater e = cc
+
+-- the rows behind these have no cell twice, where they rise above all of these
+repeat_behind-rising : (earlier later : List Row) (last : Option CellKey)
+    → ((x : Cell) → is_above last (key_of x) ≡ true → has_row_of earlier x ≡ false)
+    → rises_above last later ≡ true → repeat_behind earlier later ≡ None
+repeat_behind-rising earlier [] last new rising = refl
+repeat_behind-rising earlier (r ∷ later) last new rising =
+    let both = and_both (is_above last (row_key r)) (rises_above (Some (row_key r)) later) rising in
+    repeat_behind-new earlier later r (new r.cell both.0)
+    ∙ repeat_behind-rising (earlier ++ (r ∷ [])) later (Some (row_key r))
+    (λ x above. has_row_of-more earlier r x
+    ∙ ap (λ b. if b then true else has_row_of earlier x) (is_other r.cell x above)
+    ∙ new x (above_too last (key_of r.cell) (key_of x) both.0 above))
+    both.1
+  where
+    and_both : (a b : Bool) → (a && b) ≡ true → (a ≡ true) × (b ≡ true)
+    and_both true b e = (refl, e)
+    and_both false b e = cc
+
+-- rows that rise have no cell twice
+pub repeat_among-rising : (rows : List Row) → rises rows ≡ true → repeat_among rows ≡ None
+repeat_among-rising rows rising = repeat_behind-rising [] rows None (λ x above. refl) rising
+
+-- the row at a place, and those behind it
+pub rises_at : (rows : List Row) (i : ℕ) (r : Row) (last : Option CellKey) → i < length rows → r ≡ get_or rows i r
+    → rises_above last (drop i rows) ≡ (is_above last (row_key r) && rises_above (Some (row_key r)) (drop (i + 1) rows))
+rises_at rows i r last within at = ap (rises_above last) (from_on rows i r within at)

@@ -65,6 +65,16 @@ impl Batch {
         }
     }
 
+    /// The batch of this name and these rows, which keep the limits: nothing is looked for again.
+    pub fn of_rows(name: Name, rows: Vec<Row>) -> Batch
+        requires limits { IsTrue (is_batch name rows.items) }
+
+        ensures name { result.name ≡ name }
+        ensures rows { result.rows ≡ rows.items }
+    {
+        Batch { name, rows }
+    }
+
     /// Its name.
     pub fn name(&self) -> Name
         ensures name { result ≡ self.now.name }

@@ -388,10 +388,11 @@ fn a_batch_has_each_cell_once(rt: HostRuntime) {
 
 // the cells of some rows, and the place of the first one that stood before
 #[rattlefmt::skip]
-const REPEATS: [(&[&str], Option<usize>); 5] = [
+const REPEATS: [(&[&str], Option<usize>); 6] = [
     (&[],                                                          None),
     (&["F/AL/A1/2030-06-01"],                                      None),
     (&["F/AL/A1/2030-06-01", "F/AL/A1/2030-06-02"],                None),
+    (&["F/AL/A1/2030-06-02", "F/AL/A1/2030-06-01"],                None),
     (&["F/AL/A1/2030-06-01", "F/AL/A1/2030-06-01"],                Some(1)),
     (&["F/A/A/2030-06-01", "R/A/A/2030-06-01", "F/A/A/2030-06-01"], Some(2)),
 ];

@@ -1,5 +1,5 @@
 -- What a query on one table of the desk finds.
-use Rattle.std.proofs.Common.{◌≡◌, ◌≢◌, ◌⊎◌, inl, inr, ℕ, List, [], ◌∷◌, Some, None, Option, Ok, Err, Result, IsTrue, refl, sym, ap, subst, ◌∙◌}
+use Rattle.std.proofs.Common.{◌≡◌, ◌≢◌, inl, inr, ℕ, List, [], ◌∷◌, Option, Ok, Err, IsTrue, sym, ap, subst, ◌∙◌}
 use Rattle.sqlite.specs.declared.types.Value.TheVariants.{Null}
 use Rattle.sqlite.specs.declared.error.Error.{Error}
 use Rattle.sqlite.specs.declared.error.Error.TheVariants.{QueryReturnedNoRows}
@@ -16,7 +16,6 @@ use Rattle.sqlite.specs.State.{State, QueriesRow, FailsToQuery, FailsToShow, IsN
 use Rattle.sqlite.specs.Clock.{timed}
 use Rattle.sqlite.proofs.Callers.{command_of, first_as, reads_as}
 use Rattle.desk_sql.specs.Schema.{desk_schema}
-use Rattle.desk_sql.specs.Meanings.{select}
 use Rattle.desk_sql.proofs.Meaning.{MeansQuery}
 use Rattle.desk_sql.proofs.Selecting.{understood_bare, shown_same, row_same}
 

@@ -1,7 +1,7 @@
 -- The statements that add a row.
-use Rattle.std.proofs.Common.{◌≡◌, ◌<◌, ℕ, ℤ, pos, List, [], ◌∷◌, ◌++◌, Bool, true, false, cond, Ok, Err, Result, OnOk, refl, sym, ap, subst, ◌∙◌}
+use Rattle.std.proofs.Common.{◌≡◌, ◌<◌, ℕ, ℤ, [], ◌∷◌, ◌++◌, Bool, true, false, cond, Ok, Err, Result, OnOk, refl}
 use Rattle.std.specs.List.{AllByRecursion}
-use Rattle.sqlite.specs.declared.types.Value.TheVariants.{Null, Int, Text, Blob}
+use Rattle.sqlite.specs.declared.types.Value.TheVariants.{Int, Text, Blob}
 use Rattle.sqlite.specs.declared.error.Error.{Error}
 use Rattle.sqlite.specs.Kind.TheVariants.{Integer}
 use Rattle.sqlite.specs.Cast.{cast}
@@ -12,7 +12,7 @@ use Rattle.sqlite.specs.Edit.{edited, next_rowid}
 use Rattle.sqlite.specs.State.{State, ExecutesInside}
 use Rattle.desk_sql.specs.Schema.{batch_at, journey_at, step_at, answer_at, entry2_at, mark_at}
 use Rattle.desk_sql.specs.Lists.{numbered_row}
-use Rattle.desk_sql.specs.Rows.{whole, Tables, BatchRow, batch_columns, JourneyRow, journey_row, StepRow, step_columns, EntryRow, entry_row, AnswerRow, answer_columns, MarkRow, mark_columns}
+use Rattle.desk_sql.specs.Rows.{whole, Tables, BatchRow, batch_columns, JourneyRow, journey_row, StepRow, step_columns, EntryRow, entry_row, AnswerRow, answer_columns, mark_columns}
 use Rattle.desk_sql.specs.Calls.{MayRun, Makes}
 use Rattle.desk_sql.specs.Changes.{adds_batch, adds_journey, adds_step, adds_item, adds_answer, adds_mark}
 use Rattle.desk_sql.specs.Found.{item_of, mark_at_pos}

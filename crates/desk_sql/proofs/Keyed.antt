@@ -1,5 +1,5 @@
 -- Tables as lists of values, each with its rowid, which rise.
-use Rattle.std.proofs.Common.{◌≡◌, ◌+ℤ◌, ◌<ℤ◌, ℕ, ℤ, ◌<◌, pos, fold, List, [], ◌∷◌, ◌++◌, map, filter, cond, Bool, true, false, if◌then◌else◌, Less, refl, sym, ap, ap₂, subst, ◌∙◌, arith, inl, inr}
+use Rattle.std.proofs.Common.{◌≡◌, ◌+ℤ◌, ◌<ℤ◌, ℤ, pos, fold, List, [], ◌∷◌, ◌++◌, map, filter, cond, Bool, true, false, if◌then◌else◌, Less, refl, sym, ap, ap₂, ◌∙◌, arith, inl, inr}
 use Rattle.std.proofs.lemmas.Int.{ints}
 use Rattle.std.proofs.lemmas.Bool.{cases_Bool}
 use Rattle.std.specs.List.{AllByRecursion}

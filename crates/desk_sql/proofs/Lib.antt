@@ -6,7 +6,6 @@ pub mod Finding
 pub mod Framing
 pub mod HandedRows
 pub mod HandedCells
-pub mod HandedItems
 pub mod HandedJourneys
 pub mod Inserting
 pub mod Keyed
@@ -32,3 +31,4 @@ pub mod Testing
 pub mod Updating
 pub mod Upserting
 pub mod Writing
+pub mod NextItems

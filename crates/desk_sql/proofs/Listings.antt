@@ -1,32 +1,30 @@
 -- The queries that list what belongs to a journey.
-use Rattle.std.proofs.Common.{◌≡◌, ◌⊎◌, inl, inr, ℕ, ℤ, ◌<◌, ◌≤◌, ◌==◌, eqb-true, pos, List, [], ◌∷◌, map, filter, Bool, true, false, Ordering, Equal, is_lt, refl, sym, ap, subst, ◌∙◌, arith}
-use Rattle.std.specs.Prelude.{string_bytes}
+use Rattle.std.proofs.Common.{◌≡◌, ◌⊎◌, inl, inr, ℕ, ℤ, ◌<◌, ◌≤◌, ◌==◌, eqb-true, List, [], ◌∷◌, map, filter, false, Equal, is_lt, refl, ◌∙◌}
+use Rattle.std.specs.Prelude.{string_bytes, nat_lt}
+use Rattle.std.proofs.lemmas.Bool.{and_parts}
 use Rattle.std.specs.Ordering.{ordering_then}
-use Rattle.std.specs.List.Sorted.{IsPermutation}
 use Rattle.sqlite.specs.declared.types.Value.TheVariants.{Text}
 use Rattle.sqlite.specs.Order.{Row, column, value_cmp}
-use Rattle.sqlite.specs.Term.{col}
 use Rattle.sqlite.specs.Query.{Output}
 use Rattle.sqlite.specs.State.{State, IsUnchanged}
-use Rattle.sqlite_rules.specs.Lists.{Has}
 use Rattle.sqlite_rules.proofs.ListLemmas.{has_filtered}
 use Rattle.sqlite_trees.proofs.ListLemmas.{ascending-filter}
-use Rattle.desk_sql.specs.Lists.{numbered_row, IsListed}
+use Rattle.desk_sql.specs.Lists.{numbered_row}
 use Rattle.desk_sql.specs.Rows.{whole, Tables, StepRow, step_columns, EntryRow, entry_row, MarkRow, mark_columns}
 use Rattle.desk_sql.specs.Calls.{MaySee}
 use Rattle.desk_sql.specs.Queries.{GivesRows}
-use Rattle.desk_sql.specs.Found.{step_of, is_step_of, IsByPlace, FindsSteps, shows_step, ten_of, item_of, is_item_of, FindsItems, shows_item, four_of, mark_at_pos, is_mark_of, IsByPosition, FindsMarks}
-use Rattle.desk_sql.specs.Texts.{find_steps_text, find_items_text, find_marks_text}
-use Rattle.desk_sql.specs.Meanings.{find_steps_query, find_steps_names, find_items_query, find_items_names, find_marks_query, find_marks_names}
+use Rattle.desk_sql.specs.Found.{step_of, is_step_of, IsByPlace, FindsSteps, is_option_of, FindsOptions, shows_step, ten_of, item_of, is_item_after, FindsItems, shows_item, four_of, mark_at_pos, is_mark_of, IsByPosition, FindsMarks}
+use Rattle.desk_sql.specs.Texts.{find_steps_text, find_options_text, find_items_text, find_marks_text}
+use Rattle.desk_sql.specs.Meanings.{find_steps_query, find_steps_names, find_options_query, find_items_query, find_items_names, find_marks_query, find_marks_names}
 use Rattle.desk_sql.specs.declared.steps.StepFound.{StepFound}
 use Rattle.desk_sql.specs.declared.items.ItemFound.{ItemFound}
-use Rattle.desk_sql.proofs.Meaning.{find_steps_means, find_items_means, find_marks_means}
-use Rattle.desk_sql.proofs.Testing.{eq_whole, and_true}
+use Rattle.desk_sql.proofs.Meaning.{find_steps_means, find_options_means, find_items_means, find_marks_means}
+use Rattle.desk_sql.proofs.Testing.{eq_whole, gt_whole, and_true}
 use Rattle.desk_sql.proofs.Ordered.{whole_then, whole_last}
 use Rattle.desk_sql.proofs.Reading.{passes}
 use Rattle.desk_sql.proofs.Finding.{whole_answer}
 use Rattle.desk_sql.proofs.OneList.{one_list}
-use Rattle.desk_sql.proofs.Answering.{Answers, numbered_answers, table_answers, listed}
+use Rattle.desk_sql.proofs.Answering.{numbered_answers, table_answers, listed}
 
 -- Options of steps.
 
@@ -40,6 +38,10 @@ step_out s = (
 step_test : (journey : ℕ) (p : ℤ × StepRow)
     → passes find_steps_query.filter (whole journey ∷ []) (numbered_row step_columns p) ≡ is_step_of journey p.1
 step_test journey p = and_true _ ∙ eq_whole p.1.journey journey
+
+option_test : (journey place : ℕ) (p : ℤ × StepRow)
+    → passes find_options_query.filter (whole journey ∷ whole place ∷ []) (numbered_row step_columns p) ≡ is_option_of journey place p.1
+option_test journey place p = simp eq_whole (simp and_true)
 
 same_step : (journey : ℕ) (f : StepFound) (s : StepRow) → s.journey ≡ journey → shows_step f ≡ (step_out s).1 → step_of journey f ≡ s
 same_step journey f s of e =
@@ -65,13 +67,14 @@ by_place a b c d e = elim (whole_then a b (ordering_then (value_cmp (whole d) (w
 
 -- Items.
 
-abbrev item_out : EntryRow → Output
+abbrev pub item_out : EntryRow → Output
 item_out e = (whole e.num ∷ [], whole e.num ∷ whole e.item ∷ whole e.a ∷ whole e.b ∷ [])
 
-item_test : (journey : ℕ) (e : EntryRow) → passes find_items_query.filter (whole journey ∷ []) (entry_row e) ≡ is_item_of journey e
-item_test journey e = and_true _ ∙ eq_whole e.journey journey
+pub item_test : (journey after : ℕ) (e : EntryRow)
+    → passes find_items_query.filter (whole journey ∷ whole after ∷ []) (entry_row e) ≡ is_item_after journey after e
+item_test journey after e = simp (eq_whole, gt_whole) (simp and_true)
 
-same_item : (journey : ℕ) (f : ItemFound) (e : EntryRow) → e.journey ≡ journey → shows_item f ≡ (item_out e).1 → item_of journey f ≡ e
+pub same_item : (journey : ℕ) (f : ItemFound) (e : EntryRow) → e.journey ≡ journey → shows_item f ≡ (item_out e).1 → item_of journey f ≡ e
 same_item journey f e of shown =
     let num : f.num ≡ e.num = cc in
     let item : f.item ≡ e.item = cc in
@@ -107,21 +110,41 @@ module _ (old new : State) (t : Tables) (sees : MaySee old t) (journey : ℕ) (r
             IsByPlace (λ a b up. by_place a.place b.place a.opt b.opt up),
       )
 
-  pub finds_items : (found : List ItemFound) → map shows_item found ≡ map four_of rows
-      → GivesRows find_items_text (whole journey ∷ []) old new rows → IsUnchanged old new × FindsItems journey t found
-  finds_items found was given =
-      let some = filter (is_item_of journey) t.entry2 in
+  pub finds_options : (place : ℕ) (found : List StepFound) → map shows_step found ≡ map ten_of rows
+      → GivesRows find_options_text (whole journey ∷ whole place ∷ []) old new rows → IsUnchanged old new × FindsOptions journey place t found
+  finds_options place found was given =
+      let some = filter (is_option_of journey place) t.step in
+      let got = whole_answer find_options_text find_options_query find_steps_names find_options_means (whole journey ∷ whole place ∷ []) old new
+      (λ h. (sees h).schema) rows given.1 in
+      let it = table_answers 8 find_options_query.filter find_options_query.project find_options_query.order old.now.trees
+      (whole journey ∷ whole place ∷ []) rows got.1 refl step_columns t.step (sees given.0.0.was_open).rows.step step_out (λ _. refl)
+      (is_option_of journey place) (option_test journey place) in (
+        given.0,
+        listed find_options_query step_out some rows it (step_of journey) shows_step ten_of found was
+            (λ f s h e.
+            let both = and_parts (s.journey == journey) (s.place == place) (has_filtered (is_option_of journey place) t.step s h).1 in
+            same_step journey f s (eqb-true _ _ both.0) e)
+            IsByPlace (λ a b up. by_place a.place b.place a.opt b.opt up),
+      )
+
+  pub finds_items : (after : ℕ) (found : List ItemFound) → map shows_item found ≡ map four_of rows
+      → GivesRows find_items_text (whole journey ∷ whole after ∷ []) old new rows → IsUnchanged old new × FindsItems journey after t found
+  finds_items after found was given =
+      let some = filter (is_item_after journey after) t.entry2 in
       let table = (sees given.0.0.was_open).rows.entry2 in
-      let got = whole_answer find_items_text find_items_query find_items_names find_items_means (whole journey ∷ []) old new
+      let got = whole_answer find_items_text find_items_query find_items_names find_items_means (whole journey ∷ whole after ∷ []) old new
       (λ h. (sees h).schema) rows given.1 in
       let it = numbered_answers 13 find_items_query.filter find_items_query.project find_items_query.order old.now.trees
-      (whole journey ∷ []) rows got.1 refl (λ (e : EntryRow). e.num) entry_row t.entry2 table (is_item_of journey) (item_test journey) in
+      (whole journey ∷ whole after ∷ []) rows got.1 refl (λ (e : EntryRow). e.num) entry_row t.entry2 table
+      (is_item_after journey after) (item_test journey after) in
       let all = listed find_items_query item_out some rows it (item_of journey) shows_item four_of found was
-      (λ f e h shown. same_item journey f e (eqb-true _ _ (has_filtered (is_item_of journey) t.entry2 e h).1) shown)
+      (λ f e h shown.
+      let both = and_parts (e.journey == journey) (nat_lt after e.num) (has_filtered (is_item_after journey after) t.entry2 e h).1 in
+      same_item journey f e (eqb-true _ _ both.0) shown)
       (λ (a b : EntryRow). a.num ≤ b.num) (λ a b up. whole_last a.num b.num up) in (
         given.0,
         one_list (λ (e : EntryRow). e.num) some (map (item_of journey) found)
-            (ascending-filter _ (is_item_of journey) t.entry2 table.rise) all.same all.rising,
+            (ascending-filter _ (is_item_after journey after) t.entry2 table.rise) all.same all.rising,
       )
 
   pub finds_marks : (found : List ℕ) → map whole found ≡ map (λ r. column r 0) rows

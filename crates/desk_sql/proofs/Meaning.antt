@@ -1,5 +1,5 @@
 -- Each text means under the desk's schema what Meanings says of it.
-use Rattle.std.proofs.Common.{◌≡◌, ℕ, List, Bool, true, false, Ok, Err, Result, refl}
+use Rattle.std.proofs.Common.{◌≡◌, ℕ, List, false, refl}
 use Rattle.sqlite.specs.Command.{Command}
 use Rattle.sqlite.specs.Command.TheVariants.{Insert}
 use Rattle.sqlite.specs.Source.TheVariants.{Values}
@@ -67,6 +67,10 @@ first_unfinished_means = record { is = refl; plain = (refl, refl); unlisted = re
 pub find_steps_means : MeansQuery Texts.find_steps_text Meanings.find_steps_query Meanings.find_steps_names
 unfolding understood everything
 find_steps_means = record { is = refl; plain = (refl, refl); unlisted = refl; selects = refl }
+
+pub find_options_means : MeansQuery Texts.find_options_text Meanings.find_options_query Meanings.find_steps_names
+unfolding understood everything
+find_options_means = record { is = refl; plain = (refl, refl); unlisted = refl; selects = refl }
 
 pub find_items_means : MeansQuery Texts.find_items_text Meanings.find_items_query Meanings.find_items_names
 unfolding understood everything

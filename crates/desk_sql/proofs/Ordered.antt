@@ -1,10 +1,10 @@
 -- What ORDER BY says of columns that are numbers or texts.
-use Rattle.std.proofs.Common.{◌≡◌, ◌⊎◌, inl, inr, ℕ, ◌<◌, ◌≤◌, pos, List, Bool, true, false, Ordering, Less, Equal, Greater, is_lt, nat_cmp, refl, sym, ap, subst, ◌∙◌, arith}
+use Rattle.std.proofs.Common.{◌≡◌, ◌⊎◌, inl, inr, ℕ, ◌<◌, ◌≤◌, pos, false, Ordering, Less, Equal, Greater, is_lt, refl, arith}
 use Rattle.std.specs.Ordering.{ordering_then, int_cmp}
 use Rattle.std.proofs.lemmas.Int.{ints}
 use Rattle.std.proofs.lemmas.Bool.Decides.{nat_tests}
 use Rattle.sqlite.specs.Order.{value_cmp}
-use Rattle.sqlite_value.proofs.OrderLemmas.{value_cmp-Int, then-Equal}
+use Rattle.sqlite_value.proofs.OrderLemmas.{value_cmp-Int}
 use Rattle.desk_sql.specs.Rows.{whole}
 
 number_then : (a b : ℕ) (rest : Ordering) → is_lt (ordering_then (int_cmp (pos b) (pos a)) rest) ≡ false

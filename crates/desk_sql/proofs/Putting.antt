@@ -1,5 +1,5 @@
 -- The upsert of a cell.
-use Rattle.std.proofs.Common.{◌≡◌, ◌≢◌, ◌⊎◌, inl, inr, ◌<ℤ◌, ℕ, ℤ, ◌/◌, ◌==◌, ◌&&◌, ◌||◌, eq-eqb, eqb-true, pos, List, [], ◌∷◌, ◌++◌, length, map, Bool, true, false, if◌then◌else◌, Some, None, Ok, Err, Result, OnOk, is_eq, refl, sym, ap, ap₂, subst, ◌∙◌, arith}
+use Rattle.std.proofs.Common.{◌≡◌, inl, inr, ℕ, ℤ, eq-eqb, eqb-true, List, [], ◌∷◌, ◌++◌, map, Bool, true, false, if◌then◌else◌, Some, Ok, Err, Result, OnOk, is_eq, refl, sym, ap, ap₂, subst, ◌∙◌, arith}
 use Rattle.std.specs.Prelude.{bytes_eq}
 use Rattle.std.specs.List.{list_any}
 use Rattle.std.specs.Ordering.{int_cmp}
@@ -14,7 +14,7 @@ use Rattle.sqlite_sql.specs.declared.ops.CompareOp.TheVariants.{Eq}
 use Rattle.sqlite_value.specs.declared.keys.Collation.TheVariants.{Binary}
 use Rattle.sqlite_value.proofs.OrderLemmas.{value_cmp-Int}
 use Rattle.sqlite_value.proofs.KeyLemmas.{first_key-plain}
-use Rattle.sqlite.specs.Order.{Row, value_cmp}
+use Rattle.sqlite.specs.Order.{Row}
 use Rattle.sqlite.specs.Tree.{Trees, put_row}
 use Rattle.sqlite.specs.Program.{overlay}
 use Rattle.sqlite.specs.Query.{IsAnswer}
@@ -24,7 +24,7 @@ use Rattle.sqlite.specs.Rowids.TheVariants.{Chosen, Given}
 use Rattle.sqlite.specs.Rows.{shown}
 use Rattle.sqlite.specs.State.{State, ExecutesInside}
 use Rattle.sqlite_rules.specs.Lists.{Has}
-use Rattle.sqlite_rules.specs.Keys.{AreConflicts, conflicts}
+use Rattle.sqlite_rules.specs.Keys.{conflicts}
 use Rattle.sqlite_rules.specs.Edit.{are_fresh, left_by}
 use Rattle.sqlite_rules.specs.Calls.{ids_of}
 use Rattle.sqlite_rules.proofs.ListLemmas.{all_has, some_from}
@@ -45,7 +45,7 @@ use Rattle.desk_sql.proofs.Testing.{truth_is, eq_whole, eq_text, and_true, or_fa
 use Rattle.desk_sql.proofs.Framing.{ready_of, makes_at, with_stock}
 use Rattle.desk_sql.proofs.Tables.{id_of, value_of, appended, replaced_values}
 use Rattle.desk_sql.proofs.Updating.{updated}
-use Rattle.desk_sql.proofs.Upserting.{target, IsPut, Replaces, upserts, put_tree}
+use Rattle.desk_sql.proofs.Upserting.{target, IsPut, upserts, put_tree}
 
 -- Keys of cells.
 

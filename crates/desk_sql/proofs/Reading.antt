@@ -1,15 +1,15 @@
 -- What a query over one table answers.
-use Rattle.std.proofs.Common.{◌≡◌, ◌⊎◌, inl, inr, ℕ, pos, negsuc, List, [], ◌∷◌, ◌++◌, map, Bool, true, false, cond, Some, None, Option, Ok, Err, Result, refl, sym, ap, subst, ◌∙◌}
+use Rattle.std.proofs.Common.{◌≡◌, ℕ, List, [], ◌∷◌, ◌++◌, map, Bool, true, false, cond, refl, sym, ap, subst, ◌∙◌}
 use Rattle.std.specs.List.{flat_map, filter, list_all}
 use Rattle.std.specs.List.Sorted.{IsPermutation, IsSorted}
 use Rattle.std.proofs.lemmas.List.Sorted.{IsPermutation-map}
 use Rattle.sqlite.specs.declared.types.Value.TheVariants.{Null}
 use Rattle.sqlite.specs.Order.{Row}
 use Rattle.sqlite.specs.Term.{Term, Env, eval_all, holds}
-use Rattle.sqlite.specs.Query.{Query, IsAnswer, IsAnswerAs, inner, end, matches_as, output, Output, output_cmp}
+use Rattle.sqlite.specs.Query.{Query, IsAnswer, end, matches_as, output, Output, output_cmp}
 use Rattle.sqlite.specs.Tree.{Trees}
 use Rattle.sqlite_value.specs.declared.keys.Key.{Key}
-use Rattle.desk_sql.specs.Meanings.{sorted_rows, every_row}
+use Rattle.desk_sql.specs.Meanings.{sorted_rows}
 
 -- the row passes each test of WHERE
 abbrev pub passes : List Term → Row → Row → Bool

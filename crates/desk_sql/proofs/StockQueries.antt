@@ -1,8 +1,7 @@
 -- The queries on cells.
-use Rattle.std.proofs.Common.{◌≡◌, ◌⊎◌, inl, inr, ℕ, ℤ, ◌<◌, ◌≤◌, ◌==◌, ◌&&◌, eqb-true, pos, List, [], ◌∷◌, map, filter, Bool, true, false, Ordering, Equal, Less, Greater, is_lt, nat_cmp, refl, sym, ap, subst, ◌∙◌, arith}
-use Rattle.std.specs.Prelude.{bytes_eq, string_bytes}
-use Rattle.std.specs.Ordering.{ordering_then, int_cmp}
-use Rattle.std.specs.Cmp.Lexicographic.{slice_cmp}
+use Rattle.std.proofs.Common.{◌≡◌, ℕ, ℤ, eqb-true, pos, List, [], ◌∷◌, map, filter, true, false, is_lt, nat_cmp, refl, ap, subst, ◌∙◌, arith}
+use Rattle.std.specs.Prelude.{string_bytes}
+use Rattle.std.specs.Ordering.{int_cmp}
 use Rattle.std.proofs.lemmas.Int.{ints}
 use Rattle.std.proofs.lemmas.Bool.{and_parts}
 use Rattle.std.proofs.lemmas.Bool.Decides.{nat_tests}
@@ -12,7 +11,6 @@ use Rattle.sqlite.specs.Order.{Row, value_cmp}
 use Rattle.sqlite.specs.Query.{Output, output_cmp}
 use Rattle.sqlite.specs.State.{State, IsUnchanged}
 use Rattle.sqlite_value.proofs.OrderLemmas.{value_cmp-Int, value_cmp-Text, then-Equal}
-use Rattle.sqlite_rules.specs.Lists.{Has}
 use Rattle.sqlite_rules.proofs.ListLemmas.{has_filtered}
 use Rattle.desk_sql.specs.Lists.{numbered_row, IsListed}
 use Rattle.desk_sql.specs.Rows.{whole, Tables, StockRow, stock_columns}
@@ -30,7 +28,7 @@ use Rattle.desk_sql.proofs.Testing.{eq_whole, eq_text, ge_whole, le_whole, and_t
 use Rattle.desk_sql.proofs.Ordered.{whole_last}
 use Rattle.desk_sql.proofs.Reading.{passes}
 use Rattle.desk_sql.proofs.Finding.{whole_answer}
-use Rattle.desk_sql.proofs.Answering.{Answers, table_answers, listed}
+use Rattle.desk_sql.proofs.Answering.{table_answers, listed}
 
 abbrev pub range_params : NightRange → Row
 range_params r = whole r.kind ∷ Text r.supplier.now ∷ Text r.product.now ∷ whole r.first ∷ whole r.last ∷ []

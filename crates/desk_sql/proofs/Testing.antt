@@ -1,21 +1,16 @@
 -- The tests of WHERE, on the values that the desk stores.
-use Rattle.std.proofs.Common.{◌≡◌, ℕ, ◌<◌, ◌≤◌, ◌==◌, ◌&&◌, ◌||◌, pos, List, [], ◌∷◌, Bool, true, false, Some, Ordering, Less, Equal, Greater, nat_cmp, is_eq, refl, sym, ap, ap₂, ◌∙◌, arith}
+use Rattle.std.proofs.Common.{◌≡◌, ℕ, ◌==◌, ◌&&◌, ◌||◌, pos, List, Bool, true, false, Some, is_eq, refl, ap, ◌∙◌, arith}
 use Rattle.std.specs.Prelude.{bytes_eq, nat_le, nat_lt}
 use Rattle.std.specs.Ordering.{int_cmp, is_gt, is_ge, is_le}
 use Rattle.std.proofs.lemmas.Int.{ints}
 use Rattle.std.proofs.lemmas.Bool.Decides.{nat_tests}
 use Rattle.std.proofs.lemmas.Map.Text.{is_eq-slice_cmp}
-use Rattle.sqlite.specs.declared.types.Value.{Value}
-use Rattle.sqlite.specs.declared.types.Value.TheVariants.{Int, Text}
+use Rattle.sqlite.specs.declared.types.Value.TheVariants.{Text}
 use Rattle.sqlite.specs.Ops.{binary, is_true, from_truth}
-use Rattle.sqlite.specs.Order.{Row, value_cmp}
 use Rattle.sqlite_sql.specs.declared.ops.BinaryOp.TheVariants.{Compare}
 use Rattle.sqlite_sql.specs.declared.ops.CompareOp.TheVariants.{Eq, Gt, Le, Ge}
 use Rattle.sqlite_value.specs.declared.keys.Collation.TheVariants.{Binary}
-use Rattle.sqlite_value.specs.Keys.{plain, first_key}
-use Rattle.sqlite_value.proofs.KeyLemmas.{first_key-plain}
 use Rattle.sqlite_value.proofs.OrderLemmas.{value_cmp-Int, value_cmp-Text}
-use Rattle.sqlite_schema.specs.Rules.{equal, agree}
 use Rattle.desk_sql.specs.Rows.{whole}
 
 pub truth_is : (b : Bool) → is_true (from_truth (Some b)) ≡ b

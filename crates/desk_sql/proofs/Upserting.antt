@@ -1,18 +1,15 @@
 -- What an upsert on stock does, for any query of its DO UPDATE.
-use Rattle.std.proofs.Common.{◌≡◌, ◌≢◌, ℤ, if◌then◌else◌, ◌⊎◌, inl, inr, ℕ, ◌/◌, pos, List, [], ◌∷◌, ◌++◌, length, map, fold, slice_get, Bool, true, false, cond, MatchBool, Some, None, Option, Ok, Err, Result, OnOk, IsTrue, refl, sym, ap, subst, subst₂, ◌∙◌, arith}
-use Rattle.sqlite.specs.declared.types.Value.{Value}
-use Rattle.sqlite.specs.declared.types.Value.TheVariants.{Null, Int, Text}
+use Rattle.std.proofs.Common.{◌≡◌, ℤ, if◌then◌else◌, ◌⊎◌, inl, inr, ℕ, ◌/◌, List, [], ◌∷◌, ◌++◌, length, Some, None, Option, Ok, Err, Result, refl, sym, ap, subst, ◌∙◌}
+use Rattle.sqlite.specs.declared.types.Value.TheVariants.{Null}
 use Rattle.sqlite.specs.Order.{Row}
 use Rattle.sqlite.specs.Term.{Term}
-use Rattle.sqlite.specs.Table.{Table}
 use Rattle.sqlite.specs.Tree.{Trees, rowid}
 use Rattle.sqlite.specs.Source.TheVariants.{Values}
-use Rattle.sqlite.specs.Command.{Command}
 use Rattle.sqlite.specs.Command.TheVariants.{InsertOr}
 use Rattle.sqlite_schema.specs.declared.command.Conflict.TheVariants.{Abort}
 use Rattle.sqlite_schema.specs.declared.command.Upsert.{Upsert}
 use Rattle.sqlite_schema.specs.declared.program.Program.{Program}
-use Rattle.sqlite.specs.Edit.{Edit, edit_of, edited, taken_by, Applies, with_rowid, next_rowid}
+use Rattle.sqlite.specs.Edit.{Edit, edit_of, taken_by, Applies, with_rowid}
 use Rattle.sqlite.specs.Cast.{cast_row}
 use Rattle.sqlite_rules.specs.Keys.{AreConflicts}
 use Rattle.sqlite.specs.Rowids.TheVariants.{Chosen, Given}
@@ -21,12 +18,12 @@ use Rattle.sqlite.specs.Program.{overlay}
 use Rattle.sqlite_rules.specs.Calls.{ids_of}
 use Rattle.sqlite_schema.specs.declared.schema.Keys.TheVariants.{Enforced}
 use Rattle.sqlite_rules.specs.declared.error.Refusal.{Refusal}
-use Rattle.sqlite.specs.Does.{Tally, Does}
-use Rattle.sqlite.specs.Rows.{Written, Task, Puts, Clears, Upserts, Meets, Resolves, Judged, Tries, TriesEach, InsertsOr, Counts, Part, Gives, stamped, shown, nothing, joined, count_of}
+use Rattle.sqlite.specs.Does.{Does}
+use Rattle.sqlite.specs.Rows.{Written, Task, Puts, Clears, Upserts, Meets, Judged, Tries, TriesEach, InsertsOr, Part, stamped, shown, nothing, count_of}
 use Rattle.sqlite.specs.declared.error.Error.{Error}
 use Rattle.sqlite.specs.Effect.{Database, value_rows, edit_error}
 use Rattle.sqlite.specs.Listing.{understood}
-use Rattle.sqlite.specs.State.{State, mode_of, Executes, ExecutesInside, Shows}
+use Rattle.sqlite.specs.State.{State, mode_of, Executes, Shows}
 use Rattle.sqlite.proofs.Callers.{IsPlain, command_of, statement_of, runs_as, one_step}
 use Rattle.desk_sql.specs.Schema.{desk_schema, stock_at}
 use Rattle.desk_sql.specs.Calls.{IsReady}

@@ -130,6 +130,15 @@ abbrev pub FindsSteps : ℕ → Tables → List StepFound → Type 0
 FindsSteps journey t found =
     IsListed IsByPlace (filter (is_step_of journey) t.step) (map (step_of journey) found)
 
+-- the option belongs to this step of this journey
+abbrev pub is_option_of : ℕ → ℕ → StepRow → Bool
+is_option_of journey place s = is_step_of journey s && (s.place == place)
+
+-- the options of the step, by their numbers
+abbrev pub FindsOptions : ℕ → ℕ → Tables → List StepFound → Type 0
+FindsOptions journey place t found =
+    IsListed IsByPlace (filter (is_option_of journey place) t.step) (map (step_of journey) found)
+
 -- a query shows an option in this order
 abbrev pub shows_step : StepFound → Row
 shows_step s =
@@ -149,9 +158,20 @@ item_of journey i = record { num = i.num; journey = journey; item = i.item; a = 
 abbrev pub is_item_of : ℕ → EntryRow → Bool
 is_item_of journey e = e.journey == journey
 
--- the items of the journey, oldest first
-abbrev pub FindsItems : ℕ → Tables → List ItemFound → Type 0
-FindsItems journey t found = map (item_of journey) found ≡ filter (is_item_of journey) t.entry2
+-- the item belongs to this journey, and the number of its event is above this one
+abbrev pub is_item_after : ℕ → ℕ → EntryRow → Bool
+is_item_after journey after e = is_item_of journey e && nat_lt after e.num
+
+-- the items of the journey above a number, oldest first
+abbrev pub FindsItems : ℕ → ℕ → Tables → List ItemFound → Type 0
+FindsItems journey after t found =
+    map (item_of journey) found ≡ filter (is_item_after journey after) t.entry2
+
+-- the first item of the journey above a number, or nothing where none is there
+abbrev pub FindsNextItem : ℕ → ℕ → Tables → Option ItemFound → Type 0
+FindsNextItem journey after t found =
+    IsLeastOf (λ (e : EntryRow). e.num) (filter (is_item_after journey after) t.entry2)
+    (option_map (item_of journey) found)
 
 -- a query shows an item in this order
 abbrev pub shows_item : ItemFound → Row

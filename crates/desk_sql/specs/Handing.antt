@@ -1,5 +1,5 @@
 -- What a query has still to hand out.
-use Rattle.std.specs.Prelude.{◌≡◌, ◌⊎◌, ℕ, List, [], ◌∷◌, ◌++◌, map, filter, false, ◌≤◌, Option, Some, None}
+use Rattle.std.specs.Prelude.{◌≡◌, ◌⊎◌, ℕ, List, [], ◌∷◌, ◌++◌, map, filter, ◌≤◌, Option, Some, None}
 use Rattle.sqlite.specs.Order.{Row}
 use Rattle.sqlite.specs.Query.{Query, IsAnswer}
 use Rattle.sqlite.specs.Program.{overlay}
@@ -12,11 +12,10 @@ use Rattle.desk_sql.specs.Schema.{desk_schema}
 use Rattle.desk_sql.specs.Lists.{IsListed}
 use Rattle.desk_sql.specs.Rows.{whole, Tables, StockRow, JourneyRow}
 use Rattle.desk_sql.specs.Calls.{MaySee}
-use Rattle.desk_sql.specs.Found.{is_unfinished_after, shows_item}
+use Rattle.desk_sql.specs.Found.{is_unfinished_after}
 use Rattle.desk_sql.specs.Stock.{IsByCell}
-use Rattle.desk_sql.specs.Texts.{find_items_text, find_stock_text, first_unfinished_text}
-use Rattle.desk_sql.specs.Meanings.{find_items_query, find_stock_query, first_unfinished_query}
-use Rattle.desk_sql.specs.declared.items.ItemFound.{ItemFound}
+use Rattle.desk_sql.specs.Texts.{find_stock_text, first_unfinished_text}
+use Rattle.desk_sql.specs.Meanings.{find_stock_query, first_unfinished_query}
 
 -- the first of these was handed out, and the later ones are still to come; or there was none
 abbrev pub HandsFirst : {X : Type 0} → (List X → Type 0) → Option X → List X → Type 0
@@ -67,15 +66,12 @@ module _ {S : Type 0} (g : Ghosts S) where
   abbrev pub Rests : List ℕ → Query → Held S → List Row → Type 0
   Rests text q h later = ((params : Row) × RunsOn text q params h later) ⊎ (IsEnded h × (later ≡ []))
 
-  -- these cells, these journeys, or these items of a journey are still to come
+  -- these cells, or these journeys, are still to come
   abbrev pub CellsRest : Held S → List StockRow → Type 0
   CellsRest h later = Rests find_stock_text find_stock_query h (map stock_shown later)
 
   abbrev pub JourneysRest : Held S → List JourneyRow → Type 0
   JourneysRest h later = Rests first_unfinished_text first_unfinished_query h (map journey_shown later)
-
-  abbrev pub ItemsRest : Held S → List ItemFound → Type 0
-  ItemsRest h later = Rests find_items_text find_items_query h (map shows_item later)
 
   module _ (old new : Held S) where
     -- of the tables as they are, these are still to come

@@ -116,6 +116,12 @@ find_steps_query =
     (col 1 2 ∷ col 1 3 ∷ col 1 4 ∷ col 1 5 ∷ col 1 6 ∷ col 1 7 ∷ col 1 8 ∷ col 1 9 ∷ col 1 10 ∷ col 1 11 ∷ [])
     ((col 1 2, rising) ∷ (col 1 3, rising) ∷ [])
 
+abbrev pub find_options_query : Query
+find_options_query =
+    sorted_rows 8 (is_equal (col 1 1) (col 0 0) ∷ is_equal (col 1 2) (col 0 1) ∷ [])
+    (col 1 2 ∷ col 1 3 ∷ col 1 4 ∷ col 1 5 ∷ col 1 6 ∷ col 1 7 ∷ col 1 8 ∷ col 1 9 ∷ col 1 10 ∷ col 1 11 ∷ [])
+    ((col 1 2, rising) ∷ (col 1 3, rising) ∷ [])
+
 abbrev pub find_steps_names : List (List ℕ)
 find_steps_names =
     codes "place" ∷ codes "opt" ∷ codes "save" ∷ codes "taken" ∷ codes "kind" ∷ codes "supplier" ∷ codes "product"
@@ -124,7 +130,8 @@ find_steps_names =
 -- items
 abbrev pub find_items_query : Query
 find_items_query =
-    sorted_rows 13 (is_equal (col 1 2) (col 0 0) ∷ []) (col 1 0 ∷ col 1 3 ∷ col 1 4 ∷ col 1 5 ∷ []) ((col 1 0, rising) ∷ [])
+    sorted_rows 13 (is_equal (col 1 2) (col 0 0) ∷ op2 (Compare Gt Binary) (col 1 0) (col 0 1) ∷ [])
+    (col 1 0 ∷ col 1 3 ∷ col 1 4 ∷ col 1 5 ∷ []) ((col 1 0, rising) ∷ [])
 
 abbrev pub find_items_names : List (List ℕ)
 find_items_names = codes "num" ∷ codes "item" ∷ codes "a" ∷ codes "b" ∷ []

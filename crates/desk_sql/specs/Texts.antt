@@ -88,8 +88,11 @@ first_unfinished_text = codes "SELECT id, num, agent, steps, tries, pos, phase, 
 abbrev pub find_steps_text : List ℕ
 find_steps_text = codes "SELECT place, opt, save, taken, kind, supplier, product, night, nights, places FROM step WHERE journey = ?1 ORDER BY place, opt"
 
+abbrev pub find_options_text : List ℕ
+find_options_text = codes "SELECT place, opt, save, taken, kind, supplier, product, night, nights, places FROM step WHERE journey = ?1 AND place = ?2 ORDER BY place, opt"
+
 abbrev pub find_items_text : List ℕ
-find_items_text = codes "SELECT num, item, a, b FROM entry2 WHERE journey = ?1 ORDER BY num"
+find_items_text = codes "SELECT num, item, a, b FROM entry2 WHERE journey = ?1 AND num > ?2 ORDER BY num"
 
 abbrev pub find_marks_text : List ℕ
 find_marks_text = codes "SELECT pos FROM mark WHERE journey = ?1 ORDER BY pos"

@@ -7,9 +7,7 @@
 //! Words: rows *rest* while they are still to come.
 
 mod cells;
-mod items;
 mod journeys;
 
 pub use cells::{StockHanded, hand_stock};
-pub use items::{ItemsHanded, hand_items};
 pub use journeys::{UnfinishedHanded, hand_unfinished};

@@ -44,24 +44,26 @@ fn read_items(alloc: Global, rows: &[Row]) -> Result<Vec<ItemFound>, Error>
     Ok(items)
 }
 
-/// The items of a journey, oldest first.
+/// The items of a journey of which the events have numbers above this one, oldest first.
 pub fn find_items<S: Alter>(
     alloc: Global,
     conn: &mut Connection<S>,
     journey: u64,
+    after: u64,
 ) -> Result<Vec<ItemFound>, Error>
-    requires { journey < 2 ^ 63 }
+    requires journey { journey < 2 ^ 63 }
+    requires after { after < 2 ^ 63 }
 
     ensures found { Reads S.Store conn.old conn.new result
-        (λ t found. FindsItems journey t found.items) }
+        (λ t found. FindsItems journey after t found.items) }
     ensures failed { FailsQuietly S.Store conn.old conn.new result }
     ensures mode { conn.old.in_transaction ≡ false → conn.new.in_transaction ≡ false }
     ensures survives { LeavesNoMore S.Store conn.old conn.new }
 {
     let rows = all_rows(
         conn,
-        "SELECT num, item, a, b FROM entry2 WHERE journey = ?1 ORDER BY num",
-        &[ValueRef::Int(journey as i64)],
+        "SELECT num, item, a, b FROM entry2 WHERE journey = ?1 AND num > ?2 ORDER BY num",
+        &[ValueRef::Int(journey as i64), ValueRef::Int(after as i64)],
     )?;
     let items = read_items(alloc, rows.as_slice())?;
     Ok(items)

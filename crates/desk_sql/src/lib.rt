@@ -10,6 +10,7 @@ mod answers;
 mod batches;
 mod founding;
 mod handing;
+mod item_by_item;
 mod items;
 mod journeys;
 mod marks;
@@ -21,16 +22,15 @@ mod stock;
 pub use answers::{KeptAnswer, find_answer, insert_answer};
 pub use batches::{BatchFound, find_batch, insert_batch};
 pub use founding::make_tables;
-pub use handing::{
-    ItemsHanded, StockHanded, UnfinishedHanded, hand_items, hand_stock, hand_unfinished,
-};
+pub use handing::{StockHanded, UnfinishedHanded, hand_stock, hand_unfinished};
+pub use item_by_item::next_item;
 pub use items::{ItemFound, find_items, insert_item};
 pub use journeys::{
     Cursor, JourneyFound, find_journey, first_unfinished, insert_journey, move_journey,
 };
 pub use marks::{delete_mark, find_marks, insert_mark};
 pub use meta::{Meta, read_meta, update_meta};
-pub use steps::{StepFound, StepOption, find_steps, insert_step, mark_step};
+pub use steps::{StepFound, StepOption, find_options, find_steps, insert_step, mark_step};
 pub use stock::{
     CellFound, CellPlaces, NightFound, NightRange, find_nights, find_stock, give_nights, put_cell,
     take_nights,

@@ -3,7 +3,7 @@
 ghost use Rattle.std.specs.Prelude.{◌≡◌, ◌<◌, ◌^◌, false, map, IfOk};
 ghost use Rattle.desk_sql.specs.Calls.{Writes, StaysInside, WasOpen, CommitsNothing, LeavesNoMore, Reads, FailsQuietly};
 ghost use Rattle.desk_sql.specs.Changes.{IsSmallOption, adds_step, untaken, marks_step};
-ghost use Rattle.desk_sql.specs.Found.{FindsSteps, shows_step, ten_of};
+ghost use Rattle.desk_sql.specs.Found.{FindsSteps, FindsOptions, shows_step, ten_of};
 
 use crate::queries::all_rows;
 use sqlite::types::ValueRef;
@@ -140,6 +140,31 @@ pub fn find_steps<S: Alter>(
         conn,
         "SELECT place, opt, save, taken, kind, supplier, product, night, nights, places FROM step WHERE journey = ?1 ORDER BY place, opt",
         &[ValueRef::Int(journey as i64)],
+    )?;
+    let steps = read_steps(alloc, rows.as_slice())?;
+    Ok(steps)
+}
+
+/// The options of one step of a journey's plan, by their numbers.
+pub fn find_options<S: Alter>(
+    alloc: Global,
+    conn: &mut Connection<S>,
+    journey: u64,
+    place: u64,
+) -> Result<Vec<StepFound>, Error>
+    requires journey { journey < 2 ^ 63 }
+    requires place { place < 2 ^ 63 }
+
+    ensures found { Reads S.Store conn.old conn.new result
+        (λ t found. FindsOptions journey place t found.items) }
+    ensures failed { FailsQuietly S.Store conn.old conn.new result }
+    ensures mode { conn.old.in_transaction ≡ false → conn.new.in_transaction ≡ false }
+    ensures survives { LeavesNoMore S.Store conn.old conn.new }
+{
+    let rows = all_rows(
+        conn,
+        "SELECT place, opt, save, taken, kind, supplier, product, night, nights, places FROM step WHERE journey = ?1 AND place = ?2 ORDER BY place, opt",
+        &[ValueRef::Int(journey as i64), ValueRef::Int(place as i64)],
     )?;
     let steps = read_steps(alloc, rows.as_slice())?;
     Ok(steps)

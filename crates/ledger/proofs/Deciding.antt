@@ -257,7 +257,7 @@ each_open_has_one l legal j unfinished = go (journey_at l j) refl
         ((all_go l legal).go j a at) here)
 
 -- nothing may come in a finished history
-finished-none : (plan : Planned) (h : List Item) (fits : Bool) (item : Item)
+pub finished-none : (plan : Planned) (h : List Item) (fits : Bool) (item : Item)
     → is_finished (phase plan h) ≡ true → may_come plan h fits item ≡ true → ⊥
 finished-none plan h fits (Transaction i c) e may =
     finished_not_running (phase plan h) e (step-comes plan h fits i c may).running

@@ -15,6 +15,7 @@ pub mod Whole
 pub mod Growing
 pub mod Ledgers
 pub mod Deciding
+pub mod Ending
 pub mod Plain
 pub mod Phases
 pub mod Recovering

@@ -1,6 +1,6 @@
 mod desks;
 mod ends;
+mod fakes;
 mod forms;
 mod jobs;
 mod runs;
-mod streams;

@@ -1,8 +1,9 @@
 //! Why no next message is told.
 ghost use Rattle.std.specs.Prelude.{◌≡◌};
-ghost use Rattle.messages.specs.declared.faults.ReadFault.TheVariants.{Memory};
+ghost use Rattle.messages.specs.declared.faults.ReadFault.TheVariants.{Memory, Read};
 
 use std::alloc::AllocError;
+use streams::ReadFailed;
 
 /// Why no next message is told.
 #[derive(Clone, Copy, Debug, PartialEq, Eq)]
@@ -18,5 +19,13 @@ impl From<AllocError> for ReadFault {
 
     fn from(_error: AllocError) -> ReadFault {
         ReadFault::Memory
+    }
+}
+
+impl From<ReadFailed> for ReadFault {
+    ghost from_gives = { λ _ fault. fault ≡ Read };
+
+    fn from(_error: ReadFailed) -> ReadFault {
+        ReadFault::Read
     }
 }

@@ -1,6 +1,6 @@
 //! What was read of a stream and is not yet used.
-ghost use Rattle.std.specs.Prelude.{◌≡◌, ◌≤◌, ◌<◌, [], length, take, drop, true, false, IfOk, IsNone, IsSome, OnErr, OnOk};
-ghost use Rattle.std.specs.Io.KnownBytes.{Consumes, IsAtEnd, Keeps};
+ghost use Rattle.std.specs.Prelude.{◌≡◌, ◌≤◌, ◌<◌, [], length, drop, true, false, IfOk, IsNone, IsSome, OnErr};
+ghost use Rattle.std.specs.Io.KnownBytes.{IsAtEnd, Keeps};
 ghost use Rattle.messages.specs.Messages.{first_told};
 ghost use Rattle.messages.specs.Reading.{FindsTold, HasCount, HasMessage, IsNext, ReadsOn, to_come};
 
@@ -9,8 +9,9 @@ use crate::heads::Head;
 use crate::places::Search;
 use crate::requests::Message;
 use std::alloc::{AllocError, Global};
-use std::io::{ErrorKind, Read};
+use std::io::Read;
 use std::marker::Model;
+use streams::read_some;
 
 /// How many bytes are read at once, at most.
 const CHUNK: usize = 8192;
@@ -141,24 +142,4 @@ impl Incoming {
     {
         self.waiting.drain(..count);
     }
-}
-
-/// Reads once, and again where a read was interrupted.
-fn read_some<R: Read>(reader: &mut R, buffer: &mut [u8]) -> Result<usize, ReadFault>
-    ensures bound { IfOk result (λ count. count ≤ length buffer.new) }
-    ensures bytes { IfOk result (λ count.
-        Consumes (R.remaining reader.old) (R.remaining reader.new) (take count buffer.new)) }
-    ensures end { IfOk result (λ count. count ≡ 0 → 0 < length buffer.new →
-        IsAtEnd (R.remaining reader.new)) }
-
-    ensures fault { OnErr result (Keeps (R.remaining reader.old) (R.remaining reader.new)) }
-{
-    for _ in 0..u64::MAX {
-        match reader.read(buffer) {
-            Ok(count) => return Ok(count),
-            Err(error) if error.kind() == ErrorKind::Interrupted => {}
-            Err(_) => return Err(ReadFault::Read),
-        }
-    }
-    Err(ReadFault::Read)
 }

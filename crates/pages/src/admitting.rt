@@ -14,6 +14,18 @@ pub struct Denied {
     pub allow: Option<Verb>,
 }
 
+/// A refusal that has nothing to do with the method.
+impl From<Refusal> for Denied {
+    ghost from_gives = { λ refusal denied. denied ≡ plain refusal };
+
+    fn from(refusal: Refusal) -> Denied {
+        Denied {
+            refusal,
+            allow: None,
+        }
+    }
+}
+
 /// What is asked for, or the first thing that is wrong: the path, its method, the agent, the key of
 /// a POST, the parts of the path.
 pub fn admit(
@@ -26,24 +38,14 @@ pub fn admit(
     ensures allow { IfErr result (λ denied. is_some denied.allow ≡ is_of_method denied.refusal) }
 {
     match found {
-        Err(Unrouted::UnknownPath) => Err(plain(Refusal::UnknownPath)),
+        Err(Unrouted::UnknownPath) => Err(Denied::from(Refusal::UnknownPath)),
         Err(Unrouted::WrongMethod(verb)) => Err(Denied {
             refusal: Refusal::WrongMethod,
             allow: Some(verb),
         }),
-        _ if !has_agent => Err(plain(Refusal::NoAgent)),
-        _ if is_post && !has_key => Err(plain(Refusal::NoKey)),
-        Err(Unrouted::BadPart) => Err(plain(Refusal::BadBody)),
+        _ if !has_agent => Err(Denied::from(Refusal::NoAgent)),
+        _ if is_post && !has_key => Err(Denied::from(Refusal::NoKey)),
+        Err(Unrouted::BadPart) => Err(Denied::from(Refusal::BadBody)),
         Ok(route) => Ok(route),
-    }
-}
-
-/// A refusal that has nothing to do with the method.
-fn plain(refusal: Refusal) -> Denied
-    ensures plain { result ≡ plain refusal }
-{
-    Denied {
-        refusal,
-        allow: None,
     }
 }

@@ -50,7 +50,7 @@ impl Paths {
     }
 
     /// What a method and a target ask for. The target is taken as it stands, query and all.
-    pub fn route(&self, method: &str, target: &[u8]) -> Result<Route, Unrouted>
+    pub fn route(&self, method: &[u8], target: &[u8]) -> Result<Route, Unrouted>
         ensures route { result ≡ route_of method.now target.now }
     {
         match str::from_utf8(target) {
@@ -60,7 +60,7 @@ impl Paths {
     }
 
     /// What they ask for, where the target is a text.
-    fn route_of_text(&self, method: &str, target: &str) -> Result<Route, Unrouted>
+    fn route_of_text(&self, method: &[u8], target: &str) -> Result<Route, Unrouted>
         ensures route { result ≡ found_route method.now target.now (first routes target.now) }
     {
         match self.router.at(target) {
@@ -71,10 +71,10 @@ impl Paths {
 }
 
 /// What a method asks for at a path that was found.
-fn asked_by(method: &str, target: &str, entry: Entry) -> Result<Route, Unrouted>
+fn asked_by(method: &[u8], target: &str, entry: Entry) -> Result<Route, Unrouted>
     ensures route { result ≡ asked_by method.now target.now entry }
 {
-    if method != entry.verb.text() {
+    if method != entry.verb.text().as_bytes() {
         return Err(Unrouted::WrongMethod(entry.verb));
     }
     match asked(entry.place, target) {

@@ -24,7 +24,7 @@ fn paths(rt: &impl Abort, alloc: Global) -> Paths {
 
 /// Stops the test where a method and a target ask for something else.
 fn asks(rt: &impl Abort, paths: &Paths, method: &str, target: &[u8], expected: Found, case: &str) {
-    holds(rt, case, paths.route(method, target) == expected);
+    holds(rt, case, paths.route(method.as_bytes(), target) == expected);
 }
 
 // the method, the target, what they ask for

@@ -1,5 +1,5 @@
 -- The rows of unfinished journeys. For `brief_rows`.
-use Rattle.std.proofs.Common.{◌≡◌, ℕ, zero, suc, ◌+◌, ◌<◌, ◌≤◌, List, [], ◌∷◌, map, filter, cond, length, Bool, true, false, Some, Option, refl, sym, ap, ◌∙◌, arith}
+use Rattle.std.proofs.Common.{◌≡◌, ℕ, suc, ◌+◌, ◌<◌, ◌≤◌, List, [], ◌∷◌, map, filter, cond, length, Bool, true, false, Some, refl, sym, ap, ◌∙◌, arith}
 use Rattle.std.specs.Prelude.{slice_get, filter_map, option_map, nat_lt, nat_le, not, ◌&&◌}
 use Rattle.std.specs.List.{cons_option}
 use Rattle.std.specs.List.Sorted.{IsPermutation}
@@ -11,7 +11,7 @@ use Rattle.commands.specs.declared.items.Phase.{Phase}
 use Rattle.commands.specs.declared.items.Phase.TheVariants.{Run, Back, Ended, Undone}
 use Rattle.ledger.specs.History.{phase, is_finished}
 use Rattle.ledger.specs.Ledger.{Event, journey_at, numbers, history}
-use Rattle.saga_core.specs.Shown.{brief_of_journey, brief_of}
+use Rattle.saga_core.specs.Shown.{brief_of_journey, brief_of, unfinished_of}
 use Rattle.saga_core.specs.declared.records.Brief.{Brief}
 use Rattle.desk_sql.specs.Rows.{JourneyRow}
 use Rattle.desk_sql.specs.Found.{is_unfinished_after, journey_of}
@@ -19,12 +19,11 @@ use Rattle.desk_sql.specs.Handing.{ListsUnfinished}
 use Rattle.desk_sql.specs.Rows.{Tables}
 use Rattle.desk_sql.specs.declared.journeys.JourneyFound.{JourneyFound}
 use Rattle.standing.specs.Called.{counted_from, Begun, begun, phase_number, journeys_called}
-use Rattle.standing.specs.Reading.{Tells, IsBriefOf}
 use Rattle.standing.proofs.Events.{length-begun}
 use Rattle.standing.proofs.JourneyRows.{row_in, begun_there, called_rises}
 use Rattle.standing.proofs.Orders.{Rises, one_order}
 use Rattle.reading.specs.Reading.{TellsBrief}
-use Rattle.reading.specs.Handing.{unfinished_of, Short, short_of, short_told, TellBriefs}
+use Rattle.reading.specs.Handing.{Short, short_of, short_told, TellBriefs}
 use Rattle.reading.proofs.ReadJourneys.{brief_told}
 
 -- a journey with its number, in short

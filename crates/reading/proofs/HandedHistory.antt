@@ -1,41 +1,120 @@
--- The rows of a journey's items. For `history_rows`.
-use Rattle.std.proofs.Common.{◌≡◌, ℕ, ◌<◌, List, [], ◌∷◌, map, filter, Some, refl, sym, ap, ap₂, ◌∙◌, eqb-true, inl, inr}
-use Rattle.sqlite_rules.specs.Lists.{Has}
-use Rattle.sqlite_rules.proofs.ListLemmas.{has_filtered}
+-- The next item of a journey, and what is then left. For `history_rows`.
+use Rattle.std.proofs.Common.{◌≡◌, ℕ, List, [], ◌∷◌, ◌++◌, drop, Bool, true, false, Option, None, Some, refl, sym, ap, subst, ◌∙◌, append_assoc}
+use Rattle.sqlite.specs.Store.{Ghosts}
+use Rattle.sqlite.specs.Held.{Held, state}
 use Rattle.commands.specs.declared.items.Item.{Item}
 use Rattle.ledger.specs.Answer.{State}
-use Rattle.ledger.specs.Ledger.{history}
-use Rattle.desk_sql.specs.Rows.{Tables, EntryRow}
-use Rattle.desk_sql.specs.Found.{item_of, is_item_of, FindsItems}
+use Rattle.ledger.specs.Ledger.{journey_at, history}
+use Rattle.desk_sql.specs.Found.{item_of}
 use Rattle.desk_sql.specs.declared.items.ItemFound.{ItemFound}
-use Rattle.standing.specs.Standing.{StandsFor, IsDesk}
-use Rattle.standing.proofs.Orders.{Rises}
-use Rattle.standing.proofs.Readings.{items_read}
-use Rattle.reading.specs.Reading.{TellItems}
+use Rattle.saga_core.specs.RowSources.{HandsFirst}
+use Rattle.standing.specs.Keeping.{Keeps}
+use Rattle.standing.specs.Reading.{item_in}
+use Rattle.standing.specs.Standing.{IsDesk}
+use Rattle.reading.specs.Following.{GoesOnWith, BringsTo, TellsFinished}
+use Rattle.reading.specs.Handing.{AreBehind, ItemsLeft}
+use Rattle.reading.specs.Reading.{KeepsOn}
+use Rattle.reading.specs.Sought.{TellsNext, IsNextOf}
+use Rattle.reading.specs.declared.sought.Sought.{Sought}
+use Rattle.reading.proofs.GoingOn.{goes_no_further}
 
--- what is read of a row of entry2
-abbrev pub found_of : EntryRow → ItemFound
-found_of e = record { num = e.num; item = e.item; a = e.a; b = e.b }
+module _ {S : Type 0} (g : Ghosts S) (old new : Held S) (w : Sought) (pos : ℕ) where
+  -- what is left where it is not finished
+  open_left : (was : Bool) (items : List Item) → was ≡ false → ItemsLeft g old w pos was items → AreBehind g old w pos items
+  open_left was items e left = subst (λ v. ItemsLeft g old w pos v items) e left
 
--- the items that are found of a journey
-abbrev pub all_found : ℕ → Tables → List ItemFound
-all_found id t = map found_of (filter (is_item_of id) t.entry2)
+  -- the row that is found, or that none is, of each desk that the connection keeps
+  abbrev pub IsNextFound : Option ItemFound → Type 0
+  IsNextFound o = (s : State) → IsDesk s → Keeps (state g old) s → IsNextOf w s o
 
-back : (id : ℕ) (e : EntryRow) → e.journey ≡ id → item_of id (found_of e) ≡ e
-back id e is = rw (← is) refl
+  -- the row tells the first item of those that were left; where it finishes the journey none is left behind it
+  pub item_first : (v : Sought) (after : ℕ) (was finished : Bool) (i : ItemFound) (x : Item)
+      → v.journey ≡ w.journey → v.after ≡ i.num → v.steps ≡ w.steps → KeepsOn g old new
+      → IsNextFound (Some i) → Some x ≡ item_in (item_of 0 i)
+      → BringsTo pos x after → TellsFinished w.steps pos x finished → was ≡ false
+      → (failed : Bool) (xs : List Item) → (failed ≡ false) × ItemsLeft g old w pos was xs
+      → HandsFirst (λ zs. (false ≡ false) × ItemsLeft g new v after finished zs) (Some x) xs
+  item_first v after was finished i x journey_is after_is steps_is kept next is brings tells open_yet failed xs rests =
+      let left = open_left was xs open_yet rests.1 in
+      let told = next left.desk left.is_desk left.keeps in
+      go xs left told (sym left.behind ∙ told.rest)
+    where
+      goes_same : (y : Item) → y ≡ x → (later : List Item) → AreBehind g old w pos (y ∷ later) → GoesOnWith w.steps pos (x ∷ later)
+      goes_same y same later left = record {
+        ledger = left.desk.ledger;
+        legal = left.is_desk.legal;
+        id = w.journey;
+        has_steps = left.has_steps;
+        before = left.before;
+        stands = left.stands;
+        whole = left.whole ∙ ap (λ z. left.before ++ z ∷ later) same;
+      }
 
-all_back : (id : ℕ) (es : List EntryRow) → ((e : EntryRow) → Has es e → e.journey ≡ id) → map (item_of id) (map found_of es) ≡ es
-all_back id [] each = refl
-all_back id (e ∷ es) each = ap₂ ◌∷◌ (back id e (each e (inl refl))) (all_back id es (λ x h. each x (inr h)))
+      further : (f : Bool) (y : Item) → y ≡ x → TellsFinished w.steps pos x f → (later : List Item)
+          → (left : AreBehind g old w pos (y ∷ later))
+          → history (drop i.num left.desk.ledger) w.journey ≡ later → ItemsLeft g new v after f later
+      further true y same done later left behind =
+          goes_no_further w.steps pos x later done (goes_same y same later left)
+      further false y same open_still later left behind =
+          record {
+            desk = left.desk;
+            is_desk = left.is_desk;
+            keeps = kept left.desk left.keeps;
+            has_steps = λ a at. left.has_steps a (sym (ap (journey_at left.desk.ledger) journey_is) ∙ at) ∙ sym steps_is;
+            before = left.before ++ x ∷ [];
+            stands = sym (brings w.steps later (goes_same y same later left));
+            whole =
+                ap (history left.desk.ledger) journey_is ∙ left.whole ∙ ap (λ z. left.before ++ z ∷ later) same
+                ∙ sym (append_assoc left.before (x ∷ []) later);
+            behind =
+                ap (λ n. history (drop n left.desk.ledger) v.journey) after_is
+                ∙ ap (history (drop i.num left.desk.ledger)) journey_is ∙ behind;
+          }
 
-pub finds_all : (id : ℕ) (t : Tables) → FindsItems id t (all_found id t)
-finds_all id t = all_back id (filter (is_item_of id) t.entry2) (λ e h. eqb-true _ _ (has_filtered (is_item_of id) t.entry2 e h).1)
+      go : (ys : List Item) (left : AreBehind g old w pos ys) (told : TellsNext w left.desk.ledger i)
+          → ys ≡ told.item ∷ history (drop i.num left.desk.ledger) w.journey
+          → HandsFirst (λ zs. (false ≡ false) × ItemsLeft g new v after finished zs) (Some x) ys
+      go [] left told e = cc
+      go (y ∷ later) left told e =
+          let both : Some x ≡ Some told.item = is ∙ told.told in
+          let same : y ≡ x = cc in
+          let behind : later ≡ history (drop i.num left.desk.ledger) w.journey = cc in
+          (ap Some (sym same), (refl, further finished y same tells later left (sym behind)))
 
--- and they tell its history
-pub history_told : (t : Tables) (s : State) (st : StandsFor t s) (desk : IsDesk s) (id : ℕ) (items : List Item)
-    → Rises (λ (e : EntryRow). e.num) t.entry2 → items ≡ history s.ledger id → TellItems (all_found id t) items
-history_told t s st desk id items rise is = items_read t s st desk id (all_found id t) rise (finds_all id t) ∙ ap (map Some) (sym is)
+  -- where no row comes, none was left
+  pub item_none : (was : Bool) → KeepsOn g old new → IsNextFound None → was ≡ false
+      → (failed : Bool) (xs : List Item) → (failed ≡ false) × ItemsLeft g old w pos was xs
+      → HandsFirst (λ zs. (false ≡ false) × ItemsLeft g new w pos was zs) None xs
+  item_none was kept next open_yet failed xs rests =
+      let left = open_left was xs open_yet rests.1 in
+      go xs left (sym left.behind ∙ next left.desk left.is_desk left.keeps)
+    where
+      go : (ys : List Item) → AreBehind g old w pos ys → ys ≡ []
+          → HandsFirst (λ zs. (false ≡ false) × ItemsLeft g new w pos was zs) None ys
+      go [] left e = (
+        refl,
+        (
+          refl,
+          subst (λ v. ItemsLeft g new w pos v []) (sym open_yet) (record {
+            desk = left.desk;
+            is_desk = left.is_desk;
+            keeps = kept left.desk left.keeps;
+            has_steps = left.has_steps;
+            before = left.before;
+            stands = left.stands;
+            whole = left.whole;
+            behind = left.behind;
+          }),
+        ),
+      )
+      go (y ∷ later) left e = cc
 
--- a row that tells an item tells no other
-pub item_same : (i j : Item) → Some i ≡ Some j → i ≡ j
-item_same i j e = cc
+-- of a finished journey none is left
+pub none_left : {S : Type 0} (g : Ghosts S) (h : Held S) (w : Sought) (pos : ℕ) (was : Bool) → was ≡ true
+    → (failed : Bool) (xs : List Item) → (failed ≡ false) × ItemsLeft g h w pos was xs
+    → HandsFirst (λ zs. (failed ≡ false) × ItemsLeft g h w pos was zs) None xs
+none_left g h w pos was done failed xs rests = go xs (subst (λ v. ItemsLeft g h w pos v xs) done rests.1)
+  where
+    go : (ys : List Item) → ys ≡ [] → HandsFirst (λ zs. (failed ≡ false) × ItemsLeft g h w pos was zs) None ys
+    go [] none = (refl, (rests.0, subst (λ v. ItemsLeft g h w pos v []) (sym done) refl))
+    go (y ∷ ys) none = cc

@@ -1,12 +1,11 @@
 -- The rows of the stock, in their one order. For `cell_rows`.
-use Rattle.std.proofs.Common.{◌≡◌, ◌⊎◌, inl, inr, ℕ, ◌≤◌, ◌==◌, List, [], ◌∷◌, map, find, Bool, true, false, Option, Some, None, IsTrue, refl, sym, ap, ap₂, subst, ◌∙◌, eqb-true, eq-eqb}
-use Rattle.std.specs.Prelude.{option_map, bytes_eq}
+use Rattle.std.proofs.Common.{◌≡◌, inl, inr, ℕ, ◌≤◌, List, [], ◌∷◌, map, find, Bool, true, false, Option, Some, None, refl, sym, ap, ap₂, subst, ◌∙◌, eqb-true, eq-eqb}
+use Rattle.std.specs.Prelude.{option_map}
 use Rattle.std.specs.Ordering.{is_lt, ordering_reverse}
 use Rattle.std.specs.declared.cmp.Ordering.{Ordering}
 use Rattle.std.specs.declared.cmp.Ordering.TheVariants.{Less, Equal, Greater}
 use Rattle.std.specs.Cmp.{IsTotalOrder}
 use Rattle.std.specs.List.{AllByRecursion}
-use Rattle.std.specs.List.Sorted.{IsPermutation}
 use Rattle.std.proofs.Math.Bridge.{le_prop}
 use Rattle.std.proofs.lemmas.Cmp.{on_total, then_total, nat_cmp_total, nat_list_cmp_total}
 use Rattle.std.proofs.lemmas.Bool.{and_parts, and_from}
@@ -21,9 +20,8 @@ use Rattle.allotment.specs.declared.cells.Cell.{Cell}
 use Rattle.allotment.specs.declared.places.Held.{Held}
 use Rattle.ledger.specs.Ledger.{Event}
 use Rattle.ledger.proofs.Cells.{is_cell-same}
-use Rattle.saga_core.specs.Shown.{Places, places_said, places_at, places_of, cell_cmp, are_in_order, IsStock}
+use Rattle.saga_core.specs.Shown.{Places, places_said, places_at, cell_cmp, are_in_order, IsStock}
 use Rattle.saga_core.specs.RowSources.{HandsFirst}
-use Rattle.desk_sql.specs.Lists.{IsListed}
 use Rattle.desk_sql.specs.Rows.{StockRow}
 use Rattle.desk_sql.specs.Stock.{IsByCell, cell_cmp as stock_cmp}
 use Rattle.desk_sql.specs.Handing.{IsOnlyOrder, HandsFirst as HandsFirstRow, Hands as HandsRows}

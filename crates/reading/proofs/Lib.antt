@@ -1,3 +1,4 @@
+pub mod GoingOn
 pub mod HandedBriefs
 pub mod HandedHistory
 pub mod HandedStock
@@ -5,4 +6,5 @@ pub mod HandedTold
 pub mod ReadJourneys
 pub mod ReadLemmas
 pub mod ReadPlans
+pub mod ReadSought
 pub mod ReadStock

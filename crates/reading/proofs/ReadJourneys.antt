@@ -1,12 +1,12 @@
 -- What the rows of journeys tell. For the functions of `reading`.
-use Rattle.std.proofs.Common.{◌≡◌, ℕ, zero, suc, ◌≤◌, ◌<◌, List, [], ◌∷◌, map, find, cond, length, IsTrue, Option, Some, None, Bool, true, false, refl, sym, ap, ap₂, ◌∙◌, arith}
-use Rattle.std.specs.Prelude.{option_map, filter_map, nat_lt, not, ◌&&◌}
+use Rattle.std.proofs.Common.{◌≡◌, ℕ, zero, suc, ◌≤◌, ◌<◌, List, [], ◌∷◌, map, find, cond, length, Option, Some, None, Bool, true, false, refl, sym, ap, ap₂, ◌∙◌, arith}
+use Rattle.std.specs.Prelude.{option_map, filter_map, nat_lt, not}
 use Rattle.std.proofs.lemmas.Bool.{and_parts, and_from, ltb-true, lt-ltb}
 use Rattle.std.proofs.lemmas.Option.{slice_get_past}
 use Rattle.commands.specs.declared.items.Cursor.{Cursor}
 use Rattle.saga_core.specs.Shown.{first_unfinished, is_unfinished_above, brief_of, record_of, record_of_journey, cursor_of, marks_of}
 use Rattle.saga_core.specs.declared.records.Record.{Record}
-use Rattle.plan.specs.Planned.{Planned}
+use Rattle.plan.specs.Planned.{Planned, step_count}
 use Rattle.std.specs.FinSet as set
 use Rattle.std.specs.Ordering.{nat_cmp}
 use Rattle.desk_sql.specs.Rows.{JourneyRow}
@@ -19,7 +19,8 @@ use Rattle.ledger.specs.Ledger.{Event, Journey, journeys, journey_at, numbers, h
 use Rattle.standing.specs.Called.{cursor_row}
 use Rattle.standing.specs.Reading.{Tells, IsBriefOf, IsJourneyOf, cursor_in}
 use Rattle.standing.proofs.Cursors.{cursor_back}
-use Rattle.reading.specs.Reading.{TellsBrief, TellsRecord}
+use Rattle.reading.specs.Reading.{TellsBrief, TellsStand, TellsRecord, stand_of}
+use Rattle.reading.specs.declared.reads.Stand.{Stand}
 
 made_brief : ℕ → List ℕ → Cursor → Brief
 made_brief id agent cursor = record { id = id; agent = agent; cursor = cursor }
@@ -114,3 +115,26 @@ record_shown l id r plan marks b told planned marked tells =
     sym (ap (record_of l) (sym number)
     ∙ record_told l (journey_of r) a b (ap (journey_at l) number ∙ there.at) there.is tells.agent
     (tells.same_plan ∙ planned a there.at there.is.tries) (ap cursor_row same_cursor ∙ sym there.is.cursor) (tells.same_marks ∙ marked ∙ ap (λ n. marks_of (history l n)) (sym number)))
+
+-- where a journey is by its row is where it is shown to be
+pub stand_shown : (l : List Event) (id : ℕ) (r : JourneyFound) (b : Stand)
+    → Tells (λ (x : JourneyRow) a. (x.id ≡ id) × IsJourneyOf l x a) (Some (journey_of r)) (journey_at l id)
+    → TellsStand r b → Some b ≡ option_map stand_of (record_of l id)
+stand_shown l id r b told tells =
+    let there = journey_there l id (journey_of r) told in
+    let a = there.journey in
+    let cursor : Some b.cursor ≡ Some (cursor_of a.plan (history l r.id)) = sym tells.cursor ∙ ap cursor_in there.is.cursor ∙ cursor_back (cursor_of a.plan (history l r.id)) in
+    let same_cursor : b.cursor ≡ cursor_of a.plan (history l id) =
+    (let here : b.cursor ≡ cursor_of a.plan (history l r.id) = cc in here ∙ ap (λ n. cursor_of a.plan (history l n)) there.same) in
+    ap Some
+    (ap (λ x. made x b.steps b.cursor) (tells.agent ∙ there.is.agent) ∙ ap (λ n. made a.agent n b.cursor) (tells.steps ∙ there.is.steps)
+    ∙ ap (made a.agent (step_count a.plan)) same_cursor)
+    ∙ sym (ap (λ o. option_map stand_of (option_map (record_of_journey (history l id)) o)) there.at)
+  where
+    made : List ℕ → ℕ → Cursor → Stand
+    made agent steps cursor = record { agent = agent; steps = steps; cursor = cursor }
+
+-- where no row is found there is no journey that is anywhere
+pub stand_none : (l : List Event) (id : ℕ) → Tells (λ (r : JourneyRow) a. (r.id ≡ id) × IsJourneyOf l r a) None (journey_at l id)
+    → None ≡ option_map stand_of (record_of l id)
+stand_none l id told = ap (option_map stand_of) (record_none l id told)

@@ -1,15 +1,19 @@
 -- Rows that are those of a plan, one after another. For the functions of `plans_told`.
-use Rattle.std.proofs.Common.{◌≡◌, ℕ, ◌+◌, ◌<◌, ◌≤◌, List, [], ◌∷◌, ◌++◌, map, take, length, get_or, refl, sym, ap, ◌∙◌, arith, append_assoc}
+use Rattle.std.proofs.Common.{◌≡◌, ℕ, Bool, ◌+◌, ◌<◌, ◌≤◌, List, [], ◌∷◌, ◌++◌, map, take, length, get_or, refl, sym, ap, ◌∙◌, arith, append_assoc}
 use Rattle.std.proofs.lemmas.List.{map-append, take_more}
+use Rattle.allotment.specs.Cells.{kind_number}
+use Rattle.allotment.specs.Want.{Wanted}
 use Rattle.plan.specs.Planned.{Planned, option_count, step_count}
+use Rattle.desk_sql.specs.Rows.{StepRow}
 use Rattle.desk_sql.specs.Found.{step_of}
 use Rattle.desk_sql.specs.declared.steps.StepFound.{StepFound}
-use Rattle.standing.specs.Called.{step_rows_of, none_taken}
+use Rattle.standing.specs.Called.{step_rows_of, none_taken, flag, option_row}
+use Rattle.standing.proofs.PlanReading.{option_row-want}
 use Rattle.standing.specs.Reading.{not_taken}
 use Rattle.standing.specs.Beginning.{first_steps}
 use Rattle.standing.proofs.PlanWriting.{step_rows-all}
-use Rattle.standing.specs.Beginning.{first_rows_of_step, rows_of_option, rows_of_step}
-use Rattle.reading.specs.PlansTold.{first_rows, TellsOption, TellStep, TellPlan}
+use Rattle.standing.specs.Beginning.{first_rows_of_step, rows_of_step}
+use Rattle.reading.specs.PlansTold.{first_rows, TellsWant, TellsOption, TellStep, TellPlan}
 use Rattle.standing.proofs.PlanParts.{first_rows_of_step-more, first_rows_of_step-all, step_rows_of-more}
 
 take-whole : {X : Type 0} (xs : List X) → take (length xs) xs ≡ xs
@@ -55,3 +59,35 @@ pub plan_whole : (rows : List StepFound) (count n : ℕ) (plan : Planned) → n 
     → ((id : ℕ) → first_rows id (take count rows) ≡ step_rows_of id (first_steps n plan)) → TellPlan rows plan
 plan_whole rows count n plan all whole told id =
     sym (ap (first_rows id) (sym (ap (λ k. take k rows) whole ∙ take-whole rows)) ∙ told id ∙ ap (λ k. step_rows_of id (first_steps k plan)) all ∙ step_rows-all none_taken id plan)
+
+-- the want that a row tells is that of the option whose row it is
+pub want_one : (id k o : ℕ) (m t : Bool) (row : StepFound) (w v : Wanted) → TellsWant row w → step_of id row ≡ option_row id k m o t v → w ≡ v
+want_one id k o m t row w v tells e =
+    let kind : kind_number w.kind ≡ kind_number v.kind = sym tells.kind ∙ ap (λ (r : StepRow). r.kind) e in
+    let supplier : w.supplier ≡ v.supplier = sym tells.supplier ∙ ap (λ (r : StepRow). r.supplier) e in
+    let product : w.product ≡ v.product = sym tells.product ∙ ap (λ (r : StepRow). r.product) e in
+    let first : w.first ≡ v.first = sym tells.first ∙ ap (λ (r : StepRow). r.night) e in
+    let nights : w.nights ≡ v.nights = sym tells.nights ∙ ap (λ (r : StepRow). r.nights) e in
+    let places : w.count ≡ v.count = sym tells.places ∙ ap (λ (r : StepRow). r.places) e in
+    option_row-want id k o m m t t w v
+    (ap (λ x. made x w.supplier w.product w.first w.nights w.count) kind
+    ∙ ap (λ x. made (kind_number v.kind) x w.product w.first w.nights w.count) supplier
+    ∙ ap (λ x. made (kind_number v.kind) v.supplier x w.first w.nights w.count) product
+    ∙ ap (λ x. made (kind_number v.kind) v.supplier v.product x w.nights w.count) first
+    ∙ ap (λ x. made (kind_number v.kind) v.supplier v.product v.first x w.count) nights
+    ∙ ap (λ x. made (kind_number v.kind) v.supplier v.product v.first v.nights x) places)
+  where
+    made : ℕ → List ℕ → List ℕ → ℕ → ℕ → ℕ → StepRow
+    made kind supplier product night nights places = record {
+      journey = id;
+      place = k;
+      opt = o;
+      save = flag m;
+      taken = flag t;
+      kind = kind;
+      supplier = supplier;
+      product = product;
+      night = night;
+      nights = nights;
+      places = places;
+    }

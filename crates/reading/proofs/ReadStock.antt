@@ -1,5 +1,5 @@
 -- What a want asks of the rows of stock. For the functions of `reading`.
-use Rattle.std.proofs.Common.{ℕ, ◌≤◌, ◌+◌, ◌-◌, IsTrue}
+use Rattle.std.proofs.Common.{◌≤◌, ◌+◌, ◌-◌, IsTrue}
 use Rattle.std.specs.Prelude.{nat_le, ◌&&◌}
 use Rattle.std.proofs.lemmas.Bool.{and_parts, leb-true}
 use Rattle.allotment.specs.Want.{Wanted}

@@ -1,31 +1,28 @@
 -- What a source of rows has still to hand out, and what it leaves of the connection under it.
-use Rattle.std.specs.Prelude.{◌≡◌, ℕ, List, map, filter, filter_map, not, false, refl}
-use Rattle.std.specs.Borrow.{MutBor}
+use Rattle.std.specs.Prelude.{◌≡◌, ℕ, Bool, List, [], ◌++◌, map, drop, true, false, refl}
+use Rattle.std.specs.Prelude.{Result}
+use Rattle.std.specs.Borrow.{Fml, GName, RattleType, MutBor, RestsIfErr}
+use Rattle.sqlite.specs.contracts.connection.Connection as connection
 use Rattle.std.proofs.Common.{◌∙◌}
 use Rattle.allotment.specs.declared.cells.Cell.{Cell}
 use Rattle.allotment.specs.declared.places.Held.{Held as HeldPlaces}
 use Rattle.commands.specs.declared.items.Item.{Item}
 use Rattle.ledger.specs.Answer.{State}
-use Rattle.ledger.specs.History.{is_finished}
-use Rattle.ledger.specs.Ledger.{Event, numbers}
-use Rattle.saga_core.specs.Shown.{brief_of}
+use Rattle.ledger.specs.History.{position_of}
+use Rattle.ledger.specs.Ledger.{history}
 use Rattle.saga_core.specs.declared.records.Brief.{Brief}
 use Rattle.sqlite.specs.Store.{Ghosts}
 use Rattle.sqlite.specs.Held.{Held, state}
 use Rattle.sqlite.specs.State.{HasCleanDisk}
-use Rattle.desk_sql.specs.Handing.{CellsRest, JourneysRest, ItemsRest}
+use Rattle.desk_sql.specs.Handing.{CellsRest, JourneysRest}
 use Rattle.desk_sql.specs.Rows.{JourneyRow, CursorRow}
-use Rattle.desk_sql.specs.declared.items.ItemFound.{ItemFound}
 use Rattle.standing.specs.Called.{cursor_row}
 use Rattle.standing.specs.Keeping.{Keeps}
 use Rattle.standing.specs.Reading.{stock_row_of}
 use Rattle.standing.specs.Standing.{IsDesk}
-use Rattle.reading.specs.Reading.{OnlyReads, TellItems}
-
--- the journeys that are not finished, in short, by rising number
-abbrev pub unfinished_of : List Event → List Brief
-unfinished_of l =
-    filter (λ (b : Brief). not (is_finished b.cursor.phase)) (filter_map (brief_of l) (numbers l))
+use Rattle.reading.specs.Reading.{OnlyReads}
+use Rattle.reading.specs.Sought.{HasSteps}
+use Rattle.reading.specs.declared.sought.Sought.{Sought}
 
 -- what a row tells of a journey in short
 pub record Short : Type 0 where
@@ -53,8 +50,21 @@ module _ {S : Type 0} (g : Ghosts S) where
   abbrev pub BriefsRest : Held S → List Brief → Type 0
   BriefsRest h briefs = (rows : List JourneyRow) × JourneysRest g h rows × TellBriefs rows briefs
 
-  abbrev pub HistoryRests : Held S → List Item → Type 0
-  HistoryRests h items = (rows : List ItemFound) × ItemsRest g h rows × TellItems rows items
+  -- of a journey that has come to this position the connection keeps these items behind an event, and no more
+  pub record AreBehind (h : Held S) (w : Sought) (pos : ℕ) (items : List Item) : Type 0 where
+    pub desk : State
+    pub is_desk : IsDesk desk
+    pub keeps : Keeps (state g h) desk
+    pub has_steps : HasSteps desk.ledger w.journey w.steps
+    pub before : List Item
+    pub stands : position_of before ≡ pos
+    pub whole : history desk.ledger w.journey ≡ before ++ items
+    pub behind : history (drop w.after desk.ledger) w.journey ≡ items
+
+  -- these items of a journey are still to come; none, where it is finished
+  abbrev pub ItemsLeft : Held S → Sought → ℕ → Bool → List Item → Type 0
+  ItemsLeft h w pos true items = items ≡ []
+  ItemsLeft h w pos false items = AreBehind h w pos items
 
   module _ (old new : Held S) where
     -- the connection keeps what it kept, and stays out of a transaction
@@ -73,6 +83,11 @@ module _ {S : Type 0} (g : Ghosts S) where
   pub record StaysUnder (a b : MutBor (Held S)) : Type 0 where
     pub same_reference : b.ghost_name ≡ a.ghost_name
     pub left : IsLeftAsItWas a.now b.now
+
+module _ (S : RattleType) (g : Ghosts S.Denot) where
+  -- where rows cannot begin to be handed out the connection is left as it was; else it is that on which they stand
+  abbrev pub LeavesIfErr : {X E : Type 0} → (X → GName) → MutBor (Held S.Denot) → Result X E → Fml
+  LeavesIfErr name c r = RestsIfErr (connection.the_row S g) c name r (λ last. IsLeftAsItWas g c.now last)
 
 -- it stays so where nothing is handed out, and from one row to the next
 pub stays_alone : {S : Type 0} {g : Ghosts S} (a : MutBor (Held S)) → StaysUnder g a a

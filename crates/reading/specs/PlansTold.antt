@@ -1,5 +1,7 @@
 -- When rows of options tell a plan.
-use Rattle.std.specs.Prelude.{◌≡◌, ◌≤◌, ℕ, List, [], ◌∷◌, ◌++◌, map, take, length}
+use Rattle.std.specs.Prelude.{◌≡◌, ◌≤◌, ℕ, List, [], ◌∷◌, ◌++◌, map, take, length, string_bytes}
+use Rattle.allotment.specs.Want.{Wanted}
+use Rattle.allotment.specs.Cells.{kind_number}
 use Rattle.plan.specs.Planned.{Planned}
 use Rattle.desk_sql.specs.Found.{step_of}
 use Rattle.desk_sql.specs.Rows.{StepRow}
@@ -11,6 +13,15 @@ use Rattle.standing.specs.Beginning.{rows_of_option, rows_of_step}
 -- the rows that were found of a journey, as they stood when it began
 abbrev pub first_rows : ℕ → List StepFound → List StepRow
 first_rows id found = map not_taken (map (step_of id) found)
+
+-- the row is that of an option with this want
+pub record TellsWant (row : StepFound) (want : Wanted) : Type 0 where
+  pub kind : row.kind ≡ kind_number want.kind
+  pub supplier : string_bytes row.supplier ≡ want.supplier
+  pub product : string_bytes row.product ≡ want.product
+  pub first : row.night ≡ want.first
+  pub nights : row.nights ≡ want.nights
+  pub places : row.places ≡ want.count
 
 -- the row is that of this option of a plan
 abbrev pub TellsOption : StepFound → Planned → ℕ → ℕ → Type 0

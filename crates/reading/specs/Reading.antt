@@ -1,5 +1,5 @@
 -- What a read of a connection tells of the desk that it keeps, and what it leaves of it.
-use Rattle.std.specs.Prelude.{◌≡◌, ℕ, List, map, Option, None, Some, Result, IfOk}
+use Rattle.std.specs.Prelude.{◌≡◌, ℕ, List, map, Option, None, Some, option_map, Result, IfOk}
 use Rattle.allotment.specs.declared.cells.Cell.{Cell}
 use Rattle.allotment.specs.declared.places.Held.{Held as HeldPlaces}
 use Rattle.saga_core.specs.Shown.{night_said, first_unfinished, record_of, marks_of}
@@ -19,13 +19,14 @@ use Rattle.ledger.specs.Answer.{State}
 use Rattle.ledger.specs.Ledger.{Journey, journey_at, history}
 use Rattle.saga_core.specs.declared.records.Brief.{Brief}
 use Rattle.saga_core.specs.declared.records.Record.{Record}
-use Rattle.plan.specs.Planned.{Planned}
+use Rattle.plan.specs.Planned.{Planned, step_count}
 use Rattle.std.specs.FinSet as set
 use Rattle.std.specs.Ordering.{nat_cmp}
 use Rattle.desk_sql.specs.Found.{journey_of, item_of}
 use Rattle.desk_sql.specs.declared.journeys.JourneyFound.{JourneyFound}
 use Rattle.desk_sql.specs.declared.items.ItemFound.{ItemFound}
 use Rattle.standing.specs.Standing.{IsDesk}
+use Rattle.reading.specs.declared.reads.Stand.{Stand}
 use Rattle.standing.specs.Reading.{cursor_in, item_in, night_seen, stock_row_of}
 use Rattle.standing.specs.Keeping.{Keeps}
 pub use Rattle.standing.specs.Keeping.{WasClean}
@@ -68,6 +69,12 @@ pub record TellsBrief (r : JourneyFound) (b : Brief) : Type 0 where
   pub agent : b.agent ≡ (journey_of r).agent
   pub cursor : TellsCursor r.cursor b.cursor
 
+-- the row tells where this journey is
+pub record TellsStand (r : JourneyFound) (b : Stand) : Type 0 where
+  pub agent : b.agent ≡ (journey_of r).agent
+  pub steps : b.steps ≡ r.steps
+  pub cursor : TellsCursor r.cursor b.cursor
+
 -- the row tells this journey, with a plan and save-points
 pub record TellsRecord (r : JourneyFound) (plan : Planned) (marks : set.FinSet nat_cmp) (b : Record)
     : Type 0 where
@@ -104,6 +111,14 @@ HasNone id s _ = journey_at s.ledger id ≡ None
 -- the journey of this number, if there is one
 abbrev pub IsRecordAt : ℕ → State → Option Record → Type 0
 IsRecordAt id s found = found ≡ record_of s.ledger id
+
+-- where a journey is, of what is shown of it
+abbrev pub stand_of : Record → Stand
+stand_of r = record { agent = r.agent; steps = step_count r.plan; cursor = r.cursor }
+
+-- where the journey of this number is, if there is one
+abbrev pub IsStandAt : ℕ → State → Option Stand → Type 0
+IsStandAt id s found = found ≡ option_map stand_of (record_of s.ledger id)
 
 -- the save-points that the journey of this number took and that stand
 abbrev pub AreMarksAt : ℕ → State → set.FinSet nat_cmp → Type 0

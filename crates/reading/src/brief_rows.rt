@@ -3,7 +3,8 @@
 ghost use Rattle.std.specs.Prelude.{◌≡◌, false, IfOk};
 ghost use Rattle.sqlite.specs.Held.{state};
 ghost use Rattle.sqlite.specs.State.{HasCleanDisk};
-ghost use Rattle.reading.specs.Handing.{unfinished_of, BriefsRest, IsLeftAsItWas, BeginsKept};
+ghost use Rattle.saga_core.specs.Shown.{unfinished_of};
+ghost use Rattle.reading.specs.Handing.{BriefsRest, IsLeftAsItWas, BeginsKept};
 
 use crate::faults::fault_of;
 use crate::telling::brief_of;

@@ -9,15 +9,19 @@
 mod brief_rows;
 mod cell_rows;
 mod faults;
+mod following;
 mod history_rows;
 mod plans_told;
 mod reads;
+mod sought;
 mod telling;
 
 pub use brief_rows::{UnfinishedRows, unfinished_rows};
 pub use cell_rows::{StockRows, stock_rows};
 pub use faults::fault_of;
 pub use history_rows::{ItemRows, item_rows};
+pub use plans_told::want_told;
 pub use reads::{
-    LARGEST, read_cells, read_first_unfinished, read_history, read_journey, read_stock,
+    LARGEST, Stand, read_cells, read_first_unfinished, read_history, read_journey, read_stand,
+    read_stock,
 };

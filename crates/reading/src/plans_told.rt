@@ -1,13 +1,25 @@
 //! The plan that rows of options tell. It is put together step by step, and then held against the rows.
 ghost use Rattle.std.specs.Prelude.{◌≡◌, ◌≤◌, true, length, IfOk, IfSome, IsTrue};
 ghost use Rattle.plan.specs.Planned.{step_count, option_count, is_plan};
-ghost use Rattle.reading.specs.PlansTold.{TellsOption, TellStep, TellPlan};
+ghost use Rattle.reading.specs.PlansTold.{TellsWant, TellsOption, TellStep, TellPlan};
 
 use allotment::{Kind, Night, Want};
 use commands::Fault;
 use desk_sql::StepFound;
 use plan::{Plan, PlanFault, PlanStep};
 use std::alloc::Global;
+
+/// Whether a row is that of an option with this want.
+fn is_of_want(row: &StepFound, want: &Want) -> bool
+    ensures { result ≡ true → TellsWant row.now want.now }
+{
+    row.kind == u64::from(want.kind().number())
+        && row.supplier.as_str() == want.supplier().as_str()
+        && row.product.as_str() == want.product().as_str()
+        && row.night == u64::from(want.first().day())
+        && row.nights == u64::from(want.nights())
+        && row.places == u64::from(want.count())
+}
 
 /// Whether a row is that of this option of a plan, taken or not.
 fn is_option(row: &StepFound, plan: &Plan, step: usize, option: usize) -> bool
@@ -22,12 +34,7 @@ fn is_option(row: &StepFound, plan: &Plan, step: usize, option: usize) -> bool
     row.place == step as u64
         && row.opt == option as u64
         && row.save == u64::from(plan.marked(step))
-        && row.kind == u64::from(want.kind().number())
-        && row.supplier.as_str() == want.supplier().as_str()
-        && row.product.as_str() == want.product().as_str()
-        && row.night == u64::from(want.first().day())
-        && row.nights == u64::from(want.nights())
-        && row.places == u64::from(want.count())
+        && is_of_want(row, &want)
 }
 
 /// Whether the rows from this one on begin with those of this step. Where they do, it tells how many there are so far.
@@ -62,8 +69,10 @@ fn are_of_plan(rows: &[StepFound], plan: &Plan) -> bool
     count == rows.len()
 }
 
-/// The want of an option.
-fn want_told(alloc: Global, row: &StepFound) -> Result<Want, Fault> {
+/// The want of an option, by its row. One that is out of range is a fault of the store.
+pub fn want_told(alloc: Global, row: &StepFound) -> Result<Want, Fault>
+    ensures told { IfOk result (TellsWant row.now) }
+{
     if row.kind > 3 || row.night > u64::from(u32::MAX) {
         return Err(Fault::Store);
     }
@@ -84,8 +93,8 @@ fn want_told(alloc: Global, row: &StepFound) -> Result<Want, Fault> {
         row.nights,
         row.places,
     ) {
-        Ok(want) => Ok(want),
-        Err(_) => Err(Fault::Store),
+        Ok(want) if is_of_want(row, &want) => Ok(want),
+        _ => Err(Fault::Store),
     }
 }
 

@@ -1,18 +1,22 @@
 //! Reads of the tables, in the words of the desk. A read changes nothing, whatever comes of it.
-ghost use Rattle.std.specs.Prelude.{◌≡◌, ◌<◌, ◌^◌, false};
+ghost use Rattle.std.specs.Prelude.{◌≡◌, ◌<◌, ◌^◌, false, IfOk};
 ghost use Rattle.ledger.specs.Ledger.{history};
 ghost use Rattle.saga_core.specs.Shown.{ShowsCells, IsStock};
 ghost use Rattle.reading.specs.Reading.{ShowsKept, KeepsOn, LeavesAsBefore, WasClean};
-ghost use Rattle.reading.specs.Reading.{IsFirstAbove, HasNone, IsRecordAt, AreMarksAt, IsPlanOf};
+ghost use Rattle.reading.specs.Reading.{IsFirstAbove, HasNone, IsRecordAt, IsStandAt, AreMarksAt, IsPlanOf};
+ghost use Rattle.reading.specs.Sought.{AreSoughtAt, IsNextOf};
 
 use crate::faults::fault_of;
 use crate::plans_told::plan_told;
-use crate::telling::{brief_of, cells_told, items_told, marks_told, nights_told, record_of};
+use crate::sought::Sought;
+use crate::telling::{
+    brief_of, cells_told, items_told, marks_told, nights_told, record_of, stand_of,
+};
 use allotment::{Cell, Held, Night, Want};
-use commands::{Fault, Item};
+use commands::{Agent, Cursor, Fault, Item};
 use desk_sql::{
-    NightRange, find_items, find_journey, find_marks, find_nights, find_steps, find_stock,
-    first_unfinished, read_meta,
+    ItemFound, NightRange, find_items, find_journey, find_marks, find_nights, find_steps,
+    find_stock, first_unfinished, next_item, read_meta,
 };
 use plan::Plan;
 use saga_core::{Brief, Record};
@@ -63,6 +67,54 @@ pub(crate) fn check_absent<S: Alter>(conn: &mut Connection<S>, id: u64) -> Resul
     }
 }
 
+/// Where the store has the items of the journey of that number.
+pub(crate) fn find_sought<S: Alter>(conn: &mut Connection<S>, id: u64) -> Result<Sought, Fault>
+    requires { conn.old.in_transaction ≡ false }
+
+    ensures outside { conn.new.in_transaction ≡ false }
+    ensures journey { IfOk result (λ w. w.journey < 2 ^ 63) }
+    ensures after { IfOk result (λ w. w.after < 2 ^ 63) }
+    ensures sought { ShowsKept S.Store conn.old conn.new result (AreSoughtAt id) }
+    ensures same { KeepsOn S.Store conn.old conn.new }
+    ensures stop { LeavesAsBefore S.Store conn.old conn.new }
+    ensures less { WasClean S.Store conn.old conn.new }
+{
+    if id > LARGEST {
+        check_absent(conn, id)?;
+        return Ok(Sought::nowhere());
+    }
+    match find_journey(conn, id) {
+        Ok(Some(found)) if found.num <= LARGEST => Ok(Sought {
+            journey: id,
+            after: found.num,
+            steps: found.steps,
+        }),
+        Ok(Some(_)) => Err(Fault::Store),
+        Ok(None) => Ok(Sought::nowhere()),
+        Err(error) => Err(fault_of(&error)),
+    }
+}
+
+/// The next of the items that are sought, with the number of its event.
+pub(crate) fn find_next<S: Alter>(
+    conn: &mut Connection<S>,
+    sought: &Sought,
+) -> Result<Option<ItemFound>, Fault>
+    ensures outside { conn.old.in_transaction ≡ false → conn.new.in_transaction ≡ false }
+    ensures next { ShowsKept S.Store conn.old conn.new result (IsNextOf sought.now) }
+    ensures same { KeepsOn S.Store conn.old conn.new }
+    ensures stop { LeavesAsBefore S.Store conn.old conn.new }
+    ensures less { WasClean S.Store conn.old conn.new }
+{
+    if sought.journey > LARGEST || sought.after > LARGEST {
+        return Err(Fault::Store);
+    }
+    match next_item(conn, sought.journey, sought.after) {
+        Ok(found) => Ok(found),
+        Err(error) => Err(fault_of(&error)),
+    }
+}
+
 /// The items of the journey of that number, in order; none where it is absent.
 pub fn read_history<S: Alter>(
     alloc: Global,
@@ -78,11 +130,8 @@ pub fn read_history<S: Alter>(
     ensures stop { LeavesAsBefore S.Store conn.old conn.new }
     ensures less { WasClean S.Store conn.old conn.new }
 {
-    if id > LARGEST {
-        check_absent(conn, id)?;
-        return Ok(Vec::new(alloc));
-    }
-    match find_items(alloc, conn, id) {
+    let sought = find_sought(conn, id)?;
+    match find_items(alloc, conn, sought.journey, sought.after) {
         Ok(found) => items_told(alloc, found.as_slice()),
         Err(error) => Err(fault_of(&error)),
     }
@@ -124,6 +173,41 @@ fn read_marks<S: Alter>(alloc: Global, conn: &mut Connection<S>, id: u64) -> Res
     match find_marks(alloc, conn, id) {
         Ok(found) => match marks_told(found.as_slice()) {
             Some(marks) => Ok(marks),
+            None => Err(Fault::Store),
+        },
+        Err(error) => Err(fault_of(&error)),
+    }
+}
+
+/// Where a journey is and whose it is, without its plan.
+#[derive(Clone, Copy, Debug, PartialEq, Eq)]
+pub struct Stand {
+    /// Who began it.
+    pub agent: Agent,
+    /// How many steps its plan has.
+    pub steps: usize,
+    /// Where it is.
+    pub cursor: Cursor,
+}
+
+/// Where the journey of that number is, if there is one.
+pub fn read_stand<S: Alter>(conn: &mut Connection<S>, id: u64) -> Result<Option<Stand>, Fault>
+    requires { conn.old.in_transaction ≡ false }
+
+    ensures outside { conn.new.in_transaction ≡ false }
+    ensures stand { ShowsKept S.Store conn.old conn.new result (IsStandAt id) }
+    ensures same { KeepsOn S.Store conn.old conn.new }
+    ensures stop { LeavesAsBefore S.Store conn.old conn.new }
+    ensures less { WasClean S.Store conn.old conn.new }
+{
+    if id > LARGEST {
+        check_absent(conn, id)?;
+        return Ok(None);
+    }
+    match find_journey(conn, id) {
+        Ok(None) => Ok(None),
+        Ok(Some(found)) => match stand_of(&found) {
+            Some(stand) => Ok(Some(stand)),
             None => Err(Fault::Store),
         },
         Err(error) => Err(fault_of(&error)),

@@ -7,8 +7,9 @@ ghost use Rattle.saga_core.specs.Shown.{night_said};
 ghost use Rattle.desk_sql.specs.Found.{item_of};
 ghost use Rattle.desk_sql.specs.Stock.{stock_of};
 ghost use Rattle.standing.specs.Reading.{phase_in, cause_in, item_in, night_seen, stock_row_of};
-ghost use Rattle.reading.specs.Reading.{TellsCursor, TellsBrief, TellsRecord, TellItems, TellNights, TellCells};
+ghost use Rattle.reading.specs.Reading.{TellsCursor, TellsBrief, TellsStand, TellsRecord, TellItems, TellNights, TellCells};
 
+use crate::reads::Stand;
 use allotment::{Cell, Code, Held, Kind, Night};
 use commands::{Agent, Cause, Cursor, Fault, Item, Phase};
 use desk_sql::{CellFound, Cursor as CursorFound, ItemFound, JourneyFound, NightFound};
@@ -51,6 +52,19 @@ pub(crate) fn brief_of(found: &JourneyFound) -> Option<Brief>
     Some(Brief {
         id: found.id,
         agent,
+        cursor,
+    })
+}
+
+/// Where a journey is, without its plan.
+pub(crate) fn stand_of(found: &JourneyFound) -> Option<Stand>
+    ensures { IfSome result (TellsStand found.now) }
+{
+    let agent = Agent::parse(found.agent.as_str())?;
+    let cursor = cursor_of(&found.cursor)?;
+    Some(Stand {
+        agent,
+        steps: found.steps as usize,
         cursor,
     })
 }

@@ -1,4 +1,4 @@
-pub mod ByteLemmas
+pub mod FrontLemmas
 pub mod FillLemmas
 pub mod HistoryLemmas
 pub mod PartLemmas

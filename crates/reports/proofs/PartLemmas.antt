@@ -2,8 +2,9 @@
 use Rattle.std.proofs.Common.{List, ◌++◌, ℕ}
 use Rattle.std.specs.Prelude.{Option}
 use Rattle.std.specs.Io.KnownBytes.{Appends}
-use Rattle.reports.specs.Written.{WroteFront}
-use Rattle.reports.proofs.ByteLemmas.{appends_more, front_after, front_before}
+use Rattle.streams.specs.Written.{WroteFront}
+use Rattle.streams.proofs.ByteLemmas.{appends_more}
+use Rattle.reports.proofs.FrontLemmas.{front_after, front_before}
 
 -- the head was written in part
 pub head_begun : (x y : Option (List ℕ)) (head rows ending : List ℕ)

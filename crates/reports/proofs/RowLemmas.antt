@@ -5,8 +5,9 @@ use Rattle.std.specs.Io.KnownBytes.{Appends}
 use Rattle.std.specs.List.{flat_map}
 use Rattle.std.proofs.lemmas.List.Concat.{flat_map-append}
 use Rattle.saga_core.specs.RowSources.{Hands}
-use Rattle.reports.specs.Written.{WroteFront}
-use Rattle.reports.proofs.ByteLemmas.{appends_more, appends_none, front_after, front_before, front_whole}
+use Rattle.streams.specs.Written.{WroteFront}
+use Rattle.streams.proofs.ByteLemmas.{appends_more}
+use Rattle.reports.proofs.FrontLemmas.{appends_none, front_after, front_before, front_whole}
 
 -- the first rows were written, so many, and the others are still to come
 pub record SoFar {T : Type 0} (shown : T → List ℕ) (rests : List T → Type 0)

@@ -2,5 +2,4 @@ pub mod Columns
 pub mod Layouts
 pub mod Faults
 pub mod Parts
-pub mod Written
 pub mod Examples

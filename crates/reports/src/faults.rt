@@ -1,10 +1,11 @@
 //! Why a report ended early.
 ghost use Rattle.std.specs.Prelude.{◌≡◌};
 ghost use Rattle.reports.specs.Faults.{report_fault};
-ghost use Rattle.reports.specs.declared.faults.ReportFault.TheVariants.{Memory};
+ghost use Rattle.reports.specs.declared.faults.ReportFault.TheVariants.{Memory, Write};
 
 use commands::Fault;
 use std::alloc::AllocError;
+use streams::WriteFailed;
 
 /// Why a report ended early.
 #[derive(Clone, Copy, Debug, PartialEq, Eq)]
@@ -33,5 +34,13 @@ impl From<AllocError> for ReportFault {
 
     fn from(_error: AllocError) -> ReportFault {
         ReportFault::Memory
+    }
+}
+
+impl From<WriteFailed> for ReportFault {
+    ghost from_gives = { λ _ fault. fault ≡ Write };
+
+    fn from(_error: WriteFailed) -> ReportFault {
+        ReportFault::Write
     }
 }

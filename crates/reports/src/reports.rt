@@ -8,7 +8,7 @@ ghost use Rattle.commands.specs.declared.items.Item.{Item};
 ghost use Rattle.saga_core.specs.declared.records.Brief.{Brief};
 ghost use Rattle.reports.specs.Layouts.{stock_report, unfinished_report, history_report};
 ghost use Rattle.reports.specs.Parts.{whole_report};
-ghost use Rattle.reports.specs.Written.{WroteFront};
+ghost use Rattle.streams.specs.Written.{WroteFront};
 
 use crate::endings::Ending;
 use crate::faults::ReportFault;

@@ -4,7 +4,7 @@ ghost use Rattle.std.specs.List.{flat_map};
 ghost use Rattle.std.specs.Io.KnownBytes.{Appends};
 ghost use Rattle.reports.specs.Layouts.{stock_line, journey_line};
 ghost use Rattle.reports.specs.Parts.{item_word};
-ghost use Rattle.reports.specs.Written.{WroteFront};
+ghost use Rattle.streams.specs.Written.{WroteFront};
 
 use crate::faults::ReportFault;
 use crate::lines;

@@ -1,15 +1,15 @@
 //! What no clause says: the texts, with values from outside, and what failing sources and writers leave.
-mod streams;
+mod fakes;
 
 use crate::{ReportFault, history_text, stock_text, unfinished_text};
 use allotment::{Cell, Held};
 use commands::{Agent, Cause, Cursor, Fault, Item, Phase};
+use fakes::{Failing, Sink};
 use plan::{Plan, PlanFault};
 use saga_core::{Brief, Listed, Record};
 use savepoints::Marks;
 use std::alloc::{AllocError, Global};
 use std::process::Abort;
-use streams::{Failing, Sink};
 
 /// What a report answers: how many rows it tells.
 type Answer = Result<u64, ReportFault>;

@@ -1,5 +1,5 @@
 -- What a book shows of a ledger.
-use Rattle.std.specs.Prelude.{◌≡◌, ℕ, ◌-◌, ◌&&◌, not, Bool, true, List, filter_map, find, nat_lt, Option, option_map, IsTrue, [], ◌∷◌, map}
+use Rattle.std.specs.Prelude.{◌≡◌, ℕ, ◌-◌, ◌&&◌, not, Bool, true, List, filter, filter_map, find, nat_lt, Option, option_map, IsTrue, [], ◌∷◌, map}
 use Rattle.std.specs.List.{list_all}
 use Rattle.std.specs.Ordering.{is_lt, ordering_then, nat_cmp}
 use Rattle.std.specs.Cmp.Lexicographic.{slice_cmp}
@@ -36,6 +36,11 @@ is_unfinished_above after b = nat_lt after b.id && not (is_finished b.cursor.pha
 -- the first journey above this number that is not finished
 abbrev pub first_unfinished : List Event → ℕ → Option Brief
 first_unfinished l after = find (is_unfinished_above after) (filter_map (brief_of l) (numbers l))
+
+-- the journeys that are not finished, in short, by rising number
+abbrev pub unfinished_of : List Event → List Brief
+unfinished_of l =
+    filter (λ (b : Brief). not (is_finished b.cursor.phase)) (filter_map (brief_of l) (numbers l))
 
 -- the places of a cell: how many are allotted, and how many of them are free
 pub record Places : Type 0 where

@@ -2,7 +2,7 @@
 //!
 //! A source hands out the rows of one list, in its order, each once. It is *sound* while its store has returned what
 //! was written; that may end at any call, and never comes back.
-ghost use Rattle.std.specs.Prelude.{◌≡◌, ◌≤◌, ◌^◌, ◌<◌, ◌+◌, ⊤, ℕ, List, drop, length, IfOk};
+ghost use Rattle.std.specs.Prelude.{◌≡◌, ◌≤◌, ◌^◌, ◌<◌, ◌+◌, ⊤, ℕ, List, drop, length, IfOk, IsOk};
 ghost use Rattle.saga_core.specs.RowSources.{count_of, Hands};
 
 use commands::Fault;
@@ -68,7 +68,15 @@ impl<T: Copy> RowSource<T> for Listed<'_, T> {
 
     ghost joins = { λ _ _ _ _ _. tt };
 
-    fn next_row(&mut self) -> Result<Option<T>, Fault> {
+    /// The next row; it never fails.
+    fn next_row(&mut self) -> Result<Option<T>, Fault>
+        ensures next { IfOk result (Hands (λ rows. rows ≡ drop self.old.next self.old.rows.now)
+            (λ rows. rows ≡ drop self.new.next self.new.rows.now)) }
+        ensures counted { IfOk result (λ found. self.new.next ≡ count_of found + self.old.next) }
+        ensures few { self.new.next < 2 ^ 64 }
+
+        ensures always { IsOk result }
+    {
         match self.rows.get(self.next) {
             Some(row) => {
                 self.next += 1;

@@ -1,12 +1,13 @@
 -- The rows of items tell the histories of journeys, and the rows of save-points which of them
 -- stand.
-use Rattle.std.proofs.Common.{◌≡◌, ℕ, suc, ◌<◌, ◌==◌, List, [], ◌∷◌, map, filter, cond, Bool, true, false, if◌then◌else◌, Some, None, refl, sym, ap, ap₂, ◌∙◌, arith}
-use Rattle.std.specs.Prelude.{filter_map, ◌&&◌, ◌||◌}
+use Rattle.std.proofs.Common.{◌≡◌, ℕ, zero, suc, ◌+◌, ◌<◌, ◌==◌, List, [], ◌∷◌, map, filter, take, cond, Bool, true, false, if◌then◌else◌, Some, None, refl, sym, ap, ap₂, ◌∙◌, arith}
+use Rattle.std.specs.Prelude.{filter_map, ◌&&◌, ◌||◌, nat_lt}
+use Rattle.std.proofs.lemmas.Bool.{lt-ltb}
 use Rattle.std.specs.List.{AllByRecursion, list_any, cons_option}
 use Rattle.std.specs.List.Sorted.{IsPermutation}
 use Rattle.std.proofs.lemmas.Bool.Decides.{nat_tests}
 use Rattle.std.proofs.lemmas.List.Sorted.{list_any-IsPermutation}
-use Rattle.sqlite_trees.proofs.ListLemmas.{all_weaker}
+use Rattle.sqlite_trees.proofs.ListLemmas.{all_weaker, filter_same}
 use Rattle.commands.specs.declared.items.Cause.TheVariants.{Stop, Refused, Asked}
 use Rattle.commands.specs.declared.items.Item.{Item}
 use Rattle.commands.specs.declared.items.Item.TheVariants.{Transaction, Compensation, Turn, Save}
@@ -15,7 +16,7 @@ use Rattle.ledger.specs.Ledger.{Event, Loaded, Began, Did, item_of, history}
 use Rattle.desk_sql.specs.Rows.{EntryRow, MarkRow}
 use Rattle.standing.specs.Called.{counted_from, entry_row_of, entry_row_if, entries_called}
 use Rattle.standing.specs.Standing.{MarksStand}
-use Rattle.desk_sql.specs.Found.{is_item_of, is_mark_of, mark_at_pos}
+use Rattle.desk_sql.specs.Found.{is_item_of, is_item_after, is_mark_of, mark_at_pos}
 use Rattle.standing.specs.Reading.{item_in}
 use Rattle.standing.proofs.Orders.{Rises, one_order}
 
@@ -29,20 +30,20 @@ item_back num journey (Turn target Refused) = refl
 item_back num journey (Turn target Asked) = refl
 item_back num journey (Save position) = refl
 
-entry_num : (num journey : ℕ) (item : Item) → (entry_row_of num journey item).num ≡ num
+pub entry_num : (num journey : ℕ) (item : Item) → (entry_row_of num journey item).num ≡ num
 entry_num num journey (Transaction step option) = refl
 entry_num num journey (Compensation step option) = refl
 entry_num num journey (Turn target cause) = refl
 entry_num num journey (Save position) = refl
 
-entry_journey : (num journey : ℕ) (item : Item) → (entry_row_of num journey item).journey ≡ journey
+pub entry_journey : (num journey : ℕ) (item : Item) → (entry_row_of num journey item).journey ≡ journey
 entry_journey num journey (Transaction step option) = refl
 entry_journey num journey (Compensation step option) = refl
 entry_journey num journey (Turn target cause) = refl
 entry_journey num journey (Save position) = refl
 
 -- the rows of the items from this event on
-abbrev entries_from : ℕ → List Event → List EntryRow
+abbrev pub entries_from : ℕ → List Event → List EntryRow
 entries_from n l = filter_map (λ (e : ℕ × Event). entry_row_if e.0 e.1) (counted_from n l)
 
 entries_from-above : (m n : ℕ) (l : List Event) → m < n
@@ -53,7 +54,7 @@ entries_from-above m n (Began agent plan ∷ l) low = entries_from-above m (suc 
 entries_from-above m n (Did j item ∷ l) low =
     (let e = entry_num n j item in omega arith, entries_from-above m (suc n) l (omega arith))
 
-entries_from-rise : (n : ℕ) (l : List Event) → Rises (λ (e : EntryRow). e.num) (entries_from n l)
+pub entries_from-rise : (n : ℕ) (l : List Event) → Rises (λ (e : EntryRow). e.num) (entries_from n l)
 entries_from-rise n [] = tt
 entries_from-rise n (Loaded name rows ∷ l) = entries_from-rise (suc n) l
 entries_from-rise n (Began agent plan ∷ l) = entries_from-rise (suc n) l
@@ -71,7 +72,7 @@ pub entries_in_order : (l : List Event) (rows : List EntryRow)
 entries_in_order l rows same up =
     one_order (λ (e : EntryRow). e.num) (entries_called l) rows same (entries_from-rise 1 l) up
 
-turned : (a b : ℕ) → (a == b) ≡ (b == a)
+pub turned : (a b : ℕ) → (a == b) ≡ (b == a)
 turned a b = grind (arith, nat_tests)
 
 items_from : (j n : ℕ) (l : List Event)
@@ -92,12 +93,56 @@ items_from j n (Did k item ∷ l) =
     go true rest = ap₂ ◌∷◌ (item_back n k item) rest
     go false rest = rest
 
--- the rows that are found with a journey's number, in the order of theirs, tell its history
-pub items_found : (l : List Event) (rows : List EntryRow) (j : ℕ)
+module _ (j after : ℕ) where
+  -- where no row is at or below the number, just the journey's own are found
+  found_later : (e : EntryRow) → after < e.num → is_item_after j after e ≡ is_item_of j e
+  found_later e low = ap (λ v. is_item_of j e && v) (lt-ltb after e.num low) ∙ and_yes (is_item_of j e)
+    where
+      and_yes : (v : Bool) → (v && true) ≡ v
+      and_yes true = refl
+      and_yes false = refl
+
+  -- a row of another journey is not found
+  found_other : (e : EntryRow) (es : List EntryRow) → is_item_of j e ≡ false
+      → filter (is_item_after j after) es ≡ filter (is_item_of j) es
+      → filter (is_item_after j after) (e ∷ es) ≡ filter (is_item_of j) (e ∷ es)
+  found_other e es off rest =
+      let some = filter (is_item_after j after) es in
+      let all = filter (is_item_of j) es in
+      ap (λ v. cond (v && nat_lt after e.num) (e ∷ some) some) off ∙ rest
+      ∙ sym (ap (λ v. cond v (e ∷ all) all) off)
+
+  -- where none of the first events is an item of the journey, all of its rows stand above their number
+  found_above : (n m : ℕ) (l : List Event) → n + m ≡ after + 1 → history (take m l) j ≡ []
+      → filter (is_item_after j after) (entries_from n l) ≡ filter (is_item_of j) (entries_from n l)
+  found_above n zero l up none =
+      filter_same (is_item_after j after) (is_item_of j) (entries_from n l)
+      (all_weaker (λ (e : EntryRow). after < e.num) (λ (e : EntryRow). is_item_after j after e ≡ is_item_of j e) found_later (entries_from n l)
+      (entries_from-above after n l (omega arith)))
+  found_above n (suc m) [] up none = refl
+  found_above n (suc m) (Loaded name rows ∷ l) up none = found_above (suc n) m l (omega arith) none
+  found_above n (suc m) (Began agent plan ∷ l) up none = found_above (suc n) m l (omega arith) none
+  found_above n (suc m) (Did k item ∷ l) up none = go (j == k) refl none (λ is. found_above (suc n) m l (omega arith) is)
+    where
+      go : (v : Bool) → (j == k) ≡ v
+          → cons_option (if v then Some item else None) (history (take m l) j) ≡ []
+          → (history (take m l) j ≡ [] → filter (is_item_after j after) (entries_from (suc n) l) ≡ filter (is_item_of j) (entries_from (suc n) l))
+          → filter (is_item_after j after) (entries_from n (Did k item ∷ l)) ≡ filter (is_item_of j) (entries_from n (Did k item ∷ l))
+      go true e is rest = cc
+      go false e is rest =
+          found_other (entry_row_of n k item) (entries_from (suc n) l)
+          (ap (λ i. i == j) (entry_journey n k item) ∙ turned k j ∙ e)
+          (rest is)
+
+-- the rows that are found with a journey's number, in the order of theirs, tell its history, where they are sought
+-- from behind events that are no items of it
+pub items_found : (l : List Event) (rows : List EntryRow) (j after : ℕ)
+    → history (take after l) j ≡ []
     → IsPermutation (entries_called l) rows → Rises (λ (e : EntryRow). e.num) rows
-    → map item_in (filter (is_item_of j) rows) ≡ map Some (history l j)
-items_found l rows j same up =
-    ap (λ es. map item_in (filter (is_item_of j) es)) (entries_in_order l rows same up)
+    → map item_in (filter (is_item_after j after) rows) ≡ map Some (history l j)
+items_found l rows j after none same up =
+    ap (λ es. map item_in (filter (is_item_after j after) es)) (entries_in_order l rows same up)
+    ∙ ap (map item_in) (found_above j after 1 after l (omega arith) none)
     ∙ items_from j 1 l
 
 -- Save-points.

@@ -93,6 +93,21 @@ journey_found l rows id (Some r) same one =
     subst (λ o. Tells (λ (x : JourneyRow) a. (x.id ≡ id) × IsJourneyOf l x a) (Some r) o)
     (sym (ap (journey_at l) (sym is) ∙ told.1)) (is, told.2)
 
+-- what is found of a number has the number of the event that began the journey
+pub journey_begins : (l : List Event) (rows : List JourneyRow) (id : ℕ) (r : JourneyRow)
+    → IsPermutation (journeys_called l) rows → IsOneOf (filter (is_numbered id) rows) (Some r)
+    → (b : Begun) × (numbered (begun l) id ≡ Some b) × (r.num ≡ b.num)
+journey_begins l rows id r same one =
+    let there = has_filtered (is_numbered id) rows r one in
+    let is : r.id ≡ id = eqb-true _ _ there.1 in
+    let called = permutation_from (journeys_called l) rows r same there.0 in
+    let b = has_mapped (row_in l) (counted_from 1 (begun l)) r called in
+    let s = counted_stands 1 (begun l) b.0 b.1 in
+    let number : id ≡ suc s.place =
+    sym is ∙ ap (λ (x : JourneyRow). x.id) b.2 ∙ s.number
+    ∙ (let e : 1 + s.place ≡ suc s.place = omega arith in e) in
+    (b.0.1, ap (numbered (begun l)) number ∙ s.there, ap (λ (x : JourneyRow). x.num) b.2)
+
 -- Order.
 
 -- the rows that are called for rise by their numbers

@@ -9,11 +9,14 @@ pub mod Numbering
 pub mod JourneyRows
 pub mod StepRows
 pub mod PlanRows
+pub mod OptionRows
 pub mod PlanReading
 pub mod PlanWriting
 pub mod Cursors
 pub mod UnfinishedRows
+pub mod FirstItems
 pub mod ItemRows
+pub mod NextItems
 pub mod StockRows
 pub mod RecordRows
 pub mod Readings

@@ -111,6 +111,16 @@ module _ (taken : ℕ → ℕ → Bool) (id : ℕ) where
       (all-map (λ (r : StepRow). r.opt < 16) (row_at k s.is_marked) (counted_from 1 s.options) (counted-low 1 s.options 16 (let few = some.0.1 in omega arith)))
       (rows_from-few (suc k) steps some.1)
 
+-- step by step and option by option the rows of a plan come by their places
+pub by_rank : (l : List Event) (id : ℕ) (a : Journey) → IsTrue (is_plan a.plan) → (r s : StepRow)
+    → Has (step_rows (is_standing (history l id)) id a.plan) r
+    → Has (step_rows (is_standing (history l id)) id a.plan) s → IsByPlace r s → rank r ≤ rank s
+by_rank l id a good r s h k (inl low) =
+    let few =
+    all_has _ (step_rows (is_standing (history l id)) id a.plan) r
+    (rows_from-few (is_standing (history l id)) id 1 a.plan.steps (have_options a.plan good)) h in omega arith
+by_rank l id a good r s h k (inr tied) = let place = tied.0 in let opt = tied.1 in omega arith
+
 -- the rows that are found with a journey's number, in order, are those of its plan
 pub steps_found_in_order : (l : List Event) (rows found : List StepRow) (id : ℕ) (a : Journey)
     → IsPermutation (steps_called l) rows → journey_at l id ≡ Some a → IsTrue (is_plan a.plan)
@@ -119,15 +129,7 @@ pub steps_found_in_order : (l : List Event) (rows found : List StepRow) (id : �
 steps_found_in_order l rows found id a same at good sorted up =
     found_in_order rank IsByPlace called found
     (IsPermutation-trans called (filter (is_step_of id) rows) found (steps_found l rows id a same at) sorted)
-    (step_rows-rise (is_standing (history l id)) id a.plan (have_options a.plan good)) up by_rank
+    (step_rows-rise (is_standing (history l id)) id a.plan (have_options a.plan good)) up (by_rank l id a good)
   where
     called : List StepRow
     called = step_rows (is_standing (history l id)) id a.plan
-
-    by_rank : (r s : StepRow) → Has (step_rows (is_standing (history l id)) id a.plan) r
-        → Has (step_rows (is_standing (history l id)) id a.plan) s → IsByPlace r s → rank r ≤ rank s
-    by_rank r s h k (inl low) =
-        let few =
-        all_has _ called r
-        (rows_from-few (is_standing (history l id)) id 1 a.plan.steps (have_options a.plan good)) h in omega arith
-    by_rank r s h k (inr tied) = let place = tied.0 in let opt = tied.1 in omega arith

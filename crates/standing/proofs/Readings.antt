@@ -1,5 +1,5 @@
 -- What each reading of the tables tells of the state that they stand for.
-use Rattle.std.proofs.Common.{◌≡◌, ℕ, ◌+◌, ◌≤◌, ◌==◌, List, [], ◌∷◌, map, length, Option, Some, IsTrue, refl, sym, ap, subst, ◌∙◌}
+use Rattle.std.proofs.Common.{◌≡◌, ℕ, ◌+◌, ◌≤◌, ◌==◌, List, [], ◌∷◌, map, filter, length, take, Option, Some, IsTrue, refl, sym, ap, subst, ◌∙◌}
 use Rattle.std.specs.Prelude.{option_map, bytes_eq, nat_le, ◌&&◌}
 use Rattle.std.specs.List.{list_any}
 use Rattle.std.specs.List.Sorted.{IsPermutation}
@@ -9,14 +9,14 @@ use Rattle.allotment.specs.Want.{Wanted}
 use Rattle.allotment.specs.Cells.{kind_number}
 use Rattle.allotment.specs.declared.cells.Cell.{Cell}
 use Rattle.allotment.specs.declared.places.Held.{Held}
-use Rattle.plan.specs.Planned.{Planned, is_plan}
+use Rattle.plan.specs.Planned.{Planned, StepPlan, numbered, is_plan}
 use Rattle.ledger.specs.History.{is_taken}
 use Rattle.ledger.specs.Ledger.{Journey, journeys, journey_at, history}
 use Rattle.ledger.specs.Answer.{State}
 use Rattle.saga_core.specs.Shown.{first_unfinished, places_shown, IsStock}
 use Rattle.desk_sql.specs.Rows.{Tables, MetaRow, StockRow, JourneyRow, EntryRow}
 use Rattle.desk_sql.specs.Changes.{AreJourneysBelow}
-use Rattle.desk_sql.specs.Found.{meta_of, IsMeta, answer_of, FindsAnswer, journey_of, FindsJourney, FindsUnfinished, step_of, FindsSteps, item_of, FindsItems, FindsMarks}
+use Rattle.desk_sql.specs.Found.{meta_of, IsMeta, answer_of, FindsAnswer, journey_of, FindsJourney, FindsUnfinished, step_of, FindsSteps, FindsOptions, item_of, FindsItems, FindsNextItem, FindsMarks}
 use Rattle.desk_sql.specs.Stock.{is_within, night_of, FindsNights, stock_of, IsByCell, FindsStock}
 use Rattle.desk_sql.specs.declared.meta.Meta.{Meta}
 use Rattle.desk_sql.specs.declared.answers.KeptAnswer.{KeptAnswer}
@@ -26,15 +26,18 @@ use Rattle.desk_sql.specs.declared.items.ItemFound.{ItemFound}
 use Rattle.desk_sql.specs.declared.stock.NightRange.{NightRange}
 use Rattle.desk_sql.specs.declared.stock.NightFound.{NightFound}
 use Rattle.desk_sql.specs.declared.stock.CellFound.{CellFound}
-use Rattle.standing.specs.Called.{is_standing, step_rows, step_rows_of}
+use Rattle.standing.specs.Called.{is_standing, option_rows, step_rows, step_rows_of}
 use Rattle.standing.specs.Standing.{StandsFor, IsDesk}
 use Rattle.standing.specs.Reading.{Tells, IsAnswerOf, IsJourneyOf, IsBriefOf, item_in, not_taken, IsRangeOf, is_wanted_row, night_told, night_seen, stock_row_of}
 use Rattle.standing.proofs.Orders.{Rises}
 use Rattle.standing.proofs.Answered.{answer_found}
-use Rattle.standing.proofs.JourneyRows.{journey_found, next_above}
+use Rattle.standing.proofs.FirstItems.{no_item_before}
+use Rattle.standing.proofs.JourneyRows.{journey_found, journey_begins, next_above}
 use Rattle.standing.proofs.UnfinishedRows.{unfinished_found}
 use Rattle.standing.proofs.PlanRows.{steps_found_in_order}
+use Rattle.standing.proofs.OptionRows.{is_at, step_rows_at, options_found_in_order}
 use Rattle.standing.proofs.ItemRows.{items_found, marks_found}
+use Rattle.standing.proofs.NextItems.{TellsIfNext, next_found}
 use Rattle.standing.proofs.StockRows.{nights_found, stock_found}
 use Rattle.standing.proofs.RecordRows.{plan_good, plan_told}
 
@@ -74,19 +77,32 @@ module _ (t : Tables) (s : State) (st : StandsFor t s) (desk : IsDesk s) where
   unfinished_read after found finds =
       unfinished_found s.ledger t.journey after (option_map journey_of found) st.journey finds
 
-  -- the items that are found of a journey are its history; the rows of the table come by their
-  -- numbers
-  pub items_read : (id : ℕ) (found : List ItemFound) → Rises (λ (e : EntryRow). e.num) t.entry2
-      → FindsItems id t found
+  -- the event of a journey that was found stands before all of its items
+  pub begins_read : (id : ℕ) (found : JourneyFound) → FindsJourney id t (Some found)
+      → history (take found.num s.ledger) id ≡ []
+  begins_read id found finds =
+      let begins = journey_begins s.ledger t.journey id (journey_of found) st.journey finds in
+      ap (λ n. history (take n s.ledger) id) begins.2 ∙ no_item_before s.ledger id begins.0 desk.legal begins.1
+
+  -- the items that are found of a journey are its history, where they are sought from behind events that are no items
+  -- of it; the rows of the table come by their numbers
+  pub items_read : (id after : ℕ) (found : List ItemFound) → history (take after s.ledger) id ≡ []
+      → Rises (λ (e : EntryRow). e.num) t.entry2 → FindsItems id after t found
       → map (λ (i : ItemFound). item_in (item_of id i)) found ≡ map Some (history s.ledger id)
-  items_read id found up finds =
+  items_read id after found none up finds =
       sym (map-map (item_of id) item_in found) ∙ ap (map item_in) finds
-      ∙ items_found s.ledger t.entry2 id st.entry2 up
+      ∙ items_found s.ledger t.entry2 id after none st.entry2 up
     where
       map-map : {X Y Z : Type 0} (f : X → Y) (g : Y → Z) (xs : List X)
           → map g (map f xs) ≡ map (λ x. g (f x)) xs
       map-map f g [] = refl
       map-map f g (x ∷ xs) = ap (λ ys. g (f x) ∷ ys) (map-map f g xs)
+
+  -- what is found behind so many events tells the journey's next item
+  pub next_read : (id after : ℕ) (found : Option ItemFound) → FindsNextItem id after t found
+      → TellsIfNext id 1 after s.ledger (option_map (item_of id) found)
+  next_read id after found finds =
+      next_found s.ledger t.entry2 id after (option_map (item_of id) found) st.entry2 finds
 
   -- the options that are found of a journey are the rows of its plan, in order
   pub steps_read : (id : ℕ) (a : Journey) (found : List StepFound) → journey_at s.ledger id ≡ Some a
@@ -95,6 +111,22 @@ module _ (t : Tables) (s : State) (st : StandsFor t s) (desk : IsDesk s) where
   steps_read id a found at finds =
       steps_found_in_order s.ledger t.step (map (step_of id) found) id a st.step at
       (plan_good s.ledger id a desk.legal at) finds.same finds.rising
+
+  -- the options that are found of a step are the rows of that step of the plan, in order
+  pub options_read : (id place : ℕ) (a : Journey) (found : List StepFound) → journey_at s.ledger id ≡ Some a
+      → FindsOptions id place t found
+      → map (step_of id) found ≡ filter (is_at place) (step_rows (is_standing (history s.ledger id)) id a.plan)
+  options_read id place a found at finds =
+      options_found_in_order s.ledger t.step (map (step_of id) found) id place a st.step at
+      (plan_good s.ledger id a desk.legal at) finds.same finds.rising
+
+  -- so they are the rows of its options
+  pub options_there : (id place : ℕ) (a : Journey) (found : List StepFound) (p : StepPlan) → journey_at s.ledger id ≡ Some a
+      → numbered a.plan.steps place ≡ Some p → FindsOptions id place t found
+      → map (step_of id) found ≡ option_rows (is_standing (history s.ledger id)) id place p
+  options_there id place a found p at there finds =
+      options_read id place a found at finds
+      ∙ step_rows_at (is_standing (history s.ledger id)) id a.plan place p there
 
   -- a plan with just these options is the journey's
   pub plan_read : (id : ℕ) (a : Journey) (found : List StepFound) (plan : Planned)

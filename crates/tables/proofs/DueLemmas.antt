@@ -24,7 +24,7 @@ use Rattle.tables.proofs.LeadLemmas.{item_leads}
 
 -- each request for a move keeps the limits
 move_request : (id : ℕ) (why : Motion) → IsTrue (is_request (asked_for id why))
-move_request id motion.Step = refl
+move_request id motion.Refused = refl
 move_request id (motion.Abort p) = refl
 move_request id motion.Stop = refl
 move_request id motion.Save = refl
@@ -52,7 +52,7 @@ by_outcome s ask id why refusal e = record {
 -- a journey that is not seen is refused
 unseen_answer : (s : State) (ask : Option Asked) (id : ℕ) (why : Motion) → seen_journey s.ledger (asker ask) id ≡ None
     → answer_within s.ledger (asker ask) (asked_for id why) ≡ refused NoJourney
-unseen_answer s ask id motion.Step e = ap (λ o. answer_move s.ledger id step_choices NoSavePoint o) e
+unseen_answer s ask id motion.Refused e = ap (λ o. answer_move s.ledger id step_choices NoSavePoint o) e
 unseen_answer s ask id (motion.Abort p) e = ap (λ o. answer_move s.ledger id (abort_choices p) NoSavePoint o) e
 unseen_answer s ask id motion.Stop e = ap (λ o. answer_move s.ledger id stop_choices NoSavePoint o) e
 unseen_answer s ask id motion.Save e = ap (λ o. answer_move s.ledger id save_choices NoSave o) e

@@ -1,4 +1,6 @@
 pub mod AnswerLemmas
+pub mod ChoiceLemmas
+pub mod ComingLemmas
 pub mod CommitLemmas
 pub mod DueLemmas
 pub mod FinishedLemmas

@@ -1,4 +1,4 @@
--- What a record that is seen tells of its journey, and what the rules answer to its moves. For `moves` and `stepping`.
+-- What a record that is seen tells of its journey, and what the rules answer to its moves. For `moves` and `coming`.
 use Rattle.std.proofs.Common.{◌≡◌, ℕ, Bool, true, false, List, Option, Some, None, refl, ap, sym, ◌∙◌, subst}
 use Rattle.std.specs.Prelude.{◌&&◌, not, nat_lt, if◌then◌else◌, option_map, Result, Ok, Err}
 use Rattle.plan.specs.Planned.{Planned}

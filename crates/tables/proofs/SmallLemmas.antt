@@ -15,7 +15,7 @@ use Rattle.moving.specs.Moving.{cursor_written}
 use Rattle.writing.specs.Kinds.{IsSmall}
 use Rattle.writing.specs.declared.events.Event.{Event}
 use Rattle.tables.specs.Moving.{IsEventOf}
-use Rattle.tables.specs.Placing.{IsPlaced, MayBeMade}
+use Rattle.tables.specs.Placing.{IsPlaced, IsPlacedIn, MayBeMade, stepped_up, stepped_down}
 use Rattle.standing.proofs.PlanParts.{few_steps, few_options}
 
 -- small numbers are written small
@@ -133,3 +133,18 @@ event_small id plan at (item.Save p) e low good placed may says =
     let few = few_steps plan good in
     let within = placed.within in
     subst IsSmall (sym says) (record { journey = low; position = omega arith })
+
+-- where a journey is one step further, and one step back
+pub stepped_up_small : (steps : ℕ) (c : Cursor) → steps ≤ 24 → IsPlacedIn steps c → c.pos < steps
+    → IsSmallCursor (cursor_written (stepped_up steps c))
+stepped_up_small steps c few placed below =
+    let counted = placed.counted in
+    numbers_small (c.pos + 1) c.used (phase_up steps (c.pos + 1)) (omega arith) (up_small steps (c.pos + 1)) (omega arith)
+
+pub stepped_down_small : (steps : ℕ) (c : Cursor) → steps ≤ 24 → IsPlacedIn steps c
+    → IsSmallCursor (cursor_written (stepped_down c))
+stepped_down_small steps c few placed =
+    let within = placed.within in
+    let counted = placed.counted in
+    numbers_small (c.pos - 1) c.used (phase_back c.phase (c.pos - 1)) (omega arith)
+    (back_small c c.phase (c.pos - 1) refl placed.above (omega arith)) (omega arith)

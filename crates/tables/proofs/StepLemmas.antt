@@ -1,6 +1,6 @@
 -- What is decided of a step of a journey is what the rules answer to it. For `next_step`.
-use Rattle.std.proofs.Common.{◌≡◌, ℕ, ◌==◌, Bool, true, false, List, Option, Some, None, IsTrue, refl, ap, ap₂, sym, ◌∙◌, subst, eqb-true}
-use Rattle.std.specs.Prelude.{◌↔◌, find, option_map, Result, Ok, Err}
+use Rattle.std.proofs.Common.{◌≡◌, ℕ, ◌==◌, Bool, true, false, List, Option, Some, IsTrue, refl, ap, ap₂, sym, ◌∙◌, subst, eqb-true}
+use Rattle.std.specs.Prelude.{◌↔◌, Result, Ok, Err}
 use Rattle.std.proofs.lemmas.Bool.{and_parts}
 use Rattle.plan.specs.Planned.{Planned}
 use Rattle.savepoints.specs.Rules as rules
@@ -17,26 +17,15 @@ use Rattle.ledger.specs.History.{next_want, phase, is_running, is_finished, is_o
 use Rattle.ledger.specs.Ledger.{Journey, journey_at, history, fits, IsLegal}
 use Rattle.ledger.specs.Recovery.{is_forward}
 use Rattle.ledger.specs.Replies.{answer_move, seen_journey, step_choices}
-use Rattle.ledger.proofs.Lists.{find-passes}
 use Rattle.ledger.proofs.Coming.{compensation-comes, step-comes, refused-comes, compensation-may_come}
 use Rattle.changes.specs.Cursors.{cursor_of}
 use Rattle.changes.proofs.Answering.{step-answer}
-use Rattle.changes.proofs.Histories.{follows}
 use Rattle.changes.proofs.Moves.{move-finished}
-use Rattle.sqlite_rules.specs.Lists.{Has}
-use Rattle.sqlite_rules.proofs.ListLemmas.{has_found}
-use Rattle.sqlite_rules.proofs.ProbeLemmas.{mapped_has}
-use Rattle.desk_sql.specs.Rows.{Tables}
-use Rattle.desk_sql.specs.Found.{FindsSteps, step_of}
-use Rattle.desk_sql.specs.declared.steps.StepFound.{StepFound}
-use Rattle.standing.specs.Standing.{StandsFor, IsDesk}
-use Rattle.standing.proofs.Readings.{steps_read}
-use Rattle.moving.proofs.Taken.{taken_row}
 use Rattle.saga_core.specs.Deciding.{names, NamesStep}
 use Rattle.saga_core.specs.declared.deciding.Move.{Move}
 use Rattle.saga_core.specs.declared.deciding.Move.TheVariants as move
 use Rattle.saga_core.specs.declared.records.Record.{Record}
-use Rattle.tables.specs.Moving.{FitsNext, IsLastOption, is_taken_row, option_of_row}
+use Rattle.tables.specs.Moving.{FitsNext, IsLastOption}
 use Rattle.tables.specs.Placing.{begun_as, IsSeen, Fits}
 use Rattle.tables.proofs.NextLemmas.{from_history}
 
@@ -160,27 +149,6 @@ step_next s legal who id r is fit fitting decided one nothing next said =
         subst (λ n. Fits id r.plan (cursor_of r.plan (history s.ledger id))
         (answer_move s.ledger id step_choices NoSavePoint (Some (begun_as r))) n) (sym item)
         (step-answer s.ledger id (begun_as r) x legal is.at found.1 comes)
-
--- Options.
-
--- the first row of a step that is marked as taken tells the option that was taken last
-pub last_told : (t : Tables) (s : State) → StandsFor t s → IsDesk s → (id step : ℕ) (found : List StepFound)
-    → FindsSteps id t found → (option : ℕ) → Some option ≡ option_map option_of_row (find (is_taken_row step) found)
-    → IsLastOption id step s option
-last_told t s st desk id step found finds option is a c at last = go (find (is_taken_row step) found) refl is
-  where
-    one : (row : StepFound) → find (is_taken_row step) found ≡ Some row → row.opt ≡ c
-    one row e =
-        let there = has_found (is_taken_row step) found row e in
-        let both = and_parts (row.place == step) (row.taken == 1) (find-passes (is_taken_row step) found row e) in
-        taken_row a.plan (history s.ledger id) id step c (step_of id row) (follows s.ledger desk.legal id a at) last
-        (subst (λ rows. Has rows (step_of id row)) (steps_read t s st desk id a found at finds)
-        (mapped_has (step_of id) found row there.0))
-        (eqb-true row.place step both.0) (eqb-true row.taken 1 both.1)
-
-    go : (o : Option StepFound) → find (is_taken_row step) found ≡ o → Some option ≡ option_map option_of_row o → option ≡ c
-    go None e f = cc
-    go (Some row) e f = let same : option ≡ row.opt = cc in same ∙ one row e
 
 -- a journey that runs is open
 pub running-open : (p : Phase) → is_running p ≡ true → is_open p ≡ true

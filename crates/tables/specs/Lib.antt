@@ -1,5 +1,6 @@
 pub mod Answering
 pub mod Booked
+pub mod Choosing
 pub mod Finished
 pub mod Keeping
 pub mod Loading

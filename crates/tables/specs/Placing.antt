@@ -1,5 +1,5 @@
 -- Where a journey stands by what a record shows of it, and what may come of it next.
-use Rattle.std.specs.Prelude.{◌≡◌, ℕ, ◌+◌, ◌<◌, ◌≤◌, ◌^◌, List, IsTrue, Option, Some, None, Result, MatchResult}
+use Rattle.std.specs.Prelude.{◌≡◌, ℕ, ◌+◌, ◌-◌, ◌<◌, ◌≤◌, ◌^◌, List, IsTrue, Option, Some, None, Result, MatchResult}
 use Rattle.plan.specs.Planned.{Planned, step_count, option_count}
 use Rattle.commands.specs.declared.items.Cursor.{Cursor}
 use Rattle.commands.specs.declared.items.Item.{Item}
@@ -12,16 +12,31 @@ use Rattle.ledger.specs.Ledger.{journey_at, history}
 use Rattle.ledger.specs.Answer.{State}
 use Rattle.ledger.specs.Replies.{Answer, refused, seen_journey}
 use Rattle.changes.specs.Answered.{moves}
+use Rattle.changes.specs.Changed.{phase_up, phase_back}
 use Rattle.changes.specs.Cursors.{cursor_of, marks_of}
 use Rattle.saga_core.specs.declared.records.Record.{Record}
+use Rattle.reading.specs.Reading.{stand_of}
+use Rattle.reading.specs.declared.reads.Stand.{Stand}
 
--- An open journey is short of its last step, and above where it goes back to; and no journey was
+-- Of so many steps, an open journey is short of the last one, and above where it goes back to; and no journey was
 -- refused more often than a ledger may have events.
-pub record IsPlaced (plan : Planned) (c : Cursor) : Type 0 where
-  pub within : c.pos ≤ step_count plan
-  pub short : IsTrue (is_open c.phase) → c.pos < step_count plan
+pub record IsPlacedIn (steps : ℕ) (c : Cursor) : Type 0 where
+  pub within : c.pos ≤ steps
+  pub short : IsTrue (is_open c.phase) → c.pos < steps
   pub above : (p : ℕ) → c.phase ≡ Back p → p < c.pos
   pub counted : c.used < 2 ^ 62
+
+-- the same of a journey with this plan
+abbrev pub IsPlaced : Planned → Cursor → Type 0
+IsPlaced plan c = IsPlacedIn (step_count plan) c
+
+-- where a journey of so many steps is after one more of them
+abbrev pub stepped_up : ℕ → Cursor → Cursor
+stepped_up steps c = record { pos = c.pos + 1; phase = phase_up steps (c.pos + 1); used = c.used }
+
+-- where it is once its last standing step is compensated
+abbrev pub stepped_down : Cursor → Cursor
+stepped_down c = record { pos = c.pos - 1; phase = phase_back c.phase (c.pos - 1); used = c.used }
 
 -- the plan has this option of this step
 pub record HasOption (plan : Planned) (step option : ℕ) : Type 0 where
@@ -52,6 +67,11 @@ pub record IsSeen (s : State) (who : Option (List ℕ)) (id : ℕ) (r : Record) 
 abbrev pub Sees : Option (List ℕ) → ℕ → State → Option Record → Type 0
 Sees who id s None = seen_journey s.ledger who id ≡ None
 Sees who id s (Some r) = IsSeen s who id r
+
+-- what who asks sees of where the journey of this number is, or that there is none for him
+abbrev pub SeesStand : Option (List ℕ) → ℕ → State → Option Stand → Type 0
+SeesStand who id s None = seen_journey s.ledger who id ≡ None
+SeesStand who id s (Some stand) = (r : Record) × IsSeen s who id r × (stand_of r ≡ stand)
 
 -- what a move comes to is what is answered: its item, or its refusal
 abbrev pub Fits : ℕ → Planned → Cursor → Answer → Result Item Refusal → Type 0

@@ -9,6 +9,7 @@ ghost use Rattle.tables.specs.Answering.{Answers, KeepsNext, LeavesOld, AnswersN
 ghost use Rattle.reading.specs.Reading.{LeavesAsBefore, ShowsKept, WasClean};
 
 use crate::beginning::{Beginner, Keeping};
+use crate::coming::answer_step;
 use crate::committing::commit_begin;
 use crate::counts::{MOST_EVENTS, read_counts};
 use crate::loading::answer_load;
@@ -163,7 +164,7 @@ fn answer_new<S: Alter>(
     match command {
         Command::Load(batch) => answer_load(alloc, conn, batch, ask),
         Command::Begin(plan) => answer_begin(alloc, conn, plan, ask),
-        Command::Step(id) => answer_move(alloc, conn, *id, Motion::Step, ask),
+        Command::Step(id) => answer_step(alloc, conn, *id, ask),
         Command::Abort(id, position) => {
             answer_move(alloc, conn, *id, Motion::Abort(*position), ask)
         }

@@ -9,6 +9,7 @@
 mod answering;
 mod beginning;
 mod books;
+mod coming;
 mod committing;
 mod counts;
 mod faults;
@@ -16,7 +17,7 @@ mod loading;
 mod moves;
 mod next;
 mod opening;
-mod stepping;
+mod options;
 
 pub use books::TableBook;
 pub use faults::OpenFault;

@@ -1,38 +1,52 @@
 //! What is answered to a move of a journey, where nothing is kept for who asks.
 //!
-//! All reads come first: the numbers of `meta`, the journey by its rows, and of a step what its want or its last option
-//! tell. Then the item that the rules name is written in one commit, with the reply where one is kept.
-ghost use Rattle.std.specs.Prelude.{◌≡◌, ◌<◌, ◌^◌, false, Ok, IfOk, IfSome};
+//! All reads come first: the numbers of `meta`, and the journey by its rows. Then the item that the rules name is written
+//! in one commit, with the reply where one is kept. A step is answered in `coming`, and comes here where it is refused.
+ghost use Rattle.std.specs.Prelude.{◌≡◌, ◌<◌, ◌^◌, ℕ, false, Ok, IfOk, IfSome};
 ghost use Rattle.std.specs.Option.{option_copied as asked_by};
 ghost use Rattle.ledger.specs.Answer.{asker};
 ghost use Rattle.ledger.specs.Replies.{sees};
 ghost use Rattle.writing.specs.Kinds.{IsSmall};
-ghost use Rattle.tables.specs.Answering.{AnswersNew, KeepsNew, LeavesNew, KeepsAtMemory, IsCounted};
+ghost use Rattle.ledger.specs.Answer.{State};
+ghost use Rattle.standing.specs.Standing.{IsDesk};
+ghost use Rattle.tables.specs.Answering.{KeepsAtMemory, IsCounted};
+ghost use Rattle.tables.specs.declared.moves.Motion.TheVariants as motion;
+ghost use Rattle.plan.specs.Planned.{Planned};
 ghost use Rattle.tables.specs.Moving.{AnswersDue, KeepsDue, LeavesDue, IsEventOf, IsNext, asked_for};
-ghost use Rattle.tables.specs.Placing.{IsPlaced, MayBeMade, Sees, begun_as};
+ghost use Rattle.tables.specs.Moving.{AnswersMade, KeepsMade, LeavesMade, AnswersMove, KeepsMove, LeavesMove};
+ghost use Rattle.tables.specs.Placing.{IsPlaced, MayBeMade, Sees};
 ghost use Rattle.reading.specs.Reading.{KeepsOn, LeavesAsBefore, ShowsKept, WasClean};
 
 use crate::committing::commit_answered;
 use crate::counts::{MOST_EVENTS, read_counts};
 use crate::next::{cursor_after, is_placed, may_be_made};
-use crate::stepping::next_step;
-use commands::{Ask, Cause, Cursor, Fault, Item, Refusal, Reply};
+use commands::{Agent, Ask, Cause, Cursor, Fault, Item, Refusal, Reply};
 use desk_sql::Meta;
 use plan::Plan;
 use reading::{LARGEST, read_journey};
-use saga_core::{Record, saved, turned};
+use saga_core::{Move, Record, decide, saved, turned};
 use savepoints::Turn;
 use sqlite::{Alter, Connection};
 use std::alloc::Global;
 use writing::{Event, Numbers, SaveMade, StepMade, TurnMade};
 
-/// Whether who asks sees a journey: his own alone, and the house sees each.
-fn is_seen_by(journey: &Record, ask: Option<&Ask>) -> bool
-    ensures seen { result ≡ sees (asker (asked_by ask.entry)) (begun_as journey.now) }
+/// An item of a journey, with its event, and where the journey is then.
+#[derive(Clone, Copy)]
+pub(crate) struct Made<'x> {
+    pub id: u64,
+    pub item: Item,
+    pub event: Event<'x>,
+    pub cursor: Cursor,
+}
+
+/// Whether who asks sees a journey of this agent: his own alone, and the house sees each.
+pub(crate) fn is_seen_by(agent: Agent, ask: Option<&Ask>) -> bool
+    ensures seen { (plan : Planned) → result
+        ≡ sees (asker (asked_by ask.entry)) (record { agent = agent; plan = plan }) }
 {
     match ask {
         None => true,
-        Some(ask) => ask.agent() == journey.agent,
+        Some(ask) => ask.agent() == agent,
     }
 }
 
@@ -56,10 +70,10 @@ fn find_seen<S: Alter>(
     match read_journey(alloc, conn, id) {
         Ok(None) => Ok(None),
         Ok(Some(journey)) => {
-            if !is_seen_by(&journey, ask) {
+            if !is_seen_by(journey.agent, ask) {
                 return Ok(None);
             }
-            if id <= LARGEST && is_placed(&journey.plan, journey.cursor) {
+            if id <= LARGEST && is_placed(journey.plan.steps(), journey.cursor) {
                 Ok(Some(journey))
             } else {
                 Err(Fault::Store)
@@ -108,6 +122,42 @@ fn event_of<'x>(id: u64, plan: &Plan, at: Cursor, item: Item) -> Event<'x>
     }
 }
 
+/// Makes an item of a journey, which is here then, by its event, unless the ledger is full.
+pub(crate) fn make_event<S: Alter>(
+    alloc: Global,
+    conn: &mut Connection<S>,
+    counts: Meta,
+    made: &Made<'_>,
+    ask: Option<&Ask>,
+) -> Result<Reply, Fault>
+    requires outside { conn.old.in_transaction ≡ false }
+    requires counted { IsCounted counts }
+    requires small { IsSmall made.now.event }
+
+    ensures outside { conn.new.in_transaction ≡ false }
+    ensures reply { AnswersMade S.Store conn.old conn.new (asked_by ask.entry) counts made.now result }
+    ensures after { KeepsMade S.Store conn.old conn.new (asked_by ask.entry) counts made.now result }
+    ensures memory { KeepsAtMemory S.Store conn.old conn.new result }
+    ensures left { LeavesMade S.Store conn.old conn.new (asked_by ask.entry) counts made.now }
+    ensures sound { WasClean S.Store conn.old conn.new }
+{
+    if counts.events >= MOST_EVENTS {
+        return Ok(Reply::Refused(Refusal::Limit));
+    }
+    let reply = Reply::Moved {
+        id: made.id,
+        item: made.item,
+        pos: made.cursor.pos,
+        phase: made.cursor.phase,
+    };
+    let numbers = Numbers {
+        num: counts.events + 1,
+        journeys: counts.journeys,
+    };
+    commit_answered(alloc, conn, numbers, &made.event, &reply, ask)?;
+    Ok(reply)
+}
+
 /// Makes an item of a journey, unless the ledger is full. An item that does not come next there is a fault of the
 /// store.
 fn make<S: Alter>(
@@ -134,26 +184,16 @@ fn make<S: Alter>(
         (Ok item) }
     ensures sound { WasClean S.Store conn.old conn.new }
 {
-    if counts.events >= MOST_EVENTS {
-        return Ok(Reply::Refused(Refusal::Limit));
-    }
     if !may_be_made(&journey.plan, journey.cursor, item) {
         return Err(Fault::Store);
     }
-    let cursor = cursor_after(&journey.plan, journey.cursor, item);
-    let reply = Reply::Moved {
+    let made = Made {
         id,
         item,
-        pos: cursor.pos,
-        phase: cursor.phase,
+        event: event_of(id, &journey.plan, journey.cursor, item),
+        cursor: cursor_after(&journey.plan, journey.cursor, item),
     };
-    let numbers = Numbers {
-        num: counts.events + 1,
-        journeys: counts.journeys,
-    };
-    let event = event_of(id, &journey.plan, journey.cursor, item);
-    commit_answered(alloc, conn, numbers, &event, &reply, ask)?;
-    Ok(reply)
+    make_event(alloc, conn, counts, &made, ask)
 }
 
 /// Answers why there is no item, or makes the item.
@@ -190,8 +230,8 @@ fn carry_out<S: Alter>(
 /// What is asked of a journey.
 #[derive(Clone, Copy)]
 pub(crate) enum Motion {
-    /// Its next step, or its next compensation.
-    Step,
+    /// Its next step, whose want does not fit.
+    Refused,
     /// A turn back to a position.
     Abort(usize),
     /// A turn back to its last save-point.
@@ -200,28 +240,34 @@ pub(crate) enum Motion {
     Save,
 }
 
-/// What a move of a journey comes to.
-fn next_of<S: Alter>(
-    alloc: Global,
-    conn: &mut Connection<S>,
-    id: u64,
-    journey: &Record,
-    why: Motion,
-) -> Result<Result<Item, Refusal>, Fault>
-    requires outside { conn.old.in_transaction ≡ false }
-    requires id { id < 2 ^ 63 }
+/// What the next step of a journey comes to whose want does not fit: a turn. A journey that does not run is not where its
+/// row said, which is a fault of the store.
+fn refused(journey: &Record) -> Result<Result<Item, Refusal>, Fault>
     requires placed { IsPlaced journey.now.plan journey.now.cursor }
 
-    ensures outside { conn.new.in_transaction ≡ false }
-    ensures next { ShowsKept S.Store conn.old conn.new result (IsNext id journey.now why) }
-    ensures same { KeepsOn S.Store conn.old conn.new }
-    ensures stop { LeavesAsBefore S.Store conn.old conn.new }
-    ensures less { WasClean S.Store conn.old conn.new }
+    ensures next { IfOk result (λ next. (id : ℕ) (s : State) → IsDesk s
+        → IsNext id journey.now motion.Refused s next) }
+{
+    match decide(&journey.plan, &journey.marks, &journey.cursor, false) {
+        Move::Turn(target) => Ok(Ok(Item::Turn {
+            target,
+            cause: Cause::Refused,
+        })),
+        Move::Take(..) | Move::Undo(_) | Move::Nothing => Err(Fault::Store),
+    }
+}
+
+/// What a move of a journey comes to.
+fn next_of(journey: &Record, why: Motion) -> Result<Result<Item, Refusal>, Fault>
+    requires placed { IsPlaced journey.now.plan journey.now.cursor }
+
+    ensures next { IfOk result (λ next. (id : ℕ) (s : State) → IsDesk s
+        → IsNext id journey.now why s next) }
 {
     let plan = &journey.plan;
     let marks = &journey.marks;
     match why {
-        Motion::Step => next_step(alloc, conn, id, journey),
+        Motion::Refused => refused(journey),
         Motion::Abort(position) => {
             let turn = Turn::Asked(position);
             Ok(turned(plan, marks, journey.cursor, turn, Cause::Asked))
@@ -242,19 +288,17 @@ pub(crate) fn answer_move<S: Alter>(
     requires outside { conn.old.in_transaction ≡ false }
 
     ensures outside { conn.new.in_transaction ≡ false }
-    ensures reply { AnswersNew S.Store conn.old conn.new (asked_by ask.entry) (asked_for id why)
-        result }
-    ensures after { KeepsNew S.Store conn.old conn.new (asked_by ask.entry) (asked_for id why)
-        result }
+    ensures reply { AnswersMove S.Store conn.old conn.new (asked_by ask.entry) id why result }
+    ensures after { KeepsMove S.Store conn.old conn.new (asked_by ask.entry) id why result }
     ensures memory { KeepsAtMemory S.Store conn.old conn.new result }
-    ensures left { LeavesNew S.Store conn.old conn.new (asked_by ask.entry) (asked_for id why) }
+    ensures left { LeavesMove S.Store conn.old conn.new (asked_by ask.entry) id why }
     ensures sound { WasClean S.Store conn.old conn.new }
 {
     let counts = read_counts(conn)?;
     match find_seen(alloc, conn, id, ask) {
         Ok(None) => Ok(Reply::Refused(Refusal::NoJourney)),
         Ok(Some(journey)) => {
-            let next = next_of(alloc, conn, id, &journey, why)?;
+            let next = next_of(&journey, why)?;
             carry_out(alloc, conn, counts, id, &journey, next, ask)
         }
         Err(fault) => Err(fault),

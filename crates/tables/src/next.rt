@@ -1,8 +1,8 @@
 //! Where a journey is after one more item, by its record, and whether its numbers are those of a journey.
-ghost use Rattle.std.specs.Prelude.{◌≡◌, ◌<◌, ◌^◌, true};
+ghost use Rattle.std.specs.Prelude.{◌≡◌, ◌≤◌, ◌<◌, ◌^◌, true};
 ghost use Rattle.changes.specs.Changed.{phase_down as phase_down_rule, phase_up as phase_up_rule, cursor_after as after_rule};
 ghost use Rattle.plan.specs.Planned.{step_count};
-ghost use Rattle.tables.specs.Placing.{IsPlaced, HasOption, MayBeMade};
+ghost use Rattle.tables.specs.Placing.{IsPlaced, IsPlacedIn, HasOption, MayBeMade, stepped_up, stepped_down};
 
 use commands::{Cause, Cursor, Item, Phase};
 use plan::Plan;
@@ -10,12 +10,11 @@ use plan::Plan;
 /// More refused steps than a ledger may have events.
 const MOST_USED: usize = 1 << 62;
 
-/// Whether a journey with this plan may stand here.
-pub(crate) fn is_placed(plan: &Plan, cursor: Cursor) -> bool
-    ensures placed { result ≡ true → IsPlaced plan.now cursor }
+/// Whether a journey of so many steps may stand here.
+pub(crate) fn is_placed(steps: usize, cursor: Cursor) -> bool
+    ensures placed { result ≡ true → IsPlacedIn steps cursor }
 {
     let Cursor { pos, phase, used } = cursor;
-    let steps = plan.steps();
     let is_there = match phase {
         Phase::Run => pos < steps,
         Phase::Back(target) => pos < steps && target < pos,
@@ -45,11 +44,11 @@ fn is_option(plan: &Plan, step: usize, option: usize) -> bool
     1 <= step && step <= plan.steps() && 1 <= option && option <= plan.options(step)
 }
 
-/// The phase of a journey that has come to this position, one step further.
-fn phase_up(plan: &Plan, pos: usize) -> Phase
-    ensures up { result ≡ phase_up_rule (step_count plan.now) pos }
+/// The phase of a journey of so many steps that has come to this position, one step further.
+fn phase_up(steps: usize, pos: usize) -> Phase
+    ensures up { result ≡ phase_up_rule steps pos }
 {
-    if pos == plan.steps() {
+    if pos == steps {
         Phase::Ended
     } else {
         Phase::Run
@@ -69,6 +68,37 @@ fn phase_down(target: usize, pos: usize) -> Phase
     }
 }
 
+/// Where a journey of so many steps is after one more of them.
+pub(crate) fn cursor_up(steps: usize, cursor: Cursor) -> Cursor
+    requires below { cursor.pos < steps }
+
+    ensures up { result ≡ stepped_up steps cursor }
+{
+    let Cursor { pos, used, .. } = cursor;
+    Cursor {
+        pos: pos + 1,
+        phase: phase_up(steps, pos + 1),
+        used,
+    }
+}
+
+/// Where a journey is once its last standing step is compensated.
+pub(crate) fn cursor_down(cursor: Cursor) -> Cursor
+    requires above { 1 ≤ cursor.pos }
+
+    ensures down { result ≡ stepped_down cursor }
+{
+    let Cursor { pos, phase, used } = cursor;
+    Cursor {
+        pos: pos - 1,
+        phase: match phase {
+            Phase::Back(target) => phase_down(target, pos - 1),
+            other => other,
+        },
+        used,
+    }
+}
+
 /// Where a journey with this plan is after one more item.
 pub(crate) fn cursor_after(plan: &Plan, cursor: Cursor, item: Item) -> Cursor
     requires placed { IsPlaced plan.now cursor }
@@ -76,22 +106,11 @@ pub(crate) fn cursor_after(plan: &Plan, cursor: Cursor, item: Item) -> Cursor
 
     ensures after { result ≡ after_rule plan.now cursor item }
 {
-    let _steps = plan.steps();
-    let Cursor { pos, phase, used } = cursor;
+    let steps = plan.steps();
+    let Cursor { pos, used, .. } = cursor;
     match item {
-        Item::Transaction { .. } => Cursor {
-            pos: pos + 1,
-            phase: phase_up(plan, pos + 1),
-            used,
-        },
-        Item::Compensation { .. } => Cursor {
-            pos: pos - 1,
-            phase: match phase {
-                Phase::Back(target) => phase_down(target, pos - 1),
-                other => other,
-            },
-            used,
-        },
+        Item::Transaction { .. } => cursor_up(steps, cursor),
+        Item::Compensation { .. } => cursor_down(cursor),
         Item::Turn { target, cause } => Cursor {
             pos,
             phase: phase_down(target, pos),

@@ -55,7 +55,8 @@ impl<S: Alter> Opened<S> {
 impl<S: Alter> Opened<S> {
     ghost use Rattle.ledger.specs.Ledger.{history};
     ghost use Rattle.saga_core.specs.Shown.{IsStock};
-    ghost use Rattle.reading.specs.Handing.{BeginsKept, IsLeftAsItWas, unfinished_of};
+    ghost use Rattle.reading.specs.Handing.{BeginsKept, IsLeftAsItWas};
+    ghost use Rattle.saga_core.specs.Shown.{unfinished_of};
     ghost use Rattle.reading.specs.Reading.{IsRecordAt, KeepsOn, LeavesAsBefore, ShowsKept};
 
     /// The journey of that number, if there is one. A fault changes nothing, and a later call asks the store again.
@@ -71,8 +72,8 @@ impl<S: Alter> Opened<S> {
         read_journey(alloc, &mut self.conn, id)
     }
 
-    /// The cells that have an allotment, with their places, by kind, supplier, product and night. Like all rows that are
-    /// handed out here they are asked for by one statement, and nothing is gathered before.
+    /// The cells that have an allotment, with their places, by kind, supplier, product and night. Of all rows that are
+    /// handed out here nothing is gathered before.
     pub fn stock_rows<'c>(&'c mut self) -> Result<StockRows<'c, S>, Fault>
         ensures rows { IfOk result (λ it. BeginsKept S.Store self.old.conn it.handed.rows.conn.now
             (λ s rows. IsStock s.ledger rows)
@@ -98,14 +99,15 @@ impl<S: Alter> Opened<S> {
         unfinished_rows(&mut self.conn)
     }
 
-    /// The items of the journey of that number, oldest first; none where it is absent.
+    /// The items of the journey of that number, oldest first; none where it is absent. Each is asked for by itself, and the
+    /// store looks from the beginning of the journey to its last item, or to the end where it is not finished.
     pub fn item_rows<'c>(&'c mut self, id: u64) -> Result<ItemRows<'c, S>, Fault>
-        ensures rows { IfOk result (λ it. BeginsKept S.Store self.old.conn it.handed.rows.conn.now
+        ensures rows { IfOk result (λ it. BeginsKept S.Store self.old.conn it.conn.now
             (λ s items. items ≡ history s.ledger id)
             (⟦<ItemRows<'c, S> as RowSource<Item>>⟧.rests it)) }
         ensures none { IfOk result (λ it. ⟦<ItemRows<'c, S> as RowSource<Item>>⟧.given it ≡ 0) }
         ensures kept { IfOk result (λ it.
-            IsLeftAsItWas S.Store self.old.conn it.handed.rows.conn.now) }
+            IsLeftAsItWas S.Store self.old.conn it.conn.now) }
     {
         if !self.is_outside() {
             return Err(Fault::Store);

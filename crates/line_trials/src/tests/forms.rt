@@ -2,7 +2,7 @@
 //!
 //! `@` and a letter or digit stands for the cell, or the first four parts of a want, that `NAMES` has.
 use crate::tests::desks::{holds, new_desk, reads};
-use crate::tests::streams::{Pieces, Sink};
+use crate::tests::fakes::{Pieces, Sink};
 use cli::run_lines;
 use std::alloc::Global;
 use std::process::Abort;

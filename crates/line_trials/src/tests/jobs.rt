@@ -17,6 +17,13 @@ fn words_of(alloc: Global, text: &str) -> Result<Vec<String>, AllocError> {
 fn asked(alloc: Global, words: Vec<String>) -> Result<String, AllocError> {
     match job(alloc, words) {
         Ok(Job::Run { file }) => format!(in alloc; "run|{file}"),
+        Ok(
+            Job::Serve {
+                file,
+                port,
+                connections,
+            },
+        ) => format!(in alloc; "serve|{file}|{port}|{connections}"),
         Ok(Job::Recover { file }) => format!(in alloc; "recover|{file}"),
         Ok(Job::Load { file, csv, batch }) => format!(in alloc; "load|{file}|{csv}|{batch}"),
         Ok(Job::Stock { file }) => format!(in alloc; "stock|{file}"),
@@ -27,13 +34,20 @@ fn asked(alloc: Global, words: Vec<String>) -> Result<String, AllocError> {
     }
 }
 
-// the words, with a bar between each two, and the job with its values; a bad number is no usage
+// the words, with a bar between each two, and the job with its values; a bad number of a journey is no usage
 #[rattlefmt::skip]
-const JOBS: [(&str, &str); 23] = [
+const JOBS: [(&str, &str); 30] = [
     ("run|x.db",                    "run|x.db"),
     ("run|a b/x.db",                "run|a b/x.db"),
     ("run|--|-x.db",                "run|-x.db"),
     ("run|-",                       "run|-"),
+    ("serve|x.db|--port|8099|--connections|2",        "serve|x.db|8099|2"),
+    ("serve|--connections|2|x.db|--port|8099",        "serve|x.db|8099|2"),
+    ("serve|--port=8099|--connections=2|a b/x.db",    "serve|a b/x.db|8099|2"),
+    ("serve|--port|1|--connections|1|--|-x.db",       "serve|-x.db|1|1"),
+    ("serve|x.db|--port|65535|--connections|1000",    "serve|x.db|65535|1000"),
+    ("serve|x.db|--port|65534|--connections|999",     "serve|x.db|65534|999"),
+    ("serve|-|--port|10|--connections|100",           "serve|-|10|100"),
     ("recover|x.db",                "recover|x.db"),
     ("recover|a b/x.db",            "recover|a b/x.db"),
     ("recover|--|-x.db",            "recover|-x.db"),
@@ -66,7 +80,7 @@ fn words_name_a_job_with_its_values(rt: HostRuntime) -> Result<(), Fail> {
 
 // the words, and how the usage begins
 #[rattlefmt::skip]
-const REFUSED: [(&str, &str, &str); 27] = [
+const REFUSED: [(&str, &str, &str); 47] = [
     ("another subcommand",       "fly|x.db",       "error: unrecognized subcommand 'fly'"),
     ("a subcommand in capitals", "RUN|x.db",       "error: unrecognized subcommand 'RUN'"),
     ("a part of a subcommand",   "ru|x.db",        "error: unrecognized subcommand 'ru'"),
@@ -82,6 +96,26 @@ const REFUSED: [(&str, &str, &str); 27] = [
     ("two files to recover",     "recover|x|y",    "error: unexpected argument 'y' found\n\nUsage: desk recover <FILE>\n"),
     ("help of recover",          "recover|--help", "Take every unfinished journey to its end, as after a stop\n\nUsage: desk recover <FILE>\n"),
     ("help of run",              "run|--help",     "Answer the lines of standard input, one by one\n\nUsage: desk run <FILE>\n"),
+    ("port 0",                   "serve|x|--port|0|--connections|1", "error: invalid value '0' for '--port <PORT>': not a number from 1 to 65535\n"),
+    ("port 65536",               "serve|x|--port|65536|--connections|1", "error: invalid value '65536' for '--port <PORT>': not a number from 1 to 65535\n"),
+    ("a port past every number", "serve|x|--port|18446744073709551617|--connections|1", "error: invalid value '18446744073709551617' for '--port <PORT>'"),
+    ("a port with a sign",       "serve|x|--port|+80|--connections|1", "error: invalid value '+80' for '--port <PORT>'"),
+    ("a port below zero",        "serve|x|--port=-80|--connections|1", "error: invalid value '-80' for '--port <PORT>'"),
+    ("a port with a zero",       "serve|x|--port|080|--connections|1", "error: invalid value '080' for '--port <PORT>'"),
+    ("a port with a blank",      "serve|x|--port|80 |--connections|1", "error: invalid value '80 ' for '--port <PORT>'"),
+    ("a port by its name",       "serve|x|--port|http|--connections|1", "error: invalid value 'http' for '--port <PORT>'"),
+    ("an empty port",            "serve|x|--port=|--connections|1", "error: "),
+    ("connections 0",            "serve|x|--port|80|--connections|0", "error: invalid value '0' for '--connections <N>': not a number from 1 to 1000\n"),
+    ("connections 1001",         "serve|x|--port|80|--connections|1001", "error: invalid value '1001' for '--connections <N>': not a number from 1 to 1000\n"),
+    ("both out of range",        "serve|x|--port|0|--connections|0", "error: invalid value '0' for '--port <PORT>'"),
+    ("no port",                  "serve|x|--connections|1", "error: the following required arguments were not provided:\n  --port <PORT>\n"),
+    ("no connections",           "serve|x|--port|80", "error: the following required arguments were not provided:\n  --connections <N>\n"),
+    ("no file to serve",         "serve|--port|80|--connections|1", "error: the following required arguments were not provided:\n  <FILE>\n"),
+    ("two files to serve",       "serve|x|y|--port|80|--connections|1", "error: unexpected argument 'y' found\n"),
+    ("a flag without a port",    "serve|x|--connections|1|--port", "error: a value is required for '--port <PORT>' but none was supplied\n"),
+    ("two ports",                "serve|x|--port|80|--port|81|--connections|1", "error: the argument '--port <PORT>' cannot be used multiple times\n"),
+    ("a part of a flag",         "serve|x|--por|80|--connections|1", "error: unexpected argument '--por' found\n"),
+    ("help of serve",            "serve|--help", "Answer requests over HTTP, one connection after another\n\nUsage: desk serve --port <PORT> --connections <N> <FILE>\n"),
     ("no file for stock",        "stock",          "error: the following required arguments were not provided:\n  <FILE>\n\nUsage: desk stock <FILE>\n"),
     ("two files for stock",      "stock|x|y",      "error: unexpected argument 'y' found\n\nUsage: desk stock <FILE>\n"),
     ("two for unfinished",       "unfinished|x|y", "error: unexpected argument 'y' found\n\nUsage: desk unfinished <FILE>\n"),

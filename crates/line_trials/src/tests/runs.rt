@@ -1,6 +1,6 @@
 //! What lines are answered over a new book in memory, however they arrive, and what a fault leaves written.
 use crate::tests::desks::{holds, new_desk, reads};
-use crate::tests::streams::{Pieces, Sink, Stuck};
+use crate::tests::fakes::{Pieces, Sink, Stuck};
 use cli::{ServeFault, run_lines};
 use saga_core::Book;
 use std::alloc::{AllocError, Global};

@@ -1,36 +1,81 @@
-use Rattle.std.proofs.Common.{◌≡◌, ◌≤◌, sym, ap, ◌∙◌, arith, pos, nat_abs, bytes_eq, to_z, of_z, w32}
+use Rattle.std.proofs.Common.{◌≡◌, ℕ, ◌<◌, ◌≤◌, List, None, sym, subst, ◌∙◌, arith, pos, nat_abs, to_z, of_z, w8, w16, w32}
 use Rattle.std.proofs.lemmas.Int.{ints}
 use Rattle.std.proofs.lemmas.Bool.{le-leb}
-use Rattle.jiff_core.specs.Date.{epoch_day}
+use Rattle.jiff_core.specs.declared.civil.date.Date.{Date}
+use Rattle.jiff_core.specs.Calendar.{IsDate}
+use Rattle.jiff_core.specs.Date.{IsYmd}
 use Rattle.jiff_core.proofs.SignedLemmas.{signed_arith}
-use Rattle.jiff_fmt.specs.Text.{date_text}
 use Rattle.allotment.specs.Limits.{first_night, last_night}
-use Rattle.allotment.proofs.TestLemmas.{and_make, bytes_eq_self, same_bytes}
+use Rattle.jiff_fmt.specs.Text.{date_text}
+use Rattle.allotment.specs.Nights.{night_in}
+use Rattle.allotment.specs.Dates.{IsNoDate, IsDateText}
+use Rattle.allotment.proofs.TestLemmas.{and_make}
 use Rattle.allotment.proofs.NightLemmas.{night_range}
-use Rattle.allotment.proofs.JiffLemmas.{unread, out_of_range, other_text, night_of_date}
+use Rattle.allotment.proofs.JiffLemmas.{no_date, no_day, date_text-numbers, parsed-text, out_of_range, night_of_date}
 use Rattle.allotment.proofs.nights.day_of.Goals as goal
 use Rattle.allotment.proofs.nights.day_of.Goals.{then-day-lt-FIRST-via-then-day-lt-FIRST, then-day-lt-FIRST-via-else-day-lt-FIRST+then-day-gt-LAST}
 
--- `jiff` reads each text of a night, so what it does not read is none
+-- a year of four digits is the same number with a sign
+signed_year : (y : ℕ) → y < 10000 → to_z w16 y ≡ pos y
+signed_year y small = omega (arith, ints)
+
+-- so is a number of two digits
+signed_pair : (n : ℕ) → n < 100 → to_z w8 n ≡ pos n
+signed_pair n small = omega (arith, ints)
+
+-- the date that the calendar has for the numbers is that of the text
+date_here : (t : List ℕ) (y m d : ℕ) (found : Date) → IsDateText t y m d → IsYmd (to_z w16 y) (to_z w8 m) (to_z w8 d) found
+    → date_text found ≡ t
+date_here t y m d found shown is =
+    date_text-numbers t y m d found shown (
+      is.0 ∙ signed_year y shown.year_small,
+      is.1 ∙ signed_pair m shown.month_small,
+      is.2 ∙ signed_pair d shown.day_small,
+    )
+
+-- where it has none, the text is that of no night
+no_day_here : (t : List ℕ) (y m d : ℕ) → IsDateText t y m d → (IsDate (to_z w16 y) (to_z w8 m) (to_z w8 d) → ⊥)
+    → night_in t ≡ None
+no_day_here t y m d shown none =
+    no_day t y m d shown (λ is.
+    none (subst (λ z. IsDate z (to_z w8 m) (to_z w8 d)) (sym (signed_year y shown.year_small))
+    (subst (λ z. IsDate (pos y) z (to_z w8 d)) (sym (signed_pair m shown.month_small))
+    (subst (λ z. IsDate (pos y) (pos m) z) (sym (signed_pair d shown.day_small)) is))))
+
+-- no numbers stand there
+pub returns-in_err-year : goal.returns-in_err-year
+returns-in_err-year c =
+    let none : IsNoDate c.args.text.now = subst IsNoDate c.as_bytes.ensures.value c.in_err-year.ensures in
+    c.from_residual.ensures ∙ sym (no_date c.args.text.now none)
+
+-- the calendar has no such day
 pub returns-in_default : goal.returns-in_default
-returns-in_default c = sym (unread c.args.text.now c.in_default.field-0 c.in_default.ensures.value)
+returns-in_default c =
+    let p = c.in_ok-year in
+    let shown : IsDateText c.args.text.now p.year p.month p.day = subst (λ t. IsDateText t p.year p.month p.day) c.as_bytes.ensures.value p.ensures in
+    sym (no_day_here c.args.text.now p.year p.month p.day shown (λ is. let none = c.in_default.ensures.succeeds.1 is in cc))
 
 -- a day out of range is no night's
 pub returns-then-day-lt-FIRST : goal.returns-then-day-lt-FIRST
 returns-then-day-lt-FIRST c =
-    let is = c.to_unix_epoch_day-day.ensures.value ∙ ap epoch_day c.to_plain-date.ensures in
-    sym (out_of_range c.args.text.now c.in-Ok.found c.in-Ok.ensures.value (λ n day night.
+    let p = c.in_ok-year in
+    let text = c.args.text.now in
+    let shown : IsDateText text p.year p.month p.day = subst (λ t. IsDateText t p.year p.month p.day) c.as_bytes.ensures.value p.ensures in
+    let same_text = date_here text p.year p.month p.day c.in-Ok.date shown c.in-Ok.ensures.value in
+    sym (out_of_range text c.in-Ok.date (parsed-text text c.in-Ok.date same_text) (λ n day night.
     let range = night_range n night in
-    let same : c.to_unix_epoch_day-day.result ≡ pos n = is ∙ day in
+    let same : c.to_unix_epoch_day-day.result ≡ pos n = c.to_unix_epoch_day-day.ensures.value ∙ day in
     elim c.then-day-lt-FIRST.branch [
       | then-day-lt-FIRST-via-then-day-lt-FIRST w ↦ let before = w.if-day-lt-FIRST.true in omega (arith, ints, signed_arith)
       | then-day-lt-FIRST-via-else-day-lt-FIRST+then-day-gt-LAST w ↦ let after = w.if-day-gt-LAST.true in omega (arith, ints, signed_arith)
     ]))
 
 -- the date's text is the text, and its day is a night
-pub returns-then-eq : goal.returns-then-eq
-returns-then-eq c =
-    let text = sym c.date_text-shown.ensures ∙ sym c.as_str.ensures.value ∙ same_bytes c.as_str.result.now c.args.text.now (sym c.eq.ensures ∙ c.if-eq.true) in
+pub returns : goal.returns
+returns c =
+    let p = c.in_ok-year in
+    let text = c.args.text.now in
+    let shown : IsDateText text p.year p.month p.day = subst (λ t. IsDateText t p.year p.month p.day) c.as_bytes.ensures.value p.ensures in
     let low = c.if-day-lt-FIRST.false in
     let high = c.if-day-gt-LAST.false in
     let day = c.to_unix_epoch_day-day.result in
@@ -39,12 +84,5 @@ returns-then-eq c =
     let same : day ≡ pos n = omega (arith, ints, signed_arith) in
     let from : first_night ≤ n = omega (arith, ints, signed_arith) in
     let to : n ≤ last_night = omega (arith, ints, signed_arith) in
-    sym (night_of_date c.args.text.now c.to_plain-date.result n text (sym c.to_unix_epoch_day-day.ensures.value ∙ same)
+    sym (night_of_date text c.in-Ok.date n (date_here text p.year p.month p.day c.in-Ok.date shown c.in-Ok.ensures.value) (sym c.to_unix_epoch_day-day.ensures.value ∙ same)
     (and_make _ _ (le-leb first_night n from) (le-leb n last_night to)))
-
--- the text is another spelling of the date
-pub returns-else-eq : goal.returns-else-eq
-returns-else-eq c =
-    sym (other_text c.args.text.now c.in-Ok.found c.in-Ok.ensures.value (λ same.
-    let here : c.as_str.result.now ≡ c.args.text.now = c.as_str.ensures.value ∙ c.date_text-shown.ensures ∙ ap date_text c.to_plain-date.ensures ∙ same in
-    let tells = sym c.if-eq.false ∙ c.eq.ensures ∙ ap (λ x. bytes_eq x c.args.text.now) here ∙ bytes_eq_self c.args.text.now in cc))

@@ -5,7 +5,7 @@ use Rattle.std.proofs.lemmas.Result.{err_from_is_err_and}
 use Rattle.commands.specs.Orders.{request_of}
 use Rattle.cli.specs.Answering.{AnswersOrder}
 use Rattle.cli.specs.Orders.{meaning_of}
-use Rattle.cli.specs.Serving.{served_fault}
+use Rattle.desk_http.specs.Serving.{served_fault}
 use Rattle.cli.proofs.AnswerLemmas.{act_failed}
 use Rattle.cli.proofs.answers.carry_out.Goals as goal
 

@@ -3,9 +3,11 @@ use Rattle.std.proofs.Common.{sym, subst, refl, []}
 use Rattle.std.specs.Io.KnownBytes.{Appends}
 use Rattle.std.proofs.lemmas.Result.{err_from_is_err_and}
 use Rattle.cli.specs.Reading.{IsOfReading, TakesLine, to_come}
-use Rattle.cli.specs.Serving.{WroteFront, scene}
-use Rattle.cli.specs.declared.faults.ServeFault.TheVariants.{Memory, Read}
-use Rattle.cli.proofs.ServeLemmas.{all_answered, answer_fails, for_known, goes_on, read_fails, starts, write_fails}
+use Rattle.streams.specs.Written.{WroteFront}
+use Rattle.desk_http.specs.Serving.{scene}
+use Rattle.desk_http.specs.declared.faults.ServeFault.TheVariants.{Memory, Read}
+use Rattle.desk_http.proofs.ServeLemmas.{for_known}
+use Rattle.cli.proofs.ServeLemmas.{all_answered, answer_fails, goes_on, read_fails, starts, write_fails}
 use Rattle.cli.proofs.runs.answer_input.Goals as goal
 
 -- nothing was answered yet
@@ -110,7 +112,7 @@ returns-in_err-send-clause-some g c = λ sound s stood.
     let after = to_come c.next_line.new.self (left c.next_line.new.reader) in
     let failed = err_from_is_err_and c.from_residual-in_err-send.result c.from_residual-in_err-send.ensures.1 in
     for_known (left c.args.reader.now) _ (λ input is.
-    rw (failed.1, failed.2, c.in_err-send.ensures.fault)
+    rw (failed.1, failed.2)
     (write_fails (contents c.args.writer.now) (contents at.writer) (contents c.send.new.writer) (book.stands at.book) (book.stands c.answer.new.book)
     (book.leaves at.book) (book.leaves c.answer.new.book) s input before after at.answered c.next_line.new.line c.in_ok-text.text
     (at.invariant.so_far (c.answer.ensures.sound sound) s stood input is)

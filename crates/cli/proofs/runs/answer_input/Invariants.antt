@@ -3,7 +3,7 @@ use Rattle.std.specs.Prelude.{IsTrue, Some}
 use Rattle.ledger.specs.Answer.{State}
 use Rattle.saga_core.specs.Books.{LeavesNoMore}
 use Rattle.cli.specs.Reading.{to_come}
-use Rattle.cli.specs.Serving.{scene}
+use Rattle.desk_http.specs.Serving.{scene}
 use Rattle.cli.proofs.ServeLemmas.{SoFar}
 use Rattle.cli.proofs.runs.answer_input.Given as goal
 

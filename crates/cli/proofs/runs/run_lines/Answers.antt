@@ -1,5 +1,5 @@
 -- What was answered is how the world goes on.
-use Rattle.cli.specs.Serving.{scene}
+use Rattle.desk_http.specs.Serving.{scene}
 use Rattle.cli.proofs.WorldLemmas.{lines_go_on, lines_stop}
 use Rattle.cli.proofs.runs.run_lines.Goals as goal
 

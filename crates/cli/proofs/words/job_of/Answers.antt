@@ -1,8 +1,12 @@
 -- The values of a job are those of the matches.
-use Rattle.std.proofs.Common.{map, codes, sym}
+use Rattle.std.proofs.Common.{◌∙◌, ap, map, codes, refl, subst, sym}
+use Rattle.std.specs.Prelude.{Err}
+use Rattle.std.proofs.lemmas.Result.{err_from_is_err_and}
 use Rattle.std.specs.String.{string_bytes}
+use Rattle.cli.specs.Jobs.{number_named, most_port, most_connections, IsUsage}
 use Rattle.cli.specs.Subcommands.{app_for}
-use Rattle.cli.proofs.SubcommandLemmas.{value_read}
+use Rattle.cli.proofs.NumberLemmas.{refuses-no_connections, refuses-no_port, refuses-numbers}
+use Rattle.cli.proofs.SubcommandLemmas.{value_in-matches, value_read}
 use Rattle.cli.proofs.words.job_of.Goals as goal
 
 pub returns-in-Run-clause-job : goal.returns-in-Run-clause-job
@@ -12,6 +16,55 @@ returns-in-Run-clause-job c =
       subcommand = sym c.in-Run.is;
       values = read (codes "FILE") _ c.in_ok-matches.ensures.rows c.in_ok-file.ensures.value;
     }
+
+-- the numbers that are read are those that the matches name
+pub returns-in-Serve-clause-job : goal.returns-in-Serve-clause-job
+returns-in-Serve-clause-job c =
+    let app = app_for c.args.subcommand in
+    let words = map string_bytes c.args.words.now in
+    let m = c.in_ok-matches.matches in
+    let rows = c.in_ok-matches.ensures.rows in
+    record {
+      subcommand = sym c.in-Serve.is;
+      values = (
+        value_read app words m (codes "FILE") _ rows c.in_ok-file.ensures.value,
+        ap (number_named most_port) (value_in-matches app words m (codes "PORT") rows) ∙ c.in_ok-port-in-Serve.ensures.number,
+        ap (number_named most_connections) (value_in-matches app words m (codes "N") rows) ∙ c.in_ok-connections-in-Serve.ensures.number,
+      );
+    }
+
+pub returns-in-Serve-clause-taken : goal.returns-in-Serve-clause-taken
+returns-in-Serve-clause-taken c = λ _.
+    let app = app_for c.args.subcommand in
+    let words = map string_bytes c.args.words.now in
+    let m = c.in_ok-matches.matches in
+    let rows = c.in_ok-matches.ensures.rows in
+    refuses-numbers c.args.subcommand words c.in_ok-port-in-Serve.port c.in_ok-connections-in-Serve.connections c.in-Serve.is
+    (c.in_ok-matches.ensures.taken refl)
+    (ap (number_named most_port) (value_in-matches app words m (codes "PORT") rows) ∙ c.in_ok-port-in-Serve.ensures.number)
+    (ap (number_named most_connections) (value_in-matches app words m (codes "N") rows) ∙ c.in_ok-connections-in-Serve.ensures.number)
+
+-- a usage is given for a port only where none is named
+pub returns-in_err-port-in-Serve-clause-usage : goal.returns-in_err-port-in-Serve-clause-usage
+returns-in_err-port-in-Serve-clause-usage c = λ usage.
+    let app = app_for c.args.subcommand in
+    let words = map string_bytes c.args.words.now in
+    let m = c.in_ok-matches.matches in
+    let failed = err_from_is_err_and c.from_residual-in_err-port-in-Serve.result c.from_residual-in_err-port-in-Serve.ensures.1 in
+    refuses-no_port c.args.subcommand words c.in-Serve.is
+    (ap (number_named most_port) (value_in-matches app words m (codes "PORT") c.in_ok-matches.ensures.rows)
+    ∙ c.in_err-port-in-Serve.ensures.usage (subst IsUsage (failed.1 ∙ ap Err failed.2) usage))
+
+-- and so for a number of connections
+pub returns-in_err-connections-in-Serve-clause-usage : goal.returns-in_err-connections-in-Serve-clause-usage
+returns-in_err-connections-in-Serve-clause-usage c = λ usage.
+    let app = app_for c.args.subcommand in
+    let words = map string_bytes c.args.words.now in
+    let m = c.in_ok-matches.matches in
+    let failed = err_from_is_err_and c.from_residual-in_err-connections-in-Serve.result c.from_residual-in_err-connections-in-Serve.ensures.1 in
+    refuses-no_connections c.args.subcommand words c.in-Serve.is
+    (ap (number_named most_connections) (value_in-matches app words m (codes "N") c.in_ok-matches.ensures.rows)
+    ∙ c.in_err-connections-in-Serve.ensures.usage (subst IsUsage (failed.1 ∙ ap Err failed.2) usage))
 
 pub returns-in-Recover-clause-job : goal.returns-in-Recover-clause-job
 returns-in-Recover-clause-job c =

@@ -8,12 +8,13 @@ use Rattle.clap.specs.declared.error.kind.ErrorKind.{ErrorKind}
 use Rattle.clap.specs.declared.error.kind.ErrorKind.TheVariants.{OutOfMemory}
 use Rattle.cli.specs.Subcommands.{app_for, has_any}
 use Rattle.cli.specs.declared.subcommands.Subcommand.{Subcommand}
-use Rattle.cli.specs.declared.subcommands.Subcommand.TheVariants.{Run, Recover, Load, Stock, Unfinished, History}
+use Rattle.cli.specs.declared.subcommands.Subcommand.TheVariants.{Run, Serve, Recover, Load, Stock, Unfinished, History}
 use Rattle.cli.proofs.words.matches_in.Goals as goal
 
 is_exact : (s : Subcommand) → is_simple (app_for s) ≡ true
 unfolding clap_on_literals
 is_exact Run = refl
+is_exact Serve = refl
 is_exact Recover = refl
 is_exact Load = refl
 is_exact Stock = refl
@@ -23,6 +24,7 @@ is_exact History = refl
 is_free : (s : Subcommand) → is_simple_and_free (app_for s) ≡ true
 unfolding clap_on_literals
 is_free Run = refl
+is_free Serve = refl
 is_free Recover = refl
 is_free Load = refl
 is_free Stock = refl

@@ -1,10 +1,10 @@
 -- Each part builds on what the one before it made; the row of meta goes into the tables that are then empty.
-use Rattle.std.proofs.Common.{Ok, refl, ◌∙◌, arith}
+use Rattle.std.proofs.Common.{refl, ◌∙◌, arith}
 use Rattle.sqlite.specs.State.{HasCleanDisk}
 use Rattle.sqlite.specs.Held.{state}
-use Rattle.desk_sql.specs.Schema.{first_schema, seven_schema, desk_schema}
+use Rattle.desk_sql.specs.Schema.{first_schema, seven_schema}
 use Rattle.desk_sql.specs.Rows.{no_rows}
-use Rattle.desk_sql.proofs.Making.{builds_then, then_build, sees_none}
+use Rattle.desk_sql.proofs.Making.{then_build, sees_none}
 use Rattle.desk_sql.proofs.founding.make_tables.Goals as goal
 
 pub returns-clause-made : goal.returns-clause-made

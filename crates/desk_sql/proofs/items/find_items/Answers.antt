@@ -10,7 +10,8 @@ all_rows-requires g c = find_items_means.selects
 
 pub returns-clause-found : goal.returns-clause-found
 returns-clause-found g c clean t sees =
-    let small = c.requires in
+    let small = c.requires.journey in
+    let low = c.requires.after in
     finds_items (state g.S.Store c.args.conn.now) (state g.S.Store c.all_rows.new.conn) t sees c.args.journey
-    c.in_ok-rows.rows.items c.in_ok-items.items.items (simp c.as_slice.ensures.value at c.in_ok-items.ensures)
+    c.in_ok-rows.rows.items c.args.after c.in_ok-items.items.items (simp c.as_slice.ensures.value at c.in_ok-items.ensures)
     (simp pos_is at (c.in_ok-rows.ensures.rows clean))

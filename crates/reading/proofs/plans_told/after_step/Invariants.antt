@@ -1,6 +1,5 @@
 -- So far the rows are those of the first options.
 use Rattle.std.proofs.Common.{◌≡◌, ◌+◌, ◌≤◌, ◌++◌, ℕ, take, length}
-use Rattle.plan.specs.Planned.{option_count}
 use Rattle.reading.specs.PlansTold.{first_rows}
 use Rattle.standing.specs.Beginning.{first_rows_of_step}
 use Rattle.reading.proofs.plans_told.after_step.Given as goal

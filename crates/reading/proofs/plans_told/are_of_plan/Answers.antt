@@ -1,7 +1,7 @@
 -- Step by step the rows are those of the plan.
-use Rattle.std.proofs.Common.{◌≡◌, ◌+◌, ◌<◌, length, arith, rules}
+use Rattle.std.proofs.Common.{◌<◌, rules}
 use Rattle.plan.specs.Planned.{step_count}
-use Rattle.reading.proofs.ReadPlans.{step_more, plan_whole}
+use Rattle.reading.proofs.ReadPlans.{step_more}
 use Rattle.reading.proofs.plans_told.are_of_plan.Goals as goal
 
 pub loop-step-preserved : goal.loop-step-preserved

@@ -1,5 +1,5 @@
 -- The row of meta counts the journeys, and a read changes nothing.
-use Rattle.std.proofs.Common.{◌≡◌, ◌<◌, length, sym, arith}
+use Rattle.std.proofs.Common.{◌≡◌, length, arith}
 use Rattle.desk_sql.specs.Found.{IsMeta}
 use Rattle.ledger.specs.Ledger.{journeys}
 use Rattle.standing.proofs.Readings.{meta_read}

@@ -1,6 +1,5 @@
 -- The nights that the rows tell are those of the want.
-use Rattle.std.proofs.Common.{◌≡◌, ◌≤◌, ◌+◌, ◌-◌, ◌∙◌, sym, arith, rules}
-use Rattle.allotment.specs.Cells.{kind_number}
+use Rattle.std.proofs.Common.{◌+◌, ◌-◌, ◌∙◌, rules}
 use Rattle.saga_core.specs.Shown.{ShowsCells}
 use Rattle.desk_sql.specs.Stock.{FindsNights}
 use Rattle.desk_sql.specs.declared.stock.NightRange.{NightRange}

@@ -1,5 +1,5 @@
 -- The row with the least number tells the first journey, and a read changes nothing.
-use Rattle.std.proofs.Common.{◌≡◌, ◌≤◌, None, Some, sym, subst, ap, ◌∙◌, arith, rules}
+use Rattle.std.proofs.Common.{◌≡◌, ◌≤◌, None, Some, sym, subst, ap, ◌∙◌, rules}
 use Rattle.std.specs.Prelude.{option_map}
 use Rattle.desk_sql.specs.Found.{FindsUnfinished, journey_of}
 use Rattle.saga_core.specs.Shown.{first_unfinished as first_shown}

@@ -1,16 +1,13 @@
 -- The rows of a journey, of its plan and of its save-points tell what is shown of it, and reads change nothing.
-use Rattle.std.proofs.Common.{◌≡◌, ◌∙◌, None, Some, sym, ap, subst, arith, rules}
+use Rattle.std.proofs.Common.{◌≡◌, subst}
 use Rattle.std.specs.Prelude.{option_map}
-use Rattle.sqlite.specs.State.{HasCleanDisk}
-use Rattle.sqlite.specs.Held.{state}
 use Rattle.desk_sql.specs.Found.{FindsJourney, journey_of}
 use Rattle.desk_sql.specs.Rows.{JourneyRow}
 use Rattle.ledger.specs.Ledger.{journey_at}
 use Rattle.standing.specs.Reading.{Tells, IsJourneyOf}
 use Rattle.standing.proofs.Readings.{journey_read}
-use Rattle.reading.specs.Reading.{KeepsOn}
 use Rattle.reading.proofs.ReadLemmas.{keeps_on, has_found}
-use Rattle.reading.proofs.ReadJourneys.{record_none, journey_there, record_shown}
+use Rattle.reading.proofs.ReadJourneys.{record_none, record_shown}
 use Rattle.reading.proofs.reads.read_journey.Goals as goal
 
 pub returns-in-Ok-None-clause-journey : goal.returns-in-Ok-None-clause-journey

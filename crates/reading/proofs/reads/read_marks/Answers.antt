@@ -1,7 +1,6 @@
 -- The save-points at the positions that are found are those that stand.
-use Rattle.std.proofs.Common.{◌≡◌, ◌∙◌, ◌==◌, ℕ, sym, ap, rules}
+use Rattle.std.proofs.Common.{◌≡◌, ◌∙◌, ◌==◌, ap, rules}
 use Rattle.std.specs.List.{list_any}
-use Rattle.savepoints.specs.Marks.{is_taken_in}
 use Rattle.ledger.specs.Ledger.{history}
 use Rattle.desk_sql.specs.Found.{FindsMarks}
 use Rattle.standing.proofs.Readings.{marks_read}

@@ -1,12 +1,11 @@
 -- A plan with just these rows is the journey's.
-use Rattle.std.proofs.Common.{◌≡◌, ◌∙◌, map, sym, IsTrue, rules}
-use Rattle.std.specs.Prelude.{Some, IfOk}
+use Rattle.std.proofs.Common.{◌≡◌, ◌∙◌, IsTrue, rules}
 use Rattle.plan.specs.Planned.{is_plan}
 use Rattle.desk_sql.specs.Found.{FindsSteps}
 use Rattle.standing.proofs.Readings.{plan_read}
 use Rattle.reading.specs.Reading.{IsPlanOf}
 use Rattle.reading.specs.PlansTold.{TellPlan}
-use Rattle.reading.proofs.ReadLemmas.{keeps_on, has_found, also_ok, both_ok}
+use Rattle.reading.proofs.ReadLemmas.{keeps_on, has_found, both_ok}
 use Rattle.reading.proofs.reads.read_plan.Goals as goal
 
 pub returns-in-Ok-clause-plan : goal.returns-in-Ok-clause-plan

@@ -1,5 +1,5 @@
 -- The cells that the rows tell are the stock.
-use Rattle.std.proofs.Common.{◌≡◌, rules}
+use Rattle.std.proofs.Common.{rules}
 use Rattle.saga_core.specs.Shown.{IsStock}
 use Rattle.desk_sql.specs.Stock.{FindsStock}
 use Rattle.standing.proofs.Readings.{stock_read}

@@ -2,7 +2,7 @@
 use Rattle.std.proofs.Common.{◌∙◌, ℕ, List, subst}
 use Rattle.std.specs.Prelude.{OnOk}
 use Rattle.std.specs.Io.KnownBytes.{Appends}
-use Rattle.reports.specs.Written.{WroteFront}
+use Rattle.streams.specs.Written.{WroteFront}
 use Rattle.reports.proofs.HistoryLemmas.{history_in_parts}
 use Rattle.reports.proofs.reports.history_text.Goals as goal
 

@@ -3,8 +3,8 @@ use Rattle.std.proofs.Common.{◌≡◌, ◌∙◌, ◌++◌, ap, length, subst}
 use Rattle.std.specs.Io.KnownBytes.{Appends}
 use Rattle.std.specs.List.{flat_map}
 use Rattle.reports.specs.Parts.{ending_text}
-use Rattle.reports.specs.Written.{WroteFront}
-use Rattle.reports.proofs.ByteLemmas.{front_whole}
+use Rattle.streams.specs.Written.{WroteFront}
+use Rattle.reports.proofs.FrontLemmas.{front_whole}
 use Rattle.reports.proofs.PartLemmas.{all_written, ending_begun, head_begun, rows_begun}
 use Rattle.reports.proofs.reports.send_report.Goals as goal
 

@@ -3,7 +3,7 @@ use Rattle.std.proofs.Common.{◌≡◌, ◌+◌, arith, rules, subst}
 use Rattle.std.specs.Prelude.{Option, string_bytes}
 use Rattle.std.specs.Io.KnownBytes.{Appends}
 use Rattle.saga_core.specs.RowSources.{count_of, Hands}
-use Rattle.reports.specs.Written.{WroteFront}
+use Rattle.streams.specs.Written.{WroteFront}
 use Rattle.reports.proofs.RowLemmas.{front_of, front_with, goes_on}
 use Rattle.reports.proofs.rows.send_rows.Goals as goal
 

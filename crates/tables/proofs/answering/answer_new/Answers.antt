@@ -20,20 +20,20 @@ returns-in-Begin-clause-after g c s desk keeps new =
 
 pub returns-in-Step-clause-after : goal.returns-in-Step-clause-after
 returns-in-Step-clause-after g c s desk keeps new =
-    subst (λ k. OnOk c.answer_move.result (Keeps (state g.S.Store c.answer_move.new.conn) (outcome s (option_copied c.args.ask) (request_of k)).state))
-    (sym c.in-Step.is) (c.answer_move.ensures.after s desk keeps new)
+    subst (λ k. OnOk c.answer_step.result (Keeps (state g.S.Store c.answer_step.new.conn) (outcome s (option_copied c.args.ask) (request_of k)).state))
+    (sym c.in-Step.is) (c.answer_step.ensures.after s desk keeps new)
 
 pub returns-in-Abort-clause-after : goal.returns-in-Abort-clause-after
 returns-in-Abort-clause-after g c s desk keeps new =
-    subst (λ k. OnOk c.answer_move-in-Abort.result (Keeps (state g.S.Store c.answer_move-in-Abort.new.conn) (outcome s (option_copied c.args.ask) (request_of k)).state))
-    (sym c.in-Abort.is) (c.answer_move-in-Abort.ensures.after s desk keeps new)
+    subst (λ k. OnOk c.answer_move.result (Keeps (state g.S.Store c.answer_move.new.conn) (outcome s (option_copied c.args.ask) (request_of k)).state))
+    (sym c.in-Abort.is) (c.answer_move.ensures.after s desk keeps new tt)
 
 pub returns-in-Stop-clause-after : goal.returns-in-Stop-clause-after
 returns-in-Stop-clause-after g c s desk keeps new =
     subst (λ k. OnOk c.answer_move-in-Stop.result (Keeps (state g.S.Store c.answer_move-in-Stop.new.conn) (outcome s (option_copied c.args.ask) (request_of k)).state))
-    (sym c.in-Stop.is) (c.answer_move-in-Stop.ensures.after s desk keeps new)
+    (sym c.in-Stop.is) (c.answer_move-in-Stop.ensures.after s desk keeps new tt)
 
 pub returns-in-Save-clause-after : goal.returns-in-Save-clause-after
 returns-in-Save-clause-after g c s desk keeps new =
     subst (λ k. OnOk c.answer_move-in-Save.result (Keeps (state g.S.Store c.answer_move-in-Save.new.conn) (outcome s (option_copied c.args.ask) (request_of k)).state))
-    (sym c.in-Save.is) (c.answer_move-in-Save.ensures.after s desk keeps new)
+    (sym c.in-Save.is) (c.answer_move-in-Save.ensures.after s desk keeps new tt)

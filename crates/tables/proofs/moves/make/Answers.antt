@@ -1,33 +1,17 @@
-use Rattle.std.proofs.Common.{◌<◌, length, refl, arith}
-use Rattle.std.specs.Option.{option_copied}
-use Rattle.ledger.specs.Answer.{outcome, most_events}
-use Rattle.tables.specs.Moving.{asked_for}
-use Rattle.tables.proofs.DueLemmas.{due_leads_at}
 use Rattle.tables.proofs.moves.make.Goals as goal
 
--- the commit that answered leads to the state that the item comes to
+-- the item that is due is made
+pub returns-clause-reply : goal.returns-clause-reply
+returns-clause-reply g c clean s why keeps due =
+    c.make_event.ensures.reply clean s why keeps
+    (record { journey = c.args.journey.now; due = due; says = c.event_of.ensures.event; cursor = c.cursor_after.ensures.after })
+
 pub returns-clause-after : goal.returns-clause-after
 returns-clause-after g c s why keeps due =
-    let ask = option_copied c.args.ask in
-    let room : length s.ledger < most_events = omega (arith, due.counted.events) in
-    c.in_ok-commit_answered.ensures.done s (outcome s ask (asked_for c.args.id why)).state
-    (due_leads_at s ask why c.args.counts c.args.id c.args.journey.now c.args.item _ c.event_of-event.result c.cursor_after-cursor.result
-    c.cursor_after-cursor.ensures.after due room refl refl c.event_of-event.ensures.event) keeps
+    c.make_event.ensures.after s why keeps
+    (record { journey = c.args.journey.now; due = due; says = c.event_of.ensures.event; cursor = c.cursor_after.ensures.after })
 
--- and a stop leaves that state
 pub returns-clause-left : goal.returns-clause-left
 returns-clause-left g c s why keeps due =
-    let ask = option_copied c.args.ask in
-    let room : length s.ledger < most_events = omega (arith, due.counted.events) in
-    c.commit_answered.ensures.left s (outcome s ask (asked_for c.args.id why)).state
-    (due_leads_at s ask why c.args.counts c.args.id c.args.journey.now c.args.item _ c.event_of-event.result c.cursor_after-cursor.result
-    c.cursor_after-cursor.ensures.after due room refl refl c.event_of-event.ensures.event) keeps
-
--- where the commit failed, that one or the old one
-pub returns-in_err-commit_answered-clause-left : goal.returns-in_err-commit_answered-clause-left
-returns-in_err-commit_answered-clause-left g c s why keeps due =
-    let ask = option_copied c.args.ask in
-    let room : length s.ledger < most_events = omega (arith, due.counted.events) in
-    c.commit_answered.ensures.left s (outcome s ask (asked_for c.args.id why)).state
-    (due_leads_at s ask why c.args.counts c.args.id c.args.journey.now c.args.item _ c.event_of-event.result c.cursor_after-cursor.result
-    c.cursor_after-cursor.ensures.after due room refl refl c.event_of-event.ensures.event) keeps
+    c.make_event.ensures.left s why keeps
+    (record { journey = c.args.journey.now; due = due; says = c.event_of.ensures.event; cursor = c.cursor_after.ensures.after })

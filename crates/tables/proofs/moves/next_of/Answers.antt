@@ -2,14 +2,23 @@
 use Rattle.tables.proofs.NextLemmas.{abort_next, stop_next, save_next}
 use Rattle.tables.proofs.moves.next_of.Goals as goal
 
-pub returns-in-Abort-clause-next : goal.returns-in-Abort-clause-next
-returns-in-Abort-clause-next g c clean s desk keeps who is =
-    rw c.in-Abort.is (abort_next s desk.legal who c.args.id c.args.journey.now is c.in-Abort.position _ c.turned.ensures.said)
+pub returns-in-Abort : goal.returns-in-Abort
+returns-in-Abort c =
+    record {
+      next = λ id s desk who is unfit.
+          rw c.in-Abort.is (abort_next s desk.legal who id c.args.journey.now is c.in-Abort.position _ c.turned.ensures.said);
+    }
 
-pub returns-in-Stop-clause-next : goal.returns-in-Stop-clause-next
-returns-in-Stop-clause-next g c clean s desk keeps who is =
-    rw c.in-Stop.is (stop_next s desk.legal who c.args.id c.args.journey.now is _ c.turned-in-Stop.ensures.said)
+pub returns-in-Stop : goal.returns-in-Stop
+returns-in-Stop c =
+    record {
+      next = λ id s desk who is unfit.
+          rw c.in-Stop.is (stop_next s desk.legal who id c.args.journey.now is _ c.turned-in-Stop.ensures.said);
+    }
 
-pub returns-in-Save-clause-next : goal.returns-in-Save-clause-next
-returns-in-Save-clause-next g c clean s desk keeps who is =
-    rw c.in-Save.is (save_next s desk.legal who c.args.id c.args.journey.now is _ c.saved.ensures.said)
+pub returns-in-Save : goal.returns-in-Save
+returns-in-Save c =
+    record {
+      next = λ id s desk who is unfit.
+          rw c.in-Save.is (save_next s desk.legal who id c.args.journey.now is _ c.saved.ensures.said);
+    }

@@ -1,0 +1,120 @@
+//! Connections to a port of this host, served one after another over the database in a file.
+ghost use Rattle.std.specs.Prelude.{◌≡◌, ◌↔◌, IfErr, IsErr, IsErrOf, IsTrue, OnErr, OnOk};
+ghost use Rattle.saga_core.specs.Books.{LeavesNoMore};
+ghost use Rattle.cli.specs.Ends.{EndsJob, IfDone, TellsReady};
+
+use crate::desks::{FileDesk, close_desk, open_recovered};
+use crate::ends::{End, ProgramFault};
+use crate::lingering::linger;
+use desk_http::{ServeFault, Served, serve};
+use recovery::Ready;
+use saga_core::Book;
+use std::alloc::Global;
+use std::io::Write;
+use std::net::{Ipv4Addr, TcpListener, TcpStream};
+use streams::send;
+
+/// Serves so many connections to a port of 127.0.0.1 over the database in a file, once it is recovered.
+///
+/// Once connections are taken, that is told by the line `ready PORT`.
+pub(crate) fn serve_file<O: Write>(
+    rt: &HostRuntime,
+    alloc: Global,
+    file: &str,
+    port: u16,
+    connections: u16,
+    out: &mut O,
+) -> End
+    ensures job { EndsJob result }
+    ensures told { IfDone result (TellsReady port (O.contents out.old) (O.contents out.new)) }
+{
+    let mut desk = match open_recovered(rt, alloc, file) {
+        Ok((desk, _)) => desk,
+        Err(end) => return end,
+    };
+    let served = End::from(listen(rt, alloc, port, connections, &mut desk, out));
+    served.then(close_desk(desk))
+}
+
+/// The same over a desk that is open.
+fn listen<O: Write>(
+    rt: &HostRuntime,
+    alloc: Global,
+    port: u16,
+    connections: u16,
+    desk: &mut FileDesk,
+    out: &mut O,
+) -> Result<(), ProgramFault>
+    ensures told { OnOk result (TellsReady port (O.contents out.old) (O.contents out.new)) }
+{
+    let Ok(listener) = TcpListener::bind(rt, (Ipv4Addr::LOCALHOST, port)) else {
+        return Err(ProgramFault::Net);
+    };
+    send_ready(alloc, port, out)?;
+    serve_all(alloc, &listener, connections, desk)
+}
+
+/// Writes out that connections to a port are taken.
+fn send_ready<O: Write>(alloc: Global, port: u16, out: &mut O) -> Result<(), ServeFault>
+    ensures sent { OnOk result (TellsReady port (O.contents out.old) (O.contents out.new)) }
+{
+    let line = format!(in alloc; "ready {port}\n")?;
+    Ok(send(out, line.as_bytes())?)
+}
+
+/// Serves so many connections over a book, one after another. One that cannot be taken counts as one.
+fn serve_all<B: Book>(
+    alloc: Global,
+    listener: &TcpListener,
+    connections: u16,
+    book: &mut Ready<B>,
+) -> Result<(), ProgramFault>
+    ensures fault { IfErr result (λ fault. fault ≡ ProgramFault.Store) }
+    ensures failed { OnErr result (IsTrue (B.has_failed book.new)) }
+    ensures stays_failed { IsTrue (B.has_failed book.old) → IsTrue (B.has_failed book.new) }
+    ensures stays_left { IsTrue (B.has_failed book.old) →
+        LeavesNoMore (B.leaves book.old) (B.leaves book.new) }
+
+    ensures sound { B.is_sound book.new → B.is_sound book.old }
+{
+    for _ in 0..connections {
+        let Ok((stream, _)) = listener.accept() else {
+            continue;
+        };
+        serve_one(alloc, &stream, book)?;
+    }
+    Ok(())
+}
+
+/// Serves a connection over a book. Any fault but a failure of the store ends the connection alone.
+fn serve_one<B: Book>(
+    alloc: Global,
+    stream: &TcpStream,
+    book: &mut Ready<B>,
+) -> Result<(), ProgramFault>
+    ensures fault { IfErr result (λ fault. fault ≡ ProgramFault.Store) }
+    ensures failed { OnErr result (IsTrue (B.has_failed book.new)) }
+    ensures stays_failed { IsTrue (B.has_failed book.old) → IsTrue (B.has_failed book.new) }
+    ensures stays_left { IsTrue (B.has_failed book.old) →
+        LeavesNoMore (B.leaves book.old) (B.leaves book.new) }
+
+    ensures sound { B.is_sound book.new → B.is_sound book.old }
+{
+    // A page goes out at once, and does not wait for the next one.
+    let _ = stream.set_nodelay(true);
+    let (mut reader, mut writer) = (stream, stream);
+    let served = serve(alloc, &mut reader, &mut writer, book);
+    linger(alloc, stream);
+    outlive(served)
+}
+
+/// What of the end of a connection ends the desk: a failure of the store.
+fn outlive(served: Result<Served, ServeFault>) -> Result<(), ProgramFault>
+    ensures store { IsErr result ↔ IsErrOf served ServeFault.Store }
+    ensures fault { IfErr result (λ fault. fault ≡ ProgramFault.Store) }
+{
+    match served {
+        Err(ServeFault::Store) => Err(ProgramFault::Store),
+        Ok(_) | Err(ServeFault::Memory | ServeFault::Read | ServeFault::Write) => Ok(()),
+    }
+}

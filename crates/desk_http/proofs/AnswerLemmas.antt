@@ -1,0 +1,82 @@
+-- What comes of messages and demands. For the answer to one message.
+use Rattle.std.proofs.Common.{◌≡◌, ◌∙◌, ap, sym, subst, inl, inr, ℕ, List, Bool, true, false, ◌||◌}
+use Rattle.std.specs.Prelude.{None, Result, Ok, Err, IfOk, IfErr, is_some, codes}
+use Rattle.ledger.specs.Answer.{State}
+use Rattle.messages.specs.Asked.{IsRequest, IsTaken}
+use Rattle.messages.specs.Heads.{Parts, asks_to_close, complaint_of, is_method, parts_of}
+use Rattle.messages.specs.Messages as sent
+use Rattle.messages.specs.declared.requests.Message.TheVariants as taken
+use Rattle.messages.specs.declared.requests.Request.{Request}
+use Rattle.commands.specs.declared.refusals.Refusal.TheVariants.{BadHead}
+use Rattle.pages.specs.Pages.{Paged, denied_page, page_said, page_text, refused_page}
+use Rattle.pages.specs.declared.admitting.Denied.{Denied}
+use Rattle.pages.specs.declared.answers.Page.{Page}
+use Rattle.desk_http.specs.Answering.{Answers, Tells}
+use Rattle.desk_http.specs.Demands.{demand_of}
+use Rattle.desk_http.specs.Pages.{SaysUnless, command_unless, state_by}
+use Rattle.desk_http.specs.declared.answering.Answer.{Answer}
+use Rattle.desk_http.specs.declared.faults.ServeFault.{ServeFault}
+use Rattle.desk_http.specs.declared.faults.ServeFault.TheVariants.{Memory, Read, Store, Write}
+
+-- what is denied changes nothing
+pub denied_says : (stands : State → Type 0) (s : State) (parts : Parts) (body : List ℕ) (page : Paged)
+    (denied : Denied) → complaint_of parts ≡ None → demand_of parts body ≡ Err denied
+    → page ≡ denied_page denied.refusal denied.allow → stands s
+    → SaysUnless (complaint_of parts) s parts body page
+    × stands (state_by s (command_unless (complaint_of parts) (demand_of parts body)))
+denied_says stands s parts body page denied none is said here = rw (none, is) (said, here)
+
+-- a page was laid out as bytes, or memory ran out
+pub record LaidOut (result : Result Answer ServeFault) (page : Paged) (is_head ends : Bool) : Type 0 where
+  pub bytes : IfOk result (λ answer. answer.bytes.items ≡ page_text is_head ends page)
+  pub closes : IfOk result (λ answer. answer.closes ≡ ends)
+  pub memory : IfErr result (λ fault. fault ≡ Memory)
+
+-- bytes that are no head get the page that says so
+pub no_head_answered : (stands : State → Type 0) (leaves : State → State → Type 0) (s : State)
+    (m : sent.Message) (result : Result Answer ServeFault) (page : Page) → IsTaken taken.NoHead m
+    → page_said page ≡ refused_page BadHead → LaidOut result (page_said page) false true → stands s
+    → Answers stands leaves s m result
+no_head_answered stands leaves s sent.NoHead (Ok answer) page is said out here =
+    ((out.bytes ∙ ap (page_text false true) said, out.closes), here)
+no_head_answered stands leaves s sent.NoHead (Err fault) page is said out here =
+    subst (λ f. Answers stands leaves s sent.NoHead (Err f)) (sym out.memory) (inl here)
+no_head_answered stands leaves s (sent.Asks h body) result page is said out here = absurd is
+
+-- a request gets the page of what comes of it
+pub request_answered : (stands : State → Type 0) (leaves : State → State → Type 0) (s : State)
+    (r : Request) (m : sent.Message) (result : Result Answer ServeFault) (page : Page) (closes : Bool)
+    → IsTaken (taken.Asks r) m
+    → ((parts : Parts) (body : List ℕ) → IsRequest r parts body → Tells stands leaves s parts body (Ok page))
+    → closes ≡ (is_some r.complaint || r.closes) → LaidOut result (page_said page) r.is_head closes
+    → Answers stands leaves s m result
+request_answered stands leaves s r sent.NoHead result page closes is told ends out = absurd is
+request_answered stands leaves s r (sent.Asks h body) (Ok answer) page closes is told ends out =
+    let parts = parts_of h in
+    let closing : closes ≡ (is_some (complaint_of parts) || asks_to_close parts) =
+    ends ∙ ap (λ c. is_some c || r.closes) is.complaint ∙ ap (λ c. is_some (complaint_of parts) || c) is.closes in (
+      (
+        record {
+          page = page_said page;
+          says = (told parts body is).0;
+          text = out.bytes ∙ ap (λ head. page_text head closes (page_said page)) is.is_head
+              ∙ ap (λ c. page_text (is_method (codes "HEAD") parts) c (page_said page)) closing;
+        },
+        out.closes ∙ closing,
+      ),
+      (told parts body is).1,
+    )
+request_answered stands leaves s r (sent.Asks h body) (Err fault) page closes is told ends out =
+    subst (λ f. Answers stands leaves s (sent.Asks h body) (Err f)) (sym out.memory)
+    (inr (told (parts_of h) body is).1)
+
+-- where a fault came instead, it leaves what it says
+pub request_failed : (stands : State → Type 0) (leaves : State → State → Type 0) (s : State)
+    (r : Request) (m : sent.Message) (fault : ServeFault) → IsTaken (taken.Asks r) m
+    → ((parts : Parts) (body : List ℕ) → IsRequest r parts body → Tells stands leaves s parts body (Err fault))
+    → Answers stands leaves s m (Err fault)
+request_failed stands leaves s r sent.NoHead fault is told = absurd is
+request_failed stands leaves s r (sent.Asks h body) Memory is told = told (parts_of h) body is
+request_failed stands leaves s r (sent.Asks h body) Store is told = told (parts_of h) body is
+request_failed stands leaves s r (sent.Asks h body) Read is told = absurd (told (parts_of h) body is)
+request_failed stands leaves s r (sent.Asks h body) Write is told = absurd (told (parts_of h) body is)

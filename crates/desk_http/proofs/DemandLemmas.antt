@@ -1,0 +1,19 @@
+-- A body that is refused. For demand_by.
+use Rattle.std.proofs.Common.{◌≡◌, ap, refl, ℕ, List, Bool, true, false}
+use Rattle.std.specs.Prelude.{Result, Ok, Err}
+use Rattle.std.specs.Str.{IsUtf8, is_utf8}
+use Rattle.std.proofs.lemmas.Str.{IsUtf8-from_is_utf8}
+use Rattle.commands.specs.Request.{Request}
+use Rattle.commands.specs.declared.refusals.Refusal.{Refusal}
+use Rattle.pages.specs.Admitting.{plain}
+use Rattle.desk_http.specs.Demands.{Sender, carried, denied_by}
+use Rattle.desk_http.specs.Told.{AsksFor, Demands}
+use Rattle.desk_http.specs.declared.demands.Unmet.{Unmet}
+use Rattle.desk_http.specs.declared.demands.Unmet.TheVariants.{Memory, Refused}
+
+-- a body that is refused asks for nothing
+pub refused_body : (said : Result Request Refusal) (sender : Sender) (e : Unmet) → AsksFor said (Err e)
+    → Demands (denied_by (carried sender said)) (Err e)
+refused_body (Ok asked) sender (Refused denied) told = cc
+refused_body (Err why) sender (Refused denied) told = let same : plain why ≡ denied = cc in ap Err same
+refused_body said sender Memory told = tt

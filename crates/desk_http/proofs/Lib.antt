@@ -1,0 +1,6 @@
+pub mod UnfinishedLemmas
+pub mod DemandLemmas
+pub mod AnswerLemmas
+pub mod ServeLemmas
+pub mod AgainLemmas
+pub mod WorldLemmas

@@ -1,0 +1,28 @@
+-- A message gets the page of what comes of it.
+use Rattle.std.proofs.Common.{subst}
+use Rattle.std.proofs.lemmas.Result.{err_from_is_err_and}
+use Rattle.messages.specs.Asked.{IsTaken}
+use Rattle.desk_http.proofs.AnswerLemmas.{no_head_answered, request_answered, request_failed}
+use Rattle.desk_http.proofs.answering.answer_to.Goals as goal
+
+pub returns-in_err-page-in-Asks-clause-answer : goal.returns-in_err-page-in-Asks-clause-answer
+returns-in_err-page-in-Asks-clause-answer g c = λ sound s stood m is.
+    let book = g.B.Book in
+    let failed = err_from_is_err_and c.from_residual-in_err-page-in-Asks.result c.from_residual-in_err-page-in-Asks.ensures.1 in
+    rw (failed.1, failed.2)
+    (request_failed (book.stands c.page_of.new.book) (book.leaves c.page_of.new.book) s c.in-Asks.request m c.in_err-page-in-Asks.field-0.0
+    (subst (λ taken. IsTaken taken m) c.in-Asks.is is) (c.in_err-page-in-Asks.ensures.page sound s stood))
+
+pub returns-in_ok-page-in-NoHead-clause-answer : goal.returns-in_ok-page-in-NoHead-clause-answer
+returns-in_ok-page-in-NoHead-clause-answer g c = λ sound s stood m is.
+    let book = g.B.Book in
+    no_head_answered (book.stands c.args.book.now) (book.leaves c.args.book.now) s m _ c.in_ok-page-in-NoHead.page
+    (subst (λ taken. IsTaken taken m) c.in-NoHead.is is) c.in_ok-page-in-NoHead.ensures.page
+    (record { bytes = c.new.ensures.bytes; closes = c.new.ensures.closes; memory = c.new.ensures.memory }) stood
+
+pub returns-in_ok-page-in-Asks-clause-answer : goal.returns-in_ok-page-in-Asks-clause-answer
+returns-in_ok-page-in-Asks-clause-answer g c = λ sound s stood m is.
+    let book = g.B.Book in
+    request_answered (book.stands c.page_of.new.book) (book.leaves c.page_of.new.book) s c.in-Asks.request m _ c.in_ok-page-in-Asks.page _
+    (subst (λ taken. IsTaken taken m) c.in-Asks.is is) (c.in_ok-page-in-Asks.ensures.page sound s stood) c.closes.ensures.closes
+    (record { bytes = c.new-in-Asks.ensures.bytes; closes = c.new-in-Asks.ensures.closes; memory = c.new-in-Asks.ensures.memory })

@@ -1,0 +1,11 @@
+-- What is shown changes nothing.
+use Rattle.std.proofs.Common.{subst, sym}
+use Rattle.desk_http.specs.Answering.{Meets}
+use Rattle.desk_http.specs.Told.{demand_said}
+use Rattle.desk_http.proofs.answering.meet.Goals as goal
+
+pub returns-in-SeeJourney-clause-page : goal.returns-in-SeeJourney-clause-page
+returns-in-SeeJourney-clause-page g c = λ sound s stood.
+    let book = g.B.Book in
+    subst (λ demand. Meets (book.stands c.see_journey.new.book) (book.leaves c.see_journey.new.book) s (demand_said demand) c.see_journey.result)
+    (sym c.in-SeeJourney.is) (c.see_journey.ensures.page sound s stood)

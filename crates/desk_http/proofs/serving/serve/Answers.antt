@@ -1,0 +1,24 @@
+-- What was served is how the world goes on.
+use Rattle.desk_http.specs.Serving.{scene}
+use Rattle.desk_http.proofs.WorldLemmas.{messages_go_on, messages_stop}
+use Rattle.desk_http.proofs.serving.serve.Goals as goal
+
+-- with all messages
+pub returns-clause-world : goal.returns-clause-world
+returns-clause-world g c = λ sound.
+    let book = g.B.Book in
+    let contents = g.W.Write.contents in
+    messages_go_on {stood = book.stands c.args.book.now}
+    (scene (contents c.args.writer.now) (contents c.serve_book.new.writer)
+    (book.stands c.serve_book.new.book) (book.leaves c.serve_book.new.book))
+    (g.R.Read.remaining c.args.reader.now) _ (c.serve_book.ensures.all sound)
+
+-- or with a front of them
+pub returns-clause-world_at_fault : goal.returns-clause-world_at_fault
+returns-clause-world_at_fault g c = λ sound.
+    let book = g.B.Book in
+    let contents = g.W.Write.contents in
+    messages_stop {stood = book.stands c.args.book.now}
+    (scene (contents c.args.writer.now) (contents c.serve_book.new.writer)
+    (book.stands c.serve_book.new.book) (book.leaves c.serve_book.new.book))
+    (g.R.Read.remaining c.args.reader.now) _ (c.serve_book.ensures.some sound)

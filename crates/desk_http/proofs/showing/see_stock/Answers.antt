@@ -1,0 +1,18 @@
+-- The text of the report is what a writer that held nothing holds.
+use Rattle.std.proofs.Common.{◌∙◌, ◌++◌, ap, sym}
+use Rattle.pages.specs.Pages.{report_page}
+use Rattle.reports.specs.Layouts.{stock_report}
+use Rattle.desk_http.proofs.showing.see_stock.Goals as goal
+
+pub returns-in-Ok-clause-page : goal.returns-in-Ok-clause-page
+returns-in-Ok-clause-page g c = λ sound s stood.
+    let rows = c.in_ok-rows.rows.items in
+    let written = c.in-Ok.ensures.written tt rows (sym c.deref.ensures.value ∙ c.new.ensures.rows) in (
+      record {
+        rows = rows;
+        are = c.in_ok-rows.ensures.stock sound s stood;
+        shown = c.shown_page.ensures.page
+            ∙ ap report_page (written ∙ ap (λ held. held ++ stock_report rows) c.new-text.ensures.items);
+      },
+      c.in_ok-rows.ensures.same sound s stood,
+    )

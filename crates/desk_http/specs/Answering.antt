@@ -1,0 +1,40 @@
+-- What the answer to a message is, and where it leaves the book.
+use Rattle.std.specs.Prelude.{◌≡◌, ◌⊎◌, ℕ, List, Result, Ok, Err}
+use Rattle.ledger.specs.Answer.{State}
+use Rattle.messages.specs.Heads.{Parts, complaint_of}
+use Rattle.messages.specs.Messages.{Message}
+use Rattle.pages.specs.Pages.{page_said}
+use Rattle.pages.specs.declared.answers.Page.{Page}
+use Rattle.desk_http.specs.Demands.{Demand, demand_of}
+use Rattle.desk_http.specs.Pages.{IsPage, Says, SaysUnless, closes, command_by, command_unless, state_after, state_by}
+use Rattle.desk_http.specs.declared.answering.Answer.{Answer}
+use Rattle.desk_http.specs.declared.faults.ServeFault.{ServeFault}
+use Rattle.desk_http.specs.declared.faults.ServeFault.TheVariants.{Memory, Store}
+
+module _ (stands : State → Type 0) (leaves : State → State → Type 0) (s : State) where
+  -- what was asked for was done, and this holds of what came of it; or a fault came before or after
+  abbrev pub Comes : {T : Type 0} → State → (T → Type 0) → Result T ServeFault → Type 0
+  Comes after So (Ok made) = So made × stands after
+  Comes after So (Err Memory) = stands s ⊎ stands after
+  Comes after So (Err Store) = leaves s after
+  Comes after So (Err _) = ⊥
+
+  -- it is shown, and nothing changes
+  abbrev pub Shows : {T : Type 0} → (T → Type 0) → Result T ServeFault → Type 0
+  Shows So result = Comes s So result
+
+  -- the page says what comes of a demand
+  abbrev pub Meets : Demand → Result Page ServeFault → Type 0
+  Meets demand result =
+      Comes (state_by s (command_by (Ok demand))) (λ page. Says s (Ok demand) (page_said page)) result
+
+  -- the page says what comes of a request with these parts and this body, whose head may be refused
+  abbrev pub Tells : Parts → List ℕ → Result Page ServeFault → Type 0
+  Tells parts body result =
+      Comes (state_by s (command_unless (complaint_of parts) (demand_of parts body)))
+      (λ page. SaysUnless (complaint_of parts) s parts body (page_said page)) result
+
+  -- these are the bytes of the page of a message
+  abbrev pub Answers : Message → Result Answer ServeFault → Type 0
+  Answers m result =
+      Comes (state_after s m) (λ answer. IsPage s m answer.bytes.items × (answer.closes ≡ closes m)) result

@@ -1,0 +1,95 @@
+-- What serving a connection did: what it wrote, and where it left the book.
+use Rattle.std.specs.Prelude.{◌≡◌, ◌⊎◌, ℕ, true, List, [], ◌∷◌, ◌++◌, length, take, Option}
+use Rattle.std.specs.List.{concat}
+use Rattle.std.specs.Io.KnownBytes.{Appends}
+use Rattle.commands.specs.declared.faults.Fault.{Fault}
+use Rattle.commands.specs.declared.faults.Fault.TheVariants as fault
+use Rattle.ledger.specs.Answer.{State}
+use Rattle.messages.specs.declared.faults.ReadFault.{ReadFault}
+use Rattle.messages.specs.declared.faults.ReadFault.TheVariants as reading
+use Rattle.messages.specs.Messages.{Message, BeginsWith, BeginsWithAll, HasNoMessage}
+use Rattle.desk_http.specs.Pages.{ArePages, IsPage, closes, state_after, state_after_all, stays_open}
+use Rattle.desk_http.specs.declared.faults.ServeFault.{ServeFault}
+use Rattle.desk_http.specs.declared.faults.ServeFault.TheVariants.{Memory, Store, Read, Write}
+
+-- the fault of a book, as one of serving
+abbrev pub served_fault : Fault → ServeFault
+served_fault fault.Memory = Memory
+served_fault fault.Store = Store
+
+-- the fault of reading a message
+abbrev pub fault_of_reading : ReadFault → ServeFault
+fault_of_reading reading.Memory = Memory
+fault_of_reading reading.Read = Read
+
+-- what a writer held and holds, for which states a book stands, and what a stop may leave of it
+pub record Scene : Type 1 where
+  pub held : Option (List ℕ)
+  pub holds : Option (List ℕ)
+  pub stands : State → Type 0
+  pub leaves : State → State → Type 0
+
+-- the same, in a row
+abbrev pub scene : Option (List ℕ) → Option (List ℕ) → (State → Type 0) → (State → State → Type 0)
+    → Scene
+scene held holds stands leaves =
+    record { held = held; holds = holds; stands = stands; leaves = leaves }
+
+-- these bytes were written behind what the writer held
+abbrev pub Wrote : Scene → List ℕ → Type 0
+Wrote x bytes = Appends x.held x.holds bytes
+
+-- the input begins with these messages, and then comes the rest; their pages are these
+pub record Answered (s : State) (input : List ℕ) (messages : List Message) (rest : List ℕ) (pages : List (List ℕ))
+    : Type 0 where
+  pub begins : BeginsWithAll input messages rest
+  pub are : ArePages s messages pages
+
+-- the last of these messages closes, and no other
+abbrev pub EndsWithClosing : List Message → Type 0
+EndsWithClosing messages =
+    (front : List Message) × (last : Message) × (messages ≡ front ++ last ∷ [])
+    × (stays_open front ≡ true) × (closes last ≡ true)
+
+-- none of these messages closes, and no message comes behind them
+abbrev pub EndsWithInput : List Message → List ℕ → Type 0
+EndsWithInput messages rest = (stays_open messages ≡ true) × HasNoMessage rest
+
+-- all messages were answered, up to and with the first that closes: their pages were written, and nothing else
+pub record ServesAll (x : Scene) (s : State) (input : List ℕ) (count : ℕ) : Type 0 where
+  pub messages : List Message
+  pub rest : List ℕ
+  pub pages : List (List ℕ)
+  pub answered : Answered s input messages rest pages
+  pub ends : EndsWithClosing messages ⊎ EndsWithInput messages rest
+  pub sent : Wrote x (concat pages)
+  pub counted : count ≡ length pages
+  pub left : x.stands (state_after_all s messages)
+
+-- the rest begins with a next message, and this holds of it
+abbrev pub ForNext : List ℕ → (Message → Type 0) → Type 0
+ForNext rest So = (next : Message) × (after : List ℕ) × BeginsWith rest next after × So next
+
+-- besides, a beginning of the page of this message was written, and the book stands where it leads
+abbrev pub IsCut : Scene → State → List (List ℕ) → Message → Type 0
+IsCut x t pages next =
+    (page : List ℕ) × (part : ℕ) × IsPage t next page × Wrote x (concat pages ++ take part page)
+    × x.stands (state_after t next)
+
+-- what each fault leaves, where these pages were written, which lead here, and this rest comes later
+abbrev pub Leaves : ServeFault → Scene → State → List (List ℕ) → List ℕ → Type 0
+Leaves Read x t pages rest = Wrote x (concat pages) × x.stands t
+Leaves Write x t pages rest = ForNext rest (IsCut x t pages)
+Leaves Memory x t pages rest =
+    Wrote x (concat pages) × (x.stands t ⊎ ForNext rest (λ next. x.stands (state_after t next)))
+Leaves Store x t pages rest =
+    Wrote x (concat pages) × ForNext rest (λ next. x.leaves t (state_after t next))
+
+-- the first messages were answered, of which none closes, and then came a fault
+pub record ServesSome (x : Scene) (s : State) (input : List ℕ) (fault : ServeFault) : Type 0 where
+  pub messages : List Message
+  pub rest : List ℕ
+  pub pages : List (List ℕ)
+  pub answered : Answered s input messages rest pages
+  pub stays : stays_open messages ≡ true
+  pub leaves : Leaves fault x (state_after_all s messages) pages rest

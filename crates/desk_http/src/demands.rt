@@ -1,0 +1,101 @@
+//! What a request asks of the desk.
+ghost use Rattle.std.specs.Prelude.{◌≡◌, List, ℕ};
+ghost use Rattle.messages.specs.Asked.{IsRequest};
+ghost use Rattle.messages.specs.Heads.{Parts};
+ghost use Rattle.pages.specs.Admitting.{plain};
+ghost use Rattle.desk_http.specs.Demands.{demand_of, demanded};
+ghost use Rattle.desk_http.specs.Told.{Demands, denied_by, sender_said};
+ghost use Rattle.desk_http.specs.declared.demands.Unmet.TheVariants.{Memory, Refused};
+
+use crate::bodies::{bare, begin, load};
+use crate::senders::Sender;
+use commands::{Agent, Ask, Command, Refusal};
+use messages::Request;
+use pages::{Denied, Paths, Route, admit};
+use std::alloc::{AllocError, Global};
+
+/// What a request asks for, once all is well with it.
+#[derive(Drop)]
+pub(crate) enum Demand {
+    /// Carry this out, under an agent and a key.
+    Carry(Command, Ask),
+    /// Show an agent the journey of this number.
+    SeeJourney(Agent, u64),
+    /// Show an agent its journeys that are not finished.
+    SeeUnfinished(Agent),
+    /// Show the stock.
+    SeeStock,
+}
+
+/// Why a request asks for nothing.
+#[derive(Clone, Copy, Debug, PartialEq, Eq)]
+pub(crate) enum Unmet {
+    /// Something is wrong with it.
+    Refused(Denied),
+    /// Memory ran out.
+    Memory,
+}
+
+impl From<Denied> for Unmet {
+    ghost from_gives = { λ denied unmet. unmet ≡ Refused denied };
+
+    fn from(denied: Denied) -> Unmet {
+        Unmet::Refused(denied)
+    }
+}
+
+impl From<Refusal> for Unmet {
+    ghost from_gives = { λ refusal unmet. unmet ≡ Refused (plain refusal) };
+
+    fn from(refusal: Refusal) -> Unmet {
+        Unmet::Refused(Denied::from(refusal))
+    }
+}
+
+impl From<AllocError> for Unmet {
+    ghost from_gives = { λ _ unmet. unmet ≡ Memory };
+
+    fn from(_error: AllocError) -> Unmet {
+        Unmet::Memory
+    }
+}
+
+/// What a request asks for, or the first thing that is wrong with it: path, method, agent, key, the
+/// parts of the path, the body.
+pub(crate) fn demand_in(alloc: Global, paths: &Paths, request: &Request) -> Result<Demand, Unmet>
+    ensures demand { (parts : Parts) → (body : List ℕ) → IsRequest request.now parts body →
+        Demands (demand_of parts body) result }
+{
+    let found = paths.route(&request.method, &request.target);
+    let (has_agent, has_key) = (request.agent.is_some(), request.key.is_some());
+    let is_post = request.method.as_slice() == b"POST".as_slice();
+    let route = admit(found, has_agent, has_key, is_post)?;
+    let Some(agent) = request.agent else {
+        return Err(Unmet::from(Refusal::NoAgent));
+    };
+    let sender = Sender {
+        agent,
+        key: request.key,
+        target: &request.target,
+        body: &request.body,
+    };
+    demand_by(alloc, route, &sender)
+}
+
+/// What a sender asks for by a route.
+fn demand_by(alloc: Global, route: Route, sender: &Sender<'_>) -> Result<Demand, Unmet>
+    ensures demand { Demands (denied_by (demanded route (sender_said sender.now))) result }
+{
+    match route {
+        Route::LoadBatch(name) => sender.carry(alloc, load(alloc, name, sender.body)?),
+        Route::Begin => sender.carry(alloc, begin(alloc, sender.body)?),
+        Route::Step(id) => sender.carry(alloc, bare(sender.body, Command::Step(id))?),
+        Route::Abort(id, position) => {
+            sender.carry(alloc, bare(sender.body, Command::Abort(id, position))?)
+        }
+        Route::Save(id) => sender.carry(alloc, bare(sender.body, Command::Save(id))?),
+        Route::ShowJourney(id) => Ok(Demand::SeeJourney(sender.agent, id)),
+        Route::ShowUnfinished => Ok(Demand::SeeUnfinished(sender.agent)),
+        Route::ShowStock => Ok(Demand::SeeStock),
+    }
+}

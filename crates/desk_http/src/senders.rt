@@ -1,0 +1,43 @@
+//! Who sent a request, and with what.
+ghost use Rattle.std.specs.Prelude.{◌≡◌, IfOk, Ok};
+ghost use Rattle.commands.specs.Orders.{request_of};
+ghost use Rattle.desk_http.specs.Demands.{carried, text_of};
+ghost use Rattle.desk_http.specs.Told.{Demands, denied_by, sender_said};
+
+use crate::demands::{Demand, Unmet};
+use commands::{Agent, Ask, Command, Key, Refusal};
+use std::alloc::{AllocError, Global};
+
+/// Who asks, under which key, with which target and body.
+#[derive(Clone, Copy)]
+pub(crate) struct Sender<'a> {
+    pub(crate) agent: Agent,
+    pub(crate) key: Option<Key>,
+    pub(crate) target: &'a [u8],
+    pub(crate) body: &'a [u8],
+}
+
+impl Sender<'_> {
+    /// A command is carried out under the sender's key; without a key none is.
+    pub(crate) fn carry(&self, alloc: Global, command: Command) -> Result<Demand, Unmet>
+        ensures carry { Demands
+            (denied_by (carried (sender_said self.now) (Ok (request_of command)))) result }
+    {
+        let Some(key) = self.key else {
+            return Err(Unmet::from(Refusal::NoKey));
+        };
+        let text = self.text(alloc)?;
+        Ok(Demand::Carry(command, Ask::new(self.agent, key, text)))
+    }
+
+    /// The text under which a command is kept: the target, a line feed and the body.
+    fn text(&self, alloc: Global) -> Result<Vec<u8>, AllocError>
+        ensures text { IfOk result (λ text. text.items ≡ text_of (sender_said self.now)) }
+    {
+        let mut text = Vec::with_capacity(alloc, self.target.len())?;
+        text.extend_from_slice(self.target)?;
+        text.push(b'\n')?;
+        text.extend_from_slice(self.body)?;
+        Ok(text)
+    }
+}

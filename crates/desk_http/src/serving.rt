@@ -1,0 +1,95 @@
+//! Serving a connection.
+ghost use Rattle.std.specs.Prelude.{◌≡◌, IfOk, IfErr, IfSome, IsErrOf, IsTrue, OnOk};
+ghost use Rattle.ledger.specs.Answer.{State};
+ghost use Rattle.saga_core.specs.Books.{LeavesNoMore};
+ghost use Rattle.desk_http.specs.Serving.{ServesAll, ServesSome, scene};
+ghost use Rattle.desk_http.specs.Worlds.{GoesOnWithMessages, GoesOnAmongMessages};
+
+use crate::answering::answer_to;
+use crate::faults::ServeFault;
+use messages::Incoming;
+use pages::Paths;
+use recovery::Ready;
+use saga_core::Book;
+use std::alloc::Global;
+use std::io::{Read, Write};
+use streams::send;
+
+/// What was served.
+#[derive(Clone, Copy, Debug, PartialEq, Eq)]
+pub struct Served {
+    /// How many pages were written.
+    pub pages: u64,
+}
+
+/// Answers the messages of a connection, each by its page, up to and with the first closing one.
+///
+/// Each page is written out and flushed before the next message is looked for, and nothing is read
+/// while a whole message waits. A message that the end of the input cuts off gets no page.
+pub fn serve<R: Read, W: Write, B: Book>(
+    alloc: Global,
+    reader: &mut R,
+    writer: &mut W,
+    book: &mut Ready<B>,
+) -> Result<Served, ServeFault>
+    ensures all { B.is_sound book.new → (s : State) → B.stands book.old s →
+        IfSome (R.remaining reader.old) (λ input. IfOk result (λ served. ServesAll
+        (scene (W.contents writer.old) (W.contents writer.new)
+        (B.stands book.new) (B.leaves book.new)) s input served.pages)) }
+
+    ensures some { B.is_sound book.new → (s : State) → B.stands book.old s →
+        IfSome (R.remaining reader.old) (λ input. IfErr result (ServesSome
+        (scene (W.contents writer.old) (W.contents writer.new)
+        (B.stands book.new) (B.leaves book.new)) s input)) }
+
+    ensures world { B.is_sound book.new → IfSome (R.remaining reader.old) (λ input.
+        OnOk result (GoesOnWithMessages (B.stands book.old) (B.stands book.new) input)) }
+    ensures world_at_fault { B.is_sound book.new → IfSome (R.remaining reader.old) (λ input.
+        IfErr result (GoesOnAmongMessages (B.stands book.old) (B.stands book.new) (B.leaves book.new) input)) }
+    ensures failed { IsErrOf result ServeFault.Store → IsTrue (B.has_failed book.new) }
+    ensures stays_failed { IsTrue (B.has_failed book.old) → IsTrue (B.has_failed book.new) }
+    ensures stays_left { IsTrue (B.has_failed book.old) →
+        LeavesNoMore (B.leaves book.old) (B.leaves book.new) }
+
+    ensures sound { B.is_sound book.new → B.is_sound book.old }
+{
+    serve_book(alloc, reader, writer, book)
+}
+
+/// The same over any book.
+fn serve_book<R: Read, W: Write, B: Book>(
+    alloc: Global,
+    reader: &mut R,
+    writer: &mut W,
+    book: &mut B,
+) -> Result<Served, ServeFault>
+    ensures all { B.is_sound book.new → (s : State) → B.stands book.old s →
+        IfSome (R.remaining reader.old) (λ input. IfOk result (λ served. ServesAll
+        (scene (W.contents writer.old) (W.contents writer.new)
+        (B.stands book.new) (B.leaves book.new)) s input served.pages)) }
+
+    ensures some { B.is_sound book.new → (s : State) → B.stands book.old s →
+        IfSome (R.remaining reader.old) (λ input. IfErr result (ServesSome
+        (scene (W.contents writer.old) (W.contents writer.new)
+        (B.stands book.new) (B.leaves book.new)) s input)) }
+    ensures failed { IsErrOf result ServeFault.Store → IsTrue (B.has_failed book.new) }
+    ensures stays_failed { IsTrue (B.has_failed book.old) → IsTrue (B.has_failed book.new) }
+    ensures stays_left { IsTrue (B.has_failed book.old) →
+        LeavesNoMore (B.leaves book.old) (B.leaves book.new) }
+
+    ensures sound { B.is_sound book.new → B.is_sound book.old }
+{
+    let paths = Paths::new(alloc)?;
+    let mut incoming = Incoming::new(alloc)?;
+    for pages in 0..u64::MAX {
+        let Some(message) = incoming.next_message(reader)? else {
+            return Ok(Served { pages });
+        };
+        let answer = answer_to(alloc, &paths, &message, book)?;
+        send(writer, &answer.bytes)?;
+        if answer.closes {
+            return Ok(Served { pages: pages + 1 });
+        }
+    }
+    Err(ServeFault::Read)
+}

@@ -1,0 +1,39 @@
+//! The items of a journey, each asked for behind the event of the one before.
+//!
+//! The store looks no further than the item that is found.
+
+ghost use Rattle.std.specs.Prelude.{◌≡◌, ◌<◌, ◌^◌, false};
+ghost use Rattle.desk_sql.specs.Calls.{Reads, FailsQuietly, LeavesNoMore};
+ghost use Rattle.desk_sql.specs.Found.{FindsNextItem};
+
+use crate::items::{ItemFound, read_item};
+use crate::queries::first_row;
+use sqlite::types::ValueRef;
+use sqlite::{Alter, Connection, Error};
+
+/// The first item of a journey of which the event has a number above this one, if there is one.
+pub fn next_item<S: Alter>(
+    conn: &mut Connection<S>,
+    journey: u64,
+    after: u64,
+) -> Result<Option<ItemFound>, Error>
+    requires journey { journey < 2 ^ 63 }
+    requires after { after < 2 ^ 63 }
+
+    ensures found { Reads S.Store conn.old conn.new result (FindsNextItem journey after) }
+    ensures failed { FailsQuietly S.Store conn.old conn.new result }
+    ensures mode { conn.old.in_transaction ≡ false → conn.new.in_transaction ≡ false }
+    ensures survives { LeavesNoMore S.Store conn.old conn.new }
+{
+    match first_row(
+        conn,
+        "SELECT num, item, a, b FROM entry2 WHERE journey = ?1 AND num > ?2 ORDER BY num",
+        &[ValueRef::Int(journey as i64), ValueRef::Int(after as i64)],
+    )? {
+        Some(row) => {
+            let item = read_item(&row)?;
+            Ok(Some(item))
+        }
+        None => Ok(None),
+    }
+}

@@ -1,0 +1,12 @@
+mod closing;
+mod desks;
+mod fakes;
+mod faults;
+mod heads;
+mod keys;
+mod limits;
+mod moves;
+mod orders;
+mod refusals;
+mod sockets;
+mod talks;

@@ -1,0 +1,283 @@
+-- A history item by item: each may come after those before it, where the journey stands after it,
+-- and with which of them it is finished. For those who read a history one item at a time.
+use Rattle.std.proofs.Common.{◌≡◌, ℕ, zero, suc, ◌+◌, ◌-◌, ◌<◌, ◌⊎◌, List, [], ◌∷◌, ◌++◌, refl, ap, sym, ◌∙◌, subst, arith, append_assoc, append-nil, eqb-true, eq-eqb, inl, inr}
+use Rattle.std.proofs.lemmas.Bool.{ne_eqb, eqb-false}
+use Rattle.std.proofs.lemmas.Bool.Decides.{nat_tests}
+use Rattle.std.specs.Prelude.{Bool, true, false, ◌==◌, ◌&&◌, ◌||◌, nat_lt, Option, Some, None, if◌then◌else◌, IsTrue}
+use Rattle.plan.specs.Planned.{Planned, step_count, numbered}
+use Rattle.commands.specs.declared.items.Cause.{Cause}
+use Rattle.commands.specs.declared.items.Cause.TheVariants.{Stop, Refused, Asked}
+use Rattle.commands.specs.declared.items.Item.{Item}
+use Rattle.commands.specs.declared.items.Item.TheVariants.{Transaction, Compensation, Turn, Save}
+use Rattle.commands.specs.declared.items.Phase.{Phase}
+use Rattle.commands.specs.declared.items.Phase.TheVariants.{Run, Back, Ended, Undone}
+use Rattle.ledger.specs.History.{position_of, going_to, has_turned_to_start, phase, phase_at, back_or_run, is_finished, may_come, may_turn, next_want}
+use Rattle.ledger.specs.Ledger.{Event, Loaded, Began, Did, Journey, journeys, journey_at, history, fits, is_allowed, IsLegal}
+use Rattle.ledger.proofs.Coming.{step-comes, compensation-comes, stop-comes, refused-comes, save-comes}
+use Rattle.ledger.proofs.Deciding.{finished-none}
+use Rattle.ledger.proofs.Going.{turned-turn, turned-other}
+use Rattle.ledger.proofs.Growing.{Keeps, induct, journeys-began, journeys-loaded, journeys-did, history-began, history-loaded, history-did_same, history-did_other, is_item_allowed-may_do}
+use Rattle.ledger.proofs.Journeys.{goes-begin, goes-more}
+use Rattle.ledger.proofs.Ledgers.{all_go}
+use Rattle.ledger.proofs.Lists.{numbered-snoc}
+use Rattle.ledger.proofs.Modes.{Rising, Mode, rises, falls, fell, Goes, upward, runs, ended, phase-fallen, running-rises, going_back-falls}
+use Rattle.ledger.proofs.Standing.{compensates, position_of-transaction, position_of-turn, position_of-save}
+
+-- One item after another.
+
+-- the item may come next after this history, where the next want fits or does not
+pub record Comes (plan : Planned) (h : List Item) (x : Item) : Type 0 where
+  pub fits : Bool
+  pub may : IsTrue (may_come plan h fits x)
+
+-- each of these items may come after those before it
+abbrev pub AllCome : Planned → List Item → List Item → Type 0
+AllCome plan before [] = Unit {0}
+AllCome plan before (x ∷ later) = Comes plan before x × AllCome plan (before ++ x ∷ []) later
+
+-- one more at the end may come after all of them
+all_come-snoc : (plan : Planned) (before h : List Item) (x : Item) → AllCome plan before h
+    → Comes plan (before ++ h) x → AllCome plan before (h ++ x ∷ [])
+all_come-snoc plan before [] x all one =
+    (subst (λ g. Comes plan g x) (append-nil before) one, tt)
+all_come-snoc plan before (y ∷ h) x all one = (
+  all.0,
+  all_come-snoc plan (before ++ y ∷ []) h x all.1
+      (subst (λ g. Comes plan g x) (sym (append_assoc before (y ∷ []) h)) one),
+)
+
+-- the items of each journey may come one after another
+abbrev EachComes : List Event → Type 0
+EachComes l = (j : ℕ) (a : Journey) → journey_at l j ≡ Some a → AllCome a.plan [] (history l j)
+
+come-began : (l : List Event) (agent : List ℕ) (plan : _) → IsLegal l → EachComes l
+    → EachComes (l ++ Began agent plan ∷ [])
+come-began l agent plan legal all j a e =
+    subst (AllCome a.plan []) (sym (history-began l agent plan j))
+    (old_or_new (numbered-snoc (journeys l) new j a (ap (λ js. numbered js j) (sym (journeys-began l agent plan)) ∙ e)))
+  where
+    new : Journey
+    new = record { agent = agent; plan = plan }
+
+    old_or_new : {X : Type 0} → (journey_at l j ≡ Some a) ⊎ ((journey_at l j ≡ None) × X)
+        → AllCome a.plan [] (history l j)
+    old_or_new (inl old) = all j a old
+    old_or_new (inr now) =
+        subst (AllCome a.plan []) (sym ((all_go l legal).none j now.0)) tt
+
+come-did : (l : List Event) (k : ℕ) (item : Item) → IsTrue (is_allowed l (Did k item)) → EachComes l
+    → EachComes (l ++ Did k item ∷ [])
+come-did l k item may all j a e =
+    go (ap (λ js. numbered js j) (sym (journeys-did l k item)) ∙ e) (j == k) refl
+  where
+    go : journey_at l j ≡ Some a → (v : Bool) → (j == k) ≡ v
+        → AllCome a.plan [] (history (l ++ Did k item ∷ []) j)
+    go is true same =
+        let at : journey_at l k ≡ Some a = ap (journey_at l) (sym (eqb-true _ _ same)) ∙ is in
+        let comes : Comes a.plan (history l k) item = record {
+          fits = fits l (next_want a.plan (history l k));
+          may = sym (is_item_allowed-may_do l k item a at) ∙ may;
+        } in
+        subst (AllCome a.plan []) (sym (history-did_same l k item j same))
+        (all_come-snoc a.plan [] (history l j) item (all j a is)
+        (subst (λ i. Comes a.plan (history l i) item) (sym (eqb-true _ _ same)) comes))
+    go is false other =
+        subst (AllCome a.plan []) (sym (history-did_other l k item j other)) (all j a is)
+
+come-more : Keeps EachComes
+come-more l (Loaded name rows) legal may all j a e =
+    subst (AllCome a.plan []) (sym (history-loaded l name rows j))
+    (all j a (ap (λ js. numbered js j) (sym (journeys-loaded l name rows)) ∙ e))
+come-more l (Began agent plan) legal may all j a e = come-began l agent plan legal all j a e
+come-more l (Did k item) legal may all j a e = come-did l k item may all j a e
+
+all_come : (l : List Event) → IsLegal l → EachComes l
+all_come = induct EachComes none come-more
+  where
+    none : (j : ℕ) (a : Journey) → journey_at [] j ≡ Some a → AllCome a.plan [] []
+    none j a e = tt
+
+-- after the first items of a history the journey is on its word, and each later one may come
+all_come-split : (plan : Planned) (before h rest : List Item) → Goes plan before
+    → AllCome plan before (h ++ rest) → Goes plan (before ++ h) × AllCome plan (before ++ h) rest
+all_come-split plan before [] rest g all = (
+  subst (Goes plan) (sym (append-nil before)) g,
+  subst (λ b. AllCome plan b rest) (sym (append-nil before)) all,
+)
+all_come-split plan before (x ∷ h) rest g all =
+    let both = all_come-split plan (before ++ x ∷ []) h rest
+    (goes-more plan before all.0.fits x g all.0.may) all.1 in (
+      subst (Goes plan) (append_assoc before (x ∷ []) h) both.0,
+      subst (λ b. AllCome plan b rest) (append_assoc before (x ∷ []) h) both.1,
+    )
+
+-- a history goes on with this item, and then with the later ones
+pub record GoesOn (plan : Planned) (h : List Item) (x : Item) (later : List Item) : Type 0 where
+  pub goes : Goes plan h
+  pub comes : Comes plan h x
+  pub rest : AllCome plan (h ++ x ∷ []) later
+
+-- so does that of each journey of a legal ledger, wherever it is cut
+pub goes_on : (l : List Event) (legal : IsLegal l) (j : ℕ) (a : Journey) → journey_at l j ≡ Some a
+    → (h : List Item) (x : Item) (later : List Item) → history l j ≡ h ++ x ∷ later
+    → GoesOn a.plan h x later
+goes_on l legal j a at h x later e =
+    let both = all_come-split a.plan [] h (x ∷ later) (goes-begin a.plan)
+    (subst (AllCome a.plan []) e (all_come l legal j a at)) in
+    record { goes = both.0; comes = both.1.0; rest = both.1.1 }
+
+-- Where it stands.
+
+module _ (plan : Planned) (h later : List Item) where
+  pub stands-transaction : (i c : ℕ) → GoesOn plan h (Transaction i c) later
+      → position_of (h ++ Transaction i c ∷ []) ≡ i
+  stands-transaction i c on =
+      let comes = step-comes plan h on.comes.fits i c on.comes.may in
+      position_of-transaction h i c ∙ sym comes.step
+
+  pub stands-compensation : (i c : ℕ) → GoesOn plan h (Compensation i c) later
+      → position_of (h ++ Compensation i c ∷ []) ≡ i - 1
+  stands-compensation i c on =
+      let k = compensates h i c on.goes.stands (compensation-comes plan h on.comes.fits i c on.comes.may).last in
+      let last = k.is_last in
+      let lower = k.lower in
+      omega arith
+
+-- With which item it is finished.
+
+-- by whether all steps stand, or none after a turn to the start
+finished_at : (n pos : ℕ) (turned : Bool) (going : Option ℕ)
+    → is_finished (phase_at n pos turned going) ≡ ((pos == n) || (turned && (pos == 0)))
+finished_at n pos turned going = go (pos == n) (turned && (pos == 0))
+  where
+    open_yet : (o : Option ℕ) → is_finished (back_or_run pos o) ≡ false
+    open_yet None = refl
+    open_yet (Some p) = by (nat_lt p pos)
+      where
+        by : (v : Bool) → is_finished (if v then Back p else Run) ≡ false
+        by true = refl
+        by false = refl
+
+    go : (a b : Bool)
+        → is_finished (if a then Ended else if b then Undone else back_or_run pos going) ≡ (a || b)
+    go true b = refl
+    go false true = refl
+    go false false = open_yet going
+
+-- the same, of a history by its position and whether it turned to the start
+finished_by : (plan : Planned) (h : List Item) (pos : ℕ) (turned : Bool) → position_of h ≡ pos
+    → has_turned_to_start h ≡ turned
+    → is_finished (phase plan h) ≡ ((pos == step_count plan) || (turned && (pos == 0)))
+finished_by plan h pos turned at is =
+    finished_at (step_count plan) (position_of h) (has_turned_to_start h) (going_to h)
+    ∙ ap (λ p. (p == step_count plan) || (has_turned_to_start h && (p == 0))) at
+    ∙ ap (λ t. (pos == step_count plan) || (t && (pos == 0))) is
+
+and_no : (v : Bool) → (v && false) ≡ false
+and_no true = refl
+and_no false = refl
+
+or_no : (v : Bool) → (v || false) ≡ v
+or_no true = refl
+or_no false = refl
+
+swapped : (a b : ℕ) → (a == b) ≡ (b == a)
+swapped a b = grind (arith, nat_tests)
+
+-- the first step is compensated on the way to the start alone
+first_back : (i target : ℕ) → target < i → ((0 == target) && (i - 1 == 0)) ≡ (i == 1)
+first_back i target above = go (i == 1) refl
+  where
+    go : (v : Bool) → (i == 1) ≡ v → ((0 == target) && (i - 1 == 0)) ≡ v
+    go true e =
+        let is = eqb-true i 1 e in
+        ap (λ b. b && (i - 1 == 0)) (eq-eqb 0 target (omega arith)) ∙ eq-eqb (i - 1) 0 (omega arith)
+    go false e =
+        let other = eqb-false i 1 e in
+        ap (λ b. (0 == target) && b) (ne_eqb (i - 1) 0 (λ z. omega arith)) ∙ and_no (0 == target)
+
+module _ (plan : Planned) (h later : List Item) where
+  -- with the transaction of the last step
+  pub finished-transaction : (i c : ℕ) → GoesOn plan h (Transaction i c) later
+      → is_finished (phase plan (h ++ Transaction i c ∷ [])) ≡ (i == step_count plan)
+  finished-transaction i c on =
+      let comes = step-comes plan h on.comes.fits i c on.comes.may in
+      let up = running-rises plan h on.goes.mode comes.running in
+      finished_by plan (h ++ Transaction i c ∷ []) i false (stands-transaction plan h later i c on)
+      (turned-other h (Transaction i c) refl ∙ up.0.unturned)
+      ∙ or_no (i == step_count plan)
+
+  -- with the compensation of the first one
+  pub finished-compensation : (i c : ℕ) → GoesOn plan h (Compensation i c) later
+      → is_finished (phase plan (h ++ Compensation i c ∷ [])) ≡ (i == 1)
+  finished-compensation i c on =
+      let comes = compensation-comes plan h on.comes.fits i c on.comes.may in
+      let f = going_back-falls plan h on.goes.mode comes.back in
+      let k = compensates h i c on.goes.stands comes.last in
+      let last = k.is_last in
+      let lower = k.lower in
+      let top = f.falls in
+      let short = f.short in
+      let above = f.above in
+      finished_by plan (h ++ Compensation i c ∷ []) (i - 1) (0 == f.target) (omega arith)
+      (turned-other h (Compensation i c) refl ∙ f.turned)
+      ∙ ap (λ v. v || ((0 == f.target) && (i - 1 == 0))) (ne_eqb (i - 1) (step_count plan) (λ e. omega arith))
+      ∙ first_back i f.target (omega arith)
+
+  -- with a turn to the start where no step stands
+  turned_running : (p : ℕ) (cause : Cause) → Rising plan h × (position_of h < step_count plan)
+      → is_finished (phase plan (h ++ Turn p cause ∷ [])) ≡ ((p == 0) && (position_of h == 0))
+  turned_running p cause up =
+      let below = up.1 in
+      finished_by plan (h ++ Turn p cause ∷ []) (position_of h) (0 == p) (position_of-turn h p cause)
+      (turned-turn h p cause up.0.unturned)
+      ∙ ap (λ v. v || ((0 == p) && (position_of h == 0))) (ne_eqb (position_of h) (step_count plan) (λ e. omega arith))
+      ∙ ap (λ v. v && (position_of h == 0)) (swapped 0 p)
+
+  pub finished-turn : (p : ℕ) (cause : Cause) → GoesOn plan h (Turn p cause) later
+      → is_finished (phase plan (h ++ Turn p cause ∷ [])) ≡ ((p == 0) && (position_of h == 0))
+  finished-turn p Stop on =
+      turned_running p Stop (running-rises plan h on.goes.mode (stop-comes plan h on.comes.fits p on.comes.may).0)
+  finished-turn p Refused on =
+      turned_running p Refused (running-rises plan h on.goes.mode (refused-comes plan h on.comes.fits p on.comes.may).running)
+  finished-turn p Asked on = by_mode on.goes.mode
+    where
+      at : (q : Phase) → phase plan h ≡ q → may_turn plan h q p ≡ true
+      at q e = ap (λ r. may_turn plan h r p) (sym e) ∙ on.comes.may
+
+      by_mode : Mode plan h
+          → is_finished (phase plan (h ++ Turn p Asked ∷ [])) ≡ ((p == 0) && (position_of h == 0))
+      by_mode (rises r) = elim (upward plan h r) [
+        | runs below e ↦ turned_running p Asked (r, below)
+        | ended top e ↦ absurd (let bad : false ≡ true = at Ended e in cc)
+      ]
+      by_mode (falls f) =
+          let top = f.falls in
+          let short = f.short in
+          let above = f.above in
+          let stands = ne_eqb (position_of h) 0 (λ e. omega arith) in
+          let t = has_turned_to_start (h ++ Turn p Asked ∷ []) in
+          finished_by plan (h ++ Turn p Asked ∷ []) (position_of h) t (position_of-turn h p Asked) refl
+          ∙ ap (λ v. v || (t && (position_of h == 0))) (ne_eqb (position_of h) (step_count plan) (λ e. omega arith))
+          ∙ ap (λ v. t && v) stands ∙ and_no t
+          ∙ sym (ap (λ v. (p == 0) && v) stands ∙ and_no (p == 0))
+      by_mode (fell f) = absurd (let bad : false ≡ true = at Undone (phase-fallen plan h f) in cc)
+
+  -- with no save-point
+  pub finished-save : (p : ℕ) → GoesOn plan h (Save p) later
+      → is_finished (phase plan (h ++ Save p ∷ [])) ≡ false
+  finished-save p on =
+      let up = running-rises plan h on.goes.mode (save-comes plan h on.comes.fits p on.comes.may) in
+      let below = up.1 in
+      finished_by plan (h ++ Save p ∷ []) (position_of h) false (position_of-save h p)
+      (turned-other h (Save p) refl ∙ up.0.unturned)
+      ∙ ap (λ v. v || false) (ne_eqb (position_of h) (step_count plan) (λ e. omega arith))
+
+  -- and then no item comes later
+  pub none_later : (x : Item) → GoesOn plan h x later
+      → is_finished (phase plan (h ++ x ∷ [])) ≡ true → later ≡ []
+  none_later x on finished = go later on.rest
+    where
+      go : (items : List Item) → AllCome plan (h ++ x ∷ []) items → items ≡ []
+      go [] rest = refl
+      go (y ∷ items) rest = absurd (finished-none plan (h ++ x ∷ []) rest.0.fits y finished rest.0.may)

@@ -1,0 +1,42 @@
+-- Beginnings of what was written. For reports in their parts.
+use Rattle.std.proofs.Common.{◌≡◌, ◌∙◌, append-nil, sym, subst, min, List, [], ◌++◌, ℕ, ◌+◌, length, take, arith}
+use Rattle.std.specs.Prelude.{Option, Some, None}
+use Rattle.std.proofs.lemmas.List.{take_min}
+use Rattle.std.proofs.Math.Seq.{take-append-add, take-append-le, take-length}
+use Rattle.std.specs.Io.KnownBytes.{Appends}
+use Rattle.streams.specs.Written.{WroteFront}
+use Rattle.streams.proofs.ByteLemmas.{appends_more}
+
+-- no byte was written
+pub appends_none : (x : Option (List ℕ)) → Appends x x []
+appends_none None = tt
+appends_none (Some xs) = sym (append-nil xs)
+
+-- nothing is a beginning
+pub front_none : (x : Option (List ℕ)) (bytes : List ℕ) → WroteFront x x bytes
+front_none x bytes = (0, appends_none x)
+
+-- the whole is a beginning
+pub front_whole : (x y : Option (List ℕ)) (bytes : List ℕ) → Appends x y bytes → WroteFront x y bytes
+front_whole x y bytes sent = (length bytes, subst (Appends x y) (sym (take-length bytes)) sent)
+
+-- a beginning of the first bytes is one of all
+pub front_before : (x y : Option (List ℕ)) (us bs : List ℕ)
+    → WroteFront x y us
+    → WroteFront x y (us ++ bs)
+front_before x y us bs front =
+    let part = min front.0 (length us) in
+    let same : take part (us ++ bs) ≡ take front.0 us =
+    take-append-le part us bs (omega arith) ∙ take_min front.0 us in
+    (part, subst (Appends x y) (sym same) front.1)
+
+-- the first bytes, and a beginning of the others, are a beginning of all
+pub front_after : (x y z : Option (List ℕ)) (us bs : List ℕ)
+    → Appends x y us
+    → WroteFront y z bs
+    → WroteFront x z (us ++ bs)
+front_after x y z us bs sent front = (
+  length us + front.0,
+  subst (Appends x z) (sym (take-append-add us bs front.0))
+      (appends_more x y z us (take front.0 bs) sent front.1),
+)
