@@ -1,11 +1,11 @@
 //! What messages are told of streams, however they arrive.
-mod streams;
+mod fakes;
 mod texts;
 
 use crate::Incoming;
+use fakes::Pieces;
 use std::alloc::{AllocError, Global};
 use std::process::Abort;
-use streams::Pieces;
 use texts::told;
 
 /// Stops the test where something else is told of these bytes, behind what waits.
@@ -183,15 +183,13 @@ fn a_head_has_32_fields_at_most(rt: HostRuntime) {
 }
 
 #[test]
-fn a_body_has_262144_bytes_at_most(rt: HostRuntime) -> Result<(), AllocError> {
+fn a_body_has_262144_bytes_at_most(rt: HostRuntime) {
     let alloc = rt.alloc();
     let front = b"POST / HTTP/1.1\r\nHost: d\r\nContent-Length: 262144\r\n\r\n";
-    let input = filled(alloc, front, b"x", 262_144, b"A\n\n")?;
-    let mut incoming = Incoming::new(alloc)?;
-    let text = told(alloc, &mut incoming, &mut Pieces::of(&input, ALL))?;
-    assert!(rt; text.len() == 262_144 + 22);
-    assert!(rt; text.as_str().ends_with("x open;none;"));
-    Ok(())
+    let input = filled(alloc, front, b"x", 262_144, b"A\n\n").expect(&rt, "memory");
+    let all = filled(alloc, b"POST / - - ", b"x", 262_144, b" open;none;").expect(&rt, "memory");
+    let expected = str::from_utf8(&all).expect(&rt, "text");
+    is_told(&rt, alloc, Pieces::of(&input, ALL), expected, "a body");
 }
 
 // A reader that fails if it is asked once more shows that it is not asked.

@@ -6,4 +6,5 @@ mod files;
 mod helping;
 mod moves;
 mod opening;
+mod sources;
 mod stops;

@@ -1,16 +1,19 @@
 //! The desk over tables in a file, which is closed and opened again.
-ghost use Rattle.std.specs.Prelude.{IsTrue};
+ghost use Rattle.std.specs.Prelude.{◌≡◌, false, None, IsTrue, IfOk};
 ghost use Rattle.sqlite_disk.specs.Memory.{memory_is_usable};
 
 use crate::tests::helping::{book_over, close, over_files};
-use sqlite::{FileStore, Files};
+use sqlite::{Connection, Error, FileStore, Files};
 use sqlite_disk::Memory;
 use std::alloc::Global;
 use std::test::Fail;
-use tables::TableBook;
+use tables::{Opened, TableBook};
 
 /// The desk over tables in a file.
 pub type FileBook = TableBook<FileStore<Memory>>;
+
+/// What a file was opened as.
+pub type FileOpened = Opened<FileStore<Memory>>;
 
 /// The files of a database that is not open.
 #[derive(Drop)]
@@ -50,13 +53,21 @@ impl ClosedFile {
         self.db.bytes()
     }
 
-    /// The desk over these files.
-    pub fn open(self, alloc: Global) -> Result<FileBook, Fail> {
+    /// A connection over these files.
+    pub fn connect(self, alloc: Global) -> Result<Connection<FileStore<Memory>>, Error>
+        ensures outside { IfOk result (λ c. c.in_transaction ≡ false) }
+        ensures unlimited { IfOk result (λ c. c.step_limit ≡ None) }
+    {
         let files = Files {
             log: self.log,
             db: self.db,
         };
-        match book_over(alloc, over_files(alloc, files)?) {
+        over_files(alloc, files)
+    }
+
+    /// The desk over these files.
+    pub fn open(self, alloc: Global) -> Result<FileBook, Fail> {
+        match book_over(alloc, self.connect(alloc)?) {
             Ok(book) => Ok(book),
             Err(_) => Err(Fail::from("the desk is not opened")),
         }
