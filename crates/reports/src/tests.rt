@@ -16,12 +16,16 @@ type Answer = Result<u64, ReportFault>;
 
 /// Stops the test where a report answered otherwise, or wrote something else.
 fn is_told(rt: &impl Abort, case: &str, answer: Answer, expected: Answer, out: &[u8], text: &[u8]) {
-    assert!(rt; answer == expected, "{case}: {answer:?}");
-    assert!(rt; out == text, "{case}");
+    assert!(rt; answer == expected && out == text, "{case}: {answer:?}");
 }
 
 /// More than all that a test writes.
 const ROOM: usize = 1000;
+
+/// A writer that takes no more memory, so that none is wanting where a write would have to fail for it.
+fn with_room(rt: &impl Abort, alloc: Global) -> Vec<u8> {
+    Vec::with_capacity(alloc, ROOM).expect(rt, "memory")
+}
 
 const HEADING: &str = "kind     supplier product  night       allot   held   free\n";
 
@@ -97,13 +101,13 @@ fn stock_is_shown_by_cell(rt: HostRuntime) -> Result<(), AllocError> {
 #[test]
 fn a_report_of_no_row_says_so(rt: HostRuntime) {
     let alloc = rt.alloc();
-    let mut stock = Vec::new(alloc);
+    let mut stock = with_room(&rt, alloc);
     let cells: [(Cell, Held); 0] = [];
     let answer = stock_text(alloc, &mut Listed::new(&cells), &mut stock);
     is_told(&rt, "stock", answer, Ok(0), &stock, NO_STOCK.as_bytes());
     assert!(rt; stock.len() == 67);
 
-    let mut unfinished = Vec::new(alloc);
+    let mut unfinished = with_room(&rt, alloc);
     let briefs: [Brief; 0] = [];
     let answer = unfinished_text(alloc, &mut Listed::new(&briefs), &mut unfinished);
     is_told(
@@ -153,7 +157,7 @@ fn an_unfinished_journey_has_a_line(rt: HostRuntime) {
         let agent = agent(&rt, name);
         let cursor = at(pos, phase);
         let rows = [Brief { id, agent, cursor }];
-        let mut out = Vec::new(alloc);
+        let mut out = with_room(&rt, alloc);
         let answer = unfinished_text(alloc, &mut Listed::new(&rows), &mut out);
         is_told(&rt, name, answer, Ok(1), &out, expected.as_bytes());
     }
@@ -213,7 +217,7 @@ fn a_history_tells_the_items_in_one_line(rt: HostRuntime) -> Result<(), PlanFaul
     let alloc = rt.alloc();
     for &(id, plan, phase, items, count, expected) in &HISTORIES {
         let record = journey(alloc, plan, phase)?;
-        let mut out = Vec::new(alloc);
+        let mut out = with_room(&rt, alloc);
         let answer = history_text(alloc, id, &record, &mut Listed::new(items), &mut out);
         is_told(&rt, expected, answer, Ok(count), &out, expected.as_bytes());
     }
@@ -235,7 +239,7 @@ fn is_cut(
     told: ReportFault,
     text: &str,
 ) {
-    let mut out = Vec::new(alloc);
+    let mut out = with_room(rt, alloc);
     let answer = stock_text(alloc, &mut Failing::new(rows, fault), &mut out);
     is_told(rt, text, answer, Err(told), &out, text.as_bytes());
 }
