@@ -1,0 +1,44 @@
+# How long the gate and the build are likely to take, by docs/minutes.tsv. For scripts that have set top.
+: "${top:?the top of the repository}"
+
+# lanes_of MEGABYTES: how many checks of that much memory run side by side: one a processor, as many as memory holds
+lanes_of() {
+  local lanes free
+  lanes=$(nproc)
+  free=$(awk -v each="$1" '/^MemAvailable:/ { print int($2 / 1000 / each) }' /proc/meminfo)
+  [ "$lanes" -le "${free:-1}" ] || lanes=$free
+  [ "$lanes" -ge 1 ] || lanes=1
+  printf '%s\n' "$lanes"
+}
+
+# minutes_reckoned LANES: reads lines "CRATE TESTS EDITS ALL PART": TESTS is 1 if its tests are run, else 0; EDITS is how many
+# of its ALL edits are tried; PART is the part of its proof that is left, 1 if absent. Prints how many minutes that takes on
+# so many processors: all work, divided among them, or the longest chain of crates that wait for each other, whichever is
+# longer. A crate without a row counts as one of two minutes, and an edit of which nothing was seen as a fifth of a minute.
+minutes_reckoned() {
+  awk -v lanes="$1" -v top="$top" '
+    function had(value, instead) { return value == "" || value == "-" ? instead : value }
+    function proof_of(name) { return part[name] * (name in proof ? had(proof[name], 0) : 2) }
+    function later(name,    word, i, at) {
+      if (name in ready) return ready[name]
+      ready[name] = 0
+      for (i = split(uses[name], word, " "); i > 0; i--) {
+        if (word[i] in asked && later(word[i]) > at) at = later(word[i])
+      }
+      return ready[name] = at + proof_of(name)
+    }
+    FILENAME ~ /minutes\.tsv$/ { if (!/^#/) { proof[$1] = $2; tests[$1] = $3; edits[$1] = $4 }; next }
+    FILENAME ~ /crates\.txt$/ { sub(/#.*/, ""); if (split($0, half, ":") > 1) { split(half[1], w, " "); uses[w[1]] = half[2] }; next }
+    { asked[$1] = 1; tested[$1] = $2; tried[$1] = $3; all[$1] = $4; part[$1] = NF > 4 ? $5 : 1 }
+    END {
+      for (name in asked) {
+        own = tested[name] * had(tests[name], 0)
+        own += tried[name] * (all[name] && had(edits[name], 0) ? edits[name] / all[name] : 0.2)
+        end = later(name) + own
+        if (end > longest) longest = end
+        sum += own + proof_of(name)
+      }
+      wall = sum / lanes > longest ? sum / lanes : longest
+      printf "%d\n", wall + 0.999
+    }' "$top/docs/minutes.tsv" "$top/crates.txt" -
+}

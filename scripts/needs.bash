@@ -1,0 +1,48 @@
+# What a script needs of the machine, installed where that is absent and may be installed.
+
+# need COMMAND PACKAGE ..: without the command COMMAND the packages are absent; they are added to absent
+absent=()
+need() {
+  command -v "$1" >/dev/null 2>&1 || absent+=("${@:2}")
+}
+
+# as_root COMMAND ..: runs the command as root, without a question
+as_root() {
+  if [ "$(id -u)" -eq 0 ]; then
+    "$@"
+  elif command -v sudo >/dev/null 2>&1; then
+    sudo -n "$@"
+  else
+    return 1
+  fi
+}
+
+# install_absent: installs the packages in absent, and says so
+install_absent() {
+  [ ${#absent[@]} -gt 0 ] || return 0
+  if command -v apt-get >/dev/null 2>&1 && as_root true 2>/dev/null; then
+    say "installing ${absent[*]}"
+    if as_root apt-get update -qq >/dev/null &&
+      as_root env DEBIAN_FRONTEND=noninteractive apt-get install -y -qq "${absent[@]}" >/dev/null; then
+      absent=()
+      return 0
+    fi
+  fi
+  return 1
+}
+
+# stop_on_absent: installs what is absent; where it cannot, names the one command that does, and ends with 127
+stop_on_absent() {
+  install_absent && return 0
+  say "absent: ${absent[*]}. Install with: sudo apt-get install ${absent[*]}"
+  exit 127
+}
+
+# need_toolchain: ends with 127 where the command rt is absent, and has what rt itself needs installed
+need_toolchain() {
+  if ! command -v rt >/dev/null 2>&1; then
+    say "the command 'rt' of the Rattle toolchain is not on the PATH. Install the toolchain, add the folder of 'rt' to PATH, and run this again."
+    exit 127
+  fi
+  need python3 python3
+}

@@ -1,0 +1,154 @@
+#!/usr/bin/env bash
+# ./build proves each crate once those below it are proved, side by side where they do not wait for each other; it can be
+# stopped and goes on where it was; it says what is kept; ./desk then runs the program. In place of rt stands a script.
+. "$(dirname "${BASH_SOURCE[0]}")/helping.bash"
+top=$work/repo
+export FAKE=$work/fake
+mkdir -p "$FAKE" "$top/docs"
+cp -r "$tests/../build" "$tests/../desk" "$tests/../scripts" "$top"
+cp "$tests/../docs/minutes.tsv" "$top/docs"
+cd "$top" || exit 2
+
+# 'rt lib' takes a moment, and fails where a library below is absent; what it keeps is good for the next call
+cat >"$FAKE/rt" <<'RT'
+#!/usr/bin/env bash
+name=$(basename "$PWD")
+case $1 in
+  version) echo "kit 1"; exit ;;
+  lib | run) ;;
+  *) exit 2 ;;
+esac
+for below in $(sed -n "s/^$name:\(.*\)/\1/p" ../../crates.txt); do
+  [ "$below" = sqlite ] || [ -e "../$below/out/rlib/stamp" ] || { echo "no library $below"; exit 1; }
+done
+grep -q wrong src/lib.rt && { echo "src/lib.rt:1:1: error: wrong"; exit 1; }
+echo "begins $name$([ -d out/incremental ] && echo ' again')" >>"$FAKE/log"
+mkdir -p out/incremental
+echo kept >out/incremental/work
+echo "so far: 1 of 2 functions checked; the verdict comes last"
+while [ -e "$FAKE/hold" ]; do sleep 0.1; done
+sleep 0.3
+echo "ends $name" >>"$FAKE/log"
+mkdir -p out/rlib
+echo "$name" >out/rlib/stamp
+[ "$1" = lib ] && exit
+printf '#!/bin/sh\necho proved "$@"\n' >out/desk
+chmod +x out/desk
+exit 2
+RT
+printf '#!/bin/sh\necho 2\n' >"$FAKE/nproc"
+printf '#!/bin/sh\nexit 0\n' >"$FAKE/python3"
+chmod +x "$FAKE"/*
+PATH=$FAKE:$PATH
+
+printf '# names\nlow:\nleft: low sqlite\nright: low\ndesk: left right\naside: low\n' >crates.txt
+touch HANDLES
+for name in low left right desk aside; do
+  mkdir -p crates/$name/src
+  echo one >crates/$name/src/lib.rt
+done
+
+# builds STATUS WORDS ..: ./build with these words ends so; what it says goes to said
+builds() {
+  local expected=$1
+  shift
+  : >"$FAKE/log"
+  ./build "$@" >"$work/said" 2>&1
+  same "./build $*: the status" "$expected" $?
+}
+
+# says WHAT TEXT: it was said
+says() { same "$1: '$2' is said" yes "$(grep -qF -- "$2" "$work/said" && echo yes)"; }
+
+# order: what the fake rt noted, side by side in the order of names
+order() { tr '\n' ' ' <"$FAKE/log"; }
+
+# until_begun NAME: waits until this crate is being proved
+until_begun() {
+  local n
+  for n in {1..200}; do
+    if grep -q "^begins $1" "$FAKE/log"; then return; fi
+    sleep 0.1
+  done
+  same "after $n tries $1 is being proved" yes ""
+}
+
+mkdir -p crates/desk/out/trial
+touch crates/desk/out/trial/lock crates/desk/out/trial/desk-0
+builds 0
+case $(order) in
+  "begins low ends low begins left begins right ends "*" begins desk ends desk ") ;;
+  *) same "the order" "low, then left and right side by side, then desk" "$(order)" ;;
+esac
+says "a build" "proving 4 crates, 2 side by side"
+says "a build" "crate 4 of 4"
+says "a build" "the program is crates/desk/out/desk"
+same "what is kept" "desk" "$(find crates -path '*/out/*' -type f -printf '%f\n')"
+same "the program" "proved run x.db" "$(./desk run x.db 2>err)"
+same "the program: standard error" "" "$(cat err)"
+builds 0
+same "nothing is built twice" "" "$(order)"
+
+# a build that is stopped goes on with what was kept
+touch crates/low/src/lib.rt
+touch "$FAKE/hold"
+: >"$FAKE/log"
+./build >"$work/said" 2>&1 &
+build=$!
+until_begun low
+./build >"$work/second" 2>&1
+same "a second call: the status" 1 $?
+same "a second call" "build: another ./build runs here" "$(cat "$work/second")"
+rm "$FAKE/hold"
+until_begun left
+touch "$FAKE/hold"
+kill "$build"
+{ wait "$build"; } 2>/dev/null
+same "a build that is ended: the status" 143 $?
+rm "$FAKE/hold"
+same "a build that is ended: no room is left" "" "$(find out -mindepth 1 ! -name 'build.*')"
+same "what it has proved is kept" "low" "$(cat crates/low/out/rlib/stamp)"
+: >"$FAKE/log"
+touch "$FAKE/hold"
+./build >"$work/said" 2>&1 &
+build=$!
+until_begun low
+kill -9 "$build"
+{ wait "$build"; } 2>/dev/null
+rm "$FAKE/hold"
+sleep 1
+builds 0
+same "what was kept is used" yes "$([[ $(order) == *"begins low again"*"begins left again"* ]] && echo yes)"
+same "a build that went on keeps the program alone" "desk" "$(find crates -path '*/out/*' -type f -printf '%f\n')"
+
+# all is kept for who works on it, and stays
+touch crates/low/src/lib.rt
+builds 0 --keep
+says "a build that keeps all" "rm -r crates/*/out/incremental crates/*/out/rlib"
+same "a build that keeps all" 4 "$(find crates -name stamp | wc -l)"
+touch crates/low/src/lib.rt
+builds 0
+same "what was kept before stays" 4 "$(find crates -name stamp | wc -l)"
+
+# a source that is not proved; one that changes meanwhile; one of a crate that the program does not stand on
+echo wrong >crates/right/src/lib.rt
+builds 1
+says "a source that is not proved" "src/lib.rt:1:1: error: wrong"
+says "a source that is not proved" "right is not proved"
+echo one >crates/right/src/lib.rt
+touch "$FAKE/hold"
+: >"$FAKE/log"
+./build >"$work/said" 2>&1 &
+build=$!
+until_begun low
+touch crates/low/src/lib.rt
+rm "$FAKE/hold"
+wait "$build"
+same "a source that changes meanwhile: the status" 1 $?
+says "a source that changes meanwhile" "a source has changed meanwhile: run ./build again"
+builds 0
+touch crates/aside/src/lib.rt
+builds 0
+same "a crate that the program does not stand on" "" "$(order)"
+builds 2 --most
+finish
