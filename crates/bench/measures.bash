@@ -14,9 +14,9 @@ works_in_memory() {
     say "there is no /dev/shm: the times have those of a disk in them"
   fi
   work=$(mktemp -d "$base/desk-bench.XXXXXX") && trap 'rm -rf "$work"' EXIT && cd "$work" || exit 2
-  # the program is built where that is due
+  # the program is built if needed
   if [ -z "${DESK:-}" ]; then
-    "$top/desk" run new.db </dev/null || exit 126
+    "$top/build" >&2 || exit 126
   fi
 }
 
@@ -291,10 +291,12 @@ measure_history() (
   done
 )
 
-# took WORDS: the processor's milliseconds of this command, the least of five runs; its output goes to the file out
+# took WORDS: the processor's milliseconds of this command, the least of five runs; its output goes to the file out. Where
+# prepare is set, it runs before each
 took() {
   local TIMEFORMAT='%3U %3S' run
   for run in 1 2 3 4 5; do
+    ${prepare:-:}
     { time "$@" >out; } 2>&1
   done | awk '{ spent = ($1 + $2) * 1000 } NR == 1 || spent < least { least = spent } END { print least }'
 }
@@ -339,6 +341,85 @@ measure_stock() (
   many=$(peak_of_report cells.db 90000)
   echo "stock few-kB many-kB more-kB at-most"
   awk -v few="$few" -v many="$many" 'BEGIN { printf "100000 %d %d %d 20000\n", few, many, many - few }'
+)
+
+# has_migrate: the program has the subcommand
+has_migrate() {
+  "$desk" migrate 2>&1 </dev/null | grep -q 'desk migrate .*FILE'
+}
+
+# makes_old FILE COUNT: a file of schema 1 with so many journeys of three steps, all of which have ended
+makes_old() {
+  makes_ended "$1" "$2" || return 1
+  sqlite3 "$1" "INSERT INTO entry SELECT * FROM entry2; DROP TABLE entry2; DROP TABLE mark; UPDATE meta SET version = 1; VACUUM"
+}
+
+# plain_migration FILE: the statements of a migration by sqlite3, with the journal, the syncs and the tests of references that
+# the desk has
+plain_migration() {
+  sqlite3 "$1" "PRAGMA journal_mode = WAL; PRAGMA synchronous = FULL; PRAGMA foreign_keys = ON; BEGIN;
+    CREATE TABLE entry2(num INTEGER PRIMARY KEY, journey INTEGER NOT NULL REFERENCES journey(id), item INTEGER NOT NULL CHECK(item BETWEEN 0 AND 3), a INTEGER NOT NULL, b INTEGER NOT NULL) STRICT;
+    CREATE TABLE mark(journey INTEGER NOT NULL REFERENCES journey(id), pos INTEGER NOT NULL, PRIMARY KEY(journey, pos)) STRICT;
+    INSERT INTO entry2 SELECT num, journey, item, a, b FROM entry ORDER BY num;
+    UPDATE meta SET version = 2; COMMIT"
+}
+
+# copies_old: the file that is migrated next
+copies_old() {
+  rm -f trips.db trips.db-*
+  cp old.db trips.db
+}
+
+# peak_of WORDS: the most memory, in kB, that the desk, called by these words, has taken when it answers; it waits there, since
+# the pipe to its reader is full
+peak_of() {
+  mkfifo answer
+  exec 4<>answer
+  rm answer
+  head -c 65536 /dev/zero >&4
+  "$desk" "$@" >&4 &
+  pid=$!
+  until [ "$(sleep 0.2 && spent)" = "$(sleep 0.2 && spent)" ]; do :; done
+  awk '/^VmHWM/ { print $2 }' "/proc/$pid/status"
+  exec 4<&-
+  kill "$pid" 2>/dev/null
+  wait "$pid" 2>/dev/null
+}
+
+# The migration of some 10^5 items, beside the same statements by sqlite3, both without the opening, and its memory.
+measure_migrate() (
+  if ! command -v sqlite3 >/dev/null 2>&1; then
+    say "migrate: skipped, there is no sqlite3"
+    exit 0
+  fi
+  works_in_memory
+  if ! has_migrate; then
+    say "migrate: skipped, the program has no subcommand 'migrate'"
+    exit 0
+  fi
+  makes_old old.db 33333 || exit 1
+  prepare=copies_old
+  ours=$(took "$desk" migrate trips.db)
+  told=$(<out)
+  # a journey that is absent: the file is opened, and closed again
+  opening=$(took "$desk" history trips.db 999999)
+  plain=$(took plain_migration trips.db)
+  plain_opening=$(took sqlite3 trips.db 'PRAGMA journal_mode = WAL; SELECT version FROM meta')
+  cp trips.db new.db
+  plain_migration new.db >out
+  copies_old
+  "$desk" migrate trips.db >out && same_rows trips.db new.db || exit 1
+  echo "migrate events all-ms of-it-opening-ms sqlite3-ms of-it-opening-ms without-openings at-most"
+  awk -v told="$told" -v ours="$ours" -v opening="$opening" -v plain="$plain" -v plain_opening="$plain_opening" \
+    'BEGIN { sub("migrated 1 to 2 events ", "", told)
+             printf "items-99999 %d %.0f %.0f %.0f %.0f %.2f 3.0\n", told, ours, opening, plain, plain_opening,
+               (ours - opening) / (plain - plain_opening) }'
+  copies_old
+  few=$(peak_of history trips.db 999999)
+  many=$(peak_of migrate trips.db)
+  [ -n "$few" ] && [ -n "$many" ] || exit 1
+  echo "migrate opening-kB kB more-kB at-most"
+  awk -v few="$few" -v many="$many" 'BEGIN { printf "items-99999 %d %d %d 20000\n", few, many, many - few }'
 )
 
 # What serves on the port that is given, each over a file of its own: the desk; the same row changes by libsqlite3;

@@ -15,8 +15,9 @@ use Rattle.sqlite.specs.Listing.{understood}
 use Rattle.sqlite.specs.State.{State, QueriesRow, FailsToQuery, FailsToShow, IsNotRun, Shown, IsUnchanged, store_error}
 use Rattle.sqlite.specs.Clock.{timed}
 use Rattle.sqlite.proofs.Callers.{command_of, first_as, reads_as}
-use Rattle.desk_sql.specs.Schema.{desk_schema}
-use Rattle.desk_sql.proofs.Meaning.{MeansQuery}
+use Rattle.desk_sql.specs.declared.versions.Version.{Version}
+use Rattle.desk_sql.specs.Schema.{schema_of}
+use Rattle.desk_sql.proofs.Meaning.{MeansIn}
 use Rattle.desk_sql.proofs.Selecting.{understood_bare, shown_same, row_same}
 
 not_store : (cause : StoreError) → store_error cause ≢ QueryReturnedNoRows
@@ -43,8 +44,8 @@ not_refused q names limit db params e is (inl h) = let other = sym is ∙ h.0 in
 not_refused q names limit db params e is (inr (inl h)) = let other = sym is ∙ h.0 in absurd cc
 not_refused q names limit db params e is (inr (inr h)) = let other = sym is ∙ h.0 in absurd cc
 
-module _ (text : List ℕ) (q : Query) (names : List (List ℕ)) (m : MeansQuery text q names) (params : Row) (old new : State)
-    (has : IsTrue old.is_open → old.now.schema ≡ desk_schema) where
+module _ {v : Version} (text : List ℕ) (q : Query) (names : List (List ℕ)) (m : MeansIn v text q names) (params : Row) (old new : State)
+    (has : IsTrue old.is_open → old.now.schema ≡ schema_of v) where
   abbrev program : Program
   program = record { lets = []; body = q }
 
@@ -53,7 +54,7 @@ module _ (text : List ℕ) (q : Query) (names : List (List ℕ)) (m : MeansQuery
       → IsUnchanged old new × ((tail : List Row) × IsAnswer q (overlay old.now.trees []) params (row ∷ tail))
   first_row row h =
       let same = row_same text m.selects params old new row h in
-      let got = (first_as text params old new desk_schema (has same.0.was_open) (Select program names) m.is m.plain m.unlisted row h).1 in
+      let got = (first_as text params old new (schema_of v) (has same.0.was_open) (Select program names) m.is m.plain m.unlisted row h).1 in
       (same, (got.0, got.1 Null))
 
   -- the rows that were given are an answer, and nothing has changed
@@ -61,7 +62,7 @@ module _ (text : List ℕ) (q : Query) (names : List (List ℕ)) (m : MeansQuery
       → IsUnchanged old new × IsAnswer q (overlay old.now.trees []) params rows
   whole_answer rows h =
       let same = shown_same text m.selects params old new rows h in
-      (same, (reads_as text params old new desk_schema (has same.0.was_open) (Select program names) m.is m.plain m.unlisted rows h).answer Null)
+      (same, (reads_as text params old new (schema_of v) (has same.0.was_open) (Select program names) m.is m.plain m.unlisted rows h).answer Null)
 
   no_fault : (e : Error) → e ≡ QueryReturnedNoRows → ¬ FailsToQuery text params old new e
   unfolding FailsToQuery

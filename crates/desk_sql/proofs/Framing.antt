@@ -24,7 +24,7 @@ shows_same f g t m s b j p a e k it = record {
   journey = rw j it.journey;
   step = rw p it.step;
   answer = rw a it.answer;
-  entry2 = rw e it.entry2;
+  entries = rw e it.entries;
   mark = rw k it.mark;
 }
 
@@ -78,7 +78,7 @@ module _ (db : Trees) (t : Tables) (s : Shows db t) (rows : List Row) where
     journey = s.journey;
     step = s.step;
     answer = s.answer;
-    entry2 = s.entry2;
+    entries = s.entries;
     mark = s.mark;
   }
 
@@ -90,7 +90,7 @@ module _ (db : Trees) (t : Tables) (s : Shows db t) (rows : List Row) where
     journey = s.journey;
     step = s.step;
     answer = s.answer;
-    entry2 = s.entry2;
+    entries = s.entries;
     mark = s.mark;
   }
 
@@ -102,7 +102,7 @@ module _ (db : Trees) (t : Tables) (s : Shows db t) (rows : List Row) where
     journey = s.journey;
     step = s.step;
     answer = s.answer;
-    entry2 = s.entry2;
+    entries = s.entries;
     mark = s.mark;
   }
 
@@ -115,7 +115,7 @@ module _ (db : Trees) (t : Tables) (s : Shows db t) (rows : List Row) where
     journey = is;
     step = s.step;
     answer = s.answer;
-    entry2 = s.entry2;
+    entries = s.entries;
     mark = s.mark;
   }
 
@@ -127,7 +127,7 @@ module _ (db : Trees) (t : Tables) (s : Shows db t) (rows : List Row) where
     journey = s.journey;
     step = is;
     answer = s.answer;
-    entry2 = s.entry2;
+    entries = s.entries;
     mark = s.mark;
   }
 
@@ -139,20 +139,20 @@ module _ (db : Trees) (t : Tables) (s : Shows db t) (rows : List Row) where
     journey = s.journey;
     step = s.step;
     answer = is;
-    entry2 = s.entry2;
+    entries = s.entries;
     mark = s.mark;
   }
 
-  pub with_entry2 : (xs : List EntryRow) → IsNumbered (λ (e : EntryRow). e.num) entry_row rows xs
-      → Shows (with_tree db 13 rows) (record t { entry2 = xs })
-  with_entry2 xs is = record {
+  pub with_entries : (xs : List EntryRow) → IsNumbered (λ (e : EntryRow). e.num) entry_row rows xs
+      → Shows (with_tree db 13 rows) (record t { entries = xs })
+  with_entries xs is = record {
     meta = s.meta;
     stock = s.stock;
     batch = s.batch;
     journey = s.journey;
     step = s.step;
     answer = s.answer;
-    entry2 = is;
+    entries = is;
     mark = s.mark;
   }
 
@@ -164,6 +164,6 @@ module _ (db : Trees) (t : Tables) (s : Shows db t) (rows : List Row) where
     journey = s.journey;
     step = s.step;
     answer = s.answer;
-    entry2 = s.entry2;
+    entries = s.entries;
     mark = is;
   }

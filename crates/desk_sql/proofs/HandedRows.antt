@@ -13,10 +13,12 @@ use Rattle.sqlite.specs.Given.{HasGiven, HasBegun, Returns, Advances, IsEnded, r
 use Rattle.sqlite.proofs.Callers.{command_of, given_begin, begins_shown, EndsIn}
 use Rattle.sqlite_resolve.specs.declared.compiled.Compiled.{Compiled}
 use Rattle.sqlite_resolve.specs.declared.error.CompileError.{CompileError}
-use Rattle.desk_sql.specs.Schema.{desk_schema}
+use Rattle.desk_sql.specs.declared.versions.Version.{Version}
+use Rattle.desk_sql.specs.declared.versions.Version.TheVariants.{Two}
+use Rattle.desk_sql.specs.Schema.{schema_of}
 use Rattle.desk_sql.specs.Meanings.{select}
 use Rattle.desk_sql.specs.Handing.{HandsFirst, Hands, RunsOn, Rests}
-use Rattle.desk_sql.proofs.Meaning.{MeansQuery}
+use Rattle.desk_sql.proofs.Meaning.{MeansEach}
 use Rattle.desk_sql.proofs.Selecting.{understood_bare}
 use Rattle.desk_sql.proofs.Finding.{whole_answer}
 
@@ -36,7 +38,7 @@ never_returns : (r : Result Compiled CompileError) → ((c : Compiled) → r ≡
 never_returns (Ok c) bare some = absurd (let none = rw (bare c refl) at some in cc)
 never_returns (Err e) bare some = some
 
-module _ {S : Type 0} (g : Ghosts S) (text : List ℕ) (q : Query) (names : List (List ℕ)) (m : MeansQuery text q names) (params : Row) where
+module _ {S : Type 0} (g : Ghosts S) (text : List ℕ) (q : Query) (names : List (List ℕ)) (m : MeansEach text q names) (params : Row) where
   -- a connection that gave rows is open, and is as it is
   itself : (h : Held S) (given : List Row) → HasGiven g text params h given → IsUnchanged (state g h) (state g h)
   unfolding HasGiven
@@ -47,46 +49,47 @@ module _ {S : Type 0} (g : Ghosts S) (text : List ℕ) (q : Query) (names : List
   )
 
   -- a query with no WITH can always end
-  ends : (h : Held S) → h.schema ≡ desk_schema → (c : Compiled) (db : Database) (it : IsStatement (state g h) text params c)
+  ends : (v : Version) (h : Held S) → h.schema ≡ schema_of v → (c : Compiled) (db : Database) (it : IsStatement (state g h) text params c)
       → IsSourceOf (reads_listing h.schema text) (state g h).now db → EndsIn c.command db (timed params c.formats it.now)
-  ends h schema c db it source =
-      let known : c.command ≡ select q names = ap command_of (sym it.is ∙ ap (λ s. understood s text) schema) ∙ m.is in
+  ends v h schema c db it source =
+      let known : c.command ≡ select q names = ap command_of (sym it.is ∙ ap (λ s. understood s text) schema) ∙ (m v).is in
       subst (λ k. EndsIn k db (timed params c.formats it.now)) (sym known) tt
 
   -- the rows that were given begin an answer
-  begin_answer : (h : Held S) (given : List Row) → h.schema ≡ desk_schema → HasGiven g text params h given
+  begin_answer : (v : Version) (h : Held S) (given : List Row) → h.schema ≡ schema_of v → HasGiven g text params h given
       → (tail : List Row) × IsAnswer q (overlay (state g h).now.trees []) params (given ++ tail)
-  begin_answer h given schema it =
+  begin_answer v h given schema it =
       let s = state g h in
-      let got = begins_shown text params s s given (given_begin g text params h given it) (itself h given it) (ends h schema) in
-      (got.0, (whole_answer text q names m params s s (λ _. schema) (given ++ got.0) got.1).1)
+      let got = begins_shown text params s s given (given_begin g text params h given it) (itself h given it) (ends v h schema) in
+      (got.0, (whole_answer text q names (m v) params s s (λ _. schema) (given ++ got.0) got.1).1)
 
   -- a query that has begun has its one answer to hand out
-  pub starts : (old new : Held S) (later : List Row) → (IsTrue (state g old).is_open → old.schema ≡ desk_schema) → HasBegun g text params old new
+  pub starts : (v : Version) (old new : Held S) (later : List Row) → (IsTrue (state g old).is_open → old.schema ≡ schema_of v) → HasBegun g text params old new
       → (IsTrue (state g old).is_open → (rows : List Row) → IsAnswer q (overlay (state g old).now.trees []) params rows → rows ≡ later)
       → RunsOn g text q params new later
-  starts old new later schema (inl begun) one =
+  starts v old new later schema (inl begun) one =
       let live = begun.1.0.was_open in record {
+        version = v;
         schema = ap (λ (d : Database). d.schema) begun.1.0.now_is ∙ schema live;
         given = [];
         gave = begun.0;
         whole = λ rows answer. one live rows (subst (λ (d : Database). IsAnswer q (overlay d.trees []) params rows) begun.1.0.now_is answer);
       }
-  starts old new later schema (inr h) one = absurd (never_returns (understood old.schema text) (understood_bare text m.selects old.schema) h.0)
+  starts v old new later schema (inr h) one = absurd (never_returns (understood old.schema text) (understood_bare text (m Two).selects old.schema) h.0)
 
   -- and nothing has changed
   pub begun_same : (old new : Held S) → HasBegun g text params old new → IsUnchanged (state g old) (state g new)
   begun_same old new (inl begun) = begun.1
-  begun_same old new (inr h) = absurd (never_returns (understood old.schema text) (understood_bare text m.selects old.schema) h.0)
+  begun_same old new (inr h) = absurd (never_returns (understood old.schema text) (understood_bare text (m Two).selects old.schema) h.0)
 
   -- one more row is the first of those to come
   steps : (old new : Held S) (later : List Row) (row : Row) → RunsOn g text q params old later → Advances g old new (Some row)
       → IsUnchanged (state g old) (state g new) → (more : List Row) × (later ≡ row ∷ more) × RunsOn g text q params new more
   steps old new later row runs advances same =
       let now = same.0.now_is in
-      let schema : new.schema ≡ desk_schema = ap (λ (d : Database). d.schema) now ∙ runs.schema in
+      let schema : new.schema ≡ schema_of runs.version = ap (λ (d : Database). d.schema) now ∙ runs.schema in
       let gave = advances text params runs.given runs.gave in
-      let it = begin_answer new (runs.given ++ row ∷ []) schema gave in
+      let it = begin_answer runs.version new (runs.given ++ row ∷ []) schema gave in
       let more = it.0 in
       let before = λ (rows : List Row) (a : IsAnswer q (overlay (state g new).now.trees []) params rows).
       runs.whole rows (subst (λ (d : Database). IsAnswer q (overlay d.trees []) params rows) now a) in
@@ -96,6 +99,7 @@ module _ {S : Type 0} (g : Ghosts S) (text : List ℕ) (q : Query) (names : List
         more,
         first,
         record {
+          version = runs.version;
           schema = schema;
           given = runs.given ++ row ∷ [];
           gave = gave;
@@ -107,7 +111,7 @@ module _ {S : Type 0} (g : Ghosts S) (text : List ℕ) (q : Query) (names : List
   stops : (old new : Held S) (later : List Row) → RunsOn g text q params old later → Advances g old new None → later ≡ []
   stops old new later runs advances =
       let shown = advances text params runs.given runs.gave in
-      let answer = (whole_answer text q names m params (state g old) (state g new) (λ _. runs.schema) runs.given shown).1 in
+      let answer = (whole_answer text q names (m runs.version) params (state g old) (state g new) (λ _. runs.schema) runs.given shown).1 in
       nothing_behind runs.given later (runs.whole runs.given answer)
 
 -- a row stands there, or none does
@@ -119,7 +123,7 @@ none_there : {S : Type 0} (h : Held S) (has : Bool) → row_if has h ≡ None �
 none_there h true e = absurd (cc)
 none_there h false e = refl
 
-module _ {S X : Type 0} (g : Ghosts S) (text : List ℕ) (q : Query) (names : List (List ℕ)) (m : MeansQuery text q names) (shows : X → Row)
+module _ {S X : Type 0} (g : Ghosts S) (text : List ℕ) (q : Query) (names : List (List ℕ)) (m : MeansEach text q names) (shows : X → Row)
     (old new : Held S) (has : Bool) (advances : Advances g old new (row_if has new)) where
   abbrev Before : List X → Type 0
   Before later = Rests g text q old (map shows later)

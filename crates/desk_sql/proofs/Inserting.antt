@@ -21,7 +21,7 @@ use Rattle.desk_sql.specs.Texts.{insert_batch_text, insert_journey_text, insert_
 use Rattle.desk_sql.specs.Meanings.{insert_batch_terms, insert_journey_terms, insert_step_terms, insert_item_terms, insert_answer_terms, insert_mark_terms}
 use Rattle.desk_sql.proofs.Meaning.{insert_batch_means, insert_journey_means, insert_step_means, insert_item_means, insert_answer_means, insert_mark_means}
 use Rattle.desk_sql.proofs.Writing.{inserts, source_edit, cast_null}
-use Rattle.desk_sql.proofs.Framing.{ready_of, makes_at, with_batch, with_journey, with_step, with_answer, with_entry2, with_mark}
+use Rattle.desk_sql.proofs.Framing.{ready_of, makes_at, with_batch, with_journey, with_step, with_answer, with_entries, with_mark}
 use Rattle.desk_sql.proofs.Tables.{appended, numbered_last}
 
 same_int : (b : Bool) (n : ℤ) → cond b (Int n) (Int n) ≡ Int n
@@ -115,7 +115,7 @@ item_put db journey i = simp (cast_int, cast_null)
 
 -- the item goes to the end, since its number is above all others
 pub inserts_item : (old new : State) (t : Tables) (journey : ℕ) (i : ItemFound) (r : Result ℕ Error)
-    → AllByRecursion (λ (e : EntryRow). e.num < i.num) t.entry2 → MayRun old t
+    → AllByRecursion (λ (e : EntryRow). e.num < i.num) t.entries → MayRun old t
     → ExecutesInside 0 insert_item_text (item_params journey i) old new r → OnOk r (Makes old new (adds_item journey i t))
 inserts_item old new t journey i (Err e) below may ran = tt
 inserts_item old new t journey i (Ok count) below may ran =
@@ -127,8 +127,8 @@ inserts_item old new t journey i (Ok count) below may ran =
     (inserts insert_item_text params old new 7 (entry2_at 13) insert_item_terms 6 count insert_item_means.is
     insert_item_means.plain refl refl refl refl (ready_of old t may here) ran.0)
     13 (put_row (entry_row (item_of journey i)) (db 13)) (adds_item journey i t) refl (item_put db journey i)
-    (with_entry2 db t shown _ (t.entry2 ++ item_of journey i ∷ [])
-    (numbered_last (λ (e : EntryRow). e.num) entry_row (λ _. refl) (db 13) t.entry2 (item_of journey i) shown.entry2 below))
+    (with_entries db t shown _ (t.entries ++ item_of journey i ∷ [])
+    (numbered_last (λ (e : EntryRow). e.num) entry_row (λ _. refl) (db 13) t.entries (item_of journey i) shown.entries below))
 
 abbrev pub batch_params : BatchRow → Row
 batch_params b = Text b.name ∷ whole b.num ∷ Blob b.content ∷ []

@@ -9,7 +9,9 @@ use Rattle.sqlite.specs.Program.{overlay}
 use Rattle.sqlite.specs.State.{State, IsUnchanged}
 use Rattle.sqlite_rules.specs.Lists.{Has}
 use Rattle.desk_sql.specs.Rows.{whole, Tables, JourneyRow, journey_row}
-use Rattle.desk_sql.specs.Calls.{MaySee}
+use Rattle.desk_sql.specs.declared.versions.Version.{Version}
+use Rattle.desk_sql.specs.declared.versions.Version.TheVariants.{Two}
+use Rattle.desk_sql.specs.Calls.{MaySee, MaySeeIn}
 use Rattle.desk_sql.specs.Queries.{GivesRow}
 use Rattle.desk_sql.specs.Found.{journey_of, is_numbered, is_unfinished_after, FindsJourney, FindsUnfinished, shows_journey, nine_of}
 use Rattle.desk_sql.specs.Texts.{find_journey_text, first_unfinished_text}
@@ -54,7 +56,7 @@ plain_out j = ([], shown j)
 abbrev sorted_out : JourneyRow → Output
 sorted_out j = (whole j.id ∷ [], shown j)
 
-module _ (old new : State) (t : Tables) (sees : MaySee old t) where
+module _ {v : Version} (old new : State) (t : Tables) (sees : MaySeeIn v old t) where
   journeys_found : (id : ℕ) (rows : List Row) → IsTrue old.is_open → IsAnswer find_journey_query (overlay old.now.trees []) (whole id ∷ []) rows
       → Answers find_journey_query plain_out (filter (is_numbered id) t.journey) rows
   journeys_found id rows here a =
@@ -64,7 +66,7 @@ module _ (old new : State) (t : Tables) (sees : MaySee old t) where
   pub finds_journey : (id : ℕ) (row : Row) (f : JourneyFound) → shows_journey f ≡ nine_of row
       → GivesRow find_journey_text (whole id ∷ []) old new (Some row) → IsUnchanged old new × FindsJourney id t (Some f)
   finds_journey id row f read given =
-      let got = first_row find_journey_text find_journey_query journey_names find_journey_means (whole id ∷ []) old new
+      let got = first_row find_journey_text find_journey_query journey_names (find_journey_means v) (whole id ∷ []) old new
       (λ h. (sees h).schema) row given.1 in
       let it = first_of find_journey_query plain_out (filter (is_numbered id) t.journey) row got.1.0
       (journeys_found id (row ∷ got.1.0) given.0.0.was_open got.1.1) in
@@ -73,10 +75,11 @@ module _ (old new : State) (t : Tables) (sees : MaySee old t) where
   pub finds_no_journey : (id : ℕ) → GivesRow find_journey_text (whole id ∷ []) old new None
       → IsUnchanged old new × FindsJourney id t None
   finds_no_journey id given =
-      let got = no_row find_journey_text find_journey_query journey_names find_journey_means (whole id ∷ []) old new
+      let got = no_row find_journey_text find_journey_query journey_names (find_journey_means v) (whole id ∷ []) old new
       (λ h. (sees h).schema) _ refl given.1 in
       (given.0, none_of find_journey_query plain_out (filter (is_numbered id) t.journey) (journeys_found id [] given.0.0.was_open got.1))
 
+module _ (old new : State) (t : Tables) (sees : MaySee old t) where
   unfinished_found : (after : ℕ) (rows : List Row) → IsTrue old.is_open
       → IsAnswer first_unfinished_query (overlay old.now.trees []) (whole after ∷ []) rows
       → Answers first_unfinished_query sorted_out (filter (is_unfinished_after after) t.journey) rows
@@ -88,7 +91,7 @@ module _ (old new : State) (t : Tables) (sees : MaySee old t) where
       → GivesRow first_unfinished_text (whole after ∷ []) old new (Some row) → IsUnchanged old new × FindsUnfinished after t (Some f)
   finds_unfinished after row f read given =
       let some = filter (is_unfinished_after after) t.journey in
-      let got = first_row first_unfinished_text first_unfinished_query journey_names first_unfinished_means (whole after ∷ []) old new
+      let got = first_row first_unfinished_text first_unfinished_query journey_names (first_unfinished_means Two) (whole after ∷ []) old new
       (λ h. (sees h).schema) row given.1 in
       let it = first_of first_unfinished_query sorted_out some row got.1.0
       (unfinished_found after (row ∷ got.1.0) given.0.0.was_open got.1.1) in
@@ -102,7 +105,7 @@ module _ (old new : State) (t : Tables) (sees : MaySee old t) where
   pub finds_none_unfinished : (after : ℕ) → GivesRow first_unfinished_text (whole after ∷ []) old new None
       → IsUnchanged old new × FindsUnfinished after t None
   finds_none_unfinished after given =
-      let got = no_row first_unfinished_text first_unfinished_query journey_names first_unfinished_means (whole after ∷ []) old new
+      let got = no_row first_unfinished_text first_unfinished_query journey_names (first_unfinished_means Two) (whole after ∷ []) old new
       (λ h. (sees h).schema) _ refl given.1 in (
         given.0,
         none_of first_unfinished_query sorted_out (filter (is_unfinished_after after) t.journey)

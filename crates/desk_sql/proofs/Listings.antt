@@ -11,7 +11,8 @@ use Rattle.sqlite_rules.proofs.ListLemmas.{has_filtered}
 use Rattle.sqlite_trees.proofs.ListLemmas.{ascending-filter}
 use Rattle.desk_sql.specs.Lists.{numbered_row}
 use Rattle.desk_sql.specs.Rows.{whole, Tables, StepRow, step_columns, EntryRow, entry_row, MarkRow, mark_columns}
-use Rattle.desk_sql.specs.Calls.{MaySee}
+use Rattle.desk_sql.specs.declared.versions.Version.{Version}
+use Rattle.desk_sql.specs.Calls.{MaySee, MaySeeIn}
 use Rattle.desk_sql.specs.Queries.{GivesRows}
 use Rattle.desk_sql.specs.Found.{step_of, is_step_of, IsByPlace, FindsSteps, is_option_of, FindsOptions, shows_step, ten_of, item_of, is_item_after, FindsItems, shows_item, four_of, mark_at_pos, is_mark_of, IsByPosition, FindsMarks}
 use Rattle.desk_sql.specs.Texts.{find_steps_text, find_options_text, find_items_text, find_marks_text}
@@ -94,12 +95,12 @@ mark_test journey p = and_true _ ∙ eq_whole p.1.journey journey
 same_mark : (journey at : ℕ) (m : MarkRow) → m.journey ≡ journey → whole at ≡ whole m.pos → mark_at_pos journey at ≡ m
 same_mark journey at m of shown = let same : at ≡ m.pos = cc in rw (← of, same) refl
 
-module _ (old new : State) (t : Tables) (sees : MaySee old t) (journey : ℕ) (rows : List Row) where
+module _ {v : Version} (old new : State) (t : Tables) (sees : MaySeeIn v old t) (journey : ℕ) (rows : List Row) where
   pub finds_steps : (found : List StepFound) → map shows_step found ≡ map ten_of rows
       → GivesRows find_steps_text (whole journey ∷ []) old new rows → IsUnchanged old new × FindsSteps journey t found
   finds_steps found was given =
       let some = filter (is_step_of journey) t.step in
-      let got = whole_answer find_steps_text find_steps_query find_steps_names find_steps_means (whole journey ∷ []) old new
+      let got = whole_answer find_steps_text find_steps_query find_steps_names (find_steps_means v) (whole journey ∷ []) old new
       (λ h. (sees h).schema) rows given.1 in
       let it = table_answers 8 find_steps_query.filter find_steps_query.project find_steps_query.order old.now.trees
       (whole journey ∷ []) rows got.1 refl step_columns t.step (sees given.0.0.was_open).rows.step step_out (λ _. refl)
@@ -110,6 +111,7 @@ module _ (old new : State) (t : Tables) (sees : MaySee old t) (journey : ℕ) (r
             IsByPlace (λ a b up. by_place a.place b.place a.opt b.opt up),
       )
 
+module _ (old new : State) (t : Tables) (sees : MaySee old t) (journey : ℕ) (rows : List Row) where
   pub finds_options : (place : ℕ) (found : List StepFound) → map shows_step found ≡ map ten_of rows
       → GivesRows find_options_text (whole journey ∷ whole place ∷ []) old new rows → IsUnchanged old new × FindsOptions journey place t found
   finds_options place found was given =
@@ -130,21 +132,21 @@ module _ (old new : State) (t : Tables) (sees : MaySee old t) (journey : ℕ) (r
   pub finds_items : (after : ℕ) (found : List ItemFound) → map shows_item found ≡ map four_of rows
       → GivesRows find_items_text (whole journey ∷ whole after ∷ []) old new rows → IsUnchanged old new × FindsItems journey after t found
   finds_items after found was given =
-      let some = filter (is_item_after journey after) t.entry2 in
-      let table = (sees given.0.0.was_open).rows.entry2 in
+      let some = filter (is_item_after journey after) t.entries in
+      let table = (sees given.0.0.was_open).rows.entries in
       let got = whole_answer find_items_text find_items_query find_items_names find_items_means (whole journey ∷ whole after ∷ []) old new
       (λ h. (sees h).schema) rows given.1 in
       let it = numbered_answers 13 find_items_query.filter find_items_query.project find_items_query.order old.now.trees
-      (whole journey ∷ whole after ∷ []) rows got.1 refl (λ (e : EntryRow). e.num) entry_row t.entry2 table
+      (whole journey ∷ whole after ∷ []) rows got.1 refl (λ (e : EntryRow). e.num) entry_row t.entries table
       (is_item_after journey after) (item_test journey after) in
       let all = listed find_items_query item_out some rows it (item_of journey) shows_item four_of found was
       (λ f e h shown.
-      let both = and_parts (e.journey == journey) (nat_lt after e.num) (has_filtered (is_item_after journey after) t.entry2 e h).1 in
+      let both = and_parts (e.journey == journey) (nat_lt after e.num) (has_filtered (is_item_after journey after) t.entries e h).1 in
       same_item journey f e (eqb-true _ _ both.0) shown)
       (λ (a b : EntryRow). a.num ≤ b.num) (λ a b up. whole_last a.num b.num up) in (
         given.0,
         one_list (λ (e : EntryRow). e.num) some (map (item_of journey) found)
-            (ascending-filter _ (is_item_after journey after) t.entry2 table.rise) all.same all.rising,
+            (ascending-filter _ (is_item_after journey after) t.entries table.rise) all.same all.rising,
       )
 
   pub finds_marks : (found : List ℕ) → map whole found ≡ map (λ r. column r 0) rows

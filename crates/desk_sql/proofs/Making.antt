@@ -107,7 +107,7 @@ sees_none s it =
         journey = no_values_of (λ (j : JourneyRow). j.id) journey_row (s.now.trees 6) e.1.1.1.0;
         step = no_rows_of step_columns (s.now.trees 8) e.1.1.1.1.0;
         answer = no_rows_of answer_columns (s.now.trees 11) e.1.1.1.1.1.1.0;
-        entry2 = no_values_of (λ (n : EntryRow). n.num) entry_row (s.now.trees 13) e.1.1.1.1.1.1.1.0;
+        entries = no_values_of (λ (n : EntryRow). n.num) entry_row (s.now.trees 13) e.1.1.1.1.1.1.1.0;
         mark = no_rows_of mark_columns (s.now.trees 14) e.1.1.1.1.1.1.1.1.0;
       };
     }

@@ -8,7 +8,9 @@ use Rattle.sqlite.specs.Query.{Query}
 use Rattle.sqlite.specs.Listing.{understood, reads_listing}
 use Rattle.sqlite.proofs.Callers.{IsPlain, command_of}
 use Rattle.sqlite_tied.specs.Compute.{everything}
-use Rattle.desk_sql.specs.Schema.{desk_schema}
+use Rattle.desk_sql.specs.declared.versions.Version.{Version}
+use Rattle.desk_sql.specs.declared.versions.Version.TheVariants.{One, Two}
+use Rattle.desk_sql.specs.Schema.{desk_schema, schema_of}
 use Rattle.desk_sql.specs.Queries.{IsSelect}
 use Rattle.desk_sql.specs.Texts
 use Rattle.desk_sql.specs.Meanings
@@ -18,12 +20,19 @@ pub record Means (text : List ℕ) (command : Command) : Type 0 where
   pub is : command_of (understood desk_schema text) ≡ command
   pub plain : IsPlain (understood desk_schema text)
 
--- the text is this query on the desk's tables, and a SELECT under any schema
-pub record MeansQuery (text : List ℕ) (query : Query) (names : List (List ℕ)) : Type 0 where
-  pub is : command_of (understood desk_schema text) ≡ Meanings.select query names
-  pub plain : IsPlain (understood desk_schema text)
-  pub unlisted : reads_listing desk_schema text ≡ false
+-- the text is this query on the desk's tables of this version, and a SELECT under any schema
+pub record MeansIn (v : Version) (text : List ℕ) (query : Query) (names : List (List ℕ)) : Type 0 where
+  pub is : command_of (understood (schema_of v) text) ≡ Meanings.select query names
+  pub plain : IsPlain (understood (schema_of v) text)
+  pub unlisted : reads_listing (schema_of v) text ≡ false
   pub selects : IsSelect text
+
+-- the same of the newest version, and of each
+abbrev pub MeansQuery : List ℕ → Query → List (List ℕ) → Type 0
+MeansQuery text query names = MeansIn Two text query names
+
+abbrev pub MeansEach : List ℕ → Query → List (List ℕ) → Type 0
+MeansEach text query names = (v : Version) → MeansIn v text query names
 
 abbrev pub insert : ℕ → List Term → ℕ → Command
 insert at terms width = Insert at (Values terms width)
@@ -48,25 +57,29 @@ pub insert_answer_means : Means Texts.insert_answer_text (insert 6 Meanings.inse
 unfolding understood everything
 insert_answer_means = record { is = refl; plain = (refl, refl) }
 
-pub read_meta_means : MeansQuery Texts.read_meta_text Meanings.read_meta_query Meanings.read_meta_names
+pub read_meta_means : MeansEach Texts.read_meta_text Meanings.read_meta_query Meanings.read_meta_names
 unfolding understood everything
-read_meta_means = record { is = refl; plain = (refl, refl); unlisted = refl; selects = refl }
+read_meta_means One = record { is = refl; plain = (refl, refl); unlisted = refl; selects = refl }
+read_meta_means Two = record { is = refl; plain = (refl, refl); unlisted = refl; selects = refl }
 
 pub find_answer_means : MeansQuery Texts.find_answer_text Meanings.find_answer_query Meanings.find_answer_names
 unfolding understood everything
 find_answer_means = record { is = refl; plain = (refl, refl); unlisted = refl; selects = refl }
 
-pub find_journey_means : MeansQuery Texts.find_journey_text Meanings.find_journey_query Meanings.journey_names
+pub find_journey_means : MeansEach Texts.find_journey_text Meanings.find_journey_query Meanings.journey_names
 unfolding understood everything
-find_journey_means = record { is = refl; plain = (refl, refl); unlisted = refl; selects = refl }
+find_journey_means One = record { is = refl; plain = (refl, refl); unlisted = refl; selects = refl }
+find_journey_means Two = record { is = refl; plain = (refl, refl); unlisted = refl; selects = refl }
 
-pub first_unfinished_means : MeansQuery Texts.first_unfinished_text Meanings.first_unfinished_query Meanings.journey_names
+pub first_unfinished_means : MeansEach Texts.first_unfinished_text Meanings.first_unfinished_query Meanings.journey_names
 unfolding understood everything
-first_unfinished_means = record { is = refl; plain = (refl, refl); unlisted = refl; selects = refl }
+first_unfinished_means One = record { is = refl; plain = (refl, refl); unlisted = refl; selects = refl }
+first_unfinished_means Two = record { is = refl; plain = (refl, refl); unlisted = refl; selects = refl }
 
-pub find_steps_means : MeansQuery Texts.find_steps_text Meanings.find_steps_query Meanings.find_steps_names
+pub find_steps_means : MeansEach Texts.find_steps_text Meanings.find_steps_query Meanings.find_steps_names
 unfolding understood everything
-find_steps_means = record { is = refl; plain = (refl, refl); unlisted = refl; selects = refl }
+find_steps_means One = record { is = refl; plain = (refl, refl); unlisted = refl; selects = refl }
+find_steps_means Two = record { is = refl; plain = (refl, refl); unlisted = refl; selects = refl }
 
 pub find_options_means : MeansQuery Texts.find_options_text Meanings.find_options_query Meanings.find_steps_names
 unfolding understood everything
@@ -76,6 +89,10 @@ pub find_items_means : MeansQuery Texts.find_items_text Meanings.find_items_quer
 unfolding understood everything
 find_items_means = record { is = refl; plain = (refl, refl); unlisted = refl; selects = refl }
 
+pub find_old_items_means : MeansIn One Texts.find_old_items_text (Meanings.find_items_in One) Meanings.find_items_names
+unfolding understood everything
+find_old_items_means = record { is = refl; plain = (refl, refl); unlisted = refl; selects = refl }
+
 pub find_marks_means : MeansQuery Texts.find_marks_text Meanings.find_marks_query Meanings.find_marks_names
 unfolding understood everything
 find_marks_means = record { is = refl; plain = (refl, refl); unlisted = refl; selects = refl }
@@ -84,9 +101,10 @@ pub find_nights_means : MeansQuery Texts.find_nights_text Meanings.find_nights_q
 unfolding understood everything
 find_nights_means = record { is = refl; plain = (refl, refl); unlisted = refl; selects = refl }
 
-pub find_stock_means : MeansQuery Texts.find_stock_text Meanings.find_stock_query Meanings.find_stock_names
+pub find_stock_means : MeansEach Texts.find_stock_text Meanings.find_stock_query Meanings.find_stock_names
 unfolding understood everything
-find_stock_means = record { is = refl; plain = (refl, refl); unlisted = refl; selects = refl }
+find_stock_means One = record { is = refl; plain = (refl, refl); unlisted = refl; selects = refl }
+find_stock_means Two = record { is = refl; plain = (refl, refl); unlisted = refl; selects = refl }
 
 pub move_journey_means : Means Texts.move_journey_text (Meanings.update 3 Meanings.move_journey_query)
 unfolding understood everything

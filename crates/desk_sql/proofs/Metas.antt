@@ -15,7 +15,8 @@ use Rattle.sqlite_rules.specs.Lists.{Has}
 use Rattle.desk_sql.specs.Schema.{meta_at}
 use Rattle.desk_sql.specs.Lists.{changed, IsNumbered}
 use Rattle.desk_sql.specs.Rows.{whole, Tables, MetaRow, meta_row}
-use Rattle.desk_sql.specs.Calls.{MayRun, MaySee, Makes}
+use Rattle.desk_sql.specs.declared.versions.Version.{Version}
+use Rattle.desk_sql.specs.Calls.{MayRun, MaySeeIn, Makes}
 use Rattle.desk_sql.specs.Queries.{GivesRow}
 use Rattle.desk_sql.specs.Found.{meta_of, IsMeta, shows_meta, three_of}
 use Rattle.desk_sql.specs.declared.meta.Meta.{Meta}
@@ -93,12 +94,12 @@ same_meta r m shown =
     ∙ ap (λ x. record { version = r.version; events = x; journeys = m.journeys }) (sym events)
     ∙ ap (λ x. record { version = r.version; events = r.events; journeys = x }) (sym journeys)
 
-pub finds_meta : (old new : State) (t : Tables) → MaySee old t → (row : Row) (r : Meta) → shows_meta r ≡ three_of row
+pub finds_meta : (v : Version) (old new : State) (t : Tables) → MaySeeIn v old t → (row : Row) (r : Meta) → shows_meta r ≡ three_of row
     → GivesRow read_meta_text [] old new (Some row) → IsUnchanged old new × IsMeta t r
-finds_meta old new t sees row r read given =
+finds_meta v old new t sees row r read given =
     let here = given.0.0.was_open in
     let shown = (sees here).rows.meta in
-    let got = first_row read_meta_text read_meta_query read_meta_names read_meta_means [] old new (λ h. (sees h).schema) row given.1 in
+    let got = first_row read_meta_text read_meta_query read_meta_names (read_meta_means v) [] old new (λ h. (sees h).schema) row given.1 in
     let all = numbered_answers 0 read_meta_query.filter read_meta_query.project [] old.now.trees [] (row ∷ got.1.0) got.1.1 refl
     (λ _. 1) meta_row t.meta shown (λ _. true) (meta_passes []) in
     let it = first_of read_meta_query out (filter (λ _. true) t.meta) row got.1.0 all in (

@@ -152,6 +152,8 @@ pub ok_then : {V E : Type 0} (P Q : V → Type 0) (r : Result V E) → ((v : V) 
 ok_then P Q (Ok v) step h = step v h
 ok_then P Q (Err e) step h = h
 
-pub err_then : {V E : Type 0} (P Q : E → Type 0) (r : Result V E) → ((e : E) → P e → Q e) → IfErr r P → IfErr r Q
-err_then P Q (Ok v) step h = h
-err_then P Q (Err e) step h = step e h
+-- a fact of a success and one of a failure lead to the same
+pub either_way : {V E : Type 0} (C : Type 0) (P : V → Type 0) (Q : E → Type 0) (r : Result V E) → ((v : V) → P v → C) → ((e : E) → Q e → C)
+    → IfOk r P → IfErr r Q → C
+either_way C P Q (Ok v) done failed h k = done v h
+either_way C P Q (Err e) done failed h k = failed e k

@@ -23,6 +23,7 @@ use Rattle.desk_sql.specs.Meanings.{find_nights_query, find_nights_names, find_s
 use Rattle.desk_sql.specs.declared.stock.NightRange.{NightRange}
 use Rattle.desk_sql.specs.declared.stock.NightFound.{NightFound}
 use Rattle.desk_sql.specs.declared.stock.CellFound.{CellFound}
+use Rattle.desk_sql.specs.declared.versions.Version.TheVariants.{Two}
 use Rattle.desk_sql.proofs.Meaning.{find_nights_means, find_stock_means}
 use Rattle.desk_sql.proofs.Testing.{eq_whole, eq_text, ge_whole, le_whole, and_true}
 use Rattle.desk_sql.proofs.Ordered.{whole_last}
@@ -103,7 +104,7 @@ module _ (old new : State) (t : Tables) (sees : MaySee old t) (rows : List Row) 
   pub finds_stock : (found : List CellFound) → map shows_cell found ≡ map six_of rows
       → GivesRows find_stock_text [] old new rows → IsUnchanged old new × FindsStock t found
   finds_stock found was given =
-      let got = whole_answer find_stock_text find_stock_query find_stock_names find_stock_means [] old new
+      let got = whole_answer find_stock_text find_stock_query find_stock_names (find_stock_means Two) [] old new
       (λ h. (sees h).schema) rows given.1 in
       let it = table_answers 1 [] find_stock_query.project find_stock_query.order old.now.trees
       [] rows got.1 refl stock_columns t.stock (sees given.0.0.was_open).rows.stock cell_out (λ _. refl)

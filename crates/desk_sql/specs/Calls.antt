@@ -1,22 +1,31 @@
 -- What a statement may say of the connection that it ran on.
-use Rattle.std.specs.Prelude.{◌≡◌, ◌⊎◌, ℕ, [], Result, OnOk, IfOk, IfErr, IsTrue, ⊤}
+use Rattle.std.specs.Prelude.{◌≡◌, ◌⊎◌, ℕ, [], Result, OnOk, IfOk, IsTrue, ⊤}
 use Rattle.std.specs.List.{AllByRecursion}
 use Rattle.sqlite_schema.specs.declared.schema.Schema.{Schema}
 use Rattle.sqlite.specs.Store.{Ghosts}
 use Rattle.sqlite.specs.Held.{Held, state}
 use Rattle.sqlite.specs.State.{State, HasCleanDisk, IsUnchanged, IsRolledBack, Survives, KeepsCommit}
 use Rattle.sqlite.specs.declared.error.Error.{Error}
-use Rattle.desk_sql.specs.Schema.{no_schema, desk_schema}
-use Rattle.desk_sql.specs.Rows.{Tables, Shows}
+use Rattle.desk_sql.specs.declared.versions.Version.{Version}
+use Rattle.desk_sql.specs.declared.versions.Version.TheVariants.{Two}
+use Rattle.desk_sql.specs.Schema.{no_schema, desk_schema, schema_of}
+use Rattle.desk_sql.specs.Rows.{Tables, ShowsIn}
 
--- the connection sees these rows
-pub record Sees (s : State) (t : Tables) : Type 0 where
-  pub schema : s.now.schema ≡ desk_schema
-  pub rows : Shows s.now.trees t
+-- the connection sees these rows, in tables of this version
+pub record SeesIn (v : Version) (s : State) (t : Tables) : Type 0 where
+  pub schema : s.now.schema ≡ schema_of v
+  pub rows : ShowsIn v s.now.trees t
+
+-- the connection sees these rows, in tables of the newest version
+abbrev pub Sees : State → Tables → Type 0
+Sees s t = SeesIn Two s t
 
 -- the same, as far as the connection is open: a shut one shows nothing, and each call on it fails
+abbrev pub MaySeeIn : Version → State → Tables → Type 0
+MaySeeIn v s t = IsTrue s.is_open → SeesIn v s t
+
 abbrev pub MaySee : State → Tables → Type 0
-MaySee s t = IsTrue s.is_open → Sees s t
+MaySee s t = MaySeeIn Two s t
 
 -- the connection is in a transaction over the desk's tables
 pub record IsReady (s : State) : Type 0 where
@@ -99,15 +108,22 @@ module _ {S : Type 0} (g : Ghosts S) (old new : Held S) where
   abbrev pub LeavesNoMore : Type 0
   LeavesNoMore = Survives (state g old) (state g new) (λ _. ⊥)
 
-  -- A read: a success changes nothing, and what it found fits the rows.
-  abbrev pub Reads : {V : Type 0} → Result V Error → (Tables → V → Type 0) → Type 0
-  Reads result Finds =
-      HasCleanDisk (state g new) → (t : Tables) → MaySee (state g old) t
+  -- A read: on tables of this version a success changes nothing, and what it found fits the rows.
+  abbrev pub ReadsIn : Version → {V : Type 0} → Result V Error → (Tables → V → Type 0) → Type 0
+  ReadsIn v result Finds =
+      HasCleanDisk (state g new) → (t : Tables) → MaySeeIn v (state g old) t
       → IfOk result (λ found. IsUnchanged (state g old) (state g new) × Finds t found)
 
-  -- a read that fails changes nothing, or rolls back the transaction that it stands in
-  abbrev pub FailsQuietly : {V : Type 0} → Result V Error → Type 0
-  FailsQuietly result =
+  -- on tables of the newest version
+  abbrev pub Reads : {V : Type 0} → Result V Error → (Tables → V → Type 0) → Type 0
+  Reads result Finds = ReadsIn Two result Finds
+
+  -- on tables of each version
+  abbrev pub ReadsEach : {V : Type 0} → Result V Error → (Tables → V → Type 0) → Type 0
+  ReadsEach result Finds = (v : Version) → ReadsIn v result Finds
+
+  -- nothing changes; after a fault the transaction may be rolled back that the call stood in
+  abbrev pub ChangesNothing : Type 0
+  ChangesNothing =
       HasCleanDisk (state g new)
-      → IfErr result
-      (λ _. IsUnchanged (state g old) (state g new) ⊎ IsRolledBack (state g old) (state g new))
+      → IsUnchanged (state g old) (state g new) ⊎ IsRolledBack (state g old) (state g new)

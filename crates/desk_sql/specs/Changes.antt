@@ -112,11 +112,11 @@ IsSmallItem i = AllByRecursion (λ n. n < 2 ^ 63) (i.num ∷ i.item ∷ i.a ∷ 
 
 -- each item has a smaller number
 abbrev pub AreItemsBelow : ℕ → Tables → Type 0
-AreItemsBelow num t = AllByRecursion (λ (e : EntryRow). e.num < num) t.entry2
+AreItemsBelow num t = AllByRecursion (λ (e : EntryRow). e.num < num) t.entries
 
 -- one item of the journey more, the last
 abbrev pub adds_item : ℕ → ItemFound → Tables → Tables
-adds_item journey i t = record t { entry2 = t.entry2 ++ item_of journey i ∷ [] }
+adds_item journey i t = record t { entries = t.entries ++ item_of journey i ∷ [] }
 
 -- one batch more, the last
 abbrev pub adds_batch : BatchRow → Tables → Tables

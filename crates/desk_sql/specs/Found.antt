@@ -165,12 +165,12 @@ is_item_after journey after e = is_item_of journey e && nat_lt after e.num
 -- the items of the journey above a number, oldest first
 abbrev pub FindsItems : ℕ → ℕ → Tables → List ItemFound → Type 0
 FindsItems journey after t found =
-    map (item_of journey) found ≡ filter (is_item_after journey after) t.entry2
+    map (item_of journey) found ≡ filter (is_item_after journey after) t.entries
 
 -- the first item of the journey above a number, or nothing where none is there
 abbrev pub FindsNextItem : ℕ → ℕ → Tables → Option ItemFound → Type 0
 FindsNextItem journey after t found =
-    IsLeastOf (λ (e : EntryRow). e.num) (filter (is_item_after journey after) t.entry2)
+    IsLeastOf (λ (e : EntryRow). e.num) (filter (is_item_after journey after) t.entries)
     (option_map (item_of journey) found)
 
 -- a query shows an item in this order

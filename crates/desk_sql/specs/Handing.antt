@@ -6,12 +6,13 @@ use Rattle.sqlite.specs.Program.{overlay}
 use Rattle.sqlite.specs.Store.{Ghosts}
 use Rattle.sqlite.specs.Held.{Held, state}
 use Rattle.sqlite.specs.Given.{HasGiven, IsEnded}
-use Rattle.sqlite.specs.State.{HasCleanDisk, IsUnchanged, IsRolledBack}
+use Rattle.sqlite.specs.State.{HasCleanDisk, IsUnchanged}
 use Rattle.sqlite.specs.declared.types.Value.TheVariants.{Text}
-use Rattle.desk_sql.specs.Schema.{desk_schema}
+use Rattle.desk_sql.specs.declared.versions.Version.{Version}
+use Rattle.desk_sql.specs.Schema.{schema_of}
 use Rattle.desk_sql.specs.Lists.{IsListed}
 use Rattle.desk_sql.specs.Rows.{whole, Tables, StockRow, JourneyRow}
-use Rattle.desk_sql.specs.Calls.{MaySee}
+use Rattle.desk_sql.specs.Calls.{MaySeeIn}
 use Rattle.desk_sql.specs.Found.{is_unfinished_after}
 use Rattle.desk_sql.specs.Stock.{IsByCell}
 use Rattle.desk_sql.specs.Texts.{find_stock_text, first_unfinished_text}
@@ -56,7 +57,8 @@ module _ {S : Type 0} (g : Ghosts S) where
   -- The connection runs this query on the desk's tables, and each answer to it begins with the rows
   -- that were given, and goes on with these.
   pub record RunsOn (text : List ℕ) (q : Query) (params : Row) (h : Held S) (later : List Row) : Type 0 where
-    pub schema : h.schema ≡ desk_schema
+    pub version : Version
+    pub schema : h.schema ≡ schema_of version
     pub given : List Row
     pub gave : HasGiven g text params h given
     pub whole : (rows : List Row) → IsAnswer q (overlay (state g h).now.trees []) params rows
@@ -77,15 +79,9 @@ module _ {S : Type 0} (g : Ghosts S) where
     -- of the tables as they are, these are still to come
     abbrev pub Begins : {X : Type 0} → (Tables → List X → Type 0) → (Held S → List X → Type 0) → Type 0
     Begins {X} IsList RestsOn =
-        HasCleanDisk (state g new) → (t : Tables) → MaySee (state g old) t → (later : List X)
+        HasCleanDisk (state g new) → (v : Version) (t : Tables) → MaySeeIn v (state g old) t → (later : List X)
         → IsList t later → RestsOn new later
 
     -- nothing changes
     abbrev pub StaysAsItIs : Type 0
     StaysAsItIs = HasCleanDisk (state g new) → IsUnchanged (state g old) (state g new)
-
-    -- nothing changes; after a fault the transaction may be rolled back that the call stood in
-    abbrev pub ChangesNothing : Type 0
-    ChangesNothing =
-        HasCleanDisk (state g new)
-        → IsUnchanged (state g old) (state g new) ⊎ IsRolledBack (state g old) (state g new)

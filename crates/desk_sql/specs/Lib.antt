@@ -9,3 +9,4 @@ pub mod Rows
 pub mod Schema
 pub mod Stock
 pub mod Texts
+pub mod Versions

@@ -12,6 +12,9 @@ use Rattle.sqlite.specs.Command.{Command}
 use Rattle.sqlite.specs.Command.TheVariants.{InsertOr, Select, Update, Delete}
 use Rattle.sqlite.specs.Source.TheVariants.{Values}
 use Rattle.sqlite_schema.specs.declared.command.Conflict.TheVariants.{Abort}
+use Rattle.desk_sql.specs.declared.versions.Version.{Version}
+use Rattle.desk_sql.specs.declared.versions.Version.TheVariants.{Two}
+use Rattle.desk_sql.specs.Rows.{items_tree}
 
 -- the rows of a tree that pass the tests, in the order that is asked for
 abbrev pub sorted_rows : ℕ → List Term → List Term → List (Term × Key) → Query
@@ -128,10 +131,13 @@ find_steps_names =
     ∷ codes "night" ∷ codes "nights" ∷ codes "places" ∷ []
 
 -- items
-abbrev pub find_items_query : Query
-find_items_query =
-    sorted_rows 13 (is_equal (col 1 2) (col 0 0) ∷ op2 (Compare Gt Binary) (col 1 0) (col 0 1) ∷ [])
+abbrev pub find_items_in : Version → Query
+find_items_in v =
+    sorted_rows (items_tree v) (is_equal (col 1 2) (col 0 0) ∷ op2 (Compare Gt Binary) (col 1 0) (col 0 1) ∷ [])
     (col 1 0 ∷ col 1 3 ∷ col 1 4 ∷ col 1 5 ∷ []) ((col 1 0, rising) ∷ [])
+
+abbrev pub find_items_query : Query
+find_items_query = find_items_in Two
 
 abbrev pub find_items_names : List (List ℕ)
 find_items_names = codes "num" ∷ codes "item" ∷ codes "a" ∷ codes "b" ∷ []

@@ -1,9 +1,11 @@
 -- The rows of the desk's tables as typed values, and when the trees of a database show them.
-use Rattle.std.specs.Prelude.{ℕ, pos, List, [], ◌∷◌}
+use Rattle.std.specs.Prelude.{◌≡◌, ℕ, pos, List, [], ◌∷◌}
 use Rattle.sqlite.specs.declared.types.Value.{Value}
 use Rattle.sqlite.specs.declared.types.Value.TheVariants.{Null, Int, Text, Blob}
 use Rattle.sqlite.specs.Order.{Row}
 use Rattle.sqlite.specs.Tree.{Trees}
+use Rattle.desk_sql.specs.declared.versions.Version.{Version}
+use Rattle.desk_sql.specs.declared.versions.Version.TheVariants.{One, Two}
 use Rattle.desk_sql.specs.Lists.{IsTableOf, IsNumbered}
 
 -- a number as the integer that is stored
@@ -121,7 +123,7 @@ pub record AnswerRow : Type 0 where
 abbrev pub answer_columns : AnswerRow → Row
 answer_columns a = Text a.agent ∷ Text a.mark ∷ Blob a.ask ∷ Text a.reply ∷ []
 
--- all rows of the desk; of the table entry, which is kept for old files alone, nothing is said
+-- all rows of the desk; the items stand in the table that the version has for them
 pub record Tables : Type 0 where
   pub meta : List MetaRow
   pub stock : List StockRow
@@ -129,19 +131,33 @@ pub record Tables : Type 0 where
   pub journey : List JourneyRow
   pub step : List StepRow
   pub answer : List AnswerRow
-  pub entry2 : List EntryRow
+  pub entries : List EntryRow
   pub mark : List MarkRow
 
--- each tree is the table of its list
-pub record Shows (db : Trees) (t : Tables) : Type 0 where
+-- the tree with the items: that of entry2, and before it there was one that of entry
+abbrev pub items_tree : Version → ℕ
+items_tree One = 10
+items_tree Two = 13
+
+-- the tree of mark is the table of these save-points; before there was one no save-point was taken
+abbrev pub ShowsMarks : Version → Trees → List MarkRow → Type 0
+ShowsMarks One db marks = marks ≡ []
+ShowsMarks Two db marks = IsTableOf mark_columns (db 14) marks
+
+-- each tree of this version is the table of its list
+pub record ShowsIn (v : Version) (db : Trees) (t : Tables) : Type 0 where
   pub meta : IsNumbered (λ _. 1) meta_row (db 0) t.meta
   pub stock : IsTableOf stock_columns (db 1) t.stock
   pub batch : IsTableOf batch_columns (db 3) t.batch
   pub journey : IsNumbered (λ (j : JourneyRow). j.id) journey_row (db 6) t.journey
   pub step : IsTableOf step_columns (db 8) t.step
   pub answer : IsTableOf answer_columns (db 11) t.answer
-  pub entry2 : IsNumbered (λ (e : EntryRow). e.num) entry_row (db 13) t.entry2
-  pub mark : IsTableOf mark_columns (db 14) t.mark
+  pub entries : IsNumbered (λ (e : EntryRow). e.num) entry_row (db (items_tree v)) t.entries
+  pub mark : ShowsMarks v db t.mark
+
+-- the same, of the newest version, where nothing is said of the table entry
+abbrev pub Shows : Trees → Tables → Type 0
+Shows db t = ShowsIn Two db t
 
 -- no rows at all
 abbrev pub no_rows : Tables
@@ -152,6 +168,6 @@ no_rows = record {
   journey = [];
   step = [];
   answer = [];
-  entry2 = [];
+  entries = [];
   mark = [];
 }

@@ -14,6 +14,8 @@ use Rattle.sqlite_schema.specs.declared.schema.Reference.{Reference}
 use Rattle.sqlite_schema.specs.declared.schema.Table.{Table}
 use Rattle.sqlite_schema.specs.declared.schema.Index.{Index}
 use Rattle.sqlite_schema.specs.declared.schema.Schema.{Schema}
+use Rattle.desk_sql.specs.declared.versions.Version.{Version}
+use Rattle.desk_sql.specs.declared.versions.Version.TheVariants.{One, Two}
 
 -- a column of this kind that is never NULL
 abbrev pub filled : Kind → List ℕ → Column
@@ -188,3 +190,8 @@ desk_schema = record {
   indexes = seven_schema.indexes ++ unique_index (codes "sqlite_autoindex_mark_1") 15 14 (1 ∷ 2 ∷ []) ∷ [];
   views = [];
 }
+
+-- the tables of each version
+abbrev pub schema_of : Version → Schema
+schema_of One = seven_schema
+schema_of Two = desk_schema

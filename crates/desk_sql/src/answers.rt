@@ -1,7 +1,7 @@
 //! Replies that are kept under an agent's key.
 
 ghost use Rattle.std.specs.Prelude.{◌≡◌, false, IfOk};
-ghost use Rattle.desk_sql.specs.Calls.{Writes, StaysInside, WasOpen, CommitsNothing, LeavesNoMore, Reads, FailsQuietly};
+ghost use Rattle.desk_sql.specs.Calls.{Writes, StaysInside, WasOpen, CommitsNothing, LeavesNoMore, Reads, ChangesNothing};
 ghost use Rattle.desk_sql.specs.Changes.{adds_answer, kept};
 ghost use Rattle.desk_sql.specs.Found.{FindsAnswer, shows_answer, two_of};
 
@@ -33,7 +33,7 @@ pub fn find_answer<'x, S: Alter>(
     mark: &'x str,
 ) -> Result<Option<KeptAnswer>, Error>
     ensures found { Reads S.Store conn.old conn.new result (FindsAnswer agent.now mark.now) }
-    ensures failed { FailsQuietly S.Store conn.old conn.new result }
+    ensures quiet { ChangesNothing S.Store conn.old conn.new }
     ensures mode { conn.old.in_transaction ≡ false → conn.new.in_transaction ≡ false }
     ensures survives { LeavesNoMore S.Store conn.old conn.new }
 {

@@ -1,7 +1,7 @@
 //! Batches that were loaded.
 
 ghost use Rattle.std.specs.Prelude.{◌≡◌, ◌<◌, ◌^◌, false, IfOk};
-ghost use Rattle.desk_sql.specs.Calls.{Writes, StaysInside, WasOpen, CommitsNothing, LeavesNoMore, Reads, FailsQuietly};
+ghost use Rattle.desk_sql.specs.Calls.{Writes, StaysInside, WasOpen, CommitsNothing, LeavesNoMore, Reads, ChangesNothing};
 ghost use Rattle.desk_sql.specs.Changes.{adds_batch};
 ghost use Rattle.desk_sql.specs.Found.{FindsBatch, shows_batch, two_of};
 
@@ -32,7 +32,7 @@ pub fn find_batch<S: Alter>(
     name: &str,
 ) -> Result<Option<BatchFound>, Error>
     ensures found { Reads S.Store conn.old conn.new result (FindsBatch name.now) }
-    ensures failed { FailsQuietly S.Store conn.old conn.new result }
+    ensures quiet { ChangesNothing S.Store conn.old conn.new }
     ensures mode { conn.old.in_transaction ≡ false → conn.new.in_transaction ≡ false }
     ensures survives { LeavesNoMore S.Store conn.old conn.new }
 {

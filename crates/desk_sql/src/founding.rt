@@ -1,12 +1,20 @@
 //! The tables, made in a store that has none.
 
-ghost use Rattle.std.specs.Prelude.{◌≡◌};
+ghost use Rattle.std.specs.Prelude.{◌≡◌, ◌↔◌, IsTrue};
 ghost use Rattle.desk_sql.specs.Calls.{BuildsOn, Founds, StaysInside, WasOpen, CommitsNothing, LeavesNoMore};
 ghost use Rattle.desk_sql.specs.Changes.{founded};
 ghost use Rattle.desk_sql.specs.Schema.{no_schema, first_schema, seven_schema, desk_schema};
 
 use crate::meta::insert_meta;
 use sqlite::{Alter, Error, Transaction};
+use sqlite_schema::schema::Schema;
+
+/// Whether a store with this schema has no tables.
+pub fn has_no_tables(schema: &Schema) -> bool
+    ensures { IsTrue result ↔ schema.now ≡ no_schema }
+{
+    schema.tables.is_empty() && schema.indexes.is_empty() && schema.views.is_empty()
+}
 
 /// Makes all tables, with the row of `meta` of schema 2, in a store that has no table.
 pub fn make_tables<S: Alter>(tx: &mut Transaction<'_, S>) -> Result<(), Error>

@@ -1,9 +1,9 @@
-//! The items of a journey, each asked for behind the event of the one before.
+//! The items of a journey, each asked for after the event of the one before.
 //!
 //! The store looks no further than the item that is found.
 
 ghost use Rattle.std.specs.Prelude.{◌≡◌, ◌<◌, ◌^◌, false};
-ghost use Rattle.desk_sql.specs.Calls.{Reads, FailsQuietly, LeavesNoMore};
+ghost use Rattle.desk_sql.specs.Calls.{Reads, ChangesNothing, LeavesNoMore};
 ghost use Rattle.desk_sql.specs.Found.{FindsNextItem};
 
 use crate::items::{ItemFound, read_item};
@@ -21,7 +21,7 @@ pub fn next_item<S: Alter>(
     requires after { after < 2 ^ 63 }
 
     ensures found { Reads S.Store conn.old conn.new result (FindsNextItem journey after) }
-    ensures failed { FailsQuietly S.Store conn.old conn.new result }
+    ensures quiet { ChangesNothing S.Store conn.old conn.new }
     ensures mode { conn.old.in_transaction ≡ false → conn.new.in_transaction ≡ false }
     ensures survives { LeavesNoMore S.Store conn.old conn.new }
 {

@@ -1,7 +1,7 @@
 //! The items of journeys: transactions, compensations, turns, and save-points taken at run time.
 
 ghost use Rattle.std.specs.Prelude.{◌≡◌, ◌<◌, ◌^◌, false, map, IfOk};
-ghost use Rattle.desk_sql.specs.Calls.{WritesWhere, StaysInside, WasOpen, CommitsNothing, LeavesNoMore, Reads, FailsQuietly};
+ghost use Rattle.desk_sql.specs.Calls.{WritesWhere, StaysInside, WasOpen, CommitsNothing, LeavesNoMore, Reads, ChangesNothing};
 ghost use Rattle.desk_sql.specs.Changes.{IsSmallItem, AreItemsBelow, adds_item};
 ghost use Rattle.desk_sql.specs.Found.{FindsItems, shows_item, four_of};
 
@@ -56,7 +56,7 @@ pub fn find_items<S: Alter>(
 
     ensures found { Reads S.Store conn.old conn.new result
         (λ t found. FindsItems journey after t found.items) }
-    ensures failed { FailsQuietly S.Store conn.old conn.new result }
+    ensures quiet { ChangesNothing S.Store conn.old conn.new }
     ensures mode { conn.old.in_transaction ≡ false → conn.new.in_transaction ≡ false }
     ensures survives { LeavesNoMore S.Store conn.old conn.new }
 {

@@ -1,7 +1,7 @@
 //! Journeys, each with its cursor.
 
 ghost use Rattle.std.specs.Prelude.{◌≡◌, ◌<◌, ◌^◌, false, IfOk};
-ghost use Rattle.desk_sql.specs.Calls.{Writes, WritesWhere, StaysInside, WasOpen, CommitsNothing, LeavesNoMore, Reads, FailsQuietly};
+ghost use Rattle.desk_sql.specs.Calls.{Writes, WritesWhere, StaysInside, WasOpen, CommitsNothing, LeavesNoMore, Reads, ReadsEach, ChangesNothing};
 ghost use Rattle.desk_sql.specs.Changes.{AreJourneysBelow, adds_journey, begun, IsSmallCursor, moves_journey};
 ghost use Rattle.desk_sql.specs.Found.{FindsJourney, FindsUnfinished, shows_cursor, cursor_of, shows_journey, nine_of};
 
@@ -78,8 +78,8 @@ pub fn find_journey<S: Alter>(
 ) -> Result<Option<JourneyFound>, Error>
     requires { id < 2 ^ 63 }
 
-    ensures found { Reads S.Store conn.old conn.new result (FindsJourney id) }
-    ensures failed { FailsQuietly S.Store conn.old conn.new result }
+    ensures found { ReadsEach S.Store conn.old conn.new result (FindsJourney id) }
+    ensures quiet { ChangesNothing S.Store conn.old conn.new }
     ensures mode { conn.old.in_transaction ≡ false → conn.new.in_transaction ≡ false }
     ensures survives { LeavesNoMore S.Store conn.old conn.new }
 {
@@ -104,7 +104,7 @@ pub fn first_unfinished<S: Alter>(
     requires { after < 2 ^ 63 }
 
     ensures found { Reads S.Store conn.old conn.new result (FindsUnfinished after) }
-    ensures failed { FailsQuietly S.Store conn.old conn.new result }
+    ensures quiet { ChangesNothing S.Store conn.old conn.new }
     ensures mode { conn.old.in_transaction ≡ false → conn.new.in_transaction ≡ false }
     ensures survives { LeavesNoMore S.Store conn.old conn.new }
 {

@@ -15,13 +15,15 @@ mod items;
 mod journeys;
 mod marks;
 mod meta;
+mod old_items;
 mod queries;
 mod steps;
 mod stock;
+mod versions;
 
 pub use answers::{KeptAnswer, find_answer, insert_answer};
 pub use batches::{BatchFound, find_batch, insert_batch};
-pub use founding::make_tables;
+pub use founding::{has_no_tables, make_tables};
 pub use handing::{StockHanded, UnfinishedHanded, hand_stock, hand_unfinished};
 pub use item_by_item::next_item;
 pub use items::{ItemFound, find_items, insert_item};
@@ -30,8 +32,10 @@ pub use journeys::{
 };
 pub use marks::{delete_mark, find_marks, insert_mark};
 pub use meta::{Meta, read_meta, update_meta};
+pub use old_items::next_old_item;
 pub use steps::{StepFound, StepOption, find_options, find_steps, insert_step, mark_step};
 pub use stock::{
     CellFound, CellPlaces, NightFound, NightRange, find_nights, find_stock, give_nights, put_cell,
     take_nights,
 };
+pub use versions::Version;

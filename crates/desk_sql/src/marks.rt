@@ -2,7 +2,7 @@
 
 ghost use Rattle.std.specs.Prelude.{◌≡◌, ◌<◌, ◌^◌, false, map, IfOk, ◌∷◌, []};
 ghost use Rattle.sqlite.specs.Order.{column};
-ghost use Rattle.desk_sql.specs.Calls.{Writes, StaysInside, WasOpen, CommitsNothing, LeavesNoMore, Reads, FailsQuietly};
+ghost use Rattle.desk_sql.specs.Calls.{Writes, StaysInside, WasOpen, CommitsNothing, LeavesNoMore, Reads, ChangesNothing};
 ghost use Rattle.desk_sql.specs.Changes.{adds_mark, drops_mark};
 ghost use Rattle.desk_sql.specs.Found.{FindsMarks};
 ghost use Rattle.desk_sql.specs.Rows.{whole};
@@ -33,7 +33,7 @@ pub fn find_marks<S: Alter>(
 
     ensures found { Reads S.Store conn.old conn.new result
         (λ t found. FindsMarks journey t found.items) }
-    ensures failed { FailsQuietly S.Store conn.old conn.new result }
+    ensures quiet { ChangesNothing S.Store conn.old conn.new }
     ensures mode { conn.old.in_transaction ≡ false → conn.new.in_transaction ≡ false }
     ensures survives { LeavesNoMore S.Store conn.old conn.new }
 {

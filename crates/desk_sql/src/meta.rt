@@ -1,7 +1,7 @@
 //! The one row of `meta`: the schema's version, how many events there are, and the last journey's number.
 
 ghost use Rattle.std.specs.Prelude.{◌≡◌, ◌<◌, ◌^◌, false, IfOk};
-ghost use Rattle.desk_sql.specs.Calls.{Writes, WritesWhere, StaysInside, WasOpen, CommitsNothing, LeavesNoMore, Reads, FailsQuietly};
+ghost use Rattle.desk_sql.specs.Calls.{Writes, WritesWhere, StaysInside, WasOpen, CommitsNothing, LeavesNoMore, ReadsEach, ChangesNothing};
 ghost use Rattle.desk_sql.specs.Changes.{LacksMeta, adds_meta, at_first, counts};
 ghost use Rattle.desk_sql.specs.Found.{IsMeta, shows_meta, three_of};
 
@@ -35,8 +35,8 @@ fn meta_of(row: &Row) -> Result<Meta, Error>
 
 /// The numbers of the one row. A `meta` without a row is an error.
 pub fn read_meta<S: Alter>(conn: &mut Connection<S>) -> Result<Meta, Error>
-    ensures found { Reads S.Store conn.old conn.new result IsMeta }
-    ensures failed { FailsQuietly S.Store conn.old conn.new result }
+    ensures found { ReadsEach S.Store conn.old conn.new result IsMeta }
+    ensures quiet { ChangesNothing S.Store conn.old conn.new }
     ensures mode { conn.old.in_transaction ≡ false → conn.new.in_transaction ≡ false }
     ensures survives { LeavesNoMore S.Store conn.old conn.new }
 {

@@ -4,7 +4,7 @@ ghost use Rattle.std.specs.Prelude.{◌≡◌, false, IfOk};
 ghost use Rattle.sqlite.specs.Values.{bound};
 ghost use Rattle.sqlite.specs.Held.{state};
 ghost use Rattle.sqlite.specs.State.{HasCleanDisk};
-ghost use Rattle.desk_sql.specs.Calls.{FailsQuietly, LeavesNoMore};
+ghost use Rattle.desk_sql.specs.Calls.{ChangesNothing, LeavesNoMore};
 ghost use Rattle.desk_sql.specs.Queries.{IsSelect, GivesRow, GivesRows};
 
 use sqlite::types::ValueRef;
@@ -20,7 +20,7 @@ pub(crate) fn first_row<S: Alter>(
 
     ensures row { HasCleanDisk (state S.Store conn.new) → IfOk result (λ found.
         GivesRow text.now (bound params.now) (state S.Store conn.old) (state S.Store conn.new) found) }
-    ensures failed { FailsQuietly S.Store conn.old conn.new result }
+    ensures quiet { ChangesNothing S.Store conn.old conn.new }
     ensures mode { conn.old.in_transaction ≡ false → conn.new.in_transaction ≡ false }
     ensures survives { LeavesNoMore S.Store conn.old conn.new }
 {
@@ -41,7 +41,7 @@ pub(crate) fn all_rows<S: Alter>(
 
     ensures rows { HasCleanDisk (state S.Store conn.new) → IfOk result (λ rows.
         GivesRows text.now (bound params.now) (state S.Store conn.old) (state S.Store conn.new) rows.items) }
-    ensures failed { FailsQuietly S.Store conn.old conn.new result }
+    ensures quiet { ChangesNothing S.Store conn.old conn.new }
     ensures mode { conn.old.in_transaction ≡ false → conn.new.in_transaction ≡ false }
     ensures survives { LeavesNoMore S.Store conn.old conn.new }
 {

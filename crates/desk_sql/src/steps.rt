@@ -1,7 +1,7 @@
 //! The options of the steps of each plan.
 
 ghost use Rattle.std.specs.Prelude.{◌≡◌, ◌<◌, ◌^◌, false, map, IfOk};
-ghost use Rattle.desk_sql.specs.Calls.{Writes, StaysInside, WasOpen, CommitsNothing, LeavesNoMore, Reads, FailsQuietly};
+ghost use Rattle.desk_sql.specs.Calls.{Writes, StaysInside, WasOpen, CommitsNothing, LeavesNoMore, Reads, ReadsEach, ChangesNothing};
 ghost use Rattle.desk_sql.specs.Changes.{IsSmallOption, adds_step, untaken, marks_step};
 ghost use Rattle.desk_sql.specs.Found.{FindsSteps, FindsOptions, shows_step, ten_of};
 
@@ -130,9 +130,9 @@ pub fn find_steps<S: Alter>(
 ) -> Result<Vec<StepFound>, Error>
     requires { journey < 2 ^ 63 }
 
-    ensures found { Reads S.Store conn.old conn.new result
+    ensures found { ReadsEach S.Store conn.old conn.new result
         (λ t found. FindsSteps journey t found.items) }
-    ensures failed { FailsQuietly S.Store conn.old conn.new result }
+    ensures quiet { ChangesNothing S.Store conn.old conn.new }
     ensures mode { conn.old.in_transaction ≡ false → conn.new.in_transaction ≡ false }
     ensures survives { LeavesNoMore S.Store conn.old conn.new }
 {
@@ -157,7 +157,7 @@ pub fn find_options<S: Alter>(
 
     ensures found { Reads S.Store conn.old conn.new result
         (λ t found. FindsOptions journey place t found.items) }
-    ensures failed { FailsQuietly S.Store conn.old conn.new result }
+    ensures quiet { ChangesNothing S.Store conn.old conn.new }
     ensures mode { conn.old.in_transaction ≡ false → conn.new.in_transaction ≡ false }
     ensures survives { LeavesNoMore S.Store conn.old conn.new }
 {

@@ -1,7 +1,7 @@
 //! The places of each cell.
 
 ghost use Rattle.std.specs.Prelude.{◌≡◌, ◌<◌, ◌^◌, false, map, pos, neg_ℤ, IfOk};
-ghost use Rattle.desk_sql.specs.Calls.{WritesWhere, StaysInside, WasOpen, CommitsNothing, LeavesNoMore, Reads, FailsQuietly};
+ghost use Rattle.desk_sql.specs.Calls.{WritesWhere, StaysInside, WasOpen, CommitsNothing, LeavesNoMore, Reads, ChangesNothing};
 ghost use Rattle.desk_sql.specs.Stock.{IsSmallRange, FindsNights, FindsStock, shows_night, shows_cell, HaveFree, HaveRoom, takes_nights, gives_nights, IsSmallCell, AreApart, placed, puts_cell};
 ghost use Rattle.desk_sql.specs.Found.{three_of, six_of};
 
@@ -60,7 +60,7 @@ pub fn find_nights<S: Alter>(
 
     ensures found { Reads S.Store conn.old conn.new result
         (λ t found. FindsNights range.entry t found.items) }
-    ensures failed { FailsQuietly S.Store conn.old conn.new result }
+    ensures quiet { ChangesNothing S.Store conn.old conn.new }
     ensures mode { conn.old.in_transaction ≡ false → conn.new.in_transaction ≡ false }
     ensures survives { LeavesNoMore S.Store conn.old conn.new }
 {
@@ -128,7 +128,7 @@ pub fn find_stock<S: Alter>(
     conn: &mut Connection<S>,
 ) -> Result<Vec<CellFound>, Error>
     ensures found { Reads S.Store conn.old conn.new result (λ t found. FindsStock t found.items) }
-    ensures failed { FailsQuietly S.Store conn.old conn.new result }
+    ensures quiet { ChangesNothing S.Store conn.old conn.new }
     ensures mode { conn.old.in_transaction ≡ false → conn.new.in_transaction ≡ false }
     ensures survives { LeavesNoMore S.Store conn.old conn.new }
 {

@@ -62,12 +62,12 @@ entries_from-below n (Did j item ∷ l) =
     (let e = entry_num n j item in omega arith, later n (length l) _ (entries_from-below (suc n) l))
 
 -- the next event's number is above those of all items
-pub items_below : (l : List Event) (t : Tables) → IsPermutation (entries_called l) t.entry2
+pub items_below : (l : List Event) (t : Tables) → IsPermutation (entries_called l) t.entries
     → AreItemsBelow (length l + 1) t
 items_below l t same =
-    subst (λ n. AllByRecursion (λ (e : EntryRow). e.num < n) t.entry2)
+    subst (λ n. AllByRecursion (λ (e : EntryRow). e.num < n) t.entries)
     (let e : 1 + length l ≡ length l + 1 = omega arith in e)
-    (all-permutation (λ (e : EntryRow). e.num < 1 + length l) (entries_called l) t.entry2 same (entries_from-below 1 l))
+    (all-permutation (λ (e : EntryRow). e.num < 1 + length l) (entries_called l) t.entries same (entries_from-below 1 l))
 
 -- Allotments.
 

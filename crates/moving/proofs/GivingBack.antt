@@ -60,7 +60,7 @@ compensation_stands t s ask reply j i c w a st desk at want may new =
           (follows l desk.legal j a at) comes)
           t.step st.step;
       answer = refl;
-      entry2 = refl;
+      entries = refl;
       mark =
           marks-drop l j (Compensation i c) t.mark st.mark i
           (is_taken-more (history l j) (Compensation i c));

@@ -124,7 +124,7 @@ batch_stands t s name rows st may =
           subst (λ called. IsPermutation called t.journey) (sym (journeys_called-loaded l name rows)) st.journey;
       step = subst (λ called. IsPermutation called t.step) (sym (steps_called-loaded l name rows)) st.step;
       answer = st.answer;
-      entry2 = subst (λ called. IsPermutation called t.entry2) (sym (entries-loaded l name rows)) st.entry2;
+      entries = subst (λ called. IsPermutation called t.entries) (sym (entries-loaded l name rows)) st.entries;
       mark = record {
         each =
             λ j p. st.mark.each j p ∙ sym (ap (λ h. is_taken h p) (history-loaded l name rows j));

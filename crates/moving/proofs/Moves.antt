@@ -37,7 +37,7 @@ pub record ItemStands (t u : Tables) (l : List Event) (j : ℕ) (item : Item) : 
   pub journey : IsPermutation (journeys_called (l ++ Did j item ∷ [])) u.journey
   pub step : IsPermutation (steps_called (l ++ Did j item ∷ [])) u.step
   pub answer : u.answer ≡ t.answer
-  pub entry2 : u.entry2 ≡ t.entry2
+  pub entries : u.entries ≡ t.entries
   pub mark : MarksStand (l ++ Did j item ∷ []) u.mark
 
 module _ (t u : Tables) (s : State) (j : ℕ) (item : Item) (st : StandsFor t s)
@@ -60,12 +60,12 @@ module _ (t u : Tables) (s : State) (j : ℕ) (item : Item) (st : StandsFor t s)
     journey = now.journey;
     step = now.step;
     answer = subst (AnswersStand s.kept) (sym now.answer) st.answer;
-    entry2 =
+    entries =
         subst
-        (λ rows. IsPermutation rows (u.entry2 ++ item_of j (item_written (length l + 1) item) ∷ []))
+        (λ rows. IsPermutation rows (u.entries ++ item_of j (item_written (length l + 1) item) ∷ []))
         (sym (entries-did l j item))
-        (IsPermutation-append_left (item_of j (item_written (length l + 1) item) ∷ []) (entries_called l) u.entry2
-        (subst (IsPermutation (entries_called l)) (sym now.entry2) st.entry2));
+        (IsPermutation-append_left (item_of j (item_written (length l + 1) item) ∷ []) (entries_called l) u.entries
+        (subst (IsPermutation (entries_called l)) (sym now.entries) st.entries));
     mark = now.mark;
   }
 

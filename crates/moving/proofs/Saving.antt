@@ -56,7 +56,7 @@ save_stands t s ask reply j p a st desk at may new =
           st.journey;
       step = steps-stay l j (Save p) t.step (net-save (history l j) p) st.step;
       answer = refl;
-      entry2 = refl;
+      entries = refl;
       mark =
           marks-add l j (Save p) t.mark st.mark p
           (save-new a.plan (history l j) (fits l (next_want a.plan (history l j))) p comes)

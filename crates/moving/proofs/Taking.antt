@@ -50,7 +50,7 @@ transaction_stands t s ask reply j i c w a st desk at want may new =
       step =
           steps-mark l j (Transaction i c) i c true (standing-transaction (history l j) i c) t.step st.step;
       answer = refl;
-      entry2 = refl;
+      entries = refl;
       mark =
           marks-stay l j (Transaction i c) t.mark (is_taken-more (history l j) (Transaction i c)) st.mark;
     }) ask reply new

@@ -40,7 +40,7 @@ turn_stands t s ask reply j p cause a st desk at may new =
           (cursor_next l j a (Turn p cause) desk.legal at may) st.journey;
       step = steps-stay l j (Turn p cause) t.step (net-turn (history l j) p cause) st.step;
       answer = refl;
-      entry2 = refl;
+      entries = refl;
       mark =
           marks-stay l j (Turn p cause) t.mark (is_taken-more (history l j) (Turn p cause)) st.mark;
     }) ask reply new

@@ -3,12 +3,13 @@ use Rattle.std.proofs.Common.{◌≡◌, List, [], ◌∷◌, map, Bool, false, 
 use Rattle.sqlite.specs.Store.{Ghosts}
 use Rattle.sqlite.specs.Held.{Held, state}
 use Rattle.sqlite.specs.State.{HasCleanDisk}
-use Rattle.desk_sql.specs.Calls.{MaySee, LeavesNoMore}
-use Rattle.desk_sql.specs.Rows.{Tables, Shows}
+use Rattle.desk_sql.specs.Calls.{MaySeeIn, ChangesNothing, LeavesNoMore}
+use Rattle.desk_sql.specs.declared.versions.Version.{Version}
+use Rattle.desk_sql.specs.Rows.{Tables, ShowsIn}
 use Rattle.ledger.specs.Answer.{State}
-use Rattle.standing.specs.Standing.{StandsFor}
-use Rattle.standing.specs.Keeping.{Keeps}
-use Rattle.desk_sql.specs.Handing.{HandsFirst as HandsFirstRow, Hands as HandsRows, StaysAsItIs, ChangesNothing}
+use Rattle.standing.specs.Standing.{StandsIn}
+use Rattle.standing.specs.Keeping.{KeepsIn}
+use Rattle.desk_sql.specs.Handing.{HandsFirst as HandsFirstRow, Hands as HandsRows, StaysAsItIs}
 use Rattle.saga_core.specs.RowSources.{HandsFirst}
 use Rattle.standing.proofs.KeepLemmas.{seen_by, quiet_keeps}
 use Rattle.reading.specs.Handing.{IsLeftAsItWas}
@@ -19,7 +20,7 @@ pub left_by : {S : Type 0} (g : Ghosts S) (old new : Held S) → ChangesNothing 
     → (old.in_transaction ≡ false → new.in_transaction ≡ false) → IsLeftAsItWas g old new
 left_by g old new same survives outside = record {
   reads = record {
-    keeps = λ s keeps clean. quiet_keeps (state g old) (state g new) s (keeps (was_clean g old new survives clean)) (same clean) survives clean;
+    keeps = λ v s keeps clean. quiet_keeps (state g old) (state g new) s (keeps (was_clean g old new survives clean)) (same clean) survives clean;
     stop = as_before g old new survives;
     less = was_clean g old new survives;
   };
@@ -27,14 +28,14 @@ left_by g old new same survives outside = record {
 }
 
 -- the tables that a connection had which keeps a state, seen from what it has become
-pub record IsThere {S : Type 0} (g : Ghosts S) (h : Held S) (s : State) : Type 0 where
+pub record IsThere (v : Version) {S : Type 0} (g : Ghosts S) (h : Held S) (s : State) : Type 0 where
   pub tables : Tables
-  pub may : MaySee (state g h) tables
-  pub rows : Shows (state g h).now.trees tables
-  pub stands : StandsFor tables s
+  pub may : MaySeeIn v (state g h) tables
+  pub rows : ShowsIn v (state g h).now.trees tables
+  pub stands : StandsIn v tables s
 
-pub there_at : {S : Type 0} (g : Ghosts S) (old new : Held S) (s : State) → Keeps (state g old) s → StaysAsItIs g old new → LeavesNoMore g old new
-    → HasCleanDisk (state g new) → IsThere g old s
+pub there_at : {v : Version} {S : Type 0} (g : Ghosts S) (old new : Held S) (s : State) → KeepsIn v (state g old) s → StaysAsItIs g old new
+    → LeavesNoMore g old new → HasCleanDisk (state g new) → IsThere v g old s
 there_at g old new s keeps same survives clean =
     let seen = seen_by (state g old) s (keeps (was_clean g old new survives clean)) in
     let live = (same clean).0.was_open in

@@ -1,5 +1,5 @@
 -- What the rows of journeys tell. For the functions of `reading`.
-use Rattle.std.proofs.Common.{◌≡◌, ℕ, zero, suc, ◌≤◌, ◌<◌, List, [], ◌∷◌, map, find, cond, length, Option, Some, None, Bool, true, false, refl, sym, ap, ap₂, ◌∙◌, arith}
+use Rattle.std.proofs.Common.{◌≡◌, ℕ, zero, suc, ◌≤◌, ◌<◌, List, [], ◌∷◌, map, find, cond, length, Option, Some, None, Bool, true, false, refl, sym, ap, ap₂, subst, ◌∙◌, arith}
 use Rattle.std.specs.Prelude.{option_map, filter_map, nat_lt, not}
 use Rattle.std.proofs.lemmas.Bool.{and_parts, and_from, ltb-true, lt-ltb}
 use Rattle.std.proofs.lemmas.Option.{slice_get_past}
@@ -7,19 +7,25 @@ use Rattle.commands.specs.declared.items.Cursor.{Cursor}
 use Rattle.saga_core.specs.Shown.{first_unfinished, is_unfinished_above, brief_of, record_of, record_of_journey, cursor_of, marks_of}
 use Rattle.saga_core.specs.declared.records.Record.{Record}
 use Rattle.plan.specs.Planned.{Planned, step_count}
+use Rattle.std.specs.List.{list_any}
 use Rattle.std.specs.FinSet as set
 use Rattle.std.specs.Ordering.{nat_cmp}
-use Rattle.desk_sql.specs.Rows.{JourneyRow}
-use Rattle.standing.proofs.RecordRows.{record_told}
+use Rattle.sqlite.specs.Tree.{Trees}
+use Rattle.desk_sql.specs.declared.versions.Version.{Version}
+use Rattle.desk_sql.specs.declared.versions.Version.TheVariants.{One, Two}
+use Rattle.desk_sql.specs.Rows.{JourneyRow, Tables, ShowsIn, ShowsMarks}
+use Rattle.standing.proofs.RecordRows.{record_told, marks_told}
 use Rattle.saga_core.specs.declared.records.Brief.{Brief}
 use Rattle.desk_sql.specs.Found.{journey_of}
 use Rattle.desk_sql.specs.declared.journeys.JourneyFound.{JourneyFound}
-use Rattle.ledger.specs.History.{is_finished}
+use Rattle.ledger.specs.Answer.{State}
+use Rattle.ledger.specs.History.{is_finished, is_taken}
 use Rattle.ledger.specs.Ledger.{Event, Journey, journeys, journey_at, numbers, history}
 use Rattle.standing.specs.Called.{cursor_row}
 use Rattle.standing.specs.Reading.{Tells, IsBriefOf, IsJourneyOf, cursor_in}
 use Rattle.standing.proofs.Cursors.{cursor_back}
-use Rattle.reading.specs.Reading.{TellsBrief, TellsStand, TellsRecord, stand_of}
+use Rattle.standing.specs.Standing.{StandsIn, is_mark_at}
+use Rattle.reading.specs.Reading.{TellsBrief, TellsStand, TellsRecord, stand_of, IsNone, AreMarksAt}
 use Rattle.reading.specs.declared.reads.Stand.{Stand}
 
 made_brief : ℕ → List ℕ → Cursor → Brief
@@ -138,3 +144,18 @@ stand_shown l id r b told tells =
 pub stand_none : (l : List Event) (id : ℕ) → Tells (λ (r : JourneyRow) a. (r.id ≡ id) × IsJourneyOf l r a) None (journey_at l id)
     → None ≡ option_map stand_of (record_of l id)
 stand_none l id told = ap (option_map stand_of) (record_none l id told)
+
+-- in tables of the first version no save-point stands that was taken
+pub none_taken : {v : Version} (db : Trees) (t : Tables) (s : State) → v ≡ One → ShowsIn v db t → StandsIn v t s → (id p : ℕ)
+    → is_taken (history s.ledger id) p ≡ false
+none_taken db t s first shown stands id p =
+    let none : t.mark ≡ [] = subst (λ v. ShowsMarks v db t.mark) first shown.mark in
+    sym (stands.mark.each id p) ∙ ap (list_any (is_mark_at id p)) none
+
+-- so the save-points of a journey are what is read of them, in tables of either version
+pub marks_either : (v : Version) (db : Trees) (t : Tables) (s : State) → ShowsIn v db t → StandsIn v t s → (id : ℕ) (marks : set.FinSet nat_cmp)
+    → (v ≡ One → IsNone marks) → (v ≡ Two → AreMarksAt id s marks) → AreMarksAt id s marks
+marks_either One db t s shown stands id marks first second =
+    let none = first refl in
+    marks_told (history s.ledger id) marks (λ p. none.none p ∙ sym (none_taken db t s refl shown stands id p)) none.low
+marks_either Two db t s shown stands id marks first second = second refl

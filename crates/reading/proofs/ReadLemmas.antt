@@ -4,14 +4,15 @@ use Rattle.std.specs.Prelude.{Result, Ok, Err, IfOk}
 use Rattle.sqlite.specs.Store.{Ghosts}
 use Rattle.sqlite.specs.State.{HasCleanDisk}
 use Rattle.sqlite.specs.Held.{Held, state}
-use Rattle.sqlite.specs.declared.error.Error.{Error}
-use Rattle.desk_sql.specs.Calls.{Reads, FailsQuietly, LeavesNoMore}
-use Rattle.desk_sql.specs.Rows.{Tables, Shows}
+use Rattle.desk_sql.specs.Calls.{ReadsIn, ChangesNothing, LeavesNoMore}
+use Rattle.desk_sql.specs.declared.versions.Version.{Version}
+use Rattle.desk_sql.specs.declared.versions.Version.TheVariants.{Two}
+use Rattle.desk_sql.specs.Rows.{Tables, ShowsIn}
 use Rattle.ledger.specs.Answer.{State}
-use Rattle.standing.specs.Standing.{StandsFor}
-use Rattle.standing.specs.Keeping.{Keeps}
-use Rattle.reading.specs.Reading.{KeepsOn, LeavesAsBefore, WasClean, OnlyReads}
-use Rattle.standing.proofs.KeepLemmas.{seen_by, left_before, unchanged_keeps, quiet_keeps}
+use Rattle.standing.specs.Standing.{StandsIn}
+use Rattle.standing.specs.Keeping.{KeepsIn}
+use Rattle.reading.specs.Reading.{KeepsOn, KeepsEach, LeavesAsBefore, WasClean, OnlyReads}
+use Rattle.standing.proofs.KeepLemmas.{seen_by, left_before, quiet_keeps}
 
 module _ {S : Type 0} (g : Ghosts S) (old new : Held S) where
   -- a store that returns what was written did so before
@@ -23,35 +24,29 @@ module _ {S : Type 0} (g : Ghosts S) (old new : Held S) where
   as_before survives = left_before (state g old) (state g new) survives
 
   -- the connection keeps each state that it kept, whether the read fails or not
-  pub keeps_on : {V : Type 0} (result : Result V Error) (Finds : Tables → V → Type 0)
-      → Reads g old new result Finds → FailsQuietly g old new result → LeavesNoMore g old new → KeepsOn g old new
-  keeps_on (Ok v) Finds reads fails survives s keeps clean =
-      let kept = keeps (was_clean survives clean) in
-      let seen = seen_by (state g old) s kept in
-      unchanged_keeps (state g old) (state g new) s kept (reads clean seen.tables seen.may).0 survives clean
-  keeps_on (Err e) Finds reads fails survives s keeps clean =
-      quiet_keeps (state g old) (state g new) s (keeps (was_clean survives clean)) (fails clean) survives clean
+  pub keeps_each : ChangesNothing g old new → LeavesNoMore g old new → KeepsEach g old new
+  keeps_each quiet survives v s keeps clean =
+      quiet_keeps (state g old) (state g new) s (keeps (was_clean survives clean)) (quiet clean) survives clean
+
+  pub keeps_on : ChangesNothing g old new → LeavesNoMore g old new → KeepsOn g old new
+  keeps_on quiet survives = keeps_each quiet survives Two
 
   -- all that a read leaves as it was
-  pub only_reads : {V : Type 0} (result : Result V Error) (Finds : Tables → V → Type 0)
-      → Reads g old new result Finds → FailsQuietly g old new result → LeavesNoMore g old new → OnlyReads g old new
-  only_reads result Finds reads fails survives = record {
-    keeps = keeps_on result Finds reads fails survives;
-    stop = as_before survives;
-    less = was_clean survives;
-  }
+  pub only_reads : ChangesNothing g old new → LeavesNoMore g old new → OnlyReads g old new
+  only_reads quiet survives =
+      record { keeps = keeps_each quiet survives; stop = as_before survives; less = was_clean survives }
 
-  -- what was found, of tables that stand for the state
-  pub record HasFound {V : Type 0} (s : State) (Finds : Tables → V → Type 0) (v : V) : Type 0 where
+  -- what was found, of tables of this version that stand for the state
+  pub record HasFound (v : Version) {V : Type 0} (s : State) (Finds : Tables → V → Type 0) (it : V) : Type 0 where
     pub tables : Tables
-    pub rows : Shows (state g old).now.trees tables
-    pub stands : StandsFor tables s
-    pub found : Finds tables v
+    pub rows : ShowsIn v (state g old).now.trees tables
+    pub stands : StandsIn v tables s
+    pub found : Finds tables it
 
   -- a success found what the tables of each kept state have
-  pub has_found : {V : Type 0} (v : V) (Finds : Tables → V → Type 0) → Reads g old new (Ok v) Finds → LeavesNoMore g old new
-      → HasCleanDisk (state g new) → (s : State) → Keeps (state g old) s → HasFound s Finds v
-  has_found v Finds reads survives clean s keeps =
+  pub has_found : {v : Version} {V : Type 0} (found : V) (Finds : Tables → V → Type 0) → ReadsIn g old new v (Ok found) Finds
+      → LeavesNoMore g old new → HasCleanDisk (state g new) → (s : State) → KeepsIn v (state g old) s → HasFound v s Finds found
+  has_found found Finds reads survives clean s keeps =
       let kept = keeps (was_clean survives clean) in
       let seen = seen_by (state g old) s kept in
       let done = reads clean seen.tables seen.may in
@@ -63,7 +58,7 @@ module _ {S : Type 0} (g : Ghosts S) (old new : Held S) where
 module _ {S : Type 0} (g : Ghosts S) (old mid new : Held S) where
   pub reads_then : OnlyReads g old mid → OnlyReads g mid new → OnlyReads g old new
   reads_then one two = record {
-    keeps = λ s keeps. two.keeps s (one.keeps s keeps);
+    keeps = λ v s keeps. two.keeps v s (one.keeps v s keeps);
     stop = λ clean db may. one.stop (two.less clean) db (two.stop clean db may);
     less = λ clean. one.less (two.less clean);
   }

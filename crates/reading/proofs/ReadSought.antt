@@ -10,10 +10,11 @@ use Rattle.ledger.specs.Ledger.{Event, Journey, journey_at, item_of, history}
 use Rattle.ledger.proofs.Ledgers.{all_go}
 use Rattle.desk_sql.specs.Found.{FindsJourney, FindsNextItem, journey_of, item_of as item_row}
 use Rattle.desk_sql.specs.declared.items.ItemFound.{ItemFound}
+use Rattle.desk_sql.specs.declared.versions.Version.{Version}
 use Rattle.desk_sql.specs.Rows.{Tables, JourneyRow}
 use Rattle.desk_sql.specs.declared.journeys.JourneyFound.{JourneyFound}
 use Rattle.standing.specs.Reading.{Tells, IsJourneyOf}
-use Rattle.standing.specs.Standing.{StandsFor, IsDesk}
+use Rattle.standing.specs.Standing.{StandsIn, IsDesk}
 use Rattle.standing.proofs.Readings.{journey_read, begins_read, next_read}
 use Rattle.standing.proofs.NextItems.{TellsIfNext}
 use Rattle.reading.specs.Sought.{AreSoughtAt, IsNextOf}
@@ -49,7 +50,7 @@ sought_nowhere s desk id w zero_is absent =
     }
 
 -- a number of which no row is found is that of no journey
-pub absent_read : (t : Tables) (s : State) (st : StandsFor t s) (desk : IsDesk s) (id : ℕ) → FindsJourney id t None
+pub absent_read : {v : Version} (t : Tables) (s : State) (st : StandsIn v t s) (desk : IsDesk s) (id : ℕ) → FindsJourney id t None
     → journey_at s.ledger id ≡ None
 absent_read t s st desk id finds = go (journey_at s.ledger id) refl (journey_read t s st desk id None finds)
   where
@@ -59,7 +60,7 @@ absent_read t s st desk id finds = go (journey_at s.ledger id) refl (journey_rea
     go (Some a) e tells = absurd tells
 
 -- a row that is found tells how many steps the journey has, and the event that began it
-pub sought_there : (t : Tables) (s : State) (st : StandsFor t s) (desk : IsDesk s) (id : ℕ) (found : JourneyFound)
+pub sought_there : {v : Version} (t : Tables) (s : State) (st : StandsIn v t s) (desk : IsDesk s) (id : ℕ) (found : JourneyFound)
     → FindsJourney id t (Some found) → (w : Sought) → w.journey ≡ id → w.after ≡ found.num → w.steps ≡ found.steps
     → AreSoughtAt id s w
 sought_there t s st desk id found finds w journey after steps =
@@ -76,7 +77,7 @@ sought_there t s st desk id found finds w journey after steps =
     }
 
 -- what the store finds behind an event is the next of the items that are sought
-pub next_sought : (t : Tables) (s : State) (st : StandsFor t s) (desk : IsDesk s) (w : Sought) (found : Option ItemFound)
+pub next_sought : {v : Version} (t : Tables) (s : State) (st : StandsIn v t s) (desk : IsDesk s) (w : Sought) (found : Option ItemFound)
     → FindsNextItem w.journey w.after t found → IsNextOf w s found
 next_sought t s st desk w found finds = go found (next_read t s st desk w.journey w.after found finds)
   where

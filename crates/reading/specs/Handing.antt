@@ -17,7 +17,8 @@ use Rattle.sqlite.specs.State.{HasCleanDisk}
 use Rattle.desk_sql.specs.Handing.{CellsRest, JourneysRest}
 use Rattle.desk_sql.specs.Rows.{JourneyRow, CursorRow}
 use Rattle.standing.specs.Called.{cursor_row}
-use Rattle.standing.specs.Keeping.{Keeps}
+use Rattle.desk_sql.specs.declared.versions.Version.{Version}
+use Rattle.standing.specs.Keeping.{KeepsIn}
 use Rattle.standing.specs.Reading.{stock_row_of}
 use Rattle.standing.specs.Standing.{IsDesk}
 use Rattle.reading.specs.Reading.{OnlyReads}
@@ -50,11 +51,12 @@ module _ {S : Type 0} (g : Ghosts S) where
   abbrev pub BriefsRest : Held S → List Brief → Type 0
   BriefsRest h briefs = (rows : List JourneyRow) × JourneysRest g h rows × TellBriefs rows briefs
 
-  -- of a journey that has come to this position the connection keeps these items behind an event, and no more
-  pub record AreBehind (h : Held S) (w : Sought) (pos : ℕ) (items : List Item) : Type 0 where
+  -- of a journey that has come to this position the connection keeps, in tables of this version, these
+  -- items after an event, and no more
+  pub record AreBehind (v : Version) (h : Held S) (w : Sought) (pos : ℕ) (items : List Item) : Type 0 where
     pub desk : State
     pub is_desk : IsDesk desk
-    pub keeps : Keeps (state g h) desk
+    pub keeps : KeepsIn v (state g h) desk
     pub has_steps : HasSteps desk.ledger w.journey w.steps
     pub before : List Item
     pub stands : position_of before ≡ pos
@@ -62,9 +64,9 @@ module _ {S : Type 0} (g : Ghosts S) where
     pub behind : history (drop w.after desk.ledger) w.journey ≡ items
 
   -- these items of a journey are still to come; none, where it is finished
-  abbrev pub ItemsLeft : Held S → Sought → ℕ → Bool → List Item → Type 0
-  ItemsLeft h w pos true items = items ≡ []
-  ItemsLeft h w pos false items = AreBehind h w pos items
+  abbrev pub ItemsLeft : Version → Held S → Sought → ℕ → Bool → List Item → Type 0
+  ItemsLeft v h w pos true items = items ≡ []
+  ItemsLeft v h w pos false items = AreBehind v h w pos items
 
   module _ (old new : Held S) where
     -- the connection keeps what it kept, and stays out of a transaction
@@ -72,11 +74,12 @@ module _ {S : Type 0} (g : Ghosts S) where
       pub reads : OnlyReads g old new
       pub outside : old.in_transaction ≡ false → new.in_transaction ≡ false
 
-    -- while the store returns what was written, such a list of each desk that the connection kept is
-    -- still to come
-    abbrev pub BeginsKept : {X : Type 0} → (State → List X → Type 0) → (List X → Type 0) → Type 0
-    BeginsKept {X} IsList Rests =
-        HasCleanDisk (state g new) → (s : State) → IsDesk s → Keeps (state g old) s
+    -- while the store returns what was written, such a list of each desk that the connection kept in
+    -- tables of this version is still to come
+    abbrev pub BeginsKept : Version → {X : Type 0} → (State → List X → Type 0) → (List X → Type 0)
+        → Type 0
+    BeginsKept v {X} IsList Rests =
+        HasCleanDisk (state g new) → (s : State) → IsDesk s → KeepsIn v (state g old) s
         → (rows : List X) → IsList s rows → Rests rows
 
   -- the reference is the same, and the connection behind it is left as it was
@@ -94,7 +97,7 @@ pub stays_alone : {S : Type 0} {g : Ghosts S} (a : MutBor (Held S)) → StaysUnd
 stays_alone a = record {
   same_reference = refl;
   left = record {
-    reads = record { keeps = λ s keeps. keeps; stop = λ clean db may. may; less = λ clean. clean };
+    reads = record { keeps = λ v s keeps. keeps; stop = λ clean db may. may; less = λ clean. clean };
     outside = λ outside. outside;
   };
 }
@@ -105,7 +108,7 @@ stays_twice a b c one two = record {
   same_reference = two.same_reference ∙ one.same_reference;
   left = record {
     reads = record {
-      keeps = λ s keeps. two.left.reads.keeps s (one.left.reads.keeps s keeps);
+      keeps = λ v s keeps. two.left.reads.keeps v s (one.left.reads.keeps v s keeps);
       stop = λ clean db may.
           one.left.reads.stop (two.left.reads.less clean) db (two.left.reads.stop clean db may);
       less = λ clean. one.left.reads.less (two.left.reads.less clean);

@@ -1,5 +1,5 @@
 -- What a read of a connection tells of the desk that it keeps, and what it leaves of it.
-use Rattle.std.specs.Prelude.{◌≡◌, ℕ, List, map, Option, None, Some, option_map, Result, IfOk}
+use Rattle.std.specs.Prelude.{◌≡◌, ℕ, false, List, map, Option, None, Some, option_map, Result, IfOk}
 use Rattle.allotment.specs.declared.cells.Cell.{Cell}
 use Rattle.allotment.specs.declared.places.Held.{Held as HeldPlaces}
 use Rattle.saga_core.specs.Shown.{night_said, first_unfinished, record_of, marks_of}
@@ -20,6 +20,7 @@ use Rattle.ledger.specs.Ledger.{Journey, journey_at, history}
 use Rattle.saga_core.specs.declared.records.Brief.{Brief}
 use Rattle.saga_core.specs.declared.records.Record.{Record}
 use Rattle.plan.specs.Planned.{Planned, step_count}
+use Rattle.savepoints.specs.Marks.{is_taken_in, AreInRange}
 use Rattle.std.specs.FinSet as set
 use Rattle.std.specs.Ordering.{nat_cmp}
 use Rattle.desk_sql.specs.Found.{journey_of, item_of}
@@ -28,20 +29,34 @@ use Rattle.desk_sql.specs.declared.items.ItemFound.{ItemFound}
 use Rattle.standing.specs.Standing.{IsDesk}
 use Rattle.reading.specs.declared.reads.Stand.{Stand}
 use Rattle.standing.specs.Reading.{cursor_in, item_in, night_seen, stock_row_of}
-use Rattle.standing.specs.Keeping.{Keeps}
+use Rattle.desk_sql.specs.declared.versions.Version.{Version}
+use Rattle.desk_sql.specs.declared.versions.Version.TheVariants.{Two}
+use Rattle.standing.specs.Keeping.{Keeps, KeepsIn}
 pub use Rattle.standing.specs.Keeping.{WasClean}
 
 module _ {S : Type 0} (g : Ghosts S) (old new : Held S) where
   -- while the store returns what was written, what is answered is so of each desk that the connection
-  -- kept
-  abbrev pub ShowsKept : {V : Type 0} → Result V Fault → (State → V → Type 0) → Type 0
-  ShowsKept result IsShown =
-      HasCleanDisk (state g new) → (s : State) → IsDesk s → Keeps (state g old) s
+  -- kept in tables of this version
+  abbrev pub ShowsKeptIn : Version → {V : Type 0} → Result V Fault → (State → V → Type 0) → Type 0
+  ShowsKeptIn v result IsShown =
+      HasCleanDisk (state g new) → (s : State) → IsDesk s → KeepsIn v (state g old) s
       → IfOk result (IsShown s)
 
-  -- the connection keeps each state that it kept
+  -- in tables of the newest version
+  abbrev pub ShowsKept : {V : Type 0} → Result V Fault → (State → V → Type 0) → Type 0
+  ShowsKept result IsShown = ShowsKeptIn Two result IsShown
+
+  -- in tables of each version
+  abbrev pub ShowsEach : {V : Type 0} → Result V Fault → (State → V → Type 0) → Type 0
+  ShowsEach result IsShown = (v : Version) → ShowsKeptIn v result IsShown
+
+  -- the connection keeps each state that it kept, in tables of the newest version
   abbrev pub KeepsOn : Type 0
   KeepsOn = (s : State) → Keeps (state g old) s → Keeps (state g new) s
+
+  -- the connection keeps each state that it kept, in tables of the same version
+  abbrev pub KeepsEach : Type 0
+  KeepsEach = (v : Version) (s : State) → KeepsIn v (state g old) s → KeepsIn v (state g new) s
 
   -- a stop leaves nothing that it could not have left before
   abbrev pub LeavesAsBefore : Type 0
@@ -51,7 +66,7 @@ module _ {S : Type 0} (g : Ghosts S) (old new : Held S) where
 
   -- all of these
   pub record OnlyReads : Type 0 where
-    pub keeps : KeepsOn
+    pub keeps : KeepsEach
     pub stop : LeavesAsBefore
     pub less : WasClean g old new
 
@@ -119,6 +134,11 @@ stand_of r = record { agent = r.agent; steps = step_count r.plan; cursor = r.cur
 -- where the journey of this number is, if there is one
 abbrev pub IsStandAt : ℕ → State → Option Stand → Type 0
 IsStandAt id s found = found ≡ option_map stand_of (record_of s.ledger id)
+
+-- no save-point was taken
+pub record IsNone (marks : set.FinSet nat_cmp) : Type 0 where
+  pub none : (p : ℕ) → is_taken_in marks p ≡ false
+  pub low : AreInRange marks
 
 -- the save-points that the journey of this number took and that stand
 abbrev pub AreMarksAt : ℕ → State → set.FinSet nat_cmp → Type 0

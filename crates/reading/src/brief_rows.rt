@@ -4,6 +4,7 @@ ghost use Rattle.std.specs.Prelude.{◌≡◌, false, IfOk};
 ghost use Rattle.sqlite.specs.Held.{state};
 ghost use Rattle.sqlite.specs.State.{HasCleanDisk};
 ghost use Rattle.saga_core.specs.Shown.{unfinished_of};
+ghost use Rattle.desk_sql.specs.declared.versions.Version.{Version};
 ghost use Rattle.reading.specs.Handing.{BriefsRest, IsLeftAsItWas, BeginsKept};
 
 use crate::faults::fault_of;
@@ -28,8 +29,8 @@ pub fn unfinished_rows<'c, S: Alter>(
 ) -> Result<UnfinishedRows<'c, S>, Fault>
     ensures same_reference { IfOk result (λ it.
         it.handed.rows.conn.ghost_name ≡ conn.entry.ghost_name) }
-    ensures rows { IfOk result (λ it. BeginsKept S.Store conn.old it.handed.rows.conn.now
-        (λ s briefs. briefs ≡ unfinished_of s.ledger)
+    ensures rows { IfOk result (λ it. (v : Version)
+        → BeginsKept S.Store conn.old it.handed.rows.conn.now v (λ s briefs. briefs ≡ unfinished_of s.ledger)
         (⟦<UnfinishedRows<'c, S> as RowSource<Brief>>⟧.rests it)) }
     ensures none { IfOk result (λ it.
         ⟦<UnfinishedRows<'c, S> as RowSource<Brief>>⟧.given it ≡ 0) }

@@ -4,6 +4,7 @@ ghost use Rattle.std.specs.Prelude.{◌≡◌, false, IfOk};
 ghost use Rattle.saga_core.specs.Shown.{IsStock};
 ghost use Rattle.sqlite.specs.Held.{state};
 ghost use Rattle.sqlite.specs.State.{HasCleanDisk};
+ghost use Rattle.desk_sql.specs.declared.versions.Version.{Version};
 ghost use Rattle.reading.specs.Handing.{StockRests, IsLeftAsItWas, BeginsKept};
 
 use crate::faults::fault_of;
@@ -27,8 +28,8 @@ pub struct StockRows<'c, S: Alter> {
 pub fn stock_rows<'c, S: Alter>(conn: &'c mut Connection<S>) -> Result<StockRows<'c, S>, Fault>
     ensures same_reference { IfOk result (λ it.
         it.handed.rows.conn.ghost_name ≡ conn.entry.ghost_name) }
-    ensures rows { IfOk result (λ it. BeginsKept S.Store conn.old it.handed.rows.conn.now
-        (λ s rows. IsStock s.ledger rows)
+    ensures rows { IfOk result (λ it. (v : Version)
+        → BeginsKept S.Store conn.old it.handed.rows.conn.now v (λ s rows. IsStock s.ledger rows)
         (⟦<StockRows<'c, S> as RowSource<(Cell, Held)>>⟧.rests it)) }
     ensures none { IfOk result (λ it.
         ⟦<StockRows<'c, S> as RowSource<(Cell, Held)>>⟧.given it ≡ 0) }

@@ -1,7 +1,7 @@
 //! The items of a journey, oldest first, handed out one at a time.
 //!
-//! Each is asked for by itself, behind the event of the one before, the first behind the event that began the journey; so
-//! the store looks no further than the next one. Behind the item with which the journey is finished it is not asked.
+//! Each is asked for by itself, after the event of the one before, the first after the event that began the journey; so the
+//! store looks no further than the next one. After the item with which the journey is finished it is not asked.
 
 ghost use Rattle.std.specs.Prelude.{◌≡◌, false, IfOk};
 ghost use Rattle.sqlite.specs.Held.{state};
@@ -15,6 +15,7 @@ use crate::reads::{find_next, find_sought};
 use crate::sought::Sought;
 use crate::telling::item_told;
 use commands::{Fault, Item};
+use desk_sql::Version;
 use saga_core::RowSource;
 use sqlite::{Alter, Connection};
 
@@ -22,19 +23,22 @@ use sqlite::{Alter, Connection};
 #[derive(Drop)]
 pub struct ItemRows<'c, S: Alter> {
     conn: &'c mut Connection<S>,
-    // The next item is sought behind this event.
+    // The version of the tables.
+    version: Version,
+    // The next item is sought after this event.
     sought: Sought,
     // Where the journey stood after the items that were given, and whether it was finished with the last of them.
     pos: u64,
     finished: bool,
     given: u64,
-    // A row could not be read, or told nothing, and none may be handed out behind it.
+    // A row could not be read, or told nothing, and none may be handed out after it.
     failed: bool,
 }
 
 /// Begins to hand out the items of the journey of that number; none where it is absent.
 pub fn item_rows<'c, S: Alter>(
     conn: &'c mut Connection<S>,
+    version: Version,
     id: u64,
 ) -> Result<ItemRows<'c, S>, Fault>
     requires { conn.old.in_transaction ≡ false }
@@ -42,7 +46,7 @@ pub fn item_rows<'c, S: Alter>(
     ensures* fault { sem 𝓛 (LeavesIfErr S.row S.Store (λ it. it.conn.ghost_name) conn.entry result) }
     ensures same_reference { IfOk result (λ it.
         it.conn.ghost_name ≡ conn.entry.ghost_name) }
-    ensures rows { IfOk result (λ it. BeginsKept S.Store conn.old it.conn.now
+    ensures rows { IfOk result (λ it. BeginsKept S.Store conn.old it.conn.now version
         (λ s items. items ≡ history s.ledger id)
         (⟦<ItemRows<'c, S> as RowSource<Item>>⟧.rests it)) }
     ensures none { IfOk result (λ it. ⟦<ItemRows<'c, S> as RowSource<Item>>⟧.given it ≡ 0) }
@@ -51,6 +55,7 @@ pub fn item_rows<'c, S: Alter>(
     match find_sought(conn, id) {
         Ok(sought) => Ok(ItemRows {
             conn,
+            version,
             sought,
             pos: 0,
             finished: false,
@@ -67,7 +72,7 @@ impl<S: Alter> RowSource<Item> for ItemRows<'_, S> {
     ghost is_sound = { λ s. HasCleanDisk (state S.Store s.conn.now) };
 
     ghost rests = { λ s items. (s.failed ≡ false)
-        × ItemsLeft S.Store s.conn.now s.sought s.pos s.finished items };
+        × ItemsLeft S.Store s.version s.conn.now s.sought s.pos s.finished items };
 
     ghost given = { λ s. s.given };
 
@@ -86,7 +91,7 @@ impl<S: Alter> RowSource<Item> for ItemRows<'_, S> {
             return Ok(None);
         }
         self.failed = true;
-        match find_next(self.conn, &self.sought) {
+        match find_next(self.conn, self.version, &self.sought) {
             Ok(Some(found)) => match item_told(&found) {
                 Some(item) if given < u64::MAX => {
                     self.sought.after = found.num;

@@ -2,8 +2,10 @@
 ghost use Rattle.std.specs.Prelude.{◌≡◌, ◌<◌, ◌^◌, false, IfOk};
 ghost use Rattle.ledger.specs.Ledger.{history};
 ghost use Rattle.saga_core.specs.Shown.{ShowsCells, IsStock};
-ghost use Rattle.reading.specs.Reading.{ShowsKept, KeepsOn, LeavesAsBefore, WasClean};
-ghost use Rattle.reading.specs.Reading.{IsFirstAbove, HasNone, IsRecordAt, IsStandAt, AreMarksAt, IsPlanOf};
+ghost use Rattle.reading.specs.Reading.{ShowsKept, ShowsKeptIn, ShowsEach, KeepsOn, KeepsEach, LeavesAsBefore, WasClean};
+ghost use Rattle.reading.specs.Reading.{IsFirstAbove, HasNone, IsRecordAt, IsStandAt, AreMarksAt, IsNone, IsPlanOf};
+ghost use Rattle.desk_sql.specs.Calls.{ReadsIn, ChangesNothing, LeavesNoMore};
+ghost use Rattle.desk_sql.specs.Found.{FindsNextItem};
 ghost use Rattle.reading.specs.Sought.{AreSoughtAt, IsNextOf};
 
 use crate::faults::fault_of;
@@ -15,13 +17,13 @@ use crate::telling::{
 use allotment::{Cell, Held, Night, Want};
 use commands::{Agent, Cursor, Fault, Item};
 use desk_sql::{
-    ItemFound, NightRange, find_items, find_journey, find_marks, find_nights, find_steps,
-    find_stock, first_unfinished, next_item, read_meta,
+    ItemFound, NightRange, Version, find_items, find_journey, find_marks, find_nights, find_steps,
+    find_stock, first_unfinished, next_item, next_old_item, read_meta,
 };
 use plan::Plan;
 use saga_core::{Brief, Record};
 use savepoints::Marks;
-use sqlite::{Alter, Connection};
+use sqlite::{Alter, Connection, Error};
 use std::alloc::Global;
 
 /// The largest number that a store can be asked for.
@@ -55,8 +57,8 @@ pub(crate) fn check_absent<S: Alter>(conn: &mut Connection<S>, id: u64) -> Resul
     requires { conn.old.in_transaction ≡ false }
 
     ensures outside { conn.new.in_transaction ≡ false }
-    ensures absent { ShowsKept S.Store conn.old conn.new result (HasNone id) }
-    ensures same { KeepsOn S.Store conn.old conn.new }
+    ensures absent { ShowsEach S.Store conn.old conn.new result (HasNone id) }
+    ensures same { KeepsEach S.Store conn.old conn.new }
     ensures stop { LeavesAsBefore S.Store conn.old conn.new }
     ensures less { WasClean S.Store conn.old conn.new }
 {
@@ -74,8 +76,8 @@ pub(crate) fn find_sought<S: Alter>(conn: &mut Connection<S>, id: u64) -> Result
     ensures outside { conn.new.in_transaction ≡ false }
     ensures journey { IfOk result (λ w. w.journey < 2 ^ 63) }
     ensures after { IfOk result (λ w. w.after < 2 ^ 63) }
-    ensures sought { ShowsKept S.Store conn.old conn.new result (AreSoughtAt id) }
-    ensures same { KeepsOn S.Store conn.old conn.new }
+    ensures sought { ShowsEach S.Store conn.old conn.new result (AreSoughtAt id) }
+    ensures same { KeepsEach S.Store conn.old conn.new }
     ensures stop { LeavesAsBefore S.Store conn.old conn.new }
     ensures less { WasClean S.Store conn.old conn.new }
 {
@@ -95,21 +97,43 @@ pub(crate) fn find_sought<S: Alter>(conn: &mut Connection<S>, id: u64) -> Result
     }
 }
 
-/// The next of the items that are sought, with the number of its event.
+/// The first item of a journey of which the event has a number above this one, in tables of this version.
+fn next_in<S: Alter>(
+    conn: &mut Connection<S>,
+    version: Version,
+    journey: u64,
+    after: u64,
+) -> Result<Option<ItemFound>, Error>
+    requires journey { journey < 2 ^ 63 }
+    requires after { after < 2 ^ 63 }
+
+    ensures found { ReadsIn S.Store conn.old conn.new version result (FindsNextItem journey after) }
+    ensures quiet { ChangesNothing S.Store conn.old conn.new }
+    ensures mode { conn.old.in_transaction ≡ false → conn.new.in_transaction ≡ false }
+    ensures survives { LeavesNoMore S.Store conn.old conn.new }
+{
+    match version {
+        Version::One => next_old_item(conn, journey, after),
+        Version::Two => next_item(conn, journey, after),
+    }
+}
+
+/// The next of the items that are sought in tables of this version, with the number of its event.
 pub(crate) fn find_next<S: Alter>(
     conn: &mut Connection<S>,
+    version: Version,
     sought: &Sought,
 ) -> Result<Option<ItemFound>, Fault>
     ensures outside { conn.old.in_transaction ≡ false → conn.new.in_transaction ≡ false }
-    ensures next { ShowsKept S.Store conn.old conn.new result (IsNextOf sought.now) }
-    ensures same { KeepsOn S.Store conn.old conn.new }
+    ensures next { ShowsKeptIn S.Store conn.old conn.new version result (IsNextOf sought.now) }
+    ensures same { KeepsEach S.Store conn.old conn.new }
     ensures stop { LeavesAsBefore S.Store conn.old conn.new }
     ensures less { WasClean S.Store conn.old conn.new }
 {
     if sought.journey > LARGEST || sought.after > LARGEST {
         return Err(Fault::Store);
     }
-    match next_item(conn, sought.journey, sought.after) {
+    match next_in(conn, version, sought.journey, sought.after) {
         Ok(found) => Ok(found),
         Err(error) => Err(fault_of(&error)),
     }
@@ -148,8 +172,8 @@ fn read_plan<S: Alter>(
     requires small { id < 2 ^ 63 }
 
     ensures outside { conn.new.in_transaction ≡ false }
-    ensures plan { ShowsKept S.Store conn.old conn.new result (IsPlanOf id tries) }
-    ensures same { KeepsOn S.Store conn.old conn.new }
+    ensures plan { ShowsEach S.Store conn.old conn.new result (IsPlanOf id tries) }
+    ensures same { KeepsEach S.Store conn.old conn.new }
     ensures stop { LeavesAsBefore S.Store conn.old conn.new }
     ensures less { WasClean S.Store conn.old conn.new }
 {
@@ -166,7 +190,7 @@ fn read_marks<S: Alter>(alloc: Global, conn: &mut Connection<S>, id: u64) -> Res
 
     ensures outside { conn.new.in_transaction ≡ false }
     ensures marks { ShowsKept S.Store conn.old conn.new result (AreMarksAt id) }
-    ensures same { KeepsOn S.Store conn.old conn.new }
+    ensures same { KeepsEach S.Store conn.old conn.new }
     ensures stop { LeavesAsBefore S.Store conn.old conn.new }
     ensures less { WasClean S.Store conn.old conn.new }
 {
@@ -176,6 +200,34 @@ fn read_marks<S: Alter>(alloc: Global, conn: &mut Connection<S>, id: u64) -> Res
             None => Err(Fault::Store),
         },
         Err(error) => Err(fault_of(&error)),
+    }
+}
+
+/// The save-points that the journey of that number took and that stand; in tables of the first version there are none.
+fn read_taken<S: Alter>(
+    alloc: Global,
+    conn: &mut Connection<S>,
+    version: Version,
+    id: u64,
+) -> Result<Marks, Fault>
+    requires outside { conn.old.in_transaction ≡ false }
+    requires small { id < 2 ^ 63 }
+
+    ensures outside { conn.new.in_transaction ≡ false }
+    ensures first { version ≡ Version.One → IfOk result IsNone }
+    ensures marks { version ≡ Version.Two
+        → ShowsKept S.Store conn.old conn.new result (AreMarksAt id) }
+    ensures same { KeepsEach S.Store conn.old conn.new }
+    ensures stop { LeavesAsBefore S.Store conn.old conn.new }
+    ensures less { WasClean S.Store conn.old conn.new }
+{
+    match version {
+        Version::One => {
+            let marks = Marks::none();
+            let _in_range = marks.has(0);
+            Ok(marks)
+        }
+        Version::Two => read_marks(alloc, conn, id),
     }
 }
 
@@ -214,17 +266,18 @@ pub fn read_stand<S: Alter>(conn: &mut Connection<S>, id: u64) -> Result<Option<
     }
 }
 
-/// The journey of that number, if there is one.
+/// The journey of that number in tables of this version, if there is one.
 pub fn read_journey<S: Alter>(
     alloc: Global,
     conn: &mut Connection<S>,
+    version: Version,
     id: u64,
 ) -> Result<Option<Record>, Fault>
     requires { conn.old.in_transaction ≡ false }
 
     ensures outside { conn.new.in_transaction ≡ false }
-    ensures journey { ShowsKept S.Store conn.old conn.new result (IsRecordAt id) }
-    ensures same { KeepsOn S.Store conn.old conn.new }
+    ensures journey { ShowsKeptIn S.Store conn.old conn.new version result (IsRecordAt id) }
+    ensures same { KeepsEach S.Store conn.old conn.new }
     ensures stop { LeavesAsBefore S.Store conn.old conn.new }
     ensures less { WasClean S.Store conn.old conn.new }
 {
@@ -236,7 +289,7 @@ pub fn read_journey<S: Alter>(
         Ok(None) => Ok(None),
         Ok(Some(found)) => {
             let plan = read_plan(alloc, conn, id, found.tries)?;
-            let marks = read_marks(alloc, conn, id)?;
+            let marks = read_taken(alloc, conn, version, id)?;
             match record_of(&found, plan, marks) {
                 Some(record) => Ok(Some(record)),
                 None => Err(Fault::Store),

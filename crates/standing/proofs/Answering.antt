@@ -96,7 +96,7 @@ answer_stands t s (Some ask) reply st new = record {
   journey = st.journey;
   step = st.step;
   answer = answers_stand-more s.kept t.answer ask reply st.answer new;
-  entry2 = st.entry2;
+  entries = st.entries;
   mark = st.mark;
 }
 

@@ -177,9 +177,9 @@ journey_stands t s agent plan st legal good =
           (sym (steps-begun l legal agent plan good))
           (IsPermutation-append_left (step_rows_of (length (journeys l) + 1) plan) (steps_called l) t.step st.step);
       answer = st.answer;
-      entry2 =
-          subst (λ rows. IsPermutation rows t.entry2)
-          (sym (entries-begun l legal agent plan good)) st.entry2;
+      entries =
+          subst (λ rows. IsPermutation rows t.entries)
+          (sym (entries-begun l legal agent plan good)) st.entries;
       mark = record {
         each =
             λ j p. st.mark.each j p

@@ -14,7 +14,7 @@ founded_stands = record {
   journey = IsPermutation-refl [];
   step = IsPermutation-refl [];
   answer = record { each = λ agent key. refl; once = tt };
-  entry2 = IsPermutation-refl [];
+  entries = IsPermutation-refl [];
   mark = record { each = λ journey pos. refl; once = tt };
 }
 

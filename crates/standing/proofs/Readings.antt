@@ -14,6 +14,8 @@ use Rattle.ledger.specs.History.{is_taken}
 use Rattle.ledger.specs.Ledger.{Journey, journeys, journey_at, history}
 use Rattle.ledger.specs.Answer.{State}
 use Rattle.saga_core.specs.Shown.{first_unfinished, places_shown, IsStock}
+use Rattle.desk_sql.specs.declared.versions.Version.{Version}
+use Rattle.desk_sql.specs.Versions.{number_of}
 use Rattle.desk_sql.specs.Rows.{Tables, MetaRow, StockRow, JourneyRow, EntryRow}
 use Rattle.desk_sql.specs.Changes.{AreJourneysBelow}
 use Rattle.desk_sql.specs.Found.{meta_of, IsMeta, answer_of, FindsAnswer, journey_of, FindsJourney, FindsUnfinished, step_of, FindsSteps, FindsOptions, item_of, FindsItems, FindsNextItem, FindsMarks}
@@ -27,7 +29,7 @@ use Rattle.desk_sql.specs.declared.stock.NightRange.{NightRange}
 use Rattle.desk_sql.specs.declared.stock.NightFound.{NightFound}
 use Rattle.desk_sql.specs.declared.stock.CellFound.{CellFound}
 use Rattle.standing.specs.Called.{is_standing, option_rows, step_rows, step_rows_of}
-use Rattle.standing.specs.Standing.{StandsFor, IsDesk}
+use Rattle.standing.specs.Standing.{StandsIn, IsDesk}
 use Rattle.standing.specs.Reading.{Tells, IsAnswerOf, IsJourneyOf, IsBriefOf, item_in, not_taken, IsRangeOf, is_wanted_row, night_told, night_seen, stock_row_of}
 use Rattle.standing.proofs.Orders.{Rises}
 use Rattle.standing.proofs.Answered.{answer_found}
@@ -41,12 +43,12 @@ use Rattle.standing.proofs.NextItems.{TellsIfNext, next_found}
 use Rattle.standing.proofs.StockRows.{nights_found, stock_found}
 use Rattle.standing.proofs.RecordRows.{plan_good, plan_told}
 
-module _ (t : Tables) (s : State) (st : StandsFor t s) (desk : IsDesk s) where
+module _ {v : Version} (t : Tables) (s : State) (st : StandsIn v t s) (desk : IsDesk s) where
   -- the row of meta counts the events and the journeys
   pub meta_read : (m : Meta) → IsMeta t m
-      → (m.version ≡ 2) × (m.events ≡ length s.ledger) × (m.journeys ≡ length (journeys s.ledger))
+      → (m.version ≡ number_of v) × (m.events ≡ length s.ledger) × (m.journeys ≡ length (journeys s.ledger))
   meta_read m is =
-      let same : meta_of m ≡ record { version = 2; events = length s.ledger; journeys = length (journeys s.ledger) } =
+      let same : meta_of m ≡ record { version = number_of v; events = length s.ledger; journeys = length (journeys s.ledger) } =
       (let rows = sym is ∙ st.meta in ap head_row rows) in
       (ap (λ (r : MetaRow). r.version) same, ap (λ (r : MetaRow). r.events) same, ap (λ (r : MetaRow). r.journeys) same)
     where
@@ -84,25 +86,25 @@ module _ (t : Tables) (s : State) (st : StandsFor t s) (desk : IsDesk s) where
       let begins = journey_begins s.ledger t.journey id (journey_of found) st.journey finds in
       ap (λ n. history (take n s.ledger) id) begins.2 ∙ no_item_before s.ledger id begins.0 desk.legal begins.1
 
-  -- the items that are found of a journey are its history, where they are sought from behind events that are no items
-  -- of it; the rows of the table come by their numbers
+  -- the items that are found of a journey are its history, where they are sought after events that are no items of
+  -- it; the rows of the table come by their numbers
   pub items_read : (id after : ℕ) (found : List ItemFound) → history (take after s.ledger) id ≡ []
-      → Rises (λ (e : EntryRow). e.num) t.entry2 → FindsItems id after t found
+      → Rises (λ (e : EntryRow). e.num) t.entries → FindsItems id after t found
       → map (λ (i : ItemFound). item_in (item_of id i)) found ≡ map Some (history s.ledger id)
   items_read id after found none up finds =
       sym (map-map (item_of id) item_in found) ∙ ap (map item_in) finds
-      ∙ items_found s.ledger t.entry2 id after none st.entry2 up
+      ∙ items_found s.ledger t.entries id after none st.entries up
     where
       map-map : {X Y Z : Type 0} (f : X → Y) (g : Y → Z) (xs : List X)
           → map g (map f xs) ≡ map (λ x. g (f x)) xs
       map-map f g [] = refl
       map-map f g (x ∷ xs) = ap (λ ys. g (f x) ∷ ys) (map-map f g xs)
 
-  -- what is found behind so many events tells the journey's next item
+  -- what is found after so many events tells the journey's next item
   pub next_read : (id after : ℕ) (found : Option ItemFound) → FindsNextItem id after t found
       → TellsIfNext id 1 after s.ledger (option_map (item_of id) found)
   next_read id after found finds =
-      next_found s.ledger t.entry2 id after (option_map (item_of id) found) st.entry2 finds
+      next_found s.ledger t.entries id after (option_map (item_of id) found) st.entries finds
 
   -- the options that are found of a journey are the rows of its plan, in order
   pub steps_read : (id : ℕ) (a : Journey) (found : List StepFound) → journey_at s.ledger id ≡ Some a

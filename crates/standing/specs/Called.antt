@@ -16,6 +16,9 @@ use Rattle.commands.specs.declared.items.Phase.TheVariants.{Run, Back, Ended, Un
 use Rattle.ledger.specs.History.{net}
 use Rattle.ledger.specs.Ledger.{Event, Loaded, Began, Did, Journey, journeys, history}
 use Rattle.saga_core.specs.Shown.{cursor_of}
+use Rattle.desk_sql.specs.declared.versions.Version.{Version}
+use Rattle.desk_sql.specs.declared.versions.Version.TheVariants.{Two}
+use Rattle.desk_sql.specs.Versions.{number_of}
 use Rattle.desk_sql.specs.Rows.{MetaRow, BatchRow, JourneyRow, CursorRow, StepRow, EntryRow}
 
 -- each of these with its number, where the first has this one
@@ -23,9 +26,13 @@ abbrev pub counted_from : {X : Type 0} → ℕ → List X → List (ℕ × X)
 counted_from first [] = []
 counted_from first (x ∷ xs) = (first, x) ∷ counted_from (suc first) xs
 
--- the row of meta: the second schema, how many events there are, and how many journeys
+-- the row of meta: the version of the tables, how many events there are, and how many journeys
+abbrev pub meta_in : Version → List Event → MetaRow
+meta_in v l = record { version = number_of v; events = length l; journeys = length (journeys l) }
+
+-- the same, of the newest version
 abbrev pub meta_called : List Event → MetaRow
-meta_called l = record { version = 2; events = length l; journeys = length (journeys l) }
+meta_called l = meta_in Two l
 
 -- Batches.
 

@@ -1,6 +1,6 @@
 -- What the rows of the tables stand for: a ledger with its kept replies.
--- Rows are taken as sets: of no table is the order of its rows looked at. Nothing is said of the
--- table entry.
+-- Rows are taken as sets: of no table is the order of its rows looked at. The items stand in the table
+-- that the version has for them; nothing is said of the table entry where it is not that one.
 use Rattle.std.specs.Prelude.{◌≡◌, ℕ, ◌==◌, ◌&&◌, Bool, false, List, [], ◌∷◌, find, bytes_eq, Option, option_map, IfSome, IsTrue}
 use Rattle.std.specs.List.{AllByRecursion, list_any}
 use Rattle.std.specs.List.Sorted.{IsPermutation}
@@ -12,9 +12,11 @@ use Rattle.ledger.specs.History.{is_taken}
 use Rattle.ledger.specs.Ledger.{Event, history, IsLegal}
 use Rattle.ledger.specs.Answer.{Kept, KeptReply, State}
 use Rattle.saga_core.specs.Shown.{Places, places_of}
+use Rattle.desk_sql.specs.declared.versions.Version.{Version}
+use Rattle.desk_sql.specs.declared.versions.Version.TheVariants.{Two}
 use Rattle.desk_sql.specs.Found.{is_for}
 use Rattle.desk_sql.specs.Rows.{Tables, StockRow, MarkRow, AnswerRow}
-use Rattle.standing.specs.Called.{meta_called, batches_called, journeys_called, steps_called, entries_called}
+use Rattle.standing.specs.Called.{meta_in, batches_called, journeys_called, steps_called, entries_called}
 
 -- no two of these are the same
 abbrev pub AreApart : {X : Type 0} → (X → X → Bool) → List X → Type 0
@@ -103,16 +105,20 @@ IsKeepable kept = (agent key : List ℕ) → IfSome (kept agent key) (λ k. IsTr
 
 -- The tables.
 
--- the rows are those that the ledger and the kept replies call for
-pub record StandsFor (t : Tables) (s : State) : Type 0 where
-  pub meta : t.meta ≡ meta_called s.ledger ∷ []
+-- the rows of tables of this version are those that the ledger and the kept replies call for
+pub record StandsIn (v : Version) (t : Tables) (s : State) : Type 0 where
+  pub meta : t.meta ≡ meta_in v s.ledger ∷ []
   pub stock : StockStands s.ledger t.stock
   pub batch : IsPermutation (batches_called s.ledger) t.batch
   pub journey : IsPermutation (journeys_called s.ledger) t.journey
   pub step : IsPermutation (steps_called s.ledger) t.step
   pub answer : AnswersStand s.kept t.answer
-  pub entry2 : IsPermutation (entries_called s.ledger) t.entry2
+  pub entries : IsPermutation (entries_called s.ledger) t.entries
   pub mark : MarksStand s.ledger t.mark
+
+-- the same, of tables of the newest version
+abbrev pub StandsFor : Tables → State → Type 0
+StandsFor t s = StandsIn Two t s
 
 -- the state of a desk: its ledger is legal, and its kept replies can be read from their lines
 pub record IsDesk (s : State) : Type 0 where

@@ -70,7 +70,7 @@ module _ (s : State) (ask : Option Asked) (reply : Reply) (id : ℕ) (a : Journe
       → LeadsTo n (Turn (record { journey = id; target = p; cause = cause; cursor = then })) ask reply s
       (state_with s ask reply (Some (Did id (item.Turn p cause))))
   turn_leads p cause is = record {
-    fits = λ t st. rw is.num (items_below s.ledger t st.entry2);
+    fits = λ t st. rw is.num (items_below s.ledger t st.entries);
     stands = λ t st. rw (is.num, is.journeys_are, is.cursor)
         (turn_stands t s ask reply id p cause a st is.desk is.at is.may is.new);
   }
@@ -80,7 +80,7 @@ module _ (s : State) (ask : Option Asked) (reply : Reply) (id : ℕ) (a : Journe
       → LeadsTo n (Save (record { journey = id; position = p })) ask reply s
       (state_with s ask reply (Some (Did id (item.Save p))))
   save_leads p is = record {
-    fits = λ t st. rw is.num (items_below s.ledger t st.entry2);
+    fits = λ t st. rw is.num (items_below s.ledger t st.entries);
     stands = λ t st. rw (is.num, is.journeys_are)
         (save_stands t s ask reply id p a st is.desk is.at is.may is.new);
   }
@@ -94,7 +94,7 @@ module _ (s : State) (ask : Option Asked) (reply : Reply) (id : ℕ) (a : Journe
       free = λ r range. nights_have_free s.ledger t is.desk.legal st.stock r w range
           (wanted_nights s.ledger id i c a w is.desk.legal is.at want)
           (ap (fits s.ledger) (sym want) ∙ transaction_fits s.ledger id i c a is.at is.may);
-      below = rw is.num (items_below s.ledger t st.entry2);
+      below = rw is.num (items_below s.ledger t st.entries);
     };
     stands = λ t st. rw (is.num, is.journeys_are, is.cursor)
         (transaction_stands t s ask reply id i c w a st is.desk is.at want is.may is.new);
@@ -108,7 +108,7 @@ module _ (s : State) (ask : Option Asked) (reply : Reply) (id : ℕ) (a : Journe
     fits = λ t st. record {
       room = λ r range. nights_have_room s.ledger t is.desk.legal st.stock r w
           (wanted_count s.ledger id i c a w is.desk.legal is.at want);
-      below = rw is.num (items_below s.ledger t st.entry2);
+      below = rw is.num (items_below s.ledger t st.entries);
     };
     stands = λ t st. rw (is.num, is.journeys_are, is.cursor)
         (compensation_stands t s ask reply id i c w a st is.desk is.at want is.may is.new);

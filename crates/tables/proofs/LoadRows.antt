@@ -25,6 +25,7 @@ use Rattle.standing.specs.Standing.{IsDesk}
 use Rattle.moving.specs.Loading.{put_rows}
 use Rattle.writing.specs.Loads.{put_each}
 use Rattle.writing.proofs.LoadLemmas.{take-more}
+use Rattle.desk_sql.specs.declared.versions.Version.TheVariants.{Two}
 use Rattle.tables.specs.Keeping.{Keeps}
 use Rattle.tables.specs.Loading.{GetsPlaces, HavePlaces, HasLooked, row_loaded}
 use Rattle.reading.specs.Reading.{OnlyReads}
@@ -113,7 +114,7 @@ module _ {S : Type 0} (g : Ghosts S) where
   -- at first nothing was looked at
   pub none_looked : (h : Held S) → HasLooked g h h [] []
   none_looked h = record {
-    reads = record { keeps = λ s keeps. keeps; stop = λ clean db may. may; less = λ clean. clean };
+    reads = record { keeps = λ v s keeps. keeps; stop = λ clean db may. may; less = λ clean. clean };
     shown = λ clean s desk keeps. record { above = refl; told = refl };
   }
 
@@ -126,7 +127,7 @@ module _ {S : Type 0} (g : Ghosts S) where
     looked_more p gets = record {
       reads = reads_then g old mid new has.reads reads;
       shown = λ clean s desk keeps.
-          have_more rows s cells r p (has.shown (reads.less clean) s desk keeps) (gets clean s desk (has.reads.keeps s keeps));
+          have_more rows s cells r p (has.shown (reads.less clean) s desk keeps) (gets clean s desk (has.reads.keeps Two s keeps));
     }
 
 -- Texts.

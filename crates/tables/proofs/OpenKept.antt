@@ -1,5 +1,5 @@
 -- What a connection keeps once it is opened, and what a failed opening leaves. For found_tables and read_version.
-use Rattle.std.proofs.Common.{◌≡◌, ◌⊎◌, inl, inr, ◌↔◌, ℕ, List, Bool, true, false, [], ◌∷◌, length, IsTrue, Ok, refl, sym, ap, subst, ◌∙◌, arith}
+use Rattle.std.proofs.Common.{◌≡◌, ◌⊎◌, inl, inr, ◌↔◌, ℕ, List, Bool, true, false, [], ◌∷◌, length, IsTrue, Some, Ok, refl, sym, ap, subst, ◌∙◌, arith}
 use Rattle.std.specs.List.{AllByRecursion}
 use Rattle.sqlite.specs.Store.{Ghosts}
 use Rattle.sqlite.specs.Tree.{Trees}
@@ -7,38 +7,46 @@ use Rattle.sqlite.specs.Effect.{Database}
 use Rattle.sqlite_schema.specs.declared.schema.Schema.{Schema}
 use Rattle.sqlite.specs.Held.{Held, state}
 use Rattle.sqlite.specs.State.{State as Connected, HasCleanDisk, IsUnchanged, Shows as ShowsNow}
-use Rattle.desk_sql.specs.Calls.{Sees, MaySee, MayBuild, Founds, WasOpen, LeavesNoMore}
+use Rattle.desk_sql.specs.declared.versions.Version.{Version}
+use Rattle.desk_sql.specs.declared.versions.Version.TheVariants.{One, Two}
+use Rattle.desk_sql.specs.Versions.{number_of, AreOfVersion}
+use Rattle.desk_sql.specs.Calls.{Sees, MaySeeIn, MayBuild, Founds, WasOpen, LeavesNoMore}
 use Rattle.desk_sql.specs.Changes.{founded}
 use Rattle.desk_sql.specs.Found.{IsMeta, meta_of}
-use Rattle.desk_sql.specs.Rows.{Tables, MetaRow, Shows}
-use Rattle.desk_sql.specs.Schema.{no_schema, desk_schema}
+use Rattle.desk_sql.specs.Rows.{Tables, MetaRow, Shows, ShowsIn}
+use Rattle.desk_sql.specs.Schema.{no_schema, schema_of}
 use Rattle.desk_sql.specs.declared.meta.Meta.{Meta}
 use Rattle.commands.specs.declared.faults.Fault.{Fault}
 use Rattle.commands.specs.declared.faults.Fault.TheVariants as fault
 use Rattle.ledger.specs.Answer.{State, start}
-use Rattle.standing.specs.Called.{meta_called}
+use Rattle.standing.specs.Called.{meta_in}
 use Rattle.standing.specs.Standing.{StandsFor}
 use Rattle.standing.proofs.Founding.{founded_stands}
 use Rattle.tables.specs.declared.faults.OpenFault.{OpenFault}
 use Rattle.tables.specs.declared.faults.OpenFault.TheVariants.{Store, Memory}
-use Rattle.tables.specs.Keeping.{Means, SeesDesk, IsKept, IsFound}
-use Rattle.tables.specs.Opening.{Tells, AreOfVersion}
+use Rattle.tables.specs.Keeping.{MeansOf, SeesOf, IsKept, IsKeptIn, IsFound}
+use Rattle.tables.specs.Opening.{Tells}
 use Rattle.tables.proofs.CommitLemmas.{KeepsOne}
 
--- the desk's tables are some
-not_bare : desk_schema ≡ no_schema → ⊥
-not_bare e = let n : ◌≡◌ {A = ℕ} 9 0 = ap (λ (s : Schema). length s.tables) e in omega arith
+-- the desk's tables are some, in each version
+not_bare : (v : Version) → schema_of v ≡ no_schema → ⊥
+not_bare One e = let n : ◌≡◌ {A = ℕ} 7 0 = ap (λ (s : Schema). length s.tables) e in omega arith
+not_bare Two e = let n : ◌≡◌ {A = ℕ} 9 0 = ap (λ (s : Schema). length s.tables) e in omega arith
 
--- a connection without tables that stood for a state stood for a new desk
-pub was_new : (c : Connected) (s : State) → IsFound c s → c.now.schema ≡ no_schema → IsTrue c.is_open → s ≡ start
-was_new c s found bare open_now = elim (found.sees open_now) [
-  | inl desk ↦ absurd (not_bare (sym desk.schema ∙ bare))
-  | inr fresh ↦ fresh.new
+-- a connection without tables that stood for a state counts as one of the newest version, and stood for a new desk
+pub was_new : (v : Version) (c : Connected) (s : State) → IsFound v c s → c.now.schema ≡ no_schema → IsTrue c.is_open
+    → (v ≡ Two) × (s ≡ start)
+was_new One c s found bare open_now = absurd (not_bare One (sym (found.sees open_now).schema ∙ bare))
+was_new Two c s found bare open_now = elim (found.sees open_now) [
+  | inl desk ↦ absurd (not_bare Two (sym desk.schema ∙ bare))
+  | inr fresh ↦ (refl, fresh.new)
 ]
 
 -- a connection with tables that stood for a state shows it
-pub was_desk : (c : Connected) (s : State) → IsFound c s → (c.now.schema ≡ no_schema → ⊥) → IsTrue c.is_open → SeesDesk c s
-was_desk c s found filled open_now = elim (found.sees open_now) [
+pub was_desk : (v : Version) (c : Connected) (s : State) → IsFound v c s → (c.now.schema ≡ no_schema → ⊥) → IsTrue c.is_open
+    → SeesOf v c s
+was_desk One c s found filled open_now = found.sees open_now
+was_desk Two c s found filled open_now = elim (found.sees open_now) [
   | inl desk ↦ desk
   | inr fresh ↦ absurd (filled fresh.schema)
 ]
@@ -74,13 +82,14 @@ module _ {S : Type 0} (g : Ghosts S) (old late : Held S) where
   }
 
   -- trees that were there before, or a new desk's, stand for a state for which the connection stood
-  pub either_means : (s : State) → IsFound (state g old) s → s ≡ start → Sees (state g late) founded → (db : Trees)
-      → (state g old).may_leave db ⊎ (db ≡ (state g late).now.trees) → Means db s
-  either_means s found new sees db (inl may) = found.leaves db may
-  either_means s found new sees db (inr is) = inl (record {
+  pub either_means : (v : Version) (s : State) → IsFound v (state g old) s → (v ≡ Two) × (s ≡ start) → Sees (state g late) founded
+      → (db : Trees) → (state g old).may_leave db ⊎ (db ≡ (state g late).now.trees) → MeansOf v db s
+  either_means v s found new sees db (inl may) = found.leaves db may
+  either_means One s found new sees db (inr is) = absurd (let never = new.0 in cc)
+  either_means Two s found new sees db (inr is) = inl (record {
     tables = founded;
     shown = subst (λ (t : Trees). Shows t founded) (sym is) sees.rows;
-    stands = subst (λ (x : State). StandsFor founded x) (sym new) founded_stands;
+    stands = subst (λ (x : State). StandsFor founded x) (sym new.1) founded_stands;
   })
 
 module _ {S : Type 0} (g : Ghosts S) (old new : Held S) where
@@ -94,32 +103,32 @@ module _ {S : Type 0} (g : Ghosts S) (old new : Held S) where
 pub has_version : (t : Tables) (m : Meta) → IsMeta t m → AreOfVersion m.version t
 has_version t m is = subst (λ (rows : List MetaRow). AllByRecursion (λ (r : MetaRow). r.version ≡ m.version) rows) (sym is) (refl, tt)
 
-module _ (old new : Connected) (m : Meta) (seen : (t : Tables) → MaySee old t → IsUnchanged old new × IsMeta t m) where
+module _ (old new : Connected) (m : Meta) (seen : (v : Version) (t : Tables) → MaySeeIn v old t → IsUnchanged old new × IsMeta t m) where
   -- a version that was read tells that the connection was open
   pub was_open : IsTrue old.is_open
   was_open = go old.is_open refl
     where
       go : (b : Bool) → old.is_open ≡ b → IsTrue old.is_open
       go true e = e
-      go false e = (seen founded (λ here. absurd (let never : true ≡ false = sym here ∙ e in cc))).0.0.was_open
+      go false e = (seen Two founded (λ here. absurd (let never : true ≡ false = sym here ∙ e in cc))).0.0.was_open
 
-  module _ (s : State) (found : IsFound old s) (filled : old.now.schema ≡ no_schema → ⊥) where
+  module _ (v : Version) (s : State) (found : IsFound v old s) (filled : old.now.schema ≡ no_schema → ⊥) where
     -- the desk that was there
-    pub desk : SeesDesk old s
-    desk = was_desk old s found filled was_open
+    pub desk : SeesOf v old s
+    desk = was_desk v old s found filled was_open
 
     -- what was read of it
     pub read : IsUnchanged old new × IsMeta desk.tables m
-    read = seen desk.tables (λ _. record { schema = desk.schema; rows = desk.shown })
+    read = seen v desk.tables (λ _. record { schema = desk.schema; rows = desk.shown })
 
-    -- the rows of a desk have the second version
-    pub second : m.version ≡ 2
-    second = let same : meta_of m ∷ [] ≡ meta_called s.ledger ∷ [] = sym read.1 ∙ desk.stands.meta in
-        let one : meta_of m ≡ meta_called s.ledger = cc in
+    -- the rows of a desk have the number of their version
+    pub has_number : m.version ≡ number_of v
+    has_number = let same : meta_of m ∷ [] ≡ meta_in v s.ledger ∷ [] = sym read.1 ∙ desk.stands.meta in
+        let one : meta_of m ≡ meta_in v s.ledger = cc in
         ap (λ (r : MetaRow). r.version) one
 
     -- a connection that was read keeps what it stood for
-    pub keeps_read : ((db : Trees) → new.may_leave db → old.may_leave db) → IsKept new s
+    pub keeps_read : ((db : Trees) → new.may_leave db → old.may_leave db) → IsKeptIn v new s
     keeps_read less =
         let is = read.0.0 in
         record {
@@ -127,8 +136,16 @@ module _ (old new : Connected) (m : Meta) (seen : (t : Tables) → MaySee old t 
             schema = ap (λ (d : Database). d.schema) is.now_is ∙ desk.schema;
             committed = is.now_is ∙ desk.committed ∙ sym is.committed_is;
             tables = desk.tables;
-            shown = subst (λ (d : Database). Shows d.trees desk.tables) (sym is.now_is) desk.shown;
+            shown = subst (λ (d : Database). ShowsIn v d.trees desk.tables) (sym is.now_is) desk.shown;
             stands = desk.stands;
           };
           leaves = λ db may. found.leaves db (less db may);
         }
+
+    -- in tables of the version whose number was read
+    pub keeps_named : (now : Version) → ((w : Version) → Some now ≡ Some w ↔ m.version ≡ number_of w)
+        → ((db : Trees) → new.may_leave db → old.may_leave db) → IsKeptIn now new s
+    keeps_named now named less =
+        let both : Some now ≡ Some v = (named v).1 has_number in
+        let same : now ≡ v = cc in
+        subst (λ w. IsKeptIn w new s) (sym same) (keeps_read less)

@@ -1,5 +1,5 @@
 //! The book over tables.
-ghost use Rattle.std.specs.Prelude.{◌≡◌, ◌↔◌, false, IfOk, IsOk, IsErrOf, IsTrue};
+ghost use Rattle.std.specs.Prelude.{◌≡◌, ◌↔◌, false, IfOk, IfErr, IsOk, IsErrAnd, IsErrOf, IsTrue};
 ghost use Rattle.commands.specs.Orders.{request_of};
 
 use crate::answering::{answer, know_limits};
@@ -8,6 +8,7 @@ use crate::faults::OpenFault;
 use crate::opening::Opened;
 use allotment::{Cell, Held, Night, Want};
 use commands::{Ask, Command, Fault, Item, Reply};
+use desk_sql::Version;
 use reading::{read_cells, read_first_unfinished, read_history, read_journey, read_stock};
 use saga_core::{Book, Brief, Record};
 use sqlite::{Alter, Connection};
@@ -105,23 +106,33 @@ impl<S: Alter> TableBook<S> {
 }
 
 impl<S: Alter> Opened<S> {
-    /// The book over what was opened.
+    /// The book over what was opened, where its tables are of the newest version. Else, and where the connection is in a
+    /// transaction, what was opened is handed back as it is.
     pub fn into_book(self, alloc: Global) -> Result<TableBook<S>, (Opened<S>, OpenFault)>
         ensures book { IfOk result (λ b. b.conn ≡ self.conn) }
+        ensures newest { IfOk result (λ b. self.version ≡ Version.Two) }
         ensures working { IfOk result (λ b. b.failed ≡ false) }
         ensures unknown { IfOk result (λ b. b.finished ≡ 0) }
-        ensures ready { self.conn.in_transaction ≡ false → IsOk result }
+        ensures ready { self.conn.in_transaction ≡ false → self.version ≡ Version.Two → IsOk result }
+
+        ensures unknown_schema { IsErrAnd result (λ e. e.1 ≡ OpenFault.UnknownSchema 1)
+            ↔ self.version ≡ Version.One }
+        ensures told { IfErr result (λ e. self.version ≡ Version.Two → e.1 ≡ OpenFault.Store) }
+        ensures refused { IfErr result (λ e. e.0 ≡ self) }
     {
-        if !self.is_outside() {
-            return Err((self, OpenFault::Store));
+        match self.version() {
+            Version::One => Err((self, OpenFault::UnknownSchema(1))),
+            Version::Two if self.is_outside() => {
+                let conn = self.into_store();
+                Ok(TableBook {
+                    conn,
+                    alloc,
+                    failed: false,
+                    finished: 0,
+                })
+            }
+            Version::Two => Err((self, OpenFault::Store)),
         }
-        let conn = self.into_connection();
-        Ok(TableBook {
-            conn,
-            alloc,
-            failed: false,
-            finished: 0,
-        })
     }
 }
 
@@ -154,7 +165,7 @@ impl<S: Alter> Book for TableBook<S> {
         if self.failed {
             return Err(Fault::Store);
         }
-        match read_journey(self.alloc, &mut self.conn, id) {
+        match read_journey(self.alloc, &mut self.conn, Version::Two, id) {
             Ok(shown) => Ok(shown),
             Err(Fault::Memory) => Err(Fault::Memory),
             Err(Fault::Store) => {

@@ -12,7 +12,7 @@ ghost use Rattle.tables.specs.Answering.{AnswersNew, KeepsNew, LeavesNew, KeepsA
 ghost use Rattle.tables.specs.Loading.{TellsName, AnswersKnown, IsHeldOf, LeavesPlaces, GetsPlaces};
 ghost use Rattle.tables.specs.Loading.{HavePlaces, TellsBelow, IsNewName, IsLoadDue};
 ghost use Rattle.tables.specs.Loading.{AnswersWhere, KeepsWhere, LeavesWhere};
-ghost use Rattle.reading.specs.Reading.{KeepsOn, LeavesAsBefore, ShowsKept, WasClean};
+ghost use Rattle.reading.specs.Reading.{KeepsOn, KeepsEach, LeavesAsBefore, ShowsKept, WasClean};
 
 use crate::committing::commit_answered;
 use crate::counts::{MOST_EVENTS, read_counts};
@@ -81,7 +81,7 @@ fn read_held<S: Alter>(alloc: Global, conn: &mut Connection<S>, cell: Cell) -> R
 
     ensures outside { conn.new.in_transaction ≡ false }
     ensures held { ShowsKept S.Store conn.old conn.new result (IsHeldOf cell) }
-    ensures same { KeepsOn S.Store conn.old conn.new }
+    ensures same { KeepsEach S.Store conn.old conn.new }
     ensures stop { LeavesAsBefore S.Store conn.old conn.new }
     ensures less { WasClean S.Store conn.old conn.new }
 {
@@ -125,7 +125,7 @@ fn read_places<S: Alter>(
 
     ensures outside { conn.new.in_transaction ≡ false }
     ensures places { ShowsKept S.Store conn.old conn.new result (GetsPlaces row.now) }
-    ensures same { KeepsOn S.Store conn.old conn.new }
+    ensures same { KeepsEach S.Store conn.old conn.new }
     ensures stop { LeavesAsBefore S.Store conn.old conn.new }
     ensures less { WasClean S.Store conn.old conn.new }
 {
@@ -146,7 +146,7 @@ fn cells_of<S: Alter>(
     ensures outside { conn.new.in_transaction ≡ false }
     ensures cells { ShowsKept S.Store conn.old conn.new result
         (λ s r. MatchResult r (λ cells. HavePlaces rows.now s cells.items) (TellsBelow rows.now s)) }
-    ensures same { KeepsOn S.Store conn.old conn.new }
+    ensures same { KeepsEach S.Store conn.old conn.new }
     ensures stop { LeavesAsBefore S.Store conn.old conn.new }
     ensures less { WasClean S.Store conn.old conn.new }
 {

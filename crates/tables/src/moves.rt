@@ -21,7 +21,7 @@ use crate::committing::commit_answered;
 use crate::counts::{MOST_EVENTS, read_counts};
 use crate::next::{cursor_after, is_placed, may_be_made};
 use commands::{Agent, Ask, Cause, Cursor, Fault, Item, Refusal, Reply};
-use desk_sql::Meta;
+use desk_sql::{Meta, Version};
 use plan::Plan;
 use reading::{LARGEST, read_journey};
 use saga_core::{Move, Record, decide, saved, turned};
@@ -67,7 +67,7 @@ fn find_seen<S: Alter>(
     ensures stop { LeavesAsBefore S.Store conn.old conn.new }
     ensures less { WasClean S.Store conn.old conn.new }
 {
-    match read_journey(alloc, conn, id) {
+    match read_journey(alloc, conn, Version::Two, id) {
         Ok(None) => Ok(None),
         Ok(Some(journey)) => {
             if !is_seen_by(journey.agent, ask) {

@@ -1,7 +1,7 @@
 //! Opening: what a store stands for is found, and a store without tables gets them all in one commit.
 //!
 //! What a store stood for it stands for afterwards, also where opening fails: no row of a desk is touched here. Tables
-//! of another version are not opened.
+//! of the version before the newest are opened to be read; those of any other version are not opened.
 //!
 //! Words: a connection *stood for* a state where it showed that state and a stop left just that; a store without tables
 //! stands for a new desk.
@@ -10,38 +10,45 @@ ghost use Rattle.std.specs.Prelude.{◌≡◌, ◌≢◌, ◌↔◌, false, None
 ghost use Rattle.sqlite.specs.State.{HasCleanDisk};
 ghost use Rattle.sqlite.specs.Held.{state};
 ghost use Rattle.desk_sql.specs.Schema.{no_schema};
-ghost use Rattle.tables.specs.Opening.{KeepsIt, LeavesIt, SawVersion, Tells};
+ghost use Rattle.desk_sql.specs.Versions.{number_of, SawVersion};
+ghost use Rattle.desk_sql.specs.declared.versions.Version.{Version};
+ghost use Rattle.tables.specs.Opening.{KeepsIt, LeavesIt, Tells};
 ghost use Rattle.reading.specs.Reading.{WasClean};
 
 use crate::faults::OpenFault;
 use allotment::{Cell, Held};
 use commands::{Fault, Item};
-use desk_sql::{make_tables, read_meta};
+use desk_sql::{Version, has_no_tables, make_tables, read_meta};
 use reading::{
     ItemRows, StockRows, UnfinishedRows, fault_of, item_rows, read_journey, stock_rows,
     unfinished_rows,
 };
 use saga_core::{Brief, Record, RowSource};
 use sqlite::{Alter, Connection};
-use sqlite_schema::schema::Schema;
 use std::alloc::Global;
-
-/// The version of the tables that are made and read here.
-const VERSION: u64 = 2;
 
 /// A connection that was found to have the desk's tables.
 #[derive(Drop)]
 pub struct Opened<S: Alter> {
     conn: Connection<S>,
+    /// The version of its tables.
+    version: Version,
 }
 
 impl<S: Alter> Opened<S> {
     /// Its connection, as it is.
-    pub(crate) fn into_connection(self) -> Connection<S>
+    pub fn into_store(self) -> Connection<S>
         ensures same { result ≡ self.conn }
     {
-        let Opened { conn } = self;
+        let Opened { conn, version: _ } = self;
         conn
+    }
+
+    /// The version of its tables.
+    pub(crate) fn version(&self) -> Version
+        ensures same { result ≡ self.now.version }
+    {
+        self.version
     }
 
     /// Whether its connection is in no transaction, as each is that was opened.
@@ -57,26 +64,28 @@ impl<S: Alter> Opened<S> {
     ghost use Rattle.saga_core.specs.Shown.{IsStock};
     ghost use Rattle.reading.specs.Handing.{BeginsKept, IsLeftAsItWas};
     ghost use Rattle.saga_core.specs.Shown.{unfinished_of};
-    ghost use Rattle.reading.specs.Reading.{IsRecordAt, KeepsOn, LeavesAsBefore, ShowsKept};
+    ghost use Rattle.reading.specs.Reading.{IsRecordAt, KeepsEach, LeavesAsBefore, ShowsKeptIn};
 
     /// The journey of that number, if there is one. A fault changes nothing, and a later call asks the store again.
     pub fn journey_of(&mut self, alloc: Global, id: u64) -> Result<Option<Record>, Fault>
-        ensures journey { ShowsKept S.Store self.old.conn self.new.conn result (IsRecordAt id) }
-        ensures same { KeepsOn S.Store self.old.conn self.new.conn }
+        ensures journey { ShowsKeptIn S.Store self.old.conn self.new.conn self.old.version result
+            (IsRecordAt id) }
+        ensures same { KeepsEach S.Store self.old.conn self.new.conn }
+        ensures version { self.new.version ≡ self.old.version }
         ensures stop { LeavesAsBefore S.Store self.old.conn self.new.conn }
         ensures sound { WasClean S.Store self.old.conn self.new.conn }
     {
         if !self.is_outside() {
             return Err(Fault::Store);
         }
-        read_journey(alloc, &mut self.conn, id)
+        read_journey(alloc, &mut self.conn, self.version, id)
     }
 
     /// The cells that have an allotment, with their places, by kind, supplier, product and night. Of all rows that are
     /// handed out here nothing is gathered before.
     pub fn stock_rows<'c>(&'c mut self) -> Result<StockRows<'c, S>, Fault>
-        ensures rows { IfOk result (λ it. BeginsKept S.Store self.old.conn it.handed.rows.conn.now
-            (λ s rows. IsStock s.ledger rows)
+        ensures rows { IfOk result (λ it. (v : Version)
+            → BeginsKept S.Store self.old.conn it.handed.rows.conn.now v (λ s rows. IsStock s.ledger rows)
             (⟦<StockRows<'c, S> as RowSource<(Cell, Held)>>⟧.rests it)) }
         ensures none { IfOk result (λ it.
             ⟦<StockRows<'c, S> as RowSource<(Cell, Held)>>⟧.given it ≡ 0) }
@@ -88,8 +97,8 @@ impl<S: Alter> Opened<S> {
 
     /// The journeys that are not finished, in short, by rising number.
     pub fn unfinished_rows<'c>(&'c mut self) -> Result<UnfinishedRows<'c, S>, Fault>
-        ensures rows { IfOk result (λ it. BeginsKept S.Store self.old.conn it.handed.rows.conn.now
-            (λ s briefs. briefs ≡ unfinished_of s.ledger)
+        ensures rows { IfOk result (λ it. (v : Version)
+            → BeginsKept S.Store self.old.conn it.handed.rows.conn.now v (λ s briefs. briefs ≡ unfinished_of s.ledger)
             (⟦<UnfinishedRows<'c, S> as RowSource<Brief>>⟧.rests it)) }
         ensures none { IfOk result (λ it.
             ⟦<UnfinishedRows<'c, S> as RowSource<Brief>>⟧.given it ≡ 0) }
@@ -102,7 +111,7 @@ impl<S: Alter> Opened<S> {
     /// The items of the journey of that number, oldest first; none where it is absent. Each is asked for by itself, and the
     /// store looks from the beginning of the journey to its last item, or to the end where it is not finished.
     pub fn item_rows<'c>(&'c mut self, id: u64) -> Result<ItemRows<'c, S>, Fault>
-        ensures rows { IfOk result (λ it. BeginsKept S.Store self.old.conn it.conn.now
+        ensures rows { IfOk result (λ it. BeginsKept S.Store self.old.conn it.conn.now self.old.version
             (λ s items. items ≡ history s.ledger id)
             (⟦<ItemRows<'c, S> as RowSource<Item>>⟧.rests it)) }
         ensures none { IfOk result (λ it. ⟦<ItemRows<'c, S> as RowSource<Item>>⟧.given it ≡ 0) }
@@ -112,15 +121,8 @@ impl<S: Alter> Opened<S> {
         if !self.is_outside() {
             return Err(Fault::Store);
         }
-        item_rows(&mut self.conn, id)
+        item_rows(&mut self.conn, self.version, id)
     }
-}
-
-/// Whether the store has no tables.
-fn is_bare(schema: &Schema) -> bool
-    ensures { IsTrue result ↔ schema.now ≡ no_schema }
-{
-    schema.tables.is_empty() && schema.indexes.is_empty() && schema.views.is_empty()
 }
 
 /// The fault of opening that a fault of the store is.
@@ -134,7 +136,7 @@ fn opening_fault(fault: Fault) -> OpenFault
     }
 }
 
-/// Makes all tables in one commit, in a store that has none.
+/// Makes all tables of the newest version in one commit, in a store that has none.
 fn found_tables<S: Alter>(conn: &mut Connection<S>) -> Result<(), OpenFault>
     requires outside { conn.old.in_transaction ≡ false }
     requires bare { conn.old.schema ≡ no_schema }
@@ -142,7 +144,7 @@ fn found_tables<S: Alter>(conn: &mut Connection<S>) -> Result<(), OpenFault>
     ensures outside { conn.new.in_transaction ≡ false }
     ensures limit { conn.new.step_limit ≡ conn.old.step_limit }
     ensures sound { WasClean S.Store conn.old conn.new }
-    ensures finds { OnOk result (KeepsIt S.Store conn.old conn.new) }
+    ensures finds { OnOk result (KeepsIt S.Store conn.old conn.new Version.Two) }
     ensures left { OnErr result (LeavesIt S.Store conn.old conn.new) }
     ensures version { OnOk result (SawVersion S.Store conn.old conn.new 2) }
     ensures told { IfErr result (Tells S.Store conn.old conn.new) }
@@ -159,32 +161,35 @@ fn found_tables<S: Alter>(conn: &mut Connection<S>) -> Result<(), OpenFault>
 }
 
 /// Reads the version of the tables that are there, and changes nothing.
-fn read_version<S: Alter>(conn: &mut Connection<S>) -> Result<(), OpenFault>
+fn read_version<S: Alter>(conn: &mut Connection<S>) -> Result<Version, OpenFault>
     requires outside { conn.old.in_transaction ≡ false }
     requires filled { conn.old.schema ≢ no_schema }
 
     ensures outside { conn.new.in_transaction ≡ false }
     ensures limit { conn.new.step_limit ≡ conn.old.step_limit }
     ensures sound { WasClean S.Store conn.old conn.new }
-    ensures finds { OnOk result (KeepsIt S.Store conn.old conn.new) }
+    ensures finds { IfOk result (KeepsIt S.Store conn.old conn.new) }
     ensures left { OnErr result (LeavesIt S.Store conn.old conn.new) }
-    ensures version { OnOk result (SawVersion S.Store conn.old conn.new 2) }
+    ensures version { IfOk result (λ v. SawVersion S.Store conn.old conn.new (number_of v)) }
     ensures told { IfErr result (Tells S.Store conn.old conn.new) }
 {
     match read_meta(conn) {
-        Ok(meta) if meta.version == VERSION => Ok(()),
-        Ok(meta) => Err(OpenFault::UnknownSchema(meta.version)),
+        Ok(meta) => match Version::from_number(meta.version) {
+            Some(version) => Ok(version),
+            None => Err(OpenFault::UnknownSchema(meta.version)),
+        },
         Err(error) => Err(opening_fault(fault_of(&error))),
     }
 }
 
-/// Finds what the store of a connection stands for: a desk with its tables, or a new one, which gets them.
+/// Finds what the store of a connection stands for: a desk with its tables, or a new one, which gets them. Tables of the
+/// first version are only read; no book is made of them.
 pub fn open_from<S: Alter>(mut conn: Connection<S>) -> Result<Opened<S>, (Connection<S>, OpenFault)>
     requires outside { conn.in_transaction ≡ false }
     requires unlimited { conn.step_limit ≡ None }
 
-    ensures finds { IfOk result (λ o. KeepsIt S.Store conn o.conn) }
-    ensures version { IfOk result (λ o. SawVersion S.Store conn o.conn 2) }
+    ensures finds { IfOk result (λ o. KeepsIt S.Store conn o.conn o.version) }
+    ensures version { IfOk result (λ o. SawVersion S.Store conn o.conn (number_of o.version)) }
     ensures ready { IfOk result (λ o. o.conn.in_transaction ≡ false) }
     ensures unlimited { IfOk result (λ o. o.conn.step_limit ≡ None) }
     ensures sound { IfOk result (λ o. WasClean S.Store conn o.conn) }
@@ -192,15 +197,20 @@ pub fn open_from<S: Alter>(mut conn: Connection<S>) -> Result<Opened<S>, (Connec
     ensures left { IfErr result (λ e. LeavesIt S.Store conn e.0) }
     ensures told { IfErr result (λ e. Tells S.Store conn e.0 e.1) }
     ensures unharmed { IfErr result (λ e. WasClean S.Store conn e.0) }
+    ensures limit { IfErr result (λ e. e.0.step_limit ≡ None) }
 {
-    let bare = is_bare(conn.schema());
-    let found = if bare {
-        found_tables(&mut conn)
-    } else {
-        read_version(&mut conn)
-    };
-    match found {
-        Ok(()) => Ok(Opened { conn }),
+    let bare = has_no_tables(conn.schema());
+    if bare {
+        return match found_tables(&mut conn) {
+            Ok(()) => Ok(Opened {
+                conn,
+                version: Version::Two,
+            }),
+            Err(fault) => Err((conn, fault)),
+        };
+    }
+    match read_version(&mut conn) {
+        Ok(version) => Ok(Opened { conn, version }),
         Err(fault) => Err((conn, fault)),
     }
 }

@@ -3,9 +3,9 @@
 ghost use Rattle.std.specs.Prelude.{◌≡◌, false, IfOk, option_map};
 ghost use Rattle.sqlite.specs.Held.{state};
 ghost use Rattle.sqlite.specs.State.{HasCleanDisk};
-ghost use Rattle.desk_sql.specs.Calls.{LeavesNoMore};
+ghost use Rattle.desk_sql.specs.Calls.{ChangesNothing, LeavesNoMore};
 ghost use Rattle.desk_sql.specs.Stock.{stock_of};
-ghost use Rattle.desk_sql.specs.Handing.{Hands, CellsRest, IsStockInOrder, Begins, StaysAsItIs, ChangesNothing};
+ghost use Rattle.desk_sql.specs.Handing.{Hands, CellsRest, IsStockInOrder, Begins, StaysAsItIs};
 
 use crate::stock::{CellFound, read_cell};
 use sqlite::{Alter, Connection, Error, Rows};

@@ -1,6 +1,7 @@
 -- The row that is read is what the query answers first; where none is given, there is none.
 use Rattle.std.proofs.Common.{Some, None}
 use Rattle.sqlite.specs.Held.{state}
+use Rattle.desk_sql.specs.Texts.{find_items_text}
 use Rattle.desk_sql.proofs.Writing.{pos_is}
 use Rattle.desk_sql.proofs.Selecting.{given_as}
 use Rattle.desk_sql.proofs.Meaning.{find_items_means}
@@ -15,7 +16,7 @@ returns-in_ok-item-in-Some-clause-found g c clean t sees =
     let small = c.requires.journey in
     let low = c.requires.after in
     let given = simp pos_is at (c.in_ok-row.ensures.row clean) in
-    finds_next (state g.S.Store c.args.conn.now) (state g.S.Store c.first_row.new.conn) t sees c.args.journey c.args.after c.in-Some.row
+    finds_next find_items_text find_items_means (state g.S.Store c.args.conn.now) (state g.S.Store c.first_row.new.conn) t sees c.args.journey c.args.after c.in-Some.row
     c.in_ok-item-in-Some.item c.in_ok-item-in-Some.ensures
     (given_as _ _ _ _ c.in_ok-row.field-0 (Some c.in-Some.row) c.in-Some.is given)
 
@@ -24,5 +25,5 @@ returns-in-None-clause-found g c clean t sees =
     let small = c.requires.journey in
     let low = c.requires.after in
     let given = simp pos_is at (c.in_ok-row.ensures.row clean) in
-    finds_no_next (state g.S.Store c.args.conn.now) (state g.S.Store c.first_row.new.conn) t sees c.args.journey c.args.after
+    finds_no_next find_items_text find_items_means (state g.S.Store c.args.conn.now) (state g.S.Store c.first_row.new.conn) t sees c.args.journey c.args.after
     (given_as _ _ _ _ c.in_ok-row.field-0 None c.in-None.is given)

@@ -1,6 +1,7 @@
 -- The row that is read is what the query answers first; where none is given, there is none.
 use Rattle.std.proofs.Common.{Some, None}
 use Rattle.sqlite.specs.Held.{state}
+use Rattle.desk_sql.specs.declared.versions.Version.TheVariants.{Two}
 use Rattle.desk_sql.proofs.Writing.{pos_is}
 use Rattle.desk_sql.proofs.Selecting.{given_as}
 use Rattle.desk_sql.proofs.Meaning.{first_unfinished_means}
@@ -8,7 +9,7 @@ use Rattle.desk_sql.proofs.JourneyQueries.{finds_unfinished, finds_none_unfinish
 use Rattle.desk_sql.proofs.journeys.first_unfinished.Goals as goal
 
 pub first_row-requires : goal.first_row-requires
-first_row-requires g c = first_unfinished_means.selects
+first_row-requires g c = (first_unfinished_means Two).selects
 
 pub returns-in_ok-journey-in-Some-clause-found : goal.returns-in_ok-journey-in-Some-clause-found
 returns-in_ok-journey-in-Some-clause-found g c clean t sees =

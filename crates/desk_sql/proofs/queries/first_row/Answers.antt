@@ -1,4 +1,5 @@
 -- A SELECT changes nothing, whatever it answers.
+use Rattle.std.proofs.Common.{inl}
 use Rattle.sqlite.specs.Held.{state}
 use Rattle.sqlite.specs.Values.{bound}
 use Rattle.desk_sql.proofs.Selecting.{leaves_no_more, gives_row, gives_no_row, row_fails_quietly}
@@ -8,6 +9,11 @@ pub returns-in-Ok-clause-row : goal.returns-in-Ok-clause-row
 returns-in-Ok-clause-row g c clean =
     gives_row c.args.text.now c.requires (bound c.args.params.now) (state g.S.Store c.args.conn.now)
     (state g.S.Store c.query_row.new.self) c.in-Ok.row (c.in-Ok.ensures.row clean)
+
+pub returns-in-Ok-clause-quiet : goal.returns-in-Ok-clause-quiet
+returns-in-Ok-clause-quiet g c clean =
+    inl (gives_row c.args.text.now c.requires (bound c.args.params.now) (state g.S.Store c.args.conn.now)
+    (state g.S.Store c.query_row.new.self) c.in-Ok.row (c.in-Ok.ensures.row clean)).0
 
 pub returns-in-Ok-clause-survives : goal.returns-in-Ok-clause-survives
 returns-in-Ok-clause-survives g c =
@@ -20,6 +26,12 @@ returns-in-Err-QueryReturnedNoRows-clause-row g c clean =
     (state g.S.Store c.query_row.new.self) _ c.in-Err-QueryReturnedNoRows.field-0-is
     (c.in-Err-QueryReturnedNoRows.ensures.row clean)
 
+pub returns-in-Err-QueryReturnedNoRows-clause-quiet : goal.returns-in-Err-QueryReturnedNoRows-clause-quiet
+returns-in-Err-QueryReturnedNoRows-clause-quiet g c clean =
+    inl (gives_no_row c.args.text.now c.requires (bound c.args.params.now) (state g.S.Store c.args.conn.now)
+    (state g.S.Store c.query_row.new.self) _ c.in-Err-QueryReturnedNoRows.field-0-is
+    (c.in-Err-QueryReturnedNoRows.ensures.row clean)).0
+
 pub returns-in-Err-QueryReturnedNoRows-clause-survives : goal.returns-in-Err-QueryReturnedNoRows-clause-survives
 returns-in-Err-QueryReturnedNoRows-clause-survives g c =
     leaves_no_more c.args.text.now c.requires (bound c.args.params.now) (state g.S.Store c.args.conn.now)
@@ -28,7 +40,7 @@ returns-in-Err-QueryReturnedNoRows-clause-survives g c =
 pub returns-in-Err : goal.returns-in-Err
 returns-in-Err g c = record {
   row = λ _. tt;
-  failed = λ clean. row_fails_quietly c.args.text.now c.requires (bound c.args.params.now) (state g.S.Store c.args.conn.now)
+  quiet = λ clean. row_fails_quietly c.args.text.now c.requires (bound c.args.params.now) (state g.S.Store c.args.conn.now)
       (state g.S.Store c.query_row.new.self) _ (c.in-Err.ensures.row clean);
   mode = c.query_row.ensures.mode;
   survives = leaves_no_more c.args.text.now c.requires (bound c.args.params.now) (state g.S.Store c.args.conn.now)

@@ -1,11 +1,12 @@
 -- What is read of the rows is what the query answers.
 use Rattle.sqlite.specs.Held.{state}
+use Rattle.desk_sql.specs.declared.versions.Version.TheVariants.{Two}
 use Rattle.desk_sql.proofs.Meaning.{find_stock_means}
 use Rattle.desk_sql.proofs.StockQueries.{finds_stock}
 use Rattle.desk_sql.proofs.stock.find_stock.Goals as goal
 
 pub all_rows-requires : goal.all_rows-requires
-all_rows-requires g c = find_stock_means.selects
+all_rows-requires g c = (find_stock_means Two).selects
 
 pub returns-clause-found : goal.returns-clause-found
 returns-clause-found g c clean t sees =

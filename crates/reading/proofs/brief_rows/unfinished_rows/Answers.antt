@@ -5,12 +5,12 @@ use Rattle.reading.proofs.HandedBriefs.{all_unfinished, lists_all, unfinished_to
 use Rattle.reading.proofs.brief_rows.unfinished_rows.Goals as goal
 
 pub returns-in-Ok-clause-rows : goal.returns-in-Ok-clause-rows
-returns-in-Ok-clause-rows g c clean s desk keeps briefs is =
+returns-in-Ok-clause-rows g c v clean s desk keeps briefs is =
     let told = c.in-Ok.ensures in
     let t = there_at g.S.Store c.args.conn.now c.in-Ok.handed.rows.conn.now s keeps told.same told.survives clean in
     let rise = t.rows.journey.rise in
     let rows = all_unfinished t.tables in
-    (refl, (rows, told.begun clean t.tables t.may rows (lists_all t.tables rise), unfinished_told s.ledger t.tables briefs t.stands.journey rise is))
+    (refl, (rows, told.begun clean v t.tables t.may rows (lists_all t.tables rise), unfinished_told s.ledger t.tables briefs t.stands.journey rise is))
 
 pub returns-in-Ok-clause-kept : goal.returns-in-Ok-clause-kept
 returns-in-Ok-clause-kept g c =

@@ -6,10 +6,10 @@ use Rattle.reading.proofs.HandedStock.{stock_in_order}
 use Rattle.reading.proofs.cell_rows.stock_rows.Goals as goal
 
 pub returns-in-Ok-clause-rows : goal.returns-in-Ok-clause-rows
-returns-in-Ok-clause-rows g c clean s desk keeps rows is =
+returns-in-Ok-clause-rows g c v clean s desk keeps rows is =
     let told = c.in-Ok.ensures in
     let t = there_at g.S.Store c.args.conn.now c.in-Ok.handed.rows.conn.now s keeps told.same told.survives clean in
-    (refl, told.begun clean t.tables t.may (map stock_row_of rows) (stock_in_order s.ledger t.tables.stock t.stands.stock rows is))
+    (refl, told.begun clean v t.tables t.may (map stock_row_of rows) (stock_in_order s.ledger t.tables.stock t.stands.stock rows is))
 
 pub returns-in-Ok-clause-kept : goal.returns-in-Ok-clause-kept
 returns-in-Ok-clause-kept g c =

@@ -1,4 +1,4 @@
--- All items of the journey stand behind the event that began it, and nothing changes, whatever comes of it.
+-- All items of the journey stand after the event that began it, and nothing changes, whatever comes of it.
 use Rattle.std.proofs.Common.{[], refl, sym, ◌∙◌}
 use Rattle.reading.proofs.ReadSought.{all_behind}
 use Rattle.reading.proofs.history_rows.item_rows.Goals as goal
@@ -12,13 +12,13 @@ returns-in-Ok g c =
         fault = tt;
         same_reference = refl;
         rows = λ clean s desk keeps items is.
-            let at = told.sought clean s desk keeps in
+            let at = told.sought c.args.version clean s desk keeps in
             let all = at.items ∙ sym is in (
               refl,
               record {
                 desk = s;
                 is_desk = desk;
-                keeps = told.same s keeps;
+                keeps = told.same c.args.version s keeps;
                 has_steps = at.steps;
                 before = [];
                 stands = refl;

@@ -3,21 +3,21 @@ use Rattle.std.proofs.Common.{◌≡◌, length, arith}
 use Rattle.desk_sql.specs.Found.{IsMeta}
 use Rattle.ledger.specs.Ledger.{journeys}
 use Rattle.standing.proofs.Readings.{meta_read}
-use Rattle.reading.proofs.ReadLemmas.{keeps_on, has_found}
+use Rattle.reading.proofs.ReadLemmas.{keeps_each, has_found}
 use Rattle.reading.proofs.ReadJourneys.{journey_past}
 use Rattle.reading.proofs.reads.check_absent.Goals as goal
 
 pub returns-in-Ok-clause-absent : goal.returns-in-Ok-clause-absent
-returns-in-Ok-clause-absent g c clean s desk keeps =
-    let found = has_found g.S.Store c.args.conn.now c.read_meta.new.conn c.in-Ok.meta IsMeta c.in-Ok.ensures.found c.read_meta.ensures.survives clean s keeps in
+returns-in-Ok-clause-absent g c v clean s desk keeps =
+    let found = has_found g.S.Store c.args.conn.now c.read_meta.new.conn c.in-Ok.meta IsMeta (c.in-Ok.ensures.found v) c.read_meta.ensures.survives clean s keeps in
     let told = meta_read found.tables s found.stands desk c.in-Ok.meta found.found in
     let few : c.in-Ok.meta.journeys ≡ length (journeys s.ledger) = told.2 in
     journey_past s.ledger c.args.id (omega (arith, c.if-meta-id.true, few))
 
 pub returns-in-Ok-clause-same : goal.returns-in-Ok-clause-same
 returns-in-Ok-clause-same g c =
-    keeps_on g.S.Store c.args.conn.now c.read_meta.new.conn c.read_meta.result IsMeta c.read_meta.ensures.found c.read_meta.ensures.failed c.read_meta.ensures.survives
+    keeps_each g.S.Store c.args.conn.now c.read_meta.new.conn c.read_meta.ensures.quiet c.read_meta.ensures.survives
 
 pub returns-in-Ok-2-clause-same : goal.returns-in-Ok-2-clause-same
 returns-in-Ok-2-clause-same g c =
-    keeps_on g.S.Store c.args.conn.now c.read_meta.new.conn c.read_meta.result IsMeta c.read_meta.ensures.found c.read_meta.ensures.failed c.read_meta.ensures.survives
+    keeps_each g.S.Store c.args.conn.now c.read_meta.new.conn c.read_meta.ensures.quiet c.read_meta.ensures.survives

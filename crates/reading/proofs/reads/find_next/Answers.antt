@@ -1,16 +1,16 @@
 -- The row that is found tells the next item, and a read changes nothing.
 use Rattle.desk_sql.specs.Found.{FindsNextItem}
-use Rattle.reading.proofs.ReadLemmas.{keeps_on, has_found}
+use Rattle.reading.proofs.ReadLemmas.{keeps_each, has_found}
 use Rattle.reading.proofs.ReadSought.{next_sought}
 use Rattle.reading.proofs.reads.find_next.Goals as goal
 
 pub returns-in-Ok-clause-next : goal.returns-in-Ok-clause-next
 returns-in-Ok-clause-next g c clean s desk keeps =
     let w = c.args.sought.now in
-    let found = has_found g.S.Store c.args.conn.now c.next_item.new.conn c.in-Ok.found (FindsNextItem w.journey w.after) c.in-Ok.ensures.found c.next_item.ensures.survives clean s keeps in
+    let found = has_found g.S.Store c.args.conn.now c.next_in.new.conn c.in-Ok.found (FindsNextItem w.journey w.after) c.in-Ok.ensures.found c.next_in.ensures.survives clean s keeps in
     next_sought found.tables s found.stands desk w c.in-Ok.found found.found
 
 pub returns-in-Ok-clause-same : goal.returns-in-Ok-clause-same
 returns-in-Ok-clause-same g c =
     let w = c.args.sought.now in
-    keeps_on g.S.Store c.args.conn.now c.next_item.new.conn c.next_item.result (FindsNextItem w.journey w.after) c.next_item.ensures.found c.next_item.ensures.failed c.next_item.ensures.survives
+    keeps_each g.S.Store c.args.conn.now c.next_in.new.conn c.next_in.ensures.quiet c.next_in.ensures.survives

@@ -32,4 +32,4 @@ pub returns-in-Ok-clause-same : goal.returns-in-Ok-clause-same
 returns-in-Ok-clause-same g c =
     let last = c.from-first.result + c.from-2.result - 1 in
     let range : NightRange = record { kind = c.from.result; supplier = c.as_str.result; product = c.as_str-2.result; first = c.from-first.result; last = last } in
-    keeps_on g.S.Store c.args.conn.now c.find_nights.new.conn c.find_nights.result (λ t found. FindsNights range t found.items) c.find_nights.ensures.found c.find_nights.ensures.failed c.find_nights.ensures.survives
+    keeps_on g.S.Store c.args.conn.now c.find_nights.new.conn c.find_nights.ensures.quiet c.find_nights.ensures.survives

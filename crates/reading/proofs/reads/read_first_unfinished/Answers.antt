@@ -19,7 +19,7 @@ returns-in-Ok-None-clause-first g c clean s desk keeps =
 
 pub returns-in-Ok-None-clause-same : goal.returns-in-Ok-None-clause-same
 returns-in-Ok-None-clause-same g c =
-    keeps_on g.S.Store c.args.conn.now c.first_unfinished.new.conn c.first_unfinished.result (FindsUnfinished c.min.result) c.first_unfinished.ensures.found c.first_unfinished.ensures.failed c.first_unfinished.ensures.survives
+    keeps_on g.S.Store c.args.conn.now c.first_unfinished.new.conn c.first_unfinished.ensures.quiet c.first_unfinished.ensures.survives
 
 pub returns-in-Some-clause-first : goal.returns-in-Some-clause-first
 returns-in-Some-clause-first g c clean s desk keeps =
@@ -31,8 +31,8 @@ returns-in-Some-clause-first g c clean s desk keeps =
 
 pub returns-in-Some-clause-same : goal.returns-in-Some-clause-same
 returns-in-Some-clause-same g c =
-    keeps_on g.S.Store c.args.conn.now c.first_unfinished.new.conn c.first_unfinished.result (FindsUnfinished c.min.result) c.first_unfinished.ensures.found c.first_unfinished.ensures.failed c.first_unfinished.ensures.survives
+    keeps_on g.S.Store c.args.conn.now c.first_unfinished.new.conn c.first_unfinished.ensures.quiet c.first_unfinished.ensures.survives
 
 pub returns-in-Ok-Some-clause-same : goal.returns-in-Ok-Some-clause-same
 returns-in-Ok-Some-clause-same g c =
-    keeps_on g.S.Store c.args.conn.now c.first_unfinished.new.conn c.first_unfinished.result (FindsUnfinished c.min.result) c.first_unfinished.ensures.found c.first_unfinished.ensures.failed c.first_unfinished.ensures.survives
+    keeps_on g.S.Store c.args.conn.now c.first_unfinished.new.conn c.first_unfinished.ensures.quiet c.first_unfinished.ensures.survives

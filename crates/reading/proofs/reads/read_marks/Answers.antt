@@ -5,7 +5,7 @@ use Rattle.ledger.specs.Ledger.{history}
 use Rattle.desk_sql.specs.Found.{FindsMarks}
 use Rattle.standing.proofs.Readings.{marks_read}
 use Rattle.standing.proofs.RecordRows.{marks_told}
-use Rattle.reading.proofs.ReadLemmas.{keeps_on, has_found}
+use Rattle.reading.proofs.ReadLemmas.{keeps_each, has_found}
 use Rattle.reading.proofs.reads.read_marks.Goals as goal
 
 pub returns-in-Some-clause-marks : goal.returns-in-Some-clause-marks
@@ -20,8 +20,8 @@ returns-in-Some-clause-marks g c clean s desk keeps =
 
 pub returns-in-Some-clause-same : goal.returns-in-Some-clause-same
 returns-in-Some-clause-same g c =
-    keeps_on g.S.Store c.args.conn.now c.find_marks.new.conn c.find_marks.result (λ t found. FindsMarks c.args.id t found.items) c.find_marks.ensures.found c.find_marks.ensures.failed c.find_marks.ensures.survives
+    keeps_each g.S.Store c.args.conn.now c.find_marks.new.conn c.find_marks.ensures.quiet c.find_marks.ensures.survives
 
 pub returns-in-Ok-clause-same : goal.returns-in-Ok-clause-same
 returns-in-Ok-clause-same g c =
-    keeps_on g.S.Store c.args.conn.now c.find_marks.new.conn c.find_marks.result (λ t found. FindsMarks c.args.id t found.items) c.find_marks.ensures.found c.find_marks.ensures.failed c.find_marks.ensures.survives
+    keeps_each g.S.Store c.args.conn.now c.find_marks.new.conn c.find_marks.ensures.quiet c.find_marks.ensures.survives

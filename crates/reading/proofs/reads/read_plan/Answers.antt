@@ -5,14 +5,14 @@ use Rattle.desk_sql.specs.Found.{FindsSteps}
 use Rattle.standing.proofs.Readings.{plan_read}
 use Rattle.reading.specs.Reading.{IsPlanOf}
 use Rattle.reading.specs.PlansTold.{TellPlan}
-use Rattle.reading.proofs.ReadLemmas.{keeps_on, has_found, both_ok}
+use Rattle.reading.proofs.ReadLemmas.{keeps_each, has_found, both_ok}
 use Rattle.reading.proofs.reads.read_plan.Goals as goal
 
 pub returns-in-Ok-clause-plan : goal.returns-in-Ok-clause-plan
-returns-in-Ok-clause-plan g c clean s desk keeps =
+returns-in-Ok-clause-plan g c v clean s desk keeps =
     let rows = c.in-Ok.found in
     let id = c.args.id in
-    let found = has_found g.S.Store c.args.conn.now c.find_steps.new.conn rows (λ t all. FindsSteps id t all.items) c.in-Ok.ensures.found c.find_steps.ensures.survives clean s keeps in
+    let found = has_found g.S.Store c.args.conn.now c.find_steps.new.conn rows (λ t all. FindsSteps id t all.items) (c.in-Ok.ensures.found v) c.find_steps.ensures.survives clean s keeps in
     let same : c.as_slice.result.now ≡ rows.items = search rules in
     both_ok c.plan_told.result (TellPlan c.as_slice.result.now) (λ plan. plan.tries ≡ c.args.tries) (λ plan. IsTrue (is_plan plan)) (IsPlanOf id c.args.tries s)
     (λ plan told tries good a at is.
@@ -21,4 +21,4 @@ returns-in-Ok-clause-plan g c clean s desk keeps =
 
 pub returns-in-Ok-clause-same : goal.returns-in-Ok-clause-same
 returns-in-Ok-clause-same g c =
-    keeps_on g.S.Store c.args.conn.now c.find_steps.new.conn c.find_steps.result (λ t found. FindsSteps c.args.id t found.items) c.find_steps.ensures.found c.find_steps.ensures.failed c.find_steps.ensures.survives
+    keeps_each g.S.Store c.args.conn.now c.find_steps.new.conn c.find_steps.ensures.quiet c.find_steps.ensures.survives

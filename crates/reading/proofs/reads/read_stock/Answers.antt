@@ -16,4 +16,4 @@ returns-in-Ok-clause-stock g c clean s desk keeps =
 
 pub returns-in-Ok-clause-same : goal.returns-in-Ok-clause-same
 returns-in-Ok-clause-same g c =
-    keeps_on g.S.Store c.args.conn.now c.find_stock.new.conn c.find_stock.result (λ t found. FindsStock t found.items) c.find_stock.ensures.found c.find_stock.ensures.failed c.find_stock.ensures.survives
+    keeps_on g.S.Store c.args.conn.now c.find_stock.new.conn c.find_stock.ensures.quiet c.find_stock.ensures.survives

@@ -3,6 +3,7 @@ use Rattle.std.proofs.Common.{◌≡◌, ◌+◌, ◌<◌, ◌++◌, ◌∷◌, 
 use Rattle.std.specs.Prelude.{is_ok, not}
 use Rattle.allotment.specs.declared.cells.Cell.{Cell}
 use Rattle.ledger.specs.Ledger.{is_not_below_held}
+use Rattle.desk_sql.specs.declared.versions.Version.TheVariants.{Two}
 use Rattle.writing.proofs.LoadLemmas.{take-more}
 use Rattle.tables.specs.Loading.{GetsPlaces, HasLooked}
 use Rattle.reading.specs.Reading.{OnlyReads}
@@ -16,7 +17,7 @@ returns-in_default-clause-cells g c clean s desk keeps =
     let within : n < length c.args.rows.now = omega (arith, c.loop-place-test.true) in
     let looked = c.loop-place.invariant.looked in
     let before = looked.shown (c.read_places.ensures.less clean) s desk keeps in
-    let fails = subst (GetsPlaces row s) c.in_default.is (c.in_ok-places.ensures.places clean s desk (looked.reads.keeps s keeps)) in
+    let fails = subst (GetsPlaces row s) c.in_default.is (c.in_ok-places.ensures.places clean s desk (looked.reads.keeps Two s keeps)) in
     (n, refl, first_below (is_not_below_held s.ledger) c.args.rows.now n row within c.index-rows-place.is before.above fails)
 
 pub loop-place-preserved : goal.loop-place-preserved

@@ -11,4 +11,4 @@ returns-in-Ok-clause-known g c clean s desk keeps =
 
 pub returns-in-Ok-clause-same : goal.returns-in-Ok-clause-same
 returns-in-Ok-clause-same g c =
-    keeps_on g.S.Store c.args.conn.now c.find_batch.new.conn c.find_batch.result (FindsBatch c.args.name.now) c.find_batch.ensures.found c.find_batch.ensures.failed c.find_batch.ensures.survives
+    keeps_on g.S.Store c.args.conn.now c.find_batch.new.conn c.find_batch.ensures.quiet c.find_batch.ensures.survives

@@ -8,6 +8,7 @@ use Rattle.ledger.specs.Answer.{outcome}
 use Rattle.tables.specs.Keeping.{IsKept}
 use Rattle.tables.specs.Loading.{IsLoadDue, HavePlaces, TellsBelow}
 use Rattle.tables.proofs.LoadComes.{below_comes, where_clean}
+use Rattle.desk_sql.specs.declared.versions.Version.TheVariants.{Two}
 use Rattle.tables.proofs.loading.load_new.Goals as goal
 
 -- a row is below what is held
@@ -25,10 +26,10 @@ returns-in-Ok-Err-clause-after g c s keeps is clean =
     subst (IsKept (state g.S.Store c.cells_of.new.conn))
     (sym (below_comes s (option_copied c.args.ask) b.name b.rows c.args.counts c.in-Ok-Err.refusal is
     (subst (λ rows. TellsBelow rows s c.in-Ok-Err.refusal) c.rows.ensures.rows told)).same)
-    (c.cells_of.ensures.same s keeps clean)
+    (c.cells_of.ensures.same Two s keeps clean)
 
 pub returns-in-Ok-Err-clause-left : goal.returns-in-Ok-Err-clause-left
-returns-in-Ok-Err-clause-left g c s keeps is clean db may = inl ((c.cells_of.ensures.same s keeps clean).leaves db may)
+returns-in-Ok-Err-clause-left g c s keeps is clean db may = inl ((c.cells_of.ensures.same Two s keeps clean).leaves db may)
 
 -- none is
 pub returns-in-Ok-Ok-clause-reply : goal.returns-in-Ok-Ok-clause-reply
@@ -41,7 +42,7 @@ returns-in-Ok-Ok-clause-reply g c clean s keeps is =
       new_name = is;
       places = subst (λ rows. HavePlaces rows s cells) c.rows.ensures.rows (subst (HavePlaces c.rows.result.now s) (sym same) have);
     } in
-    c.load_cells.ensures.reply clean s (c.cells_of.ensures.same s keeps) due
+    c.load_cells.ensures.reply clean s (c.cells_of.ensures.same Two s keeps) due
 
 pub returns-in-Ok-Ok-clause-after : goal.returns-in-Ok-Ok-clause-after
 returns-in-Ok-Ok-clause-after g c s keeps is =
@@ -54,7 +55,7 @@ returns-in-Ok-Ok-clause-after g c s keeps is =
       new_name = is;
       places = subst (λ rows. HavePlaces rows s cells) c.rows.ensures.rows (subst (HavePlaces c.rows.result.now s) (sym same) have);
     } in
-    c.load_cells.ensures.after s (c.cells_of.ensures.same s keeps) due))
+    c.load_cells.ensures.after s (c.cells_of.ensures.same Two s keeps) due))
 
 pub returns-in-Ok-Ok-clause-left : goal.returns-in-Ok-Ok-clause-left
 returns-in-Ok-Ok-clause-left g c s keeps is clean =
@@ -66,4 +67,4 @@ returns-in-Ok-Ok-clause-left g c s keeps is clean =
       new_name = is;
       places = subst (λ rows. HavePlaces rows s cells) c.rows.ensures.rows (subst (HavePlaces c.rows.result.now s) (sym same) have);
     } in
-    c.load_cells.ensures.left s (c.cells_of.ensures.same s keeps) due clean
+    c.load_cells.ensures.left s (c.cells_of.ensures.same Two s keeps) due clean

@@ -7,7 +7,7 @@ use Rattle.standing.specs.Reading.{IsRangeOf}
 use Rattle.standing.proofs.Readings.{nights_read}
 use Rattle.moving.specs.Loading.{one_night, held_seen}
 use Rattle.moving.proofs.Fitting.{cell_told}
-use Rattle.reading.proofs.ReadLemmas.{keeps_on, has_found, also_ok}
+use Rattle.reading.proofs.ReadLemmas.{keeps_each, has_found, also_ok}
 use Rattle.tables.proofs.loading.read_held.Goals as goal
 
 pub returns-in-Ok-clause-held : goal.returns-in-Ok-clause-held
@@ -31,4 +31,4 @@ returns-in-Ok-clause-held g c clean s desk keeps =
 pub returns-in-Ok-clause-same : goal.returns-in-Ok-clause-same
 returns-in-Ok-clause-same g c =
     let range : NightRange = record { kind = c.from.result; supplier = c.as_str.result; product = c.as_str-2.result; first = c.from-night.result; last = c.from-night.result } in
-    keeps_on g.S.Store c.args.conn.now c.find_nights.new.conn c.find_nights.result (λ t found. FindsNights range t found.items) c.find_nights.ensures.found c.find_nights.ensures.failed c.find_nights.ensures.survives
+    keeps_each g.S.Store c.args.conn.now c.find_nights.new.conn c.find_nights.ensures.quiet c.find_nights.ensures.survives

@@ -11,7 +11,7 @@ use Rattle.tables.proofs.OpenKept.{was_new, has_founded, keeps_founded, either_m
 use Rattle.tables.proofs.opening.found_tables.Goals as goal
 
 pub returns-in-Ok-clause-finds : goal.returns-in-Ok-clause-finds
-returns-in-Ok-clause-finds g c clean s stood =
+returns-in-Ok-clause-finds g c clean v s stood =
     let old = c.args.conn.now in
     let begun = c.transaction-tx.result.conn.now in
     let late = c.make_tables.new.tx.conn.now in
@@ -22,11 +22,11 @@ returns-in-Ok-clause-finds g c clean s stood =
     let at_begun : HasCleanDisk (state g.S.Store begun) = omega (arith, c.make_tables.ensures.survives.clean) in
     let from : begun ≡ record old { in_transaction = true } = c.transaction-tx.ensures.begun in
     let at_old : HasCleanDisk (state g.S.Store old) = rw from at at_begun in
-    let found : IsFound (state g.S.Store old) s = stood at_old in
+    let found : IsFound v (state g.S.Store old) s = stood at_old in
     let has = has_founded g.S.Store old late c.requires.bare at_late (rw from at c.in_default.ensures.made) (rw from at c.in_default.ensures.live) in
-    let new : s ≡ _ = was_new (state g.S.Store old) s found c.requires.bare has.0 in
+    let new = was_new v (state g.S.Store old) s found c.requires.bare has.0 in
     let kept = keeps_founded g.S.Store old late g.met.S.Store.settled end has.1 (c.in-Ok.ensures.ok at_end).1 in
-    rw (← same) (subst (λ (x : State). IsKept (state g.S.Store end) x) (sym new) kept)
+    rw (← same) (subst (λ (x : State). IsKept (state g.S.Store end) x) (sym new.1) kept)
 
 pub returns-in-Err-clause-told : goal.returns-in-Err-clause-told
 returns-in-Err-clause-told g c =
@@ -38,7 +38,7 @@ returns-in-Err-clause-told g c =
     rw (← same) (tells_fault g.S.Store c.args.conn.now end c.fault_of.result c.opening_fault.result c.opening_fault.ensures.memory c.opening_fault.ensures.store less)
 
 pub returns-in-Err-commit-clause-left : goal.returns-in-Err-commit-clause-left
-returns-in-Err-commit-clause-left g c clean s stood =
+returns-in-Err-commit-clause-left g c clean v s stood =
     let old = c.args.conn.now in
     let begun = c.transaction-tx.result.conn.now in
     let late = c.make_tables.new.tx.conn.now in
@@ -49,12 +49,12 @@ returns-in-Err-commit-clause-left g c clean s stood =
     let at_begun : HasCleanDisk (state g.S.Store begun) = omega (arith, c.make_tables.ensures.survives.clean) in
     let from : begun ≡ record old { in_transaction = true } = c.transaction-tx.ensures.begun in
     let at_old : HasCleanDisk (state g.S.Store old) = rw from at at_begun in
-    let found : IsFound (state g.S.Store old) s = stood at_old in
+    let found : IsFound v (state g.S.Store old) s = stood at_old in
     let has = has_founded g.S.Store old late c.requires.bare at_late (rw from at c.in_default.ensures.made) (rw from at c.in_default.ensures.live) in
-    let new : s ≡ _ = was_new (state g.S.Store old) s found c.requires.bare has.0 in
+    let new = was_new v (state g.S.Store old) s found c.requires.bare has.0 in
     rw (← same) (λ db left.
     let came : g.S.Store.recovers old.store db ⊎ (db ≡ (g.S.Store.view late.store).trees) = elim (c.commit.ensures.survives.crash at_end db left) [
       | inl before ↦ elim (c.make_tables.ensures.survives.crash at_late db before) [ inl first ↦ inl (rw from at first) | inr none ↦ absurd none ]
       | inr is ↦ inr is
     ] in
-    either_means g.S.Store old late s found new has.1 db came)
+    either_means g.S.Store old late v s found new has.1 db came)

@@ -1,26 +1,36 @@
--- A version that was read is that of the tables, and a desk's tables have the second.
-use Rattle.std.proofs.Common.{◌≡◌, inl, inr, arith}
+-- A version that was read is that of the tables, and a desk's tables have the number of their version.
+use Rattle.std.proofs.Common.{◌≡◌, inl, inr, sym, subst, ◌∙◌, arith}
+use Rattle.std.specs.Prelude.{Some, None, Option, ◌↔◌}
 use Rattle.sqlite.specs.State.{HasCleanDisk}
 use Rattle.sqlite.specs.Held.{state}
-use Rattle.tables.proofs.OpenKept.{has_version, second, keeps_read}
+use Rattle.desk_sql.specs.declared.versions.Version.{Version}
+use Rattle.desk_sql.specs.Versions.{number_of, AreOfVersion}
+use Rattle.tables.proofs.OpenKept.{has_version, has_number, keeps_named}
 use Rattle.tables.proofs.opening.read_version.Goals as goal
 
-pub returns-in-Ok-clause-finds : goal.returns-in-Ok-clause-finds
-returns-in-Ok-clause-finds g c clean s stood =
+pub returns-in-Some-clause-finds : goal.returns-in-Some-clause-finds
+returns-in-Some-clause-finds g c clean v s stood =
     let old = state g.S.Store c.args.conn.now in
     let new = state g.S.Store c.read_meta.new.conn in
     let at_old : HasCleanDisk old = omega (arith, c.read_meta.ensures.survives.clean) in
-    keeps_read old new c.in-Ok.meta (c.in-Ok.ensures.found clean) s (stood at_old) c.requires.filled
+    let m = c.in-Ok.meta in
+    let named : (w : Version) → Some c.in-Some.version ≡ Some w ↔ m.version ≡ number_of w
+    = subst (λ (o : Option Version). (w : Version) → o ≡ Some w ↔ m.version ≡ number_of w) c.in-Some.is c.from_number.ensures in
+    keeps_named old new m (λ w t sees. c.in-Ok.ensures.found w clean t sees) v s (stood at_old) c.requires.filled c.in-Some.version named
     (λ db may. elim (c.read_meta.ensures.survives.crash clean db may) [ inl before ↦ before | inr none ↦ absurd none ])
 
-pub returns-in-Ok-2-clause-told : goal.returns-in-Ok-2-clause-told
-returns-in-Ok-2-clause-told g c =
+pub returns-in-None-clause-told : goal.returns-in-None-clause-told
+returns-in-None-clause-told g c =
     let old = state g.S.Store c.args.conn.now in
     let new = state g.S.Store c.read_meta.new.conn in
-    let other : c.in-Ok.meta.version ≡ 2 → ⊥ = c.if-meta-eq-VERSION.false in (
+    let m = c.in-Ok.meta in
+    let other : (v : Version) → m.version ≡ number_of v → ⊥ = λ v is.
+    let some : c.from_number.result ≡ Some v = (c.from_number.ensures v).1 is in
+    let none : c.from_number.result ≡ None = c.in-None.is in
+    absurd (let never : None ≡ Some v = sym none ∙ some in cc) in (
       other,
-      λ clean t sees. has_version t c.in-Ok.meta (c.in-Ok.ensures.found clean t sees).1,
-      λ clean s stood.
+      λ clean v t sees. has_version t m (c.in-Ok.ensures.found v clean t sees).1,
+      λ clean v s stood.
           let at_old : HasCleanDisk old = omega (arith, c.read_meta.ensures.survives.clean) in
-          other (second old new c.in-Ok.meta (c.in-Ok.ensures.found clean) s (stood at_old) c.requires.filled),
+          other v (has_number old new m (λ w t sees. c.in-Ok.ensures.found w clean t sees) v s (stood at_old) c.requires.filled),
     )

@@ -19,4 +19,4 @@ returns-in-Ok-clause-last g c clean s desk keeps =
 
 pub returns-in-Ok-clause-same : goal.returns-in-Ok-clause-same
 returns-in-Ok-clause-same g c =
-    keeps_on g.S.Store c.args.conn.now c.find_options.new.conn c.find_options.result (λ t found. FindsOptions c.args.id c.args.step t found.items) c.find_options.ensures.found c.find_options.ensures.failed c.find_options.ensures.survives
+    keeps_on g.S.Store c.args.conn.now c.find_options.new.conn c.find_options.ensures.quiet c.find_options.ensures.survives

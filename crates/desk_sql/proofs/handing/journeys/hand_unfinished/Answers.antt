@@ -1,6 +1,7 @@
 -- What the query has to hand out is its one answer, and it changes nothing.
 use Rattle.std.proofs.Common.{inl, [], ◌∷◌, map}
 use Rattle.sqlite.specs.Held.{state}
+use Rattle.desk_sql.specs.declared.versions.Version.TheVariants.{Two}
 use Rattle.desk_sql.specs.Rows.{whole}
 use Rattle.desk_sql.specs.Handing.{journey_shown}
 use Rattle.desk_sql.specs.Texts.{first_unfinished_text}
@@ -13,12 +14,12 @@ use Rattle.desk_sql.proofs.HandedJourneys.{unfinished_answer}
 use Rattle.desk_sql.proofs.handing.journeys.hand_unfinished.Goals as goal
 
 pub returns-clause-begun : goal.returns-clause-begun
-returns-clause-begun g c clean t sees later is =
+returns-clause-begun g c clean v t sees later is =
     let small = c.requires in
     let old = c.args.conn.now in
     inl (
       whole c.args.after ∷ [],
-      starts g.S.Store first_unfinished_text first_unfinished_query journey_names first_unfinished_means (whole c.args.after ∷ []) old c.in_ok-rows.rows.conn.now
+      starts g.S.Store first_unfinished_text first_unfinished_query journey_names first_unfinished_means (whole c.args.after ∷ []) v old c.in_ok-rows.rows.conn.now
           (map journey_shown later) (λ live. (sees live).schema) (simp pos_is at (c.in_ok-rows.ensures.begun clean))
           (λ live. unfinished_answer c.args.after (state g.S.Store old).now.trees t.journey later (sees live).rows.journey is),
     )
@@ -32,5 +33,5 @@ returns-clause-same g c clean =
 pub returns-clause-survives : goal.returns-clause-survives
 returns-clause-survives g c =
     let small = c.requires in
-    leaves_no_more first_unfinished_text first_unfinished_means.selects (whole c.args.after ∷ []) (state g.S.Store c.args.conn.now)
+    leaves_no_more first_unfinished_text (first_unfinished_means Two).selects (whole c.args.after ∷ []) (state g.S.Store c.args.conn.now)
     (state g.S.Store c.in_ok-rows.rows.conn.now) (simp pos_is at c.in_ok-rows.ensures.survives)

@@ -1,0 +1,92 @@
+-- What the commit of a migration keeps. For bring_over.
+use Rattle.std.proofs.Common.{◌≡◌, ◌⊎◌, inl, inr, true, false, IsTrue, refl, sym, ap, subst, ◌∙◌, arith}
+use Rattle.sqlite.specs.Tree.{Trees}
+use Rattle.sqlite.specs.Store.{Ghosts}
+use Rattle.sqlite.specs.Effect.{Database}
+use Rattle.sqlite.specs.State.{HasCleanDisk, Survives, Shows as ShowsNow}
+use Rattle.sqlite.specs.Held.{Held, state}
+use Rattle.desk_sql.specs.declared.versions.Version.TheVariants.{One, Two}
+use Rattle.desk_sql.specs.declared.meta.Meta.{Meta}
+use Rattle.desk_sql.specs.Calls.{Sees, LeavesNoMore}
+use Rattle.desk_sql.specs.Rows.{Tables, ShowsIn}
+use Rattle.ledger.specs.Answer.{State}
+use Rattle.standing.specs.Keeping.{MeansIn, SeesOf, IsKeptIn, KeepsIn}
+use Rattle.migrate.specs.Copying.{MayAdd}
+use Rattle.migrate.specs.Migrating.{AreNumbersOf, migrated}
+use Rattle.migrate.proofs.Standing.{migrated_stands}
+
+-- While a store is open, a crash leaves its last commit and nothing else: a law that each store keeps.
+abbrev pub KeepsOne : {S : Type 0} → Ghosts S → Type 0
+KeepsOne {S} g = (s : S) (db : Trees) → IsTrue (g.view s).is_open → g.recovers s db → db ≡ (g.view s).committed
+
+-- a transaction that began here wrote the migrated rows
+pub record Wrote {S : Type 0} (g : Ghosts S) (start late : Held S) (m : Meta) : Type 0 where
+  pub less : Survives (state g start) (state g late) (λ _. ⊥)
+  pub live : HasCleanDisk (state g late) → IsTrue (state g start).in_transaction → IsTrue (state g start).is_open
+  pub made : HasCleanDisk (state g late) → (t : Tables) → MayAdd (state g start) t → Sees (state g late) (migrated m t)
+
+-- what the contract of the writing says, from the transaction's beginning on
+pub wrote_from : {S : Type 0} (g : Ghosts S) (old begun late : Held S) (m : Meta) → begun ≡ record old { in_transaction = true }
+    → LeavesNoMore g begun late
+    → (HasCleanDisk (state g late) → IsTrue (state g begun).in_transaction → IsTrue (state g begun).is_open)
+    → (HasCleanDisk (state g late) → (t : Tables) → MayAdd (state g begun) t → Sees (state g late) (migrated m t))
+    → Wrote g (record old { in_transaction = true }) late m
+wrote_from {S} g old begun late m is less live made =
+    subst (λ (h : Held S). Wrote g h late m) is (record { less = less; live = live; made = made })
+
+module _ {S : Type 0} (g : Ghosts S) (old late : Held S) (m : Meta) (s : State)
+    (wrote : Wrote g (record old { in_transaction = true }) late m) (numbers : AreNumbersOf m s)
+    (keeps : KeepsIn One (state g old) s) (clean : HasCleanDisk (state g late)) where
+  -- the connection kept the state, since nothing unclean becomes clean
+  at_start : HasCleanDisk (state g (record old { in_transaction = true }))
+  at_start = omega (arith, wrote.less.clean)
+
+  kept : IsKeptIn One (state g old) s
+  kept = keeps at_start
+
+  -- what it saw before
+  saw : SeesOf One (state g old) s
+  saw = kept.sees (wrote.live clean refl)
+
+  has_made : Sees (state g late) (migrated m saw.tables)
+  has_made =
+      wrote.made clean saw.tables
+      (record { inside = refl; sees = λ _. record { schema = saw.schema; rows = saw.shown } })
+
+  -- the transaction's trees mean the same, in tables of version 2
+  late_means : MeansIn Two (state g late).now.trees s
+  late_means = record {
+    tables = migrated m saw.tables;
+    shown = has_made.rows;
+    stands = migrated_stands m saw.tables s numbers saw.stands;
+  }
+
+  -- after the commit a crash leaves just those
+  pub leaves_new : KeepsOne g → (end : Held S)
+      → ShowsNow (state g late) (state g end) (state g late).now (state g late).now false
+      → (db : Trees) → (state g end).may_leave db → MeansIn Two db s
+  leaves_new law end shown db may =
+      subst (λ (t : Trees). MeansIn Two t s)
+      (sym (law end.store db shown.is_open may ∙ ap (λ (d : Database). d.trees) shown.committed_is)) late_means
+
+  -- and the connection keeps the state in them
+  pub keeps_new : KeepsOne g → (end : Held S)
+      → ShowsNow (state g late) (state g end) (state g late).now (state g late).now false
+      → IsKeptIn Two (state g end) s
+  keeps_new law end shown = record {
+    sees = λ _. record {
+      schema = ap (λ (d : Database). d.schema) shown.now_is ∙ has_made.schema;
+      committed = shown.now_is ∙ sym shown.committed_is;
+      tables = migrated m saw.tables;
+      shown = subst (λ (d : Database). ShowsIn Two d.trees (migrated m saw.tables)) (sym shown.now_is) has_made.rows;
+      stands = migrated_stands m saw.tables s numbers saw.stands;
+    };
+    leaves = λ db may. inl (leaves_new law end shown db may);
+  }
+
+  -- whatever the commit came to, trees that were left before or the new ones are left
+  pub either_left : (db : Trees) → (state g late).may_leave db ⊎ (db ≡ (state g late).now.trees)
+      → (state g old).may_leave db ⊎ MeansIn Two db s
+  either_left db (inl before) =
+      elim (wrote.less.crash clean db before) [ inl first ↦ inl first | inr none ↦ absurd none ]
+  either_left db (inr is) = inr (subst (λ (t : Trees). MeansIn Two t s) (sym is) late_means)

@@ -1,0 +1,214 @@
+-- What the statement that copies a range of items makes of entry2.
+use Rattle.std.proofs.Common.{◌≡◌, ◌<ℤ◌, ◌<◌, ◌≤◌, ◌+◌, ℕ, pos, List, [], ◌∷◌, ◌++◌, map, filter, fold, drop, false, if◌then◌else◌, None, MatchBool, Ok, Err, Result, OnOk, refl, sym, ap, subst, subst₂, ◌∙◌, inl, inr, arith}
+use Rattle.std.proofs.lemmas.Int.{ints}
+use Rattle.std.specs.List.{AllByRecursion}
+use Rattle.std.specs.Ordering.{is_lt, int_cmp}
+use Rattle.sqlite.specs.declared.types.Value.TheVariants.{Null}
+use Rattle.sqlite.specs.declared.error.Error.{Error}
+use Rattle.sqlite.specs.Order.{Row}
+use Rattle.sqlite.specs.Table.{Table}
+use Rattle.sqlite.specs.Tree.{Trees, put_row}
+use Rattle.sqlite.specs.Cast.{cast_row}
+use Rattle.sqlite.specs.Source.TheVariants as source
+use Rattle.sqlite.specs.Edit.{Edit, edit_of, taken_by, edited, Applies}
+use Rattle.sqlite.specs.Rowids.TheVariants.{Chosen, Above}
+use Rattle.sqlite.specs.Query.{Query, Output, IsAnswer, output_cmp}
+use Rattle.sqlite.specs.Program.{overlay}
+use Rattle.sqlite.specs.Rows.{Written, Task, Inserts, Edited, CountsIn, Gives, stamped, sequence, count_of, higher, rowids_for}
+use Rattle.sqlite.specs.Does.{Does}
+use Rattle.sqlite.specs.Effect.{Database}
+use Rattle.sqlite.specs.Listing.{understood}
+use Rattle.sqlite.specs.State.{State, mode_of, ExecutesInside, Executes, Shows as ShowsNow}
+use Rattle.sqlite.proofs.Callers.{IsPlain, command_of, statement_of, runs_as, one_step}
+use Rattle.sqlite_schema.specs.declared.schema.Keys.TheVariants.{Enforced}
+use Rattle.sqlite_rules.specs.Edit.{numbered, put_all}
+use Rattle.sqlite_rules.specs.Lists.{Has}
+use Rattle.sqlite_rules.proofs.ListLemmas.{all_has}
+use Rattle.sqlite_trees.specs.Tree.{IsAscending}
+use Rattle.sqlite_trees.proofs.ListLemmas.{ascending-filter, ascending_weaker}
+use Rattle.sqlite_tied.specs.Compute.{everything}
+use Rattle.desk_sql.specs.Schema.{desk_schema, entry2_at}
+use Rattle.desk_sql.specs.Lists.{IsNumbered}
+use Rattle.desk_sql.specs.Rows.{Tables, EntryRow, entry_row, whole}
+use Rattle.desk_sql.specs.Calls.{IsReady, Makes}
+use Rattle.desk_sql.proofs.Writing.{Edits, went, same_value, on_rows, idle, task_for, cast_null}
+use Rattle.desk_sql.proofs.Inserting.{cast_int}
+use Rattle.desk_sql.proofs.Framing.{makes_at, with_entries}
+use Rattle.desk_sql.proofs.Testing.{ge_whole, le_whole, and_true}
+use Rattle.desk_sql.proofs.Ordered.{whole_last}
+use Rattle.desk_sql.proofs.Reading.{passes}
+use Rattle.desk_sql.proofs.Answering.{numbered_answers}
+use Rattle.desk_sql.proofs.Ascending.{IsUpTo, output_total}
+use Rattle.desk_sql.proofs.Keyed.{put_last}
+use Rattle.desk_sql.proofs.OneList.{one_list}
+use Rattle.migrate.specs.Statements.{copy_items_text, range_query, copy_items_query, copy_items_command}
+use Rattle.migrate.specs.Copying.{HasCopied, with_items_below, items_below}
+use Rattle.migrate.proofs.Ranges.{is_between, Rises, items_below-next}
+
+-- The text.
+
+copy_items_is : command_of (understood desk_schema copy_items_text) ≡ copy_items_command
+unfolding understood everything
+copy_items_is = refl
+
+copy_items_plain : IsPlain (understood desk_schema copy_items_text)
+unfolding understood everything
+copy_items_plain = (refl, refl)
+
+-- The edit.
+
+abbrev program_edit : Table → Trees → List Row → Edit
+program_edit table db rows = edit_of db table [] Chosen 0 rows
+
+-- the rows of a query go in by one edit
+query_edits : (task : Task) (q : Query) (db : Trees) (w : Written) → task.table.is_counted ≡ false → stamped task.table task.params ≡ task.params
+    → Inserts task (source.Query (record { lets = []; body = q })) db (Ok w)
+    → (rows : List Row) × IsAnswer q (overlay db []) task.params rows × Edited task.schema task.keys db (program_edit task.table db rows) (Ok w.trees)
+query_edits task q db w uncounted unstamped h =
+    let given = went h in
+    let counted = went given.2 in
+    let written = went counted.2 in
+    let done = went written.2 in
+    let done1 = subst (λ b. MatchBool (if b then is_lt (int_cmp (count_of counted.0) (fold higher (count_of counted.0) (edit_of db task.table [] (rowids_for task.table (count_of counted.0)) 0 given.0).news)) else false) (CountsIn task written.0 counted.0 (fold higher (count_of counted.0) (edit_of db task.table [] (rowids_for task.table (count_of counted.0)) 0 given.0).news) (sequence task.schema) (Ok done.0)) (Gives written.0 (Ok done.0))) uncounted done.1 in
+    let trees : w.trees ≡ written.0 = ap (λ (it : Written). it.trees) (same_value done.2) ∙ same_value done1 in
+    let edit : edit_of db task.table [] (rowids_for task.table (count_of counted.0)) 0 given.0 ≡ program_edit task.table db given.0
+    = ap (λ b. edit_of db task.table [] (if b then Above (count_of counted.0) else Chosen) 0 given.0) uncounted in (
+      given.0,
+      subst (λ ps. IsAnswer q (overlay db []) ps given.0) unstamped (given.1.answer Null),
+      subst₂ (λ e t. Edited task.schema task.keys db e (Ok t)) edit (sym trees) written.1,
+    )
+
+copies_rows : (params : Row) (old new : State) (count : ℕ) → stamped (entry2_at 13) params ≡ params → IsReady old → Executes copy_items_text params old new (Ok count)
+    → (rows : List Row) × IsAnswer copy_items_query (overlay old.now.trees []) params rows × Edits old new (program_edit (entry2_at 13) old.now.trees rows)
+copies_rows params old new count unstamped ready h =
+    let table = entry2_at 13 in
+    let w = runs_as copy_items_text params old new desk_schema ready.schema copy_items_command copy_items_is copy_items_plain count h in
+    let text = statement_of copy_items_text (understood desk_schema copy_items_text) in
+    let all : Does old.step_limit (mode_of old) params (record { schema = desk_schema; trees = old.now.trees }) text None copy_items_command (Ok (w.tally, new.now))
+    = subst (λ s. Does old.step_limit (mode_of old) params (record old.now { schema = s }) text None copy_items_command (Ok (w.tally, new.now))) ready.schema w.changed in
+    let done = on_rows old params text table w.tally new.now copy_items_command all in
+    let found = query_edits (task_for old table params) copy_items_query old.now.trees done.0 refl unstamped done.1 in
+    let edit = program_edit table old.now.trees found.0 in
+    let step : Applies desk_schema Enforced old.now.trees edit done.0.trees
+    = one_step desk_schema Enforced old.now.trees done.0.trees edit (idle 0 table.tree (taken_by old.now.trees edit) edit.news) found.2 in (
+      found.0,
+      found.1,
+      record {
+        schema = ap (λ (d : Database). d.schema) done.2;
+        applies = subst (λ (t : Trees). Applies desk_schema Enforced old.now.trees edit t) (sym (ap (λ (d : Database). d.trees) done.2)) step;
+        shown = subst (λ b. ShowsNow old new new.now (if b then old.committed else new.now) b) ready.inside w.shown;
+      },
+    )
+
+-- The rows.
+
+abbrev range_params : ℕ → ℕ → Row
+range_params first last = whole first ∷ whole last ∷ []
+
+abbrev item_out : EntryRow → Output
+item_out e = (whole e.num ∷ [], whole e.num ∷ Null ∷ whole e.journey ∷ whole e.item ∷ whole e.a ∷ whole e.b ∷ [])
+
+range_test : (first last : ℕ) (e : EntryRow) → passes range_query.filter (range_params first last) (entry_row e) ≡ is_between first last e
+range_test first last e = simp (ge_whole, le_whole) (simp and_true)
+
+as_plain : (db : Trees) (params : Row) (rows : List Row) → IsAnswer copy_items_query (overlay db []) params rows → IsAnswer range_query (overlay db []) params rows
+as_plain db params rows a = record {
+  staged = a.staged;
+  grouped = a.grouped;
+  kept = a.kept;
+  distinct = a.distinct;
+  ordered = a.ordered;
+  same = a.same;
+  sorted = a.sorted;
+  shown = a.shown;
+}
+
+-- what the query gives are the items of the range, in their order
+range_rows : (first last : ℕ) (db : Trees) (items : List EntryRow) (rows : List Row) → IsNumbered (λ (e : EntryRow). e.num) entry_row (db 10) items
+    → IsAnswer copy_items_query (overlay db []) (range_params first last) rows
+    → rows ≡ map (λ e. (item_out e).1) (filter (is_between first last) items)
+range_rows first last db items rows table answer =
+    let plain : IsAnswer range_query (overlay db []) (range_params first last) rows = as_plain db (range_params first last) rows answer in
+    let some = filter (is_between first last) items in
+    let it = numbered_answers 10 range_query.filter range_query.project range_query.order db (range_params first last) rows plain refl
+    (λ (e : EntryRow). e.num) entry_row items table (is_between first last) (range_test first last) in
+    let up : IsAscending (λ (a b : EntryRow). a.num ≤ b.num) it.values
+    = ascending_weaker (λ (a b : EntryRow). IsUpTo (output_cmp range_query) (output_total range_query) (item_out a) (item_out b)) (λ (a b : EntryRow). a.num ≤ b.num) (λ a b low. whole_last a.num b.num low) it.values it.rising in
+    let one : it.values ≡ some = one_list (λ (e : EntryRow). e.num) some it.values (ascending-filter _ (is_between first last) items table.rise) it.same up in
+    it.rows_are ∙ ap (map (λ e. (item_out e).1)) one
+
+-- a row of the query is stored as the item's own
+stored : (items : List EntryRow) → map (λ s. cast_row (entry2_at 13) (drop 0 s)) (map (λ e. (item_out e).1) items) ≡ map entry_row items
+stored [] = refl
+stored (e ∷ items) = rw (stored items) (ap (λ r. r ∷ map entry_row items) (let one : cast_row (entry2_at 13) ((item_out e).1) ≡ entry_row e = simp (cast_int, cast_null) in one))
+
+-- each row has its own rowid
+own_rowids : (rows : List Row) (items : List EntryRow) → numbered Chosen rows (map entry_row items) ≡ map entry_row items
+own_rowids rows [] = refl
+own_rowids rows (e ∷ items) = ap (λ r. entry_row e ∷ r) (own_rowids (put_row (entry_row e) rows) items)
+
+-- of a rising list the first are below what follows
+first_below : (xs : List EntryRow) (y : EntryRow) (ys : List EntryRow) → Rises (xs ++ y ∷ ys) → AllByRecursion (λ (x : EntryRow). pos x.num <ℤ pos y.num) xs
+first_below [] y ys rise = tt
+first_below (x ∷ xs) y ys rise =
+    (let low = all_has (λ (z : EntryRow). x.num < z.num) (xs ++ y ∷ ys) y rise.0 (has_mid xs) in omega (arith, ints, low), first_below xs y ys rise.1)
+  where
+    has_mid : (zs : List EntryRow) → Has (zs ++ y ∷ ys) y
+    has_mid [] = inl refl
+    has_mid (z ∷ zs) = inr (has_mid zs)
+
+together : (xs : List EntryRow) (y : EntryRow) (ys : List EntryRow) → (xs ++ y ∷ []) ++ ys ≡ xs ++ y ∷ ys
+together [] y ys = refl
+together (x ∷ xs) y ys = ap (λ r. x ∷ r) (together xs y ys)
+
+nothing_more : (xs : List EntryRow) → xs ++ [] ≡ xs
+nothing_more [] = refl
+nothing_more (x ∷ xs) = ap (λ r. x ∷ r) (nothing_more xs)
+
+-- rows that rise above those that are there go to the end
+put_after : (xs ys : List EntryRow) → Rises (xs ++ ys) → put_all (map entry_row xs) (map entry_row ys) ≡ map entry_row (xs ++ ys)
+put_after xs [] rise = ap (map entry_row) (sym (nothing_more xs))
+put_after xs (y ∷ ys) rise =
+    ap (λ rows. put_all rows (map entry_row ys)) (put_last entry_row (λ (e : EntryRow). pos e.num) (λ _. refl) xs y (first_below xs y ys rise))
+    ∙ put_after (xs ++ y ∷ []) ys (subst Rises (sym (together xs y ys)) rise)
+    ∙ ap (map entry_row) (together xs y ys)
+
+-- the range goes behind the items that are there
+filled : (first last : ℕ) → first ≤ last → (db : Trees) (items : List EntryRow) (rows : List Row) → IsNumbered (λ (e : EntryRow). e.num) entry_row (db 10) items
+    → db 13 ≡ map entry_row (items_below first items)
+    → IsAnswer copy_items_query (overlay db []) (range_params first last) rows
+    → edited db (program_edit (entry2_at 13) db rows) ≡ map entry_row (items_below (last + 1) items)
+filled first last order db items rows table there answer =
+    let some = filter (is_between first last) items in
+    let next = items_below-next first last order items table.rise in
+    let given = range_rows first last db items rows table answer in
+    let rise : Rises (items_below first items ++ some) = subst Rises (sym next) (ascending-filter _ _ items table.rise) in
+    ap (λ rs. put_all (db 13) (numbered Chosen (db 13) (map (λ s. cast_row (entry2_at 13) (drop 0 s)) rs))) given
+    ∙ ap (λ rs. put_all (db 13) (numbered Chosen (db 13) rs)) (stored some)
+    ∙ ap (put_all (db 13)) (own_rowids (db 13) some)
+    ∙ ap (λ rs. put_all rs (map entry_row some)) there
+    ∙ put_after (items_below first items) some rise
+    ∙ ap (map entry_row) next
+
+-- one range more is copied, and the other rows are as they were
+pub copies_range : (first last : ℕ) (old new : State) (t : Tables) (r : Result ℕ Error) → first ≤ last → HasCopied first old t
+    → ExecutesInside 0 copy_items_text (range_params first last) old new r → OnOk r (HasCopied (last + 1) new t)
+copies_range first last old new t (Err e) order has ran = tt
+copies_range first last old new t (Ok count) order has ran =
+    let db = old.now.trees in
+    let shown = has.sees.rows in
+    let it = copies_rows (range_params first last) old new count refl (record { inside = has.inside; schema = has.sees.schema }) ran.0 in
+    let edit = program_edit (entry2_at 13) db it.0 in
+    let rows : edited db edit ≡ map entry_row (items_below (last + 1) t.entries)
+    = filled first last order db t.entries it.0 has.all shown.entries.rows_are it.1 in
+    let made : Makes old new (with_items_below (last + 1) t)
+    = makes_at old new edit it.2 13 (map entry_row (items_below (last + 1) t.entries)) (with_items_below (last + 1) t) refl rows
+    (with_entries db (with_items_below first t) shown _ (items_below (last + 1) t.entries)
+    (record { rows_are = refl; rise = ascending-filter _ _ t.entries has.all.rise })) in
+    let beside : new.now.trees 10 ≡ db 10 = it.2.applies.tables.1.1.1.1.1.0 (λ e. absurd (let no : 10 ≡ 13 = e in omega (arith, no))) in
+    record {
+      is_open = made.is_open;
+      inside = made.inside;
+      sees = made.sees;
+      all = rw beside (has.all);
+    }

@@ -1,0 +1,123 @@
+-- What a crash leaves, and what the connection shows, where a migration did not come to its end. For migrate.
+use Rattle.std.proofs.Common.{◌≡◌, ◌≢◌, inl, inr, ℕ, suc, List, [], ◌∷◌, length, Bool, true, false, IsTrue, refl, sym, ap, subst, ◌∙◌, arith}
+use Rattle.std.specs.List.{AllByRecursion}
+use Rattle.sqlite.specs.Store.{Ghosts}
+use Rattle.sqlite.specs.Held.{Held, state}
+use Rattle.sqlite.specs.State.{HasCleanDisk}
+use Rattle.sqlite_schema.specs.declared.schema.Schema.{Schema}
+use Rattle.desk_sql.specs.declared.versions.Version.{Version}
+use Rattle.desk_sql.specs.declared.versions.Version.TheVariants.{One, Two}
+use Rattle.desk_sql.specs.declared.meta.Meta.{Meta}
+use Rattle.desk_sql.specs.Rows.{Tables, MetaRow, no_rows}
+use Rattle.desk_sql.specs.Schema.{no_schema, seven_schema}
+use Rattle.desk_sql.specs.Versions.{number_of, AreOfVersion, SawVersion}
+use Rattle.ledger.specs.Answer.{State}
+use Rattle.standing.specs.Keeping.{SeesOf, IsFound, KeepsIn, StoodFor, WasClean}
+use Rattle.standing.specs.Standing.{StandsIn}
+use Rattle.standing.proofs.KeepLemmas.{left_before}
+use Rattle.migrate.specs.declared.faults.MigrateFault.{MigrateFault}
+use Rattle.migrate.specs.declared.faults.MigrateFault.TheVariants.{AlreadyNew, UnknownSchema, Store, Memory}
+use Rattle.migrate.specs.Migrating.{IsAsBefore, IsRefusal, LeavesEither, LeavesOneOf, NumbersOld, ShowsAsBefore, ShowsOld, Tells, WasNotOld}
+use Rattle.migrate.proofs.Reading.{found_keeps}
+
+-- the tables of version 1 are some
+not_bare : seven_schema ≡ no_schema → ⊥
+not_bare e = let n : ◌≡◌ {A = ℕ} 7 0 = ap (λ (s : Schema). length s.tables) e in omega arith
+
+-- rows that stand for a state have the number of their version
+has_number : (v : Version) (n : ℕ) (t : Tables) (s : State) → StandsIn v t s → AreOfVersion n t → number_of v ≡ n
+has_number v n t s stands all =
+    (subst (λ (rows : List MetaRow). AllByRecursion (λ (m : MetaRow). m.version ≡ n) rows) stands.meta all).0
+
+module _ {S : Type 0} (g : Ghosts S) (old mid : Held S) where
+  -- a version that was seen shows that the connection was open: a shut one may be said to see any rows
+  saw_open : (n : ℕ) → SawVersion g old mid n → HasCleanDisk (state g mid) → IsTrue (state g old).is_open
+  saw_open n saw clean = go (state g old).is_open refl
+    where
+      other : Tables
+      other = record no_rows { meta = record { version = suc n; events = 0; journeys = 0 } ∷ [] }
+
+      go : (b : Bool) → (state g old).is_open ≡ b → IsTrue (state g old).is_open
+      go true e = e
+      go false e =
+          let all : AreOfVersion n other = saw clean Two other (λ here. absurd (let never : true ≡ false = sym here ∙ e in cc)) in
+          let one : suc n ≡ n = all.0 in
+          absurd (let no : ⊥ = omega (arith, one) in no)
+
+  -- tables that show a state have the number of their version
+  saw_number : (v : Version) (n : ℕ) (s : State) → SawVersion g old mid n → HasCleanDisk (state g mid)
+      → SeesOf v (state g old) s → number_of v ≡ n
+  saw_number v n s saw clean desk =
+      has_number v n desk.tables s desk.stands (saw clean v desk.tables (λ _. record { schema = desk.schema; rows = desk.shown }))
+
+  -- where the tables have version 1, the connection did not stand for a state in tables of version 2
+  not_new : (s : State) → SawVersion g old mid 1 → (old.schema ≡ no_schema → ⊥) → HasCleanDisk (state g mid) → HasCleanDisk (state g old)
+      → StoodFor Two (state g old) s → ⊥
+  not_new s saw filled clean at_old stood =
+      let found : IsFound Two (state g old) s = stood at_old in
+      elim (found.sees (saw_open 1 saw clean)) [
+        | inl desk ↦ (let two : 2 ≡ 1 = saw_number Two 1 s saw clean desk in omega (arith, two))
+        | inr fresh ↦ filled fresh.schema
+      ]
+
+  module _ (same : IsAsBefore g old mid) where
+    -- what was clean after a call that changed nothing was clean before it
+    at_first : HasCleanDisk (state g mid) → HasCleanDisk (state g old)
+    at_first clean = omega (arith, same.leaves.clean)
+
+    -- after a call that changed nothing a crash leaves what it left before
+    pub left_as_before : LeavesEither g old mid
+    left_as_before clean v s stood db may =
+        let before = left_before (state g old) (state g mid) same.leaves clean db may in
+        inl (before, (stood (at_first clean)).leaves db before)
+
+    -- and the connection shows what it showed
+    pub shows_as_before : ShowsAsBefore g old mid
+    shows_as_before clean v s stood live = (same.stands v s stood clean).sees live
+
+    -- where the tables have another version than 1, the connection did not stand for a state in tables of version 1
+    not_old : (n : ℕ) → n ≢ 1 → SawVersion g old mid n → WasNotOld g old mid
+    not_old n other saw clean live s stood =
+        let found : IsFound One (state g old) s = stood (at_first clean) in
+        other (sym (saw_number One n s saw clean (found.sees live)))
+
+    -- nor did it where the store has no tables
+    bare_not_old : old.schema ≡ no_schema → WasNotOld g old mid
+    bare_not_old bare clean live s stood =
+        let found : IsFound One (state g old) s = stood (at_first clean) in
+        let desk : SeesOf One (state g old) s = found.sees live in
+        not_bare (sym desk.schema ∙ bare)
+
+  -- so a refusal does not come on tables of version 1
+  pub refuses_others : (why : MigrateFault) → Tells g old mid why → IsRefusal why → WasNotOld g old mid
+  refuses_others AlreadyNew told is = not_old told.1 2 (λ e. omega (arith, e)) told.0
+  refuses_others (UnknownSchema n) told is = elim told.0.2 [
+    | inl none ↦ bare_not_old told.1 none.1
+    | inr saw ↦ not_old told.1 n told.0.0 saw
+  ]
+  refuses_others Store told is = absurd is
+  refuses_others Memory told is = absurd is
+
+  -- After tables of version 1 were read the migration failed.
+  module _ (new : Held S) (m : Meta) (same : IsAsBefore g old mid) (saw : SawVersion g old mid 1) (filled : old.schema ≡ no_schema → ⊥)
+      (sound : WasClean g mid new) where
+    -- the connection kept the state when the transaction began
+    kept_there : (s : State) → StoodFor One (state g old) s → KeepsIn One (state g mid) s
+    kept_there s stood still = found_keeps (state g mid) s (same.stands One s stood still)
+
+    -- a crash leaves what it left at first, or the new tables
+    pub left_either : NumbersOld g old mid m → LeavesOneOf g mid new m → LeavesEither g old new
+    left_either numbers left clean One s stood db may =
+        let at_mid = sound clean in
+        elim (left clean s (numbers at_mid s stood) (kept_there s stood) db may) [
+          | inl before ↦ left_as_before same at_mid One s stood db before
+          | inr next ↦ inr (refl, next)
+        ]
+    left_either numbers left clean Two s stood db may =
+        absurd (not_new s saw filled (sound clean) (at_first same (sound clean)) stood)
+
+    -- and the connection shows the old tables
+    pub shows_either : ShowsOld g mid new → ShowsAsBefore g old new
+    shows_either shows clean One s stood live = shows clean s (kept_there s stood) live
+    shows_either shows clean Two s stood live =
+        absurd (not_new s saw filled (sound clean) (at_first same (sound clean)) stood)

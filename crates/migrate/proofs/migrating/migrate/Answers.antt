@@ -1,0 +1,38 @@
+-- What a crash leaves where the migration did not come to its end, and what the connection shows.
+use Rattle.std.proofs.Common.{◌≡◌, Ok, Err, sym, ◌∙◌, rules}
+use Rattle.migrate.specs.Migrating.{LeavesEither, ShowsAsBefore}
+use Rattle.migrate.specs.declared.faults.MigrateFault.TheVariants.{UnknownSchema}
+use Rattle.migrate.proofs.Reading.{on_err}
+use Rattle.migrate.proofs.Stopping.{left_as_before, shows_as_before, refuses_others, left_either, shows_either}
+use Rattle.migrate.proofs.migrating.migrate.Goals as goal
+
+-- a refusal, or a fault before the transaction: what was left before
+pub returns-in_err-meta-clause-stop : goal.returns-in_err-meta-clause-stop
+returns-in_err-meta-clause-stop g c =
+    on_err (LeavesEither g.S.Store c.args.conn.now c.read_old.new.conn) c.from_residual.result
+    (left_as_before g.S.Store c.args.conn.now c.read_old.new.conn c.read_old.ensures.same)
+
+pub returns-in_err-meta-clause-shows : goal.returns-in_err-meta-clause-shows
+returns-in_err-meta-clause-shows g c =
+    on_err (ShowsAsBefore g.S.Store c.args.conn.now c.read_old.new.conn) c.from_residual.result
+    (shows_as_before g.S.Store c.args.conn.now c.read_old.new.conn c.read_old.ensures.same)
+
+-- a refusal does not come on tables of version 1
+pub returns-in_err-meta-clause-only_old : goal.returns-in_err-meta-clause-only_old
+returns-in_err-meta-clause-only_old g c =
+    let why = c.in_err-meta.field-0.0 in
+    let same : c.from_residual.result ≡ Err why = search rules in
+    rw same (refuses_others g.S.Store c.args.conn.now c.read_old.new.conn why c.in_err-meta.ensures.told)
+
+-- a fault after the version was read: the old tables or the new ones
+pub returns-in_err-bring_over-clause-stop : goal.returns-in_err-bring_over-clause-stop
+returns-in_err-bring_over-clause-stop g c =
+    on_err (LeavesEither g.S.Store c.args.conn.now c.bring_over.new.conn) c.from_residual-in_err-bring_over.result
+    (left_either g.S.Store c.args.conn.now c.read_old.new.conn c.bring_over.new.conn c.in_ok-meta.meta c.read_old.ensures.same
+    c.in_ok-meta.ensures.version (λ none. absurd (let never : Ok c.in_ok-meta.meta ≡ Err (UnknownSchema 0) = sym c.in_ok-meta.was ∙ c.read_old.ensures.bare none in cc)) c.bring_over.ensures.sound c.in_ok-meta.ensures.numbers c.in_err-bring_over.ensures.stop)
+
+pub returns-in_err-bring_over-clause-shows : goal.returns-in_err-bring_over-clause-shows
+returns-in_err-bring_over-clause-shows g c =
+    on_err (ShowsAsBefore g.S.Store c.args.conn.now c.bring_over.new.conn) c.from_residual-in_err-bring_over.result
+    (shows_either g.S.Store c.args.conn.now c.read_old.new.conn c.bring_over.new.conn c.in_ok-meta.meta c.read_old.ensures.same
+    c.in_ok-meta.ensures.version (λ none. absurd (let never : Ok c.in_ok-meta.meta ≡ Err (UnknownSchema 0) = sym c.in_ok-meta.was ∙ c.read_old.ensures.bare none in cc)) c.bring_over.ensures.sound c.in_err-bring_over.ensures.shows)

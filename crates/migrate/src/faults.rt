@@ -1,0 +1,28 @@
+//! Why a file could not be migrated.
+ghost use Rattle.std.specs.Prelude.{◌≡◌, ◌≢◌, ◌↔◌};
+
+use sqlite::{Error, ErrorCode};
+
+/// Why a file could not be migrated. The first two are refusals, which change nothing.
+#[derive(Clone, Copy, Debug, PartialEq, Eq)]
+pub enum MigrateFault {
+    /// The tables are of the newest version.
+    AlreadyNew,
+    /// The tables are of a version that is not known, or 0 where there are no tables.
+    UnknownSchema(u64),
+    /// The store failed, or has tables without a readable version.
+    Store,
+    /// Memory ran out before the commit.
+    Memory,
+}
+
+/// The fault of an error that came before the commit. Nothing was committed, so out of memory is reported as such.
+pub(crate) fn fault_of(error: &Error) -> MigrateFault
+    ensures memory { result ≡ MigrateFault.Memory ↔ error.now ≡ Error.SqliteFailure ErrorCode.OutOfMemory }
+    ensures store { result ≡ MigrateFault.Store ↔ (error.now ≢ Error.SqliteFailure ErrorCode.OutOfMemory) }
+{
+    match error {
+        Error::SqliteFailure(ErrorCode::OutOfMemory) => MigrateFault::Memory,
+        _ => MigrateFault::Store,
+    }
+}

@@ -1,0 +1,148 @@
+//! The migration: the version is read, and tables of version 1 are brought over in one transaction.
+//!
+//! Every refusal comes before the transaction begins. Until the commit, which is the last call of the store, nothing
+//! is on the disk but the old tables.
+
+ghost use Rattle.std.specs.Prelude.{◌≡◌, ◌≢◌, ◌<◌, ◌^◌, ℕ, false, None, Err, IfOk, IfErr, OnOk, OnErr};
+ghost use Rattle.sqlite.specs.Held.{state};
+ghost use Rattle.desk_sql.specs.Schema.{no_schema};
+ghost use Rattle.desk_sql.specs.Calls.{StaysInside, WasOpen, CommitsNothing, LeavesNoMore};
+ghost use Rattle.desk_sql.specs.Versions.{SawVersion};
+ghost use Rattle.standing.specs.Keeping.{WasClean};
+ghost use Rattle.migrate.specs.Migrating.{BringsOver, CountsEvents, IsAsBefore, LeavesNew, LeavesEither, ShowsAsBefore, WasNotOld, SawUnknown, Tells, WritesNew, BringsAll, LeavesNewOf, LeavesOneOf, ShowsOld, NumbersOld, RefusesNumbers, IsFault, IsRefusal};
+
+use crate::faults::{MigrateFault, fault_of};
+use crate::statements::{add_tables, copy_all};
+use desk_sql::{Meta, has_no_tables, read_meta, update_meta};
+use sqlite::{Alter, Connection, Error, Transaction};
+
+/// More events, and more journeys, than a file can have.
+const LIMIT: u64 = 1 << 62;
+
+/// What migration brought over.
+#[derive(Clone, Copy, Debug, PartialEq, Eq)]
+pub struct Migrated {
+    /// How many events the ledger has.
+    pub events: u64,
+}
+
+/// Reads the numbers of tables of version 1. Other tables are refused, and nothing changes.
+fn read_old<S: Alter>(conn: &mut Connection<S>) -> Result<Meta, MigrateFault>
+    requires outside { conn.old.in_transaction ≡ false }
+
+    ensures numbers { IfOk result (NumbersOld S.Store conn.old conn.new) }
+    ensures version { OnOk result (SawVersion S.Store conn.old conn.new 1) }
+    ensures events { IfOk result (λ m. m.events < 2 ^ 62) }
+    ensures journeys { IfOk result (λ m. m.journeys < 2 ^ 62) }
+
+    ensures told { IfErr result (Tells S.Store conn.old conn.new) }
+    ensures bare { conn.old.schema ≡ no_schema → result ≡ Err (MigrateFault.UnknownSchema 0) }
+
+    ensures same { IsAsBefore S.Store conn.old conn.new }
+    ensures outside { conn.new.in_transaction ≡ false }
+{
+    if has_no_tables(conn.schema()) {
+        return Err(MigrateFault::UnknownSchema(0));
+    }
+    match read_meta(conn) {
+        Ok(meta) => old_only(meta),
+        Err(error) => Err(fault_of(&error)),
+    }
+}
+
+/// The numbers that were read, if they are of version 1.
+fn old_only(meta: Meta) -> Result<Meta, MigrateFault>
+    ensures ok { IfOk result (λ m. (m ≡ meta) × (m.version ≡ 1) × (m.events < 2 ^ 62) × (m.journeys < 2 ^ 62)) }
+
+    ensures refused { IfErr result (RefusesNumbers meta) }
+{
+    match meta.version {
+        1 if meta.events < LIMIT && meta.journeys < LIMIT => Ok(meta),
+        1 => Err(MigrateFault::Store),
+        2 => Err(MigrateFault::AlreadyNew),
+        version => Err(MigrateFault::UnknownSchema(version)),
+    }
+}
+
+/// Writes the new tables beside the old ones, and the new version.
+fn write_new<S: Alter>(tx: &mut Transaction<'_, S>, meta: Meta) -> Result<(), Error>
+    requires events { meta.events < 2 ^ 62 }
+    requires journeys { meta.journeys < 2 ^ 62 }
+
+    ensures same_reference { tx.new.conn.ghost_name ≡ tx.old.conn.ghost_name }
+    ensures made { WritesNew S.Store tx.old.conn.now tx.new.conn.now result meta }
+    ensures inside { StaysInside S.Store tx.old.conn.now tx.new.conn.now result }
+    ensures live { WasOpen S.Store tx.old.conn.now tx.new.conn.now result }
+    ensures commit { CommitsNothing S.Store tx.old.conn.now tx.new.conn.now }
+    ensures survives { LeavesNoMore S.Store tx.old.conn.now tx.new.conn.now }
+{
+    add_tables(tx)?;
+    copy_all(tx, meta.events)?;
+    update_meta(tx, 2, meta.events, meta.journeys)?;
+    Ok(())
+}
+
+/// Brings the tables over in one commit, which is the last call of the store.
+fn bring_over<S: Alter>(conn: &mut Connection<S>, meta: Meta) -> Result<(), MigrateFault>
+    requires outside { conn.old.in_transaction ≡ false }
+    requires events { meta.events < 2 ^ 62 }
+    requires journeys { meta.journeys < 2 ^ 62 }
+
+    ensures done { BringsAll S.Store conn.old conn.new result meta }
+
+    ensures fault { IfErr result IsFault }
+    ensures memory { result ≡ Err MigrateFault.Memory → IsAsBefore S.Store conn.old conn.new }
+
+    ensures left { OnOk result (LeavesNewOf S.Store conn.old conn.new meta) }
+    ensures stop { OnErr result (LeavesOneOf S.Store conn.old conn.new meta) }
+    ensures shows { OnErr result (ShowsOld S.Store conn.old conn.new) }
+    ensures outside { conn.new.in_transaction ≡ false }
+    ensures limit { conn.new.step_limit ≡ conn.old.step_limit }
+    ensures sound { WasClean S.Store conn.old conn.new }
+{
+    let mut tx = conn.transaction();
+    if let Err(error) = write_new(&mut tx, meta) {
+        tx.rollback();
+        return Err(fault_of(&error));
+    }
+    match tx.commit() {
+        Ok(()) => Ok(()),
+        Err(_) => Err(MigrateFault::Store),
+    }
+}
+
+/// Brings tables of version 1 to version 2, in one commit. The ledger and the kept replies stay as they are. The table
+/// `entry` stays in the file, and is no longer read.
+///
+/// A store without tables and tables of another version are refused, and nothing changes. After a fault a crash leaves
+/// the old tables or the new ones; the connection itself still shows the old ones, as far as it is open.
+pub fn migrate<S: Alter>(conn: &mut Connection<S>) -> Result<Migrated, MigrateFault>
+    requires outside { conn.old.in_transaction ≡ false }
+    requires unlimited { conn.old.step_limit ≡ None }
+
+    ensures same_state { OnOk result (BringsOver S.Store conn.old conn.new) }
+    ensures events { IfOk result (λ m. CountsEvents S.Store conn.old conn.new m.events) }
+    ensures version { OnOk result (SawVersion S.Store conn.old conn.new 1) }
+
+    ensures bare { conn.old.schema ≡ no_schema → result ≡ Err (MigrateFault.UnknownSchema 0) }
+    ensures already_new { result ≡ Err MigrateFault.AlreadyNew → SawVersion S.Store conn.old conn.new 2 }
+    ensures unknown_schema { (n : ℕ) → result ≡ Err (MigrateFault.UnknownSchema n)
+        → SawUnknown S.Store conn.old conn.new n }
+    ensures only_old { IfErr result (λ why. IsRefusal why → WasNotOld S.Store conn.old conn.new) }
+    ensures refused { IfErr result (λ why. IsRefusal why → IsAsBefore S.Store conn.old conn.new) }
+
+    ensures memory { result ≡ Err MigrateFault.Memory → IsAsBefore S.Store conn.old conn.new }
+
+    ensures left { OnOk result (LeavesNew S.Store conn.old conn.new) }
+    ensures stop { OnErr result (LeavesEither S.Store conn.old conn.new) }
+    ensures shows { OnErr result (ShowsAsBefore S.Store conn.old conn.new) }
+    ensures outside { conn.new.in_transaction ≡ false }
+    ensures unlimited { conn.new.step_limit ≡ None }
+    ensures sound { WasClean S.Store conn.old conn.new }
+{
+    let meta = read_old(conn)?;
+    bring_over(conn, meta)?;
+    Ok(Migrated {
+        events: meta.events,
+    })
+}

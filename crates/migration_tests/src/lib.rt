@@ -1,0 +1,6 @@
+//! Tests of migration: files of schema 1, made here by its own statements, are shown, refused, brought over and used, also
+//! where the store fails at any call.
+#![tactic(auto)]
+
+#[cfg(test)]
+mod tests;

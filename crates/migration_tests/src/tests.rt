@@ -1,0 +1,9 @@
+mod bringing;
+mod failing;
+mod helping;
+mod old_desks;
+mod old_files;
+mod refusing;
+mod reporting;
+mod rows;
+mod using;

@@ -1,0 +1,318 @@
+//! Stores that fail from some call on while they are migrated: the file that is found then is the old one or the new one,
+//! and the next migration completes it.
+use crate::tests::helping::{
+    FileConn, bring_over, close, connect, connect_both, disk_of, holds, open,
+};
+use crate::tests::old_files::{OldFile, old_file};
+use crate::tests::reporting::{handed_back, shows_all};
+use crate::tests::rows::{Held, Schema, held_by};
+use crate::tests::using::keeps_all;
+use migrate::{MigrateFault, Migrated};
+use sqlite::{Connection, Files, Options};
+use sqlite_disk::{Crash, Disk, Fuse, Memory};
+use std::alloc::Global;
+use std::process::Abort;
+use std::test::Fail;
+
+// more calls than any run here makes of one disk
+const MOST_CALLS: u64 = 10_000;
+
+/// What migration answered, where the file was opened at all.
+type Answer = Option<Result<Migrated, MigrateFault>>;
+
+/// Where a disk fails from some call on, and whether the machine or the program ends then.
+#[derive(Clone, Copy)]
+struct Stop {
+    in_log: bool,
+    crashes: bool,
+    calls: u64,
+}
+
+/// What a stop left: the answer before it, the files, and whether a call failed.
+#[derive(Drop)]
+struct Left {
+    answer: Answer,
+    log: Memory,
+    db: Memory,
+    met: bool,
+}
+
+impl Left {
+    /// A connection over what was left.
+    fn connect(&self, alloc: Global) -> Result<FileConn, Fail> {
+        connect_both(alloc, self.log.bytes(), self.db.bytes())
+    }
+}
+
+fn has_blown<D: Disk>(disk: &mut D) -> bool {
+    !disk.may_be_used() || disk.len().is_err()
+}
+
+/// Opens the file, migrates it and closes it. What is answered, and the files as they were left.
+fn migrate_files(
+    rt: &impl Abort,
+    alloc: Global,
+    files: Files<Fuse<Memory>>,
+) -> (Answer, Files<Fuse<Memory>>) {
+    if !files.log.may_be_used() || !files.db.may_be_used() {
+        return (None, files);
+    }
+    let mut conn = match Connection::open_files(alloc, files, Options::new(1)) {
+        Ok(conn) => conn,
+        Err((_, left)) => return (None, left.into_files()),
+    };
+    let answer = bring_over(rt, &mut conn);
+    match conn.close_files() {
+        Ok(files) => (Some(answer), files),
+        Err((_, store)) => (Some(answer), store.close()),
+    }
+}
+
+/// One run over disks with this database.
+fn stop_once(rt: &impl Abort, alloc: Global, bytes: &[u8], stop: Stop) -> Result<Left, Fail> {
+    let (log_calls, db_calls) = if stop.in_log {
+        (stop.calls, u64::MAX)
+    } else {
+        (u64::MAX, stop.calls)
+    };
+    let log = Fuse::new(Memory::new(alloc), log_calls);
+    let db = Fuse::new(disk_of(alloc, bytes)?, db_calls);
+    let (answer, files) = migrate_files(rt, alloc, Files { log, db });
+    let Files { mut log, mut db } = files;
+    let met = has_blown(&mut log) || has_blown(&mut db);
+    if stop.crashes {
+        log.crash();
+        db.crash();
+    }
+    Ok(Left {
+        answer,
+        log: disk_of(alloc, log.inner().bytes())?,
+        db: disk_of(alloc, db.inner().bytes())?,
+        met,
+    })
+}
+
+/// A file, and what it holds before it fails.
+#[derive(Drop)]
+struct Trial<'a> {
+    bytes: &'a [u8],
+    held: &'a Held<'a>,
+    before: Schema,
+    events: u64,
+}
+
+impl Trial<'_> {
+    /// The answer is one that may come, and where none failed the one that has to.
+    fn may_answer(&self, left: &Left) -> bool {
+        let sound = match self.before {
+            Schema::Old => Ok(Migrated {
+                events: self.events,
+            }),
+            Schema::New => Err(MigrateFault::AlreadyNew),
+        };
+        match left.answer {
+            None | Some(Err(MigrateFault::Store)) => left.met,
+            Some(answer) => answer == sound,
+        }
+    }
+
+    /// What was found after a stop: a file that is wholly old or wholly new, and that the next migration completes.
+    fn check_left(&self, rt: &impl Abort, alloc: Global, left: &Left) -> Result<Schema, Fail> {
+        holds(rt, "the answer", self.may_answer(left));
+        let mut conn = left.connect(alloc)?;
+        let found = self.held.is_found(rt, alloc, &mut conn)?;
+        if self.before == Schema::New || matches!(left.answer, Some(Ok(_))) {
+            holds(rt, "what is new stays new", found == Schema::New);
+        }
+        if left.answer.is_none() {
+            holds(rt, "what was not opened stays", found == self.before);
+        }
+        let next = bring_over(rt, &mut conn);
+        match found {
+            Schema::Old => holds(
+                rt,
+                "completed",
+                next == Ok(Migrated {
+                    events: self.events,
+                }),
+            ),
+            Schema::New => holds(rt, "complete", next == Err(MigrateFault::AlreadyNew)),
+        }
+        let after = self.held.is_found(rt, alloc, &mut conn)?;
+        holds(rt, "new", after == Schema::New);
+        Ok(found)
+    }
+}
+
+/// How often the file was not opened, how often a fault of migration left the old file and the new one, and how often
+/// it was answered.
+#[derive(Clone, Copy, Debug, PartialEq, Eq)]
+struct Met {
+    unopened: u32,
+    old: u32,
+    new: u32,
+    answered: u32,
+}
+
+impl Met {
+    fn count(&mut self, answer: Answer, found: Schema) {
+        let count = match (answer, found) {
+            (None, _) => &mut self.unopened,
+            (Some(Err(MigrateFault::Store)), Schema::Old) => &mut self.old,
+            (Some(Err(MigrateFault::Store)), Schema::New) => &mut self.new,
+            (Some(_), _) => &mut self.answered,
+        };
+        *count = count.saturating_add(1);
+    }
+}
+
+/// Each call of one disk fails in turn, or one of so many, until a run ends without meeting the fault.
+fn stop_at_each_call_of(
+    rt: &impl Abort,
+    alloc: Global,
+    trial: &Trial<'_>,
+    in_log: bool,
+    crashes: bool,
+    every: u64,
+) -> Result<Met, Fail> {
+    let mut met = Met {
+        unopened: 0,
+        old: 0,
+        new: 0,
+        answered: 0,
+    };
+    let mut calls = 0u64;
+    for _ in 0..MOST_CALLS {
+        let stop = Stop {
+            in_log,
+            crashes,
+            calls,
+        };
+        let left = stop_once(rt, alloc, trial.bytes, stop)?;
+        let found = trial.check_left(rt, alloc, &left)?;
+        met.count(left.answer, found);
+        if !left.met {
+            return Ok(met);
+        }
+        calls = calls.saturating_add(every);
+    }
+    Err(Fail::from("no run without a fault"))
+}
+
+/// The same for each disk, where the program ends and where the machine crashes.
+fn stop_at_each_call(
+    rt: &impl Abort,
+    alloc: Global,
+    trial: &Trial<'_>,
+    every: u64,
+) -> Result<(), Fail> {
+    for (in_log, crashes) in [(false, false), (false, true), (true, false), (true, true)] {
+        let met = stop_at_each_call_of(rt, alloc, trial, in_log, crashes, every)?;
+        assert!(rt; met.unopened > 0 && met.answered > 0, "{met:?}");
+        if in_log && trial.before == Schema::Old {
+            assert!(rt; met.old > 0, "{met:?}");
+        }
+    }
+    Ok(())
+}
+
+/// What an old file holds; the connection that showed it is gone.
+fn held_in<'a>(alloc: Global, file: &'a OldFile) -> Result<Held<'a>, Fail> {
+    let mut conn = connect(alloc, file.bytes())?;
+    held_by(alloc, &mut conn, &file.written)
+}
+
+/// The old file, migrated and closed.
+fn migrated(rt: &impl Abort, alloc: Global, file: &OldFile) -> Result<Memory, Fail> {
+    let mut conn = connect(alloc, file.bytes())?;
+    bring_over(rt, &mut conn)?;
+    Ok(close(conn)?)
+}
+
+#[test]
+fn an_old_file_may_fail_at_any_call(rt: HostRuntime) -> Result<(), Fail> {
+    let alloc = rt.alloc();
+    let file = old_file(&rt, alloc, 1)?;
+    let held = held_in(alloc, &file)?;
+    let trial = Trial {
+        bytes: file.bytes(),
+        held: &held,
+        before: Schema::Old,
+        events: 37,
+    };
+    stop_at_each_call(&rt, alloc, &trial, 1)
+}
+
+#[test]
+fn a_new_file_may_fail_at_any_call(rt: HostRuntime) -> Result<(), Fail> {
+    let alloc = rt.alloc();
+    let file = old_file(&rt, alloc, 1)?;
+    let held = held_in(alloc, &file)?;
+    let db = migrated(&rt, alloc, &file)?;
+    let trial = Trial {
+        bytes: db.bytes(),
+        held: &held,
+        before: Schema::New,
+        events: 37,
+    };
+    stop_at_each_call(&rt, alloc, &trial, 1)
+}
+
+// every seventh call: there are hundreds, and two statements copy the items
+#[test]
+fn a_long_file_may_fail_at_any_call(rt: HostRuntime) -> Result<(), Fail> {
+    let alloc = rt.alloc();
+    let file = old_file(&rt, alloc, 120)?;
+    let held = held_in(alloc, &file)?;
+    let trial = Trial {
+        bytes: file.bytes(),
+        held: &held,
+        before: Schema::Old,
+        events: 4202,
+    };
+    stop_at_each_call(&rt, alloc, &trial, 7)
+}
+
+/// What is left where the last call that migration makes of the log fails, its commit, and the machine crashes.
+fn without_commit(rt: &impl Abort, alloc: Global, bytes: &[u8]) -> Result<Left, Fail> {
+    let mut last = None;
+    for calls in 0..MOST_CALLS {
+        let stop = Stop {
+            in_log: true,
+            crashes: true,
+            calls,
+        };
+        let left = stop_once(rt, alloc, bytes, stop)?;
+        if let Some(Ok(_)) = left.answer {
+            break;
+        }
+        last = Some(left);
+    }
+    Ok(last.ok_or("no call fails")?)
+}
+
+#[test]
+fn a_commit_that_fails_leaves_the_old_file(rt: HostRuntime) -> Result<(), Fail> {
+    let alloc = rt.alloc();
+    let file = old_file(&rt, alloc, 1)?;
+    let left = without_commit(&rt, alloc, file.bytes())?;
+    holds(
+        &rt,
+        "a fault",
+        left.answer == Some(Err(MigrateFault::Store)),
+    );
+    let mut opened = open(&rt, left.connect(alloc)?)?;
+    shows_all(&rt, alloc, &mut opened, 1)?;
+    let mut conn = handed_back(&rt, alloc, opened)?.into_store();
+    holds(
+        &rt,
+        "again",
+        bring_over(&rt, &mut conn) == Ok(Migrated { events: 37 }),
+    );
+    let mut opened = open(&rt, conn)?;
+    shows_all(&rt, alloc, &mut opened, 1)?;
+    let Ok(mut book) = opened.into_book(alloc) else {
+        return Err(Fail::from("no desk over the new file"));
+    };
+    keeps_all(&rt, alloc, &mut book, 1)
+}

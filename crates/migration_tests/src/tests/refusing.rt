@@ -1,0 +1,81 @@
+//! Stores that are not migrated: what each answers, and that nothing of it changes.
+use crate::tests::helping::{bring_over, close, connect, holds, run};
+use crate::tests::old_files::old_file;
+use migrate::MigrateFault;
+use sqlite_disk::Memory;
+use std::alloc::Global;
+use std::process::Abort;
+use std::test::Fail;
+
+/// The store of these bytes is refused so, and not a byte of it changes, whether it is asked once or twice.
+fn is_refused(
+    rt: &impl Abort,
+    alloc: Global,
+    case: &str,
+    bytes: &[u8],
+    expected: MigrateFault,
+) -> Result<(), Fail> {
+    let mut conn = connect(alloc, bytes)?;
+    for _ in 0..2u8 {
+        let answer = bring_over(rt, &mut conn);
+        assert!(rt; answer == Err(expected), "{case}: {answer:?}");
+    }
+    let db = close(conn)?;
+    holds(rt, case, db.bytes() == bytes);
+    Ok(())
+}
+
+/// The file of these statements, after others.
+fn changed(
+    rt: &impl Abort,
+    alloc: Global,
+    bytes: &[u8],
+    statements: &[&str],
+) -> Result<Memory, Fail> {
+    let mut conn = connect(alloc, bytes)?;
+    run(rt, &mut conn, statements)?;
+    Ok(close(conn)?)
+}
+
+// what becomes of an old file, and what is answered then
+#[rattlefmt::skip]
+const CHANGES: [(&str, &[&str], MigrateFault); 8] = [
+    ("version 2",         &["UPDATE meta SET version = 2"], MigrateFault::AlreadyNew),
+    ("version 3",         &["UPDATE meta SET version = 3"], MigrateFault::UnknownSchema(3)),
+    ("version 0",         &["UPDATE meta SET version = 0"], MigrateFault::UnknownSchema(0)),
+    ("the last version",  &["UPDATE meta SET version = 9223372036854775807"], MigrateFault::UnknownSchema(9_223_372_036_854_775_807)),
+    ("a version below 0", &["UPDATE meta SET version = -1"], MigrateFault::Store),
+    ("no version",        &["DELETE FROM meta"], MigrateFault::Store),
+    ("no meta",           &["DROP TABLE meta"], MigrateFault::Store),
+    ("no entry",          &["DROP TABLE entry"], MigrateFault::Store),
+];
+
+#[test]
+fn another_version_or_none_is_refused(rt: HostRuntime) -> Result<(), Fail> {
+    let alloc = rt.alloc();
+    let file = old_file(&rt, alloc, 2)?;
+    for (case, statements, expected) in CHANGES {
+        let db = changed(&rt, alloc, file.bytes(), statements)?;
+        is_refused(&rt, alloc, case, db.bytes(), expected)?;
+    }
+    Ok(())
+}
+
+// what makes a store that is no desk's, and what is answered
+#[rattlefmt::skip]
+const FOREIGN: [(&str, &[&str], MigrateFault); 5] = [
+    ("no tables",            &[], MigrateFault::UnknownSchema(0)),
+    ("another table",        &["CREATE TABLE note(a INTEGER)", "INSERT INTO note VALUES (7)"], MigrateFault::Store),
+    ("a view",               &["CREATE VIEW two AS SELECT 2"], MigrateFault::Store),
+    ("a meta without numbers", &["CREATE TABLE meta(one INTEGER PRIMARY KEY)", "INSERT INTO meta VALUES (1)"], MigrateFault::Store),
+    ("a version in words",   &["CREATE TABLE meta(one INTEGER PRIMARY KEY, version, events, journeys)", "INSERT INTO meta VALUES (1, 'one', 0, 0)"], MigrateFault::Store),
+];
+
+#[test]
+fn a_store_that_is_no_desks_is_refused(rt: HostRuntime) -> Result<(), Fail> {
+    for (case, statements, expected) in FOREIGN {
+        let db = changed(&rt, rt.alloc(), &[], statements)?;
+        is_refused(&rt, rt.alloc(), case, db.bytes(), expected)?;
+    }
+    Ok(())
+}

@@ -1,0 +1,205 @@
+//! What is shown of an old file is what was written into it, and the same once the file is brought over. No desk is opened
+//! over an old file.
+use crate::tests::helping::{FileConn, bring_over, connect, holds, open};
+use crate::tests::old_desks::{IN_A_ROUND, OldJourney, cells, is_unfinished, journeys};
+use crate::tests::old_files::old_file;
+use saga_core::RowSource;
+use sqlite::{Alter, FileStore};
+use sqlite_disk::Memory;
+use std::alloc::{AllocError, Global};
+use std::process::Abort;
+use std::test::Fail;
+use tables::{OpenFault, Opened};
+
+// more rows than a file here has of anything
+const MOST_ROWS: u32 = 100_000;
+
+/// What was found in a file.
+pub type FileOpened = Opened<FileStore<Memory>>;
+
+/// The report of the places of each cell.
+pub fn stock_of<S: Alter>(alloc: Global, opened: &mut Opened<S>) -> Result<String, Fail> {
+    let mut text = String::new(alloc);
+    let mut rows = opened.stock_rows()?;
+    for _ in 0..MOST_ROWS {
+        let Some((cell, held)) = rows.next_row()? else {
+            break;
+        };
+        write!(text, "{cell} {} {}\n", held.allot, held.free)?;
+    }
+    Ok(text)
+}
+
+/// The report of the journeys that are not finished.
+pub fn unfinished_of<S: Alter>(alloc: Global, opened: &mut Opened<S>) -> Result<String, Fail> {
+    let mut text = String::new(alloc);
+    let mut rows = opened.unfinished_rows()?;
+    for _ in 0..MOST_ROWS {
+        let Some(brief) = rows.next_row()? else {
+            break;
+        };
+        let state = brief.cursor.state(alloc)?;
+        write!(text, "{} {} {state}\n", brief.id, brief.agent.as_str())?;
+    }
+    Ok(text)
+}
+
+/// The items of a journey.
+fn items_of<S: Alter>(alloc: Global, opened: &mut Opened<S>, id: u64) -> Result<String, Fail> {
+    let mut text = String::new(alloc);
+    let mut rows = opened.item_rows(id)?;
+    for _ in 0..MOST_ROWS {
+        let Some(item) = rows.next_row()? else {
+            break;
+        };
+        if !text.is_empty() {
+            text.push(' ')?;
+        }
+        text.push_str(item.text(alloc)?.as_str())?;
+    }
+    Ok(text)
+}
+
+/// The report of a journey, which is empty where there is none.
+pub fn journey_of<S: Alter>(
+    alloc: Global,
+    opened: &mut Opened<S>,
+    id: u64,
+) -> Result<String, Fail> {
+    let items = items_of(alloc, opened, id)?;
+    let Some(record) = opened.journey_of(alloc, id)? else {
+        return Ok(items);
+    };
+    let line = record.plan.line(alloc)?;
+    let state = record.cursor.state(alloc)?;
+    Ok(format!(in alloc;
+        "{} {line} {items} {state} {}",
+        record.agent.as_str(),
+        record.cursor.used
+    )?)
+}
+
+/// The same of a journey as it was written.
+fn expected_journey(alloc: Global, journey: &OldJourney) -> Result<String, AllocError> {
+    let OldJourney {
+        agent,
+        plan,
+        numbers,
+        told,
+        state,
+        ..
+    } = journey;
+    let [.., used] = numbers;
+    format!(in alloc; "{agent} {plan} {told} {state} {used}")
+}
+
+/// The stock after so many rounds.
+fn expected_stock(alloc: Global, rounds: u64) -> Result<String, AllocError> {
+    let mut text = String::new(alloc);
+    if rounds > 0 {
+        let rounds = i64::try_from(rounds).unwrap_or(i64::MAX);
+        for (cell, .., places, held) in cells() {
+            let free = places.saturating_sub(held.saturating_mul(rounds));
+            write!(text, "{cell} {places} {free}\n")?;
+        }
+    }
+    Ok(text)
+}
+
+/// The unfinished journeys after so many rounds.
+fn expected_unfinished(alloc: Global, rounds: u64) -> Result<String, AllocError> {
+    let mut text = String::new(alloc);
+    let mut id = 0u64;
+    for _ in 0..rounds {
+        for journey in journeys() {
+            id = id.saturating_add(1);
+            if is_unfinished(journey) {
+                write!(text, "{id} {} {}\n", journey.agent, journey.state)?;
+            }
+        }
+    }
+    Ok(text)
+}
+
+/// What is shown of the journeys of one round, counted from 0, is what was written.
+fn shows_round<S: Alter>(
+    rt: &impl Abort,
+    alloc: Global,
+    opened: &mut Opened<S>,
+    round: u64,
+) -> Result<(), Fail> {
+    let mut id = round.saturating_mul(IN_A_ROUND);
+    for journey in journeys() {
+        id = id.saturating_add(1);
+        let shown = journey_of(alloc, opened, id)?;
+        let expected = expected_journey(alloc, journey)?;
+        assert_eq!(rt; shown.as_str(), expected.as_str());
+    }
+    Ok(())
+}
+
+/// All that is shown of a file of so many rounds is what was written: of the journeys those of the first round, those of the
+/// last, and numbers that none has.
+pub fn shows_all<S: Alter>(
+    rt: &impl Abort,
+    alloc: Global,
+    opened: &mut Opened<S>,
+    rounds: u64,
+) -> Result<(), Fail> {
+    let stock = stock_of(alloc, opened)?;
+    let expected = expected_stock(alloc, rounds)?;
+    holds(rt, "stock", stock.as_str() == expected.as_str());
+    let unfinished = unfinished_of(alloc, opened)?;
+    let expected = expected_unfinished(alloc, rounds)?;
+    holds(rt, "unfinished", unfinished.as_str() == expected.as_str());
+    if rounds > 0 {
+        shows_round(rt, alloc, opened, 0)?;
+        shows_round(rt, alloc, opened, rounds.saturating_sub(1))?;
+    }
+    let last = rounds.saturating_mul(IN_A_ROUND);
+    for absent in [0, last.saturating_add(1), u64::MAX] {
+        let shown = journey_of(alloc, opened, absent)?;
+        holds(rt, "no journey", shown.is_empty());
+    }
+    Ok(())
+}
+
+/// No desk is opened over what was found, which is handed back.
+pub fn handed_back(rt: &impl Abort, alloc: Global, opened: FileOpened) -> Result<FileOpened, Fail> {
+    match opened.into_book(alloc) {
+        Ok(_) => Err(Fail::from("a desk over an old file")),
+        Err((opened, fault)) => {
+            holds(rt, "the old schema", fault == OpenFault::UnknownSchema(1));
+            Ok(opened)
+        }
+    }
+}
+
+/// An old file is shown before and after no desk is opened over it, and once it is brought over.
+fn is_shown_alike(rt: &impl Abort, alloc: Global, conn: FileConn, rounds: u64) -> Result<(), Fail> {
+    let mut opened = open(rt, conn)?;
+    shows_all(rt, alloc, &mut opened, rounds)?;
+    let mut opened = handed_back(rt, alloc, opened)?;
+    shows_all(rt, alloc, &mut opened, rounds)?;
+    let mut conn = opened.into_store();
+    bring_over(rt, &mut conn)?;
+    let mut opened = open(rt, conn)?;
+    shows_all(rt, alloc, &mut opened, rounds)?;
+    holds(
+        rt,
+        "a desk over the new file",
+        opened.into_book(alloc).is_ok(),
+    );
+    Ok(())
+}
+
+#[test]
+fn an_old_file_is_shown_as_it_was_written(rt: HostRuntime) -> Result<(), Fail> {
+    let alloc = rt.alloc();
+    for rounds in [0u32, 1, 20] {
+        let file = old_file(&rt, alloc, rounds)?;
+        let conn = connect(alloc, file.bytes())?;
+        is_shown_alike(&rt, alloc, conn, u64::from(rounds))?;
+    }
+    Ok(())
+}

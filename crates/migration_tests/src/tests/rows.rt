@@ -1,0 +1,137 @@
+//! The rows of a file as text, and whether they are those that were written into it, under the old schema or the new one.
+use crate::tests::helping::holds;
+use crate::tests::old_files::Written;
+use sqlite::types::ValueRef;
+use sqlite::{Alter, Connection, Row};
+use std::alloc::Global;
+use std::process::Abort;
+use std::str;
+use std::test::Fail;
+
+// the tables that migration leaves as they are, each in the order of its key
+const SAME: [&str; 5] = [
+    "SELECT * FROM stock ORDER BY kind, supplier, product, night",
+    "SELECT * FROM batch ORDER BY name",
+    "SELECT * FROM journey ORDER BY id",
+    "SELECT * FROM step ORDER BY journey, place, opt",
+    "SELECT * FROM answer ORDER BY agent, mark",
+];
+
+const TABLES: &str = "SELECT name FROM sqlite_schema WHERE type = 'table' ORDER BY name";
+
+const OLD: &str = "answer\nbatch\nentry\njourney\nmeta\nstep\nstock\n";
+
+const NEW: &str = "answer\nbatch\nentry\nentry2\njourney\nmark\nmeta\nstep\nstock\n";
+
+/// The rows that a statement finds, a line each, with a bar between two values.
+pub fn rows<S: Alter>(
+    alloc: Global,
+    conn: &mut Connection<S>,
+    statement: &str,
+) -> Result<String, Fail> {
+    let mut text = String::new(alloc);
+    for row in &conn.query_all(statement, &[])? {
+        push_row(&mut text, row)?;
+    }
+    Ok(text)
+}
+
+fn push_row(text: &mut String, row: &Row) -> Result<(), Fail> {
+    for at in 0..row.column_count() {
+        if at > 0 {
+            text.push('|')?;
+        }
+        match row.get_ref(at)? {
+            ValueRef::Int(number) => write!(text, "{number}")?,
+            ValueRef::Text(bytes) | ValueRef::Blob(bytes) => text.push_str(str::from_utf8(bytes)?)?,
+            ValueRef::Null | ValueRef::Real(_) => text.push('?')?,
+        }
+    }
+    text.push('\n')?;
+    Ok(())
+}
+
+/// The rows of the tables that migration leaves as they are.
+pub fn same_rows<S: Alter>(alloc: Global, conn: &mut Connection<S>) -> Result<String, Fail> {
+    let mut text = String::new(alloc);
+    for statement in &SAME {
+        text.push_str(rows(alloc, conn, statement)?.as_str())?;
+    }
+    Ok(text)
+}
+
+/// Which schema a file has.
+#[derive(Clone, Copy, Debug, PartialEq, Eq)]
+pub enum Schema {
+    Old,
+    New,
+}
+
+/// What a file has to hold, whichever schema it has.
+#[derive(Drop)]
+pub struct Held<'a> {
+    pub written: &'a Written,
+    /// The rows of the tables that migration leaves as they are.
+    pub same: String,
+}
+
+impl Held<'_> {
+    /// The file holds all this under one of the schemas, and nothing else. Which one that is.
+    pub fn is_found<S: Alter>(
+        &self,
+        rt: &impl Abort,
+        alloc: Global,
+        conn: &mut Connection<S>,
+    ) -> Result<Schema, Fail> {
+        let tables = rows(alloc, conn, TABLES)?;
+        let schema = if tables.as_str() == NEW {
+            self.has_new_items(rt, alloc, conn)?;
+            Schema::New
+        } else {
+            holds(rt, "the old tables", tables.as_str() == OLD);
+            Schema::Old
+        };
+        let version = if schema == Schema::New { 2u8 } else { 1 };
+        let Written {
+            events,
+            journeys,
+            items,
+        } = self.written;
+        let meta = format!(in alloc; "1|{version}|{events}|{journeys}\n")?;
+        let found = rows(alloc, conn, "SELECT * FROM meta")?;
+        assert_eq!(rt; found.as_str(), meta.as_str());
+        let old = rows(alloc, conn, "SELECT * FROM entry ORDER BY num")?;
+        holds(rt, "the old items", old.as_str() == items.as_str());
+        let same = same_rows(alloc, conn)?;
+        holds(rt, "the other rows", same.as_str() == self.same.as_str());
+        Ok(schema)
+    }
+
+    /// The items stand in the new table too, and no save-point was taken.
+    fn has_new_items<S: Alter>(
+        &self,
+        rt: &impl Abort,
+        alloc: Global,
+        conn: &mut Connection<S>,
+    ) -> Result<(), Fail> {
+        let items = rows(alloc, conn, "SELECT * FROM entry2 ORDER BY num")?;
+        holds(
+            rt,
+            "the new items",
+            items.as_str() == self.written.items.as_str(),
+        );
+        let marks = rows(alloc, conn, "SELECT * FROM mark")?;
+        holds(rt, "no marks", marks.is_empty());
+        Ok(())
+    }
+}
+
+/// What a file holds into which this was written, read before anything else is done with it.
+pub fn held_by<'a, S: Alter>(
+    alloc: Global,
+    conn: &mut Connection<S>,
+    written: &'a Written,
+) -> Result<Held<'a>, Fail> {
+    let same = same_rows(alloc, conn)?;
+    Ok(Held { written, same })
+}

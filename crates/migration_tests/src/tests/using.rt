@@ -1,0 +1,254 @@
+//! A file that was brought over is used: its keys give their replies, recovery brings every journey to its end, and a
+//! journey takes a save-point while it runs.
+use crate::tests::helping::{FileConn, book_over, bring_over, connect, holds, open, run};
+use crate::tests::old_desks::{journeys, last_item};
+use crate::tests::old_files::old_file;
+use crate::tests::reporting::shows_all;
+use crate::tests::rows::rows;
+use allotment::{Cell, Row};
+use commands::{Agent, Ask, Batch, Command, Key, Name, Reply};
+use plan::Plan;
+use recovery::recover;
+use saga_core::Book;
+use std::alloc::Global;
+use std::process::Abort;
+use std::test::Fail;
+
+/// A file of so many rounds that was brought over.
+fn brought_over(rt: &impl Abort, alloc: Global, rounds: u32) -> Result<FileConn, Fail> {
+    let file = old_file(rt, alloc, rounds)?;
+    let mut conn = connect(alloc, file.bytes())?;
+    bring_over(rt, &mut conn)?;
+    Ok(conn)
+}
+
+/// Stops the test where another line was answered.
+fn says(rt: &impl Abort, alloc: Global, reply: &Reply, expected: &str) -> Result<(), Fail> {
+    let line = reply.line(alloc)?;
+    assert_eq!(rt; line.as_str(), expected);
+    Ok(())
+}
+
+/// What an agent asks for under a key, with this text.
+fn ask(alloc: Global, agent: &str, key: &str, text: &str) -> Result<Ask, Fail> {
+    let agent = Agent::parse(agent).ok_or("no agent")?;
+    let key = Key::parse(key).ok_or("no key")?;
+    Ok(Ask::new(agent, key, Vec::from_slice(alloc, text.as_bytes())?))
+}
+
+/// Under the key that was used an agent gets this reply, and under another text a refusal; whatever the command.
+fn is_kept<B: Book>(
+    rt: &impl Abort,
+    alloc: Global,
+    book: &mut B,
+    agent: &str,
+    key: &str,
+    expected: &str,
+) -> Result<(), Fail> {
+    let again = ask(alloc, agent, key, key)?;
+    let reply = book.act(&Command::Step(1), Some(&again))?;
+    says(rt, alloc, &reply, expected)?;
+    let other = ask(alloc, agent, key, "other")?;
+    let reply = book.act(&Command::Step(1), Some(&other))?;
+    says(rt, alloc, &reply, "refused 14 KeyReused")
+}
+
+/// Each kept key of a file of so many rounds gives its reply.
+pub fn keeps_all<B: Book>(
+    rt: &impl Abort,
+    alloc: Global,
+    book: &mut B,
+    rounds: u32,
+) -> Result<(), Fail> {
+    is_kept(rt, alloc, book, "ann", "load", "loaded all 17")?;
+    let mut id = 0u64;
+    for _ in 0..rounds {
+        for journey in journeys() {
+            id = id.saturating_add(1);
+            if journey.agent == "desk" {
+                continue;
+            }
+            let key = format!(in alloc; "begin-{id}")?;
+            let reply = format!(in alloc; "journey {id} begun")?;
+            is_kept(rt, alloc, book, journey.agent, key.as_str(), reply.as_str())?;
+            if let Some(item) = last_item(journey) {
+                let key = format!(in alloc; "move-{id}")?;
+                let reply = format!(in alloc; "journey {id} {item} {}", journey.state)?;
+                is_kept(rt, alloc, book, journey.agent, key.as_str(), reply.as_str())?;
+            }
+        }
+    }
+    Ok(())
+}
+
+#[test]
+fn each_kept_key_gives_its_reply(rt: HostRuntime) -> Result<(), Fail> {
+    let alloc = rt.alloc();
+    let mut book = book_over(&rt, alloc, brought_over(&rt, alloc, 3)?)?;
+    keeps_all(&rt, alloc, &mut book, 3)?;
+    let events = rows(alloc, &mut book.into_store(), "SELECT events FROM meta")?;
+    assert_eq!(rt; events.as_str(), "107\n");
+    Ok(())
+}
+
+/// The items of a journey and its state.
+fn history<B: Book>(alloc: Global, book: &mut B, id: u64) -> Result<String, Fail> {
+    let mut line = String::new(alloc);
+    for item in &book.history(id)? {
+        line.push_str(item.text(alloc)?.as_str())?;
+        line.push(' ')?;
+    }
+    let record = book.journey(id)?.ok_or("no journey")?;
+    line.push_str(record.cursor.state(alloc)?.as_str())?;
+    Ok(line)
+}
+
+// what recovery makes of the journeys of a round
+#[rattlefmt::skip]
+const RECOVERED: [&str; 8] = [
+    "T1.1 T2.1 ended 2",
+    "T1.1 B0a C1.1 undone 0",
+    "T1.1 T2.1 T3.1 B1a C3.1 C2.1 T2.1 T3.1 T4.1 ended 4",
+    "T1.1 B1r B1r T2.3 ended 2",
+    "T1.1 T2.1 B1s C2.1 B1s T2.1 T3.1 ended 3",
+    "B0r undone 0",
+    "B0s undone 0",
+    "T1.1 T2.1 T3.1 T4.1 T5.1 B4a B2a C5.1 C4.1 C3.1 T3.1 T4.1 T5.1 T6.1 ended 6",
+];
+
+// how many events recovery makes of a round: 4, 3, 1 and 6
+const RECOVERED_EVENTS: u64 = 14;
+
+/// Recovery brings each journey of so many rounds to its end, and the kept keys still give their replies.
+fn is_recovered(rt: &impl Abort, alloc: Global, conn: FileConn, rounds: u8) -> Result<(), Fail> {
+    let Ok((mut ready, made)) = recover(book_over(rt, alloc, conn)?) else {
+        return Err(Fail::from("recovery failed"));
+    };
+    let expected = RECOVERED_EVENTS.saturating_mul(u64::from(rounds));
+    assert_eq!(rt; made, expected);
+    let unfinished = ready.first_unfinished(0)?;
+    holds(rt, "none is unfinished", unfinished.is_none());
+    let mut id = 0u64;
+    for _ in 0..rounds {
+        for expected in &RECOVERED {
+            id = id.saturating_add(1);
+            let found = history(alloc, &mut ready, id)?;
+            assert_eq!(rt; found.as_str(), *expected);
+        }
+    }
+    keeps_all(rt, alloc, &mut ready, u32::from(rounds))
+}
+
+#[test]
+fn recovery_brings_every_journey_to_its_end(rt: HostRuntime) -> Result<(), Fail> {
+    let alloc = rt.alloc();
+    for rounds in [1u8, 5] {
+        let conn = brought_over(&rt, alloc, u32::from(rounds))?;
+        is_recovered(&rt, alloc, conn, rounds)?;
+    }
+    Ok(())
+}
+
+#[test]
+fn the_old_items_are_not_read(rt: HostRuntime) -> Result<(), Fail> {
+    let alloc = rt.alloc();
+    let mut conn = brought_over(&rt, alloc, 1)?;
+    run(&rt, &mut conn, &["DELETE FROM entry"])?;
+    let mut opened = open(&rt, conn)?;
+    shows_all(&rt, alloc, &mut opened, 1)?;
+    is_recovered(&rt, alloc, opened.into_store(), 1)
+}
+
+/// What is asked of the desk over a file of one round: the ninth journey begins, is moved, or has a save-point taken.
+#[derive(Clone, Copy)]
+enum Asked {
+    Begin(&'static str),
+    Step,
+    Save,
+    Abort(usize),
+}
+
+#[rattlefmt::skip]
+const NEW_JOURNEY: [(Asked, &str); 13] = [
+    (Asked::Begin("F/AL/A5/2030-06-01/1/1;T/BUS/X/2030-06-01/1/1;F/AL/A6/2030-06-01/1/1!0"), "journey 9 begun"),
+    (Asked::Save,     "refused 28 NoSave"),
+    (Asked::Step,     "journey 9 T1.1 run 1"),
+    (Asked::Save,     "journey 9 S1 run 1"),
+    (Asked::Save,     "refused 28 NoSave"),
+    (Asked::Step,     "journey 9 T2.1 run 2"),
+    (Asked::Save,     "journey 9 S2 run 2"),
+    (Asked::Abort(1), "journey 9 B1a back 2 to 1"),
+    (Asked::Step,     "journey 9 C2.1 run 1"),
+    (Asked::Abort(2), "refused 11 NoSavePoint"),
+    (Asked::Step,     "journey 9 T2.1 run 2"),
+    (Asked::Abort(1), "journey 9 B1a back 2 to 1"),
+    (Asked::Step,     "journey 9 C2.1 run 1"),
+];
+
+// what stands then: 37 events before, and ten more
+#[rattlefmt::skip]
+const AFTER_IT: [(&str, &str); 5] = [
+    ("SELECT version, events, journeys FROM meta", "2|47|9\n"),
+    ("SELECT num, item, a, b FROM entry2 WHERE journey = 9 ORDER BY num",
+        "39|0|1|1\n40|3|1|0\n41|0|2|1\n42|3|2|0\n43|2|1|2\n44|1|2|1\n45|0|2|1\n46|2|1|2\n47|1|2|1\n"),
+    ("SELECT journey, pos FROM mark", "9|1\n"),
+    ("SELECT count(*), max(num) FROM entry", "27|37\n"),
+    ("SELECT allot, free FROM stock WHERE product = 'A5' OR product = 'X' ORDER BY kind", "60000|59999\n20000|20000\n"),
+];
+
+fn command_of(alloc: Global, asked: Asked) -> Result<Command, Fail> {
+    Ok(match asked {
+        Asked::Begin(line) => Command::Begin(Plan::from_line(alloc, line)?),
+        Asked::Step => Command::Step(9),
+        Asked::Save => Command::Save(9),
+        Asked::Abort(position) => Command::Abort(9, position),
+    })
+}
+
+#[test]
+fn a_new_journey_takes_a_save_point(rt: HostRuntime) -> Result<(), Fail> {
+    let alloc = rt.alloc();
+    let mut book = book_over(&rt, alloc, brought_over(&rt, alloc, 1)?)?;
+    for (asked, expected) in NEW_JOURNEY {
+        let reply = book.act(&command_of(alloc, asked)?, None)?;
+        says(&rt, alloc, &reply, expected)?;
+    }
+    let mut conn = book.into_store();
+    for (statement, expected) in AFTER_IT {
+        assert_eq!(rt; rows(alloc, &mut conn, statement)?.as_str(), expected);
+    }
+    Ok(())
+}
+
+/// The batch of one cell, or of two.
+fn batch(alloc: Global, name: &str, cells: &[(&str, u32)]) -> Result<Command, Fail> {
+    let mut rows = Vec::new(alloc);
+    for &(cell, places) in cells {
+        let cell = Cell::parse(cell).ok_or("no cell")?;
+        rows.push(Row::new(cell, places.min(100_000)))?;
+    }
+    let name = Name::parse(name).ok_or("no name")?;
+    Ok(Command::Load(Batch::new(alloc, name, rows)?))
+}
+
+// a batch, and what is answered: one that the old file has, with the same row and with another, and below what is held
+#[rattlefmt::skip]
+const BATCHES: [(&str, &[(&str, u32)], &str); 4] = [
+    ("one", &[("F/AL/A1/2030-06-01", 100_000)], "loaded one 1"),
+    ("one", &[("F/AL/A1/2030-06-01", 99_999)],  "refused 13 BatchDiffers"),
+    ("two", &[("F/AL/A6/2030-06-01", 0), ("F/AL/A1/2030-06-01", 4)], "refused 12 BelowHeld 2"),
+    ("two", &[("F/AL/A6/2030-06-01", 0), ("F/AL/A1/2030-06-01", 5)], "loaded two 2"),
+];
+
+#[test]
+fn batches_are_known_and_places_are_held(rt: HostRuntime) -> Result<(), Fail> {
+    let alloc = rt.alloc();
+    let mut book = book_over(&rt, alloc, brought_over(&rt, alloc, 1)?)?;
+    for (name, cells, expected) in BATCHES {
+        let reply = book.act(&batch(alloc, name, cells)?, None)?;
+        says(&rt, alloc, &reply, expected)?;
+    }
+    let meta = rows(alloc, &mut book.into_store(), "SELECT events FROM meta")?;
+    assert_eq!(rt; meta.as_str(), "38\n");
+    Ok(())
+}
