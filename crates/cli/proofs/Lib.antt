@@ -1,9 +1,1 @@
-pub mod SubcommandLemmas
-pub mod LineLemmas
-pub mod AnswerLemmas
-pub mod ServeLemmas
-pub mod WorldLemmas
-pub mod OrderLemmas
-pub mod OneLineLemmas
-pub mod NumberLemmas
 pub mod LingerLemmas

@@ -1,81 +1,22 @@
--- How the program ends, and what it tells.
-use Rattle.std.specs.Prelude.{◌≡◌, ◌⊎◌, ⊤, ℕ, List, [], ◌∷◌, codes, decimal, Option, None, Result, Ok, Err}
+-- How a job over a file ends, what it tells, and what is read for it.
+use Rattle.std.specs.Prelude.{◌≡◌, ⊤, ℕ, List, [], ◌∷◌, codes, decimal, Option, None}
 use Rattle.std.specs.String.{string_bytes}
-use Rattle.std.specs.Io.KnownBytes.{Appends, IsAtEnd, Keeps}
-use Rattle.commands.specs.Texts.{refusal_line, reply_line, sentence}
+use Rattle.std.specs.Io.KnownBytes.{Appends, IsAtEnd}
+use Rattle.commands.specs.Texts.{reply_line, sentence}
 use Rattle.commands.specs.declared.refusals.Refusal.TheVariants as refusal
 use Rattle.commands.specs.declared.replies.Reply.{Reply}
 use Rattle.commands.specs.declared.replies.Reply.TheVariants as reply
 use Rattle.tables.specs.declared.faults.OpenFault.{OpenFault}
 use Rattle.tables.specs.declared.faults.OpenFault.TheVariants as opening
-use Rattle.reports.specs.declared.faults.ReportFault.{ReportFault}
-use Rattle.reports.specs.declared.faults.ReportFault.TheVariants as report
-use Rattle.cli.specs.Lines.{ended, journey_in}
-use Rattle.streams.specs.Written.{WroteFront}
-use Rattle.cli.specs.declared.ends.End.{End}
-use Rattle.cli.specs.declared.ends.End.TheVariants as finish
-use Rattle.cli.specs.declared.ends.ProgramFault.{ProgramFault}
-use Rattle.cli.specs.declared.ends.ProgramFault.TheVariants as fault
-use Rattle.desk_http.specs.declared.faults.ServeFault.{ServeFault}
-use Rattle.desk_http.specs.declared.faults.ServeFault.TheVariants as serve
-use Rattle.cli.specs.declared.jobs.Job.{Job}
-use Rattle.cli.specs.declared.jobs.Job.TheVariants.{Run, Serve, Recover, Load, Stock, Unfinished, History}
-use Rattle.cli.specs.declared.jobs.JobFault.{JobFault}
-use Rattle.cli.specs.declared.jobs.JobFault.TheVariants as job
-
--- the number of a fault
-abbrev pub fault_number : ProgramFault → ℕ
-fault_number fault.Memory = 17
-fault_number fault.Store = 18
-fault_number fault.OpeningStore = 21
-fault_number fault.OpeningMemory = 22
-fault_number fault.Read = 24
-fault_number fault.Write = 25
-fault_number fault.File = 26
-fault_number fault.Net = 27
-
--- its name
-abbrev pub fault_name : ProgramFault → List ℕ
-fault_name fault.Memory = codes "Memory"
-fault_name fault.Store = codes "Store"
-fault_name fault.OpeningStore = codes "Store"
-fault_name fault.OpeningMemory = codes "Memory"
-fault_name fault.Read = codes "Read"
-fault_name fault.Write = codes "Write"
-fault_name fault.File = codes "File"
-fault_name fault.Net = codes "Net"
-
--- a fault's line: `fault 17 Memory`
-abbrev pub fault_line : ProgramFault → List ℕ
-fault_line f = ended (sentence (codes "fault" ∷ decimal (fault_number f) ∷ fault_name f ∷ []))
-
--- the fault of a run, as one of the program
-abbrev pub fault_of_run : ServeFault → ProgramFault
-fault_of_run serve.Memory = fault.Memory
-fault_of_run serve.Store = fault.Store
-fault_of_run serve.Read = fault.Read
-fault_of_run serve.Write = fault.Write
-
--- the fault of a report, as one of the program
-abbrev pub fault_of_report : ReportFault → ProgramFault
-fault_of_report report.Memory = fault.Memory
-fault_of_report report.Store = fault.Store
-fault_of_report report.Write = fault.Write
-
--- what was done ends the program well, or by its fault
-abbrev pub end_of_result : {T : Type 0} → Result T ProgramFault → End
-end_of_result (Ok done) = finish.Done
-end_of_result (Err f) = finish.Fault f
-
--- the first end, or where all was done, the second one
-abbrev pub end_of_both : End → End → End
-end_of_both finish.Done after = after
-end_of_both first after = first
-
--- words that ask for no job end the program with the usage, or for want of memory
-abbrev pub end_of_job : JobFault → End
-end_of_job (job.Usage text) = finish.Usage text
-end_of_job job.Memory = finish.Fault fault.Memory
+use Rattle.migrate.specs.declared.faults.MigrateFault.{MigrateFault}
+use Rattle.migrate.specs.declared.faults.MigrateFault.TheVariants as migration
+use Rattle.protocols.specs.Scenes.{ended}
+use Rattle.desk_lines.specs.Lines.{journey_in}
+use Rattle.command_line.specs.declared.jobs.Job.{Job}
+use Rattle.command_line.specs.declared.jobs.Job.TheVariants.{Run, Serve, Recover, Load, Stock, Unfinished, History, Migrate}
+use Rattle.program_ends.specs.declared.ends.End.{End}
+use Rattle.program_ends.specs.declared.ends.End.TheVariants as finish
+use Rattle.program_ends.specs.declared.faults.ProgramFault.TheVariants as fault
 
 -- a store that cannot be opened as a desk ends the program: another version is refused
 abbrev pub end_of_open : OpenFault → End
@@ -83,45 +24,12 @@ end_of_open (opening.UnknownSchema version) = finish.Refused (refusal.UnknownSch
 end_of_open opening.Store = finish.Fault fault.OpeningStore
 end_of_open opening.Memory = finish.Fault fault.OpeningMemory
 
--- the exit status: 0 done, 1 refused or fault, 2 usage
-abbrev pub status_of : End → ℕ
-status_of finish.Done = 0
-status_of (finish.Refused refusal) = 1
-status_of (finish.Fault f) = 1
-status_of (finish.Usage text) = 2
-
--- a job ends so: it is not the usage that is told
-abbrev pub EndsJob : End → Type 0
-EndsJob (finish.Usage text) = ⊥
-EndsJob _ = ⊤
-
--- a job ends so that not all was done
-abbrev pub EndsBadly : End → Type 0
-EndsBadly finish.Done = ⊥
-EndsBadly e = EndsJob e
-
--- where all was done, this holds
-abbrev pub IfDone : End → Type 0 → Type 0
-IfDone finish.Done So = So
-IfDone _ So = ⊤
-
--- what is told on standard output: a refusal alone
-abbrev pub told_out : End → List ℕ
-told_out (finish.Refused refusal) = ended (refusal_line refusal)
-told_out _ = []
-
--- nothing is told, or a fault
-abbrev pub TellsNoneOrFault : Option (List ℕ) → Option (List ℕ) → Type 0
-TellsNoneOrFault held holds =
-    Keeps held holds ⊎ ((f : ProgramFault) × WroteFront held holds (fault_line f))
-
--- what is told on standard error: a fault, the usage, or the fault that kept a refusal from being
--- told
-abbrev pub TellsError : End → Option (List ℕ) → Option (List ℕ) → Type 0
-TellsError finish.Done held holds = Keeps held holds
-TellsError (finish.Refused refusal) held holds = TellsNoneOrFault held holds
-TellsError (finish.Fault f) held holds = WroteFront held holds (fault_line f)
-TellsError (finish.Usage text) held holds = WroteFront held holds (string_bytes text)
+-- a file that cannot be migrated ends the program: one that has schema 2, or another schema, is refused
+abbrev pub end_of_migration : MigrateFault → End
+end_of_migration migration.AlreadyNew = finish.Refused refusal.AlreadyNew
+end_of_migration (migration.UnknownSchema version) = finish.Refused (refusal.UnknownSchema version)
+end_of_migration migration.Store = finish.Fault fault.OpeningStore
+end_of_migration migration.Memory = finish.Fault fault.OpeningMemory
 
 -- how many commits recovery made: `recovered 3`
 abbrev pub recovered_line : ℕ → List ℕ
@@ -130,6 +38,14 @@ recovered_line made = ended (sentence (codes "recovered" ∷ decimal made ∷ []
 -- it is told how many commits recovery made, and nothing else
 abbrev pub TellsRecovered : Option (List ℕ) → Option (List ℕ) → Type 0
 TellsRecovered held holds = (made : ℕ) × Appends held holds (recovered_line made)
+
+-- how many events were brought from schema 1 to schema 2: `migrated 1 to 2 events 7`
+abbrev pub migrated_line : ℕ → List ℕ
+migrated_line events = ended (sentence (codes "migrated 1 to 2 events" ∷ decimal events ∷ []))
+
+-- it is told how many events were brought to schema 2, and nothing else
+abbrev pub TellsMigrated : Option (List ℕ) → Option (List ℕ) → Type 0
+TellsMigrated held holds = (events : ℕ) × Appends held holds (migrated_line events)
 
 -- connections to this port are taken from now on: `ready 8080`
 abbrev pub ready_line : ℕ → List ℕ
@@ -159,6 +75,7 @@ TellsOf (Load file csv batch) held holds = TellsAccepted held holds
 TellsOf (Stock file) held holds = ⊤
 TellsOf (Unfinished file) held holds = ⊤
 TellsOf (History file id) held holds = ⊤
+TellsOf (Migrate file) held holds = TellsMigrated held holds
 
 -- a history is asked of a word that is no number of a journey
 abbrev pub HasBadId : Job → Type 0

@@ -1,11 +1,3 @@
-pub mod Subcommands
-pub mod Jobs
-pub mod Lines
-pub mod Reading
-pub mod Orders
-pub mod Serving
-pub mod Worlds
-pub mod Answering
 pub mod Loading
 pub mod Lingering
 pub mod Ends

@@ -10,8 +10,8 @@ use Rattle.commands.specs.declared.replies.Reply.TheVariants as reply
 use Rattle.allotment_csv.specs.declared.faults.CsvFault.{CsvFault}
 use Rattle.allotment_csv.specs.declared.faults.CsvFault.TheVariants as csv
 use Rattle.ledger.specs.Answer.{State, outcome}
-use Rattle.desk_http.specs.declared.faults.ServeFault.{ServeFault}
-use Rattle.desk_http.specs.declared.faults.ServeFault.TheVariants.{Memory, Store}
+use Rattle.protocols.specs.declared.faults.ServeFault.{ServeFault}
+use Rattle.protocols.specs.declared.faults.ServeFault.TheVariants.{Memory, Store}
 
 -- the refusal says what is wrong with a name or a file
 abbrev pub RefusesFor : CsvFault → Refusal → Type 0

@@ -1,15 +1,19 @@
 //! The desk over a file: opened, recovered where commands are to act, and closed in the end.
-ghost use Rattle.std.specs.Prelude.{◌≡◌, ◌≢◌, ◌↔◌, IfErr};
-ghost use Rattle.cli.specs.Ends.{end_of_open, EndsBadly, EndsJob};
+ghost use Rattle.std.specs.Prelude.{◌≡◌, ◌≢◌, ◌↔◌, false, None, IfErr, IfOk};
+ghost use Rattle.program_ends.specs.Ends.{EndsBadly, EndsJob};
+ghost use Rattle.cli.specs.Ends.{end_of_open};
 
-use crate::ends::{End, ProgramFault};
 use commands::Refusal;
-use desk_http::ServeFault;
+use program_ends::{End, ProgramFault};
+use protocols::ServeFault;
 use recovery::{Ready, recover};
-use sqlite::{Connection, Error, ErrorCode, File, FileStore};
+use sqlite::{Alter, Connection, Error, ErrorCode, File, FileStore};
 use std::alloc::Global;
 use std::fs;
 use tables::{OpenFault, Opened, TableBook, open_from};
+
+/// A connection to the database in a file.
+pub(crate) type FileConnection = Connection<FileStore<File>>;
 
 /// What was found in a file.
 pub(crate) type FileOpened = Opened<FileStore<File>>;
@@ -21,8 +25,26 @@ pub(crate) type FileDesk = Ready<TableBook<FileStore<File>>>;
 pub(crate) fn open_there(rt: &HostRuntime, file: &str) -> Result<FileOpened, End>
     ensures end { IfErr result EndsBadly }
 {
+    check_there(rt, file)?;
+    open_file(rt, file)
+}
+
+/// A connection to the database in a file, whatever it holds. The file has to be there, and none is made.
+pub(crate) fn connect_there(rt: &HostRuntime, file: &str) -> Result<FileConnection, End>
+    ensures outside { IfOk result (λ conn. conn.in_transaction ≡ false) }
+    ensures unlimited { IfOk result (λ conn. conn.step_limit ≡ None) }
+    ensures end { IfErr result EndsBadly }
+{
+    check_there(rt, file)?;
+    connect(rt, file)
+}
+
+/// Refuses a file that is not there.
+fn check_there(rt: &HostRuntime, file: &str) -> Result<(), End>
+    ensures end { IfErr result EndsBadly }
+{
     match fs::exists(rt, file) {
-        Ok(true) => open_file(rt, file),
+        Ok(true) => Ok(()),
         _ => Err(End::Fault(ProgramFault::File)),
     }
 }
@@ -37,16 +59,32 @@ pub(crate) fn open_recovered(
     ensures end { IfErr result EndsBadly }
 {
     let opened = open_file(rt, file)?;
+    match recovered(alloc, opened) {
+        Ok(recovered) => Ok(recovered),
+        Err((conn, end)) => {
+            let _ = conn.close();
+            Err(end)
+        }
+    }
+}
+
+/// The desk over what was found, recovered, by so many events; or the connection, and why there is no desk.
+fn recovered<S: Alter + Drop>(
+    alloc: Global,
+    opened: Opened<S>,
+) -> Result<(Ready<TableBook<S>>, u64), (Connection<S>, End)>
+    ensures end { IfErr result (λ e. EndsBadly e.1) }
+{
     let book = match opened.into_book(alloc) {
         Ok(book) => book,
-        Err((_, fault)) => return Err(end_of_opening(fault)),
+        Err((opened, fault)) => return Err((opened.into_store(), end_of_opening(fault))),
     };
     match recover(book) {
         Ok(recovered) => Ok(recovered),
-        Err((book, fault)) => {
-            let _ = book.into_store().close();
-            Err(End::Fault(ServeFault::from(fault).into()))
-        }
+        Err((book, fault)) => Err((
+            book.into_store(),
+            End::Fault(ServeFault::from(fault).into()),
+        )),
     }
 }
 
@@ -54,16 +92,25 @@ pub(crate) fn open_recovered(
 fn open_file(rt: &HostRuntime, file: &str) -> Result<FileOpened, End>
     ensures end { IfErr result EndsBadly }
 {
-    let conn = match Connection::open(rt, file) {
-        Ok(conn) => conn,
-        Err(error) => return Err(End::Fault(opening_fault(&error))),
-    };
+    let conn = connect(rt, file)?;
     match open_from(conn) {
         Ok(opened) => Ok(opened),
         Err((conn, fault)) => {
             let _ = conn.close();
             Err(end_of_opening(fault))
         }
+    }
+}
+
+/// A connection to the database in a file, which is made where it is absent.
+fn connect(rt: &HostRuntime, file: &str) -> Result<FileConnection, End>
+    ensures outside { IfOk result (λ conn. conn.in_transaction ≡ false) }
+    ensures unlimited { IfOk result (λ conn. conn.step_limit ≡ None) }
+    ensures end { IfErr result EndsBadly }
+{
+    match Connection::open(rt, file) {
+        Ok(conn) => Ok(conn),
+        Err(error) => Err(End::Fault(opening_fault(&error))),
     }
 }
 
@@ -74,18 +121,8 @@ pub(crate) fn close_desk(desk: FileDesk) -> End
     close(desk.into_inner().into_store())
 }
 
-/// Closes a file that was only read.
-pub(crate) fn close_opened(alloc: Global, opened: FileOpened) -> End
-    ensures job { EndsJob result }
-{
-    match opened.into_book(alloc) {
-        Ok(book) => close(book.into_store()),
-        Err((_, fault)) => end_of_opening(fault),
-    }
-}
-
 /// Closes a connection, so that the file holds all of its database.
-fn close(conn: Connection<FileStore<File>>) -> End
+pub(crate) fn close(conn: FileConnection) -> End
     ensures job { EndsJob result }
 {
     match conn.close() {

@@ -1,12 +1,14 @@
 //! Connections to a port of this host, served one after another over the database in a file.
 ghost use Rattle.std.specs.Prelude.{◌≡◌, ◌↔◌, IfErr, IsErr, IsErrOf, IsTrue, OnErr, OnOk};
 ghost use Rattle.saga_core.specs.Books.{LeavesNoMore};
-ghost use Rattle.cli.specs.Ends.{EndsJob, IfDone, TellsReady};
+ghost use Rattle.program_ends.specs.Ends.{EndsJob, IfDone};
+ghost use Rattle.cli.specs.Ends.{TellsReady};
 
-use crate::desks::{FileDesk, close_desk, open_recovered};
-use crate::ends::{End, ProgramFault};
+use crate::desks::{close_desk, open_recovered};
 use crate::lingering::linger;
-use desk_http::{ServeFault, Served, serve};
+use desk_http::{Served, serve};
+use program_ends::{End, ProgramFault};
+use protocols::ServeFault;
 use recovery::Ready;
 use saga_core::Book;
 use std::alloc::Global;
@@ -36,13 +38,13 @@ pub(crate) fn serve_file<O: Write>(
     served.then(close_desk(desk))
 }
 
-/// The same over a desk that is open.
-fn listen<O: Write>(
+/// The same over a book that was recovered.
+fn listen<B: Book, O: Write>(
     rt: &HostRuntime,
     alloc: Global,
     port: u16,
     connections: u16,
-    desk: &mut FileDesk,
+    book: &mut Ready<B>,
     out: &mut O,
 ) -> Result<(), ProgramFault>
     ensures told { OnOk result (TellsReady port (O.contents out.old) (O.contents out.new)) }
@@ -51,7 +53,7 @@ fn listen<O: Write>(
         return Err(ProgramFault::Net);
     };
     send_ready(alloc, port, out)?;
-    serve_all(alloc, &listener, connections, desk)
+    serve_all(alloc, &listener, connections, book)
 }
 
 /// Writes out that connections to a port are taken.

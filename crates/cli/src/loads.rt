@@ -4,15 +4,17 @@ ghost use Rattle.std.specs.Io.KnownBytes.{Appends};
 ghost use Rattle.ledger.specs.Answer.{State};
 ghost use Rattle.commands.specs.Texts.{reply_line};
 ghost use Rattle.allotment_csv.specs.Files.{batch_of};
-ghost use Rattle.cli.specs.Ends.{EndsJob, IfDone, TellsAccepted};
-ghost use Rattle.cli.specs.Lines.{ended};
+ghost use Rattle.protocols.specs.Scenes.{ended};
+ghost use Rattle.program_ends.specs.Ends.{EndsJob, IfDone};
+ghost use Rattle.cli.specs.Ends.{TellsAccepted};
 ghost use Rattle.cli.specs.Loading.{LoadsFile};
 
-use crate::desks::{FileDesk, close_desk, open_recovered};
-use crate::ends::{End, ProgramFault};
+use crate::desks::{close_desk, open_recovered};
 use allotment_csv::{CsvFault, read_batch};
 use commands::{Command, Refusal, Reply};
-use desk_http::ServeFault;
+use program_ends::{End, ProgramFault};
+use protocols::ServeFault;
+use recovery::Ready;
 use saga_core::Book;
 use std::alloc::Global;
 use std::fs;
@@ -44,13 +46,13 @@ pub(crate) fn load_file<O: Write>(
     loaded.then(closed)
 }
 
-/// The same into a desk that is open.
-fn load_into<O: Write>(
+/// The same into a book that was recovered.
+fn load_into<B: Book, O: Write>(
     rt: &HostRuntime,
     alloc: Global,
     csv: &str,
     name: &str,
-    desk: &mut FileDesk,
+    book: &mut Ready<B>,
     out: &mut O,
 ) -> End
     ensures job { EndsJob result }
@@ -60,7 +62,7 @@ fn load_into<O: Write>(
         Ok(bytes) => bytes,
         Err(fault) => return End::Fault(fault),
     };
-    match load(alloc, name, bytes.as_slice(), desk) {
+    match load(alloc, name, bytes.as_slice(), book) {
         Ok(Reply::Refused(refusal)) => End::Refused(refusal),
         Ok(reply) => match send_reply(alloc, &reply, out) {
             Ok(()) => End::Done,

@@ -2,19 +2,21 @@
 ghost use Rattle.std.specs.Prelude.{◌≡◌, ◌≤◌, OnOk};
 ghost use Rattle.std.specs.Io.KnownBytes.{Appends, IsAtEnd, Keeps};
 ghost use Rattle.commands.specs.Texts.{refusal_line};
-ghost use Rattle.cli.specs.Ends.{EndsJob, HasBadId, IfDone, ReadsFor, TellsNoneOrFault, TellsOf, TellsRecovered, recovered_line};
-ghost use Rattle.cli.specs.Lines.{ended};
 ghost use Rattle.streams.specs.Written.{WroteFront};
+ghost use Rattle.protocols.specs.Scenes.{ended};
+ghost use Rattle.program_ends.specs.Ends.{EndsJob, IfDone, TellsNoneOrFault};
+ghost use Rattle.cli.specs.Ends.{HasBadId, ReadsFor, TellsOf, TellsRecovered, recovered_line};
 
 use crate::desks::{close_desk, open_recovered};
-use crate::ends::End;
-use crate::jobs::Job;
 use crate::listening::serve_file;
 use crate::loads::load_file;
-use crate::runs::run_lines;
+use crate::migrations::migrate_file;
 use crate::telling::{history_file, stock_file, unfinished_file};
+use command_line::Job;
 use commands::Refusal;
-use desk_http::ServeFault;
+use desk_lines::run_lines;
+use program_ends::End;
+use protocols::ServeFault;
 use std::alloc::Global;
 use std::io::{Read, Write};
 use streams::send;
@@ -73,6 +75,7 @@ fn carry_out<R: Read, O: Write>(
         Job::Stock { file } => stock_file(rt, alloc, file.as_str(), out),
         Job::Unfinished { file } => unfinished_file(rt, alloc, file.as_str(), out),
         Job::History { file, id } => history_file(rt, alloc, file.as_str(), id.as_str(), out),
+        Job::Migrate { file } => migrate_file(rt, alloc, file.as_str(), out),
     }
 }
 

@@ -1,28 +1,36 @@
 //! Reports of the desk over a file, which is opened as it is and not recovered.
 ghost use Rattle.std.specs.Prelude.{◌≡◌, None};
 ghost use Rattle.std.specs.Io.KnownBytes.{Keeps};
-ghost use Rattle.cli.specs.Ends.{EndsJob};
-ghost use Rattle.cli.specs.Lines.{journey_in as journey_of};
+ghost use Rattle.desk_lines.specs.Lines.{journey_in as journey_of};
+ghost use Rattle.program_ends.specs.Ends.{EndsJob};
 
-use crate::desks::{FileOpened, close_opened, open_there};
-use crate::ends::{End, ProgramFault};
-use crate::orders::journey_in;
+use crate::desks::{close, open_there};
 use commands::Refusal;
+use desk_lines::journey_in;
+use program_ends::{End, ProgramFault};
 use reports::{history_text, stock_text, unfinished_text};
 use saga_core::Record;
+use sqlite::Alter;
 use std::alloc::Global;
 use std::io::{BufWriter, Write};
+use tables::Opened;
+
+/// A report of a desk that is not recovered.
+#[derive(Clone, Copy)]
+enum Report {
+    /// The places of each cell.
+    Stock,
+    /// The journeys that are not finished.
+    Unfinished,
+    /// The history of the journey of this number.
+    History(u64),
+}
 
 /// Tells the places of each cell.
 pub(crate) fn stock_file<O: Write>(rt: &HostRuntime, alloc: Global, file: &str, out: &mut O) -> End
     ensures job { EndsJob result }
 {
-    let mut opened = match open_there(rt, file) {
-        Ok(opened) => opened,
-        Err(end) => return end,
-    };
-    let told = End::from(tell_stock(alloc, &mut opened, out));
-    told.then(close_opened(alloc, opened))
+    report_file(rt, alloc, file, Report::Stock, out)
 }
 
 /// Tells the journeys that are not finished.
@@ -34,12 +42,7 @@ pub(crate) fn unfinished_file<O: Write>(
 ) -> End
     ensures job { EndsJob result }
 {
-    let mut opened = match open_there(rt, file) {
-        Ok(opened) => opened,
-        Err(end) => return end,
-    };
-    let told = End::from(tell_unfinished(alloc, &mut opened, out));
-    told.then(close_opened(alloc, opened))
+    report_file(rt, alloc, file, Report::Unfinished, out)
 }
 
 /// Tells the history of the journey that a word names. A word that names none is refused before the file is looked at.
@@ -58,22 +61,51 @@ pub(crate) fn history_file<O: Write>(
     let Some(id) = journey_in(id) else {
         return End::Refused(Refusal::BadBody);
     };
+    report_file(rt, alloc, file, Report::History(id), out)
+}
+
+/// Writes a report of the desk over a file out.
+fn report_file<O: Write>(
+    rt: &HostRuntime,
+    alloc: Global,
+    file: &str,
+    report: Report,
+    out: &mut O,
+) -> End
+    ensures job { EndsJob result }
+{
     let mut opened = match open_there(rt, file) {
         Ok(opened) => opened,
         Err(end) => return end,
     };
-    let told = match opened.journey_of(alloc, id) {
-        Ok(Some(journey)) => End::from(tell_history(alloc, id, &journey, &mut opened, out)),
-        Ok(None) => End::Refused(Refusal::NoJourney),
-        Err(fault) => End::Fault(fault.into()),
-    };
-    told.then(close_opened(alloc, opened))
+    let told = tell_report(alloc, report, &mut opened, out);
+    told.then(close(opened.into_store()))
+}
+
+/// The same of a store that is open, whatever store it is.
+fn tell_report<S: Alter, O: Write>(
+    alloc: Global,
+    report: Report,
+    opened: &mut Opened<S>,
+    out: &mut O,
+) -> End
+    ensures job { EndsJob result }
+{
+    match report {
+        Report::Stock => End::from(tell_stock(alloc, opened, out)),
+        Report::Unfinished => End::from(tell_unfinished(alloc, opened, out)),
+        Report::History(id) => match opened.journey_of(alloc, id) {
+            Ok(Some(journey)) => End::from(tell_history(alloc, id, &journey, opened, out)),
+            Ok(None) => End::Refused(Refusal::NoJourney),
+            Err(fault) => End::Fault(fault.into()),
+        },
+    }
 }
 
 /// Writes the stock report out.
-fn tell_stock<O: Write>(
+fn tell_stock<S: Alter, O: Write>(
     alloc: Global,
-    opened: &mut FileOpened,
+    opened: &mut Opened<S>,
     out: &mut O,
 ) -> Result<(), ProgramFault> {
     let mut rows = opened.stock_rows()?;
@@ -83,9 +115,9 @@ fn tell_stock<O: Write>(
 }
 
 /// Writes the report of unfinished journeys out.
-fn tell_unfinished<O: Write>(
+fn tell_unfinished<S: Alter, O: Write>(
     alloc: Global,
-    opened: &mut FileOpened,
+    opened: &mut Opened<S>,
     out: &mut O,
 ) -> Result<(), ProgramFault> {
     let mut rows = opened.unfinished_rows()?;
@@ -95,11 +127,11 @@ fn tell_unfinished<O: Write>(
 }
 
 /// Writes the history of a journey out.
-fn tell_history<O: Write>(
+fn tell_history<S: Alter, O: Write>(
     alloc: Global,
     id: u64,
     journey: &Record,
-    opened: &mut FileOpened,
+    opened: &mut Opened<S>,
     out: &mut O,
 ) -> Result<(), ProgramFault> {
     let mut rows = opened.item_rows(id)?;

@@ -34,7 +34,7 @@ pub use keys::Key;
 pub use laws::replies_have_one_line;
 pub use names::Name;
 pub use orders::Command;
-pub use readings::number_in;
+pub use readings::{number_between, number_in};
 pub use refusals::{CsvCause, Refusal};
 pub use repeats::first_repeat;
 pub use replies::Reply;

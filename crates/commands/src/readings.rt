@@ -2,8 +2,9 @@
 //!
 //! Each reader finds the one value that is spelled so, within its limits, or tells that there is
 //! none. Numbers have no sign and no leading zeros.
-ghost use Rattle.std.specs.Prelude.{◌≡◌, decimal, length, IfOk};
+ghost use Rattle.std.specs.Prelude.{◌≡◌, ◌≤◌, decimal, length, IfOk, IfSome};
 ghost use Rattle.allotment.specs.Limits.{is_between};
+ghost use Rattle.allotment.specs.Texts.{number_from};
 ghost use Rattle.commands.specs.Texts.{is_item, item_text, is_journey, is_accepted};
 ghost use Rattle.commands.specs.Texts.{FindsReply, ReadsReply};
 ghost use Rattle.commands.specs.Readings.{Finds, FindsCause, is_plain_start, texts_of};
@@ -38,6 +39,14 @@ pub fn number_in(text: &str, low: usize, high: usize) -> Option<usize>
         return None;
     }
     Some(number)
+}
+
+/// The number between these limits that a word spells.
+pub fn number_between(word: &str, low: usize, high: usize) -> Option<usize>
+    ensures number { result ≡ number_from low high word.now }
+    ensures high { IfSome result (λ number. number ≤ high) }
+{
+    number_in(word, low, high)
 }
 
 /// The step and the option that the text spells: `1.2`.

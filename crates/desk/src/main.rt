@@ -1,7 +1,9 @@
-//! The program `desk`. Its words, and what it does, are those of the crate `cli`.
+//! The program `desk`. `command_line` reads its words, `cli` does the job, and `program_ends` says how it ended.
 #![tactic(auto)]
 
-use cli::{End, ProgramFault, job, perform};
+use cli::perform;
+use command_line::job;
+use program_ends::{End, ProgramFault};
 use std::env;
 use std::io::{self, ErrorKind};
 use std::process::ExitCode;

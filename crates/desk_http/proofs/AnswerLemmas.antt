@@ -15,8 +15,8 @@ use Rattle.desk_http.specs.Answering.{Answers, Tells}
 use Rattle.desk_http.specs.Demands.{demand_of}
 use Rattle.desk_http.specs.Pages.{SaysUnless, command_unless, state_by}
 use Rattle.desk_http.specs.declared.answering.Answer.{Answer}
-use Rattle.desk_http.specs.declared.faults.ServeFault.{ServeFault}
-use Rattle.desk_http.specs.declared.faults.ServeFault.TheVariants.{Memory, Read, Store, Write}
+use Rattle.protocols.specs.declared.faults.ServeFault.{ServeFault}
+use Rattle.protocols.specs.declared.faults.ServeFault.TheVariants.{Memory, Read, Store, Write}
 
 -- what is denied changes nothing
 pub denied_says : (stands : State → Type 0) (s : State) (parts : Parts) (body : List ℕ) (page : Paged)

@@ -1,6 +1,6 @@
 -- Serving goes on by one message, and stops at a closing page, at the end of the input or at a fault. For serve_book.
 use Rattle.std.proofs.Common.{◌≡◌, ◌∙◌, ap, sym, subst, refl, inl, inr, ◌+◌, List, [], ◌∷◌, ◌++◌, ℕ, Bool, true, false, if◌then◌else◌, length, take, append_assoc, append-nil, length-append, Option}
-use Rattle.std.specs.Prelude.{Some, None, Ok, Err, IfSome}
+use Rattle.std.specs.Prelude.{Some, None, Ok, Err}
 use Rattle.std.specs.List.{concat}
 use Rattle.std.specs.Io.KnownBytes.{Appends}
 use Rattle.ledger.specs.Answer.{State}
@@ -8,17 +8,17 @@ use Rattle.messages.specs.Asked.{IsTaken}
 use Rattle.messages.specs.Messages as sent
 use Rattle.messages.specs.Messages.{BeginsWith, BeginsWithAll}
 use Rattle.messages.specs.Reading.{IsNext, Unused, to_come}
-use Rattle.messages.specs.declared.faults.ReadFault.{ReadFault}
-use Rattle.messages.specs.declared.faults.ReadFault.TheVariants as reading
 use Rattle.messages.specs.declared.requests.Message.{Message}
 use Rattle.streams.specs.Written.{WroteFront}
 use Rattle.streams.proofs.ByteLemmas.{appends_more, appends_none, keeps_same}
 use Rattle.desk_http.specs.Answering.{Answers}
 use Rattle.desk_http.specs.Pages.{ArePages, IsPage, closes, state_after, state_after_all, stays_open}
-use Rattle.desk_http.specs.Serving.{Answered, Leaves, Scene, ServesAll, ServesSome, Wrote, fault_of_reading, scene}
+use Rattle.protocols.specs.Faults.{IsOfReading}
+use Rattle.protocols.specs.Scenes.{Scene, Wrote, scene}
+use Rattle.desk_http.specs.Serving.{Answered, Leaves, ServesAll, ServesSome}
 use Rattle.desk_http.specs.declared.answering.Answer.{Answer}
-use Rattle.desk_http.specs.declared.faults.ServeFault.{ServeFault}
-use Rattle.desk_http.specs.declared.faults.ServeFault.TheVariants.{Memory, Read, Store, Write}
+use Rattle.protocols.specs.declared.faults.ServeFault.{ServeFault}
+use Rattle.protocols.specs.declared.faults.ServeFault.TheVariants.{Memory, Read, Store, Write}
 
 -- Lists of messages and of their pages, each longer by one.
 
@@ -68,12 +68,6 @@ pub record SoFar (x : Scene) (s : State) (input : List ℕ) (left : Option (List
   pub stands : x.stands (state_after_all s messages)
   pub counted : count ≡ length pages
 
--- what holds for known bytes, by an equation
-pub for_known : (known : Option (List ℕ)) (So : List ℕ → Type 0)
-    → ((input : List ℕ) → known ≡ Some input → So input) → IfSome known So
-for_known None So each = tt
-for_known (Some input) So each = each input refl
-
 -- at first, nothing was answered
 pub starts : (held : Option (List ℕ)) (stands : State → Type 0) (leaves : State → State → Type 0)
     (s : State) (input : List ℕ) (u : Unused) (known : Option (List ℕ)) → u.waiting ≡ [] → known ≡ Some input
@@ -91,9 +85,9 @@ starts held stands leaves s input u known nothing is stood = record {
 }
 
 -- a fault came between two messages
-pub stops : (x : Scene) (s : State) (input : List ℕ) (left : Option (List ℕ)) (count : ℕ) (fault : ReadFault)
-    → SoFar x s input left count → ServesSome x s input (fault_of_reading fault)
-stops x s input left count reading.Read so_far = record {
+pub stops : (x : Scene) (s : State) (input : List ℕ) (left : Option (List ℕ)) (count : ℕ) (fault : ServeFault)
+    → SoFar x s input left count → IsOfReading fault → ServesSome x s input fault
+stops x s input left count Read so_far reads = record {
   messages = so_far.messages;
   rest = so_far.rest;
   pages = so_far.pages;
@@ -101,7 +95,7 @@ stops x s input left count reading.Read so_far = record {
   stays = so_far.stays;
   leaves = (so_far.sent, so_far.stands);
 }
-stops x s input left count reading.Memory so_far = record {
+stops x s input left count Memory so_far reads = record {
   messages = so_far.messages;
   rest = so_far.rest;
   pages = so_far.pages;
@@ -109,6 +103,8 @@ stops x s input left count reading.Memory so_far = record {
   stays = so_far.stays;
   leaves = (so_far.sent, inl so_far.stands);
 }
+stops x s input left count Store so_far none = absurd none
+stops x s input left count Write so_far none = absurd none
 
 -- where there is no further message, all were answered
 pub all_answered : (x : Scene) (s : State) (input : List ℕ) (left rest : Option (List ℕ)) (count : ℕ)

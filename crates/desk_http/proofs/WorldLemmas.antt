@@ -25,11 +25,12 @@ use Rattle.saga_core.specs.Worlds.{StandsAtEnd, StoodAtEnd}
 use Rattle.saga_core.proofs.WorldLemmas.{after-append, GoesOn-append}
 use Rattle.desk_http.specs.Demands.{Carry, Sender, admitted_by, asked_by, asked_if, bare, begin_by, begin_of, carried, carried_under, demand_of, demanded, denied_by, load_of, value_in}
 use Rattle.desk_http.specs.Pages.{Command, command_in, state_after, state_after_all, state_by}
-use Rattle.desk_http.specs.Serving.{Leaves, Scene, ServesAll, ServesSome}
+use Rattle.protocols.specs.Scenes.{Scene}
+use Rattle.desk_http.specs.Serving.{Leaves, ServesAll, ServesSome}
 use Rattle.desk_http.specs.Worlds.{done_of, dones_of, cut_of, with_messages, CutsMessage, EndsAmongMessages, EndsWithMessages, GoesOnAmongMessages, GoesOnWithMessages}
-use Rattle.desk_http.specs.declared.faults.ServeFault.{ServeFault}
+use Rattle.protocols.specs.declared.faults.ServeFault.{ServeFault}
 use Rattle.desk_http.specs.declared.serving.Served.{Served}
-use Rattle.desk_http.specs.declared.faults.ServeFault.TheVariants.{Memory, Read, Store, Write}
+use Rattle.protocols.specs.declared.faults.ServeFault.TheVariants.{Memory, Read, Store, Write}
 use Rattle.desk_http.proofs.AgainLemmas.{carry_of}
 use Rattle.desk_http.proofs.ServeLemmas.{after_more, begins_more}
 

@@ -8,8 +8,8 @@ use Rattle.pages.specs.declared.answers.Page.{Page}
 use Rattle.desk_http.specs.Demands.{Demand, demand_of}
 use Rattle.desk_http.specs.Pages.{IsPage, Says, SaysUnless, closes, command_by, command_unless, state_after, state_by}
 use Rattle.desk_http.specs.declared.answering.Answer.{Answer}
-use Rattle.desk_http.specs.declared.faults.ServeFault.{ServeFault}
-use Rattle.desk_http.specs.declared.faults.ServeFault.TheVariants.{Memory, Store}
+use Rattle.protocols.specs.declared.faults.ServeFault.{ServeFault}
+use Rattle.protocols.specs.declared.faults.ServeFault.TheVariants.{Memory, Store}
 
 module _ (stands : State → Type 0) (leaves : State → State → Type 0) (s : State) where
   -- what was asked for was done, and this holds of what came of it; or a fault came before or after

@@ -1,43 +1,19 @@
 -- What serving a connection did: what it wrote, and where it left the book.
-use Rattle.std.specs.Prelude.{◌≡◌, ◌⊎◌, ℕ, true, List, [], ◌∷◌, ◌++◌, length, take, Option}
+use Rattle.std.specs.Prelude.{◌≡◌, ◌⊎◌, ℕ, true, List, [], ◌∷◌, ◌++◌, length, take}
 use Rattle.std.specs.List.{concat}
-use Rattle.std.specs.Io.KnownBytes.{Appends}
-use Rattle.commands.specs.declared.faults.Fault.{Fault}
-use Rattle.commands.specs.declared.faults.Fault.TheVariants as fault
 use Rattle.ledger.specs.Answer.{State}
 use Rattle.messages.specs.declared.faults.ReadFault.{ReadFault}
 use Rattle.messages.specs.declared.faults.ReadFault.TheVariants as reading
 use Rattle.messages.specs.Messages.{Message, BeginsWith, BeginsWithAll, HasNoMessage}
 use Rattle.desk_http.specs.Pages.{ArePages, IsPage, closes, state_after, state_after_all, stays_open}
-use Rattle.desk_http.specs.declared.faults.ServeFault.{ServeFault}
-use Rattle.desk_http.specs.declared.faults.ServeFault.TheVariants.{Memory, Store, Read, Write}
-
--- the fault of a book, as one of serving
-abbrev pub served_fault : Fault → ServeFault
-served_fault fault.Memory = Memory
-served_fault fault.Store = Store
+use Rattle.protocols.specs.Scenes.{Scene, Wrote}
+use Rattle.protocols.specs.declared.faults.ServeFault.{ServeFault}
+use Rattle.protocols.specs.declared.faults.ServeFault.TheVariants.{Memory, Store, Read, Write}
 
 -- the fault of reading a message
 abbrev pub fault_of_reading : ReadFault → ServeFault
 fault_of_reading reading.Memory = Memory
 fault_of_reading reading.Read = Read
-
--- what a writer held and holds, for which states a book stands, and what a stop may leave of it
-pub record Scene : Type 1 where
-  pub held : Option (List ℕ)
-  pub holds : Option (List ℕ)
-  pub stands : State → Type 0
-  pub leaves : State → State → Type 0
-
--- the same, in a row
-abbrev pub scene : Option (List ℕ) → Option (List ℕ) → (State → Type 0) → (State → State → Type 0)
-    → Scene
-scene held holds stands leaves =
-    record { held = held; holds = holds; stands = stands; leaves = leaves }
-
--- these bytes were written behind what the writer held
-abbrev pub Wrote : Scene → List ℕ → Type 0
-Wrote x bytes = Appends x.held x.holds bytes
 
 -- the input begins with these messages, and then comes the rest; their pages are these
 pub record Answered (s : State) (input : List ℕ) (messages : List Message) (rest : List ℕ) (pages : List (List ℕ))

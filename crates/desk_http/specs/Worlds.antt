@@ -7,8 +7,8 @@ use Rattle.saga_core.specs.Worlds.{StandsAtEnd, LeavesEnd, StoodAtEnd}
 use Rattle.messages.specs.Messages.{Message, BeginsWithAll}
 use Rattle.desk_http.specs.Pages.{Command, command_in, state_after}
 use Rattle.desk_http.specs.Serving.{EndsWithClosing, EndsWithInput, ForNext}
-use Rattle.desk_http.specs.declared.faults.ServeFault.{ServeFault}
-use Rattle.desk_http.specs.declared.faults.ServeFault.TheVariants.{Memory, Store, Read, Write}
+use Rattle.protocols.specs.declared.faults.ServeFault.{ServeFault}
+use Rattle.protocols.specs.declared.faults.ServeFault.TheVariants.{Memory, Store, Read, Write}
 
 -- a command, answered; a message without one asks for nothing
 abbrev pub done_of : State → Option Command → List Moment

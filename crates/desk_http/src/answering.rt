@@ -10,11 +10,11 @@ ghost use Rattle.desk_http.specs.Answering.{Answers, Meets, Tells};
 ghost use Rattle.desk_http.specs.Told.{demand_said};
 
 use crate::demands::{Demand, Unmet, demand_in};
-use crate::faults::ServeFault;
 use crate::showing::{see_journey, see_stock, see_unfinished};
 use commands::Refusal;
 use messages::{Message, Request};
 use pages::{Page, Paths, denied_page, page_bytes, refused_page, reply_page};
+use protocols::ServeFault;
 use saga_core::Book;
 use std::alloc::Global;
 

@@ -1,68 +1,18 @@
 //! Why serving a connection ended early.
 ghost use Rattle.std.specs.Prelude.{◌≡◌};
-ghost use Rattle.desk_http.specs.Serving.{fault_of_reading, served_fault};
-ghost use Rattle.desk_http.specs.declared.faults.ServeFault.TheVariants.{Memory, Write};
+ghost use Rattle.protocols.specs.Faults.{IsOfReading};
+ghost use Rattle.desk_http.specs.Serving.{fault_of_reading};
 
-use commands::Fault;
 use messages::ReadFault;
-use std::alloc::{AllocError, AllocFailed};
-use streams::WriteFailed;
+use protocols::ServeFault;
 
-/// Why a run over a reader and a writer ended early.
-#[derive(Clone, Copy, Debug, PartialEq, Eq)]
-pub enum ServeFault {
-    /// Memory ran out.
-    Memory,
-    /// The store failed.
-    Store,
-    /// A read failed, or more could be read than can be counted.
-    Read,
-    /// A write failed, or took nothing.
-    Write,
-}
-
-impl From<Fault> for ServeFault {
-    ghost from_gives = { λ fault served. served ≡ served_fault fault };
-
-    fn from(fault: Fault) -> ServeFault {
-        match fault {
-            Fault::Memory => ServeFault::Memory,
-            Fault::Store => ServeFault::Store,
-        }
-    }
-}
-
-impl From<ReadFault> for ServeFault {
-    ghost from_gives = { λ fault served. served ≡ fault_of_reading fault };
-
-    fn from(fault: ReadFault) -> ServeFault {
-        match fault {
-            ReadFault::Memory => ServeFault::Memory,
-            ReadFault::Read => ServeFault::Read,
-        }
-    }
-}
-
-impl From<AllocError> for ServeFault {
-    ghost from_gives = { λ _ fault. fault ≡ Memory };
-
-    fn from(_error: AllocError) -> ServeFault {
-        ServeFault::Memory
-    }
-}
-
-impl<T: Drop> From<AllocFailed<T>> for ServeFault {
-    ghost from_gives = { λ _ fault. fault ≡ Memory };
-
-    fn from(_error: AllocFailed<T>) -> ServeFault {
-        ServeFault::Memory
-    }
-}
-
-impl From<WriteFailed> for ServeFault {
-    ghost from_gives = { λ _ fault. fault ≡ Write };
-
-    fn from(_error: WriteFailed) -> ServeFault {
-        ServeFault::Write
+/// The fault of serving, where reading a message failed.
+pub fn reading_fault(fault: ReadFault) -> ServeFault
+    ensures fault { result ≡ fault_of_reading fault }
+    ensures of_reading { IsOfReading result }
+{
+    match fault {
+        ReadFault::Memory => ServeFault::Memory,
+        ReadFault::Read => ServeFault::Read,
     }
 }

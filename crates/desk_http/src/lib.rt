@@ -16,6 +16,7 @@ mod senders;
 mod serving;
 mod showing;
 
-pub use faults::ServeFault;
+pub use faults::reading_fault;
 pub use laws::again;
+pub use protocols::ServeFault;
 pub use serving::{Served, serve};

@@ -2,13 +2,17 @@
 ghost use Rattle.std.specs.Prelude.{◌≡◌, IfOk, IfErr, IfSome, IsErrOf, IsTrue, OnOk};
 ghost use Rattle.ledger.specs.Answer.{State};
 ghost use Rattle.saga_core.specs.Books.{LeavesNoMore};
-ghost use Rattle.desk_http.specs.Serving.{ServesAll, ServesSome, scene};
+ghost use Rattle.messages.specs.Reading.{IsNext, to_come};
+ghost use Rattle.protocols.specs.Faults.{IsOfReading};
+ghost use Rattle.protocols.specs.Scenes.{scene};
+ghost use Rattle.desk_http.specs.Serving.{ServesAll, ServesSome};
 ghost use Rattle.desk_http.specs.Worlds.{GoesOnWithMessages, GoesOnAmongMessages};
 
 use crate::answering::answer_to;
-use crate::faults::ServeFault;
-use messages::Incoming;
+use crate::faults::reading_fault;
+use messages::{Incoming, Message};
 use pages::Paths;
+use protocols::ServeFault;
 use recovery::Ready;
 use saga_core::Book;
 use std::alloc::Global;
@@ -82,7 +86,7 @@ fn serve_book<R: Read, W: Write, B: Book>(
     let paths = Paths::new(alloc)?;
     let mut incoming = Incoming::new(alloc)?;
     for pages in 0..u64::MAX {
-        let Some(message) = incoming.next_message(reader)? else {
+        let Some(message) = next_message(&mut incoming, reader)? else {
             return Ok(Served { pages });
         };
         let answer = answer_to(alloc, &paths, &message, book)?;
@@ -92,4 +96,20 @@ fn serve_book<R: Read, W: Write, B: Book>(
         }
     }
     Err(ServeFault::Read)
+}
+
+/// The next message of a reader, if one comes.
+fn next_message<R: Read>(
+    incoming: &mut Incoming,
+    reader: &mut R,
+) -> Result<Option<Message>, ServeFault>
+    ensures next { IfOk result (IsNext (to_come incoming.old (R.remaining reader.old))
+        (to_come incoming.new (R.remaining reader.new))) }
+
+    ensures fault { IfErr result IsOfReading }
+{
+    match incoming.next_message(reader) {
+        Ok(found) => Ok(found),
+        Err(fault) => Err(reading_fault(fault)),
+    }
 }

@@ -7,9 +7,9 @@ ghost use Rattle.pages.specs.Bodies.{unfinished_data};
 ghost use Rattle.desk_http.specs.Pages.{journey_page, own_journey, own_unfinished, ShowsStock};
 ghost use Rattle.desk_http.specs.Answering.{Shows};
 
-use crate::faults::ServeFault;
 use commands::{Agent, Refusal};
 use pages::{Body, Page, journey_body, refused_page, shown_page, unfinished_body};
+use protocols::ServeFault;
 use reports::stock_text;
 use saga_core::{Book, Brief, Listed};
 use std::alloc::{AllocError, Global};

@@ -1,7 +1,9 @@
 //! Exit statuses, and what is told at an end.
 use crate::tests::desks::{holds, reads};
-use cli::{End, JobFault, ProgramFault, ServeFault};
+use command_line::JobFault;
 use commands::Refusal;
+use desk_lines::ServeFault;
+use program_ends::{End, ProgramFault};
 use std::alloc::Global;
 use std::process::Abort;
 use std::test::Fail;

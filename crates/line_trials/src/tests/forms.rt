@@ -3,7 +3,7 @@
 //! `@` and a letter or digit stands for the cell, or the first four parts of a want, that `NAMES` has.
 use crate::tests::desks::{holds, new_desk, reads};
 use crate::tests::fakes::{Pieces, Sink};
-use cli::run_lines;
+use desk_lines::run_lines;
 use std::alloc::Global;
 use std::process::Abort;
 use std::test::Fail;

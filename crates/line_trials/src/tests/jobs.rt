@@ -1,6 +1,6 @@
 //! What the words of the command line ask for.
 use crate::tests::desks::{holds, reads};
-use cli::{Job, JobFault, job};
+use command_line::{Job, JobFault, job};
 use std::alloc::{AllocError, Global};
 use std::test::Fail;
 
@@ -29,6 +29,7 @@ fn asked(alloc: Global, words: Vec<String>) -> Result<String, AllocError> {
         Ok(Job::Stock { file }) => format!(in alloc; "stock|{file}"),
         Ok(Job::Unfinished { file }) => format!(in alloc; "unfinished|{file}"),
         Ok(Job::History { file, id }) => format!(in alloc; "history|{file}|{id}"),
+        Ok(Job::Migrate { file }) => format!(in alloc; "migrate|{file}"),
         Err(JobFault::Usage(usage)) => Ok(usage),
         Err(JobFault::Memory) => Err(AllocError),
     }
@@ -36,7 +37,7 @@ fn asked(alloc: Global, words: Vec<String>) -> Result<String, AllocError> {
 
 // the words, with a bar between each two, and the job with its values; a bad number of a journey is no usage
 #[rattlefmt::skip]
-const JOBS: [(&str, &str); 30] = [
+const JOBS: [(&str, &str); 31] = [
     ("run|x.db",                    "run|x.db"),
     ("run|a b/x.db",                "run|a b/x.db"),
     ("run|--|-x.db",                "run|-x.db"),
@@ -67,6 +68,7 @@ const JOBS: [(&str, &str); 30] = [
     ("history|x.db|12",             "history|x.db|12"),
     ("history|x.db|012",            "history|x.db|012"),
     ("history|x.db|one",            "history|x.db|one"),
+    ("migrate|x.db",                "migrate|x.db"),
 ];
 
 #[test]
@@ -80,7 +82,7 @@ fn words_name_a_job_with_its_values(rt: HostRuntime) -> Result<(), Fail> {
 
 // the words, and how the usage begins
 #[rattlefmt::skip]
-const REFUSED: [(&str, &str, &str); 47] = [
+const REFUSED: [(&str, &str, &str); 48] = [
     ("another subcommand",       "fly|x.db",       "error: unrecognized subcommand 'fly'"),
     ("a subcommand in capitals", "RUN|x.db",       "error: unrecognized subcommand 'RUN'"),
     ("a part of a subcommand",   "ru|x.db",        "error: unrecognized subcommand 'ru'"),
@@ -127,6 +129,7 @@ const REFUSED: [(&str, &str, &str); 47] = [
     ("two names",                "load|x|y|--batch|a|--batch|b", "error: the argument '--batch <NAME>' cannot be used multiple times\n\nUsage: desk load --batch <NAME> <FILE> <CSV>\n"),
     ("no allotment file",        "load|x|--batch|a", "error: the following required arguments were not provided:\n  <CSV>\n\nUsage: desk load --batch <NAME> <FILE> <CSV>\n"),
     ("two allotment files",      "load|x|y|z|--batch|a", "error: unexpected argument 'z' found\n\nUsage: desk load --batch <NAME> <FILE> <CSV>\n"),
+    ("two files to migrate",     "migrate|x|y",    "error: unexpected argument 'y' found\n\nUsage: desk migrate <FILE>\n"),
     ("help of load",             "load|--help",    "Load the allotments of a file, as one batch\n\nUsage: desk load --batch <NAME> <FILE> <CSV>\n"),
 ];
 

@@ -1,7 +1,7 @@
 //! What lines are answered over a new book in memory, however they arrive, and what a fault leaves written.
 use crate::tests::desks::{holds, new_desk, reads};
 use crate::tests::fakes::{Pieces, Sink, Stuck};
-use cli::{ServeFault, run_lines};
+use desk_lines::{ServeFault, run_lines};
 use saga_core::Book;
 use std::alloc::{AllocError, Global};
 use std::process::Abort;

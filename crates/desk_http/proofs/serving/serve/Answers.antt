@@ -1,5 +1,5 @@
 -- What was served is how the world goes on.
-use Rattle.desk_http.specs.Serving.{scene}
+use Rattle.protocols.specs.Scenes.{scene}
 use Rattle.desk_http.proofs.WorldLemmas.{messages_go_on, messages_stop}
 use Rattle.desk_http.proofs.serving.serve.Goals as goal
 

@@ -1,12 +1,14 @@
 -- A connection is served message by message, up to a closing page, the end of the input or a fault.
-use Rattle.std.proofs.Common.{subst}
+use Rattle.std.proofs.Common.{subst, sym}
 use Rattle.std.specs.Io.KnownBytes.{Appends}
 use Rattle.std.proofs.lemmas.Result.{err_from_is_err_and}
 use Rattle.messages.specs.Reading.{IsNext, to_come}
-use Rattle.messages.specs.declared.faults.ReadFault.TheVariants as reading
 use Rattle.streams.specs.Written.{WroteFront}
-use Rattle.desk_http.specs.Serving.{scene}
-use Rattle.desk_http.proofs.ServeLemmas.{all_answered, answer_fails, closes_all, for_known, goes_on, starts, stays_on, stops, write_fails}
+use Rattle.protocols.specs.Faults.{IsOfReading}
+use Rattle.protocols.specs.Scenes.{scene}
+use Rattle.protocols.specs.declared.faults.ServeFault.TheVariants.{Read}
+use Rattle.protocols.proofs.KnownLemmas.{for_known}
+use Rattle.desk_http.proofs.ServeLemmas.{all_answered, answer_fails, closes_all, goes_on, starts, stays_on, stops, write_fails}
 use Rattle.desk_http.proofs.serving.serve_book.Goals as goal
 
 -- nothing was answered yet
@@ -29,9 +31,10 @@ returns-in_err-message-clause-some g c = λ sound s stood.
     let at = c.loop-pages in
     let failed = err_from_is_err_and c.from_residual-in_err-message.result c.from_residual-in_err-message.ensures.1 in
     for_known (left c.args.reader.now) _ (λ input is.
-    rw (failed.1, failed.2)
+    rw (failed.1)
     (stops (scene (contents c.args.writer.now) (contents at.writer) (book.stands at.book) (book.leaves at.book)) s input
-    (to_come at.incoming (left at.reader)) at.pages c.in_err-message.field-0.0 (at.invariant.so_far sound s stood input is)))
+    (to_come at.incoming (left at.reader)) at.pages failed.0 (at.invariant.so_far sound s stood input is)
+    (subst IsOfReading (sym failed.2) c.in_err-message.ensures.fault)))
 
 -- the input has ended
 pub returns-in_default-clause-all : goal.returns-in_default-clause-all
@@ -41,7 +44,7 @@ returns-in_default-clause-all g c = λ sound s stood.
     let contents = g.W.Write.contents in
     let at = c.loop-pages in
     let before = to_come at.incoming (left at.reader) in
-    let after = to_come c.next_message.new.self (left c.next_message.new.reader) in
+    let after = to_come c.next_message.new.incoming (left c.next_message.new.reader) in
     for_known (left c.args.reader.now) _ (λ input is.
     all_answered (scene (contents c.args.writer.now) (contents at.writer) (book.stands at.book) (book.leaves at.book)) s input before after at.pages
     (at.invariant.so_far sound s stood input is) (subst (IsNext before after) c.in_default.is c.in_ok-message.ensures.next))
@@ -54,7 +57,7 @@ returns-in_err-answer-clause-some g c = λ sound s stood.
     let contents = g.W.Write.contents in
     let at = c.loop-pages in
     let before = to_come at.incoming (left at.reader) in
-    let after = to_come c.next_message.new.self (left c.next_message.new.reader) in
+    let after = to_come c.next_message.new.incoming (left c.next_message.new.reader) in
     let failed = err_from_is_err_and c.from_residual-in_err-answer.result c.from_residual-in_err-answer.ensures.1 in
     for_known (left c.args.reader.now) _ (λ input is.
     rw (failed.1, failed.2)
@@ -72,7 +75,7 @@ returns-in_err-send-clause-some g c = λ sound s stood.
     let contents = g.W.Write.contents in
     let at = c.loop-pages in
     let before = to_come at.incoming (left at.reader) in
-    let after = to_come c.next_message.new.self (left c.next_message.new.reader) in
+    let after = to_come c.next_message.new.incoming (left c.next_message.new.reader) in
     let failed = err_from_is_err_and c.from_residual-in_err-send.result c.from_residual-in_err-send.ensures.1 in
     for_known (left c.args.reader.now) _ (λ input is.
     rw (failed.1, failed.2)
@@ -91,7 +94,7 @@ returns-then-answer-clause-all g c = λ sound s stood.
     let contents = g.W.Write.contents in
     let at = c.loop-pages in
     let before = to_come at.incoming (left at.reader) in
-    let after = to_come c.next_message.new.self (left c.next_message.new.reader) in
+    let after = to_come c.next_message.new.incoming (left c.next_message.new.reader) in
     for_known (left c.args.reader.now) _ (λ input is.
     closes_all (scene (contents c.args.writer.now) (contents c.send.new.writer) (book.stands c.answer_to.new.book) (book.leaves c.answer_to.new.book))
     s input after at.pages c.in_ok-answer.answer
@@ -111,7 +114,7 @@ loop-pages-preserved g c =
     let contents = g.W.Write.contents in
     let at = c.loop-pages in
     let before = to_come at.incoming (left at.reader) in
-    let after = to_come c.next_message.new.self (left c.next_message.new.reader) in
+    let after = to_come c.next_message.new.incoming (left c.next_message.new.reader) in
     record {
       sound = λ sound. at.invariant.sound (c.answer_to.ensures.sound sound);
       stays_failed = λ failed. c.answer_to.ensures.stays_failed (at.invariant.stays_failed failed);
@@ -137,4 +140,4 @@ returns-clause-some g c = λ sound s stood.
     let at = c.loop-pages in
     for_known (left c.args.reader.now) _ (λ input is.
     stops (scene (contents c.args.writer.now) (contents at.writer) (book.stands at.book) (book.leaves at.book)) s input
-    (to_come at.incoming (left at.reader)) at.pages reading.Read (at.invariant.so_far sound s stood input is))
+    (to_come at.incoming (left at.reader)) at.pages Read (at.invariant.so_far sound s stood input is) tt)

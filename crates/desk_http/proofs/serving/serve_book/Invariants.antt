@@ -3,7 +3,7 @@ use Rattle.std.specs.Prelude.{IsTrue, Some}
 use Rattle.ledger.specs.Answer.{State}
 use Rattle.messages.specs.Reading.{to_come}
 use Rattle.saga_core.specs.Books.{LeavesNoMore}
-use Rattle.desk_http.specs.Serving.{scene}
+use Rattle.protocols.specs.Scenes.{scene}
 use Rattle.desk_http.proofs.ServeLemmas.{SoFar}
 use Rattle.desk_http.proofs.serving.serve_book.Given as goal
 

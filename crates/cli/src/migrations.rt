@@ -1,0 +1,69 @@
+//! The migration of a file.
+ghost use Rattle.std.specs.Prelude.{◌≡◌, OnOk};
+ghost use Rattle.std.specs.Io.KnownBytes.{Appends};
+ghost use Rattle.program_ends.specs.Ends.{EndsBadly, EndsJob, IfDone};
+ghost use Rattle.cli.specs.Ends.{end_of_migration, migrated_line, TellsMigrated};
+
+use crate::desks::{close, connect_there};
+use commands::Refusal;
+use migrate::{MigrateFault, migrate};
+use program_ends::{End, ProgramFault};
+use protocols::ServeFault;
+use std::alloc::Global;
+use std::io::Write;
+use streams::send;
+
+/// Brings the database in a file from schema 1 to schema 2, and tells how many events it has. Nothing is recovered.
+pub(crate) fn migrate_file<O: Write>(
+    rt: &HostRuntime,
+    alloc: Global,
+    file: &str,
+    out: &mut O,
+) -> End
+    ensures job { EndsJob result }
+    ensures told { IfDone result (TellsMigrated (O.contents out.old) (O.contents out.new)) }
+{
+    let mut conn = match connect_there(rt, file) {
+        Ok(conn) => conn,
+        Err(end) => return end,
+    };
+    let migrated = migrate(&mut conn);
+    match (migrated, close(conn)) {
+        (Ok(migrated), End::Done) => tell_migrated(alloc, migrated.events, out),
+        (Ok(_), end) => end,
+        (Err(fault), _) => end_of_fault(fault),
+    }
+}
+
+/// Tells how many events were brought over.
+fn tell_migrated<O: Write>(alloc: Global, events: u64, out: &mut O) -> End
+    ensures job { EndsJob result }
+    ensures told { IfDone result (TellsMigrated (O.contents out.old) (O.contents out.new)) }
+{
+    match send_migrated(alloc, events, out) {
+        Ok(()) => End::Done,
+        Err(fault) => End::Fault(fault.into()),
+    }
+}
+
+/// Writes out how many events were brought over.
+fn send_migrated<O: Write>(alloc: Global, events: u64, out: &mut O) -> Result<(), ServeFault>
+    ensures sent { OnOk result (Appends (O.contents out.old) (O.contents out.new)
+        (migrated_line events)) }
+{
+    let line = format!(in alloc; "migrated 1 to 2 events {events}\n")?;
+    Ok(send(out, line.as_bytes())?)
+}
+
+/// How the program ends where a file could not be migrated.
+fn end_of_fault(fault: MigrateFault) -> End
+    ensures end { result ≡ end_of_migration fault }
+    ensures bad { EndsBadly result }
+{
+    match fault {
+        MigrateFault::AlreadyNew => End::Refused(Refusal::AlreadyNew),
+        MigrateFault::UnknownSchema(version) => End::Refused(Refusal::UnknownSchema { version }),
+        MigrateFault::Store => End::Fault(ProgramFault::OpeningStore),
+        MigrateFault::Memory => End::Fault(ProgramFault::OpeningMemory),
+    }
+}

@@ -1,0 +1,2 @@
+pub mod SubcommandLemmas
+pub mod NumberLemmas

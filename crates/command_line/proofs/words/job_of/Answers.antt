@@ -1,0 +1,122 @@
+-- The values of a job are those of the matches.
+use Rattle.std.proofs.Common.{◌∙◌, ap, map, codes, refl, subst, sym}
+use Rattle.std.specs.Prelude.{Err}
+use Rattle.std.proofs.lemmas.Result.{err_from_is_err_and}
+use Rattle.std.specs.String.{string_bytes}
+use Rattle.command_line.specs.Jobs.{number_named, most_port, most_connections, IsUsage}
+use Rattle.command_line.specs.Subcommands.{app_for}
+use Rattle.command_line.proofs.NumberLemmas.{refuses-no_connections, refuses-no_port, refuses-numbers}
+use Rattle.command_line.proofs.SubcommandLemmas.{value_in-matches, value_read}
+use Rattle.command_line.proofs.words.job_of.Goals as goal
+
+pub returns-in-Run-clause-job : goal.returns-in-Run-clause-job
+returns-in-Run-clause-job c =
+    let read = value_read (app_for c.args.subcommand) (map string_bytes c.args.words.now) c.in_ok-matches.matches in
+    record {
+      subcommand = sym c.in-Run.is;
+      values = read (codes "FILE") _ c.in_ok-matches.ensures.rows c.in_ok-file.ensures.value;
+    }
+
+-- the numbers that are read are those that the matches name
+pub returns-in-Serve-clause-job : goal.returns-in-Serve-clause-job
+returns-in-Serve-clause-job c =
+    let app = app_for c.args.subcommand in
+    let words = map string_bytes c.args.words.now in
+    let m = c.in_ok-matches.matches in
+    let rows = c.in_ok-matches.ensures.rows in
+    record {
+      subcommand = sym c.in-Serve.is;
+      values = (
+        value_read app words m (codes "FILE") _ rows c.in_ok-file.ensures.value,
+        ap (number_named most_port) (value_in-matches app words m (codes "PORT") rows) ∙ c.in_ok-port-in-Serve.ensures.number,
+        ap (number_named most_connections) (value_in-matches app words m (codes "N") rows) ∙ c.in_ok-connections-in-Serve.ensures.number,
+      );
+    }
+
+pub returns-in-Serve-clause-taken : goal.returns-in-Serve-clause-taken
+returns-in-Serve-clause-taken c = λ _.
+    let app = app_for c.args.subcommand in
+    let words = map string_bytes c.args.words.now in
+    let m = c.in_ok-matches.matches in
+    let rows = c.in_ok-matches.ensures.rows in
+    refuses-numbers c.args.subcommand words c.in_ok-port-in-Serve.port c.in_ok-connections-in-Serve.connections c.in-Serve.is
+    (c.in_ok-matches.ensures.taken refl)
+    (ap (number_named most_port) (value_in-matches app words m (codes "PORT") rows) ∙ c.in_ok-port-in-Serve.ensures.number)
+    (ap (number_named most_connections) (value_in-matches app words m (codes "N") rows) ∙ c.in_ok-connections-in-Serve.ensures.number)
+
+-- a usage is given for a port only where none is named
+pub returns-in_err-port-in-Serve-clause-usage : goal.returns-in_err-port-in-Serve-clause-usage
+returns-in_err-port-in-Serve-clause-usage c = λ usage.
+    let app = app_for c.args.subcommand in
+    let words = map string_bytes c.args.words.now in
+    let m = c.in_ok-matches.matches in
+    let failed = err_from_is_err_and c.from_residual-in_err-port-in-Serve.result c.from_residual-in_err-port-in-Serve.ensures.1 in
+    refuses-no_port c.args.subcommand words c.in-Serve.is
+    (ap (number_named most_port) (value_in-matches app words m (codes "PORT") c.in_ok-matches.ensures.rows)
+    ∙ c.in_err-port-in-Serve.ensures.usage (subst IsUsage (failed.1 ∙ ap Err failed.2) usage))
+
+-- and so for a number of connections
+pub returns-in_err-connections-in-Serve-clause-usage : goal.returns-in_err-connections-in-Serve-clause-usage
+returns-in_err-connections-in-Serve-clause-usage c = λ usage.
+    let app = app_for c.args.subcommand in
+    let words = map string_bytes c.args.words.now in
+    let m = c.in_ok-matches.matches in
+    let failed = err_from_is_err_and c.from_residual-in_err-connections-in-Serve.result c.from_residual-in_err-connections-in-Serve.ensures.1 in
+    refuses-no_connections c.args.subcommand words c.in-Serve.is
+    (ap (number_named most_connections) (value_in-matches app words m (codes "N") c.in_ok-matches.ensures.rows)
+    ∙ c.in_err-connections-in-Serve.ensures.usage (subst IsUsage (failed.1 ∙ ap Err failed.2) usage))
+
+pub returns-in-Recover-clause-job : goal.returns-in-Recover-clause-job
+returns-in-Recover-clause-job c =
+    let read = value_read (app_for c.args.subcommand) (map string_bytes c.args.words.now) c.in_ok-matches.matches in
+    record {
+      subcommand = sym c.in-Recover.is;
+      values = read (codes "FILE") _ c.in_ok-matches.ensures.rows c.in_ok-file.ensures.value;
+    }
+
+pub returns-in-Stock-clause-job : goal.returns-in-Stock-clause-job
+returns-in-Stock-clause-job c =
+    let read = value_read (app_for c.args.subcommand) (map string_bytes c.args.words.now) c.in_ok-matches.matches in
+    record {
+      subcommand = sym c.in-Stock.is;
+      values = read (codes "FILE") _ c.in_ok-matches.ensures.rows c.in_ok-file.ensures.value;
+    }
+
+pub returns-in-Unfinished-clause-job : goal.returns-in-Unfinished-clause-job
+returns-in-Unfinished-clause-job c =
+    let read = value_read (app_for c.args.subcommand) (map string_bytes c.args.words.now) c.in_ok-matches.matches in
+    record {
+      subcommand = sym c.in-Unfinished.is;
+      values = read (codes "FILE") _ c.in_ok-matches.ensures.rows c.in_ok-file.ensures.value;
+    }
+
+pub returns-in-Load-clause-job : goal.returns-in-Load-clause-job
+returns-in-Load-clause-job c =
+    let read = value_read (app_for c.args.subcommand) (map string_bytes c.args.words.now) c.in_ok-matches.matches in
+    record {
+      subcommand = sym c.in-Load.is;
+      values = (
+        read (codes "FILE") _ c.in_ok-matches.ensures.rows c.in_ok-file.ensures.value,
+        read (codes "CSV") _ c.in_ok-matches.ensures.rows c.in_ok-csv-in-Load.ensures.value,
+        read (codes "NAME") _ c.in_ok-matches.ensures.rows c.in_ok-batch-in-Load.ensures.value,
+      );
+    }
+
+pub returns-in-History-clause-job : goal.returns-in-History-clause-job
+returns-in-History-clause-job c =
+    let read = value_read (app_for c.args.subcommand) (map string_bytes c.args.words.now) c.in_ok-matches.matches in
+    record {
+      subcommand = sym c.in-History.is;
+      values = (
+        read (codes "FILE") _ c.in_ok-matches.ensures.rows c.in_ok-file.ensures.value,
+        read (codes "ID") _ c.in_ok-matches.ensures.rows c.in_ok-id-in-History.ensures.value,
+      );
+    }
+
+pub returns-clause-job : goal.returns-clause-job
+returns-clause-job c =
+    let read = value_read (app_for c.args.subcommand) (map string_bytes c.args.words.now) c.in_ok-matches.matches in
+    record {
+      subcommand = sym c.in-Migrate.is;
+      values = read (codes "FILE") _ c.in_ok-matches.ensures.rows c.in_ok-file.ensures.value;
+    }

@@ -1,0 +1,66 @@
+-- What a subcommand reads of the words is what the rules of clap give.
+use Rattle.std.proofs.Common.{◌≡◌, ◌∙◌, true, sym, ap, [], ◌∷◌, map, refl, inl, inr, ◌≢◌}
+use Rattle.std.specs.String.{string_bytes}
+use Rattle.clap.specs.Words.{HasKind, Kinds, IsAmong, app_of, fault_of, matches_of, is_simple, is_simple_and_free, kind_of}
+use Rattle.clap.proofs.OnLiterals.{clap_on_literals}
+use Rattle.clap.specs.declared.error.Error.{Error}
+use Rattle.clap.specs.declared.error.kind.ErrorKind.{ErrorKind}
+use Rattle.clap.specs.declared.error.kind.ErrorKind.TheVariants.{OutOfMemory}
+use Rattle.command_line.specs.Subcommands.{app_for, has_any}
+use Rattle.command_line.specs.declared.subcommands.Subcommand.{Subcommand}
+use Rattle.command_line.specs.declared.subcommands.Subcommand.TheVariants.{Run, Serve, Recover, Load, Stock, Unfinished, History, Migrate}
+use Rattle.command_line.proofs.words.matches_in.Goals as goal
+
+is_exact : (s : Subcommand) → is_simple (app_for s) ≡ true
+unfolding clap_on_literals
+is_exact Run = refl
+is_exact Serve = refl
+is_exact Recover = refl
+is_exact Load = refl
+is_exact Stock = refl
+is_exact Unfinished = refl
+is_exact History = refl
+is_exact Migrate = refl
+
+is_free : (s : Subcommand) → is_simple_and_free (app_for s) ≡ true
+unfolding clap_on_literals
+is_free Run = refl
+is_free Serve = refl
+is_free Recover = refl
+is_free Load = refl
+is_free Stock = refl
+is_free Unfinished = refl
+is_free History = refl
+is_free Migrate = refl
+
+-- a kind that stands in a list of kinds shows that there is one
+kinds_there : (kind : ErrorKind) (kinds : Kinds) → IsAmong kind kinds → has_any kinds ≡ true
+kinds_there kind [] none = absurd none
+kinds_there kind (k ∷ more) among = refl
+
+-- where memory did not run out, an error of clap has one of the kinds
+kinds_of_error : (e : Error) (kinds : Kinds) → HasKind kinds e → kind_of e ≢ OutOfMemory → has_any kinds ≡ true
+kinds_of_error e kinds (inl memory) other = absurd (other memory)
+kinds_of_error e kinds (inr among) other = kinds_there (kind_of e) kinds among
+
+-- the rows are those of the command that was built
+pub returns-in-Ok-clause-rows : goal.returns-in-Ok-clause-rows
+returns-in-Ok-clause-rows c =
+    let is_app = c.in_ok-command.ensures.app in
+    (c.in-Ok.ensures.matches (ap is_simple is_app ∙ is_exact c.args.subcommand)).0
+    ∙ ap (λ app. matches_of app (map string_bytes c.args.words.now)) is_app
+
+-- clap refuses nothing where it gives matches
+pub returns-in-Ok-clause-taken : goal.returns-in-Ok-clause-taken
+returns-in-Ok-clause-taken c = λ _.
+    let is_app = c.in_ok-command.ensures.app in
+    let words = map string_bytes c.args.words.now in
+    ap (λ kinds. has_any kinds) (ap (λ app. fault_of app words) (sym is_app) ∙ c.in-Ok.ensures.kinds (ap is_simple_and_free is_app ∙ is_free c.args.subcommand))
+
+-- an error that is not want of memory is a refusal
+pub returns-in-Err-clause-usage : goal.returns-in-Err-clause-usage
+returns-in-Err-clause-usage c = λ text.
+    let is_app = c.in_ok-command.ensures.app in
+    let words = map string_bytes c.args.words.now in
+    let failed = c.in-Err.ensures.kinds (ap is_simple_and_free is_app ∙ is_free c.args.subcommand) in
+    ap (λ app. has_any (fault_of app words)) (sym is_app) ∙ kinds_of_error c.in-Err.error (fault_of (app_of c.in_ok-command.command) words) failed (c.fault_of.ensures.usage text)

@@ -1,0 +1,102 @@
+-- The jobs that the words of the command line ask for. The first word names the subcommand, and the
+-- others are read by the rules of clap for that subcommand.
+use Rattle.std.specs.Prelude.{◌≡◌, ◌||◌, ⊤, ℕ, Bool, true, false, is_none, List, [], ◌∷◌, codes, Option, Some, Result, Ok, Err}
+use Rattle.std.specs.Option.{option_and_then, option_map_or}
+use Rattle.std.specs.String.{string_bytes}
+use Rattle.allotment.specs.Texts.{number_from}
+use Rattle.clap.specs.Words.{App, Text, first_of, matches_of}
+use Rattle.command_line.specs.Subcommands.{app_for, is_refused_by, name_of, subcommand_in}
+use Rattle.command_line.specs.declared.jobs.Job.{Job}
+use Rattle.command_line.specs.declared.jobs.Job.TheVariants.{Run, Serve, Recover, Load, Stock, Unfinished, History, Migrate}
+use Rattle.command_line.specs.declared.jobs.JobFault.{JobFault}
+use Rattle.command_line.specs.declared.jobs.JobFault.TheVariants.{Usage, Memory}
+use Rattle.command_line.specs.declared.subcommands.Subcommand.{Subcommand}
+use Rattle.command_line.specs.declared.subcommands.Subcommand.TheVariants as sub
+
+-- the subcommand of a job
+abbrev pub subcommand_of : Job → Subcommand
+subcommand_of (Run file) = sub.Run
+subcommand_of (Serve file port connections) = sub.Serve
+subcommand_of (Recover file) = sub.Recover
+subcommand_of (Load file csv batch) = sub.Load
+subcommand_of (Stock file) = sub.Stock
+subcommand_of (Unfinished file) = sub.Unfinished
+subcommand_of (History file id) = sub.History
+subcommand_of (Migrate file) = sub.Migrate
+
+-- the words name this file
+abbrev pub NamesFile : (Text → Option Text) → Text → Type 0
+NamesFile value file = value (codes "FILE") ≡ Some file
+
+-- the highest port, and how many connections are served at most
+abbrev pub most_port : ℕ
+most_port = 65535
+
+abbrev pub most_connections : ℕ
+most_connections = 1000
+
+-- the number from 1 to this one that a value spells in digits, without sign and without leading zeros
+abbrev pub number_named : ℕ → Option Text → Option ℕ
+number_named most value = option_and_then (number_from 1 most) value
+
+-- the port that is named, and the number of connections
+abbrev pub port_in : (Text → Option Text) → Option ℕ
+port_in value = number_named most_port (value (codes "PORT"))
+
+abbrev pub connections_in : (Text → Option Text) → Option ℕ
+connections_in value = number_named most_connections (value (codes "N"))
+
+-- the values of a job are those that are read under their names
+abbrev pub HasValues : (Text → Option Text) → Job → Type 0
+HasValues value (Run file) = NamesFile value (string_bytes file)
+HasValues value (Serve file port connections) = NamesFile value (string_bytes file)
+    × (port_in value ≡ Some port)
+    × (connections_in value ≡ Some connections)
+HasValues value (Recover file) = NamesFile value (string_bytes file)
+HasValues value (Load file csv batch) = NamesFile value (string_bytes file)
+    × (value (codes "CSV") ≡ Some (string_bytes csv))
+    × (value (codes "NAME") ≡ Some (string_bytes batch))
+HasValues value (Stock file) = NamesFile value (string_bytes file)
+HasValues value (Unfinished file) = NamesFile value (string_bytes file)
+HasValues value (History file id) = NamesFile value (string_bytes file)
+    × (value (codes "ID") ≡ Some (string_bytes id))
+HasValues value (Migrate file) = NamesFile value (string_bytes file)
+
+-- the value of this name that clap reads from the words
+abbrev pub value_in : App → List Text → Text → Option Text
+value_in app words id = first_of id (matches_of app words)
+
+-- the job is that of this subcommand, with the values that are read from these words
+pub record IsJobOf (s : Subcommand) (words : List Text) (job : Job) : Type 0 where
+  pub subcommand : subcommand_of job ≡ s
+  pub values : HasValues (value_in (app_for s) words) job
+
+-- the job is the one that the first word names, with the values that are read from the others
+abbrev pub IsJob : List Text → Job → Type 0
+IsJob [] job = ⊥
+IsJob (name ∷ others) job = (s : Subcommand) × (name ≡ name_of s) × IsJobOf s others job
+
+-- a subcommand that reads numbers is given something else for one of them
+abbrev pub lacks_number : Subcommand → (Text → Option Text) → Bool
+lacks_number sub.Serve value = is_none (port_in value) || is_none (connections_in value)
+lacks_number _ value = false
+
+-- the words that follow a subcommand are refused: by clap, or for a value that is no number
+abbrev pub refuses : Subcommand → List Text → Bool
+refuses s words = is_refused_by (app_for s) words || lacks_number s (value_in (app_for s) words)
+
+-- the words ask for no job: the first one names no subcommand, or that one refuses the others
+abbrev pub are_refused : List Text → Bool
+are_refused [] = true
+are_refused (name ∷ others) =
+    option_map_or (λ s. refuses s others) (subcommand_in name) true
+
+-- the fault is a usage
+abbrev pub IsText : JobFault → Type 0
+IsText (Usage text) = ⊤
+IsText Memory = ⊥
+
+-- the answer is a usage
+abbrev pub IsUsage : {T : Type 0} → Result T JobFault → Type 0
+IsUsage (Err fault) = IsText fault
+IsUsage (Ok _) = ⊥

@@ -1,0 +1,102 @@
+-- The subcommands: the word that names each, and how clap reads the words that follow it.
+use Rattle.std.specs.Prelude.{◌≡◌, Bool, true, false, List, [], ◌∷◌, map, codes, bytes_eq, if◌then◌else◌, Option, Some, None, is_some}
+use Rattle.clap.specs.Words.{App, Rule, Text, first_value, found_of, fault_of, new_app, new_rule, with_rule, IsParsedFrom, IsPlainArg}
+use Rattle.clap.specs.Built.{TakesValue}
+use Rattle.clap.specs.Simple.{on_top}
+use Rattle.clap.specs.declared.builder.ArgAction.TheVariants.{Set}
+use Rattle.clap.specs.declared.builder.Arg.{Arg}
+use Rattle.clap.specs.declared.builder.Command.{Command}
+use Rattle.clap.specs.declared.parser.ArgMatches.{ArgMatches}
+use Rattle.command_line.specs.declared.subcommands.Subcommand.{Subcommand}
+use Rattle.command_line.specs.declared.subcommands.Subcommand.TheVariants.{Run, Serve, Recover, Load, Stock, Unfinished, History, Migrate}
+
+-- the word that names a subcommand
+abbrev pub name_of : Subcommand → Text
+name_of Run = codes "run"
+name_of Serve = codes "serve"
+name_of Recover = codes "recover"
+name_of Load = codes "load"
+name_of Stock = codes "stock"
+name_of Unfinished = codes "unfinished"
+name_of History = codes "history"
+name_of Migrate = codes "migrate"
+
+-- the subcommand that a word names
+abbrev pub subcommand_in : Text → Option Subcommand
+subcommand_in word =
+    if bytes_eq word (codes "run") then Some Run
+    else if bytes_eq word (codes "serve") then Some Serve
+    else if bytes_eq word (codes "recover") then Some Recover
+    else if bytes_eq word (codes "load") then Some Load
+    else if bytes_eq word (codes "stock") then Some Stock
+    else if bytes_eq word (codes "unfinished") then Some Unfinished
+    else if bytes_eq word (codes "history") then Some History
+    else if bytes_eq word (codes "migrate") then Some Migrate
+    else None
+
+-- a value that has to be there
+abbrev pub needed : Text → Rule
+needed id = record (new_rule id) { action = Some Set; required = true }
+
+-- the name of a batch stands behind `--batch`
+abbrev pub batch_name : Rule
+batch_name = record (needed (codes "NAME")) { long = Some (codes "batch") }
+
+-- the port stands behind `--port`, and the number of connections behind `--connections`
+abbrev pub port_number : Rule
+port_number = record (needed (codes "PORT")) { long = Some (codes "port") }
+
+abbrev pub connections_number : Rule
+connections_number = record (needed (codes "N")) { long = Some (codes "connections") }
+
+-- the values that a subcommand reads, in their order
+abbrev pub rules_for : Subcommand → List Rule
+rules_for Run = needed (codes "FILE") ∷ []
+rules_for Serve = needed (codes "FILE") ∷ port_number ∷ connections_number ∷ []
+rules_for Recover = needed (codes "FILE") ∷ []
+rules_for Load = needed (codes "FILE") ∷ needed (codes "CSV") ∷ batch_name ∷ []
+rules_for Stock = needed (codes "FILE") ∷ []
+rules_for Unfinished = needed (codes "FILE") ∷ []
+rules_for History = needed (codes "FILE") ∷ needed (codes "ID") ∷ []
+rules_for Migrate = needed (codes "FILE") ∷ []
+
+-- the names of these values
+abbrev pub ids_in : List Rule → List Text
+ids_in = map (λ r. r.id)
+
+-- the names of the values that a subcommand reads
+abbrev pub ids_of : Subcommand → List Text
+ids_of s = ids_in (rules_for s)
+
+-- a subcommand without values, whose words begin behind its name
+abbrev pub bare_app : Text → App
+bare_app name = on_top (λ s. record s { no_binary_name = true }) (new_app name)
+
+-- the same with these values
+abbrev pub with_rules : App → List Rule → App
+with_rules app [] = app
+with_rules app (rule ∷ more) = with_rules (with_rule app rule) more
+
+-- a subcommand with the values that it reads
+abbrev pub app_for : Subcommand → App
+app_for s = with_rules (bare_app (name_of s)) (rules_for s)
+
+-- the list is not empty
+abbrev pub has_any : {X : Type 0} → List X → Bool
+has_any [] = false
+has_any (x ∷ more) = true
+
+-- clap refuses the words, or shows its help
+abbrev pub is_refused_by : App → List Text → Bool
+is_refused_by app words = has_any (fault_of app words)
+
+-- an argument is a value that has to be there, whatever the others are
+pub record IsNeeded (arg : Arg) : Type 0 where
+  pub plain : IsPlainArg arg
+  pub global : arg.global ≡ false
+  pub value : TakesValue arg
+
+-- each parse by the command has a value of this name
+abbrev pub Requires : Command → Text → Type 0
+Requires command id =
+    (m : ArgMatches) → IsParsedFrom command m → is_some (first_value (found_of m) id) ≡ true

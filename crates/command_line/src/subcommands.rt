@@ -1,0 +1,146 @@
+//! The subcommands of the program: their words, and the values that each of them reads.
+ghost use Rattle.std.specs.Prelude.{◌≡◌, All, IfOk, IfSome};
+ghost use Rattle.clap.specs.Words.{app_of, rule_of};
+ghost use Rattle.command_line.specs.Subcommands.{app_for, ids_of, name_of, needed, subcommand_in, IsNeeded, Requires};
+
+use clap::{Arg, ArgAction, Command};
+use std::alloc::{AllocError, Global};
+
+/// The subcommands of the program.
+#[derive(Clone, Copy)]
+pub(crate) enum Subcommand {
+    Run,
+    Serve,
+    Recover,
+    Load,
+    Stock,
+    Unfinished,
+    History,
+    Migrate,
+}
+
+impl Subcommand {
+    /// All of them, in the order in which the usage shows them.
+    pub(crate) const ALL: [Subcommand; 8] = [
+        Subcommand::Run,
+        Subcommand::Serve,
+        Subcommand::Recover,
+        Subcommand::Load,
+        Subcommand::Stock,
+        Subcommand::Unfinished,
+        Subcommand::History,
+        Subcommand::Migrate,
+    ];
+
+    /// The subcommand that a word names.
+    pub(crate) fn named(word: &str) -> Option<Subcommand>
+        ensures named { result ≡ subcommand_in word.now }
+        ensures name { IfSome result (λ s. word.now ≡ name_of s) }
+    {
+        match word {
+            "run" => Some(Subcommand::Run),
+            "serve" => Some(Subcommand::Serve),
+            "recover" => Some(Subcommand::Recover),
+            "load" => Some(Subcommand::Load),
+            "stock" => Some(Subcommand::Stock),
+            "unfinished" => Some(Subcommand::Unfinished),
+            "history" => Some(Subcommand::History),
+            "migrate" => Some(Subcommand::Migrate),
+            _ => None,
+        }
+    }
+
+    /// The word that names the subcommand.
+    fn name<'a>(self) -> &'a str
+        ensures name { result.now ≡ name_of self }
+    {
+        match self {
+            Subcommand::Run => "run",
+            Subcommand::Serve => "serve",
+            Subcommand::Recover => "recover",
+            Subcommand::Load => "load",
+            Subcommand::Stock => "stock",
+            Subcommand::Unfinished => "unfinished",
+            Subcommand::History => "history",
+            Subcommand::Migrate => "migrate",
+        }
+    }
+
+    /// The words that stand before the others, as the usage shows them.
+    fn called<'a>(self) -> &'a str {
+        match self {
+            Subcommand::Run => "desk run",
+            Subcommand::Serve => "desk serve",
+            Subcommand::Recover => "desk recover",
+            Subcommand::Load => "desk load",
+            Subcommand::Stock => "desk stock",
+            Subcommand::Unfinished => "desk unfinished",
+            Subcommand::History => "desk history",
+            Subcommand::Migrate => "desk migrate",
+        }
+    }
+
+    /// What the subcommand does.
+    fn about<'a>(self) -> &'a str {
+        match self {
+            Subcommand::Run => "Answer the lines of standard input, one by one",
+            Subcommand::Serve => "Answer requests over HTTP, one connection after another",
+            Subcommand::Recover => "Take every unfinished journey to its end, as after a stop",
+            Subcommand::Load => "Load the allotments of a file, as one batch",
+            Subcommand::Stock => "Print the allotted, held and free places of each cell",
+            Subcommand::Unfinished => "Print the journeys that are not at their end",
+            Subcommand::History => "Print what was done for a journey, from its begin on",
+            Subcommand::Migrate => "Bring a database of schema 1 to schema 2, in one commit",
+        }
+    }
+
+    /// What its file is.
+    fn file<'a>(self) -> &'a str {
+        match self {
+            Subcommand::Run | Subcommand::Serve | Subcommand::Recover | Subcommand::Load => {
+                "The database file, which is made where it is absent"
+            }
+            Subcommand::Stock
+            | Subcommand::Unfinished
+            | Subcommand::History
+            | Subcommand::Migrate => "The database file, which has to be there",
+        }
+    }
+
+    /// How `clap` reads the words that follow the subcommand.
+    pub(crate) fn command<'a>(self, alloc: Global) -> Result<Command<'a>, AllocError>
+        ensures app { IfOk result (λ command. app_of command ≡ app_for self) }
+        ensures each { IfOk result (λ command. All (Requires command) (ids_of self)) }
+    {
+        let bare = Command::new(alloc, self.name())
+            .about(self.about())
+            .no_binary_name(true)
+            .bin_name(self.called())?;
+        let over_file = bare.arg(value(alloc, "FILE", self.file()))?;
+        match self {
+            Subcommand::Serve => {
+                let port = value(alloc, "PORT", "The port to listen on, 1 to 65535").long("port");
+                let number = value(alloc, "N", "How many to serve, 1 to 1000").long("connections");
+                over_file.arg(port)?.arg(number)
+            }
+            Subcommand::Load => {
+                let csv = value(alloc, "CSV", "The allotment file");
+                let name = value(alloc, "NAME", "The name of the batch").long("batch");
+                over_file.arg(csv)?.arg(name)
+            }
+            Subcommand::History => over_file.arg(value(alloc, "ID", "The number of the journey")),
+            _ => Ok(over_file),
+        }
+    }
+}
+
+/// A value that has to be there.
+fn value<'a>(alloc: Global, id: &'a str, help: &'a str) -> Arg<'a>
+    ensures rule { rule_of result ≡ needed id.entry.now }
+    ensures needed { IsNeeded result }
+{
+    Arg::new(alloc, id)
+        .help(help)
+        .required(true)
+        .action(ArgAction::Set)
+}

@@ -1,0 +1,173 @@
+//! What the words of the command line ask for.
+//!
+//! The first word names the subcommand. `clap` reads the others, by its rules for that subcommand
+//! alone. Words that name none get the usage of them all.
+ghost use Rattle.std.specs.Prelude.{◌≡◌, ◌≢◌, None, false, true, map, All, IfErr, IfOk, IsOk, Some, is_some};
+ghost use Rattle.std.specs.String.{string_bytes};
+ghost use Rattle.clap.specs.Words.{first_value, found_of, kind_of, matches_of, rows_of};
+ghost use Rattle.command_line.specs.Jobs.{are_refused, number_named, refuses, IsJob, IsJobOf, IsText, IsUsage};
+ghost use Rattle.command_line.specs.Subcommands.{app_for, ids_of, is_refused_by};
+
+use crate::jobs::{Job, JobFault};
+use crate::subcommands::Subcommand;
+use clap::error::ErrorKind;
+use clap::{ArgMatches, Command, Error};
+use commands::number_between;
+use std::alloc::{AllocError, Global};
+
+/// The highest port.
+const MOST_PORT: u16 = 65_535;
+
+/// How many connections are served, at most.
+const MOST_CONNECTIONS: u16 = 1000;
+
+/// The job that these words ask for, which follow the program's name.
+pub fn job(alloc: Global, words: Vec<String>) -> Result<Job, JobFault>
+    ensures job { IfOk result (IsJob (map string_bytes words.items)) }
+
+    ensures taken { IsOk result → are_refused (map string_bytes words.items) ≡ false }
+    ensures usage { IsUsage result → are_refused (map string_bytes words.items) ≡ true }
+{
+    let Some((name, others)) = words.split_first() else {
+        return Err(usage_of_all(alloc, words.as_slice()));
+    };
+    match Subcommand::named(name.as_str()) {
+        Some(subcommand) => job_of(alloc, subcommand, others),
+        None => Err(usage_of_all(alloc, words.as_slice())),
+    }
+}
+
+/// The job of a subcommand, with the values that the words name which follow it.
+fn job_of(alloc: Global, subcommand: Subcommand, words: &[String]) -> Result<Job, JobFault>
+    ensures job { IfOk result (IsJobOf subcommand (map string_bytes words.now)) }
+    ensures taken { IsOk result → refuses subcommand (map string_bytes words.now) ≡ false }
+    ensures usage { IsUsage result → refuses subcommand (map string_bytes words.now) ≡ true }
+{
+    let matches = matches_in(alloc, subcommand, words)?;
+    let file = value_of(alloc, &matches, "FILE")?;
+    match subcommand {
+        Subcommand::Run => Ok(Job::Run { file }),
+        Subcommand::Serve => {
+            let port = number_of(alloc, &matches, "PORT", "--port", MOST_PORT)?;
+            let connections = number_of(alloc, &matches, "N", "--connections", MOST_CONNECTIONS)?;
+            Ok(Job::Serve {
+                file,
+                port,
+                connections,
+            })
+        }
+        Subcommand::Recover => Ok(Job::Recover { file }),
+        Subcommand::Load => {
+            let csv = value_of(alloc, &matches, "CSV")?;
+            let batch = value_of(alloc, &matches, "NAME")?;
+            Ok(Job::Load { file, csv, batch })
+        }
+        Subcommand::Stock => Ok(Job::Stock { file }),
+        Subcommand::Unfinished => Ok(Job::Unfinished { file }),
+        Subcommand::History => {
+            let id = value_of(alloc, &matches, "ID")?;
+            Ok(Job::History { file, id })
+        }
+        Subcommand::Migrate => Ok(Job::Migrate { file }),
+    }
+}
+
+/// What `clap` reads of the words that follow a subcommand.
+fn matches_in<'a>(
+    alloc: Global,
+    subcommand: Subcommand,
+    words: &'a [String],
+) -> Result<ArgMatches<'a>, JobFault>
+    ensures rows { IfOk result (λ matches. rows_of (found_of matches)
+        ≡ matches_of (app_for subcommand) (map string_bytes words.entry.now)) }
+    ensures each { IfOk result (λ matches.
+        All (λ id. is_some (first_value (found_of matches) id) ≡ true) (ids_of subcommand)) }
+    ensures taken { IsOk result →
+        is_refused_by (app_for subcommand) (map string_bytes words.entry.now) ≡ false }
+    ensures usage { IsUsage result →
+        is_refused_by (app_for subcommand) (map string_bytes words.entry.now) ≡ true }
+{
+    let command = subcommand.command(alloc)?;
+    match command.try_get_matches_from(words) {
+        Ok(matches) => Ok(matches),
+        Err(error) => Err(fault_of(alloc, &error)),
+    }
+}
+
+/// The value of this name, which is there.
+fn value_of(alloc: Global, matches: &ArgMatches, id: &str) -> Result<String, AllocError>
+    requires { is_some (first_value (found_of matches.now) id.now) ≡ true }
+    ensures value { IfOk result (λ value.
+        first_value (found_of matches.now) id.now ≡ Some (string_bytes value)) }
+{
+    String::from_str(alloc, matches.get_str(id).unwrap())
+}
+
+/// The number of this name, from 1 to `most`, which stands behind an option.
+fn number_of(
+    alloc: Global,
+    matches: &ArgMatches,
+    id: &str,
+    option: &str,
+    most: u16,
+) -> Result<u16, JobFault>
+    requires { is_some (first_value (found_of matches.now) id.now) ≡ true }
+    ensures number { IfOk result (λ number.
+        number_named most (first_value (found_of matches.now) id.now) ≡ Some number) }
+    ensures usage { IsUsage result →
+        number_named most (first_value (found_of matches.now) id.now) ≡ None }
+{
+    let word = matches.get_str(id).unwrap();
+    match number_between(word, 1, usize::from(most)) {
+        Some(number) => Ok(number as u16),
+        None => Err(no_number(alloc, word, id, option, most)),
+    }
+}
+
+/// What is wrong with a value that is no number from 1 to `most`.
+fn no_number(alloc: Global, word: &str, id: &str, option: &str, most: u16) -> JobFault {
+    let text = format!(in alloc;
+        "error: invalid value '{word}' for '{option} <{id}>': not a number from 1 to {most}\n\nFor more information, try '--help'.\n"
+    );
+    match text {
+        Ok(text) => JobFault::Usage(text),
+        Err(_) => JobFault::Memory,
+    }
+}
+
+/// What is wrong with words that name no subcommand, with the usage of all.
+fn usage_of_all(alloc: Global, words: &[String]) -> JobFault {
+    match usage_text(alloc, words) {
+        Ok(fault) => fault,
+        Err(_) => JobFault::Memory,
+    }
+}
+
+/// The same, but for want of memory.
+fn usage_text(alloc: Global, words: &[String]) -> Result<JobFault, AllocError> {
+    let mut desk = Command::new(alloc, "desk")
+        .about("A booking desk for travel agencies")
+        .no_binary_name(true)
+        .subcommand_required(true)
+        .arg_required_else_help(true);
+    for subcommand in Subcommand::ALL {
+        desk = desk.subcommand(subcommand.command(alloc)?)?;
+    }
+    match desk.try_get_matches_from_mut(words) {
+        Err(error) => Ok(fault_of(alloc, &error)),
+        Ok(_) => Ok(JobFault::Usage(desk.render_usage()?)),
+    }
+}
+
+/// The fault of an error of `clap`: its text, but for want of memory.
+fn fault_of(alloc: Global, error: &Error) -> JobFault
+    ensures usage { IsText result → kind_of error.now ≢ ErrorKind.OutOfMemory }
+{
+    match error.kind() {
+        ErrorKind::OutOfMemory => JobFault::Memory,
+        _ => match error.to_string(alloc) {
+            Ok(text) => JobFault::Usage(text),
+            Err(_) => JobFault::Memory,
+        },
+    }
+}

@@ -1,0 +1,6 @@
+pub mod LineLemmas
+pub mod AnswerLemmas
+pub mod ServeLemmas
+pub mod WorldLemmas
+pub mod OrderLemmas
+pub mod OneLineLemmas

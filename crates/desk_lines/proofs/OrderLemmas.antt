@@ -1,0 +1,71 @@
+-- What a line means by what is kept of it, and which number a word spells. For what is to be done at a line.
+use Rattle.std.proofs.Common.{◌≡◌, ◌≢◌, ◌∙◌, ap, sym, subst, refl, ℕ, List, [], ◌∷◌, Bool, true, false, true≢false, length, arith, None}
+use Rattle.std.specs.Prelude.{Err, nat_le}
+use Rattle.std.specs.Str.{IsUtf8, is_utf8}
+use Rattle.std.proofs.lemmas.Str.{IsUtf8-from_is_utf8, is_utf8-from_IsUtf8}
+use Rattle.std.specs.Borrow.{Bor}
+use Rattle.commands.specs.Readings.{texts_of}
+use Rattle.commands.specs.declared.refusals.Refusal.TheVariants.{BadBody}
+use Rattle.desk_lines.specs.Lines.{Meaning, is_readable, longest_line, meaning_in, request_of_words, text_meaning}
+use Rattle.desk_lines.specs.Reading.{Keeps, KeepsWhere}
+use Rattle.desk_lines.specs.declared.lines.Line.{Line}
+
+-- Lines.
+
+-- a line that is not long keeps its text, which is short
+kept_text : (line : Line) (text : List ℕ)
+    → line.is_long ≡ false
+    → Keeps line text
+    → (nat_le (length text) longest_line ≡ true) × (line.kept.items ≡ text)
+kept_text line text short kept = go (nat_le (length text) longest_line) refl kept
+  where
+    go : (b : Bool)
+        → nat_le (length text) longest_line ≡ b
+        → KeepsWhere b line text
+        → (nat_le (length text) longest_line ≡ true) × (line.kept.items ≡ text)
+    go true is where_kept = (is, where_kept.1)
+    go false is long = absurd (true≢false (sym long ∙ short))
+
+-- a text that is no UTF-8 has no test that says so
+not_utf8 : (text : List ℕ) → (IsUtf8 text → ⊥) → is_utf8 text ≡ false
+not_utf8 text other = go (is_utf8 text) refl
+  where
+    go : (b : Bool) → is_utf8 text ≡ b → b ≡ false
+    go true is = absurd (other (IsUtf8-from_is_utf8 text is))
+    go false is = refl
+
+-- what the text of a line means, the line means
+pub means_as_text : (line : Line) (read text : List ℕ) (meaning : Meaning)
+    → line.is_long ≡ false
+    → read ≡ line.kept.items
+    → IsUtf8 read
+    → meaning ≡ text_meaning read → Keeps line text → meaning ≡ meaning_in text
+means_as_text line read text meaning short is utf8 means kept =
+    let facts = kept_text line text short kept in
+    let same : read ≡ text = is ∙ facts.1 in
+    let readable : is_readable text ≡ true = rw (facts.0) (is_utf8-from_IsUtf8 text (subst IsUtf8 same utf8)) in
+    rw readable (means ∙ ap text_meaning same)
+
+-- a line that is no text is a bad body
+pub means_no_text : (line : Line) (read text : List ℕ)
+    → line.is_long ≡ false
+    → read ≡ line.kept.items
+    → (IsUtf8 read → ⊥)
+    → Keeps line text → Err BadBody ≡ meaning_in text
+means_no_text line read text short is other kept =
+    let facts = kept_text line text short kept in
+    let same : read ≡ text = is ∙ facts.1 in
+    let unreadable : is_readable text ≡ false = rw (facts.0) (not_utf8 text (λ utf8. other (subst IsUtf8 (sym same) utf8))) in
+    rw unreadable refl
+
+-- Words.
+
+-- fewer than two words, and more than four, ask for nothing
+pub other_words : (words : List (Bor (List ℕ))) → length words ≢ 2 → length words ≢ 3 → length words ≢ 4
+    → None ≡ request_of_words (texts_of words)
+other_words [] two three four = refl
+other_words (a ∷ []) two three four = refl
+other_words (a ∷ b ∷ []) two three four = absurd (omega arith)
+other_words (a ∷ b ∷ d ∷ []) two three four = absurd (omega arith)
+other_words (a ∷ b ∷ d ∷ e ∷ []) two three four = absurd (omega arith)
+other_words (a ∷ b ∷ d ∷ e ∷ f ∷ words) two three four = refl

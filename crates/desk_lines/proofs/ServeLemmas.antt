@@ -1,0 +1,205 @@
+-- A run over lines goes on by one line, and stops at the end of the input or at a fault. For run_lines.
+use Rattle.std.proofs.Common.{◌≡◌, ◌∙◌, ap, sym, subst, refl, inl, ◌+◌, List, [], ◌∷◌, ◌++◌, ℕ, true, false, length, take, append_assoc, append-nil, length-append, Option, String, Global}
+use Rattle.std.specs.Prelude.{Some, None, Ok, Err}
+use Rattle.std.specs.String.{string_bytes}
+use Rattle.std.specs.Io.KnownBytes.{Appends}
+use Rattle.ledger.specs.Answer.{State}
+use Rattle.desk_lines.specs.Answering.{AnswersLine}
+use Rattle.desk_lines.specs.Lines.{answer_line, answer_lines, lines, state_after_lines, written}
+use Rattle.protocols.specs.Scenes.{ended}
+use Rattle.desk_lines.specs.Reading.{Keeps, TakesLine, Unanswered, to_come}
+use Rattle.protocols.specs.Faults.{IsOfReading}
+use Rattle.streams.specs.Written.{WroteFront}
+use Rattle.protocols.specs.Scenes.{Scene, scene}
+use Rattle.desk_lines.specs.Serving.{AnswersAll, AnswersSome, Leaves, WroteAll}
+use Rattle.protocols.specs.declared.faults.ServeFault.{ServeFault}
+use Rattle.protocols.specs.declared.faults.ServeFault.TheVariants.{Memory, Read, Store, Write}
+use Rattle.desk_lines.specs.declared.lines.Line.{Line}
+use Rattle.streams.proofs.ByteLemmas.{appends_more, appends_none, keeps_same}
+
+-- Lists of lines and of their answers, each longer by one.
+
+-- the state after one more line
+pub after_more : (s : State) (ls : List (List ℕ)) (line : List ℕ)
+    → state_after_lines s (ls ++ line ∷ []) ≡ (answer_line (state_after_lines s ls) line).after
+after_more s [] line = refl
+after_more s (l ∷ ls) line = after_more (answer_line s l).after ls line
+
+-- the answers with one more
+answers_more : (s : State) (ls : List (List ℕ)) (line : List ℕ)
+    → answer_lines s (ls ++ line ∷ []) ≡ answer_lines s ls ++ (answer_line (state_after_lines s ls) line).text ∷ []
+answers_more s [] line = refl
+answers_more s (l ∷ ls) line = ap (λ texts. (answer_line s l).text ∷ texts) (answers_more (answer_line s l).after ls line)
+
+-- what is written for one more text
+written_more : (texts : List (List ℕ)) (text : List ℕ)
+    → written (texts ++ text ∷ []) ≡ written texts ++ ended text
+written_more [] text = append-nil (ended text)
+written_more (t ∷ texts) text = ap (λ rest. ended t ++ rest) (written_more texts text) ∙ sym (append_assoc (ended t) (written texts) (ended text))
+
+-- what is written for one more line
+written_for_more : (s : State) (ls : List (List ℕ)) (line : List ℕ)
+    → written (answer_lines s (ls ++ line ∷ [])) ≡ written (answer_lines s ls) ++ ended (answer_line (state_after_lines s ls) line).text
+written_for_more s ls line = ap written (answers_more s ls line) ∙ written_more (answer_lines s ls) _
+
+-- Runs.
+
+-- behind these lines come those of the bytes that are still to come
+abbrev pub ComesAfter : Option (List ℕ) → List ℕ → List (List ℕ) → Type 0
+ComesAfter None input answered = ⊥
+ComesAfter (Some left) input answered = lines input ≡ answered ++ lines left
+
+-- so many lines were answered, and the others are still to come
+pub record SoFar (x : Scene) (s : State) (input : List ℕ) (left : Option (List ℕ))
+    (count : ℕ) : Type 0 where
+  pub answered : List (List ℕ)
+  pub sent : WroteAll x s answered
+  pub stands : x.stands (state_after_lines s answered)
+  pub counted : count ≡ length answered
+  pub later : ComesAfter left input answered
+
+-- at first, nothing was answered
+pub starts : (held : Option (List ℕ)) (stands : State → Type 0) (leaves : State → State → Type 0)
+    (s : State) (input : List ℕ) (u : Unanswered)
+    (known : Option (List ℕ)) → u.waiting ≡ [] → known ≡ Some input → stands s → SoFar (scene held held stands leaves) s input (to_come u known) 0
+starts held stands leaves s input u known nothing is stood = record {
+  answered = [];
+  sent = appends_none held held (keeps_same held);
+  stands = stood;
+  counted = refl;
+  later = rw (is, nothing) refl;
+}
+
+-- a fault of reading comes between two lines
+pub read_fails : (x : Scene) (s : State) (input : List ℕ) (left : Option (List ℕ)) (count : ℕ)
+    (fault : ServeFault)
+    → SoFar x s input left count
+    → IsOfReading fault → AnswersSome x s input fault
+read_fails x s input None count fault so_far of = absurd so_far.later
+read_fails x s input (Some left) count Read so_far of = record {
+  answered = so_far.answered;
+  later = lines left;
+  cut = so_far.later;
+  leaves = (so_far.sent, so_far.stands);
+}
+read_fails x s input (Some left) count Memory so_far of = record {
+  answered = so_far.answered;
+  later = lines left;
+  cut = so_far.later;
+  leaves = (so_far.sent, inl so_far.stands);
+}
+read_fails x s input (Some left) count Store so_far of = absurd of
+read_fails x s input (Some left) count Write so_far of = absurd of
+
+-- where there is no further line, all were answered
+pub all_answered : (x : Scene) (s : State) (input : List ℕ) (left rest : Option (List ℕ))
+    (count : ℕ) (line : Line)
+    → SoFar x s input left count
+    → TakesLine left rest false line → AnswersAll x s input count
+all_answered x s input None rest count line so_far taken = absurd so_far.later
+all_answered x s input (Some left) None count line so_far taken = absurd taken
+all_answered x s input (Some left) (Some rest) count line so_far taken =
+    let whole : lines input ≡ so_far.answered = so_far.later ∙ ap (λ ls. so_far.answered ++ ls) taken ∙ append-nil so_far.answered in
+    record {
+      sent = subst (WroteAll x s) (sym whole) so_far.sent;
+      left = subst (λ ls. x.stands (state_after_lines s ls)) (sym whole) so_far.stands;
+      counted = so_far.counted ∙ ap length (sym whole);
+    }
+
+-- the next line, with what comes behind it
+record HasNext (rest : Option (List ℕ)) (input : List ℕ) (answered : List (List ℕ))
+    (line : Line) : Type 0 where
+  pub text : List ℕ
+  pub kept : Keeps line text
+  pub left : List ℕ
+  pub rest_is : rest ≡ Some left
+  pub cut : lines input ≡ answered ++ text ∷ lines left
+
+-- a line that was taken is the next one
+next_of : (x : Scene) (s : State) (input : List ℕ) (left rest : Option (List ℕ)) (count : ℕ)
+    (line : Line) (so_far : SoFar x s input left count)
+    → TakesLine left rest true line → HasNext rest input so_far.answered line
+next_of x s input None rest count line so_far taken = absurd so_far.later
+next_of x s input (Some left) None count line so_far taken = absurd taken
+next_of x s input (Some left) (Some rest) count line so_far taken = record {
+  text = taken.0;
+  kept = taken.1;
+  left = rest;
+  rest_is = refl;
+  cut = so_far.later ∙ ap (λ ls. so_far.answered ++ ls) taken.2;
+}
+
+-- one more line was answered, and its answer written
+pub goes_on : (held holds now : Option (List ℕ)) (stands0 stands1 : State → Type 0)
+    (leaves0 leaves1 : State → State → Type 0) (s : State) (input : List ℕ)
+    (left rest : Option (List ℕ)) (count : ℕ) (line : Line) (answer : String Global)
+    → SoFar (scene held holds stands0 leaves0) s input left count → TakesLine left rest true line
+    → ((t : State) → stands0 t → (text : List ℕ) → Keeps line text → AnswersLine stands1 leaves1 t {Z = Global} text (Ok answer))
+    → Appends holds now (string_bytes answer)
+    → SoFar (scene held now stands1 leaves1) s input rest (count + 1)
+goes_on held holds now stands0 stands1 leaves0 leaves1 s input left rest count line answer so_far taken told sent =
+    let next = next_of (scene held holds stands0 leaves0) s input left rest count line so_far taken in
+    let done = so_far.answered in
+    let answered = told (state_after_lines s done) so_far.stands next.text next.kept in
+    let whole : written (answer_lines s (done ++ next.text ∷ [])) ≡ written (answer_lines s done) ++ string_bytes answer =
+    written_for_more s done next.text ∙ ap (λ bytes. written (answer_lines s done) ++ bytes) (sym answered.0) in
+    record {
+      answered = done ++ next.text ∷ [];
+      sent = subst (Appends held now) (sym whole) (appends_more held holds now (written (answer_lines s done)) (string_bytes answer) so_far.sent sent);
+      stands = subst stands1 (sym (after_more s done next.text)) answered.1;
+      counted = ap (λ n. n + 1) so_far.counted ∙ sym (length-append done (next.text ∷ []));
+      later = subst (λ known. ComesAfter known input (done ++ next.text ∷ [])) (sym next.rest_is)
+          (next.cut ∙ sym (append_assoc done (next.text ∷ []) (lines next.left)));
+    }
+
+-- the answer was written in part
+pub write_fails : (held holds now : Option (List ℕ)) (stands0 stands1 : State → Type 0)
+    (leaves0 leaves1 : State → State → Type 0) (s : State) (input : List ℕ)
+    (left rest : Option (List ℕ)) (count : ℕ) (line : Line) (answer : String Global)
+    → SoFar (scene held holds stands0 leaves0) s input left count → TakesLine left rest true line
+    → ((t : State) → stands0 t → (text : List ℕ) → Keeps line text → AnswersLine stands1 leaves1 t {Z = Global} text (Ok answer))
+    → WroteFront holds now (string_bytes answer)
+    → AnswersSome (scene held now stands1 leaves1) s input Write
+write_fails held holds now stands0 stands1 leaves0 leaves1 s input left rest count line answer so_far taken told cut =
+    let next = next_of (scene held holds stands0 leaves0) s input left rest count line so_far taken in
+    let done = so_far.answered in
+    let t = state_after_lines s done in
+    let answered = told t so_far.stands next.text next.kept in
+    let text = (answer_line t next.text).text in
+    let front : Appends holds now (take cut.0 (ended text)) = subst (λ bytes. Appends holds now (take cut.0 bytes)) answered.0 cut.1 in
+    record {
+      answered = done;
+      later = next.text ∷ lines next.left;
+      cut = next.cut;
+      leaves = (cut.0, appends_more held holds now (written (answer_lines s done)) (take cut.0 (ended text)) so_far.sent front, answered.1);
+    }
+
+-- what is left where the answer to a line failed
+answer_leaves : (held holds : Option (List ℕ)) (stands : State → Type 0)
+    (leaves : State → State → Type 0) (s : State) (answered : List (List ℕ))
+    (line : List ℕ) (later : List (List ℕ))
+    (fault : ServeFault) → WroteAll (scene held holds stands leaves) s answered
+    → AnswersLine stands leaves (state_after_lines s answered) {Z = Global} line (Err fault)
+    → Leaves fault (scene held holds stands leaves) s answered (line ∷ later)
+answer_leaves held holds stands leaves s answered line later Memory sent told = (sent, told)
+answer_leaves held holds stands leaves s answered line later Store sent told = (sent, told)
+answer_leaves held holds stands leaves s answered line later Read sent told = absurd told
+answer_leaves held holds stands leaves s answered line later Write sent told = absurd told
+
+-- the line was not answered
+pub answer_fails : (held holds : Option (List ℕ)) (stands0 stands1 : State → Type 0)
+    (leaves0 leaves1 : State → State → Type 0) (s : State) (input : List ℕ)
+    (left rest : Option (List ℕ)) (count : ℕ) (line : Line) (fault : ServeFault)
+    → SoFar (scene held holds stands0 leaves0) s input left count → TakesLine left rest true line
+    → ((t : State) → stands0 t → (text : List ℕ) → Keeps line text → AnswersLine stands1 leaves1 t {Z = Global} text (Err fault))
+    → AnswersSome (scene held holds stands1 leaves1) s input fault
+answer_fails held holds stands0 stands1 leaves0 leaves1 s input left rest count line fault so_far taken told =
+    let next = next_of (scene held holds stands0 leaves0) s input left rest count line so_far taken in
+    let done = so_far.answered in
+    record {
+      answered = done;
+      later = next.text ∷ lines next.left;
+      cut = next.cut;
+      leaves = answer_leaves held holds stands1 leaves1 s done next.text (lines next.left) fault so_far.sent
+          (told (state_after_lines s done) so_far.stands next.text next.kept);
+    }

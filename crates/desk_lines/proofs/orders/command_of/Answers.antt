@@ -1,0 +1,10 @@
+-- Words that are too few or too many ask for nothing.
+use Rattle.std.proofs.Common.{arith}
+use Rattle.desk_lines.proofs.OrderLemmas.{other_words}
+use Rattle.desk_lines.proofs.orders.command_of.Goals as goal
+
+-- there are not two, three or four
+pub returns-in_default : goal.returns-in_default
+returns-in_default c = record {
+  command = other_words c.args.words.now (omega (arith, c.in_default)) (omega (arith, c.in_default)) (omega (arith, c.in_default));
+}

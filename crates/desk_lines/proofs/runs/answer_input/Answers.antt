@@ -1,0 +1,133 @@
+-- A run over lines answers one after another, and stops at the end of the input or at a fault.
+use Rattle.std.proofs.Common.{sym, subst, refl, []}
+use Rattle.std.specs.Io.KnownBytes.{Appends}
+use Rattle.std.proofs.lemmas.Result.{err_from_is_err_and}
+use Rattle.desk_lines.specs.Reading.{TakesLine, to_come}
+use Rattle.protocols.specs.Faults.{IsOfReading}
+use Rattle.streams.specs.Written.{WroteFront}
+use Rattle.protocols.specs.Scenes.{scene}
+use Rattle.protocols.specs.declared.faults.ServeFault.TheVariants.{Memory, Read}
+use Rattle.protocols.proofs.KnownLemmas.{for_known}
+use Rattle.desk_lines.proofs.ServeLemmas.{all_answered, answer_fails, goes_on, read_fails, starts, write_fails}
+use Rattle.desk_lines.proofs.runs.answer_input.Goals as goal
+
+-- nothing was answered yet
+pub loop-answered-init : goal.loop-answered-init
+loop-answered-init g c = record {
+  sound = λ sound. sound;
+  stays_failed = λ failed. failed;
+  stays_left = λ failed s t leaves. leaves;
+  so_far = λ sound s stood input is.
+      starts (g.W.Write.contents c.args.writer.now) (g.B.Book.stands c.args.book.now) (g.B.Book.leaves c.args.book.now) s input
+      c.in_ok-unread.unread (g.R.Read.remaining c.args.reader.now) c.in_ok-unread.ensures is stood;
+}
+
+-- one more line was answered
+pub loop-answered-preserved : goal.loop-answered-preserved
+loop-answered-preserved g c =
+    let book = g.B.Book in
+    let left = g.R.Read.remaining in
+    let contents = g.W.Write.contents in
+    let at = c.loop-answered in
+    let before = to_come at.unread (left at.reader) in
+    let after = to_come c.next_line.new.self (left c.next_line.new.reader) in
+    record {
+      sound = λ sound. at.invariant.sound (c.answer.ensures.sound sound);
+      stays_failed = λ failed. c.answer.ensures.stays_failed (at.invariant.stays_failed failed);
+      stays_left = λ failed s t leaves. c.answer.ensures.stays_left (at.invariant.stays_failed failed) s t (at.invariant.stays_left failed s t leaves);
+      so_far = λ sound s stood input is.
+          goes_on (contents c.args.writer.now) (contents at.writer) (contents c.send.new.writer) (book.stands at.book) (book.stands c.answer.new.book)
+          (book.leaves at.book) (book.leaves c.answer.new.book) s input before after at.answered c.next_line.new.line c.in_ok-text.text
+          (at.invariant.so_far (c.answer.ensures.sound sound) s stood input is)
+          (subst (λ found. TakesLine before after found c.next_line.new.line) c.if-not-branch.false c.in_ok-next_line.ensures.line)
+          (c.in_ok-text.ensures.answer sound)
+          (subst (Appends (contents at.writer) (contents c.send.new.writer)) c.as_bytes.ensures.value c.in_ok-send.ensures.sent);
+    }
+
+-- memory ran out before the first line
+pub returns-in_err-unread-clause-some : goal.returns-in_err-unread-clause-some
+returns-in_err-unread-clause-some g c = λ sound s stood.
+    let book = g.B.Book in
+    let known = g.R.Read.remaining c.args.reader.now in
+    let held = g.W.Write.contents c.args.writer.now in
+    let failed = err_from_is_err_and c.from_residual.result c.from_residual.ensures.1 in
+    for_known known _ (λ input is.
+    rw (failed.1, failed.2)
+    (read_fails (scene held held (book.stands c.args.book.now) (book.leaves c.args.book.now)) s input (to_come (record { waiting = []; left = 0 }) known) 0 Memory
+    (starts held (book.stands c.args.book.now) (book.leaves c.args.book.now) s input (record { waiting = []; left = 0 }) known refl is stood) tt))
+
+-- reading failed between two lines
+pub returns-in_err-next_line-clause-some : goal.returns-in_err-next_line-clause-some
+returns-in_err-next_line-clause-some g c = λ sound s stood.
+    let book = g.B.Book in
+    let left = g.R.Read.remaining in
+    let contents = g.W.Write.contents in
+    let at = c.loop-answered in
+    let failed = err_from_is_err_and c.from_residual-in_err-next_line.result c.from_residual-in_err-next_line.ensures.1 in
+    for_known (left c.args.reader.now) _ (λ input is.
+    rw (failed.1)
+    (read_fails (scene (contents c.args.writer.now) (contents at.writer) (book.stands at.book) (book.leaves at.book)) s input
+    (to_come at.unread (left at.reader)) at.answered failed.0 (at.invariant.so_far sound s stood input is)
+    (subst IsOfReading (sym failed.2) c.in_err-next_line.ensures.fault)))
+
+-- the input has ended
+pub returns-then-not-branch-clause-all : goal.returns-then-not-branch-clause-all
+returns-then-not-branch-clause-all g c = λ sound s stood.
+    let book = g.B.Book in
+    let left = g.R.Read.remaining in
+    let contents = g.W.Write.contents in
+    let at = c.loop-answered in
+    let before = to_come at.unread (left at.reader) in
+    let after = to_come c.next_line.new.self (left c.next_line.new.reader) in
+    for_known (left c.args.reader.now) _ (λ input is.
+    all_answered (scene (contents c.args.writer.now) (contents at.writer) (book.stands at.book) (book.leaves at.book)) s input before after at.answered
+    c.next_line.new.line (at.invariant.so_far sound s stood input is)
+    (subst (λ found. TakesLine before after found c.next_line.new.line) c.if-not-branch.true c.in_ok-next_line.ensures.line))
+
+-- the answer to a line failed
+pub returns-in_err-text-clause-some : goal.returns-in_err-text-clause-some
+returns-in_err-text-clause-some g c = λ sound s stood.
+    let book = g.B.Book in
+    let left = g.R.Read.remaining in
+    let contents = g.W.Write.contents in
+    let at = c.loop-answered in
+    let before = to_come at.unread (left at.reader) in
+    let after = to_come c.next_line.new.self (left c.next_line.new.reader) in
+    let failed = err_from_is_err_and c.from_residual-in_err-text.result c.from_residual-in_err-text.ensures.1 in
+    for_known (left c.args.reader.now) _ (λ input is.
+    rw (failed.1, failed.2)
+    (answer_fails (contents c.args.writer.now) (contents at.writer) (book.stands at.book) (book.stands c.answer.new.book)
+    (book.leaves at.book) (book.leaves c.answer.new.book) s input before after at.answered c.next_line.new.line c.in_err-text.field-0.0
+    (at.invariant.so_far (c.answer.ensures.sound sound) s stood input is)
+    (subst (λ found. TakesLine before after found c.next_line.new.line) c.if-not-branch.false c.in_ok-next_line.ensures.line)
+    (c.in_err-text.ensures.answer sound)))
+
+-- the answer was written in part
+pub returns-in_err-send-clause-some : goal.returns-in_err-send-clause-some
+returns-in_err-send-clause-some g c = λ sound s stood.
+    let book = g.B.Book in
+    let left = g.R.Read.remaining in
+    let contents = g.W.Write.contents in
+    let at = c.loop-answered in
+    let before = to_come at.unread (left at.reader) in
+    let after = to_come c.next_line.new.self (left c.next_line.new.reader) in
+    let failed = err_from_is_err_and c.from_residual-in_err-send.result c.from_residual-in_err-send.ensures.1 in
+    for_known (left c.args.reader.now) _ (λ input is.
+    rw (failed.1, failed.2)
+    (write_fails (contents c.args.writer.now) (contents at.writer) (contents c.send.new.writer) (book.stands at.book) (book.stands c.answer.new.book)
+    (book.leaves at.book) (book.leaves c.answer.new.book) s input before after at.answered c.next_line.new.line c.in_ok-text.text
+    (at.invariant.so_far (c.answer.ensures.sound sound) s stood input is)
+    (subst (λ found. TakesLine before after found c.next_line.new.line) c.if-not-branch.false c.in_ok-next_line.ensures.line)
+    (c.in_ok-text.ensures.answer sound)
+    (subst (WroteFront (contents at.writer) (contents c.send.new.writer)) c.as_bytes.ensures.value c.in_err-send.ensures.front)))
+
+-- more lines were answered than can be counted
+pub returns-clause-some : goal.returns-clause-some
+returns-clause-some g c = λ sound s stood.
+    let book = g.B.Book in
+    let left = g.R.Read.remaining in
+    let contents = g.W.Write.contents in
+    let at = c.loop-answered in
+    for_known (left c.args.reader.now) _ (λ input is.
+    read_fails (scene (contents c.args.writer.now) (contents at.writer) (book.stands at.book) (book.leaves at.book)) s input
+    (to_come at.unread (left at.reader)) at.answered Read (at.invariant.so_far sound s stood input is) tt)

@@ -1,0 +1,22 @@
+use Rattle.std.proofs.Common.{◌≡◌, List, ℕ}
+use Rattle.std.specs.Prelude.{IsTrue, Some}
+use Rattle.ledger.specs.Answer.{State}
+use Rattle.saga_core.specs.Books.{LeavesNoMore}
+use Rattle.desk_lines.specs.Reading.{to_come}
+use Rattle.protocols.specs.Scenes.{scene}
+use Rattle.desk_lines.proofs.ServeLemmas.{SoFar}
+use Rattle.desk_lines.proofs.runs.answer_input.Given as goal
+
+-- the lines so far were answered, and the others are still to come
+abbrev pub invariant-loop-answered : goal.invariant-loop-answered
+invariant-loop-answered g l =
+    let book = g.B.Book in
+    let left = g.R.Read.remaining in
+    let contents = g.W.Write.contents in
+    record {
+      sound : book.is_sound l.book → book.is_sound l.fn.book;
+      stays_failed : IsTrue (book.has_failed l.fn.book) → IsTrue (book.has_failed l.book);
+      stays_left : IsTrue (book.has_failed l.fn.book) → LeavesNoMore (book.leaves l.fn.book) (book.leaves l.book);
+      so_far : book.is_sound l.book → (s : State) → book.stands l.fn.book s → (input : List ℕ) → left l.fn.reader ≡ Some input
+          → SoFar (scene (contents l.fn.writer) (contents l.writer) (book.stands l.book) (book.leaves l.book)) s input (to_come l.unread (left l.reader)) l.answered;
+    }

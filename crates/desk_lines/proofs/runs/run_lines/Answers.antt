@@ -1,0 +1,24 @@
+-- What was answered is how the world goes on.
+use Rattle.protocols.specs.Scenes.{scene}
+use Rattle.desk_lines.proofs.WorldLemmas.{lines_go_on, lines_stop}
+use Rattle.desk_lines.proofs.runs.run_lines.Goals as goal
+
+-- with all lines
+pub returns-clause-world : goal.returns-clause-world
+returns-clause-world g c = λ sound.
+    let book = g.B.Book in
+    let contents = g.W.Write.contents in
+    lines_go_on {stood = book.stands c.args.book.now}
+    (scene (contents c.args.writer.now) (contents c.answer_input.new.writer)
+    (book.stands c.answer_input.new.book) (book.leaves c.answer_input.new.book))
+    (g.R.Read.remaining c.args.reader.now) _ (c.answer_input.ensures.all sound)
+
+-- or with a front of them
+pub returns-clause-world_at_fault : goal.returns-clause-world_at_fault
+returns-clause-world_at_fault g c = λ sound.
+    let book = g.B.Book in
+    let contents = g.W.Write.contents in
+    lines_stop {stood = book.stands c.args.book.now}
+    (scene (contents c.args.writer.now) (contents c.answer_input.new.writer)
+    (book.stands c.answer_input.new.book) (book.leaves c.answer_input.new.book))
+    (g.R.Read.remaining c.args.reader.now) _ (c.answer_input.ensures.some sound)

@@ -1,0 +1,24 @@
+-- What the answer to one line is, and where it leaves the book.
+use Rattle.std.specs.Prelude.{◌≡◌, ◌⊎◌, List, ℕ, Result, Ok, Err, String}
+use Rattle.std.specs.String.{string_bytes}
+use Rattle.ledger.specs.Answer.{State}
+use Rattle.desk_lines.specs.Lines.{Answered, Meaning, answer_line, answer_to}
+use Rattle.protocols.specs.Scenes.{ended}
+use Rattle.protocols.specs.declared.faults.ServeFault.{ServeFault}
+use Rattle.protocols.specs.declared.faults.ServeFault.TheVariants.{Memory, Store}
+
+module _ (stands : State → Type 0) (leaves : State → State → Type 0) (s : State) where
+  -- the text is this answer, and the book stands where it leads; or a fault came before or after
+  abbrev pub Gives : {Z : Type 0} → Answered → Result (String Z) ServeFault → Type 0
+  Gives answer (Ok text) = (string_bytes text ≡ ended answer.text) × stands answer.after
+  Gives answer (Err Memory) = stands s ⊎ stands answer.after
+  Gives answer (Err Store) = leaves s answer.after
+  Gives answer (Err _) = ⊥
+
+  -- what was meant was answered, or a fault came
+  abbrev pub AnswersOrder : {Z : Type 0} → Meaning → Result (String Z) ServeFault → Type 0
+  AnswersOrder meaning result = Gives (answer_to s meaning) result
+
+  -- a line was answered, or a fault came
+  abbrev pub AnswersLine : {Z : Type 0} → List ℕ → Result (String Z) ServeFault → Type 0
+  AnswersLine line result = Gives (answer_line s line) result

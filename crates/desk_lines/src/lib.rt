@@ -1,0 +1,19 @@
+//! The desk by lines: what a line asks for, and the line that answers it.
+//!
+//! `run_lines` answers the lines of a reader over a book: it writes the answers of all lines, in order, and nothing
+//! else.
+//!
+//! Words: an *order* is what is to be done at a line, which is a command or a refusal.
+#![tactic(auto)]
+
+mod answers;
+mod laws;
+mod lines;
+mod orders;
+mod runs;
+mod unread;
+
+pub use laws::commands_have_one_line;
+pub use orders::journey_in;
+pub use protocols::ServeFault;
+pub use runs::run_lines;

@@ -1,0 +1,127 @@
+//! What was read of the input and is not yet answered.
+ghost use Rattle.std.specs.Prelude.{◌≡◌, ◌<◌, [], position, true, false, IfOk, IfErr, OnOk};
+ghost use Rattle.std.specs.Io.KnownBytes.{Consumes, IsAtEnd};
+ghost use Rattle.desk_lines.specs.Reading.{is_line_feed, TakesLine, TakesPiece, to_come};
+ghost use Rattle.protocols.specs.Faults.{IsOfReading};
+
+use crate::lines::Line;
+use protocols::ServeFault;
+use std::alloc::{AllocError, Global};
+use std::io::Read;
+use std::marker::Model;
+use streams::read_some;
+
+/// How many bytes are read at once, at most.
+const CHUNK: usize = 8192;
+
+/// What was read and is not yet answered, and how many bytes may still be read.
+#[derive(Drop)]
+pub(crate) struct Unread {
+    /// Where bytes are read into.
+    chunk: Vec<u8>,
+    /// The first byte that waits.
+    from: usize,
+    /// Where the bytes that wait end.
+    to: usize,
+    left: u64,
+}
+
+impl Model for Unread {
+    ghost use Rattle.std.specs.Prelude.{◌≤◌, ◌<◌, length, take, drop};
+    ghost use Rattle.desk_lines.specs.Reading.{Unanswered};
+
+    ghost Value = { Unanswered };
+
+    ghost view = { λ a. record { waiting = drop a.from (take a.to a.chunk.items); left = a.left } };
+
+    ghost invariant = { λ a.
+        (a.from ≤ a.to) × (a.to ≤ length a.chunk.items) × (0 < length a.chunk.items) };
+}
+
+impl Unread {
+    /// Nothing was read, and 2^64 - 1 bytes may be.
+    pub(crate) fn new(alloc: Global) -> Result<Unread, AllocError>
+        ensures { IfOk result (λ unread. unread.waiting ≡ []) }
+    {
+        Ok(Unread {
+            chunk: vec![in alloc; 0u8; CHUNK]?,
+            from: 0,
+            to: 0,
+            left: u64::MAX,
+        })
+    }
+
+    /// Takes the next line, and says whether there is one.
+    pub(crate) fn next_line<R: Read>(
+        &mut self,
+        reader: &mut R,
+        line: &mut Line,
+    ) -> Result<bool, ServeFault>
+        ensures line { IfOk result (λ found. TakesLine
+            (to_come self.old (R.remaining reader.old))
+            (to_come self.new (R.remaining reader.new)) found line.new) }
+        ensures end { IfOk result (λ found. found ≡ false → IsAtEnd (R.remaining reader.new)) }
+
+        ensures fault { IfErr result IsOfReading }
+    {
+        line.clear();
+        loop {
+            if self.take_piece(line)? {
+                return Ok(true);
+            }
+            if !self.fill(reader)? {
+                return Ok(line.has_bytes());
+            }
+        }
+    }
+
+    /// Takes what waits up to a line feed, or all of it, and says whether there was a line feed.
+    fn take_piece(&mut self, line: &mut Line) -> Result<bool, AllocError>
+        ensures piece { IfOk result (λ found.
+            TakesPiece found self.old.waiting self.new.waiting line.old line.new) }
+        ensures left { self.new.left ≡ self.old.left }
+    {
+        let waiting = &self.chunk[self.from..self.to];
+        match line_feed_in(waiting) {
+            Some(at) => {
+                line.add(&waiting[..at])?;
+                self.from += at + 1;
+                Ok(true)
+            }
+            None => {
+                line.add(waiting)?;
+                self.from = self.to;
+                Ok(false)
+            }
+        }
+    }
+
+    /// Reads more in the place of what waited, and says whether there was any.
+    fn fill<R: Read>(&mut self, reader: &mut R) -> Result<bool, ServeFault>
+        ensures bytes { OnOk result
+            (Consumes (R.remaining reader.old) (R.remaining reader.new) self.new.waiting) }
+        ensures end { IfOk result (λ more. more ≡ false →
+            (self.new.waiting ≡ []) × IsAtEnd (R.remaining reader.new)) }
+        ensures fewer { IfOk result (λ more. more ≡ true → self.new.left < self.old.left) }
+
+        ensures fault { IfErr result (λ fault. fault ≡ ServeFault.Read) }
+    {
+        if self.left < self.chunk.len() as u64 {
+            return Err(ServeFault::Read);
+        }
+        let Ok(count) = read_some(reader, self.chunk.as_mut_slice()) else {
+            return Err(ServeFault::Read);
+        };
+        self.from = 0;
+        self.to = count;
+        self.left -= count as u64;
+        Ok(count > 0)
+    }
+}
+
+/// Where the first line feed stands.
+fn line_feed_in(bytes: &[u8]) -> Option<usize>
+    ensures { result ≡ position is_line_feed bytes.now }
+{
+    bytes.iter().position(|byte| *byte == b'\n')
+}

@@ -1,0 +1,26 @@
+-- What a run over a reader and a writer is held against: what it wrote, and for which states the book stands.
+use Rattle.std.specs.Prelude.{ℕ, List, [], ◌∷◌, ◌++◌, Option}
+use Rattle.std.specs.Io.KnownBytes.{Appends}
+use Rattle.allotment.specs.Texts.{line_feed}
+use Rattle.ledger.specs.Answer.{State}
+
+-- what a writer held and holds, for which states a book stands, and what a stop may leave of it
+pub record Scene : Type 1 where
+  pub held : Option (List ℕ)
+  pub holds : Option (List ℕ)
+  pub stands : State → Type 0
+  pub leaves : State → State → Type 0
+
+-- the same, in a row
+abbrev pub scene : Option (List ℕ) → Option (List ℕ) → (State → Type 0) → (State → State → Type 0)
+    → Scene
+scene held holds stands leaves =
+    record { held = held; holds = holds; stands = stands; leaves = leaves }
+
+-- these bytes were written behind what the writer held
+abbrev pub Wrote : Scene → List ℕ → Type 0
+Wrote x bytes = Appends x.held x.holds bytes
+
+-- a line, and a line feed behind it
+abbrev pub ended : List ℕ → List ℕ
+ended text = text ++ line_feed ∷ []

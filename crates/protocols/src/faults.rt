@@ -1,0 +1,56 @@
+//! Why a run over a reader and a writer ended early.
+ghost use Rattle.std.specs.Prelude.{◌≡◌};
+ghost use Rattle.protocols.specs.Faults.{served_fault};
+ghost use Rattle.protocols.specs.declared.faults.ServeFault.TheVariants.{Memory, Write};
+
+use commands::Fault;
+use std::alloc::{AllocError, AllocFailed};
+use streams::WriteFailed;
+
+/// Why a run over a reader and a writer ended early.
+#[derive(Clone, Copy, Debug, PartialEq, Eq)]
+pub enum ServeFault {
+    /// Memory ran out.
+    Memory,
+    /// The store failed.
+    Store,
+    /// A read failed, or more could be read than can be counted.
+    Read,
+    /// A write failed, or took nothing.
+    Write,
+}
+
+impl From<Fault> for ServeFault {
+    ghost from_gives = { λ fault served. served ≡ served_fault fault };
+
+    fn from(fault: Fault) -> ServeFault {
+        match fault {
+            Fault::Memory => ServeFault::Memory,
+            Fault::Store => ServeFault::Store,
+        }
+    }
+}
+
+impl From<AllocError> for ServeFault {
+    ghost from_gives = { λ _ fault. fault ≡ Memory };
+
+    fn from(_error: AllocError) -> ServeFault {
+        ServeFault::Memory
+    }
+}
+
+impl<T: Drop> From<AllocFailed<T>> for ServeFault {
+    ghost from_gives = { λ _ fault. fault ≡ Memory };
+
+    fn from(_error: AllocFailed<T>) -> ServeFault {
+        ServeFault::Memory
+    }
+}
+
+impl From<WriteFailed> for ServeFault {
+    ghost from_gives = { λ _ fault. fault ≡ Write };
+
+    fn from(_error: WriteFailed) -> ServeFault {
+        ServeFault::Write
+    }
+}
