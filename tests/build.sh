@@ -84,8 +84,8 @@ says "a build" "proving 4 crates, 2 side by side"
 says "a build" "crate 4 of 4"
 says "a build" "the program is crates/desk/out/desk"
 same "what is kept" "desk" "$(find crates -path '*/out/*' -type f -printf '%f\n')"
-same "the program" "proved run x.db" "$(./desk run x.db 2>err)"
-same "the program: standard error" "" "$(cat err)"
+same "the program" "proved run x.db" "$(./desk run x.db 2>"$work/err")"
+same "the program: standard error" "" "$(cat "$work/err")"
 builds 0
 same "nothing is built twice" "" "$(order)"
 
@@ -151,4 +151,5 @@ touch crates/aside/src/lib.rt
 builds 0
 same "a crate that the program does not stand on" "" "$(order)"
 builds 2 --most
+same "what stands at the top" "HANDLES build crates crates.txt desk docs out scripts " "$(LC_ALL=C ls -A | tr '\n' ' ')"
 finish
