@@ -5,7 +5,7 @@ use Rattle.std.specs.List.{list_all}
 use Rattle.std.proofs.lemmas.Bool.{leb-true}
 use Rattle.std.proofs.lemmas.Fmt.{decimal_injective}
 use Rattle.allotment.specs.Want.{Wanted, wanted}
-use Rattle.allotment.specs.Limits.{is_code, is_good_cell, is_night, is_want, are_nights, is_count, most_nights, most_places}
+use Rattle.allotment.specs.Limits.{is_code, is_good_cell, is_night, is_want, are_nights, is_count, most_count, most_nights, most_places}
 use Rattle.allotment.specs.Nights.{night_in, night_text}
 use Rattle.allotment.specs.Rows.{Allotted, allotted, is_row}
 use Rattle.allotment.specs.Texts.{parts, joined, slash, kind_letter, kind_of_letter, cell_of_parts, row_text, want_text}
@@ -80,12 +80,12 @@ record IsSoundWant (w : Wanted) : Type 0 where
   pub nights : w.nights < 2 ^ 64
   pub count : w.count < 2 ^ 64
 
--- no kind may have more than 60 nights
-sixty : (k : Kind) → most_nights k ≤ 60
-sixty Flight = omega arith
-sixty Room = omega arith
-sixty Transfer = omega arith
-sixty Cover = omega arith
+-- no kind may have more nights than cover
+fewer_than_cover : (k : Kind) → most_nights k ≤ most_nights Cover
+fewer_than_cover Flight = omega arith
+fewer_than_cover Room = omega arith
+fewer_than_cover Transfer = omega arith
+fewer_than_cover Cover = omega arith
 
 -- a good want keeps them
 is_sound_want : (w : Wanted) → is_want w ≡ true → IsSoundWant w
@@ -96,8 +96,8 @@ is_sound_want w e =
     let codes = and_both (is_code w.supplier) (is_code w.product) d.0 in
     let within = (and_both (nat_le 1 w.nights) (nat_le w.nights (most_nights w.kind)) (and_both _ _ b.1).0).1 in
     let few : w.nights ≤ most_nights w.kind = leb-true w.nights (most_nights w.kind) within in
-    let most = sixty w.kind in
-    let counted : w.count ≤ 50 = leb-true w.count 50 (and_both (nat_le 1 w.count) (nat_le w.count 50) a.1).1 in
+    let most = fewer_than_cover w.kind in
+    let counted : w.count ≤ most_count = leb-true w.count most_count (and_both (nat_le 1 w.count) (nat_le w.count most_count) a.1).1 in
     record { supplier = codes.0; product = codes.1; first = d.1; nights = omega arith; count = omega arith }
 
 -- its six parts lack what stands between them

@@ -26,9 +26,13 @@ is_small byte = is_between 97 122 byte
 abbrev pub is_word : (ℕ → Bool) → ℕ → List ℕ → Bool
 is_word passes most bytes = is_between 1 most (length bytes) && list_all passes bytes
 
+-- the most bytes that a supplier's or a product's name may have
+abbrev pub longest_code : ℕ
+longest_code = 8
+
 -- a supplier or a product: 1 to 8 of A-Z and 0-9
 abbrev pub is_code : List ℕ → Bool
-is_code bytes = is_word (λ byte. is_capital byte || is_digit byte) 8 bytes
+is_code bytes = is_word (λ byte. is_capital byte || is_digit byte) longest_code bytes
 
 -- 2000-01-01, counted from 1970-01-01
 abbrev pub first_night : ℕ
@@ -53,9 +57,13 @@ most_nights Cover = 60
 abbrev pub are_nights : Kind → ℕ → ℕ → Bool
 are_nights kind first nights = is_between 1 (most_nights kind) nights && is_night (first + nights - 1)
 
+-- the most places of a night that a want may take
+abbrev pub most_count : ℕ
+most_count = 50
+
 -- how many places of a night a want may take
 abbrev pub is_count : ℕ → Bool
-is_count count = is_between 1 50 count
+is_count count = is_between 1 most_count count
 
 -- the want keeps the limits
 abbrev pub is_want : Wanted → Bool

@@ -1,4 +1,5 @@
 //! Names of suppliers and of products.
+use crate::limits::LONGEST_CODE;
 use crate::shorts::Short;
 use std::fmt;
 use std::marker::Model;
@@ -6,7 +7,7 @@ use std::marker::Model;
 /// A supplier or a product: 1 to 8 of `A`-`Z` and `0`-`9`. To a contract it is its bytes.
 #[derive(Clone, Copy, Debug, PartialEq, Eq)]
 pub struct Code {
-    text: Short<8>,
+    text: Short<LONGEST_CODE>,
 }
 
 impl Model for Code {

@@ -5,6 +5,7 @@ ghost use Rattle.allotment.specs.Limits.{are_nights as may_have_nights, is_count
 use crate::codes::Code;
 use crate::faults::Bad;
 use crate::kinds::Kind;
+use crate::limits::MOST_COUNT;
 use crate::nights::Night;
 use crate::want_cells::WantCells;
 use std::alloc::{AllocError, Global};
@@ -167,5 +168,5 @@ fn are_nights(kind: Kind, first: Night, nights: u64) -> bool
 fn is_count(count: u64) -> bool
     ensures { result ≡ may_be_count count }
 {
-    1 <= count && count <= 50
+    1 <= count && count <= MOST_COUNT
 }

@@ -12,8 +12,9 @@ use Rattle.allotment.specs.declared.cells.Row.{Row}
 use Rattle.commands.specs.Batches.{is_new_cell, is_good_row, repeat_behind, repeat_among}
 use Rattle.commands.specs.declared.refusals.CsvCause.{CsvCause}
 use Rattle.commands.specs.declared.refusals.CsvCause.TheVariants as cause
+use Rattle.commands.specs.Limits.{most_rows}
 use Rattle.allotment_csv.specs.Rows.{record_causes, row_of_record}
-use Rattle.allotment_csv.specs.Files.{in_csv, most_rows, rows_of, comes_again, causes_at, row_faults, faults_behind, rows_faults}
+use Rattle.allotment_csv.specs.Files.{in_csv, rows_of, comes_again, causes_at, row_faults, faults_behind, rows_faults}
 use Rattle.allotment_csv.specs.Fronts.{AreRows, Ends, IsFront, AreRowsOfBatch}
 use Rattle.allotment_csv.specs.Told.{IsFirst}
 use Rattle.allotment.proofs.TestLemmas.{and_make}
@@ -227,8 +228,8 @@ whole_of_batch all rows is none some =
       distinct = distinct_if_none rows none;
     }
   where
-    between : (n : ℕ) → 1 ≤ n → n ≤ most_rows → is_between 1 2000 n ≡ true
-    between n low high = ap (λ b. b && nat_le n 2000) (le-leb 1 n low) ∙ le-leb n 2000 high
+    between : (n : ℕ) → 1 ≤ n → n ≤ most_rows → is_between 1 most_rows n ≡ true
+    between n low high = ap (λ b. b && nat_le n most_rows) (le-leb 1 n low) ∙ le-leb n most_rows high
 
 -- Reading.
 

@@ -19,8 +19,9 @@ use Rattle.commands.specs.Batches.{is_new_cell, repeat_behind, is_good_row, is_b
 use Rattle.commands.specs.Names.{is_batch_name}
 use Rattle.commands.specs.declared.refusals.CsvCause.TheVariants as cause
 use Rattle.commands.proofs.RepeatLemmas.{distinct_if_none}
+use Rattle.commands.specs.Limits.{most_rows}
 use Rattle.allotment_csv.specs.Rows.{field_causes, record_causes, row_of_record}
-use Rattle.allotment_csv.specs.Files.{in_csv, most_rows, rows_of, faults_behind, rows_faults, file_faults, records_in, rows_in, named, batch_of}
+use Rattle.allotment_csv.specs.Files.{in_csv, rows_of, faults_behind, rows_faults, file_faults, records_in, rows_in, named, batch_of}
 use Rattle.allotment_csv.specs.Fronts.{AreRows}
 use Rattle.allotment_csv.specs.declared.faults.CsvFault.{CsvFault}
 use Rattle.allotment_csv.specs.declared.faults.CsvFault.TheVariants.{BadBody}
@@ -138,10 +139,10 @@ rows_batch name records called e =
     let is = records_good [] [] records tt (omega arith) parts.0 in
     let some : 1 ≤ length records = leb-true _ _ (unless_none _ _ parts.1) in
     let low : 1 ≤ length is.rows = omega (arith, some, as_many_rows records is.rows is.are) in
-    let high : length is.rows ≤ 2000 = omega (arith, is.few) in
+    let high : length is.rows ≤ most_rows = omega (arith, is.few) in
     subst (λ rows. is_batch name rows ≡ true) (sym (rows_of-front records is.rows is.are))
     (and_make _ _
-    (and_make _ _ (and_make _ _ called (and_make _ _ (le-leb 1 (length is.rows) low) (le-leb (length is.rows) 2000 high))) is.good)
+    (and_make _ _ (and_make _ _ called (and_make _ _ (le-leb 1 (length is.rows) low) (le-leb (length is.rows) most_rows high))) is.good)
     (distinct_if_none is.rows is.new))
 
 -- what is read of a file's bytes

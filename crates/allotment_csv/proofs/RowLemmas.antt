@@ -1,58 +1,22 @@
 -- The row of a record, and the first thing that is wrong with one that is none. For `rows`.
-use Rattle.std.proofs.Common.{◌≡◌, ◌∙◌, ap, sym, subst, refl, ℕ, ◌<◌, ◌≤◌, ◌^◌, List, [], ◌∷◌, ◌++◌, Bool, true, false, arith, Option, Some, None}
-use Rattle.std.specs.Prelude.{◌&&◌, nat_le, bytes_eq, decimal, is_some, option_and_then, IsTrue, if◌then◌else◌, Result, Ok, Err, MatchResult}
+use Rattle.std.proofs.Common.{◌≡◌, ◌∙◌, ap, sym, subst, refl, ℕ, List, [], ◌∷◌, ◌++◌, Bool, true, false, Option, Some, None}
+use Rattle.std.specs.Prelude.{◌&&◌, nat_le, bytes_eq, is_some, option_and_then, if◌then◌else◌, Result, Ok, Err, MatchResult}
 use Rattle.std.specs.Option.{ok_or}
-use Rattle.std.specs.Str.Parse.{digits_value}
 use Rattle.allotment.specs.Cells.{the_cell}
 use Rattle.allotment.specs.Limits.{is_between, is_code, is_good_cell, is_night, most_places}
 use Rattle.allotment.specs.Making.{unless}
 use Rattle.allotment.specs.Nights.{night_in, is_text_of, named_night, night_text}
 use Rattle.allotment.specs.Rows.{allotted}
-use Rattle.allotment.specs.Texts.{keep_if, kind_of_word, cell_from, number_from, number_in, places_in}
+use Rattle.allotment.specs.Texts.{keep_if, kind_of_word, cell_from, number_in, places_in}
 use Rattle.allotment.specs.declared.cells.Cell.{Cell}
 use Rattle.allotment.specs.declared.cells.Row.{Row}
 use Rattle.commands.specs.Batches.{is_good_row}
 use Rattle.allotment.specs.declared.kinds.Kind.{Kind}
-use Rattle.allotment.proofs.TestLemmas.{and_both, and_make, keep_if_no, keep_if_some, keep_if_none, keep_if_yes, same_bytes}
-use Rattle.commands.specs.Readings.{Finds}
+use Rattle.allotment.proofs.TestLemmas.{and_both, and_make, keep_if_some, keep_if_none, keep_if_yes}
 use Rattle.commands.specs.declared.refusals.CsvCause.{CsvCause}
 use Rattle.commands.specs.declared.refusals.CsvCause.TheVariants as cause
-use Rattle.commands.proofs.NumberLemmas.{between_parts}
-use Rattle.plan.proofs.NumberLemmas.{number_again}
 use Rattle.allotment_csv.specs.Rows.{field_causes, record_causes, has_shape, row_from, row_of_record}
 use Rattle.allotment_csv.specs.Told.{IsFirst}
-
--- Places.
-
--- what is not true is false
-not_so : (b : Bool) → (b ≡ true → ⊥) → b ≡ false
-not_so true other = absurd (other refl)
-not_so false other = refl
-
--- a text that spells no number within the limits has none
-none_within : (low high : ℕ) (text : List ℕ) (o : Option ℕ)
-    → number_in text ≡ o
-    → ((n : ℕ) → IsTrue (is_between low high n) → text ≡ decimal n → ⊥)
-    → option_and_then (keep_if (is_between low high)) o ≡ None
-none_within low high text None is none = refl
-none_within low high text (Some n) is none =
-    let kept = keep_if_some (λ m. bytes_eq (decimal m) text) (digits_value 10 text) n is in
-    let spelled : text ≡ decimal n = sym (same_bytes (decimal n) text kept.1) in
-    keep_if_no (is_between low high) n (not_so (is_between low high n) (λ within. none n within spelled))
-
--- what the reader of numbers finds is the number that the text spells
-pub found_number : (low high : ℕ) (text : List ℕ) (found : Option ℕ) → high < 2 ^ 64
-    → Finds (is_between low high) decimal text found → found ≡ number_from low high text
-found_number low high text None small none = sym (none_within low high text (number_in text) refl none)
-found_number low high text (Some n) small is =
-    let limits = between_parts low high n is.0 in
-    sym (ap (number_from low high) is.1
-    ∙ ap (option_and_then (keep_if (is_between low high))) (number_again n (omega arith))
-    ∙ keep_if_yes (is_between low high) n is.0)
-
--- a number that is found is at most the upper limit
-pub found_low : (low high : ℕ) (text : List ℕ) (n : ℕ) → Finds (is_between low high) decimal text (Some n) → n ≤ high
-found_low low high text n is = (between_parts low high n is.0).1
 
 -- Fields.
 

@@ -5,20 +5,13 @@ use Rattle.allotment.specs.Making.{unless, first_fault}
 use Rattle.allotment.specs.declared.cells.Row.{Row}
 use Rattle.commands.specs.Batched.{Batched}
 use Rattle.commands.specs.Batches.{is_new_cell}
+use Rattle.commands.specs.Limits.{most_bytes, most_rows}
 use Rattle.commands.specs.Names.{is_batch_name}
 use Rattle.commands.specs.declared.refusals.CsvCause.{CsvCause}
 use Rattle.commands.specs.declared.refusals.CsvCause.TheVariants as cause
 use Rattle.allotment_csv.specs.Rows.{is_heading, record_causes, row_of_record}
 use Rattle.allotment_csv.specs.declared.faults.CsvFault.{CsvFault}
 use Rattle.allotment_csv.specs.declared.faults.CsvFault.TheVariants.{BadBody, BadCsv}
-
--- the most bytes of a file
-abbrev pub most_bytes : ℕ
-most_bytes = 262144
-
--- the most rows of a file
-abbrev pub most_rows : ℕ
-most_rows = 2000
 
 -- this is wrong in this row
 abbrev pub in_csv : ℕ → CsvCause → CsvFault

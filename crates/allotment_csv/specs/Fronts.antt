@@ -4,9 +4,10 @@ use Rattle.allotment.specs.Limits.{is_between}
 use Rattle.allotment.specs.declared.cells.Row.{Row}
 use Rattle.std.specs.List.{list_all}
 use Rattle.commands.specs.Batches.{are_distinct, is_good_row}
+use Rattle.commands.specs.Limits.{most_rows}
 use Rattle.commands.specs.declared.refusals.CsvCause.{CsvCause}
 use Rattle.allotment_csv.specs.Rows.{record_causes, row_of_record}
-use Rattle.allotment_csv.specs.Files.{causes_at, most_rows}
+use Rattle.allotment_csv.specs.Files.{causes_at}
 use Rattle.allotment_csv.specs.Told.{IsFirst}
 
 -- nothing is wrong with these records by themselves, and these are their rows
@@ -37,6 +38,6 @@ pub record IsFront (all : List (List (List ℕ))) (rows : List Row) (wrong : Opt
 
 -- rows of a batch: as many as one may have, within the limits, each of another cell
 pub record AreRowsOfBatch (rows : List Row) : Type 0 where
-  pub many : is_between 1 2000 (length rows) ≡ true
+  pub many : is_between 1 most_rows (length rows) ≡ true
   pub good : list_all is_good_row rows ≡ true
   pub distinct : are_distinct rows ≡ true

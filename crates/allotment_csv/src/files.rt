@@ -9,12 +9,9 @@ use crate::fields::has_heading;
 use crate::fronts::{read_front, whole};
 use crate::records::{next_record, open};
 use allotment::Row;
-use commands::{Batch, CsvCause, Name};
+use commands::{Batch, CsvCause, MOST_BYTES, Name};
 use csv::ByteRecord;
 use std::alloc::Global;
-
-/// The most bytes of a file.
-const MOST_BYTES: usize = 262_144;
 
 /// The rows of a file, or the first thing that is wrong with it.
 fn read_rows(alloc: Global, bytes: &[u8]) -> Result<Vec<Row>, CsvFault>

@@ -10,12 +10,9 @@ use crate::faults::{CsvFault, in_row};
 use crate::records::next_record;
 use crate::rows::row_in;
 use allotment::Row;
-use commands::{CsvCause, first_repeat};
+use commands::{CsvCause, MOST_ROWS, first_repeat};
 use csv::{ByteRecord, Reader};
 use std::alloc::Global;
-
-/// The most rows of a file.
-const MOST_ROWS: usize = 2_000;
 
 /// The rows up to the first record that is none, and what is wrong with that one by itself.
 #[derive(Drop)]

@@ -8,19 +8,16 @@ ghost use Rattle.allotment_csv.specs.Rows.{field_causes, record_causes, row_of_r
 ghost use Rattle.allotment_csv.specs.Told.{IsFirst};
 
 use crate::fields::{Fields, fields_in};
-use allotment::{Cell, Code, Kind, Night, Row};
-use commands::{CsvCause, number_in};
+use allotment::{Cell, Code, Kind, MOST_PLACES, Night, Row};
+use commands::{CsvCause, number_between};
 use csv::ByteRecord;
-
-/// The most places that a cell may be allotted.
-const MOST_PLACES: usize = 100_000;
 
 /// The places that are written so.
 fn places_of(text: &str) -> Option<u32>
     ensures places { result ≡ places_in text.now }
     ensures limit { IfSome result (λ places. places ≤ most_places) }
 {
-    let places = number_in(text, 0, MOST_PLACES)?;
+    let places = number_between(text, 0, MOST_PLACES as usize)?;
     Some(places as u32)
 }
 

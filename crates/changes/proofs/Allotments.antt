@@ -5,6 +5,7 @@ use Rattle.std.proofs.lemmas.Grind.{flat_map-append}
 use Rattle.std.proofs.lemmas.List.Elements.{filter-append}
 use Rattle.std.specs.Prelude.{Bool, true, false, not, ◌==◌, ◌&&◌, cond, filter, find, flat_map, Option, Some, None, option_map, option_to_list, IsTrue}
 use Rattle.std.specs.List.{list_any, list_all}
+use Rattle.commands.specs.Limits.{most_rows}
 use Rattle.allotment.specs.Cells.{is_cell}
 use Rattle.allotment.specs.Limits.{is_between}
 use Rattle.allotment.specs.declared.cells.Cell.{Cell}
@@ -122,5 +123,5 @@ loaded_distinct l name rows may =
     let new = and_parts (is_batch name rows && list_all (is_not_below_held l) rows)
     (length (batches_named l name) == 0) may in
     let held_too = and_parts (is_batch name rows) (list_all (is_not_below_held l) rows) new.0 in
-    (and_parts (is_batch_name name && is_between 1 2000 (length rows) && list_all is_good_row rows)
+    (and_parts (is_batch_name name && is_between 1 most_rows (length rows) && list_all is_good_row rows)
     (are_distinct rows) held_too.0).1

@@ -1,12 +1,14 @@
 -- What holds of the history of each journey of a legal ledger: it follows the rules. For what an item changes, and for
 -- answers.
 use Rattle.std.proofs.Common.{◌≡◌, ℕ, ◌+◌, ◌<◌, ◌≤◌, List, [], ◌∷◌, ◌++◌, map, refl, ap, sym, ◌∙◌, arith, subst, eqb-true, inl, inr}
-use Rattle.std.proofs.lemmas.Bool.{and_parts, or_cases, and_from, eqb-false, ltb-true, leb-true, le-leb, not-true}
-use Rattle.std.specs.Prelude.{Bool, true, false, not, ◌==◌, ◌||◌, ◌&&◌, nat_le, nat_lt, filter, cond, Some, IsTrue}
+use Rattle.std.proofs.lemmas.Bool.{and_parts, or_cases, and_from, eqb-false, ltb-true, le-leb, not-true}
+use Rattle.std.specs.Prelude.{Bool, true, false, not, ◌==◌, ◌||◌, ◌&&◌, nat_lt, filter, cond, Some, IsTrue}
 use Rattle.std.specs.List.{list_all}
+use Rattle.plan.specs.Limits.{most_steps}
+use Rattle.plan.proofs.LimitLemmas.{few_steps}
 use Rattle.allotment.specs.Cells.{numbers_from}
 use Rattle.allotment.specs.Limits.{is_between}
-use Rattle.plan.specs.Planned.{Planned, is_plan, is_step, is_last_unmarked, step_count, option_count}
+use Rattle.plan.specs.Planned.{Planned, is_plan, step_count, option_count}
 use Rattle.savepoints.proofs.OptionLemmas.{one_le-option_count}
 use Rattle.commands.specs.declared.items.Item.{Item}
 use Rattle.commands.specs.declared.items.Item.TheVariants.{Transaction, Compensation, Turn, Save}
@@ -38,7 +40,7 @@ TakenWithin plan h = (p : ℕ) → IsTrue (is_taken h p) → IsWithin plan h p
 -- the history follows the rules: it is one that a journey of a legal ledger may have
 pub record Follows (plan : Planned) (h : List Item) : Type 0 where
   pub good : IsTrue (is_plan plan)
-  pub few : step_count plan ≤ 24
+  pub few : step_count plan ≤ most_steps
   pub goes : Goes plan h
   pub within : position_of h ≤ step_count plan
   -- the steps that stand are those up to the position, in order
@@ -181,19 +183,6 @@ chosen-more plan h may_fit (Save p) g may all = record {
 }
 
 -- Legal ledgers.
-
--- a plan has at most 24 steps
-few_steps : (plan : Planned) → IsTrue (is_plan plan) → step_count plan ≤ 24
-few_steps plan good =
-    let most = and_parts
-    (is_between 1 24 (step_count plan) && list_all is_step plan.steps
-    && is_last_unmarked plan.steps)
-    (nat_le plan.tries 9) good in
-    let steps = and_parts (is_between 1 24 (step_count plan) && list_all is_step plan.steps)
-    (is_last_unmarked plan.steps) most.0 in
-    let count = and_parts (is_between 1 24 (step_count plan))
-    (list_all is_step plan.steps) steps.0 in
-    leb-true _ _ (and_parts (nat_le 1 (step_count plan)) (nat_le (step_count plan) 24) count.0).1
 
 -- a journey that was just begun follows the rules
 pub follows-begin : AtBegin Follows

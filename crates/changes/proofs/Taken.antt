@@ -10,7 +10,7 @@ use Rattle.std.specs.List.{list_any}
 use Rattle.std.specs.Ordering.{nat_cmp}
 use Rattle.allotment.specs.Cells.{numbers_from}
 use Rattle.plan.specs.Planned.{Planned}
-use Rattle.savepoints.specs.Marks.{is_taken_in, same_marks}
+use Rattle.savepoints.specs.Marks.{last_mark, is_taken_in, same_marks}
 use Rattle.commands.specs.declared.items.Cause.{Cause}
 use Rattle.commands.specs.declared.items.Item.{Item}
 use Rattle.commands.specs.declared.items.Item.TheVariants.{Transaction, Compensation, Turn, Save}
@@ -57,14 +57,14 @@ list_any-filter passes first (suc more) p =
           (λ e. ap passes (sym e) ∙ failed) later
     ] refl
 
--- a test that passes between 1 and 23 alone needs no limits
-without_limits : (test : Bool) (p : ℕ) → (test ≡ true → 1 ≤ p) → (test ≡ true → p ≤ 23)
-    → (nat_le 1 p && nat_lt p (1 + 23) && test) ≡ test
+-- a test that passes between 1 and the last mark alone needs no limits
+without_limits : (test : Bool) (p : ℕ) → (test ≡ true → 1 ≤ p) → (test ≡ true → p ≤ last_mark)
+    → (nat_le 1 p && nat_lt p (1 + last_mark) && test) ≡ test
 without_limits true p low high =
     let a = low refl in
     let b = high refl in
-    and_from _ _ (and_from _ _ (le-leb 1 p a) (lt-ltb p (1 + 23) (omega arith))) refl
-without_limits false p low high = none (nat_le 1 p && nat_lt p (1 + 23))
+    and_from _ _ (and_from _ _ (le-leb 1 p a) (lt-ltb p (1 + last_mark) (omega arith))) refl
+without_limits false p low high = none (nat_le 1 p && nat_lt p (1 + last_mark))
   where
     none : (b : Bool) → (b && false) ≡ false
     none true = refl
@@ -76,8 +76,8 @@ without_limits false p low high = none (nat_le 1 p && nat_lt p (1 + 23))
 pub is_taken_in-marks_of : (plan : Planned) (h : List Item) (p : ℕ) → Follows plan h
     → is_taken_in (marks_of h) p ≡ is_taken h p
 is_taken_in-marks_of plan h p f =
-    contains-from_list_nat (filter (is_taken h) (numbers_from 1 23)) p
-    ∙ list_any-filter (is_taken h) 1 23 p
+    contains-from_list_nat (filter (is_taken h) (numbers_from 1 last_mark)) p
+    ∙ list_any-filter (is_taken h) 1 last_mark p
     ∙ without_limits (is_taken h p) p (λ e. (f.taken p e).from_one)
     (λ e. let short = (f.taken p e).short in let few = f.few in omega arith)
 
@@ -98,8 +98,8 @@ pub marks_of-begin : (marks : set.FinSet nat_cmp) → ((p : ℕ) → is_taken_in
     → marks ≡ marks_of []
 marks_of-begin marks none =
     same_marks marks (marks_of [])
-    (λ p. none p ∙ sym (contains-from_list_nat (filter (is_taken []) (numbers_from 1 23)) p
-    ∙ list_any-none 1 23 p))
+    (λ p. none p ∙ sym (contains-from_list_nat (filter (is_taken []) (numbers_from 1 last_mark)) p
+    ∙ list_any-none 1 last_mark p))
 
 -- The rules by the set.
 
@@ -191,7 +191,7 @@ pub marks_of-transaction : (h : List Item) (i c : ℕ)
     → marks_of (h ++ Transaction i c ∷ []) ≡ marks_of h
 marks_of-transaction h i c =
     ap set.from_list
-    (filter-same (is_taken (h ++ Transaction i c ∷ [])) (is_taken h) 1 23
+    (filter-same (is_taken (h ++ Transaction i c ∷ [])) (is_taken h) 1 last_mark
     (is_taken-more h (Transaction i c)))
 
 -- so does a turn
@@ -199,5 +199,5 @@ pub marks_of-turn : (h : List Item) (p : ℕ) (cause : Cause)
     → marks_of (h ++ Turn p cause ∷ []) ≡ marks_of h
 marks_of-turn h p cause =
     ap set.from_list
-    (filter-same (is_taken (h ++ Turn p cause ∷ [])) (is_taken h) 1 23
+    (filter-same (is_taken (h ++ Turn p cause ∷ [])) (is_taken h) 1 last_mark
     (is_taken-more h (Turn p cause)))

@@ -4,6 +4,7 @@ use Rattle.std.specs.FinSet as set
 use Rattle.std.specs.Ordering.{nat_cmp}
 use Rattle.allotment.specs.Cells.{numbers_from}
 use Rattle.plan.specs.Planned.{Planned}
+use Rattle.savepoints.specs.Marks.{last_mark}
 use Rattle.commands.specs.declared.items.Item.{Item}
 use Rattle.commands.specs.declared.items.Cursor.{Cursor}
 use Rattle.ledger.specs.History.{position_of, phase, refusals, is_taken}
@@ -14,4 +15,4 @@ cursor_of plan h = record { pos = position_of h; phase = phase plan h; used = re
 
 -- the positions at which save-points were taken that stand
 abbrev pub marks_of : List Item → set.FinSet nat_cmp
-marks_of h = set.from_list (filter (is_taken h) (numbers_from 1 23))
+marks_of h = set.from_list (filter (is_taken h) (numbers_from 1 last_mark))

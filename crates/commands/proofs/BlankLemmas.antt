@@ -12,6 +12,8 @@ use Rattle.std.proofs.lemmas.List.Splits.{slice_split-cons_yes, slice_split-cons
 use Rattle.std.proofs.lemmas.Str.Parse.{digit_from_value}
 use Rattle.allotment.specs.Limits.{is_between}
 use Rattle.allotment.specs.Texts.{parts, joined, blank}
+use Rattle.plan.specs.Limits.{most_options, most_steps}
+use Rattle.commands.specs.Limits.{most_events, most_rows}
 use Rattle.commands.specs.declared.items.Cause.{Cause}
 use Rattle.commands.specs.declared.items.Cause.TheVariants as turn
 use Rattle.commands.specs.declared.items.Item.{Item}
@@ -80,10 +82,10 @@ name_no_blank name good =
 step_no_blank : (step option : ℕ)
     → IsTrue (is_option step option) → has_no_blank (step_text step option) ≡ true
 step_no_blank step option good =
-    let both = and_parts (is_between 1 24 step) (is_between 1 8 option) good in
+    let both = and_parts (is_between 1 most_steps step) (is_between 1 most_options option) good in
     append_no_blank (decimal step) (46 ∷ decimal option)
-    (number_no_blank 1 24 step (omega arith) both.0)
-    (number_no_blank 1 8 option (omega arith) both.1)
+    (number_no_blank 1 most_steps step (omega arith) both.0)
+    (number_no_blank 1 most_options option (omega arith) both.1)
 
 -- the letter of a cause is no blank
 letter_no_blank : (cause : Cause) → has_no_blank (turn_letter cause) ≡ true
@@ -97,35 +99,35 @@ item_no_blank (Transaction step option) good = step_no_blank step option good
 item_no_blank (Compensation step option) good = step_no_blank step option good
 item_no_blank (Turn target cause) good =
     append_no_blank (decimal target) (turn_letter cause)
-    (number_no_blank 0 24 target (omega arith) good) (letter_no_blank cause)
-item_no_blank (Save position) good = number_no_blank 0 24 position (omega arith) good
+    (number_no_blank 0 most_steps target (omega arith) good) (letter_no_blank cause)
+item_no_blank (Save position) good = number_no_blank 0 most_steps position (omega arith) good
 
 -- the words of where a journey is have no blanks
 state_no_blank : (position : ℕ) (phase : Phase) → IsTrue (is_state position phase)
     → list_all has_no_blank (state_words position phase) ≡ true
 state_no_blank position Run good =
-    and_from _ _ (number_no_blank 0 24 position (omega arith) good) refl
+    and_from _ _ (number_no_blank 0 most_steps position (omega arith) good) refl
 state_no_blank position (Back target) good =
     let both = and_parts (is_position position) (is_position target) good in
-    and_from _ _ (number_no_blank 0 24 position (omega arith) both.0)
-    (and_from _ _ (number_no_blank 0 24 target (omega arith) both.1) refl)
+    and_from _ _ (number_no_blank 0 most_steps position (omega arith) both.0)
+    (and_from _ _ (number_no_blank 0 most_steps target (omega arith) both.1) refl)
 state_no_blank position Ended good =
-    and_from _ _ (number_no_blank 0 24 position (omega arith) good) refl
+    and_from _ _ (number_no_blank 0 most_steps position (omega arith) good) refl
 state_no_blank position Undone good = refl
 
 -- the words of an accepted reply have no blanks
 pub words_no_blank : (reply : Reply)
     → IsTrue (is_accepted reply) → list_all has_no_blank (reply_words reply) ≡ true
 words_no_blank (Loaded name rows) good =
-    let both = and_parts (is_batch_name name) (is_between 1 2000 rows) good in
+    let both = and_parts (is_batch_name name) (is_between 1 most_rows rows) good in
     and_from _ _ (name_no_blank name both.0)
-    (and_from _ _ (number_no_blank 1 2000 rows (omega arith) both.1) refl)
+    (and_from _ _ (number_no_blank 1 most_rows rows (omega arith) both.1) refl)
 words_no_blank (Begun id) good =
-    and_from _ _ (number_no_blank 1 999999999999 id (omega arith) good) refl
+    and_from _ _ (number_no_blank 1 most_events id (omega arith) good) refl
 words_no_blank (Moved id item pos phase) good =
     let most = and_parts (is_journey id && is_item item) (is_state pos phase) good in
     let both = and_parts (is_journey id) (is_item item) most.0 in
-    and_from _ _ (number_no_blank 1 999999999999 id (omega arith) both.0)
+    and_from _ _ (number_no_blank 1 most_events id (omega arith) both.0)
     (and_from _ _ (item_no_blank item both.1) (state_no_blank pos phase most.1))
 words_no_blank (Refused refusal) good = cc
 

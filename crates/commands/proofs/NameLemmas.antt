@@ -6,6 +6,7 @@ use Rattle.std.proofs.lemmas.Bool.{and_from, and_parts}
 use Rattle.std.proofs.lemmas.Bool.Decides.{nat_tests}
 use Rattle.allotment.specs.Limits.{is_between, is_word}
 use Rattle.allotment.specs.Short.{is_short, is_ascii}
+use Rattle.commands.specs.Limits.{longest_agent, longest_batch_name, longest_key}
 use Rattle.commands.specs.Names.{is_batch_byte, is_batch_name, is_agent_byte, is_agent, is_key_byte, is_key}
 
 -- bytes that pass are of ASCII, where each byte that passes is
@@ -37,13 +38,13 @@ key_byte_small : (b : ℕ) → is_key_byte b ≡ true → nat_lt b 128 ≡ true
 key_byte_small b passes = grind (arith, nat_tests)
 
 -- a batch's name fits in place
-pub batch_is_short : (text : List ℕ) → is_batch_name text ≡ true → is_short 24 text ≡ true
-batch_is_short text good = word_is_short is_batch_byte batch_byte_small 24 text good
+pub batch_is_short : (text : List ℕ) → is_batch_name text ≡ true → is_short longest_batch_name text ≡ true
+batch_is_short text good = word_is_short is_batch_byte batch_byte_small longest_batch_name text good
 
 -- an agent fits in place
-pub agent_is_short : (text : List ℕ) → is_agent text ≡ true → is_short 16 text ≡ true
-agent_is_short text good = word_is_short is_agent_byte agent_byte_small 16 text good
+pub agent_is_short : (text : List ℕ) → is_agent text ≡ true → is_short longest_agent text ≡ true
+agent_is_short text good = word_is_short is_agent_byte agent_byte_small longest_agent text good
 
 -- a key fits in place
-pub key_is_short : (text : List ℕ) → is_key text ≡ true → is_short 32 text ≡ true
-key_is_short text good = word_is_short is_key_byte key_byte_small 32 text good
+pub key_is_short : (text : List ℕ) → is_key text ≡ true → is_short longest_key text ≡ true
+key_is_short text good = word_is_short is_key_byte key_byte_small longest_key text good

@@ -7,6 +7,8 @@ use Rattle.std.proofs.lemmas.Fmt.{decimal_injective}
 use Rattle.std.proofs.lemmas.List.{same_from_push}
 use Rattle.allotment.specs.Limits.{is_between}
 use Rattle.allotment.specs.Texts.{parts, blank}
+use Rattle.plan.specs.Limits.{most_options, most_steps}
+use Rattle.commands.specs.Limits.{most_events, most_rows}
 use Rattle.commands.specs.declared.items.Cause.{Cause}
 use Rattle.commands.specs.declared.items.Cause.TheVariants as turn
 use Rattle.commands.specs.declared.items.Item.{Item}
@@ -53,13 +55,13 @@ cut_once (a ∷ x) y (b ∷ u) v left right same =
 step_once : (s o t p : ℕ) → IsTrue (is_option s o) → IsTrue (is_option t p)
     → step_text s o ≡ step_text t p → (s ≡ t) × (o ≡ p)
 step_once s o t p first other same =
-    let one = and_parts (is_between 1 24 s) (is_between 1 8 o) first in
-    let two = and_parts (is_between 1 24 t) (is_between 1 8 p) other in
-    let in_s = number_lacks 46 1 24 s (omega arith) (omega arith) one.0 in
-    let in_t = number_lacks 46 1 24 t (omega arith) (omega arith) two.0 in
+    let one = and_parts (is_between 1 most_steps s) (is_between 1 most_options o) first in
+    let two = and_parts (is_between 1 most_steps t) (is_between 1 most_options p) other in
+    let in_s = number_lacks 46 1 most_steps s (omega arith) (omega arith) one.0 in
+    let in_t = number_lacks 46 1 most_steps t (omega arith) (omega arith) two.0 in
     let cut = cut_once (decimal s) (decimal o) (decimal t) (decimal p) in_s in_t same in (
-      number_once 1 24 s t (omega arith) one.0 two.0 cut.0,
-      number_once 1 8 o p (omega arith) one.1 two.1 cut.1,
+      number_once 1 most_steps s t (omega arith) one.0 two.0 cut.0,
+      number_once 1 most_options o p (omega arith) one.1 two.1 cut.1,
     )
 
 -- the letter of a cause
@@ -95,7 +97,7 @@ turn_once p q a b first other same =
     let two = ap (λ end. decimal q ++ end) (letter_alone b) in
     let both =
     same_from_push (decimal p) (decimal q) (letter_of a) (letter_of b) (one ∙ same ∙ two) in (
-      number_once 0 24 p q (omega arith) first other both.0,
+      number_once 0 most_steps p q (omega arith) first other both.0,
       sym (cause_back a) ∙ ap cause_of both.1 ∙ cause_back b,
     )
 
@@ -129,7 +131,7 @@ item_once (Save p) (Transaction t o) first other same = absurd (apart 83 84 _ _ 
 item_once (Save p) (Compensation t o) first other same = absurd (apart 83 67 _ _ refl same)
 item_once (Save p) (Turn q b) first other same = absurd (apart 83 66 _ _ refl same)
 item_once (Save p) (Save q) first other same =
-    ap (λ n. Save n) (number_once 0 24 p q (omega arith) first other (ap (drop 1) same))
+    ap (λ n. Save n) (number_once 0 most_steps p q (omega arith) first other (ap (drop 1) same))
 
 -- the word at this place, which is empty past the end
 abbrev word_of : ℕ → List (List ℕ) → List ℕ
@@ -143,7 +145,7 @@ first_length words = length (word_of 0 words)
 state_once : (p q : ℕ) (x y : Phase) → IsTrue (is_state p x) → IsTrue (is_state q y)
     → state_words p x ≡ state_words q y → (p ≡ q) × (x ≡ y)
 state_once p q Run Run first other same =
-    (number_once 0 24 p q (omega arith) first other (ap (word_of 1) same), refl)
+    (number_once 0 most_steps p q (omega arith) first other (ap (word_of 1) same), refl)
 state_once p q Run (Back t) first other same = absurd (omega (arith, ap first_length same))
 state_once p q Run Ended first other same = absurd (omega (arith, ap first_length same))
 state_once p q Run Undone first other same = absurd (omega (arith, ap first_length same))
@@ -151,15 +153,15 @@ state_once p q (Back s) Run first other same = absurd (omega (arith, ap first_le
 state_once p q (Back s) (Back t) first other same =
     let one = and_parts (is_position p) (is_position s) first in
     let two = and_parts (is_position q) (is_position t) other in (
-      number_once 0 24 p q (omega arith) one.0 two.0 (ap (word_of 1) same),
-      ap (λ n. Back n) (number_once 0 24 s t (omega arith) one.1 two.1 (ap (word_of 3) same)),
+      number_once 0 most_steps p q (omega arith) one.0 two.0 (ap (word_of 1) same),
+      ap (λ n. Back n) (number_once 0 most_steps s t (omega arith) one.1 two.1 (ap (word_of 3) same)),
     )
 state_once p q (Back s) Ended first other same = absurd (omega (arith, ap first_length same))
 state_once p q (Back s) Undone first other same = absurd (omega (arith, ap first_length same))
 state_once p q Ended Run first other same = absurd (omega (arith, ap first_length same))
 state_once p q Ended (Back t) first other same = absurd (omega (arith, ap first_length same))
 state_once p q Ended Ended first other same =
-    (number_once 0 24 p q (omega arith) first other (ap (word_of 1) same), refl)
+    (number_once 0 most_steps p q (omega arith) first other (ap (word_of 1) same), refl)
 state_once p q Ended Undone first other same = absurd (omega (arith, ap first_length same))
 state_once p q Undone Run first other same = absurd (omega (arith, ap first_length same))
 state_once p q Undone (Back t) first other same = absurd (omega (arith, ap first_length same))
@@ -177,17 +179,17 @@ state_some p Undone same = omega (arith, ap length same)
 words_once : (x y : Reply) → IsTrue (is_accepted x) → IsTrue (is_accepted y)
     → reply_words x ≡ reply_words y → x ≡ y
 words_once (Loaded a m) (Loaded b n) first other same =
-    let one = and_parts (is_batch_name a) (is_between 1 2000 m) first in
-    let two = and_parts (is_batch_name b) (is_between 1 2000 n) other in
+    let one = and_parts (is_batch_name a) (is_between 1 most_rows m) first in
+    let two = and_parts (is_batch_name b) (is_between 1 most_rows n) other in
     let name : a ≡ b = ap (word_of 1) same in
-    let rows = number_once 1 2000 m n (omega arith) one.1 two.1 (ap (word_of 2) same) in cc
+    let rows = number_once 1 most_rows m n (omega arith) one.1 two.1 (ap (word_of 2) same) in cc
 words_once (Loaded a m) (Begun j) first other same = absurd (omega (arith, ap first_length same))
 words_once (Loaded a m) (Moved j e q y) first other same =
     absurd (omega (arith, ap first_length same))
 words_once (Begun i) (Loaded b n) first other same = absurd (omega (arith, ap first_length same))
 words_once (Begun i) (Begun j) first other same =
     let ids : decimal i ≡ decimal j = ap (word_of 1) same in
-    ap (λ n. Begun n) (number_once 1 999999999999 i j (omega arith) first other ids)
+    ap (λ n. Begun n) (number_once 1 most_events i j (omega arith) first other ids)
 words_once (Begun i) (Moved j e q y) first other same = absurd (state_some q y (ap (drop 3) same))
 words_once (Moved i d p x) (Loaded b n) first other same =
     absurd (omega (arith, ap first_length same))
@@ -198,7 +200,7 @@ words_once (Moved i d p x) (Moved j e q y) first other same =
     let one = and_parts (is_journey i) (is_item d) most.0 in
     let more = and_parts (is_journey j && is_item e) (is_state q y) other in
     let two = and_parts (is_journey j) (is_item e) more.0 in
-    let id = number_once 1 999999999999 i j (omega arith) one.0 two.0 (ap (word_of 1) same) in
+    let id = number_once 1 most_events i j (omega arith) one.0 two.0 (ap (word_of 1) same) in
     let item = item_once d e one.1 two.1 (ap (word_of 2) same) in
     let state = state_once p q x y most.1 more.1 (ap (drop 3) same) in cc
 words_once (Refused refusal) y first other same = cc

@@ -5,13 +5,14 @@ use Rattle.std.proofs.Common.{arith}
 use Rattle.std.proofs.lemmas.Bool.{and_parts}
 use Rattle.std.proofs.lemmas.Str.Pattern.{IsSplitOnceResult, split_after}
 use Rattle.allotment.specs.Limits.{is_between}
+use Rattle.plan.specs.Limits.{most_options, most_steps}
 use Rattle.commands.specs.Readings.{is_step_pair, step_pair_text}
 use Rattle.commands.proofs.NumberLemmas.{between_parts, decimal_lacks}
 
 -- a step and an option keep their limits
 pub step_limits : (pair : ℕ × ℕ) → IsTrue (is_step_pair pair)
-    → IsTrue (is_between 1 24 pair.0) × IsTrue (is_between 1 8 pair.1)
-step_limits pair good = and_parts (is_between 1 24 pair.0) (is_between 1 8 pair.1) good
+    → IsTrue (is_between 1 most_steps pair.0) × IsTrue (is_between 1 most_options pair.1)
+step_limits pair good = and_parts (is_between 1 most_steps pair.0) (is_between 1 most_options pair.1) good
 
 -- the text of a step and an option is cut at its first dot into the two
 pub step_cut : (text : List ℕ) (r : Option (Bor (List ℕ) × Bor (List ℕ)))
@@ -19,6 +20,6 @@ pub step_cut : (text : List ℕ) (r : Option (Bor (List ℕ) × Bor (List ℕ)))
     → (pair : ℕ × ℕ) → IsTrue (is_step_pair pair) → text ≡ step_pair_text pair
     → MatchOption r ⊥ (λ x. (x.0.now ≡ decimal pair.0) × (x.1.now ≡ decimal pair.1))
 step_cut text r cut pair good spelled =
-    let limits = between_parts 1 24 pair.0 (step_limits pair good).0 in
+    let limits = between_parts 1 most_steps pair.0 (step_limits pair good).0 in
     split_after 46 text (decimal pair.0) (decimal pair.1) r cut (omega arith) spelled
     (decimal_lacks 46 pair.0 (omega arith) (λ range. omega arith))

@@ -4,6 +4,7 @@ use Rattle.std.specs.List.{list_any, list_all}
 use Rattle.allotment.specs.Limits.{is_between, is_good_cell, most_places}
 use Rattle.allotment.specs.Cells.{is_cell}
 use Rattle.allotment.specs.declared.cells.Row.{Row}
+use Rattle.commands.specs.Limits.{most_rows}
 use Rattle.commands.specs.Names.{is_batch_name}
 use Rattle.commands.specs.declared.batches.BadBatch.{BadBatch}
 use Rattle.commands.specs.declared.batches.BadBatch.TheVariants.{Count, Twice}
@@ -35,12 +36,12 @@ is_good_row r = is_good_cell r.cell && nat_le r.places most_places
 -- a batch keeps the limits: its name, 1 to 2,000 rows, and each cell once
 abbrev pub is_batch : List ℕ → List Row → Bool
 is_batch name rows =
-    is_batch_name name && is_between 1 2000 (length rows) && list_all is_good_row rows
+    is_batch_name name && is_between 1 most_rows (length rows) && list_all is_good_row rows
     && are_distinct rows
 
 -- the batch of this name and these rows, or the first limit that they pass
 abbrev pub batch_made : List ℕ → List Row → Result Batched BadBatch
 batch_made name rows =
-    if not (is_between 1 2000 (length rows)) then Err Count
+    if not (is_between 1 most_rows (length rows)) then Err Count
     else if are_distinct rows then Ok (record { name = name; rows = rows })
     else Err Twice

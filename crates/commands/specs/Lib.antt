@@ -1,3 +1,4 @@
+pub mod Limits
 pub mod Request
 pub mod Asked
 pub mod Names

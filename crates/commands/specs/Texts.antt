@@ -3,6 +3,8 @@ use Rattle.std.specs.Prelude.{◌≡◌, ℕ, ◌==◌, ◌&&◌, Bool, false, L
 use Rattle.allotment.specs.Limits.{is_between}
 use Rattle.allotment.specs.Texts.{joined, blank}
 use Rattle.plan.specs.Causes.{cause_word}
+use Rattle.plan.specs.Limits.{most_steps, most_options}
+use Rattle.commands.specs.Limits.{most_events, most_rows}
 use Rattle.commands.specs.Names.{is_batch_name}
 use Rattle.commands.specs.declared.items.Cause.{Cause}
 use Rattle.commands.specs.declared.items.Cause.TheVariants as turn
@@ -138,21 +140,17 @@ reply_line (Moved id item pos phase) =
     sentence (codes "journey" ∷ decimal id ∷ item_text item ∷ state_text pos phase ∷ [])
 reply_line (Refused refusal) = refusal_line refusal
 
--- the greatest number of a journey
-abbrev pub most_journeys : ℕ
-most_journeys = 999999999999
-
 -- the number of a journey: 1 to 12 digits, from 1
 abbrev pub is_journey : ℕ → Bool
-is_journey id = is_between 1 most_journeys id
+is_journey id = is_between 1 most_events id
 
 -- a position, or the target of a turn: 0 to the greatest number of steps
 abbrev pub is_position : ℕ → Bool
-is_position position = is_between 0 24 position
+is_position position = is_between 0 most_steps position
 
 -- a step and one of its options, both from 1
 abbrev pub is_option : ℕ → ℕ → Bool
-is_option step option = is_between 1 24 step && is_between 1 8 option
+is_option step option = is_between 1 most_steps step && is_between 1 most_options option
 
 -- the numbers of an item keep the limits of plans
 abbrev pub is_item : Item → Bool
@@ -170,7 +168,7 @@ is_state position Undone = position == 0
 
 -- an accepted reply, whether a journey can come to it or not: its parts keep their limits
 abbrev pub is_accepted : Reply → Bool
-is_accepted (Loaded name rows) = is_batch_name name && is_between 1 2000 rows
+is_accepted (Loaded name rows) = is_batch_name name && is_between 1 most_rows rows
 is_accepted (Begun id) = is_journey id
 is_accepted (Moved id item pos phase) = is_journey id && is_item item && is_state pos phase
 is_accepted (Refused refusal) = false

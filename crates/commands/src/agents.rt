@@ -1,11 +1,12 @@
 //! Agents, by their names.
+use crate::limits::LONGEST_AGENT;
 use allotment::Short;
 use std::marker::Model;
 
 /// An agent: 1 to 16 of `a`-`z` and `0`-`9`. To a contract it is its bytes.
 #[derive(Clone, Copy, Debug, PartialEq, Eq)]
 pub struct Agent {
-    text: Short<16>,
+    text: Short<LONGEST_AGENT>,
 }
 
 impl Model for Agent {
@@ -62,7 +63,7 @@ impl Agent {
         ensures form { result ≡ is_agent text.now }
     {
         let bytes = text.as_bytes();
-        !bytes.is_empty() && bytes.len() <= 16 && Agent::are_bytes(bytes)
+        !bytes.is_empty() && bytes.len() <= LONGEST_AGENT && Agent::are_bytes(bytes)
     }
 
     /// Whether each of the bytes may stand in it.

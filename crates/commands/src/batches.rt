@@ -3,14 +3,12 @@ ghost use Rattle.std.specs.Prelude.{IsTrue};
 ghost use Rattle.std.specs.List.{list_all};
 ghost use Rattle.commands.specs.Batches.{is_good_row};
 
+use crate::limits::MOST_ROWS;
 use crate::names::Name;
 use crate::repeats::first_repeat;
 use allotment::Row;
 use std::alloc::{AllocError, Global};
 use std::marker::Model;
-
-/// The most rows that a batch may have.
-const MOST_ROWS: usize = 2_000;
 
 /// Why rows are no batch.
 #[derive(Clone, Copy, Debug, PartialEq, Eq)]

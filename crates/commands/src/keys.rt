@@ -1,11 +1,12 @@
 //! Keys, under which an agent asks once.
+use crate::limits::LONGEST_KEY;
 use allotment::Short;
 use std::marker::Model;
 
 /// A key: 1 to 32 of the letters and digits of ASCII and `-`. To a contract it is its bytes.
 #[derive(Clone, Copy, Debug, PartialEq, Eq)]
 pub struct Key {
-    text: Short<32>,
+    text: Short<LONGEST_KEY>,
 }
 
 impl Model for Key {
@@ -52,7 +53,7 @@ impl Key {
         ensures form { result ≡ is_key text.now }
     {
         let bytes = text.as_bytes();
-        !bytes.is_empty() && bytes.len() <= 32 && Key::are_bytes(bytes)
+        !bytes.is_empty() && bytes.len() <= LONGEST_KEY && Key::are_bytes(bytes)
     }
 
     /// Whether each of the bytes may stand in it.

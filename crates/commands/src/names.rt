@@ -1,11 +1,12 @@
 //! Names of batches.
+use crate::limits::LONGEST_BATCH_NAME;
 use allotment::Short;
 use std::marker::Model;
 
 /// The name of a batch: 1 to 24 of `a`-`z`, `0`-`9` and `-`. To a contract it is its bytes.
 #[derive(Clone, Copy, Debug, PartialEq, Eq)]
 pub struct Name {
-    text: Short<24>,
+    text: Short<LONGEST_BATCH_NAME>,
 }
 
 impl Model for Name {
@@ -52,7 +53,7 @@ impl Name {
         ensures form { result ≡ is_batch_name text.now }
     {
         let bytes = text.as_bytes();
-        !bytes.is_empty() && bytes.len() <= 24 && Name::are_bytes(bytes)
+        !bytes.is_empty() && bytes.len() <= LONGEST_BATCH_NAME && Name::are_bytes(bytes)
     }
 
     /// Whether each of the bytes may stand in it.

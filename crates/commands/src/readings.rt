@@ -14,8 +14,10 @@ ghost use Rattle.commands.specs.Readings.{standing_words, loaded_words, begun_wo
 ghost use Rattle.commands.specs.Readings.{stood_words, turned_words, reply_words};
 
 use crate::items::{Cause, Item, Phase};
+use crate::limits::{MOST_EVENTS, MOST_ROWS};
 use crate::names::Name;
 use crate::replies::Reply;
+use plan::{MOST_OPTIONS, MOST_STEPS};
 use std::alloc::{AllocError, Global};
 
 /// Whether the text begins as a number does: with a digit from 1 on, or as `0` alone.
@@ -54,8 +56,8 @@ fn step_in(text: &str) -> Option<(usize, usize)>
     ensures found { Finds is_step_pair step_pair_text text.now result }
 {
     let (step, option) = text.split_once('.')?;
-    let step = number_in(step, 1, 24)?;
-    let option = number_in(option, 1, 8)?;
+    let step = number_in(step, 1, MOST_STEPS)?;
+    let option = number_in(option, 1, MOST_OPTIONS)?;
     Some((step, option))
 }
 
@@ -78,7 +80,7 @@ fn turn_in(text: &str) -> Option<(usize, Cause)>
     ensures found { Finds is_turn_pair turn_pair_text text.now result }
 {
     let (front, cause) = cause_in(text)?;
-    let target = number_in(front, 0, 24)?;
+    let target = number_in(front, 0, MOST_STEPS)?;
     Some((target, cause))
 }
 
@@ -99,7 +101,7 @@ fn item_in(text: &str) -> Option<Item>
         return Some(Item::Turn { target, cause });
     }
     let rest = text.strip_prefix('S')?;
-    let position = number_in(rest, 0, 24)?;
+    let position = number_in(rest, 0, MOST_STEPS)?;
     Some(Item::Save { position })
 }
 
@@ -107,7 +109,7 @@ fn item_in(text: &str) -> Option<Item>
 fn journey_in(text: &str) -> Option<u64>
     ensures found { Finds is_journey decimal text.now result }
 {
-    let id = number_in(text, 1, 999_999_999_999)?;
+    let id = number_in(text, 1, MOST_EVENTS as usize)?;
     Some(id as u64)
 }
 
@@ -117,8 +119,8 @@ fn state_in(phase: &str, position: &str) -> Option<(usize, Phase)>
         Finds is_state_pair state_pair_words words result }
 {
     match phase {
-        "run" => Some((number_in(position, 0, 24)?, Phase::Run)),
-        "ended" => Some((number_in(position, 0, 24)?, Phase::Ended)),
+        "run" => Some((number_in(position, 0, MOST_STEPS)?, Phase::Run)),
+        "ended" => Some((number_in(position, 0, MOST_STEPS)?, Phase::Ended)),
         "undone" if position == "0" => Some((0, Phase::Undone)),
         _ => None,
     }
@@ -129,7 +131,7 @@ fn loaded_in(name: &str, rows: &str) -> Option<Reply>
     ensures found { Finds is_accepted reply_words (loaded_words name.now rows.now) result }
 {
     let name = Name::parse(name)?;
-    let rows = number_in(rows, 1, 2000)?;
+    let rows = number_in(rows, 1, MOST_ROWS)?;
     Some(Reply::Loaded { name, rows })
 }
 
@@ -164,8 +166,8 @@ fn turned_in(id: &str, item: &str, position: &str, target: &str) -> Option<Reply
 {
     let id = journey_in(id)?;
     let item = item_in(item)?;
-    let pos = number_in(position, 0, 24)?;
-    let target = number_in(target, 0, 24)?;
+    let pos = number_in(position, 0, MOST_STEPS)?;
+    let target = number_in(target, 0, MOST_STEPS)?;
     let phase = Phase::Back(target);
     Some(Reply::Moved {
         id,

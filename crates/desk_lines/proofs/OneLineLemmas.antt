@@ -20,9 +20,10 @@ use Rattle.plan.specs.declared.faults.BadPlan.{BadPlan}
 use Rattle.plan.proofs.ReadLemmas.{read_is_spelled}
 use Rattle.plan.proofs.SpellLemmas.{spelled_is_read}
 use Rattle.commands.specs.Batches.{is_batch, is_good_row}
+use Rattle.commands.specs.Limits.{most_events, most_named_position}
 use Rattle.commands.specs.Names.{is_batch_name}
 use Rattle.commands.specs.Request.{Request, Load, Begin, Step, Abort, Stop, Save}
-use Rattle.commands.specs.Texts.{is_journey, most_journeys, sentence}
+use Rattle.commands.specs.Texts.{is_journey, sentence}
 use Rattle.commands.specs.declared.replies.Reply.TheVariants.{Loaded}
 use Rattle.commands.proofs.BlankLemmas.{has_no_blank, number_lacks, parts_joined, words_no_blank}
 use Rattle.desk_lines.specs.Lines.{IsLineOf, abort_line, abort_of, begin_meaning, begin_word, found_meaning, is_begin, is_named_position, journey_in, load_of, name_in, position_in, request_of_words, row_of, save_line, set_line, step_line, text_meaning}
@@ -69,7 +70,7 @@ step_read : (verb word : List ℕ) (o : Option ℕ) (request : Request) → verb
     → option_map Step o ≡ Some request → IsLineOf (sentence (verb ∷ word ∷ [])) request
 step_read verb word None request says is e = cc
 step_read verb word (Some id) request says is e =
-    let read = number_read 1 most_journeys word id is in
+    let read = number_read 1 most_events word id is in
     let same : Step id ≡ request = cc in
     subst (IsLineOf (sentence (verb ∷ word ∷ []))) same (read.0, two_words verb word _ _ says read.1)
 
@@ -78,7 +79,7 @@ save_read : (verb word : List ℕ) (o : Option ℕ) (request : Request) → verb
     → option_map Save o ≡ Some request → IsLineOf (sentence (verb ∷ word ∷ [])) request
 save_read verb word None request says is e = cc
 save_read verb word (Some id) request says is e =
-    let read = number_read 1 most_journeys word id is in
+    let read = number_read 1 most_events word id is in
     let same : Save id ≡ request = cc in
     subst (IsLineOf (sentence (verb ∷ word ∷ []))) same (read.0, two_words verb word _ _ says read.1)
 
@@ -101,8 +102,8 @@ turn_read : (verb word place : List ℕ) (o p : Option ℕ) (request : Request) 
 turn_read verb word place None p request says is at e = cc
 turn_read verb word place (Some id) None request says is at e = cc
 turn_read verb word place (Some id) (Some position) request says is at e =
-    let read = number_read 1 most_journeys word id is in
-    let target = number_read 0 99 place position at in
+    let read = number_read 1 most_events word id is in
+    let target = number_read 0 most_named_position place position at in
     let same : Abort id position ≡ request = cc in
     subst (IsLineOf (sentence (verb ∷ word ∷ place ∷ []))) same
     (and_from _ _ read.0 target.0, three_words verb word place _ _ _ says read.1 target.1)
@@ -233,21 +234,21 @@ name_no_blank name good =
 
 -- nor a number
 journey_no_blank : (id : ℕ) → IsTrue (is_journey id) → has_no_blank (decimal id) ≡ true
-journey_no_blank id good = number_lacks 32 1 most_journeys id (omega arith) (omega arith) good
+journey_no_blank id good = number_lacks 32 1 most_events id (omega arith) (omega arith) good
 
 -- a step of a journey
 step_again : (id : ℕ) → IsTrue (is_journey id) → text_meaning (step_line id) ≡ Ok (Step id)
 step_again id good =
     ap (λ words. found_meaning (request_of_words words))
     (parts_joined (codes "step") (decimal id ∷ []) (and_from _ _ (journey_no_blank id good) refl))
-    ∙ ap (λ o. found_meaning (option_map Step o)) (number_spelled 1 most_journeys id (omega arith) good)
+    ∙ ap (λ o. found_meaning (option_map Step o)) (number_spelled 1 most_events id (omega arith) good)
 
 -- a save-point of it
 save_again : (id : ℕ) → IsTrue (is_journey id) → text_meaning (save_line id) ≡ Ok (Save id)
 save_again id good =
     ap (λ words. found_meaning (request_of_words words))
     (parts_joined (codes "save") (decimal id ∷ []) (and_from _ _ (journey_no_blank id good) refl))
-    ∙ ap (λ o. found_meaning (option_map Save o)) (number_spelled 1 most_journeys id (omega arith) good)
+    ∙ ap (λ o. found_meaning (option_map Save o)) (number_spelled 1 most_events id (omega arith) good)
 
 -- a turn of it
 abort_again : (id position : ℕ) → IsTrue (is_journey id) → IsTrue (is_named_position position)
@@ -256,9 +257,9 @@ abort_again id position good named =
     ap (λ words. found_meaning (request_of_words words))
     (parts_joined (codes "abort") (decimal id ∷ decimal position ∷ [])
     (and_from _ _ (journey_no_blank id good)
-    (and_from _ _ (number_lacks 32 0 99 position (omega arith) (omega arith) named) refl)))
-    ∙ ap (λ o. found_meaning (abort_of o (position_in (decimal position)))) (number_spelled 1 most_journeys id (omega arith) good)
-    ∙ ap (λ p. found_meaning (abort_of (Some id) p)) (number_spelled 0 99 position (omega arith) named)
+    (and_from _ _ (number_lacks 32 0 most_named_position position (omega arith) (omega arith) named) refl)))
+    ∙ ap (λ o. found_meaning (abort_of o (position_in (decimal position)))) (number_spelled 1 most_events id (omega arith) good)
+    ∙ ap (λ p. found_meaning (abort_of (Some id) p)) (number_spelled 0 most_named_position position (omega arith) named)
 
 -- a load of one row
 set_again : (name : List ℕ) (x : Cell) (places : ℕ) → is_batch_name name ≡ true → is_good_cell x ≡ true

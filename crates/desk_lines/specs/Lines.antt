@@ -11,9 +11,10 @@ use Rattle.plan.specs.Planned.{Planned, is_plan}
 use Rattle.plan.specs.PlanLine.{plan_in, plan_line}
 use Rattle.plan.specs.declared.faults.BadPlan.{BadPlan}
 use Rattle.commands.specs.Batches.{is_batch}
+use Rattle.commands.specs.Limits.{most_events, most_named_position}
 use Rattle.commands.specs.Names.{is_batch_name}
 use Rattle.commands.specs.Request.{Request, Load, Begin, Step, Abort, Stop, Save}
-use Rattle.commands.specs.Texts.{is_journey, most_journeys, refusal_line, reply_line, sentence}
+use Rattle.commands.specs.Texts.{is_journey, refusal_line, reply_line, sentence}
 use Rattle.commands.specs.declared.refusals.Refusal.{Refusal}
 use Rattle.commands.specs.declared.refusals.Refusal.TheVariants as refusal
 use Rattle.ledger.specs.Answer.{State, outcome}
@@ -60,7 +61,7 @@ save_line id = sentence (codes "save" ∷ decimal id ∷ [])
 
 -- a position that a line may name
 abbrev pub is_named_position : ℕ → Bool
-is_named_position position = is_between 0 99 position
+is_named_position position = is_between 0 most_named_position position
 
 -- the text is the line of this request, which keeps the limits. A load has one where it is of one
 -- row, and a stop has none
@@ -91,11 +92,11 @@ is_readable line = nat_le (length line) longest_line && is_utf8 line
 
 -- the journey that a word names
 abbrev pub journey_in : List ℕ → Option ℕ
-journey_in word = number_from 1 most_journeys word
+journey_in word = number_from 1 most_events word
 
 -- the position that a word names
 abbrev pub position_in : List ℕ → Option ℕ
-position_in word = number_from 0 99 word
+position_in word = number_from 0 most_named_position word
 
 -- the name of a batch that a word is
 abbrev pub name_in : List ℕ → Option (List ℕ)

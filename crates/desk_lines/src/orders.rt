@@ -12,8 +12,10 @@ ghost use Rattle.desk_lines.specs.Orders.{meaning_of, request_if_any};
 ghost use Rattle.desk_lines.specs.Reading.{Keeps};
 
 use crate::lines::Line;
-use allotment::{Cell, Row};
-use commands::{BadBatch, Batch, Command, Name, Refusal, number_between};
+use allotment::{Cell, MOST_PLACES, Row};
+use commands::{
+    BadBatch, Batch, Command, MOST_EVENTS, MOST_NAMED_POSITION, Name, Refusal, number_between,
+};
 use plan::{Plan, PlanFault};
 use protocols::ServeFault;
 use std::alloc::{AllocError, Global};
@@ -170,7 +172,7 @@ fn row_of(cell: &str, places: &str) -> Option<Row>
     ensures row { result ≡ row_meant (cell_in cell.now) (places_in places.now) }
 {
     let cell = Cell::parse(cell)?;
-    let places = number_between(places, 0, 100_000)?;
+    let places = number_between(places, 0, MOST_PLACES as usize)?;
     Some(Row::new(cell, places as u32))
 }
 
@@ -178,12 +180,12 @@ fn row_of(cell: &str, places: &str) -> Option<Row>
 pub fn journey_in(word: &str) -> Option<u64>
     ensures journey { result ≡ journey_of word.now }
 {
-    number_between(word, 1, 999_999_999_999).map(|id| id as u64)
+    number_between(word, 1, MOST_EVENTS as usize).map(|id| id as u64)
 }
 
 /// The position that a word names.
 fn position_in(word: &str) -> Option<usize>
     ensures position { result ≡ position_of word.now }
 {
-    number_between(word, 0, 99)
+    number_between(word, 0, MOST_NAMED_POSITION)
 }

@@ -3,6 +3,7 @@
 use Rattle.std.specs.Prelude.{ℕ, ◌&&◌, Bool, true, List, [], ◌∷◌, ◌++◌, length, nat_le, if◌then◌else◌, Option, Some, None, is_some, option_map, option_and_then, unwrap_or, bytes_eq}
 use Rattle.plan.specs.Planned.{is_plan}
 use Rattle.commands.specs.Asked.{Asked}
+pub use Rattle.commands.specs.Limits.{most_events}
 use Rattle.commands.specs.Request.{Request, Load, Begin, Step, Abort, Stop, Save}
 use Rattle.commands.specs.declared.refusals.Refusal.TheVariants.{NoSavePoint, KeyReused, Limit, NoSave}
 use Rattle.commands.specs.declared.replies.Reply.{Reply}
@@ -24,10 +25,6 @@ answer_within l who (Stop j) =
     answer_move l j stop_choices NoSavePoint (seen_journey l who j)
 answer_within l who (Save j) =
     answer_move l j save_choices NoSave (seen_journey l who j)
-
--- the greatest number of events that a ledger may have
-abbrev pub most_events : ℕ
-most_events = 999999999999
 
 -- an answer, save that where an event is due and the ledger is full it is refused
 abbrev pub limited : List Event → Answer → Answer

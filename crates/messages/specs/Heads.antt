@@ -8,6 +8,7 @@ use Rattle.httparse.specs.Spans.{name_and_value}
 use Rattle.allotment.specs.Limits.{is_between, is_digit}
 use Rattle.allotment.specs.Making.{unless}
 use Rattle.allotment.specs.Texts.{keep_if}
+use Rattle.commands.specs.Limits.{most_bytes}
 use Rattle.commands.specs.Names.{is_agent, is_key}
 use Rattle.commands.specs.declared.refusals.Refusal.{Refusal}
 use Rattle.commands.specs.declared.refusals.Refusal.TheVariants as refusal
@@ -19,10 +20,6 @@ most_head_bytes = 8192
 -- how many fields a head may have
 abbrev pub most_fields : ℕ
 most_fields = 32
-
--- how many bytes a body may have
-abbrev pub most_body_bytes : ℕ
-most_body_bytes = 262144
 
 -- the text is this head, whole and within the limits
 pub record IsHead (text : List ℕ) (h : RequestHead) : Type 0 where
@@ -93,7 +90,7 @@ tells_length parts = not (is_method (codes "POST") parts) || (length (lengths pa
 abbrev pub head_refusals : Parts → List Refusal
 head_refusals parts =
     unless (is_plain parts) refusal.BadHead
-    ++ unless (nat_le (length_in (lengths parts)) most_body_bytes) refusal.TooLarge
+    ++ unless (nat_le (length_in (lengths parts)) most_bytes) refusal.TooLarge
     ++ unless (tells_length parts) refusal.NoLength
 
 -- the first of a list, if it has any

@@ -3,16 +3,13 @@ use crate::fields::{Found, find, says};
 use crate::lengths::{Length, length_in};
 use crate::requests::Request;
 use crate::words::{agent_in, key_in};
-use commands::{Agent, Key, Refusal};
+use commands::{Agent, Key, MOST_BYTES, Refusal};
 use httparse::Status;
 use httparse::spans::{EMPTY_HEADER_SPAN, HeaderSpan, RequestSpans, parse_request};
 use std::alloc::{AllocError, Global};
 
 /// How many fields a head may have.
 const MOST_FIELDS: usize = 32;
-
-/// How many bytes a body may have.
-const LONGEST_BODY: usize = 262_144;
 
 /// Where the parts of a head stand in its bytes.
 #[derive(Clone, Copy)]
@@ -79,7 +76,7 @@ impl Head {
             return Some(Refusal::BadHead);
         }
         match self.length(front) {
-            Length::Bytes(length) if length > LONGEST_BODY => Some(Refusal::TooLarge),
+            Length::Bytes(length) if length > MOST_BYTES => Some(Refusal::TooLarge),
             Length::Untold if self.has_method(front, b"POST") => Some(Refusal::NoLength),
             _ => None,
         }

@@ -7,6 +7,7 @@ use Rattle.std.proofs.lemmas.Bool.{and_parts}
 use Rattle.std.proofs.lemmas.List.{length-map}
 use Rattle.std.proofs.lemmas.List.Sorted.{length_permutation}
 use Rattle.std.proofs.lemmas.Slice.Eq.{bytes_eq-Decides}
+use Rattle.commands.specs.Limits.{most_rows}
 use Rattle.sqlite_trees.proofs.ListLemmas.{IsPermutation-filter}
 use Rattle.sqlite_rules.specs.Lists.{Has}
 use Rattle.sqlite_rules.proofs.ListLemmas.{has_either}
@@ -119,9 +120,9 @@ good_more l (Loaded other new) legal may good =
         (length (batches_named l other) == 0) may).0 in
         let batch = (and_parts (is_batch other new) (list_all (is_not_below_held l) new) unused).0 in
         let limits =
-        (and_parts (is_batch_name other && is_between 1 2000 (length new) && list_all is_good_row new)
+        (and_parts (is_batch_name other && is_between 1 most_rows (length new) && list_all is_good_row new)
         (are_distinct new) batch).0 in
-        (and_parts (is_batch_name other && is_between 1 2000 (length new)) (list_all is_good_row new) limits).1
+        (and_parts (is_batch_name other && is_between 1 most_rows (length new)) (list_all is_good_row new) limits).1
 
     last : (rows : List Row) → Has (new ∷ []) rows → list_all is_good_row rows ≡ true
     last rows (inl e) = ap (list_all is_good_row) e ∙ new_good

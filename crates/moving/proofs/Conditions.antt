@@ -5,11 +5,12 @@ use Rattle.std.specs.Prelude.{filter_map, option_map, unwrap_or, nat_le, ◌&&�
 use Rattle.std.specs.List.{AllByRecursion, list_all}
 use Rattle.std.specs.List.Sorted.{IsPermutation}
 use Rattle.std.proofs.lemmas.Bool.{and_parts, leb-true}
+use Rattle.commands.specs.Limits.{most_rows}
 use Rattle.sqlite_trees.proofs.ListLemmas.{all-permutation}
 use Rattle.sqlite_rules.specs.Lists.{Has}
 use Rattle.sqlite_rules.proofs.ListLemmas.{all_has, all_from, has_found, test_has}
 use Rattle.allotment.specs.Want.{Wanted}
-use Rattle.allotment.specs.Limits.{is_between, is_good_cell, most_places}
+use Rattle.allotment.specs.Limits.{is_between, is_good_cell, most_count, most_places}
 use Rattle.allotment.specs.Cells.{is_cell, cells_of, wants_cell}
 use Rattle.allotment.specs.declared.cells.Cell.{Cell}
 use Rattle.allotment.specs.declared.cells.Row.{Row}
@@ -90,9 +91,9 @@ few_loaded l name rows may few x n at =
         (length (batches_named l name) == 0) may).0 in
         let batch = (and_parts (is_batch name rows) (list_all (is_not_below_held l) rows) new).0 in
         let limits =
-        (and_parts (is_batch_name name && is_between 1 2000 (length rows) && list_all is_good_row rows)
+        (and_parts (is_batch_name name && is_between 1 most_rows (length rows) && list_all is_good_row rows)
         (are_distinct rows) batch).0 in
-        (and_parts (is_batch_name name && is_between 1 2000 (length rows)) (list_all is_good_row rows) limits).1
+        (and_parts (is_batch_name name && is_between 1 most_rows (length rows)) (list_all is_good_row rows) limits).1
 
     go : (o : Option Row) → find (λ (r : Row). is_cell x r.cell) rows ≡ o
         → newer (option_map (λ (r : Row). r.places) o) (allotment l x) ≡ Some n → n ≤ most_places
@@ -173,7 +174,7 @@ module _ (l : List Event) (t : Tables) (legal : IsLegal l) (stand : StockStands 
           (omega arith, omega arith)
 
   -- each night of a want has room for its count of places more
-  pub nights_have_room : (r : NightRange) (w : Wanted) → w.count ≤ 50 → HaveRoom r w.count t
+  pub nights_have_room : (r : NightRange) (w : Wanted) → w.count ≤ most_count → HaveRoom r w.count t
   nights_have_room r w small = all_from _ t.stock each
     where
       each : (s : StockRow) → Has t.stock s → is_within r s ≡ true → s.free + w.count < 2 ^ 63

@@ -4,6 +4,7 @@ use Rattle.std.specs.Prelude.{◌&&◌, ◌==◌, nat_le, is_some}
 use Rattle.std.specs.List.{list_all}
 use Rattle.std.proofs.lemmas.Bool.{and_parts, and_from, le-leb}
 use Rattle.std.proofs.lemmas.Bool.Decides.{nat_tests}
+use Rattle.commands.specs.Limits.{most_rows}
 use Rattle.allotment.specs.Limits.{is_between}
 use Rattle.allotment.specs.declared.cells.Row.{Row}
 use Rattle.commands.specs.Asked.{Asked}
@@ -49,10 +50,10 @@ load_keeps s ask name rows desk may =
     (length (batches_named s.ledger name) == 0) may).0 in
     let batch = (and_parts (is_batch name rows) (list_all (is_not_below_held s.ledger) rows) new).0 in
     let limits =
-    (and_parts (is_batch_name name && is_between 1 2000 (length rows) && list_all is_good_row rows)
+    (and_parts (is_batch_name name && is_between 1 most_rows (length rows) && list_all is_good_row rows)
     (are_distinct rows) batch).0 in
     event_keeps s ask (loaded name rows) (Loaded name rows) desk may
-    (and_parts (is_batch_name name && is_between 1 2000 (length rows)) (list_all is_good_row rows) limits).0
+    (and_parts (is_batch_name name && is_between 1 most_rows (length rows)) (list_all is_good_row rows) limits).0
 
 -- What a request comes to.
 

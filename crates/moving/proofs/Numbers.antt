@@ -4,7 +4,8 @@ use Rattle.std.specs.Prelude.{nat_le, ◌&&◌}
 use Rattle.std.specs.List.{cons_option}
 use Rattle.std.proofs.lemmas.Bool.{and_parts, leb-true}
 use Rattle.std.proofs.lemmas.List.Sums.{count_by-le-length}
-use Rattle.commands.specs.Texts.{is_item, is_option, is_position, is_state, is_journey, most_journeys}
+use Rattle.plan.specs.Limits.{most_options, most_steps}
+use Rattle.commands.specs.Texts.{is_item, is_option, is_position, is_state, is_journey}
 use Rattle.allotment.specs.Limits.{is_between}
 use Rattle.commands.specs.declared.items.Cause.{Cause}
 use Rattle.commands.specs.declared.items.Cause.TheVariants.{Stop, Refused, Asked}
@@ -37,16 +38,16 @@ history-few (Did k item ∷ l) j = go (j == k) (history-few l j)
     go false rest = omega arith
 
 -- positions and targets keep the limit of steps
-state_small : (pos : ℕ) (ph : Phase) → is_state pos ph ≡ true → (pos ≤ 24) × (target_of ph ≤ 24)
-state_small pos Run e = (leb-true pos 24 (and_parts (nat_le 0 pos) (nat_le pos 24) e).1, omega arith)
+state_small : (pos : ℕ) (ph : Phase) → is_state pos ph ≡ true → (pos ≤ most_steps) × (target_of ph ≤ most_steps)
+state_small pos Run e = (leb-true pos most_steps (and_parts (nat_le 0 pos) (nat_le pos most_steps) e).1, omega arith)
 state_small pos Ended e =
-    (leb-true pos 24 (and_parts (nat_le 0 pos) (nat_le pos 24) e).1, omega arith)
+    (leb-true pos most_steps (and_parts (nat_le 0 pos) (nat_le pos most_steps) e).1, omega arith)
 state_small pos Undone e = let start = eqb-true pos 0 e in (omega arith, omega arith)
 state_small pos (Back p) e =
     let both = and_parts (is_position pos) (is_position p) e in (
-      leb-true pos 24 (and_parts (nat_le 0 pos) (nat_le pos 24) both.0).1,
-      leb-true p 24
-          (and_parts (nat_le 0 p) (nat_le p 24) both.1).1,
+      leb-true pos most_steps (and_parts (nat_le 0 pos) (nat_le pos most_steps) both.0).1,
+      leb-true p most_steps
+          (and_parts (nat_le 0 p) (nat_le p most_steps) both.1).1,
     )
 
 -- there are four phases
@@ -66,9 +67,9 @@ cause_small Asked = omega arith
 option_small : (num step option : ℕ) → num < 2 ^ 63 → is_option step option ≡ true
     → (num < 2 ^ 63) × (step < 2 ^ 63) × (option < 2 ^ 63)
 option_small num step option low e =
-    let both = and_parts (is_between 1 24 step) (is_between 1 8 option) e in
-    let first = leb-true step 24 (and_parts (nat_le 1 step) (nat_le step 24) both.0).1 in
-    let second = leb-true option 8 (and_parts (nat_le 1 option) (nat_le option 8) both.1).1 in
+    let both = and_parts (is_between 1 most_steps step) (is_between 1 most_options option) e in
+    let first = leb-true step most_steps (and_parts (nat_le 1 step) (nat_le step most_steps) both.0).1 in
+    let second = leb-true option most_options (and_parts (nat_le 1 option) (nat_le option most_options) both.1).1 in
     (low, omega arith, omega arith)
 
 -- an item that keeps the limits is written in small numbers
@@ -80,11 +81,11 @@ item_small num (Compensation step option) low e =
     let small = option_small num step option low e in
     (small.0, (omega arith, (small.1, (small.2, tt))))
 item_small num (Turn p cause) low e =
-    let target = leb-true p 24 (and_parts (nat_le 0 p) (nat_le p 24) e).1 in
+    let target = leb-true p most_steps (and_parts (nat_le 0 p) (nat_le p most_steps) e).1 in
     let why = cause_small cause in
     (low, (omega arith, (omega arith, (omega arith, tt))))
 item_small num (Save p) low e =
-    let position = leb-true p 24 (and_parts (nat_le 0 p) (nat_le p 24) e).1 in
+    let position = leb-true p most_steps (and_parts (nat_le 0 p) (nat_le p most_steps) e).1 in
     (low, (omega arith, (omega arith, (omega arith, tt))))
 
 -- the numbers of a move: of its journey, of its item, and of the cursor behind it
@@ -102,7 +103,7 @@ move_small l j a x legal at may room =
     let accepted = moved-good l legal room j a x at (sym (is_item_allowed-may_do l j x a at) ∙ may) in
     let reply = and_parts (is_journey j && is_item x) (is_state (position_of h) (phase a.plan h)) accepted in
     let made = and_parts (is_journey j) (is_item x) reply.0 in
-    let number = leb-true j most_journeys (and_parts (nat_le 1 j) (nat_le j most_journeys) made.0).1 in
+    let number = leb-true j most_events (and_parts (nat_le 1 j) (nat_le j most_events) made.0).1 in
     let state = state_small (position_of h) (phase a.plan h) reply.1 in
     let target = state.1 in
     let position = state.0 in

@@ -3,9 +3,10 @@ use Rattle.std.proofs.Common.{◌≡◌, ℕ, zero, suc, ◌≤◌, List, [], �
 use Rattle.std.specs.Prelude.{slice_get, nat_le, ◌&&◌, option_and_then, option_map, unwrap_or}
 use Rattle.std.specs.List.{list_all}
 use Rattle.std.proofs.lemmas.Bool.{and_parts, leb-true}
+use Rattle.plan.proofs.LimitLemmas.{limited, step_limited}
 use Rattle.allotment.specs.Want.{Wanted}
-use Rattle.allotment.specs.Limits.{is_between, is_code, is_night, are_nights, is_count, is_want, most_nights}
-use Rattle.plan.specs.Planned.{Planned, StepPlan, numbered, want_at, is_step, is_plan, is_last_unmarked, option_count}
+use Rattle.allotment.specs.Limits.{is_between, is_code, is_night, are_nights, is_count, is_want, most_nights, most_count}
+use Rattle.plan.specs.Planned.{Planned, StepPlan, numbered, want_at, is_step, is_plan, option_count}
 use Rattle.ledger.specs.Ledger.{Event, Journey, journey_at, IsLegal}
 use Rattle.standing.proofs.RecordRows.{plan_good}
 
@@ -26,22 +27,12 @@ numbered-passes p xs (suc i) x e all = at p xs i x e all
 pub want_good : (plan : Planned) (i c : ℕ) (w : Wanted) → IsTrue (is_plan plan)
     → want_at plan i c ≡ Some w → is_want w ≡ true
 want_good plan i c w good want =
-    let three =
-    (and_parts
-    (is_between 1 24 (length plan.steps) && list_all is_step plan.steps && is_last_unmarked plan.steps)
-    (nat_le plan.tries 9) good).0 in
-    let two =
-    (and_parts (is_between 1 24 (length plan.steps) && list_all is_step plan.steps)
-    (is_last_unmarked plan.steps) three).0 in
-    let steps = (and_parts (is_between 1 24 (length plan.steps)) (list_all is_step plan.steps) two).1 in
-    go (numbered plan.steps i) (λ s e. numbered-passes is_step plan.steps i s e steps) want
+    go (numbered plan.steps i) (λ s e. numbered-passes is_step plan.steps i s e (limited plan good).each_step) want
   where
     go : (o : Option StepPlan) → ((s : StepPlan) → o ≡ Some s → is_step s ≡ true)
         → option_and_then (λ (s : StepPlan). numbered s.options c) o ≡ Some w → is_want w ≡ true
     go None each e = cc
-    go (Some s) each e =
-        numbered-passes is_want s.options c w e
-        (and_parts (is_between 1 8 (length s.options)) (list_all is_want s.options) (each s refl)).1
+    go (Some s) each e = numbered-passes is_want s.options c w e (step_limited s (each s refl)).each_want
 
 -- and so has a night at least
 pub want-nights : (w : Wanted) → is_want w ≡ true → 1 ≤ w.nights
@@ -64,18 +55,18 @@ pub wanted_nights : (l : List Event) (j i c : ℕ) (a : Journey) (w : Wanted) �
 wanted_nights l j i c a w legal at want =
     want-nights w (want_good a.plan i c w (plan_good l j a legal at) want)
 
--- and takes 50 places of a night at most
-pub want-count : (w : Wanted) → is_want w ≡ true → w.count ≤ 50
+-- and takes so many places of a night at most
+pub want-count : (w : Wanted) → is_want w ≡ true → w.count ≤ most_count
 want-count w good =
     let count =
     (and_parts
     (is_code w.supplier && is_code w.product && is_night w.first && are_nights w.kind w.first w.nights)
     (is_count w.count) good).1 in
-    leb-true w.count 50 (and_parts (nat_le 1 w.count) (nat_le w.count 50) count).1
+    leb-true w.count most_count (and_parts (nat_le 1 w.count) (nat_le w.count most_count) count).1
 
 -- so does each want of a journey of a legal ledger
 pub wanted_count : (l : List Event) (j i c : ℕ) (a : Journey) (w : Wanted) → IsLegal l
-    → journey_at l j ≡ Some a → want_at a.plan i c ≡ Some w → w.count ≤ 50
+    → journey_at l j ≡ Some a → want_at a.plan i c ≡ Some w → w.count ≤ most_count
 wanted_count l j i c a w legal at want =
     want-count w (want_good a.plan i c w (plan_good l j a legal at) want)
 

@@ -1,4 +1,3 @@
-pub mod NumberLemmas
 pub mod TextLemmas
 pub mod FloatLemmas
 pub mod HeadLemmas

@@ -8,8 +8,8 @@ use Rattle.matchit.specs.Rows.{RowsOf}
 use Rattle.matchit.specs.Seek.{first}
 use Rattle.matchit.specs.declared.error.InsertError.{InsertError}
 use Rattle.allotment.specs.Texts.{parts, slash, keep_if, number_from}
+use Rattle.commands.specs.Limits.{most_events, most_named_position}
 use Rattle.commands.specs.Names.{is_batch_name}
-use Rattle.commands.specs.Texts.{most_journeys}
 use Rattle.pages.specs.Verbs.{verb_text}
 use Rattle.pages.specs.declared.places.Entry.{Entry}
 use Rattle.pages.specs.declared.places.Place.{Place}
@@ -78,11 +78,11 @@ piece target place = slice_get (parts slash target) place
 
 -- the journey whose number a text is
 abbrev pub journey_in : List ℕ → Option ℕ
-journey_in text = number_from 1 most_journeys text
+journey_in text = number_from 1 most_events text
 
 -- the position that a text is
 abbrev pub position_in : List ℕ → Option ℕ
-position_in text = number_from 0 99 text
+position_in text = number_from 0 most_named_position text
 
 -- the name of a batch that a target has behind `/batches/`
 abbrev pub name_at : List ℕ → Option (List ℕ)

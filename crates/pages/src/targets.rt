@@ -1,17 +1,10 @@
 //! The parts of a target, and what they ask for. Nothing here takes memory.
-ghost use Rattle.std.specs.Prelude.{◌≡◌, ◌≤◌, option_map, IfSome};
-ghost use Rattle.allotment.specs.Texts.{number_from};
+ghost use Rattle.std.specs.Prelude.{◌≡◌, option_map};
 ghost use Rattle.pages.specs.Routes.{piece, name_at, journey_at, position_at, asked};
 
 use crate::places::Place;
 use crate::routes::Route;
-use commands::{Name, number_in};
-
-/// The greatest number of a journey.
-const MOST_JOURNEYS: usize = 999_999_999_999;
-
-/// The greatest position that a target may name.
-const MOST_POSITION: usize = 99;
+use commands::{MOST_EVENTS, MOST_NAMED_POSITION, Name, number_between};
 
 /// The piece of a target that holds a batch's name or a journey's number.
 const FIRST_PART: usize = 2;
@@ -46,7 +39,7 @@ fn name_at(target: &str) -> Option<Name>
 fn journey_at(target: &str) -> Option<u64>
     ensures journey { result ≡ journey_at target.now }
 {
-    let id = number_between(piece(target, FIRST_PART)?, 1, MOST_JOURNEYS)?;
+    let id = number_between(piece(target, FIRST_PART)?, 1, MOST_EVENTS as usize)?;
     Some(id as u64)
 }
 
@@ -54,7 +47,7 @@ fn journey_at(target: &str) -> Option<u64>
 fn position_at(target: &str) -> Option<usize>
     ensures position { result ≡ position_at target.now }
 {
-    number_between(piece(target, SECOND_PART)?, 0, MOST_POSITION)
+    number_between(piece(target, SECOND_PART)?, 0, MOST_NAMED_POSITION)
 }
 
 /// The piece of the target at this place, counted from 0, between its slashes.
@@ -62,12 +55,4 @@ fn piece(target: &str, place: usize) -> Option<&str>
     ensures piece { option_map (λ found. found.now) result ≡ piece target.now place }
 {
     target.split('/').nth(place)
-}
-
-/// The number between these limits that a text spells.
-fn number_between(text: &str, low: usize, high: usize) -> Option<usize>
-    ensures number { result ≡ number_from low high text.now }
-    ensures high { IfSome result (λ number. number ≤ high) }
-{
-    number_in(text, low, high)
 }

@@ -9,6 +9,7 @@ use Rattle.std.proofs.lemmas.Fmt.{decimal_digit}
 use Rattle.std.proofs.lemmas.List.{length-append, take-append-drop}
 use Rattle.std.proofs.lemmas.Str.Pattern.{strip_suffix_char}
 use Rattle.allotment.specs.Texts.{star}
+use Rattle.plan.specs.Limits.{most_tries}
 use Rattle.plan.specs.Drafts.{number_or_none}
 use Rattle.plan.specs.PlanLine.{has_mark, without_mark, tries_text, tries_in, front_of, end_of}
 use Rattle.allotment.proofs.TestLemmas.{same_bytes}
@@ -76,7 +77,7 @@ front_of_two front c d =
     ∙ ap (take (length front)) (two_behind front c d) ∙ take-append_seam front (c ∷ d ∷ [])
 
 -- what is printed of few tries is read as them
-pub tries_again : (n : ℕ) → n ≤ 9 → tries_in (tries_text n) ≡ Some n
+pub tries_again : (n : ℕ) → n ≤ most_tries → tries_in (tries_text n) ≡ Some n
 unfolding tries_in digits
 tries_again zero l = refl
 tries_again (suc zero) l = refl
@@ -96,7 +97,7 @@ pub tries_found : (text front body : List ℕ) (d : ℕ) → text ≡ front ++ d
 tries_found text front body d e f low high =
     let n = d - 48 in
     let digit : 48 + n ≡ d = omega arith in
-    let few : n ≤ 9 = omega arith in
+    let few : n ≤ most_tries = omega arith in
     let two : decimal n ≡ d ∷ [] = decimal_digit n (omega arith) ∙ ap (λ z. z ∷ []) digit in
     ap (λ z. tries_in (end_of z)) (e ∙ ap (λ z. z ++ d ∷ []) f)
     ∙ ap tries_in (end_of_two body 33 d)

@@ -5,6 +5,7 @@ use Rattle.std.specs.List.{AllByRecursion, enumerate_from}
 use Rattle.std.proofs.lemmas.Bool.{leb-true}
 use Rattle.allotment.specs.Limits.{is_between, is_code, is_count, are_nights}
 use Rattle.allotment.specs.Making.{unless, first_fault}
+use Rattle.plan.specs.Limits.{most_options, most_steps}
 use Rattle.plan.specs.declared.causes.PlanCause.{PlanCause}
 use Rattle.plan.specs.declared.causes.PlanCause.TheVariants as cause
 use Rattle.plan.specs.declared.faults.BadPlan.{BadPlan}
@@ -71,7 +72,7 @@ step_step : (n last i : ℕ) (s : Option StepDraft) → i ≤ n → AllByRecursi
 step_step n last i None l = (l, tt)
 step_step n last i (Some s) l =
     let mark = not (s.is_marked && i == last) in
-    let many = is_between 1 8 (length s.options) in
+    let many = is_between 1 most_options (length s.options) in
     let save = unless mark (at i cause.Save) in
     let options = unless many (at i cause.Options) in
     all_append (up_to n) (save ++ options) (flat_map (option_faults i) s.options)
@@ -87,26 +88,26 @@ steps_step n last i (s ∷ ss) l =
 
 -- where there are too many steps, that is told, or the tries
 told_at_0 : (a : Bool) (fs : List BadPlan) (f : BadPlan) {X : Type 0} (x : X)
-    → first_fault x (unless a (at 0 cause.Tries) ++ unless false (at 0 cause.Steps) ++ fs) ≡ Err f → f.step ≤ 24
-told_at_0 false fs f x e = let same : at 0 cause.Tries ≡ f = cc in subst (up_to 24) same (omega arith)
-told_at_0 true fs f x e = let same : at 0 cause.Steps ≡ f = cc in subst (up_to 24) same (omega arith)
+    → first_fault x (unless a (at 0 cause.Tries) ++ unless false (at 0 cause.Steps) ++ fs) ≡ Err f → f.step ≤ most_steps
+told_at_0 false fs f x e = let same : at 0 cause.Tries ≡ f = cc in subst (up_to most_steps) same (omega arith)
+told_at_0 true fs f x e = let same : at 0 cause.Steps ≡ f = cc in subst (up_to most_steps) same (omega arith)
 
--- what is told of a line is at step 0 to 24, however many steps it has
-pub told_up_to_24 : (a b : Bool) (d : Draft) (f : BadPlan) {X : Type 0} (x : X) → is_between 1 24 (length d.steps) ≡ b
+-- what is told of a line is at no step past the most that a plan may have, however many it has
+pub told_within_steps : (a b : Bool) (d : Draft) (f : BadPlan) {X : Type 0} (x : X) → is_between 1 most_steps (length d.steps) ≡ b
     → first_fault x (unless a (at 0 cause.Tries) ++ unless b (at 0 cause.Steps)
-    ++ flat_map (step_faults (length d.steps)) (enumerate_from 1 d.steps)) ≡ Err f → f.step ≤ 24
-told_up_to_24 a false d f x e h = told_at_0 a (flat_map (step_faults (length d.steps)) (enumerate_from 1 d.steps)) f x h
-told_up_to_24 a true d f x e h =
+    ++ flat_map (step_faults (length d.steps)) (enumerate_from 1 d.steps)) ≡ Err f → f.step ≤ most_steps
+told_within_steps a false d f x e h = told_at_0 a (flat_map (step_faults (length d.steps)) (enumerate_from 1 d.steps)) f x h
+told_within_steps a true d f x e h =
     let n = length d.steps in
-    let few : n ≤ 24 = leb-true n 24 (and_both (nat_le 1 n) (nat_le n 24) e).1 in
+    let few : n ≤ most_steps = leb-true n most_steps (and_both (nat_le 1 n) (nat_le n most_steps) e).1 in
     let tries = unless a (at 0 cause.Tries) in
     let steps = flat_map (step_faults n) (enumerate_from 1 d.steps) in
-    first_of_all (up_to 24) x (tries ++ [] ++ steps) f h
-    (all_append (up_to 24) (tries ++ []) steps
-    (all_append (up_to 24) tries [] (wrong_step 24 0 a cause.Tries (omega arith)) tt)
-    (steps_step 24 n 1 d.steps (omega arith)))
+    first_of_all (up_to most_steps) x (tries ++ [] ++ steps) f h
+    (all_append (up_to most_steps) (tries ++ []) steps
+    (all_append (up_to most_steps) tries [] (wrong_step most_steps 0 a cause.Tries (omega arith)) tt)
+    (steps_step most_steps n 1 d.steps (omega arith)))
 
--- a fault of a line is at step 0 to 24
-pub fault_step : (text : List ℕ) (f : BadPlan) → plan_in text ≡ Err f → f.step ≤ 24
+-- a fault of a line is at such a step
+pub fault_step : (text : List ℕ) (f : BadPlan) → plan_in text ≡ Err f → f.step ≤ most_steps
 unfolding plan_in
-fault_step text f e = told_up_to_24 _ _ (line_draft text) f _ refl e
+fault_step text f e = told_within_steps _ _ (line_draft text) f _ refl e

@@ -9,6 +9,7 @@ use Rattle.allotment.specs.Nights.{night_text, night_in}
 use Rattle.allotment.specs.Texts.{keep_if, kind_word, kind_of_word}
 use Rattle.allotment.specs.declared.kinds.Kind.{Kind}
 use Rattle.allotment.specs.declared.kinds.Kind.TheVariants.{Flight, Room, Transfer, Cover}
+use Rattle.plan.specs.Limits.{most_options, most_steps, most_tries}
 use Rattle.plan.specs.Planned.{Planned, StepPlan, is_step, is_last_unmarked, is_plan}
 use Rattle.plan.specs.Drafts.{OptionDraft, StepDraft, drafted, drafted_step, drafted_plan, judged}
 use Rattle.plan.specs.PlanJson.{json_option, json_step, step_with, draft_with, json_draft, plan_in_json}
@@ -59,7 +60,7 @@ marked_so options mark = record { options = options; is_marked = mark }
 -- the value of a step is read as the step
 step_again : (s : StepPlan) → is_step s ≡ true → json_step (step_data s) ≡ Some (drafted_step s)
 step_again s e =
-    let both = and_both (is_between 1 8 (length s.options)) (list_all is_want s.options) e in
+    let both = and_both (is_between 1 most_options (length s.options)) (list_all is_want s.options) e in
     ap (λ z. Some (step_with z s.is_marked)) (values_of-items_of (map want_data s.options))
     ∙ ap (λ z. Some (marked_so z s.is_marked)) (options_again s.options both.1)
 
@@ -73,19 +74,19 @@ steps_again (s ∷ steps) e =
     ∙ ap (λ z. Some (drafted_step s) ∷ z) (steps_again steps both.1)
 
 -- the value of a plan is read as what the plan says
-draft_again : (p : Planned) → list_all is_step p.steps ≡ true → nat_le p.tries 9 ≡ true
+draft_again : (p : Planned) → list_all is_step p.steps ≡ true → nat_le p.tries most_tries ≡ true
     → json_draft (plan_data p) ≡ Some (drafted_plan p)
 draft_again p good few =
-    let in_range : is_between 0 9 p.tries ≡ true = and_make _ _ (le-leb 0 p.tries (omega arith)) few in
-    ap (λ z. Some (draft_with (keep_if (is_between 0 9) p.tries) z)) (values_of-items_of (map step_data p.steps))
-    ∙ ap (λ z. Some (draft_with z (map step_data p.steps))) (keep_if_yes (is_between 0 9) p.tries in_range)
+    let in_range : is_between 0 most_tries p.tries ≡ true = and_make _ _ (le-leb 0 p.tries (omega arith)) few in
+    ap (λ z. Some (draft_with (keep_if (is_between 0 most_tries) p.tries) z)) (values_of-items_of (map step_data p.steps))
+    ∙ ap (λ z. Some (draft_with z (map step_data p.steps))) (keep_if_yes (is_between 0 most_tries) p.tries in_range)
     ∙ ap (λ z. Some (record { steps = z; tries = Some p.tries })) (steps_again p.steps good)
 
 -- so it is read as the plan
 pub json_again : (p : Planned) → is_plan p ≡ true → plan_in_json (plan_data p) ≡ Ok p
 unfolding plan_in_json
 json_again p e =
-    let all = and_both _ (nat_le p.tries 9) e in
+    let all = and_both _ (nat_le p.tries most_tries) e in
     let marks = and_both _ (is_last_unmarked p.steps) all.0 in
-    let counts = and_both (is_between 1 24 (length p.steps)) (list_all is_step p.steps) marks.0 in
+    let counts = and_both (is_between 1 most_steps (length p.steps)) (list_all is_step p.steps) marks.0 in
     ap judged (draft_again p counts.1 all.1) ∙ made_is p ∙ made_again p e

@@ -9,6 +9,7 @@ use Rattle.serde_json.specs.declared.value.Value.{Value}
 use Rattle.allotment.specs.Want.{Wanted}
 use Rattle.allotment.specs.Limits.{is_between}
 use Rattle.allotment.specs.Making.{first_fault}
+use Rattle.plan.specs.Limits.{most_options}
 use Rattle.plan.specs.declared.causes.PlanCause.TheVariants as cause
 use Rattle.plan.specs.declared.faults.BadPlan.{BadPlan}
 use Rattle.plan.specs.Planned.{StepPlan}
@@ -95,7 +96,7 @@ step_unshaped n i d e = ap (judged_step n i) (sym e)
 
 -- a step is told by its mark, by the number of its options and by what they are
 step_shaped : (n i : ℕ) (d : Data) (vs : List Value) (m : Bool) → Some (step_with (views vs) m) ≡ json_step d
-    → step_of_json n i d ≡ told_step (not (m && i == n)) (is_between 1 8 (length vs)) i m (wants_of_json i (views vs))
+    → step_of_json n i d ≡ told_step (not (m && i == n)) (is_between 1 most_options (length vs)) i m (wants_of_json i (views vs))
 unfolding step_of_json wants_of_json
 step_shaped n i d vs m e =
     let drafts : List (Option OptionDraft) = map json_option (views vs) in
@@ -103,14 +104,14 @@ step_shaped n i d vs m e =
     let faults : List BadPlan = flat_map (option_faults i) drafts in
     let many : length drafts ≡ length vs = length-map (views vs) json_option ∙ length-map vs view in
     ap (judged_step n i) (sym e)
-    ∙ first_of_step (not (m && i == n)) (is_between 1 8 (length drafts)) i m wants faults
-    ∙ ap (λ z. told_step (not (m && i == n)) (is_between 1 8 z) i m (first_fault wants faults)) many
+    ∙ first_of_step (not (m && i == n)) (is_between 1 most_options (length drafts)) i m wants faults
+    ∙ ap (λ z. told_step (not (m && i == n)) (is_between 1 most_options z) i m (first_fault wants faults)) many
 
 -- the mark of a step, or the number of its options, is wrong
 pub step_refused : (n i : ℕ) (d : Data) (vs : List Value) (m : Bool) (f : BadPlan) → Some (step_with (views vs) m) ≡ json_step d
     → Err f ≡ step_limits n i m (length vs) → step_of_json n i d ≡ Err f
 step_refused n i d vs m f e limits =
-    step_shaped n i d vs m e ∙ limits_fail (not (m && i == n)) (is_between 1 8 (length vs)) i m (wants_of_json i (views vs)) f limits
+    step_shaped n i d vs m e ∙ limits_fail (not (m && i == n)) (is_between 1 most_options (length vs)) i m (wants_of_json i (views vs)) f limits
 
 -- any other step is told by its options
 pub step_by_wants : (n i : ℕ) (d : Data) (vs : List Value) (m : Bool) (r : Result (List Wanted) BadPlan)
@@ -118,5 +119,5 @@ pub step_by_wants : (n i : ℕ) (d : Data) (vs : List Value) (m : Bool) (r : Res
     → step_of_json n i d ≡ told_step true true i m r
 step_by_wants n i d vs m r e limits read =
     step_shaped n i d vs m e
-    ∙ limits_pass (not (m && i == n)) (is_between 1 8 (length vs)) i m (wants_of_json i (views vs)) limits
+    ∙ limits_pass (not (m && i == n)) (is_between 1 most_options (length vs)) i m (wants_of_json i (views vs)) limits
     ∙ ap (told_step true true i m) read

@@ -7,6 +7,7 @@ use Rattle.serde_json.specs.Data.{Data}
 use Rattle.serde_json.specs.Find.{as_bool}
 use Rattle.allotment.specs.Want.{Wanted}
 use Rattle.allotment.specs.Limits.{is_between, is_want}
+use Rattle.plan.specs.Limits.{most_options, most_steps}
 use Rattle.plan.specs.Planned.{Planned, StepPlan, is_step, is_last_unmarked, is_plan}
 use Rattle.plan.specs.Drafts.{OptionDraft, StepDraft, option_faults, step_faults, faults, want_of, step_of, plan_of, judged}
 use Rattle.plan.specs.PlanJson.{has_just, in_member, list_of, text_of, option_members, option_said, json_option, step_with, step_from, step_members, json_step, json_steps, json_tries, draft_with, plan_in_json}
@@ -86,7 +87,7 @@ with_good n i ds m e =
       draft = step_with ds m;
       there = refl;
       unmarked = unless_none _ _ first.0;
-      good = and_make _ _ (ap (is_between 1 8) (sym counts) ∙ unless_none _ _ first.1) options.good;
+      good = and_make _ _ (ap (is_between 1 most_options) (sym counts) ∙ unless_none _ _ first.1) options.good;
     }
 
 -- which it has where it has a list of options and says whether it is marked
@@ -156,7 +157,7 @@ draft_good tries ds e =
     let steps = steps_good n 1 ds (omega arith) (flat_map_none (step_faults n) (enumerate_from 1 drafts) last.1) in
     let few = and_both _ _ (unless_none _ _ first.0) in
     let same : n ≡ length (steps_in drafts) = counts ∙ sym steps.many in
-    let many : is_between 1 24 (length (steps_in drafts)) ≡ true = ap (is_between 1 24) (sym same) ∙ unless_none _ _ first.1 in
+    let many : is_between 1 most_steps (length (steps_in drafts)) ≡ true = ap (is_between 1 most_steps) (sym same) ∙ unless_none _ _ first.1 in
     and_make _ _ (and_make _ _ (and_make _ _ many steps.good) steps.unmarked) few.1
 
 -- what is read of a draft, or of none

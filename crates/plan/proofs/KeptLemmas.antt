@@ -8,6 +8,7 @@ use Rattle.std.proofs.lemmas.List.{length-map}
 use Rattle.allotment.specs.Want.{Wanted}
 use Rattle.allotment.specs.Limits.{is_between, is_night, is_code, is_count, are_nights, most_nights, is_want}
 use Rattle.allotment.specs.Making.{unless, first_fault}
+use Rattle.plan.specs.Limits.{most_options, most_steps, most_tries}
 use Rattle.plan.specs.declared.faults.BadPlan.{BadPlan}
 use Rattle.plan.specs.Planned.{Planned, StepPlan, is_last_unmarked}
 use Rattle.plan.specs.Drafts.{OptionDraft, option_faults, step_faults, want_of, step_of, drafted, drafted_step, plan_made}
@@ -93,29 +94,29 @@ steps_back (s ∷ steps) =
 -- a step of wants is told by its mark and by the number of its options
 pub kept_told : (n i : ℕ) (s : StepPlan) → list_all is_want s.options ≡ true
     → step_kept n i s
-    ≡ told_step (not (s.is_marked && i == n)) (is_between 1 8 (length s.options)) i s.is_marked (Ok s.options)
+    ≡ told_step (not (s.is_marked && i == n)) (is_between 1 most_options (length s.options)) i s.is_marked (Ok s.options)
 unfolding step_kept
 kept_told n i s good =
     let drafts : List (Option OptionDraft) = map (λ w. Some (drafted w)) s.options in
     let marked : Bool = not (s.is_marked && i == n) in
-    first_of_step marked (is_between 1 8 (length drafts)) i s.is_marked s.options (flat_map (option_faults i) drafts)
-    ∙ ap (λ z. told_step marked (is_between 1 8 (length drafts)) i s.is_marked (first_fault s.options z))
+    first_of_step marked (is_between 1 most_options (length drafts)) i s.is_marked s.options (flat_map (option_faults i) drafts)
+    ∙ ap (λ z. told_step marked (is_between 1 most_options (length drafts)) i s.is_marked (first_fault s.options z))
     (options_clean i s.options good)
-    ∙ ap (λ z. told_step marked (is_between 1 8 z) i s.is_marked (Ok s.options)) (length-map s.options (λ w. Some (drafted w)))
+    ∙ ap (λ z. told_step marked (is_between 1 most_options z) i s.is_marked (Ok s.options)) (length-map s.options (λ w. Some (drafted w)))
 
 -- a limit of a step that is not kept is told
 pub kept_refused : (n i : ℕ) (s : StepPlan) (f : BadPlan) → list_all is_want s.options ≡ true
     → Err f ≡ step_limits n i s.is_marked (length s.options) → step_kept n i s ≡ Err f
 kept_refused n i s f good limits =
     kept_told n i s good
-    ∙ limits_fail (not (s.is_marked && i == n)) (is_between 1 8 (length s.options)) i s.is_marked (Ok s.options) f limits
+    ∙ limits_fail (not (s.is_marked && i == n)) (is_between 1 most_options (length s.options)) i s.is_marked (Ok s.options) f limits
 
 -- where both are kept, the step is as it should be
 pub kept_within : (n i : ℕ) (s : StepPlan) → list_all is_want s.options ≡ true
     → Ok tt ≡ step_limits n i s.is_marked (length s.options) → step_kept n i s ≡ Ok s
 kept_within n i s good limits =
     kept_told n i s good
-    ∙ limits_pass (not (s.is_marked && i == n)) (is_between 1 8 (length s.options)) i s.is_marked (Ok s.options) limits
+    ∙ limits_pass (not (s.is_marked && i == n)) (is_between 1 most_options (length s.options)) i s.is_marked (Ok s.options) limits
 
 -- The steps.
 
@@ -162,14 +163,14 @@ kept_unmarked n steps many e =
 
 -- a plan that is made is told by its tries, the number of its steps, and what they keep
 pub made_told : (p : Planned) (n : ℕ) → n ≡ length p.steps
-    → plan_made p ≡ told_line (nat_le p.tries 9) (is_between 1 24 n) p.tries (steps_kept n p.steps)
+    → plan_made p ≡ told_line (nat_le p.tries most_tries) (is_between 1 most_steps n) p.tries (steps_kept n p.steps)
 unfolding plan_made steps_kept
 made_told p n many =
     let drafts = map (λ s. Some (drafted_step s)) p.steps in
     let same : length drafts ≡ n = length-map p.steps (λ s. Some (drafted_step s)) ∙ sym many in
-    first_of_line (nat_le p.tries 9) (is_between 1 24 (length drafts)) p.tries (filter_map (option_map step_of) drafts)
+    first_of_line (nat_le p.tries most_tries) (is_between 1 most_steps (length drafts)) p.tries (filter_map (option_map step_of) drafts)
     (flat_map (step_faults (length drafts)) (enumerate_from 1 drafts))
-    ∙ ap (λ z. told_line (nat_le p.tries 9) (is_between 1 24 z) p.tries
+    ∙ ap (λ z. told_line (nat_le p.tries most_tries) (is_between 1 most_steps z) p.tries
     (first_fault (filter_map (option_map step_of) drafts) (flat_map (step_faults z) (enumerate_from 1 drafts)))) same
-    ∙ ap (λ z. told_line (nat_le p.tries 9) (is_between 1 24 n) p.tries
+    ∙ ap (λ z. told_line (nat_le p.tries most_tries) (is_between 1 most_steps n) p.tries
     (first_fault z (flat_map (step_faults n) (enumerate_from 1 drafts)))) (steps_back p.steps)

@@ -7,6 +7,7 @@ use Rattle.allotment.specs.Want.{Wanted}
 use Rattle.allotment.specs.Limits.{is_between}
 use Rattle.allotment.specs.Making.{unless, first_fault}
 use Rattle.allotment.specs.Texts.{parts, bar}
+use Rattle.plan.specs.Limits.{most_options}
 use Rattle.plan.specs.declared.causes.PlanCause.TheVariants as cause
 use Rattle.plan.specs.declared.faults.BadPlan.{BadPlan}
 use Rattle.plan.specs.declared.faults.PlanFault.{PlanFault}
@@ -64,7 +65,7 @@ limits_count true true i e = refl
 
 -- whether a step with so many options has as many as it may
 abbrev may_have : List ℕ → Bool
-may_have rest = is_between 1 8 (length (map option_draft (parts bar rest)))
+may_have rest = is_between 1 most_options (length (map option_draft (parts bar rest)))
 
 -- a step is told by its mark, by the number of its options and by what they are
 step_told : (n i : ℕ) (text : List ℕ)
@@ -78,12 +79,12 @@ step_told n i text =
 -- the same, where the text was cut into its options and its mark
 step_cut : (n i k : ℕ) (text rest : List ℕ) (m : Bool)
     → rest ≡ without_mark text → m ≡ has_mark text → k ≡ length (parts bar rest)
-    → step_in n i text ≡ told_step (not (m && i == n)) (is_between 1 8 k) i m (options_in i rest)
+    → step_in n i text ≡ told_step (not (m && i == n)) (is_between 1 most_options k) i m (options_in i rest)
 step_cut n i k text rest m cut mark many =
     step_told n i text
     ∙ ap (λ z. told_step (not (z && i == n)) (may_have (without_mark text)) i z (options_in i (without_mark text))) (sym mark)
     ∙ ap (λ z. told_step (not (m && i == n)) (may_have z) i m (options_in i z)) (sym cut)
-    ∙ ap (λ z. told_step (not (m && i == n)) (is_between 1 8 z) i m (options_in i rest))
+    ∙ ap (λ z. told_step (not (m && i == n)) (is_between 1 most_options z) i m (options_in i rest))
     (length-map (parts bar rest) option_draft ∙ sym many)
 
 -- the mark of a step, or the number of its options, is wrong
@@ -92,7 +93,7 @@ pub step_refused : (n i k : ℕ) (text rest : List ℕ) (m : Bool) (f : BadPlan)
     → Err f ≡ step_limits n i m k → step_in n i text ≡ Err f
 step_refused n i k text rest m f cut mark many limits =
     step_cut n i k text rest m cut mark many
-    ∙ limits_fail (not (m && i == n)) (is_between 1 8 k) i m (options_in i rest) f limits
+    ∙ limits_fail (not (m && i == n)) (is_between 1 most_options k) i m (options_in i rest) f limits
 
 -- any other step is told by its options
 pub step_by_options : (n i k : ℕ) (text rest : List ℕ) (m : Bool) (r : Result (List Wanted) BadPlan)
@@ -100,7 +101,7 @@ pub step_by_options : (n i k : ℕ) (text rest : List ℕ) (m : Bool) (r : Resul
     → Ok tt ≡ step_limits n i m k → options_in i rest ≡ r → step_in n i text ≡ told_step true true i m r
 step_by_options n i k text rest m r cut mark many limits read =
     step_cut n i k text rest m cut mark many
-    ∙ limits_pass (not (m && i == n)) (is_between 1 8 k) i m (options_in i rest) limits
+    ∙ limits_pass (not (m && i == n)) (is_between 1 most_options k) i m (options_in i rest) limits
     ∙ ap (told_step true true i m) read
 
 -- two numbers are another's

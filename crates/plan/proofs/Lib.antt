@@ -1,3 +1,4 @@
+pub mod LimitLemmas
 pub mod StepLemmas
 pub mod ListFacts
 pub mod ReadLemmas

@@ -7,6 +7,7 @@ use Rattle.std.proofs.lemmas.Bool.{le-leb, leb-true}
 use Rattle.std.proofs.lemmas.List.{map-append, get_or-map}
 use Rattle.std.proofs.lemmas.List.Folds.{list_all-append}
 use Rattle.allotment.specs.Limits.{is_between, is_want}
+use Rattle.plan.specs.Limits.{most_options, most_steps, most_tries}
 use Rattle.plan.specs.declared.causes.PlanCause.TheVariants as cause
 use Rattle.plan.specs.declared.faults.BadPlan.{BadPlan}
 use Rattle.plan.specs.declared.steps.PlanStep.{PlanStep}
@@ -36,11 +37,11 @@ between_yes n most low high = and_make _ _ (le-leb 1 n low) (le-leb n most high)
 
 -- a step keeps the limits that has no mark on the last one, and one to eight options
 pub kept_right : (n i : ℕ) (s : StepPlan) → list_all is_want s.options ≡ true → (s.is_marked ≡ false) ⊎ (i ≢ n)
-    → 1 ≤ length s.options → length s.options ≤ 8 → step_kept n i s ≡ Ok s
+    → 1 ≤ length s.options → length s.options ≤ most_options → step_kept n i s ≡ Ok s
 kept_right n i s good mark low high =
     kept_told n i s good
-    ∙ ap (λ z. told_step z (is_between 1 8 (length s.options)) i s.is_marked (Ok s.options)) (mark_right s.is_marked i n mark)
-    ∙ ap (λ z. told_step true z i s.is_marked (Ok s.options)) (between_yes (length s.options) 8 low high)
+    ∙ ap (λ z. told_step z (is_between 1 most_options (length s.options)) i s.is_marked (Ok s.options)) (mark_right s.is_marked i n mark)
+    ∙ ap (λ z. told_step true z i s.is_marked (Ok s.options)) (between_yes (length s.options) most_options low high)
 
 -- The steps so far, and one more.
 
@@ -71,32 +72,32 @@ limits_more items k x l e so_far here =
 -- A plan.
 
 -- too many tries
-pub made_tries : (p : Planned) → 9 < p.tries → plan_made p ≡ Err (at 0 cause.Tries)
+pub made_tries : (p : Planned) → most_tries < p.tries → plan_made p ≡ Err (at 0 cause.Tries)
 made_tries p many =
     let n = length p.steps in
     made_told p n refl
-    ∙ ap (λ z. told_line z (is_between 1 24 n) p.tries (steps_kept n p.steps)) (le_no p.tries 9 (nat_le p.tries 9) refl many)
+    ∙ ap (λ z. told_line z (is_between 1 most_steps n) p.tries (steps_kept n p.steps)) (le_no p.tries most_tries (nat_le p.tries most_tries) refl many)
 
 -- no step, or too many
-pub made_miscounted : (p : Planned) (n : ℕ) → n ≡ length p.steps → p.tries ≤ 9 → (n ≡ 0) ⊎ (24 < n)
+pub made_miscounted : (p : Planned) (n : ℕ) → n ≡ length p.steps → p.tries ≤ most_tries → (n ≡ 0) ⊎ (most_steps < n)
     → plan_made p ≡ Err (at 0 cause.Steps)
 made_miscounted p n same few many =
     made_told p n same
-    ∙ ap (λ z. told_line z (is_between 1 24 n) p.tries (steps_kept n p.steps)) (le-leb p.tries 9 few)
-    ∙ ap (λ z. told_line true z p.tries (steps_kept n p.steps)) (between_no n 24 many)
+    ∙ ap (λ z. told_line z (is_between 1 most_steps n) p.tries (steps_kept n p.steps)) (le-leb p.tries most_tries few)
+    ∙ ap (λ z. told_line true z p.tries (steps_kept n p.steps)) (between_no n most_steps many)
 
 -- any other plan is told by its steps
-pub made_by_steps : (p : Planned) (n : ℕ) (r : Result (List StepPlan) BadPlan) → n ≡ length p.steps → p.tries ≤ 9
-    → 1 ≤ n → n ≤ 24 → steps_kept n p.steps ≡ r → plan_made p ≡ told_line true true p.tries r
+pub made_by_steps : (p : Planned) (n : ℕ) (r : Result (List StepPlan) BadPlan) → n ≡ length p.steps → p.tries ≤ most_tries
+    → 1 ≤ n → n ≤ most_steps → steps_kept n p.steps ≡ r → plan_made p ≡ told_line true true p.tries r
 made_by_steps p n r same few low high kept =
     made_told p n same
-    ∙ ap (λ z. told_line z (is_between 1 24 n) p.tries (steps_kept n p.steps)) (le-leb p.tries 9 few)
-    ∙ ap (λ z. told_line true z p.tries (steps_kept n p.steps)) (between_yes n 24 low high)
+    ∙ ap (λ z. told_line z (is_between 1 most_steps n) p.tries (steps_kept n p.steps)) (le-leb p.tries most_tries few)
+    ∙ ap (λ z. told_line true z p.tries (steps_kept n p.steps)) (between_yes n most_steps low high)
     ∙ ap (told_line true true p.tries) kept
 
 -- and keeps the limits where they do
-pub made_keeps : (p : Planned) (n : ℕ) → n ≡ length p.steps → p.tries ≤ 9 → 1 ≤ n → n ≤ 24
+pub made_keeps : (p : Planned) (n : ℕ) → n ≡ length p.steps → p.tries ≤ most_tries → 1 ≤ n → n ≤ most_steps
     → steps_kept n p.steps ≡ Ok p.steps → list_all is_step p.steps ≡ true → is_plan p ≡ true
 made_keeps p n same few low high kept limits =
-    let many : is_between 1 24 (length p.steps) ≡ true = ap (is_between 1 24) (sym same) ∙ between_yes n 24 low high in
-    and_make _ _ (and_make _ _ (and_make _ _ many limits) (kept_unmarked n p.steps same kept)) (le-leb p.tries 9 few)
+    let many : is_between 1 most_steps (length p.steps) ≡ true = ap (is_between 1 most_steps) (sym same) ∙ between_yes n most_steps low high in
+    and_make _ _ (and_make _ _ (and_make _ _ many limits) (kept_unmarked n p.steps same kept)) (le-leb p.tries most_tries few)

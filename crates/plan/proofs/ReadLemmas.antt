@@ -12,6 +12,7 @@ use Rattle.allotment.specs.Limits.{is_between, is_night, is_want}
 use Rattle.allotment.specs.Texts.{parts, joined, number_in, slash, bar, semicolon, star, kind_letter, kinds, kind_of_letter, want_text}
 use Rattle.allotment.specs.Nights.{night_text, night_in, named_night}
 use Rattle.allotment.specs.declared.kinds.Kind.TheVariants.{Flight}
+use Rattle.plan.specs.Limits.{most_options, most_steps, most_tries}
 use Rattle.plan.specs.Planned.{Planned, StepPlan, is_step, is_last_unmarked}
 use Rattle.plan.specs.Drafts.{OptionDraft, StepDraft, kind_or_any, number_or_none, option_faults, step_faults, faults, want_of, step_of, plan_of}
 use Rattle.plan.specs.PlanLine.{step_text, mark_text, tries_text, tries_in, IsPlanLine, option_of_parts, option_draft, has_mark, without_mark, step_draft, line_draft, plan_in}
@@ -148,7 +149,7 @@ step_reads n i t e =
           ∙ ap (λ z. z ++ mark_text (has_mark t)) (join_with_byte-slice_split bar (without_mark t))
           ∙ marked_text t (has_mark t) refl;
       unmarked = unless_none _ _ first.0;
-      good = and_make _ _ (ap (is_between 1 8) (sym counts) ∙ unless_none _ _ first.1) options.good;
+      good = and_make _ _ (ap (is_between 1 most_options) (sym counts) ∙ unless_none _ _ first.1) options.good;
     }
 
 -- The steps.
@@ -206,7 +207,7 @@ find_within test a (suc n) x e = found_within test a n x (test a) (find_within t
 -- what is read of the tries
 pub record ReadsTries (t : List ℕ) : Type 0 where
   pub spelled : tries_text (number_or_none (tries_in t)) ≡ t
-  pub few : number_or_none (tries_in t) ≤ 9
+  pub few : number_or_none (tries_in t) ≤ most_tries
 
 -- tries that are read are spelled so, and at most 9
 pub tries_read : (t : List ℕ) → is_some (tries_in t) ≡ true → ReadsTries t
@@ -237,10 +238,10 @@ whole_line t e =
     let tries = tries_read (drop k t) (and_both _ _ (unless_none _ _ first.0)).0 in
     let counts : length (drafts_of ts) ≡ length (steps_of ts) =
     length-map ts (λ t. Some (step_draft t)) ∙ sym (count_steps ts) in
-    let many : is_between 1 24 (length (steps_of ts)) ≡ true =
-    ap (is_between 1 24) (sym counts) ∙ unless_none _ _ first.1 in
+    let many : is_between 1 most_steps (length (steps_of ts)) ≡ true =
+    ap (is_between 1 most_steps) (sym counts) ∙ unless_none _ _ first.1 in
     record {
-      keeps_limits = and_make _ _ (and_make _ _ (and_make _ _ many steps.good) steps.unmarked) (le-leb _ 9 tries.few);
+      keeps_limits = and_make _ _ (and_make _ _ (and_make _ _ many steps.good) steps.unmarked) (le-leb _ most_tries tries.few);
       spelled = sym (
           ap (λ z. joined semicolon z ++ tries_text (number_or_none (tries_in (drop k t)))) steps.spelled
           ∙ ap (λ z. z ++ tries_text (number_or_none (tries_in (drop k t)))) (join_with_byte-slice_split semicolon (take k t))

@@ -12,6 +12,7 @@ use Rattle.allotment.specs.Nights.{night_text, night_in}
 use Rattle.allotment.specs.Texts.{parts, joined, number_in, kind_letter, kind_of_letter, want_text, slash, bar, semicolon, star}
 use Rattle.allotment.specs.declared.kinds.Kind.{Kind}
 use Rattle.allotment.specs.declared.kinds.Kind.TheVariants.{Flight, Room, Transfer, Cover}
+use Rattle.plan.specs.Limits.{most_options, most_steps, most_tries}
 use Rattle.plan.specs.Planned.{Planned, StepPlan, is_step, is_plan, is_last_unmarked}
 use Rattle.plan.specs.Drafts.{OptionDraft, StepDraft, Draft, drafted, drafted_step, drafted_plan, judged, plan_made}
 use Rattle.plan.specs.PlanLine.{step_text, mark_text, tries_text, tries_in, plan_line, IsPlanLine, option_of_parts, option_draft, has_mark, without_mark, step_draft, front_of, end_of, line_draft, plan_in}
@@ -122,14 +123,14 @@ parts_of_step (w ∷ ws) some e = parts_joined bar (want_text w) (map want_text 
 -- what a step that keeps the limits has
 record IsGoodStep (s : StepPlan) : Type 0 where
   pub some : 1 ≤ length s.options
-  pub few : length s.options ≤ 8
+  pub few : length s.options ≤ most_options
   pub wants : list_all is_want s.options ≡ true
 
 -- such a step has all of that
 good_step : (s : StepPlan) → is_step s ≡ true → IsGoodStep s
 good_step s e =
-    let both = and_both (is_between 1 8 (length s.options)) (list_all is_want s.options) e in
-    let count = and_both (nat_le 1 (length s.options)) (nat_le (length s.options) 8) both.0 in
+    let both = and_both (is_between 1 most_options (length s.options)) (list_all is_want s.options) e in
+    let count = and_both (nat_le 1 (length s.options)) (nat_le (length s.options) most_options) both.0 in
     record { some = leb-true _ _ count.0; few = leb-true _ _ count.1; wants = both.1 }
 
 -- the draft of a step of these texts
@@ -185,11 +186,11 @@ parts_of_plan (s ∷ steps) some e = parts_joined semicolon (step_text s) (map s
 -- The line.
 
 -- the tries are the last two bytes
-tries_length : (n : ℕ) → n ≤ 9 → length (tries_text n) ≡ 2
+tries_length : (n : ℕ) → n ≤ most_tries → length (tries_text n) ≡ 2
 tries_length n l = ap (λ z. length (33 ∷ z)) (decimal_digit n (omega arith))
 
 -- the line of a plan is read as what the plan says
-line_again : (p : Planned) → 1 ≤ length p.steps → p.tries ≤ 9 → list_all is_step p.steps ≡ true → line_draft (plan_line p) ≡ drafted_plan p
+line_again : (p : Planned) → 1 ≤ length p.steps → p.tries ≤ most_tries → list_all is_step p.steps ≡ true → line_draft (plan_line p) ≡ drafted_plan p
 line_again p some few good =
     let body = joined semicolon (map step_text p.steps) in
     let end = tries_text p.tries in
@@ -233,14 +234,14 @@ kept_again n i (s ∷ steps) l u e =
 -- a plan that keeps the limits is made as it is
 pub made_again : (p : Planned) → is_plan p ≡ true → plan_made p ≡ Ok p
 made_again p e =
-    let all = and_both _ (nat_le p.tries 9) e in
+    let all = and_both _ (nat_le p.tries most_tries) e in
     let marks = and_both _ (is_last_unmarked p.steps) all.0 in
-    let counts = and_both (is_between 1 24 (length p.steps)) (list_all is_step p.steps) marks.0 in
+    let counts = and_both (is_between 1 most_steps (length p.steps)) (list_all is_step p.steps) marks.0 in
     let n = length p.steps in
-    let count = and_both (nat_le 1 n) (nat_le n 24) counts.0 in
+    let count = and_both (nat_le 1 n) (nat_le n most_steps) counts.0 in
     let kept : steps_kept n p.steps ≡ Ok p.steps =
     sym (kept_whole n p.steps) ∙ none_behind (each (step_kept n) 1 p.steps) ∙ kept_again n 1 p.steps (omega arith) marks.1 counts.1 in
-    made_by_steps p n (Ok p.steps) refl (leb-true p.tries 9 all.1) (leb-true 1 n count.0) (leb-true n 24 count.1) kept
+    made_by_steps p n (Ok p.steps) refl (leb-true p.tries most_tries all.1) (leb-true 1 n count.0) (leb-true n most_steps count.1) kept
 
 -- what is made of a plan is what is told of its draft
 pub made_is : (p : Planned) → judged (Some (drafted_plan p)) ≡ plan_made p
@@ -251,12 +252,12 @@ made_is p = refl
 pub spelled_is_read : (t : List ℕ) (p : Planned) → IsPlanLine t p → plan_in t ≡ Ok p
 unfolding plan_in
 spelled_is_read t p line =
-    let all = and_both _ (nat_le p.tries 9) line.keeps_limits in
+    let all = and_both _ (nat_le p.tries most_tries) line.keeps_limits in
     let marks = and_both _ (is_last_unmarked p.steps) all.0 in
-    let counts = and_both (is_between 1 24 (length p.steps)) (list_all is_step p.steps) marks.0 in
+    let counts = and_both (is_between 1 most_steps (length p.steps)) (list_all is_step p.steps) marks.0 in
     let n = length p.steps in
-    let count = and_both (nat_le 1 n) (nat_le n 24) counts.0 in
+    let count = and_both (nat_le 1 n) (nat_le n most_steps) counts.0 in
     ap (λ z. judged (Some (line_draft z))) line.spelled
-    ∙ ap (λ z. judged (Some z)) (line_again p (leb-true 1 n count.0) (leb-true p.tries 9 all.1) counts.1)
+    ∙ ap (λ z. judged (Some z)) (line_again p (leb-true 1 n count.0) (leb-true p.tries most_tries all.1) counts.1)
     ∙ made_is p
     ∙ made_again p line.keeps_limits

@@ -6,6 +6,7 @@ use Rattle.allotment.specs.Limits.{is_between, is_code, is_count, are_nights}
 use Rattle.allotment.specs.Making.{unless, first_fault}
 use Rattle.allotment.specs.declared.kinds.Kind.{Kind}
 use Rattle.allotment.specs.declared.kinds.Kind.TheVariants.{Flight}
+use Rattle.plan.specs.Limits.{most_options, most_steps, most_tries}
 use Rattle.plan.specs.Planned.{Planned, StepPlan}
 use Rattle.plan.specs.declared.causes.PlanCause.{PlanCause}
 use Rattle.plan.specs.declared.causes.PlanCause.TheVariants as cause
@@ -59,15 +60,15 @@ abbrev pub step_faults : ℕ → ℕ × Option StepDraft → List BadPlan
 step_faults n (i, None) = at i cause.Shape ∷ []
 step_faults n (i, Some s) =
     unless (not (s.is_marked && i == n)) (at i cause.Save)
-    ++ unless (is_between 1 8 (length s.options)) (at i cause.Options)
+    ++ unless (is_between 1 most_options (length s.options)) (at i cause.Options)
     ++ flat_map (option_faults i) s.options
 
 -- all that is wrong with a plan, in order. Only the first is told, so it does not matter what a later one says
 abbrev pub faults : Option Draft → List BadPlan
 faults None = at 0 cause.Shape ∷ []
 faults (Some d) =
-    unless (is_some d.tries && nat_le (number_or_none d.tries) 9) (at 0 cause.Tries)
-    ++ unless (is_between 1 24 (length d.steps)) (at 0 cause.Steps)
+    unless (is_some d.tries && nat_le (number_or_none d.tries) most_tries) (at 0 cause.Tries)
+    ++ unless (is_between 1 most_steps (length d.steps)) (at 0 cause.Steps)
     ++ flat_map (step_faults (length d.steps)) (enumerate_from 1 d.steps)
 
 -- the want that an option means

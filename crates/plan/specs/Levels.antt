@@ -7,6 +7,7 @@ use Rattle.allotment.specs.Making.{unless, first_fault}
 use Rattle.allotment.specs.Texts.{parts, bar, semicolon}
 use Rattle.allotment.specs.declared.faults.Bad.{Bad}
 use Rattle.allotment.specs.declared.faults.Bad.TheVariants as bad
+use Rattle.plan.specs.Limits.{most_options}
 use Rattle.plan.specs.Planned.{Planned, StepPlan, step_said, plan_said}
 use Rattle.plan.specs.declared.steps.PlanStep.{PlanStep}
 use Rattle.plan.specs.declared.causes.PlanCause.{PlanCause}
@@ -41,7 +42,7 @@ options_in i text =
 abbrev pub step_limits : ℕ → ℕ → Bool → ℕ → Result (Unit {0}) BadPlan
 step_limits n i save options =
     first_fault tt
-    (unless (not (save && i == n)) (at i cause.Save) ++ unless (is_between 1 8 options) (at i cause.Options))
+    (unless (not (save && i == n)) (at i cause.Save) ++ unless (is_between 1 most_options options) (at i cause.Options))
 
 -- the step of this number, of so many, that a text spells, or the first thing that is wrong with it
 unfoldable pub step_in : ℕ → ℕ → List ℕ → Result StepPlan BadPlan

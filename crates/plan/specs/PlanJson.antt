@@ -6,6 +6,7 @@ use Rattle.serde_json.specs.Find.{get, as_bool, as_number, as_u64, as_str, as_ar
 use Rattle.allotment.specs.Nights.{night_in}
 use Rattle.allotment.specs.Limits.{is_between}
 use Rattle.allotment.specs.Texts.{keep_if, kind_of_word}
+use Rattle.plan.specs.Limits.{most_tries}
 use Rattle.plan.specs.Planned.{Planned}
 use Rattle.plan.specs.declared.faults.BadPlan.{BadPlan}
 use Rattle.plan.specs.Drafts.{OptionDraft, StepDraft, Draft, judged}
@@ -96,7 +97,7 @@ json_steps d = if has_just plan_members d then in_member (codes "steps") list_of
 
 -- the tries of a plan, if they are a whole number from 0 to 9
 abbrev pub json_tries : Data → Option ℕ
-json_tries d = option_and_then (keep_if (is_between 0 9)) (in_member (codes "tries") whole_number d)
+json_tries d = option_and_then (keep_if (is_between 0 most_tries)) (in_member (codes "tries") whole_number d)
 
 -- a plan with these steps, and tries if they are a number
 abbrev pub draft_with : Option ℕ → List Data → Draft

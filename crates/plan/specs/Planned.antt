@@ -3,6 +3,7 @@ use Rattle.std.specs.Prelude.{ℕ, zero, suc, ◌&&◌, not, Bool, true, false, 
 use Rattle.std.specs.List.{list_all}
 use Rattle.allotment.specs.Want.{Wanted}
 use Rattle.allotment.specs.Limits.{is_between, is_want}
+use Rattle.plan.specs.Limits.{most_options, most_steps, most_tries}
 use Rattle.plan.specs.declared.steps.PlanStep.{PlanStep}
 
 -- one step: the wants that would do, in order of preference, and whether a save-point stands behind it
@@ -52,11 +53,11 @@ is_last_unmarked [] = true
 is_last_unmarked (s ∷ []) = not s.is_marked
 is_last_unmarked (s ∷ t ∷ later) = is_last_unmarked (t ∷ later)
 
--- the step keeps the limits: 1 to 8 options, each of which keeps its own
+-- the step keeps the limits: from 1 option, each of which keeps its own
 abbrev pub is_step : StepPlan → Bool
-is_step s = is_between 1 8 (length s.options) && list_all is_want s.options
+is_step s = is_between 1 most_options (length s.options) && list_all is_want s.options
 
--- the plan keeps the limits: 1 to 24 steps, each with 1 to 8 options, the last one unmarked, and at most 9 tries
+-- the plan keeps the limits: from 1 step, each with from 1 option, the last one unmarked, and few tries
 abbrev pub is_plan : Planned → Bool
 is_plan p =
-    is_between 1 24 (length p.steps) && list_all is_step p.steps && is_last_unmarked p.steps && nat_le p.tries 9
+    is_between 1 most_steps (length p.steps) && list_all is_step p.steps && is_last_unmarked p.steps && nat_le p.tries most_tries

@@ -3,6 +3,7 @@
 //! Each list is allocated once, and nothing is copied but the parts of wants.
 ghost use Rattle.std.specs.Prelude.{◌≡◌, ◌≤◌, Ok, Err, option_map, length, IfOk, IfErr, IfSome};
 ghost use Rattle.serde_json.specs.View.{view};
+ghost use Rattle.plan.specs.Limits.{most_steps, most_tries};
 ghost use Rattle.plan.specs.Planned.{step_said};
 ghost use Rattle.plan.specs.Faults.{IfBad};
 ghost use Rattle.plan.specs.PlanJson.{json_step, json_steps, json_tries, step_with};
@@ -32,7 +33,7 @@ pub fn plan_steps(value: &Value) -> Option<&[Value]>
 pub fn plan_tries(value: &Value) -> Option<u8>
     ensures tries { result ≡ json_tries (view value.now) }
 
-    ensures few { IfSome result (λ tries. tries ≤ 9) }
+    ensures few { IfSome result (λ tries. tries ≤ most_tries) }
 {
     let tries = number_in(value, "tries")?;
     if tries > u64::from(MOST_TRIES) {
@@ -43,7 +44,7 @@ pub fn plan_tries(value: &Value) -> Option<u8>
 
 /// The steps that these values spell.
 pub fn steps_of(alloc: Global, values: &[Value]) -> Result<Vec<PlanStep>, PlanFault>
-    requires few { length values.now ≤ 24 }
+    requires few { length values.now ≤ most_steps }
 
     ensures read { IfOk result (λ steps. AreJsonSteps (length values.now) values.now steps.items) }
     ensures refused { IfErr result

@@ -2,6 +2,7 @@
 ghost use Rattle.std.specs.Prelude.{◌≡◌, ◌≤◌, Ok, Err, map, length, IsTrue, OnOk, IfErr};
 ghost use Rattle.std.specs.List.{list_all};
 ghost use Rattle.allotment.specs.Limits.{is_want};
+ghost use Rattle.plan.specs.Limits.{most_steps};
 ghost use Rattle.plan.specs.Planned.{step_said, is_step};
 ghost use Rattle.plan.specs.Levels.{step_limits, step_checked, steps_checked};
 
@@ -21,7 +22,7 @@ pub const MOST_TRIES: u8 = 9;
 
 /// The first limit that one of the steps does not keep.
 pub fn check_steps(steps: &[PlanStep]) -> Result<(), BadPlan>
-    requires few { length steps.now ≤ 24 }
+    requires few { length steps.now ≤ most_steps }
 
     ensures kept { OnOk result (steps_checked steps.now ≡ Ok (map step_said steps.now)) }
     ensures limits { OnOk result (IsTrue (list_all is_step (map step_said steps.now))) }

@@ -3,6 +3,7 @@
 //! A text is cut where it stands, and each list is allocated once.
 ghost use Rattle.std.specs.Prelude.{◌≡◌, ◌≤◌, Ok, Err, length, IfOk, IfErr};
 ghost use Rattle.allotment.specs.Texts.{parts, bar, semicolon};
+ghost use Rattle.plan.specs.Limits.{most_steps};
 ghost use Rattle.plan.specs.Planned.{step_said};
 ghost use Rattle.plan.specs.Faults.{IfBad};
 ghost use Rattle.plan.specs.Levels.{options_in as wants_in, step_in as step_read, steps_in as steps_read, AreStepsOf};
@@ -18,7 +19,7 @@ use std::alloc::Global;
 /// The steps that a line spells before its tries: `last` of them.
 pub fn steps_in(alloc: Global, last: usize, text: &str) -> Result<Vec<PlanStep>, PlanFault>
     requires whole { last ≡ length (parts semicolon text.now) }
-    requires few { last ≤ 24 }
+    requires few { last ≤ most_steps }
 
     ensures read { IfOk result (λ steps. AreStepsOf last text.now steps.items) }
     ensures refused { IfErr result (IfBad (λ bad. steps_read last text.now ≡ Err bad)) }

@@ -1,5 +1,6 @@
 //! Plans that keep the limits, and what they say of their steps.
 ghost use Rattle.std.specs.Prelude.{◌≡◌, ◌≤◌, Some, Ok, Err, IfOk, IfErr, IsTrue, string_bytes};
+ghost use Rattle.plan.specs.Limits.{most_steps};
 ghost use Rattle.plan.specs.Planned.{plan_said, is_plan, step_count, is_marked_at, option_count, want_at};
 ghost use Rattle.plan.specs.Faults.{IfBad, IsBadAnd};
 ghost use Rattle.plan.specs.Levels.{MakesPlan};
@@ -49,7 +50,7 @@ impl Plan {
         ensures spelled { IfOk result (λ plan. IsPlanLine text.now plan) }
 
         ensures refused { IfErr result (IfBad (λ bad. ReadsAs text.now (Err bad))) }
-        ensures step { IfErr result (IfBad (λ bad. bad.step ≤ 24)) }
+        ensures step { IfErr result (IfBad (λ bad. bad.step ≤ most_steps)) }
     {
         let Some((front, tries)) = split_tries(text) else {
             return Err(PlanFault::Bad(bad(0, PlanCause::Tries)));
@@ -71,7 +72,7 @@ impl Plan {
         ensures read { IfOk result (λ plan. JsonReadsAs (view value.now) (Ok plan)) }
 
         ensures refused { IfErr result (IfBad (λ bad. JsonReadsAs (view value.now) (Err bad))) }
-        ensures step { IfErr result (IfBad (λ bad. bad.step ≤ 24)) }
+        ensures step { IfErr result (IfBad (λ bad. bad.step ≤ most_steps)) }
     {
         let Some(values) = plan_steps(value) else {
             return Err(PlanFault::Bad(bad(0, PlanCause::Shape)));

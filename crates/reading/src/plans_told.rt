@@ -6,7 +6,7 @@ ghost use Rattle.reading.specs.PlansTold.{TellsWant, TellsOption, TellStep, Tell
 use allotment::{Kind, Night, Want};
 use commands::Fault;
 use desk_sql::StepFound;
-use plan::{Plan, PlanFault, PlanStep};
+use plan::{MOST_TRIES, Plan, PlanFault, PlanStep};
 use std::alloc::Global;
 
 /// Whether a row is that of an option with this want.
@@ -131,7 +131,7 @@ pub(crate) fn plan_told(alloc: Global, rows: &[StepFound], tries: u64) -> Result
     ensures tries { IfOk result (λ plan. plan.tries ≡ tries) }
     ensures good { IfOk result (λ plan. IsTrue (is_plan plan)) }
 {
-    if tries > 9 {
+    if tries > u64::from(MOST_TRIES) {
         return Err(Fault::Store);
     }
     let steps = steps_told(alloc, rows)?;

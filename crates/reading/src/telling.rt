@@ -10,12 +10,12 @@ ghost use Rattle.standing.specs.Reading.{phase_in, cause_in, item_in, night_seen
 ghost use Rattle.reading.specs.Reading.{TellsCursor, TellsBrief, TellsStand, TellsRecord, TellItems, TellNights, TellCells};
 
 use crate::reads::Stand;
-use allotment::{Cell, Code, Held, Kind, Night};
+use allotment::{Cell, Code, Held, Kind, MOST_PLACES, Night};
 use commands::{Agent, Cause, Cursor, Fault, Item, Phase};
 use desk_sql::{CellFound, Cursor as CursorFound, ItemFound, JourneyFound, NightFound};
 use plan::Plan;
 use saga_core::{Brief, Record};
-use savepoints::Marks;
+use savepoints::{LAST_MARK, Marks};
 use std::alloc::Global;
 
 /// The phase of a number and a target.
@@ -152,7 +152,7 @@ fn night_of(day: u64) -> Option<Night>
 fn places_of(allot: u64, free: u64) -> Option<Held>
     ensures { IfSome result (λ places. (places.allot ≡ allot) × (places.free ≡ free)) }
 {
-    if allot > 100_000 || free > allot {
+    if allot > u64::from(MOST_PLACES) || free > allot {
         return None;
     }
     Some(Held {
@@ -235,7 +235,7 @@ pub(crate) fn marks_told(found: &[u64]) -> Option<Marks>
 {
     let mut marks = Marks::none();
     for at in found {
-        if *at == 0 || *at > 23 {
+        if *at == 0 || *at > LAST_MARK as u64 {
             return None;
         }
         marks.add(*at as usize);

@@ -13,10 +13,6 @@ use Rattle.saga_core.specs.MemoryJourneys.{IsPlaced}
 at_least_one : (plan : Planned) → IsTrue (is_plan plan) → (0 == step_count plan) ≡ false
 at_least_one plan good = grind (arith, common_steps)
 
--- and at most 24
-pub few_steps : (plan : Planned) → IsTrue (is_plan plan) → step_count plan ≤ 24
-few_steps plan good = grind (arith, common_steps)
-
 -- a journey that was just begun is running at its beginning
 pub phase-begun : (plan : Planned) → IsTrue (is_plan plan) → phase plan [] ≡ Run
 phase-begun plan good = ap (λ ended. if ended then Ended else Run) (at_least_one plan good)

@@ -4,6 +4,7 @@ use Rattle.std.specs.Prelude.{◌&&◌, not, nat_lt, slice_get, slice_set, if◌
 use Rattle.std.proofs.lemmas.Option.{slice_get-get_or}
 use Rattle.std.specs.FinSet as set
 use Rattle.std.specs.Ordering.{nat_cmp}
+use Rattle.plan.specs.Limits.{most_steps}
 use Rattle.plan.specs.Planned.{Planned, step_count, option_count}
 use Rattle.savepoints.specs.Marks.{is_taken_in}
 use Rattle.savepoints.specs.Rules as rules
@@ -76,7 +77,7 @@ save_said-fits stock plan c marks =
 
 -- a save-point is taken between the first step and the last
 pub save_said-next : (plan : Planned) (c : Cursor) (marks : set.FinSet nat_cmp) (taken : List ℕ)
-    → IsPlaced plan c taken → step_count plan ≤ 24 → IfOk (save_said plan c marks) (IsNext plan c)
+    → IsPlaced plan c taken → step_count plan ≤ most_steps → IfOk (save_said plan c marks) (IsNext plan c)
 save_said-next plan c marks taken placed few =
     go c.phase refl (nat_lt 0 c.pos) refl
     (rules.is_save_point plan (is_taken_in marks) c.pos c.pos)

@@ -7,6 +7,7 @@ use Rattle.commands.specs.declared.items.Cursor.{Cursor}
 use Rattle.commands.specs.declared.items.Phase.{Phase}
 use Rattle.commands.specs.declared.items.Phase.TheVariants.{Run, Back}
 use Rattle.ledger.specs.History.{net, is_going_back, is_open}
+use Rattle.savepoints.specs.Marks.{last_mark}
 use Rattle.saga_core.specs.Shown.{cursor_of, marks_of}
 
 -- this option is one of the step that has this place, from 0
@@ -41,4 +42,4 @@ IsNext plan cursor (Transaction i c) =
 IsNext plan cursor (Compensation i c) =
     IsTrue (is_going_back cursor.phase) × (i ≡ cursor.pos) × IsOptionAt plan (cursor.pos - 1) c
 IsNext plan cursor (Turn p cause) = IsTrue (is_open cursor.phase)
-IsNext plan cursor (Save p) = (1 ≤ p) × (p ≤ 23)
+IsNext plan cursor (Save p) = (1 ≤ p) × (p ≤ last_mark)

@@ -18,12 +18,9 @@ use crate::memory::next::is_unfinished_above;
 use crate::memory::stock::Stock;
 use crate::records::{Brief, Record};
 use allotment::{Cell, Held, Night, Want};
-use commands::{Agent, Ask, Batch, Command, Fault, Item, Refusal, Reply};
+use commands::{Agent, Ask, Batch, Command, Fault, Item, MOST_EVENTS, Refusal, Reply};
 use plan::Plan;
 use std::alloc::{AllocError, Global};
-
-/// How many events a ledger may have.
-const MOST_EVENTS: u64 = 999_999_999_999;
 
 /// The desk in memory.
 #[derive(Drop)]

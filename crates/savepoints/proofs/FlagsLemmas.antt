@@ -4,15 +4,16 @@ use Rattle.std.proofs.lemmas.Bool.Decides.{nat_tests}
 use Rattle.std.proofs.lemmas.Bool.{and_right}
 use Rattle.std.proofs.lemmas.List.{get_or_past, get_or-replicate}
 use Rattle.allotment.specs.Limits.{is_between}
-use Rattle.savepoints.specs.Marks.{is_taken_in, AreInRange}
+use Rattle.plan.specs.Limits.{most_steps}
+use Rattle.savepoints.specs.Marks.{is_taken_in, last_mark, AreInRange}
 use Rattle.savepoints.specs.Flags.{is_flagged, flagged, AreFlags, is_taken_in-flagged}
 
 -- flags that are given false alike stand nowhere
-is_flagged-replicate : (p : ℕ) → is_flagged (replicate 24 false) p ≡ false
+is_flagged-replicate : (p : ℕ) → is_flagged (replicate most_steps false) p ≡ false
 is_flagged-replicate p = grind (arith, get_or_past, get_or-replicate)
 
 -- with no flag the set is empty
-pub is_taken_in-replicate : (p : ℕ) → is_taken_in (flagged (replicate 24 false)) p ≡ false
+pub is_taken_in-replicate : (p : ℕ) → is_taken_in (flagged (replicate most_steps false)) p ≡ false
 is_taken_in-replicate p =
     is_taken_in-flagged _ p (record { whole = refl; start = refl }) ∙ is_flagged-replicate p
 
@@ -39,29 +40,29 @@ pub is_taken_in-set :
     (flags : List Bool) (p q : ℕ)
     → AreFlags flags
     → 1 ≤ p
-    → p ≤ 23
+    → p ≤ last_mark
     → is_taken_in (flagged (set flags p true)) q ≡ ((q == p) || is_taken_in (flagged flags) q)
 is_taken_in-set flags p q kept low high =
     is_taken_in-flagged _ q (AreFlags-set flags p true kept low)
     ∙ is_flagged-set flags p q (omega (arith, kept.whole))
     ∙ ap (λ b. (q == p) || b) (sym (is_taken_in-flagged flags q kept))
 
--- a position whose flag stands is from 1 to 23
+-- a position whose flag stands is from 1 to the last mark
 in_range :
     (flags : List Bool) (p : ℕ)
     → AreFlags flags
     → is_flagged flags p ≡ true
-    → is_between 1 23 p ≡ true
+    → is_between 1 last_mark p ≡ true
 in_range flags p kept stands = grind (arith, nat_tests, get_or_past, kept.whole, kept.start)
 
--- so the set has positions from 1 to 23 alone
+-- so the set has positions from 1 to the last mark alone
 pub AreInRange-flagged : (flags : List Bool) → AreFlags flags → AreInRange (flagged flags)
 AreInRange-flagged flags kept = λ p taken.
     in_range flags p kept (sym (is_taken_in-flagged flags p kept) ∙ taken)
 
 -- the flags below i that stood above pos are down, and all others are as they were
 pub record IsCut (old now : List Bool) (pos i : ℕ) : Type 0 where
-  pub whole : length now ≡ 24
+  pub whole : length now ≡ most_steps
   pub kept : (q : ℕ) → is_flagged now q ≡ ((nat_le i q || nat_le q pos) && is_flagged old q)
 
 -- before the first flag nothing was taken down
@@ -81,7 +82,7 @@ flag_more old now pos i q below here there =
 
 pub IsCut-more :
     (old now : List Bool) (pos i : ℕ)
-    → i < 24
+    → i < most_steps
     → IsCut old now pos i
     → IsCut old (set now i (is_flagged now i && nat_le i pos)) pos (i + 1)
 IsCut-more old now pos i below cut = record {
@@ -89,7 +90,7 @@ IsCut-more old now pos i below cut = record {
   kept = λ q. flag_more old now pos i q (omega (arith, cut.whole)) (cut.kept i) (cut.kept q);
 }
 
--- what is cut keeps its 24 flags, and none at 0
+-- what is cut keeps all its flags, and none at 0
 pub AreFlags-cut :
     (old now : List Bool) (pos i : ℕ) → AreFlags old → IsCut old now pos i → AreFlags now
 AreFlags-cut old now pos i good cut = record {
@@ -100,8 +101,8 @@ AreFlags-cut old now pos i good cut = record {
 -- past the last flag the limit of the loop says nothing
 flag_all :
     (old : List Bool) (pos i q : ℕ)
-    → length old ≡ 24
-    → 24 ≤ i
+    → length old ≡ most_steps
+    → most_steps ≤ i
     → ((nat_le i q || nat_le q pos) && is_flagged old q) ≡ (nat_le q pos && is_flagged old q)
 flag_all old pos i q whole past = grind (arith, nat_tests, get_or_past)
 
@@ -110,7 +111,7 @@ pub is_taken_in-cut :
     (old now : List Bool) (pos i q : ℕ)
     → AreFlags old
     → IsCut old now pos i
-    → 24 ≤ i
+    → most_steps ≤ i
     → is_taken_in (flagged now) q ≡ (nat_le q pos && is_taken_in (flagged old) q)
 is_taken_in-cut old now pos i q good cut past =
     is_taken_in-flagged now q (AreFlags-cut old now pos i good cut)

@@ -1,4 +1,5 @@
--- A set of positions as it is kept: 24 flags in a row, one for each position from 0 on.
+-- A set of positions as it is kept: as many flags in a row as a plan may have steps, one for each
+-- position from 0 on.
 use Rattle.std.specs.Prelude.{◌≡◌, ℕ, ◌+◌, ◌==◌, ◌&&◌, ◌||◌, zero, suc, Bool, true, false, cond, List, ◌∷◌, length, map, nat_le, nat_lt, slice_index_or, refl}
 use Rattle.std.specs.List.{range_with_len, list_any, filter}
 use Rattle.std.specs.Ordering.{nat_cmp}
@@ -8,6 +9,7 @@ use Rattle.std.proofs.Common.{◌∙◌, sym, arith}
 use Rattle.std.proofs.lemmas.Bool.Decides.{nat_tests}
 use Rattle.std.proofs.lemmas.List.{get_or_past}
 use Rattle.std.proofs.lemmas.List.FromFn.{fill_by_all}
+use Rattle.plan.specs.Limits.{most_steps}
 use Rattle.savepoints.specs.Marks.{is_taken_in}
 
 -- the flag of position p stands; there is none past the last one
@@ -16,15 +18,15 @@ is_flagged flags p = slice_index_or flags p false
 
 -- the set of the positions whose flags stand
 unfoldable pub flagged : List Bool → set.FinSet nat_cmp
-flagged flags = set.from_list (filter (is_flagged flags) (range_with_len 0 24))
+flagged flags = set.from_list (filter (is_flagged flags) (range_with_len 0 most_steps))
 
 -- the flags of a set
 unfoldable pub flags_of : set.FinSet nat_cmp → List Bool
-flags_of marks = map (is_taken_in marks) (range_with_len 0 24)
+flags_of marks = map (is_taken_in marks) (range_with_len 0 most_steps)
 
--- there is a flag for each position from 0 to 23, and the one of 0 does not stand
+-- there is a flag for each position from 0 to the last mark, and the one of 0 does not stand
 pub record AreFlags (flags : List Bool) : Type 0 where
-  pub whole : length flags ≡ 24
+  pub whole : length flags ≡ most_steps
   pub start : is_flagged flags 0 ≡ false
 
 -- no number is at least the first one and below it
@@ -68,8 +70,8 @@ list_any-filter passes first (suc more) p =
 -- past the last flag none stands, so the limit may be left out
 below_last :
     (flags : List Bool) (p : ℕ)
-    → length flags ≡ 24
-    → (nat_le 0 p && nat_lt p (0 + 24) && is_flagged flags p) ≡ is_flagged flags p
+    → length flags ≡ most_steps
+    → (nat_le 0 p && nat_lt p (0 + most_steps) && is_flagged flags p) ≡ is_flagged flags p
 below_last flags p whole = grind (arith, nat_tests, get_or_past)
 
 -- a position is in the set of the flags where its flag stands
@@ -80,12 +82,12 @@ pub is_taken_in-flagged :
 unfolding flagged
 is_taken_in-flagged flags p kept =
     contains-from_list_nat _ p
-    ∙ list_any-filter (is_flagged flags) 0 24 p
+    ∙ list_any-filter (is_flagged flags) 0 most_steps p
     ∙ below_last flags p kept.whole
 
 -- the flags of the set of these flags are these
 pub flags_of-flagged : (flags : List Bool) → AreFlags flags → flags_of (flagged flags) ≡ flags
 unfolding flags_of
 flags_of-flagged flags kept =
-    sym (fill_by_all (is_taken_in (flagged flags)) flags 24 false kept.whole
+    sym (fill_by_all (is_taken_in (flagged flags)) flags most_steps false kept.whole
     (λ p below. sym (is_taken_in-flagged flags p kept)))

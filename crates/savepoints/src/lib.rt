@@ -14,7 +14,7 @@ mod save_points;
 mod tests;
 mod turns;
 
-pub use marks::Marks;
+pub use marks::{LAST_MARK, Marks};
 pub use options::option_at;
 pub use save_points::{is_save_point, last_save};
 pub use turns::{NoSavePoint, Turn, target};

@@ -1,14 +1,18 @@
 //! Save-points that were taken while a journey ran, as one small value.
 ghost use Rattle.std.specs.Prelude.{◌≡◌, ℕ, ◌≤◌, ◌==◌, ◌&&◌, ◌||◌, false, nat_le};
-ghost use Rattle.savepoints.specs.Marks.{is_taken_in, AreInRange};
+ghost use Rattle.savepoints.specs.Marks.{is_taken_in, last_mark, AreInRange};
 
+use plan::MOST_STEPS;
 use std::marker::Model;
 
-/// The positions from 1 to 23 at which save-points were taken while a journey ran. To a contract it is their set.
+/// The last position at which a save-point may be taken: there is none behind the last step.
+pub const LAST_MARK: usize = MOST_STEPS - 1;
+
+/// The positions from 1 to `LAST_MARK` at which save-points were taken while a journey ran. To a contract it is their set.
 #[derive(Clone, Copy, Debug, PartialEq, Eq)]
 pub struct Marks {
     /// One flag for each position. The one of position 0 never stands.
-    taken: [bool; 24],
+    taken: [bool; MOST_STEPS],
 }
 
 impl Model for Marks {
@@ -36,7 +40,9 @@ impl Marks {
     pub fn none() -> Marks
         ensures empty { (p : ℕ) → is_taken_in result p ≡ false }
     {
-        Marks { taken: [false; 24] }
+        Marks {
+            taken: [false; MOST_STEPS],
+        }
     }
 
     /// Whether a save-point was taken at this position.
@@ -47,10 +53,10 @@ impl Marks {
         self.taken.get(p).copied().unwrap_or(false)
     }
 
-    /// Takes a save-point at this position, 1 to 23.
+    /// Takes a save-point at this position, 1 to `LAST_MARK`.
     pub fn add(&mut self, p: usize)
         requires from_one { 1 ≤ p }
-        requires in_range { p ≤ 23 }
+        requires in_range { p ≤ last_mark }
 
         ensures added { (q : ℕ) → is_taken_in self.new q ≡ ((q == p) || is_taken_in self.old q) }
     {

@@ -4,14 +4,17 @@ use Rattle.std.proofs.Common.{◌≡◌, inl, inr, ℕ, zero, suc, ◌+◌, ◌<
 use Rattle.std.specs.Prelude.{slice_get, find, position, option_map, option_and_then, unwrap_or, is_some, nat_lt, nat_le, ◌&&◌, not}
 use Rattle.std.specs.List.{AllByRecursion, list_any, list_all}
 use Rattle.std.proofs.lemmas.Bool.{and_parts, and_from, or_cases, leb-true, le-leb, ltb-true, leb-false, eqb-false}
+use Rattle.plan.specs.Limits.{most_options, most_steps}
+use Rattle.plan.proofs.LimitLemmas.{few_steps}
+use Rattle.commands.specs.Limits.{most_rows}
 use Rattle.sqlite_trees.proofs.ListLemmas.{all-append, all-slice_get}
 use Rattle.allotment.specs.Limits.{is_between}
 use Rattle.allotment.specs.declared.cells.Row.{Row}
-use Rattle.plan.specs.Planned.{Planned, StepPlan, is_plan, is_step, is_last_unmarked, step_count, is_marked_at, option_count, numbered}
+use Rattle.plan.specs.Planned.{Planned, StepPlan, is_plan, step_count, is_marked_at, option_count, numbered}
 use Rattle.commands.specs.Asked.{Asked}
 use Rattle.commands.specs.Names.{is_batch_name}
 use Rattle.commands.specs.Request.{Request, Load, Begin, Step, Abort, Stop, Save}
-use Rattle.commands.specs.Texts.{most_journeys, is_journey, is_position, is_option, is_item, is_state, is_accepted}
+use Rattle.commands.specs.Texts.{is_journey, is_position, is_option, is_item, is_state, is_accepted}
 use Rattle.commands.specs.declared.items.Cause.TheVariants as cause
 use Rattle.commands.specs.declared.items.Item.{Item}
 use Rattle.commands.specs.declared.items.Item.TheVariants as item
@@ -43,17 +46,6 @@ use Rattle.standing.proofs.RecordRows.{plan_good}
 between : (low high n : ℕ) → low ≤ n → n ≤ high → is_between low high n ≡ true
 between low high n a b = and_from (nat_le low n) (nat_le n high) (le-leb low n a) (le-leb n high b)
 
-few_steps : (plan : Planned) → IsTrue (is_plan plan) → step_count plan ≤ 24
-few_steps plan good =
-    let short =
-    (and_parts (is_between 1 24 (step_count plan) && list_all is_step plan.steps && is_last_unmarked plan.steps) (nat_le plan.tries 9) good).0 in
-    let steps =
-    (and_parts (is_between 1 24 (step_count plan) && list_all is_step plan.steps) (is_last_unmarked plan.steps) short).0 in
-    let count =
-    (and_parts (is_between 1 24 (step_count plan)) (list_all is_step plan.steps) steps).0 in
-    leb-true (step_count plan) 24
-    (and_parts (nat_le 1 (step_count plan)) (nat_le (step_count plan) 24) count).1
-
 -- no more steps stand than the plan has
 position-within : (plan : Planned) (h : List Item) → Goes plan h → position_of h ≤ step_count plan
 position-within plan h g = by_mode g.mode
@@ -64,19 +56,19 @@ position-within plan h g = by_mode g.mode
     by_mode (fell f) = let a = f.low in omega arith
 
 -- where a journey is keeps the limits, by its position
-state-good : (n pos : ℕ) (to_start : Bool) (going : Option ℕ) → pos ≤ 24
+state-good : (n pos : ℕ) (to_start : Bool) (going : Option ℕ) → pos ≤ most_steps
     → is_state pos (phase_at n pos to_start going) ≡ true
 state-good n pos to_start going few = ended (pos == n)
   where
     at : is_position pos ≡ true
-    at = between 0 24 pos (omega arith) few
+    at = between 0 most_steps pos (omega arith) few
 
     turned : (p : ℕ) (v : Bool) → nat_lt p pos ≡ v
         → is_state pos (if v then phases.Back p else phases.Run) ≡ true
     turned p true e =
         let low =
         ltb-true p pos e in and_from (is_position pos) (is_position p) at
-        (between 0 24 p (omega arith) (omega arith))
+        (between 0 most_steps p (omega arith) (omega arith))
     turned p false e = at
 
     open_yet : (o : Option ℕ) → is_state pos (back_or_run pos o) ≡ true
@@ -143,7 +135,7 @@ module _ (plan : Planned) (h : List Item) (good : IsTrue (is_plan plan)) (goes :
     (items : AreGood h) where
   -- a target keeps the limits
   target-good : (p : ℕ) → IsTarget plan (is_taken h) (position_of h) p → is_position p ≡ true
-  target-good p (inl start) = between 0 24 p (omega arith) (omega arith)
+  target-good p (inl start) = between 0 most_steps p (omega arith) (omega arith)
   target-good p (inr save) =
       elim (or_cases (is_marked_at plan p && nat_le p (position_of h)) (is_taken h p) save) [
         | inl marked ↦ (
@@ -152,7 +144,7 @@ module _ (plan : Planned) (h : List Item) (good : IsTrue (is_plan plan)) (goes :
             (and_parts (is_marked_at plan p) (nat_le p (position_of h)) marked).1 in
             let within = position-within plan h goes in
             let few = few_steps plan good in
-            between 0 24 p (omega arith) (omega arith))
+            between 0 most_steps p (omega arith) (omega arith))
         | inr taken ↦ taken-good h p items taken
       ]
 
@@ -166,18 +158,18 @@ module _ (plan : Planned) (h : List Item) (good : IsTrue (is_plan plan)) (goes :
       go false e =
           let within = position-within plan h goes in let off = eqb-false _ _ e in omega arith
 
-  option-good : position_of h < step_count plan → is_between 1 8 (next_option plan h) ≡ true
+  option-good : position_of h < step_count plan → is_between 1 most_options (next_option plan h) ≡ true
   option-good short =
       let s = got plan.steps (position_of h) short in
       let counts : option_count plan (position_of h + 1) ≡ length s.0.options =
       ap (option_count plan) (add-one (position_of h))
       ∙ ap (λ o. unwrap_or (option_map (λ (x : StepPlan). length x.options) o) 0) s.1 in
       let bounds =
-      all-slice_get (λ (x : StepPlan). (1 ≤ length x.options) × (length x.options ≤ 8)) plan.steps
+      all-slice_get (λ (x : StepPlan). (1 ≤ length x.options) × (length x.options ≤ most_options)) plan.steps
       (position_of h) s.0 s.1 (have_options plan good) in
       let low = bounds.0 in
       let high = bounds.1 in
-      between 1 8 (next_option plan h) (omega arith) (omega arith)
+      between 1 most_options (next_option plan h) (omega arith) (omega arith)
 
   -- an item that may come keeps the limits
   item-good : (may_fit : Bool) (x : Item) → may_come plan h may_fit x ≡ true → is_item x ≡ true
@@ -186,8 +178,8 @@ module _ (plan : Planned) (h : List Item) (good : IsTrue (is_plan plan)) (goes :
       let short = running-short comes.running in
       let few = few_steps plan good in
       let step = comes.step in
-      and_from (is_between 1 24 i) (is_between 1 8 c) (between 1 24 i (omega arith) (omega arith))
-      (ap (is_between 1 8) comes.option ∙ option-good short)
+      and_from (is_between 1 most_steps i) (is_between 1 most_options c) (between 1 most_steps i (omega arith) (omega arith))
+      (ap (is_between 1 most_options) comes.option ∙ option-good short)
   item-good may_fit (item.Compensation i c) may =
       last-all (λ (t : ℕ × ℕ). is_option t.0 t.1 ≡ true) (net h) (i, c) (net-good h items)
       (compensation-comes plan h may_fit i c may).last
@@ -213,7 +205,7 @@ module _ (plan : Planned) (h : List Item) (good : IsTrue (is_plan plan)) (goes :
       (and_parts (is_running (phase plan h)) (p == position_of h) most.0).1 in
       let within = position-within plan h goes in
       let few = few_steps plan good in
-      between 0 24 p (omega arith) (omega arith)
+      between 0 most_steps p (omega arith) (omega arith)
 
 -- the items of each journey of a legal ledger
 abbrev EveryItemIsGood : List Event → Type 0
@@ -271,7 +263,7 @@ module _ (l : List Event) (legal : IsLegal l) (room : length l < most_events) wh
       let low = bounds.0 in
       let high = bounds.1 in
       let few = journeys-few l in
-      between 1 most_journeys j low (omega arith)
+      between 1 most_events j low (omega arith)
 
   pub moved-good : (j : ℕ) (a : Journey) (x : Item) → journey_at l j ≡ Some a → may_do l j x a ≡ true
       → IsGood (moved a.plan (history l j) j x)
@@ -332,8 +324,8 @@ module _ (l : List Event) (legal : IsLegal l) (room : length l < most_events) wh
       limits : is_accepted (reply.Loaded name (length rows)) ≡ true
       limits =
           let some =
-          (and_parts (is_batch_name name && is_between 1 2000 (length rows) && list_all is_good_row rows) (are_distinct rows) ok).0 in
-          (and_parts (is_batch_name name && is_between 1 2000 (length rows)) (list_all is_good_row rows) some).0
+          (and_parts (is_batch_name name && is_between 1 most_rows (length rows) && list_all is_good_row rows) (are_distinct rows) ok).0 in
+          (and_parts (is_batch_name name && is_between 1 most_rows (length rows)) (list_all is_good_row rows) some).0
 
       new : (o : Option ℕ) → IsGood (answer_new name rows o)
       new (Some i) = tt
@@ -354,7 +346,7 @@ module _ (l : List Event) (legal : IsLegal l) (room : length l < most_events) wh
   within-good who (Load name rows) ok = load-good name rows ok
   within-good who (Begin plan) ok =
       let few = journeys-few l in
-      between 1 most_journeys (length (journeys l) + 1) (omega arith) (omega arith)
+      between 1 most_events (length (journeys l) + 1) (omega arith) (omega arith)
   within-good who (Step j) ok =
       move-good j step_choices NoSavePoint (seen_journey l who j) (seen-there who j)
   within-good who (Abort j p) ok =

@@ -1,20 +1,19 @@
 -- The rows that beginning a journey writes stand for what it comes to.
 use Rattle.std.proofs.Common.{◌≡◌, ℕ, suc, ◌+◌, ◌-◌, ◌<◌, ◌≤◌, List, [], ◌∷◌, ◌++◌, length, map, true, false, if◌then◌else◌, Option, None, IsTrue, refl, sym, ap, subst, ◌∙◌, arith, append-nil, length-append}
-use Rattle.std.specs.Prelude.{option_map, unwrap_or, nat_le, ◌==◌, ◌&&◌, flat_map}
-use Rattle.std.specs.List.{list_all}
+use Rattle.std.specs.Prelude.{option_map, unwrap_or, nat_le, ◌==◌, flat_map}
 use Rattle.std.specs.List.Sorted.{IsPermutation}
-use Rattle.std.proofs.lemmas.Bool.{and_parts, and_from, leb-true, le-leb}
+use Rattle.std.proofs.lemmas.Bool.{and_from, le-leb}
 use Rattle.std.proofs.lemmas.Bool.Decides.{nat_tests}
 use Rattle.std.proofs.lemmas.List.{map-append}
 use Rattle.std.proofs.lemmas.Grind.{flat_map-append}
 use Rattle.std.proofs.lemmas.List.Sorted.{IsPermutation-append_left}
-use Rattle.allotment.specs.Limits.{is_between}
+use Rattle.plan.proofs.LimitLemmas.{limited}
 use Rattle.allotment.specs.declared.cells.Cell.{Cell}
-use Rattle.plan.specs.Planned.{Planned, is_plan, is_step, is_last_unmarked, step_count}
+use Rattle.plan.specs.Planned.{Planned, is_plan, step_count}
 use Rattle.commands.specs.Asked.{Asked}
 use Rattle.commands.specs.Names.{house}
 use Rattle.commands.specs.Request.{Begin}
-use Rattle.commands.specs.Texts.{is_accepted, most_journeys}
+use Rattle.commands.specs.Texts.{is_accepted}
 use Rattle.commands.specs.declared.items.Phase.{Phase}
 use Rattle.commands.specs.declared.items.Phase.TheVariants.{Run}
 use Rattle.commands.specs.declared.refusals.Refusal.TheVariants.{Limit}
@@ -40,15 +39,7 @@ use Rattle.standing.proofs.Answering.{answer_stands, keepable-more}
 
 -- a plan that keeps the limits has a step
 pub has_step : (plan : Planned) → IsTrue (is_plan plan) → 1 ≤ step_count plan
-has_step plan good =
-    let short =
-    (and_parts (is_between 1 24 (step_count plan) && list_all is_step plan.steps && is_last_unmarked plan.steps) (nat_le plan.tries 9) good).0 in
-    let steps =
-    (and_parts (is_between 1 24 (step_count plan) && list_all is_step plan.steps) (is_last_unmarked plan.steps) short).0 in
-    let between =
-    (and_parts (is_between 1 24 (step_count plan)) (list_all is_step plan.steps) steps).0 in
-    leb-true 1 (step_count plan)
-    (and_parts (nat_le 1 (step_count plan)) (nat_le (step_count plan) 24) between).0
+has_step plan good = (limited plan good).some_steps
 
 start_phase : (n : ℕ) → 1 ≤ n → phase_at n 0 false None ≡ Run
 start_phase n some = let off : (0 == n) ≡ false = grind (arith, nat_tests) in rw off refl
@@ -238,6 +229,6 @@ begin_keeps s ask plan desk good room new = record {
     accepted =
         let few = journeys-few s.ledger in
         let low : 1 ≤ length (journeys s.ledger) + 1 = omega arith in
-        let high : length (journeys s.ledger) + 1 ≤ most_journeys = omega arith in
+        let high : length (journeys s.ledger) + 1 ≤ most_events = omega arith in
         and_from (nat_le 1 (length (journeys s.ledger) + 1))
-        (nat_le (length (journeys s.ledger) + 1) most_journeys) (le-leb _ _ low) (le-leb _ _ high)
+        (nat_le (length (journeys s.ledger) + 1) most_events) (le-leb _ _ low) (le-leb _ _ high)

@@ -1,11 +1,8 @@
 -- The rows of a plan, step by step and option by option, and how many of them there are. For who writes or reads them.
-use Rattle.std.proofs.Common.{◌≡◌, ℕ, zero, suc, ◌+◌, ◌<◌, ◌≤◌, List, [], ◌∷◌, ◌++◌, length, false, refl, sym, ap, ◌∙◌, arith, add-one, IsTrue}
-use Rattle.std.specs.Prelude.{Option, Some, None, option_map, option_and_then, unwrap_or, slice_get, nat_le, ◌&&◌}
+use Rattle.std.proofs.Common.{◌≡◌, ℕ, zero, suc, ◌+◌, ◌<◌, List, [], ◌∷◌, ◌++◌, length, false, refl, sym, ap, ◌∙◌, arith, add-one}
+use Rattle.std.specs.Prelude.{Option, Some, None, option_map, option_and_then, unwrap_or, slice_get}
 use Rattle.allotment.specs.Want.{Wanted}
-use Rattle.plan.specs.Planned.{Planned, StepPlan, numbered, option_count, step_count, is_plan, is_step, is_last_unmarked}
-use Rattle.allotment.specs.Limits.{is_between, is_want}
-use Rattle.std.proofs.lemmas.Bool.{and_parts, leb-true}
-use Rattle.std.specs.List.{list_all}
+use Rattle.plan.specs.Planned.{Planned, StepPlan, numbered, option_count, step_count}
 use Rattle.standing.specs.Called.{option_row, option_rows, step_rows_of, none_taken}
 use Rattle.standing.specs.Beginning.{first_options, first_steps, rows_of_step, rows_of_option, first_rows_of_step}
 use Rattle.standing.proofs.PlanWriting.{option_rows-more, option_rows-all, step_rows-more}
@@ -63,30 +60,3 @@ step_rows_of-more id plan n within = got (slice_get plan.steps n) refl
         step_rows-more none_taken id plan n s e
         ∙ ap (λ f. step_rows_of id (first_steps n plan) ++ unwrap_or (option_map (λ (r : StepPlan). option_rows none_taken id (n + 1) r) f) [])
         (sym (ap (numbered plan.steps) (add-one n) ∙ e))
-
--- The limits.
-
-few_of : (steps : List StepPlan) → IsTrue (list_all is_step steps) → (i : ℕ)
-    → unwrap_or (option_map (λ (s : StepPlan). length s.options) (slice_get steps i)) 0 ≤ 8
-few_of [] all i = omega arith
-few_of (s ∷ steps) all zero =
-    let one = and_parts (is_step s) (list_all is_step steps) all in
-    let size = and_parts (is_between 1 8 (length s.options)) (list_all is_want s.options) one.0 in
-    leb-true (length s.options) 8 (and_parts (nat_le 1 (length s.options)) (nat_le (length s.options) 8) size.0).1
-few_of (s ∷ steps) all (suc i) = few_of steps (and_parts (is_step s) (list_all is_step steps) all).1 i
-
--- a step of a plan has at most 8 options
-pub few_options : (plan : Planned) (i : ℕ) → IsTrue (is_plan plan) → option_count plan i ≤ 8
-few_options plan zero good = omega arith
-few_options plan (suc i) good =
-    few_of plan.steps (and_parts (is_between 1 24 (length plan.steps)) (list_all is_step plan.steps)
-    (and_parts (is_between 1 24 (length plan.steps) && list_all is_step plan.steps) (is_last_unmarked plan.steps)
-    (and_parts (is_between 1 24 (length plan.steps) && list_all is_step plan.steps && is_last_unmarked plan.steps) (nat_le plan.tries 9) good).0).0).1 i
-
--- and a plan has at most 24 steps
-pub few_steps : (plan : Planned) → IsTrue (is_plan plan) → step_count plan ≤ 24
-few_steps plan good =
-    leb-true (length plan.steps) 24 (and_parts (nat_le 1 (length plan.steps)) (nat_le (length plan.steps) 24)
-    (and_parts (is_between 1 24 (length plan.steps)) (list_all is_step plan.steps)
-    (and_parts (is_between 1 24 (length plan.steps) && list_all is_step plan.steps) (is_last_unmarked plan.steps)
-    (and_parts (is_between 1 24 (length plan.steps) && list_all is_step plan.steps && is_last_unmarked plan.steps) (nat_le plan.tries 9) good).0).0).0).1

@@ -1,17 +1,18 @@
 -- The rows of a plan in their order: they rise, and tell each step and each option once.
 use Rattle.std.proofs.Common.{◌≡◌, inl, inr, ℕ, suc, ◌+◌, ◌*◌, ◌<◌, ◌≤◌, List, [], ◌∷◌, filter, length, Bool, true, Some, IsTrue, arith}
-use Rattle.std.specs.Prelude.{flat_map, nat_le, ◌&&◌}
+use Rattle.std.specs.Prelude.{flat_map}
 use Rattle.std.specs.List.{AllByRecursion, list_all}
 use Rattle.std.specs.List.Sorted.{IsPermutation}
-use Rattle.std.proofs.lemmas.Bool.{and_parts, leb-true}
+use Rattle.std.proofs.lemmas.Bool.{and_parts}
 use Rattle.std.proofs.lemmas.List.Sorted.{IsPermutation-trans}
+use Rattle.plan.specs.Limits.{most_options}
+use Rattle.plan.proofs.LimitLemmas.{limited, step_limited}
 use Rattle.sqlite_trees.specs.Tree.{IsAscending}
 use Rattle.sqlite_trees.proofs.ListLemmas.{all-map, all_weaker, all-append, ascending-map, ascending_weaker, ascending-append}
 use Rattle.sqlite_rules.specs.Lists.{Has}
 use Rattle.sqlite_rules.proofs.ListLemmas.{all_has}
-use Rattle.allotment.specs.Limits.{is_between, is_want}
 use Rattle.allotment.specs.Want.{Wanted}
-use Rattle.plan.specs.Planned.{Planned, StepPlan, is_plan, is_step, is_last_unmarked, step_count}
+use Rattle.plan.specs.Planned.{Planned, StepPlan, is_plan, is_step}
 use Rattle.ledger.specs.Ledger.{Event, Journey, journey_at, history}
 use Rattle.desk_sql.specs.Rows.{StepRow}
 use Rattle.standing.specs.Called.{counted_from, option_row, option_rows, step_rows, is_standing, steps_called}
@@ -27,27 +28,18 @@ rank s = s.place * 16 + s.opt
 -- each step has a few options
 abbrev pub HaveOptions : List StepPlan → Type 0
 HaveOptions steps =
-    AllByRecursion (λ (s : StepPlan). (1 ≤ length s.options) × (length s.options ≤ 8)) steps
+    AllByRecursion (λ (s : StepPlan). (1 ≤ length s.options) × (length s.options ≤ most_options)) steps
 
 -- so it is in a plan that keeps the limits
 pub have_options : (plan : Planned) → IsTrue (is_plan plan) → HaveOptions plan.steps
-have_options plan good = each plan.steps all
+have_options plan good = each plan.steps (limited plan good).each_step
   where
-    all : list_all is_step plan.steps ≡ true
-    all =
-        let short =
-        (and_parts (is_between 1 24 (step_count plan) && list_all is_step plan.steps && is_last_unmarked plan.steps) (nat_le plan.tries 9) good).0 in
-        let steps =
-        (and_parts (is_between 1 24 (step_count plan) && list_all is_step plan.steps) (is_last_unmarked plan.steps) short).0 in
-        (and_parts (is_between 1 24 (step_count plan)) (list_all is_step plan.steps) steps).1
-
     each : (steps : List StepPlan) → list_all is_step steps ≡ true → HaveOptions steps
     each [] e = tt
     each (s ∷ steps) e =
-        let here =
-        (and_parts (is_between 1 8 (length s.options)) (list_all is_want s.options) (and_parts (is_step s) (list_all is_step steps) e).0).0 in
-        let bounds = and_parts (nat_le 1 (length s.options)) (nat_le (length s.options) 8) here in
-        ((leb-true 1 (length s.options) bounds.0, leb-true (length s.options) 8 bounds.1), each steps (and_parts (is_step s) (list_all is_step steps) e).1)
+        let both = and_parts (is_step s) (list_all is_step steps) e in
+        let here = step_limited s both.0 in
+        ((here.some_options, here.few_options), each steps both.1)
 
 module _ (taken : ℕ → ℕ → Bool) (id : ℕ) where
   -- the row of an option with its number
@@ -66,7 +58,7 @@ module _ (taken : ℕ → ℕ → Bool) (id : ℕ) where
   counted-low n [] m few = tt
   counted-low n (x ∷ xs) m few = (omega arith, counted-low (suc n) xs m (omega arith))
 
-  option_rows-within : (k : ℕ) (s : StepPlan) → length s.options ≤ 8
+  option_rows-within : (k : ℕ) (s : StepPlan) → length s.options ≤ most_options
       → AllByRecursion (λ (r : StepRow). (k * 16 ≤ rank r) × (rank r < suc k * 16)) (option_rows taken id k s)
   option_rows-within k s few =
       all-map (λ (r : StepRow). (k * 16 ≤ rank r) × (rank r < suc k * 16)) (row_at k s.is_marked)

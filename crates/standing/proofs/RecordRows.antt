@@ -16,7 +16,7 @@ use Rattle.plan.specs.Planned.{Planned, StepPlan, is_plan, numbered}
 use Rattle.commands.specs.declared.items.Cursor.{Cursor}
 use Rattle.ledger.specs.Ledger.{Event, Loaded, Began, Did, Journey, journeys, journey_at, history, is_allowed, IsLegal}
 use Rattle.ledger.proofs.Growing.{induct, journeys-began, journeys-loaded, journeys-did}
-use Rattle.savepoints.specs.Marks.{is_taken_in, AreInRange, same_marks}
+use Rattle.savepoints.specs.Marks.{last_mark, is_taken_in, AreInRange, same_marks}
 use Rattle.saga_core.specs.Shown.{cursor_of, marks_of, record_of_journey, record_of}
 use Rattle.saga_core.specs.declared.records.Record.{Record}
 use Rattle.desk_sql.specs.Rows.{JourneyRow, StepRow}
@@ -72,12 +72,12 @@ plan_told l rows found id a plan legal same at sorted up good read tries =
     ap (λ steps. made_plan steps plan.tries) (steps_from_rows id plan a.plan good fine one)
     ∙ ap (made_plan a.plan.steps) tries
 
--- a number from 1 to 23 is one of these
-low_numbers : (p : ℕ) → is_between 1 23 p ≡ true
-    → list_any (λ y. nat_eq y p) (numbers_from 1 23) ≡ true
+-- a number from 1 to the last mark is one of these
+low_numbers : (p : ℕ) → is_between 1 last_mark p ≡ true
+    → list_any (λ y. nat_eq y p) (numbers_from 1 last_mark) ≡ true
 low_numbers p e =
-    let bounds = and_parts (nat_le 1 p) (nat_le p 23) e in
-    among 1 23 p (leb-true 1 p bounds.0) (let high = leb-true p 23 bounds.1 in omega arith)
+    let bounds = and_parts (nat_le 1 p) (nat_le p last_mark) e in
+    among 1 last_mark p (leb-true 1 p bounds.0) (let high = leb-true p last_mark bounds.1 in omega arith)
   where
     among : (n k q : ℕ) → n ≤ q → q < n + k → list_any (λ y. nat_eq y q) (numbers_from n k) ≡ true
     among n zero q low high = absurd (omega arith)
@@ -95,7 +95,7 @@ pub marks_told : (h : List Item) (marks : set.FinSet nat_cmp)
     → ((p : ℕ) → is_taken_in marks p ≡ is_taken h p) → AreInRange marks → marks ≡ marks_of h
 marks_told h marks says low =
     same_marks marks (marks_of h)
-    (λ p. says p ∙ sym (set.contains-from_list_nat (filter (is_taken h) (numbers_from 1 23)) p ∙ any-filter (is_taken h) (λ y. nat_eq y p) (numbers_from 1 23) ∙ at p))
+    (λ p. says p ∙ sym (set.contains-from_list_nat (filter (is_taken h) (numbers_from 1 last_mark)) p ∙ any-filter (is_taken h) (λ y. nat_eq y p) (numbers_from 1 last_mark) ∙ at p))
   where
     one_of : (p y : ℕ) → (is_taken h y && nat_eq y p) ≡ (is_taken h p && nat_eq y p)
     one_of p y = go (nat_eq y p) refl
@@ -119,11 +119,11 @@ marks_told h marks says low =
         spread true b c = refl
         spread false b c = refl
 
-    at : (p : ℕ) → list_any (λ y. is_taken h y && nat_eq y p) (numbers_from 1 23) ≡ is_taken h p
-    at p = each p (numbers_from 1 23) ∙ go (is_taken h p) refl
+    at : (p : ℕ) → list_any (λ y. is_taken h y && nat_eq y p) (numbers_from 1 last_mark) ≡ is_taken h p
+    at p = each p (numbers_from 1 last_mark) ∙ go (is_taken h p) refl
       where
         go : (v : Bool) → is_taken h p ≡ v
-            → (v && list_any (λ y. nat_eq y p) (numbers_from 1 23)) ≡ v
+            → (v && list_any (λ y. nat_eq y p) (numbers_from 1 last_mark)) ≡ v
         go true e = low_numbers p (low p (says p ∙ e))
         go false e = refl
 

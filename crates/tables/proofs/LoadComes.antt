@@ -3,6 +3,7 @@ use Rattle.std.proofs.Common.{◌≡◌, ℕ, ◌+◌, ◌<◌, ◌≤◌, List,
 use Rattle.std.specs.Prelude.{position, not, bytes_eq, ◌&&◌, Result, Ok, Err, IfOk, OnOk}
 use Rattle.std.specs.List.{list_all}
 use Rattle.std.proofs.lemmas.Bool.{and_parts}
+use Rattle.commands.specs.Limits.{most_rows}
 use Rattle.allotment.specs.Limits.{is_between}
 use Rattle.allotment.specs.declared.cells.Cell.{Cell}
 use Rattle.allotment.specs.declared.cells.Row.{Row}
@@ -40,9 +41,9 @@ use Rattle.tables.proofs.LoadRows.{put_told, none_below}
 pub good_rows : (name : List ℕ) (rows : List Row) → IsTrue (is_batch name rows) → list_all is_good_row rows ≡ true
 good_rows name rows batch =
     let limits =
-    (and_parts (is_batch_name name && is_between 1 2000 (length rows) && list_all is_good_row rows)
+    (and_parts (is_batch_name name && is_between 1 most_rows (length rows) && list_all is_good_row rows)
     (are_distinct rows) batch).0 in
-    (and_parts (is_batch_name name && is_between 1 2000 (length rows)) (list_all is_good_row rows) limits).1
+    (and_parts (is_batch_name name && is_between 1 most_rows (length rows)) (list_all is_good_row rows) limits).1
 
 -- Known batches.
 

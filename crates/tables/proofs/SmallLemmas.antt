@@ -1,6 +1,7 @@
 -- The numbers of an event of a journey fit the store's integers. For `event_of`.
 use Rattle.std.proofs.Common.{◌≡◌, ℕ, ◌+◌, ◌-◌, ◌<◌, ◌≤◌, ◌^◌, Bool, true, false, if◌then◌else◌, IsTrue, refl, sym, subst, arith}
 use Rattle.std.specs.Prelude.{◌==◌, nat_lt}
+use Rattle.plan.specs.Limits.{most_steps}
 use Rattle.plan.specs.Planned.{Planned, step_count, is_plan}
 use Rattle.commands.specs.declared.items.Cause.TheVariants.{Stop, Refused, Asked}
 use Rattle.commands.specs.declared.items.Cursor.{Cursor}
@@ -16,7 +17,7 @@ use Rattle.writing.specs.Kinds.{IsSmall}
 use Rattle.writing.specs.declared.events.Event.{Event}
 use Rattle.tables.specs.Moving.{IsEventOf}
 use Rattle.tables.specs.Placing.{IsPlaced, IsPlacedIn, MayBeMade, stepped_up, stepped_down}
-use Rattle.standing.proofs.PlanParts.{few_steps, few_options}
+use Rattle.plan.proofs.LimitLemmas.{few_options, few_steps}
 
 -- small numbers are written small
 numbers_small : (pos used : ℕ) (p : Phase) → pos ≤ 25 → target_of p ≤ 25 → used ≤ 2 ^ 62
@@ -44,7 +45,7 @@ down_small p pos low = go (nat_lt p pos) (p == 0)
     go false false = omega arith
 
 -- a journey goes back to below where it is
-phase_small : (c : Cursor) (p : Phase) → c.phase ≡ p → ((q : ℕ) → c.phase ≡ Back q → q < c.pos) → c.pos ≤ 24
+phase_small : (c : Cursor) (p : Phase) → c.phase ≡ p → ((q : ℕ) → c.phase ≡ Back q → q < c.pos) → c.pos ≤ most_steps
     → target_of p ≤ 25
 phase_small c Run e above low = omega arith
 phase_small c (Back q) e above low = let below = above q e in omega arith
@@ -52,7 +53,7 @@ phase_small c Ended e above low = omega arith
 phase_small c Undone e above low = omega arith
 
 -- and a step below it still does
-back_small : (c : Cursor) (p : Phase) (pos : ℕ) → c.phase ≡ p → ((q : ℕ) → c.phase ≡ Back q → q < c.pos) → c.pos ≤ 24
+back_small : (c : Cursor) (p : Phase) (pos : ℕ) → c.phase ≡ p → ((q : ℕ) → c.phase ≡ Back q → q < c.pos) → c.pos ≤ most_steps
     → target_of (phase_back p pos) ≤ 25
 back_small c Run pos e above low = omega arith
 back_small c (Back q) pos e above low = let below = above q e in down_small q pos (omega arith)
@@ -135,13 +136,13 @@ event_small id plan at (item.Save p) e low good placed may says =
     subst IsSmall (sym says) (record { journey = low; position = omega arith })
 
 -- where a journey is one step further, and one step back
-pub stepped_up_small : (steps : ℕ) (c : Cursor) → steps ≤ 24 → IsPlacedIn steps c → c.pos < steps
+pub stepped_up_small : (steps : ℕ) (c : Cursor) → steps ≤ most_steps → IsPlacedIn steps c → c.pos < steps
     → IsSmallCursor (cursor_written (stepped_up steps c))
 stepped_up_small steps c few placed below =
     let counted = placed.counted in
     numbers_small (c.pos + 1) c.used (phase_up steps (c.pos + 1)) (omega arith) (up_small steps (c.pos + 1)) (omega arith)
 
-pub stepped_down_small : (steps : ℕ) (c : Cursor) → steps ≤ 24 → IsPlacedIn steps c
+pub stepped_down_small : (steps : ℕ) (c : Cursor) → steps ≤ most_steps → IsPlacedIn steps c
     → IsSmallCursor (cursor_written (stepped_down c))
 stepped_down_small steps c few placed =
     let within = placed.within in

@@ -4,6 +4,7 @@ use Rattle.sqlite.specs.Store.{Ghosts}
 use Rattle.sqlite.specs.Held.{Held, state}
 use Rattle.sqlite.specs.State.{HasCleanDisk}
 use Rattle.allotment.specs.Want.{Wanted}
+use Rattle.plan.specs.Limits.{most_options}
 use Rattle.plan.specs.Planned.{Planned, want_at}
 use Rattle.commands.specs.Asked.{Asked}
 use Rattle.commands.specs.Request as request
@@ -147,8 +148,8 @@ Comes id stand s c =
 
 -- the step or the compensation is there, and its option has a small number
 abbrev pub MayCome : Stand → Coming → Type 0
-MayCome stand (coming.Up choice) = (stand.cursor.pos < stand.steps) × (choice.option ≤ 8)
-MayCome stand (coming.Down choice) = (1 ≤ stand.cursor.pos) × (choice.option ≤ 8)
+MayCome stand (coming.Up choice) = (stand.cursor.pos < stand.steps) × (choice.option ≤ most_options)
+MayCome stand (coming.Down choice) = (1 ≤ stand.cursor.pos) × (choice.option ≤ most_options)
 MayCome stand coming.Refused = ⊤
 MayCome stand coming.Nothing = ⊤
 

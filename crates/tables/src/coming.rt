@@ -4,6 +4,7 @@
 //! journey turns, and then all of the plan is looked at.
 ghost use Rattle.std.specs.Prelude.{◌≡◌, ◌≤◌, ◌<◌, ◌^◌, false, true, IfOk, IfSome};
 ghost use Rattle.std.specs.Option.{option_copied as asked_by};
+ghost use Rattle.plan.specs.Limits.{most_options, most_steps};
 ghost use Rattle.ledger.specs.Answer.{asker};
 ghost use Rattle.reading.specs.Reading.{KeepsOn, LeavesAsBefore, ShowsKept, WasClean};
 ghost use Rattle.tables.specs.Answering.{AnswersNew, KeepsNew, LeavesNew, KeepsAtMemory};
@@ -18,13 +19,11 @@ use crate::next::{cursor_down, cursor_up, is_placed};
 use crate::options::{Choice, last_choice, next_choice};
 use allotment::{Want, fits};
 use commands::{Ask, Fault, Item, Phase, Refusal, Reply};
+use plan::MOST_STEPS;
 use reading::{LARGEST, Stand, read_cells, read_stand};
 use sqlite::{Alter, Connection};
 use std::alloc::Global;
 use writing::{Event, StepMade};
-
-/// More steps than these no plan has.
-const MOST_STEPS: usize = 24;
 
 /// What a step comes to.
 #[derive(Clone, Copy)]
@@ -51,7 +50,7 @@ fn find_stand<S: Alter>(
     ensures outside { conn.new.in_transaction ≡ false }
     ensures seen { ShowsKept S.Store conn.old conn.new result (SeesStand (asker (asked_by ask.entry)) id) }
     ensures placed { IfOk result (λ found. IfSome found (λ it. IsPlacedIn it.steps it.cursor)) }
-    ensures few { IfOk result (λ found. IfSome found (λ it. it.steps ≤ 24)) }
+    ensures few { IfOk result (λ found. IfSome found (λ it. it.steps ≤ most_steps)) }
     ensures small { IfOk result (λ found. IfSome found (λ it. id < 2 ^ 63)) }
     ensures same { KeepsOn S.Store conn.old conn.new }
     ensures stop { LeavesAsBefore S.Store conn.old conn.new }
@@ -78,8 +77,8 @@ fn step_up<'x>(id: u64, stand: &Stand, choice: &Choice) -> Made<'x>
     requires id { id < 2 ^ 63 }
     requires placed { IsPlacedIn stand.now.steps stand.now.cursor }
     requires below { stand.now.cursor.pos < stand.now.steps }
-    requires few_steps { stand.now.steps ≤ 24 }
-    requires few_options { choice.now.option ≤ 8 }
+    requires few_steps { stand.now.steps ≤ most_steps }
+    requires few_options { choice.now.option ≤ most_options }
 
     ensures up { IsStepUp id stand.now choice.now result }
     ensures small { IsSmall result.event }
@@ -107,8 +106,8 @@ fn step_down<'x>(id: u64, stand: &Stand, choice: &Choice) -> Made<'x>
     requires id { id < 2 ^ 63 }
     requires placed { IsPlacedIn stand.now.steps stand.now.cursor }
     requires above { 1 ≤ stand.now.cursor.pos }
-    requires few_steps { stand.now.steps ≤ 24 }
-    requires few_options { choice.now.option ≤ 8 }
+    requires few_steps { stand.now.steps ≤ most_steps }
+    requires few_options { choice.now.option ≤ most_options }
 
     ensures down { IsStepDown id stand.now choice.now result }
     ensures small { IsSmall result.event }
@@ -161,7 +160,7 @@ fn find_coming<S: Alter>(
     requires outside { conn.old.in_transaction ≡ false }
     requires id { id < 2 ^ 63 }
     requires placed { IsPlacedIn stand.now.steps stand.now.cursor }
-    requires few { stand.now.steps ≤ 24 }
+    requires few { stand.now.steps ≤ most_steps }
 
     ensures outside { conn.new.in_transaction ≡ false }
     ensures comes { ShowsKept S.Store conn.old conn.new result (Comes id stand.now) }

@@ -3,13 +3,10 @@ ghost use Rattle.std.specs.Prelude.{◌≡◌, false, IfOk};
 ghost use Rattle.tables.specs.Answering.{Counts, IsCounted, KeepsOn, KeepsAtMemory};
 ghost use Rattle.reading.specs.Reading.{LeavesAsBefore, ShowsKept, WasClean};
 
-use commands::Fault;
+use commands::{Fault, MOST_EVENTS};
 use desk_sql::{Meta, read_meta};
 use reading::fault_of;
 use sqlite::{Alter, Connection};
-
-/// How many events a ledger may have.
-pub(crate) const MOST_EVENTS: u64 = 999_999_999_999;
 
 /// The numbers of `meta`. More than a ledger may have is a fault of the store.
 pub(crate) fn read_counts<S: Alter>(conn: &mut Connection<S>) -> Result<Meta, Fault>

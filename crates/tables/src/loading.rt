@@ -15,9 +15,9 @@ ghost use Rattle.tables.specs.Loading.{AnswersWhere, KeepsWhere, LeavesWhere};
 ghost use Rattle.reading.specs.Reading.{KeepsOn, KeepsEach, LeavesAsBefore, ShowsKept, WasClean};
 
 use crate::committing::commit_answered;
-use crate::counts::{MOST_EVENTS, read_counts};
+use crate::counts::read_counts;
 use allotment::{Cell, Held, Row};
-use commands::{Ask, Batch, Fault, Refusal, Reply};
+use commands::{Ask, Batch, Fault, MOST_EVENTS, Refusal, Reply};
 use desk_sql::{BatchFound, Meta, NightFound, NightRange, find_batch, find_nights};
 use reading::fault_of;
 use sqlite::{Alter, Connection};

@@ -18,9 +18,9 @@ ghost use Rattle.tables.specs.Placing.{IsPlaced, MayBeMade, Sees};
 ghost use Rattle.reading.specs.Reading.{KeepsOn, LeavesAsBefore, ShowsKept, WasClean};
 
 use crate::committing::commit_answered;
-use crate::counts::{MOST_EVENTS, read_counts};
+use crate::counts::read_counts;
 use crate::next::{cursor_after, is_placed, may_be_made};
-use commands::{Agent, Ask, Cause, Cursor, Fault, Item, Refusal, Reply};
+use commands::{Agent, Ask, Cause, Cursor, Fault, Item, MOST_EVENTS, Refusal, Reply};
 use desk_sql::{Meta, Version};
 use plan::Plan;
 use reading::{LARGEST, read_journey};

@@ -1,6 +1,7 @@
 //! One option of a step of a journey, by the rows of that step alone.
 ghost use Rattle.std.specs.Prelude.{◌≡◌, ◌≤◌, ◌<◌, ◌+◌, ◌^◌, false, IfOk, find, length, min};
 ghost use Rattle.std.specs.Option.{option_copied};
+ghost use Rattle.plan.specs.Limits.{most_options};
 ghost use Rattle.reading.specs.PlansTold.{TellsWant};
 ghost use Rattle.reading.specs.Reading.{KeepsOn, LeavesAsBefore, ShowsKept, WasClean};
 ghost use Rattle.tables.specs.Choosing.{IsLastChoice, IsNextChoice, IsOfRow, IsRowChosen, IsTakenChosen, is_taken_row};
@@ -8,12 +9,10 @@ ghost use Rattle.tables.specs.Choosing.{IsLastChoice, IsNextChoice, IsOfRow, IsR
 use allotment::Want;
 use commands::Fault;
 use desk_sql::{StepFound, find_options};
+use plan::MOST_OPTIONS;
 use reading::{fault_of, want_told};
 use sqlite::{Alter, Connection};
 use std::alloc::Global;
-
-/// More options than these no step has.
-const MOST_OPTIONS: usize = 8;
 
 /// An option of a step, counted from 1, with its want.
 #[derive(Clone, Copy)]
@@ -25,7 +24,7 @@ pub(crate) struct Choice {
 /// The option of a row, with its want.
 fn choice_of(alloc: Global, row: &StepFound, option: usize) -> Result<Choice, Fault>
     ensures row { IfOk result (IsOfRow row.now option) }
-    ensures few { IfOk result (λ choice. choice.option ≤ 8) }
+    ensures few { IfOk result (λ choice. choice.option ≤ most_options) }
 {
     if option > MOST_OPTIONS {
         return Err(Fault::Store);
@@ -37,7 +36,7 @@ fn choice_of(alloc: Global, row: &StepFound, option: usize) -> Result<Choice, Fa
 /// The option that comes next, by the rows of a step: one further on after each refused step, up to the last one.
 fn choose_next(alloc: Global, rows: &[StepFound], used: usize) -> Result<Choice, Fault>
     ensures chosen { IfOk result (IsRowChosen rows.now (min (used + 1) (length rows.now))) }
-    ensures few { IfOk result (λ choice. choice.option ≤ 8) }
+    ensures few { IfOk result (λ choice. choice.option ≤ most_options) }
 {
     let option = used.saturating_add(1).min(rows.len());
     if option == 0 {
@@ -59,7 +58,7 @@ fn find_taken(rows: &[StepFound]) -> Option<&StepFound>
 /// The option that is taken, by the rows of a step.
 fn choose_taken(alloc: Global, rows: &[StepFound]) -> Result<Choice, Fault>
     ensures chosen { IfOk result (IsTakenChosen rows.now) }
-    ensures few { IfOk result (λ choice. choice.option ≤ 8) }
+    ensures few { IfOk result (λ choice. choice.option ≤ most_options) }
 {
     match find_taken(rows) {
         Some(row) => choice_of(alloc, row, row.opt as usize),
@@ -81,7 +80,7 @@ pub(crate) fn next_choice<S: Alter>(
 
     ensures outside { conn.new.in_transaction ≡ false }
     ensures next { ShowsKept S.Store conn.old conn.new result (IsNextChoice id step used) }
-    ensures few { IfOk result (λ choice. choice.option ≤ 8) }
+    ensures few { IfOk result (λ choice. choice.option ≤ most_options) }
     ensures same { KeepsOn S.Store conn.old conn.new }
     ensures stop { LeavesAsBefore S.Store conn.old conn.new }
     ensures less { WasClean S.Store conn.old conn.new }
@@ -105,7 +104,7 @@ pub(crate) fn last_choice<S: Alter>(
 
     ensures outside { conn.new.in_transaction ≡ false }
     ensures last { ShowsKept S.Store conn.old conn.new result (IsLastChoice id step) }
-    ensures few { IfOk result (λ choice. choice.option ≤ 8) }
+    ensures few { IfOk result (λ choice. choice.option ≤ most_options) }
     ensures same { KeepsOn S.Store conn.old conn.new }
     ensures stop { LeavesAsBefore S.Store conn.old conn.new }
     ensures less { WasClean S.Store conn.old conn.new }

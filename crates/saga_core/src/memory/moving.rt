@@ -51,7 +51,7 @@ impl MemBook {
     ghost use Rattle.std.specs.Option.{option_copied};
     ghost use Rattle.commands.specs.Request as request;
     ghost use Rattle.commands.specs.Request.{Request};
-    ghost use Rattle.ledger.specs.Answer.{State, asker, answer, answer_within, is_request};
+    ghost use Rattle.ledger.specs.Answer.{State, asker, answer, answer_within, is_request, most_events};
     ghost use Rattle.ledger.specs.Ledger.{Did, is_allowed};
     ghost use Rattle.changes.specs.Answered.{moves};
     ghost use Rattle.savepoints.specs.Rules as rules;
@@ -60,7 +60,6 @@ impl MemBook {
     ghost use Rattle.saga_core.specs.Memory.{StandsFor, IsCarriedOut, CarriesOut, KeepsBook};
     ghost use Rattle.saga_core.specs.Memory.{IsSeenAt, IsSeenNowhere, IsMove, MayBeMade};
     ghost use Rattle.saga_core.specs.declared.memory.journeys.Journey.{Journey};
-    ghost use Rattle.saga_core.specs.declared.memory.TheConstants.{MOST_EVENTS};
 
     /// The place of the journey with this number, if who asks sees it.
     fn seen(&self, id: u64, ask: Option<&Ask>) -> Option<usize>
@@ -184,7 +183,7 @@ impl MemBook {
     fn make(&mut self, place: usize, item: Item, ask: Option<&Ask>) -> Result<Reply, AllocError>
         requires within { place < length self.old.journeys.items }
         requires next { MayBeMade self.old place (Ok item) }
-        requires room { self.old.events < MOST_EVENTS }
+        requires room { self.old.events < most_events }
 
         ensures answer { (s : State) → StandsFor self.old s →
             (k : Journey) → slice_get self.old.journeys.items place ≡ Some k →

@@ -3,6 +3,7 @@ use Rattle.std.proofs.lemmas.Result.{err_from_is_err_and}
 use Rattle.std.specs.List.{list_all}
 use Rattle.allotment.proofs.TestLemmas.{and_make}
 use Rattle.allotment.specs.Limits.{is_between, is_want}
+use Rattle.plan.specs.Limits.{most_options}
 use Rattle.plan.specs.Planned.{step_said}
 use Rattle.plan.specs.Levels.{step_limits}
 use Rattle.plan.proofs.LevelLemmas.{limits_count}
@@ -39,4 +40,4 @@ returns-clause-limits c =
     ap (list_all is_want) (sym c.as_slice.ensures.value) ∙ c.know_limits.ensures.limits in
     let many : c.len.result ≡ length s.options = omega (arith, c.len.ensures) in
     let limits = c.in_ok-check_limits.ensures.limits ∙ ap (step_limits c.args.last c.args.number s.is_marked) many in
-    and_make _ _ (limits_count _ (is_between 1 8 (length s.options)) c.args.number limits) good
+    and_make _ _ (limits_count _ (is_between 1 most_options (length s.options)) c.args.number limits) good

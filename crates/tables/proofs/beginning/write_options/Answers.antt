@@ -5,7 +5,8 @@ use Rattle.desk_sql.specs.Rows.{StepRow}
 use Rattle.standing.specs.Beginning.{adds_steps}
 use Rattle.standing.specs.Beginning.{first_rows_of_step, rows_of_option}
 use Rattle.tables.specs.Writing.{HasWritten}
-use Rattle.standing.proofs.PlanParts.{few_options, first_rows_of_step-more, first_rows_of_step-all}
+use Rattle.plan.proofs.LimitLemmas.{few_options}
+use Rattle.standing.proofs.PlanParts.{first_rows_of_step-more, first_rows_of_step-all}
 use Rattle.tables.proofs.WritingLemmas.{HasWritten-more}
 use Rattle.tables.proofs.beginning.write_options.Goals as goal
 

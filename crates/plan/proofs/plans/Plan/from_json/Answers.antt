@@ -1,6 +1,7 @@
 use Rattle.std.proofs.Common.{◌≡◌, ◌<◌, ◌⊎◌, inl, inr, length, sym, ap, ◌∙◌, arith, Ok, Err}
 use Rattle.std.proofs.lemmas.Result.{err_from_is_err_and}
 use Rattle.serde_json.specs.View.{view}
+use Rattle.plan.specs.Limits.{most_steps}
 use Rattle.plan.specs.Planned.{plan_said}
 use Rattle.plan.specs.PlanJson.{plan_in_json}
 use Rattle.plan.proofs.LevelLemmas.{IfBad-weaker}
@@ -20,11 +21,11 @@ returns-in_default-plan_tries-clause-refused c =
     plan_no_tries (view c.args.value.now) c.in-Some.values.now c.in-Some.ensures.steps c.in_default-plan_tries.ensures.tries
     ∙ ap Err (sym c.bad-in_default-plan_tries.ensures.bad)
 
--- it has no step, or more than 24
+-- it has no step, or more than a plan may
 pub returns-then-last-eq0-clause-refused : goal.returns-then-last-eq0-clause-refused
 returns-then-last-eq0-clause-refused c =
     let n = length c.in-Some.values.now in
-    let many : (n ≡ 0) ⊎ (24 < n) = elim c.then-last-eq0.branch [
+    let many : (n ≡ 0) ⊎ (most_steps < n) = elim c.then-last-eq0.branch [
       | then-last-eq0-via-then-last-eq0 w ↦ inl (omega (arith, w.if-last-eq0.true))
       | then-last-eq0-via-else-last-eq0+then-last-gt-MOST_STEPS w ↦ inr (omega (arith, w.if-last-gt-MOST_STEPS.true))
     ] in

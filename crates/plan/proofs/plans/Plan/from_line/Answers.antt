@@ -13,7 +13,7 @@ pub returns-in_default-clause-refused : goal.returns-in_default-clause-refused
 returns-in_default-clause-refused c =
     line_no_tries c.args.text.now c.in_default.ensures.none ∙ ap Err (sym c.bad.ensures.bad)
 
--- it has more than 24 steps
+-- it has more steps than a plan may
 pub returns-then-count-gt-MOST_STEPS-clause-refused : goal.returns-then-count-gt-MOST_STEPS-clause-refused
 returns-then-count-gt-MOST_STEPS-clause-refused c =
     line_too_long c.args.text.now c.in-Some.front.now c.in-Some.tries c.count_steps-count.result

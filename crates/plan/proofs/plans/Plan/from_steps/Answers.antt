@@ -2,6 +2,7 @@ use Rattle.std.proofs.Common.{◌≡◌, ◌<◌, ◌⊎◌, List, map, length, 
 use Rattle.std.specs.List.{list_all}
 use Rattle.std.proofs.lemmas.List.{length-map}
 use Rattle.std.proofs.lemmas.Result.{err_from_is_err_and}
+use Rattle.plan.specs.Limits.{most_steps}
 use Rattle.plan.specs.declared.steps.PlanStep.{PlanStep}
 use Rattle.plan.specs.Planned.{step_said, plan_said, is_step}
 use Rattle.plan.specs.Levels.{steps_kept}
@@ -14,11 +15,11 @@ pub returns-then-tries-gt-MOST_TRIES-clause-refused : goal.returns-then-tries-gt
 returns-then-tries-gt-MOST_TRIES-clause-refused c =
     made_tries (plan_said c.args.steps.items c.args.tries) c.if-tries-gt-MOST_TRIES.true ∙ ap Err (sym c.bad.ensures.bad)
 
--- there is no step, or there are more than 24
+-- there is no step, or there are more than a plan may have
 pub returns-then-count-eq0-clause-refused : goal.returns-then-count-eq0-clause-refused
 returns-then-count-eq0-clause-refused c =
     let n = length c.args.steps.items in
-    let many : (n ≡ 0) ⊎ (24 < n) = elim c.then-count-eq0.branch [
+    let many : (n ≡ 0) ⊎ (most_steps < n) = elim c.then-count-eq0.branch [
       | then-count-eq0-via-then-count-eq0 w ↦ inl (omega (arith, w.if-count-eq0.true, c.len-count.ensures))
       | then-count-eq0-via-else-count-eq0+then-count-gt-MOST_STEPS w ↦
           inr (omega (arith, w.if-count-gt-MOST_STEPS.true, c.len-count.ensures))

@@ -1,11 +1,11 @@
 use Rattle.std.proofs.Common.{sym, subst}
 use Rattle.std.specs.Prelude.{IfOk}
 use Rattle.saga_core.specs.MemoryJourneys.{IsNext}
-use Rattle.saga_core.proofs.JourneyLemmas.{few_steps}
+use Rattle.plan.proofs.LimitLemmas.{few_steps}
 use Rattle.saga_core.proofs.ReadyLemmas.{save_said-next}
 use Rattle.saga_core.proofs.memory.next.saved.Goals as goal
 
--- a running journey is short of its last step, and a plan has at most 24
+-- a running journey is short of its last step, and a plan has few
 pub returns-clause-next : goal.returns-clause-next
 returns-clause-next c =
     let journey = c.args.journey.now in

@@ -1,4 +1,4 @@
--- The flag that is read says whether p is in the set, and no flag outside 1 to 23 stands.
+-- The flag that is read says whether p is in the set, and no flag outside 1 to the last mark stands.
 use Rattle.std.proofs.Common.{◌≡◌, ◌∙◌, ap, sym, subst, rules}
 use Rattle.savepoints.specs.Marks.{is_taken_in, AreInRange}
 use Rattle.savepoints.specs.Flags.{is_flagged, is_taken_in-flagged}
