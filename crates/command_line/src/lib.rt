@@ -3,6 +3,7 @@
 //! `job` gives the job that the words ask for, or why they ask for none.
 #![tactic(auto)]
 
+mod help;
 mod jobs;
 mod subcommands;
 mod words;

@@ -85,10 +85,10 @@ impl Subcommand {
         match self {
             Subcommand::Run => "Answer the lines of standard input, one by one",
             Subcommand::Serve => "Answer requests over HTTP, one connection after another",
-            Subcommand::Recover => "Take every unfinished journey to its end, as after a stop",
+            Subcommand::Recover => "Finish or undo every journey under way, as after a crash",
             Subcommand::Load => "Load the allotments of a file, as one batch",
             Subcommand::Stock => "Print the allotted, held and free places of each cell",
-            Subcommand::Unfinished => "Print the journeys that are not at their end",
+            Subcommand::Unfinished => "Print the journeys that have not ended",
             Subcommand::History => "Print what was done for a journey, from its begin on",
             Subcommand::Migrate => "Bring a database of schema 1 to schema 2, in one commit",
         }
@@ -98,7 +98,7 @@ impl Subcommand {
     fn file<'a>(self) -> &'a str {
         match self {
             Subcommand::Run | Subcommand::Serve | Subcommand::Recover | Subcommand::Load => {
-                "The database file, which is made where it is absent"
+                "The database file, which is made if it is absent"
             }
             Subcommand::Stock
             | Subcommand::Unfinished
@@ -114,6 +114,8 @@ impl Subcommand {
     {
         let bare = Command::new(alloc, self.name())
             .about(self.about())
+            .long_about(self.long_about())
+            .after_long_help(self.notes())
             .no_binary_name(true)
             .bin_name(self.called())?;
         let over_file = bare.arg(value(alloc, "FILE", self.file()))?;

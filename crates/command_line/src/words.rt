@@ -8,6 +8,7 @@ ghost use Rattle.clap.specs.Words.{first_value, found_of, kind_of, matches_of, r
 ghost use Rattle.command_line.specs.Jobs.{are_refused, number_named, refuses, IsJob, IsJobOf, IsText, IsUsage};
 ghost use Rattle.command_line.specs.Subcommands.{app_for, ids_of, is_refused_by};
 
+use crate::help::PROGRAM;
 use crate::jobs::{Job, JobFault};
 use crate::subcommands::Subcommand;
 use clap::error::ErrorKind;
@@ -147,6 +148,7 @@ fn usage_of_all(alloc: Global, words: &[String]) -> JobFault {
 fn usage_text(alloc: Global, words: &[String]) -> Result<JobFault, AllocError> {
     let mut desk = Command::new(alloc, "desk")
         .about("A booking desk for travel agencies")
+        .after_long_help(PROGRAM)
         .no_binary_name(true)
         .subcommand_required(true)
         .arg_required_else_help(true);

@@ -82,7 +82,7 @@ fn words_name_a_job_with_its_values(rt: HostRuntime) -> Result<(), Fail> {
 
 // the words, and how the usage begins
 #[rattlefmt::skip]
-const REFUSED: [(&str, &str, &str); 48] = [
+const REFUSED: [(&str, &str, &str); 53] = [
     ("another subcommand",       "fly|x.db",       "error: unrecognized subcommand 'fly'"),
     ("a subcommand in capitals", "RUN|x.db",       "error: unrecognized subcommand 'RUN'"),
     ("a part of a subcommand",   "ru|x.db",        "error: unrecognized subcommand 'ru'"),
@@ -96,8 +96,11 @@ const REFUSED: [(&str, &str, &str); 48] = [
     ("a flag that run has not",  "run|--fast|x",   "error: unexpected argument '--fast' found"),
     ("no file to recover",       "recover",        "error: the following required arguments were not provided:\n  <FILE>\n\nUsage: desk recover <FILE>\n"),
     ("two files to recover",     "recover|x|y",    "error: unexpected argument 'y' found\n\nUsage: desk recover <FILE>\n"),
-    ("help of recover",          "recover|--help", "Take every unfinished journey to its end, as after a stop\n\nUsage: desk recover <FILE>\n"),
-    ("help of run",              "run|--help",     "Answer the lines of standard input, one by one\n\nUsage: desk run <FILE>\n"),
+    ("help of recover",          "recover|--help", "Finish or undo every journey under way, as after a crash\n\nOpens the database FILE, or makes it."),
+    ("recover, in short",        "recover|-h",     "Finish or undo every journey under way, as after a crash\n\nUsage: desk recover <FILE>\n"),
+    ("help of run",              "run|--help",     "Answer the lines of standard input, one by one\n\nOpens the database FILE, or makes it."),
+    ("run, in short",            "run|-h",         "Answer the lines of standard input, one by one\n\nUsage: desk run <FILE>\n"),
+    ("help, then run",           "help|run",       "Answer the lines of standard input, one by one\n\nOpens the database FILE, or makes it."),
     ("port 0",                   "serve|x|--port|0|--connections|1", "error: invalid value '0' for '--port <PORT>': not a number from 1 to 65535\n"),
     ("port 65536",               "serve|x|--port|65536|--connections|1", "error: invalid value '65536' for '--port <PORT>': not a number from 1 to 65535\n"),
     ("a port past every number", "serve|x|--port|18446744073709551617|--connections|1", "error: invalid value '18446744073709551617' for '--port <PORT>'"),
@@ -117,7 +120,8 @@ const REFUSED: [(&str, &str, &str); 48] = [
     ("a flag without a port",    "serve|x|--connections|1|--port", "error: a value is required for '--port <PORT>' but none was supplied\n"),
     ("two ports",                "serve|x|--port|80|--port|81|--connections|1", "error: the argument '--port <PORT>' cannot be used multiple times\n"),
     ("a part of a flag",         "serve|x|--por|80|--connections|1", "error: unexpected argument '--por' found\n"),
-    ("help of serve",            "serve|--help", "Answer requests over HTTP, one connection after another\n\nUsage: desk serve --port <PORT> --connections <N> <FILE>\n"),
+    ("help of serve",            "serve|--help", "Answer requests over HTTP, one connection after another\n\nOpens the database FILE, or makes it."),
+    ("serve, in short",          "serve|-h", "Answer requests over HTTP, one connection after another\n\nUsage: desk serve --port <PORT> --connections <N> <FILE>\n"),
     ("no file for stock",        "stock",          "error: the following required arguments were not provided:\n  <FILE>\n\nUsage: desk stock <FILE>\n"),
     ("two files for stock",      "stock|x|y",      "error: unexpected argument 'y' found\n\nUsage: desk stock <FILE>\n"),
     ("two for unfinished",       "unfinished|x|y", "error: unexpected argument 'y' found\n\nUsage: desk unfinished <FILE>\n"),
@@ -130,7 +134,8 @@ const REFUSED: [(&str, &str, &str); 48] = [
     ("no allotment file",        "load|x|--batch|a", "error: the following required arguments were not provided:\n  <CSV>\n\nUsage: desk load --batch <NAME> <FILE> <CSV>\n"),
     ("two allotment files",      "load|x|y|z|--batch|a", "error: unexpected argument 'z' found\n\nUsage: desk load --batch <NAME> <FILE> <CSV>\n"),
     ("two files to migrate",     "migrate|x|y",    "error: unexpected argument 'y' found\n\nUsage: desk migrate <FILE>\n"),
-    ("help of load",             "load|--help",    "Load the allotments of a file, as one batch\n\nUsage: desk load --batch <NAME> <FILE> <CSV>\n"),
+    ("help of load",             "load|--help",    "Load the allotments of a file, as one batch\n\nOpens the database FILE, or makes it."),
+    ("load, in short",           "load|-h",        "Load the allotments of a file, as one batch\n\nUsage: desk load --batch <NAME> <FILE> <CSV>\n"),
 ];
 
 #[test]

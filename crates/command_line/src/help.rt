@@ -1,0 +1,290 @@
+//! The texts of help: what each subcommand reads and prints, its exit statuses, and an example.
+//!
+//! A line has at most 78 characters. In an example a line that begins with `  $ ` is a command, and the lines that
+//! follow are what it prints.
+use crate::subcommands::Subcommand;
+
+/// What follows the help of the whole program.
+pub(crate) const PROGRAM: &str = "\
+'desk COMMAND --help' says what a command reads and prints, with an example.
+
+Refusals:
+  A refusal is one line, 'refused N Name' and its particulars.
+  It changes nothing.
+
+Faults:
+  A fault is one line on standard error, 'fault N Name'. It ends the program.
+  17, 22 Memory  Out of memory
+  18 Store       The database failed
+  21 Store       FILE is no database of the desk, is in use, or cannot be
+                 read or made
+  24 Read        The input could not be read
+  25 Write       The output could not be written
+  26 File        A file is absent or cannot be read
+  27 Net         The port could not be listened on
+
+Exit status:
+  0  Done
+  1  A refusal, on standard output, or a fault, on standard error
+  2  Wrong usage, or help, on standard error
+
+Example:
+  $ echo 'set june F/AL/A1/2030-06-01 9' | desk run trips.db
+  loaded june 1
+  $ desk stock trips.db
+  kind     supplier product  night       allot   held   free
+  flight   AL       A1       2030-06-01      9      0      9
+  cells 1";
+
+const RUN: &str = "\
+Answer the lines of standard input, one by one
+
+Opens the database FILE, or makes it. Every journey under way is finished or
+undone first, as after a crash. Then each line of standard input is answered
+by one line on standard output, until the input ends. A refused line changes
+nothing, and the next line is answered.";
+
+const RUN_NOTES: &str = "\
+Lines:
+  set NAME CELL PLACES  Allot so many places of a cell, 0 to 100000, as the
+                        batch NAME
+  begin PLAN            Begin a journey of this plan
+  step ID               Do the journey's next step or compensation
+  abort ID P            Turn the journey back to position P, 0 to 99
+  save ID               Take a save-point where the journey is
+
+Words of a line, with one blank between them:
+  NAME    1 to 24 of a-z, 0-9 and '-'
+  CELL    KIND/SUPPLIER/PRODUCT/NIGHT, as in F/AL/A1/2030-06-01
+  KIND    F (flight), R (room), T (transfer) or C (cover)
+  PLAN    1 to 24 steps joined by ';', then '!' and one digit, the tries
+  step    1 to 8 options joined by '|', then '*' for a save-point after it
+  option  CELL/NIGHTS/COUNT
+  ID      The number of a journey
+
+Answers:
+  loaded NAME 1          To set
+  journey ID begun       To begin
+  journey ID ITEM STATE  To step, abort and save
+  refused N Name         To a line that is refused; particulars may follow
+
+Exit status:
+  0  The input was answered to its end, whether or not lines were refused
+  1  A refusal that ends the program, on standard output, or a fault, on
+     standard error
+  2  Wrong usage, or help, on standard error
+
+Example:
+  $ echo 'set june F/AL/A1/2030-06-01 9' >lines
+  $ echo 'begin F/AL/A1/2030-06-01/1/1!0' >>lines
+  $ echo 'step 1' >>lines
+  $ desk run trips.db <lines
+  loaded june 1
+  journey 1 begun
+  journey 1 T1.1 ended 1";
+
+const SERVE: &str = "\
+Answer requests over HTTP, one connection after another
+
+Opens the database FILE, or makes it. Every journey under way is finished or
+undone first, as after a crash. Then it listens on 127.0.0.1, prints
+'ready PORT', serves so many connections, and ends. Standard input is not
+read.";
+
+const SERVE_NOTES: &str = "\
+Requests:
+  POST /batches/NAME         Load an allotment file as the batch NAME
+  POST /journeys             Begin a journey of a plan in JSON
+  POST /journeys/ID/step     Do the journey's next step or compensation
+  POST /journeys/ID/abort/P  Turn the journey back to position P
+  POST /journeys/ID/save     Take a save-point where the journey is
+  GET /journeys/ID           The journey with its items
+  GET /unfinished            The agent's journeys that have not ended
+  GET /stock                 The places of each cell
+
+Fields:
+  Desk-Agent  Who asks, 1 to 16 of a-z and 0-9. Each request needs it
+  Desk-Key    1 to 32 letters, digits and '-'. Each POST needs it, and acts
+              once under it
+
+Exit status:
+  0  All connections were served
+  1  A refusal that ends the program, on standard output, or a fault, on
+     standard error
+  2  Wrong usage, or help, on standard error
+
+Example:
+  $ desk serve trips.db --port 8080 --connections 1 &
+  ready 8080
+  $ curl -H 'Desk-Agent: ann' http://127.0.0.1:8080/unfinished
+  {\"unfinished\":[]}";
+
+const RECOVER: &str = "\
+Finish or undo every journey under way, as after a crash
+
+Opens the database FILE, or makes it. Every journey under way turns back to
+its last save-point, or to its start, and goes on from there to its end.
+Prints 'recovered K', with the number of commits. Standard input is not read.";
+
+const RECOVER_NOTES: &str = "\
+Exit status:
+  0  Every journey has ended or is undone
+  1  A refusal, on standard output, or a fault, on standard error
+  2  Wrong usage, or help, on standard error
+
+Example:
+  $ echo 'begin F/AL/A1/2030-06-01/1/1!0' | desk run trips.db
+  journey 1 begun
+  $ desk recover trips.db
+  recovered 1";
+
+const LOAD: &str = "\
+Load the allotments of a file, as one batch
+
+Opens the database FILE, or makes it. Every journey under way is finished or
+undone first, as after a crash. Then the allotment file CSV is loaded as the
+batch NAME, whole or not at all, and the reply is printed. The same rows
+under the same name change nothing when they are loaded again. Standard input
+is not read.";
+
+const LOAD_NOTES: &str = "\
+Allotment file, at most 262144 bytes and 2000 rows:
+  The first line is kind,supplier,product,night,places
+  Each other line is a row: the kind is flight, room, transfer or cover,
+  and there are 0 to 100000 places
+
+Exit status:
+  0  The batch is loaded, now or before
+  1  A refusal, on standard output, or a fault, on standard error
+  2  Wrong usage, or help, on standard error
+
+Example:
+  $ echo 'kind,supplier,product,night,places' >june.csv
+  $ echo 'flight,AL,A1,2030-06-01,9' >>june.csv
+  $ desk load trips.db june.csv --batch june
+  loaded june 1";
+
+const STOCK: &str = "\
+Print the allotted, held and free places of each cell
+
+Opens the database FILE without recovering it, and changes no row of it.
+Prints a heading, a line for each cell, by kind, supplier, product and night,
+and 'cells N'. Standard input is not read.";
+
+const STOCK_NOTES: &str = "\
+Exit status:
+  0  The report is printed
+  1  A refusal, on standard output, or a fault, on standard error
+  2  Wrong usage, or help, on standard error
+
+Example:
+  $ echo 'set june F/AL/A1/2030-06-01 9' | desk run trips.db
+  loaded june 1
+  $ desk stock trips.db
+  kind     supplier product  night       allot   held   free
+  flight   AL       A1       2030-06-01      9      0      9
+  cells 1";
+
+const UNFINISHED: &str = "\
+Print the journeys that have not ended
+
+Opens the database FILE without recovering it, and changes no row of it.
+Prints a line for each journey that has neither ended nor is undone, with its
+number, agent and state, and 'unfinished N'. Standard input is not read.";
+
+const UNFINISHED_NOTES: &str = "\
+Exit status:
+  0  The report is printed
+  1  A refusal, on standard output, or a fault, on standard error
+  2  Wrong usage, or help, on standard error
+
+Example:
+  $ echo 'begin F/AL/A1/2030-06-01/1/1!0' | desk run trips.db
+  journey 1 begun
+  $ desk unfinished trips.db
+             1 desk             run 0
+  unfinished 1";
+
+const HISTORY: &str = "\
+Print what was done for a journey, from its begin on
+
+Opens the database FILE without recovering it, and changes no row of it.
+Prints four lines: the journey's number and agent, its plan, its items, and
+its state. Standard input is not read.";
+
+const HISTORY_NOTES: &str = "\
+Items:
+  T1.2  Step 1 was taken by its option 2
+  C1.2  Step 1, taken by its option 2, was compensated
+  B0s   A turn back to position 0: by recovery (s), since a step was refused
+        (r), or as asked (a)
+  S1    A save-point was taken at position 1
+
+States:
+  run P        Runs, at position P
+  back P to Q  Goes back from position P to Q
+  ended N      Has done all of its N steps
+  undone 0     Has gone back to its start
+
+Exit status:
+  0  The report is printed
+  1  A refusal, on standard output, or a fault, on standard error
+  2  Wrong usage, or help, on standard error
+
+Example:
+  $ echo 'begin F/AL/A1/2030-06-01/1/1!0' | desk run trips.db
+  journey 1 begun
+  $ desk history trips.db 1
+  journey 1 agent desk
+  plan F/AL/A1/2030-06-01/1/1!0
+  items
+  state run 0";
+
+const MIGRATE: &str = "\
+Bring a database of schema 1 to schema 2, in one commit
+
+Opens the database FILE without recovering it. Prints
+'migrated 1 to 2 events N', with the number of events in it. A file of
+schema 2 is refused and left as it is. Standard input is not read.";
+
+const MIGRATE_NOTES: &str = "\
+Exit status:
+  0  The database has schema 2 now
+  1  A refusal, on standard output, or a fault, on standard error
+  2  Wrong usage, or help, on standard error
+
+Example:
+  $ desk migrate old.db
+  migrated 1 to 2 events 7
+  $ desk migrate old.db
+  refused 23 AlreadyNew";
+
+impl Subcommand {
+    /// What the subcommand reads and prints. The first line says what it does.
+    pub(crate) fn long_about<'a>(self) -> &'a str {
+        match self {
+            Subcommand::Run => RUN,
+            Subcommand::Serve => SERVE,
+            Subcommand::Recover => RECOVER,
+            Subcommand::Load => LOAD,
+            Subcommand::Stock => STOCK,
+            Subcommand::Unfinished => UNFINISHED,
+            Subcommand::History => HISTORY,
+            Subcommand::Migrate => MIGRATE,
+        }
+    }
+
+    /// The forms that the subcommand reads or prints, its exit statuses, and an example.
+    pub(crate) fn notes<'a>(self) -> &'a str {
+        match self {
+            Subcommand::Run => RUN_NOTES,
+            Subcommand::Serve => SERVE_NOTES,
+            Subcommand::Recover => RECOVER_NOTES,
+            Subcommand::Load => LOAD_NOTES,
+            Subcommand::Stock => STOCK_NOTES,
+            Subcommand::Unfinished => UNFINISHED_NOTES,
+            Subcommand::History => HISTORY_NOTES,
+            Subcommand::Migrate => MIGRATE_NOTES,
+        }
+    }
+}

@@ -1,0 +1,203 @@
+#!/usr/bin/env bash
+# What help prints, and where; each of its examples works as it is printed. The man page and the completions say what help
+# says. What is installed is removed whole.
+. "$(dirname "${BASH_SOURCE[0]}")/helping.bash"
+. "$tests/serving.bash"
+top=$(dirname "$tests")
+program=$DESK
+say() { printf 'help.sh: %s\n' "$*" >&2; }
+. "$top/scripts/manual.bash"
+
+commands="run serve recover load stock unfinished history migrate"
+
+# helps WHAT WORDS: the program prints a help on standard error, into the file err, and ends with 2
+helps() {
+  local what=$1 status
+  shift
+  "$DESK" "$@" </dev/null >out 2>err
+  status=$?
+  same "$what: standard output" "" "$(cat out)"
+  same "$what: the status" 2 "$status"
+}
+
+# has WHAT LINE: the help in the file err has this line
+has() { same "$1: $2" 1 "$(grep -cxF -- "$2" err)"; }
+
+mkdir empty && cd empty || exit 2
+helps "no word"
+same "no word: help in short" "A booking desk for travel agencies" "$(sed -n 1p err)"
+for words in --help help; do
+  helps "$words" $words
+  has "$words" "A booking desk for travel agencies"
+  for section in Commands: Options: Faults: "Exit status:" Example:; do has "$words" "$section"; done
+  for command in $commands; do same "$words: $command" 1 "$(grep -c "^  $command  " err)"; done
+done
+same "the commands" "$commands" "$(commands_told | cut -f1 | one_line)"
+
+for command in $commands; do
+  helps "$command --help" "$command" --help
+  about=$(sed -n 1p err)
+  same "$command: what it does, as in the list" "$about" "$(commands_told | sed -n "s/^$command\t//p")"
+  for section in Arguments: Options: "Exit status:" Example:; do has "$command" "$section"; done
+  for status in 0 1 2; do same "$command: status $status" 1 "$(grep -c "^  $status  [A-Z]" err)"; done
+  has "$command" "  2  Wrong usage, or help, on standard error"
+  same "$command: its usage" 1 "$(grep -c "^Usage: desk $command .*<FILE>" err)"
+  same "$command: lines of more than 78 characters" "" "$(grep -E '^.{79}' err)"
+  mv err whole
+  helps "help $command" help "$command"
+  # clap names the command alone in this usage, without the program
+  same "help $command" "$(grep -v '^Usage: ' whole)" "$(grep -v '^Usage: ' err)"
+  helps "$command -h" "$command" -h
+  same "$command -h: what it does" "$about" "$(sed -n 1p err)"
+  same "$command -h is shorter" 1 "$(($(wc -l <err) < $(wc -l <whole)))"
+done
+
+helps "run --help" run --help
+while IFS= read -r line; do same "a line of run: $line" 1 "$(grep -c "^  $line  *[A-Z]" err)"; done <<'LINES'
+set NAME CELL PLACES
+begin PLAN
+step ID
+abort ID P
+save ID
+LINES
+same "files that help has made" "err out whole" "$(ls | tr '\n' ' ' | sed 's/ $//')"
+cd ..
+
+# old_file: makes old.db, a file of schema 1 with 7 events: a batch, and three journeys of one step
+old_file() {
+  { echo 'set june F/AL/A1/2030-06-01 9'
+    for id in 1 2 3; do printf 'begin F/AL/A1/2030-06-01/1/1!0\nstep %s\n' "$id"; done
+  } | "$DESK" run old.db >/dev/null
+  sqlite3 old.db "INSERT INTO entry SELECT * FROM entry2; DROP TABLE entry2; DROP TABLE mark; UPDATE meta SET version = 1"
+}
+
+# shown_by EXAMPLE: what its commands print, on standard output; after one in the background it waits for a line
+shown_by() {
+  local line
+  while IFS= read -r line; do
+    case $line in
+      '$ '*'&')
+        eval "${line#\$ }" >>printed 2>/dev/null
+        for _ in {1..500}; do [ -s printed ] && break; sleep 0.02; done
+        ;;
+      '$ '*) eval "${line#\$ }" >>printed 2>/dev/null; [ -z "$(tail -c 1 printed)" ] || echo >>printed ;;
+    esac
+  done <<<"$1"
+  wait
+  cat printed
+}
+
+mkdir path && ln -s "$DESK" path/desk
+for command in "" $commands; do
+  port=$(free_port)
+  example=$(help_of $command | sed '1,/^Example:$/d; s/^  //' | sed "s/8080/$port/")
+  mkdir "example-$command" && cd "example-$command" || exit 2
+  [ "$command" != migrate ] || old_file
+  : >printed
+  same "the example of ${command:-desk}" "$(grep -v '^\$ ' <<<"$example")" "$(PATH=$work/path:$PATH shown_by "$example")"
+  cd ..
+done
+
+# words_of FILE: its words, with one blank between two
+words_of() { tr -s ' \n' '  ' <"$1"; }
+
+man_page >desk.1
+if command -v man >/dev/null; then
+  LC_ALL=C.UTF-8 MANWIDTH=100 man --warnings --nh --nj -l desk.1 >page 2>said
+elif command -v groff >/dev/null; then
+  groff -ww -man -Tutf8 -P-cbou -dHY=0 desk.1 >page 2>said
+else
+  say "neither man nor groff is here: the man page is not rendered"
+  : >said
+  : >page
+fi
+same "warnings of the man page" "" "$(cat said)"
+if [ -s page ]; then
+  same "the title" 1 "$(grep -c '^DESK(1) .*DESK(1)$' page)"
+  found=$(words_of page)
+  for command in "" $commands; do
+    while IFS= read -r line; do
+      case $line in '' | Usage:* | *:) continue ;; esac
+      line=$(tr -s ' ' <<<"$line" | sed 's/^ //')
+      case $found in *"$line"*) ;; *) same "the man page on ${command:-desk}" "$line" "absent" ;; esac
+    done < <(help_of $command | sed '/^Commands:$/,/^$/d')
+  done
+fi
+
+# completes WHAT EXPECTED WORD ..: bash completes the last word to these
+completes() {
+  local what=$1 expected=$2
+  shift 2
+  same "$what" "$expected" "$(bash --norc -c '. ../desk.bash; COMP_WORDS=("$@"); COMP_CWORD=$(($# - 1)); _desk; echo "${COMPREPLY[*]}"' - "$@" 2>&1)"
+}
+
+bash_completion >desk.bash
+mkdir files && cd files && touch trips.db june.csv || exit 2
+same "complete -p desk" "complete -F _desk desk" "$(bash --norc -c '. ../desk.bash; complete -p desk')"
+completes "desk s" "serve stock" desk s
+completes "desk u" "unfinished" desk u
+completes "desk --h" "--help" desk --h
+completes "desk help r" "run recover" desk help r
+completes "desk serve --" "--port --connections --help" desk serve --
+completes "desk load --b" "--batch" desk load --b
+completes "desk stock --p" "" desk stock --p
+completes "desk run t" "trips.db" desk run t
+completes "desk load trips.db j" "june.csv" desk load trips.db j
+completes "a port" "" desk serve trips.db --port ""
+cd ..
+
+zsh_completion >_desk
+if command -v zsh >/dev/null; then
+  # the tables that the completion offers, in place of a menu
+  offers='compdef() { :; }; _describe() { print -rl -- ${(P)4}; }; _arguments() { print -rl -- "$@"; }; source ./_desk'
+  same "zsh: the commands" "$(commands_told | sed 's/\t/:/')" "$(zsh -f -c "$offers; words=(desk ''); CURRENT=2; _desk")"
+  same "zsh: a port" 1 "$(zsh -f -c "$offers; words=(desk serve ''); CURRENT=3; _desk" | grep -c '^--port\[The port to listen on')"
+  same "zsh: a file" 1 "$(zsh -f -c "$offers; words=(desk run ''); CURRENT=3; _desk" | grep -c '^:FILE .*:_files$')"
+else
+  say "no zsh is here: its completion is not tried"
+fi
+
+fish_completion >desk.fish
+if command -v fish >/dev/null; then
+  same "fish: desk s" "serve stock" "$(HOME=$work fish -c 'source desk.fish; complete -C "desk s"' | cut -f1 | sort | one_line)"
+  same "fish: desk serve --p" "--port" "$(HOME=$work fish -c 'source desk.fish; complete -C "desk serve --p"' | cut -f1 | one_line)"
+else
+  say "no fish is here: its completion is not tried"
+fi
+
+. "$top/scripts/program.bash"
+if [ "$(readlink -f "$DESK")" = "$(readlink -f "$program")" ] && program_is_current; then
+  "$top/desk" install below >out 2>err
+  same "install: the status" 0 "$?"
+  same "what is installed" "bin/desk
+lib/systemd/system/desk.service
+share/bash-completion/completions/desk
+share/desk/folders
+share/fish/vendor_completions.d/desk.fish
+share/man/man1/desk.1
+share/zsh/site-functions/_desk" "$(cd below && find . -type f | sed 's,^\./,,' | LC_ALL=C sort)"
+  same "how to remove it" "desk: remove them with: ./desk uninstall $work/below" "$(cat err)"
+  same "the program there" "$(sum "$DESK")" "$(sum below/bin/desk)"
+  same "the man page there" "$(cat desk.1)" "$(cat below/share/man/man1/desk.1)"
+  for line in NoNewPrivileges=yes ProtectSystem=strict StateDirectory=desk; do
+    same "the unit: $line" 1 "$(grep -cx "$line" below/lib/systemd/system/desk.service)"
+  done
+  same "the unit: what it starts" "ExecStart=\"$work/below/bin/desk\" serve %S/desk/trips.db --port 8080 --connections 1000" \
+    "$(grep '^ExecStart=' below/lib/systemd/system/desk.service)"
+  if command -v systemd-analyze >/dev/null; then
+    same "the unit is sound" "" "$(systemd-analyze verify --man=no "$work/below/lib/systemd/system/desk.service" 2>&1 | grep desk.service)"
+  fi
+  "$top/desk" uninstall below 2>err
+  same "uninstall: the status" 0 "$?"
+  same "what is left" "" "$(ls -d below 2>/dev/null)"
+  mkdir -p below/bin below/share/man && touch below/bin/other
+  "$top/desk" install below >/dev/null 2>&1 && "$top/desk" uninstall below
+  same "what was there before" "below below/bin below/bin/other below/share below/share/man" "$(find below | LC_ALL=C sort | one_line)"
+  "$top/desk" uninstall below 2>/dev/null
+  same "nothing is installed" 1 "$?"
+else
+  say "this is not the program that ./build makes of these sources: nothing is installed"
+fi
+"$top/desk" install 2>/dev/null
+same "no folder to install to" 2 "$?"
+finish
