@@ -1,0 +1,233 @@
+"""Runs the commands of Markdown pages as printed, in order, each page in a folder of its own, and compares what they print
+with what the page prints: DESK FOLDER PAGE ..
+
+A block that begins with ```console has commands, each after "$ ", its further lines after "> ", and its output below. What a
+command prints on standard output and standard error is compared line by line; a line feed at the end may be absent. A command
+that ends with "&" goes on in the background, and its output is awaited. The port 8080 stands for one that is free. A block of
+another kind has no commands, and its kind is named.
+"""
+import os
+import random
+import re
+import signal
+import socket
+import subprocess
+import sys
+import tempfile
+import time
+
+# commands that are not run here, by how they begin, and why
+NOT_RUN = {
+    "./build": "it proves the whole program, which takes most of an hour",
+    "scripts/limit.bash": "it proves the whole program once more",
+    "./check": "it is the gate, of which this is a part",
+    "./bench": "it measures, and its numbers differ from run to run",
+    "sudo apt-get": "it changes the machine",
+}
+
+# kinds of blocks without commands
+OTHER_KINDS = {"text", "csv", "json", "sql", "http", "antt", "rust"}
+
+SECONDS = 60
+
+
+class Wrong(Exception):
+    """What is wrong with a page, and where."""
+
+
+class Command:
+    """A command with its line on the page, and the lines that it is to print."""
+
+    def __init__(self, line, text):
+        self.line, self.text, self.printed = line, [text], []
+
+    def source(self):
+        return "\n".join(self.text) + "\n"
+
+    def is_run(self):
+        return not any(re.match(re.escape(word) + r"(\s|$)", self.text[0]) for word in NOT_RUN)
+
+    def is_background(self):
+        return re.search(r"(?<!&)&\s*(#.*)?$", self.text[-1]) is not None
+
+
+def commands_of(block, first):
+    """The commands of a console block whose first line has this number."""
+    commands = []
+    for number, line in enumerate(block, first):
+        if line.startswith("$ "):
+            commands.append(Command(number, line[2:]))
+        elif not commands:
+            raise Wrong(f"line {number}: a console block begins with a command, after '$ '")
+        elif not commands[-1].printed and (line == ">" or line.startswith("> ")):
+            commands[-1].text.append(line[2:])
+        else:
+            commands[-1].printed.append(line)
+    return commands
+
+
+def blocks_of(lines):
+    """The blocks of a page: the kind, the number of its first line, and its lines."""
+    kind, first, block = None, 0, []
+    for number, line in enumerate(lines, 1):
+        if kind is None and line.lstrip().startswith("```"):
+            kind, first, block = line.strip()[3:], number + 1, []
+        elif kind is not None and line.strip() == "```":
+            yield kind, first, block
+            kind = None
+        elif kind is not None:
+            block.append(line)
+    if kind is not None:
+        raise Wrong(f"line {first - 1}: the block has no end")
+
+
+def commands_on(lines):
+    """All commands of a page."""
+    commands = []
+    for kind, first, block in blocks_of(lines):
+        if kind == "console":
+            commands += commands_of(block, first)
+        elif kind not in OTHER_KINDS:
+            raise Wrong(f"line {first - 1}: a block of no kind that is known: '{kind}'")
+        elif any(re.match(r"\s*(\$ |\./)", line) for line in block):
+            raise Wrong(f"line {first - 1}: a command outside a console block")
+    return commands
+
+
+def anchors_in(path):
+    """The names under which the headings of a page can be linked to."""
+    with open(path, encoding="utf-8") as text:
+        headings = re.findall(r"^#+ (.*)$", text.read(), re.MULTILINE)
+    return {re.sub(r"[^\w\- ]", "", heading.lower()).replace(" ", "-") for heading in headings}
+
+
+def check_links(page, lines):
+    """Each link within the repository leads to a file, and to a heading, that is there."""
+    for number, line in enumerate(lines, 1):
+        for target, anchor in re.findall(r"\]\(([^)#:\s]*)(?:#([^)\s]*))?\)", line):
+            path = os.path.join(os.path.dirname(page), target) if target else page
+            if not os.path.exists(path):
+                raise Wrong(f"line {number}: a link to {target}, which is absent")
+            if anchor and anchor not in anchors_in(path):
+                raise Wrong(f"line {number}: a link to #{anchor}, which is no heading of {target or page}")
+
+
+def free_port():
+    """A port that is free, and below those that the system gives to clients."""
+    while True:
+        port = random.randrange(10240, 32768)
+        with socket.socket() as s:
+            try:
+                s.bind(("127.0.0.1", port))
+                return str(port)
+            except OSError:
+                pass
+
+
+class Shell:
+    """A shell in a folder, in which commands run one after another."""
+
+    def __init__(self, folder):
+        self.folder, self.background, self.outputs = folder, [], 0
+        self.kept = tempfile.mkdtemp(dir=os.path.dirname(folder))
+        environment = dict(os.environ, HOME=folder, CURL_HOME=self.kept, LC_ALL="C", TZ="UTC")
+        with open(os.path.join(self.kept, ".curlrc"), "w", encoding="utf-8") as rc:
+            # no progress, which a terminal does not show either
+            rc.write("silent\nshow-error\nnoproxy = *\n")
+        self.bash = subprocess.Popen(["bash", "--norc", "--noprofile"], cwd=folder, env=environment, text=True,
+                                     stdin=subprocess.PIPE, stdout=subprocess.PIPE, start_new_session=True)
+
+    def run(self, command, port):
+        """Runs a command, and gives the file that has its output."""
+        self.outputs += 1
+        source = os.path.join(self.kept, f"command{self.outputs}")
+        output = os.path.join(self.kept, f"output{self.outputs}")
+        with open(source, "w", encoding="utf-8") as out:
+            out.write(command.source().replace("8080", port))
+        # a job that is disowned is not reported by the shell when it ends
+        self.bash.stdin.write(f". {source} </dev/null >{output} 2>&1; disown -a; echo done $!\n")
+        self.bash.stdin.flush()
+        signal.alarm(SECONDS)
+        said = self.bash.stdout.readline().split()
+        signal.alarm(0)
+        if said[:1] != ["done"]:
+            raise Wrong(f"line {command.line}: the shell has ended")
+        if command.is_background():
+            self.background.append(said[1])
+        elif re.match(r"kill\b", command.text[0]) and self.background:
+            wait_until(lambda: not os.path.exists(f"/proc/{self.background[-1]}"))
+        return output
+
+    def end(self):
+        os.killpg(self.bash.pid, signal.SIGKILL)
+        self.bash.wait()
+
+
+def wait_until(holds):
+    """Waits until it holds, for some time."""
+    deadline = time.monotonic() + SECONDS
+    while not holds() and time.monotonic() < deadline:
+        time.sleep(0.02)
+
+
+def lines_in(path):
+    with open(path, encoding="utf-8", errors="replace") as text:
+        return text.read().splitlines()
+
+
+def compare(command, found, port):
+    """The lines that a command has printed are those that the page prints."""
+    printed = [line.replace("8080", port) for line in command.printed]
+    if printed != found:
+        shown = "\n".join(["  " + command.source().rstrip("\n"), "printed on the page:"] + ["  " + line for line in printed] +
+                          ["found:"] + ["  " + line for line in found])
+        raise Wrong(f"line {command.line}:\n{shown}")
+
+
+def run_page(desk, room, page):
+    """Runs the commands of a page, and gives how many ran and how many did not."""
+    with open(page, encoding="utf-8") as text:
+        lines = text.read().splitlines()
+    check_links(page, lines)
+    commands = commands_on(lines)
+    run = [command for command in commands if command.is_run()]
+    if run:
+        folder = tempfile.mkdtemp(dir=room)
+        os.symlink(desk, os.path.join(folder, "desk"))
+        port = free_port()
+        shell = Shell(folder)
+        try:
+            background = []
+            for command in run:
+                output = shell.run(command, port)
+                if command.is_background():
+                    wait_until(lambda: len(lines_in(output)) >= len(command.printed))
+                    background.append((command, output))
+                compare(command, lines_in(output), port)
+            for command, output in background:
+                compare(command, lines_in(output), port)
+        finally:
+            shell.end()
+    return len(run), len(commands) - len(run)
+
+
+def took_too_long(*_):
+    raise Wrong(f"a command took more than {SECONDS} seconds")
+
+
+def main(desk, room, pages):
+    signal.signal(signal.SIGALRM, took_too_long)
+    ran, left, wrong = 0, 0, 0
+    for page in pages:
+        try:
+            counts = run_page(os.path.abspath(desk), os.path.abspath(room), page)
+            ran, left = ran + counts[0], left + counts[1]
+        except Wrong as why:
+            print(f"{page}: {why}", file=sys.stderr)
+            wrong += 1
+    print(f"{ran} commands of {len(pages)} pages printed what the pages print; {left} were not run")
+    return 1 if wrong else 0
+
+
+if __name__ == "__main__":
+    sys.exit(main(sys.argv[1], sys.argv[2], sys.argv[3:]))

@@ -1,0 +1,52 @@
+#!/usr/bin/env bash
+# Each command in README.md and docs/*.md prints what the page prints. docs.py says how blocks of commands are written, and
+# which commands are not run here.
+. "$(dirname "${BASH_SOURCE[0]}")/helping.bash"
+
+for tool in python3 curl; do
+  if ! command -v "$tool" >/dev/null 2>&1; then
+    echo "docs.sh: skipped, there is no $tool" >&2
+    exit 0
+  fi
+done
+top=$(dirname "$tests")
+mkdir pages rooms
+
+# refuses_page WHAT WHY TEXT: a page with this text fails, for this reason
+refuses_page() {
+  printf '%b' "$3" >pages/page.md
+  python3 "$tests/docs.py" "$DESK" rooms pages/page.md >out 2>err
+  same "$1: the status" 1 $?
+  same "$1: the reason" "pages/page.md: $2" "$(head -n 1 err)"
+}
+
+# accepts_page WHAT TEXT: a page with this text passes
+accepts_page() {
+  printf '%b' "$2" >pages/page.md
+  same "$1" "1 commands of 1 pages printed what the pages print; 0 were not run" \
+    "$(python3 "$tests/docs.py" "$DESK" rooms pages/page.md 2>&1)"
+}
+
+# the script can fail
+accepts_page "what is printed" '```console\n$ printf "a\\nb"\na\nb\n```\n'
+accepts_page "more lines of a command" '```console\n$ cat <<X\n> a\n> X\na\n```\n'
+refuses_page "another output" "line 2:" '```console\n$ echo a\nb\n```\n'
+refuses_page "no output" "line 2:" '```console\n$ true\nb\n```\n'
+refuses_page "more output" "line 2:" '```console\n$ echo a; echo b\na\n```\n'
+refuses_page "output on standard error" "line 2:" '```console\n$ echo a >&2\n```\n'
+refuses_page "a later output of the background" "line 2:" '```console\n$ (echo a; sleep 0.3; echo b) &\na\n$ sleep 1\n```\n'
+refuses_page "a block of no kind" "line 1: a block of no kind that is known: ''" '```\n$ echo a\n```\n'
+refuses_page "a block of another kind" "line 1: a block of no kind that is known: 'sh'" '```sh\necho a\n```\n'
+refuses_page "a command outside" "line 1: a command outside a console block" '```text\n$ echo a\n```\n'
+refuses_page "output without a command" "line 2: a console block begins with a command, after '$ '" '```console\na\n```\n'
+refuses_page "a block without an end" "line 1: the block has no end" '```console\n$ echo a\na\n'
+refuses_page "a link to nowhere" "line 1: a link to nowhere.md, which is absent" 'see [this](nowhere.md)\n'
+
+cd "$top" || exit 2
+python3 "$tests/docs.py" "$DESK" "$work/rooms" README.md docs/*.md >"$work/out"
+same "the pages: the status" 0 $?
+sed 's/^/docs.sh: /' "$work/out" >&2
+for page in docs/*; do
+  [ "$page" = docs/README.md ] || same "$page in the index" yes "$(grep -qF "](${page#docs/})" docs/README.md && echo yes)"
+done
+finish
