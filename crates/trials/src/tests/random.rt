@@ -1,5 +1,5 @@
 //! The desk in memory and the desk over tables beside the plain program, on random commands from fixed seeds.
-use crate::tests::files::ClosedFile;
+use crate::tests::files::{ClosedFile, Session};
 use crate::tests::plain::{Plain, net, phase, used};
 use allotment::{Cell, Row};
 use commands::{Agent, Ask, Batch, Cause, Command, Item, Key, Name, Refusal, Reply};
@@ -216,50 +216,121 @@ fn kind(reply: &Reply) -> usize {
     }
 }
 
+/// Stops the test where a desk answered otherwise than the plain program.
+fn same_reply(rt: &impl Abort, desk: &str, seed: u64, turn: u64, found: &Reply, expected: &Reply) {
+    assert_eq!(rt; found, expected, "seed {seed}, turn {turn}, {desk}");
+}
+
+/// The desk in memory and the plain program, and how far they are with the commands of a seed.
+#[derive(Drop)]
+struct Desks {
+    seed: u64,
+    dice: Dice,
+    plain: Plain,
+    book: MemBook,
+    /// How many commands were answered.
+    turn: u64,
+    /// How many are to be answered.
+    commands: u64,
+    /// How many replies of each kind were answered.
+    counts: [u32; KINDS],
+}
+
+impl Desks {
+    /// One more random command is answered by each desk, and the replies and what is shown are compared.
+    fn answer<B: Book>(
+        &mut self,
+        rt: &impl Abort,
+        alloc: Global,
+        tables: &mut B,
+    ) -> Result<(), Fail> {
+        let journeys = self.plain.count();
+        let command = command(alloc, &mut self.dice, journeys)?;
+        let ask = ask(alloc, &mut self.dice)?;
+        let reply = self.plain.act(&command, ask.as_ref())?;
+        let (seed, turn) = (self.seed, self.turn);
+        let in_memory = self.book.act(&command, ask.as_ref())?;
+        same_reply(rt, "in memory", seed, turn, &in_memory, &reply);
+        let over_tables = tables.act(&command, ask.as_ref())?;
+        same_reply(rt, "over tables", seed, turn, &over_tables, &reply);
+        if let Some(count) = self.counts.get_mut(kind(&reply)) {
+            *count = count.saturating_add(1);
+        }
+        let id = some_journey(&mut self.dice, journeys);
+        self.compare(rt, alloc, tables, id)
+    }
+
+    /// What is shown of a journey is the same, and of all now and then.
+    fn compare<B: Book>(
+        &mut self,
+        rt: &impl Abort,
+        alloc: Global,
+        tables: &mut B,
+        id: u64,
+    ) -> Result<(), Fail> {
+        same_journey(rt, alloc, &mut self.book, &self.plain, id)?;
+        same_journey(rt, alloc, tables, &self.plain, id)?;
+        if self.turn % 20 == 0 {
+            same_stock(rt, &mut self.book, &self.plain)?;
+            same_shown(rt, &mut self.book, tables, id)?;
+        }
+        Ok(())
+    }
+}
+
+impl Session for Desks {
+    /// Goes on until the tables are to be closed, or all commands are answered.
+    fn run<B: Book, R: Abort>(
+        &mut self,
+        rt: &R,
+        alloc: Global,
+        tables: &mut B,
+    ) -> Result<(), Fail> {
+        for turn in self.turn..self.commands {
+            self.turn = turn;
+            self.answer(rt, alloc, tables)?;
+            self.turn = turn.saturating_add(1);
+            if self.dice.roll(25) == 0 {
+                break;
+            }
+        }
+        Ok(())
+    }
+}
+
 /// Answers random commands by each desk, the one over tables being closed and opened again now and then, and compares
-/// the replies and what is shown. It counts the kinds of replies.
+/// the replies and what is shown. How many replies of each kind there were.
 fn alike(
     rt: &impl Abort,
     alloc: Global,
     seed: u64,
     commands: u64,
-    counts: &mut [u32; KINDS],
-) -> Result<(), Fail> {
-    let mut dice = Dice { state: seed };
-    let mut book = MemBook::new(alloc);
-    let mut tables = ClosedFile::new(alloc).open(alloc)?;
-    let mut plain = Plain::new(alloc);
-    for turn in 0..commands {
-        let journeys = plain.count();
-        let command = command(alloc, &mut dice, journeys)?;
-        let ask = ask(alloc, &mut dice)?;
-        let reply = plain.act(&command, ask.as_ref())?;
-        let in_memory = book.act(&command, ask.as_ref())?;
-        assert_eq!(rt; in_memory, reply, "seed {seed}, turn {turn}, in memory");
-        let over_tables = tables.act(&command, ask.as_ref())?;
-        assert_eq!(rt; over_tables, reply, "seed {seed}, turn {turn}, over tables");
-        if let Some(count) = counts.get_mut(kind(&reply)) {
-            *count = count.saturating_add(1);
+    counts: [u32; KINDS],
+) -> Result<[u32; KINDS], Fail> {
+    let mut desks = Desks {
+        seed,
+        dice: Dice { state: seed },
+        plain: Plain::new(alloc),
+        book: MemBook::new(alloc),
+        turn: 0,
+        commands,
+        counts,
+    };
+    let mut tables = ClosedFile::new(alloc);
+    for _ in 0..commands {
+        if desks.turn == commands {
+            break;
         }
-        let id = some_journey(&mut dice, journeys);
-        same_journey(rt, alloc, &mut book, &plain, id)?;
-        same_journey(rt, alloc, &mut tables, &plain, id)?;
-        if turn % 20 == 0 {
-            same_stock(rt, &mut book, &plain)?;
-            same_shown(rt, &mut book, &mut tables, id)?;
-        }
-        if dice.roll(25) == 0 {
-            tables = ClosedFile::of(tables)?.open(alloc)?;
-        }
+        tables = tables.open_for(rt, alloc, &mut desks)?;
     }
-    Ok(())
+    Ok(desks.counts)
 }
 
 #[test]
 fn random_commands_are_answered_as_by_the_plain_program(rt: HostRuntime) -> Result<(), Fail> {
     let mut counts = [0u32; KINDS];
     for seed in 0..50 {
-        alike(&rt, rt.alloc(), seed, 200, &mut counts)?;
+        counts = alike(&rt, rt.alloc(), seed, 200, counts)?;
     }
     for (kind, count) in counts.iter().enumerate() {
         assert!(rt; *count >= 20, "kind {kind} of {counts:?}");
