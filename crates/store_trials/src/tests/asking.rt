@@ -1,8 +1,11 @@
 //! What is asked of a desk, so that tests can be tables.
+use crate::tests::helping::says;
 use allotment::{Cell, Row};
 use commands::{Batch, Command, Name};
 use plan::Plan;
+use saga_core::Book;
 use std::alloc::Global;
+use std::process::Abort;
 use std::test::Fail;
 
 /// What is asked: a load of these cells with their places, a begin of this plan, or a move of this journey.
@@ -36,4 +39,18 @@ pub fn command_of(alloc: Global, asked: Asked) -> Result<Command, Fail> {
         Asked::Stop(id) => Command::Stop(id),
         Asked::Save(id) => Command::Save(id),
     })
+}
+
+/// The house asks all this in order, and is answered so.
+pub fn is_answered<B: Book>(
+    rt: &impl Abort,
+    alloc: Global,
+    book: &mut B,
+    rows: &[(Asked, &str)],
+) -> Result<(), Fail> {
+    for &(asked, expected) in rows {
+        let reply = book.act(&command_of(alloc, asked)?, None)?;
+        says(rt, alloc, &reply, expected)?;
+    }
+    Ok(())
 }

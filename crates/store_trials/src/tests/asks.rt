@@ -9,7 +9,7 @@ use tables::TableBook;
 
 // who asks, under which key and with which text, what is asked, and the line that is answered
 #[rattlefmt::skip]
-const AGENTS: [(&str, &str, &str, Asked, &str); 16] = [
+static AGENTS: [(&str, &str, &str, Asked, &str); 16] = [
     ("ann", "k1", "begin",  Asked::Begin("F/AL/A1/2030-06-01/1/1!0"), "journey 1 begun"),
     ("ann", "k1", "begin",  Asked::Begin("F/AL/A1/2030-06-01/1/1!0"), "journey 1 begun"),
     ("ann", "k1", "begun",  Asked::Begin("F/AL/A1/2030-06-01/1/1!0"), "refused 14 KeyReused"),
@@ -31,7 +31,7 @@ const AGENTS: [(&str, &str, &str, Asked, &str); 16] = [
 const TEN_SEATS: &str = "INSERT INTO stock VALUES (0, 'AL', 'A1', 22066, 10, 10)";
 
 #[rattlefmt::skip]
-const LEFT: [(&str, i64); 7] = [
+static LEFT: [(&str, i64); 7] = [
     ("SELECT count(*) FROM meta WHERE events = 6 AND journeys = 4", 1),
     ("SELECT count(*) FROM stock WHERE allot = 10 AND free = 6", 1),
     ("SELECT count(*) FROM journey WHERE agent = 'ann'", 3),

@@ -1,5 +1,5 @@
 //! Values from outside: journeys that begin are shown, found and counted, also once the desk is opened again.
-use crate::tests::files::ClosedFile;
+use crate::tests::files::{ClosedFile, Session};
 use crate::tests::helping::{ANN, PLAN, begin, book_over, holds, opened, run, told};
 use allotment::{Kind, Want};
 use commands::{Command, Phase, Reply};
@@ -114,16 +114,52 @@ fn places_are_shown_by_cell(rt: HostRuntime) -> Result<(), Fail> {
     Ok(())
 }
 
+/// The house and ann begin their journeys.
+#[derive(Drop)]
+struct Begun<'a> {
+    command: &'a Command,
+}
+
+impl Session for Begun<'_> {
+    fn run<S: Alter + Drop, R: Abort>(
+        &mut self,
+        rt: &R,
+        alloc: Global,
+        conn: Connection<S>,
+    ) -> Result<Connection<S>, Fail> {
+        let mut book = book_over(alloc, conn)?;
+        begin_two(rt, alloc, &mut book, self.command)?;
+        Ok(book.into_store())
+    }
+}
+
+/// Ann asks again, and the house begins the next journey.
+#[derive(Drop)]
+struct Again<'a> {
+    command: &'a Command,
+}
+
+impl Session for Again<'_> {
+    fn run<S: Alter + Drop, R: Abort>(
+        &mut self,
+        rt: &R,
+        alloc: Global,
+        conn: Connection<S>,
+    ) -> Result<Connection<S>, Fail> {
+        let mut book = book_over(alloc, conn)?;
+        let again = told(alloc, &mut book, self.command, ANN)?;
+        let next = book.act(self.command, None)?;
+        holds(rt, "ann asks again", again == Reply::Begun { id: 2 });
+        holds(rt, "the house begins", next == Reply::Begun { id: 3 });
+        Ok(book.into_store())
+    }
+}
+
 #[test]
 fn a_desk_that_is_opened_again_counts_on(rt: HostRuntime) -> Result<(), Fail> {
     let alloc = rt.alloc();
-    let command = begin(alloc, PLAN)?;
-    let mut book = ClosedFile::new(alloc).open(alloc)?;
-    begin_two(&rt, alloc, &mut book, &command)?;
-    let mut book = ClosedFile::of(alloc, book)?.open(alloc)?;
-    let again = told(alloc, &mut book, &command, ANN)?;
-    let next = book.act(&command, None)?;
-    holds(&rt, "ann asks again", again == Reply::Begun { id: 2 });
-    holds(&rt, "the house begins", next == Reply::Begun { id: 3 });
+    let command = &begin(alloc, PLAN)?;
+    let closed = ClosedFile::new(alloc).open_for(&rt, alloc, &mut Begun { command })?;
+    closed.open_for(&rt, alloc, &mut Again { command })?;
     Ok(())
 }

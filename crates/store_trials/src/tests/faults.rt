@@ -1,15 +1,13 @@
 //! Stores that fail from some call on and are opened again: what was answered stands, what was under way wholly or not.
-ghost use Rattle.std.specs.Prelude.{◌≡◌, false, None, IsTrue, IfOk};
+ghost use Rattle.std.specs.Prelude.{IsTrue, IfOk};
 ghost use Rattle.sqlite_disk.specs.Memory.{memory_is_usable};
 
-use crate::tests::files::ClosedFile;
-use crate::tests::helping::{
-    ANN, Asking, PLAN, begin, book_over, counts, disk_of, holds, opened, over_files, told,
-};
+use crate::tests::files::{ClosedFile, Session, disk_of, open_failing};
+use crate::tests::helping::{ANN, Asking, PLAN, begin, book_over, counts, holds, opened, told};
 use commands::{Command, Fault, Reply};
 use desk_sql::read_meta;
 use saga_core::Book;
-use sqlite::{Alter, Connection, Files, Options};
+use sqlite::{Alter, Connection, Files};
 use sqlite_disk::{Crash, Disk, Fuse, Memory};
 use std::alloc::Global;
 use std::io;
@@ -21,7 +19,7 @@ use tables::{TableBook, open_from};
 type Turn = (u64, Option<Asking<'static>>);
 
 #[rattlefmt::skip]
-const TURNS: [Turn; 4] = [
+static TURNS: [Turn; 4] = [
     (1, None),
     (2, Some(ANN)),
     (3, Some(("ann", "k2", "begin"))),
@@ -36,7 +34,7 @@ const STEPS: &str = "SELECT count(*) FROM step";
 const REPLIES: &str = "SELECT count(*) FROM answer";
 
 #[rattlefmt::skip]
-const ROWS: [[(&str, i64); 3]; 5] = [
+static ROWS: [[(&str, i64); 3]; 5] = [
     [(JOURNEYS, 0), (STEPS, 0),  (REPLIES, 0)],
     [(JOURNEYS, 1), (STEPS, 3),  (REPLIES, 0)],
     [(JOURNEYS, 2), (STEPS, 6),  (REPLIES, 1)],
@@ -100,31 +98,32 @@ fn begin_in<S: Alter>(
     last
 }
 
-/// Opens the store and begins journeys; the last that was answered, and the files as they were left.
-fn begin_some(
-    rt: &impl Abort,
-    alloc: Global,
-    files: Files<Fuse<Memory>>,
-    command: &Command,
-    turns: &[Turn],
-) -> Result<(Option<u64>, Files<Fuse<Memory>>), Fail> {
-    if !files.log.may_be_used() || !files.db.may_be_used() {
-        return Ok((None, files));
+/// Journeys begin, as long as the store lets them; the last that was answered.
+#[derive(Drop)]
+struct Beginning<'a> {
+    command: &'a Command,
+    turns: &'a [Turn],
+    last: Option<u64>,
+}
+
+impl Session for Beginning<'_> {
+    fn run<S: Alter + Drop, R: Abort>(
+        &mut self,
+        rt: &R,
+        alloc: Global,
+        conn: Connection<S>,
+    ) -> Result<Connection<S>, Fail> {
+        let opened = match open_from(conn) {
+            Ok(opened) => opened,
+            Err((conn, _)) => return Ok(conn),
+        };
+        let mut book = match opened.into_book(alloc) {
+            Ok(book) => book,
+            Err(_) => return Err(Fail::from("no book is made")),
+        };
+        self.last = begin_in(rt, alloc, &mut book, self.command, self.turns);
+        Ok(book.into_store())
     }
-    let conn = match Connection::open_files(alloc, files, Options::new(1)) {
-        Ok(conn) => conn,
-        Err((_, left)) => return Ok((None, left.into_files())),
-    };
-    let opened = match open_from(conn) {
-        Ok(opened) => opened,
-        Err((conn, _)) => return Ok((None, conn.into_store().close())),
-    };
-    let mut book = match opened.into_book(alloc) {
-        Ok(book) => book,
-        Err(_) => return Err(Fail::from("no book is made")),
-    };
-    let last = begin_in(rt, alloc, &mut book, command, turns);
-    Ok((last, book.into_store().into_store().close()))
 }
 
 /// Where a disk fails from some call on, and whether the machine or the program ends then.
@@ -146,39 +145,29 @@ fn check_rows<S: Alter>(
 }
 
 /// Who asks again gets the reply that was kept, and all others begin the journeys that are still to come.
-fn check_replies<S: Alter + Drop>(
+fn check_replies<S: Alter>(
     rt: &impl Abort,
     alloc: Global,
-    conn: Connection<S>,
+    book: &mut TableBook<S>,
     command: &Command,
     journeys: u64,
-) -> Result<(), Fail>
-    requires outside { conn.in_transaction ≡ false }
-    requires unlimited { conn.step_limit ≡ None }
-{
-    let mut book = book_over(alloc, conn)?;
+) -> Result<(), Fail> {
     for &(id, asking) in &TURNS {
         if asking.is_some() || id > journeys {
-            let reply = answered(alloc, &mut book, command, asking)?;
+            let reply = answered(alloc, book, command, asking)?;
             holds(rt, "the journey of this turn", reply == Reply::Begun { id });
         }
     }
-    check_rows(rt, &mut book.into_store(), 4)
+    Ok(())
 }
 
-/// What has to stand after a stop, where so many journeys were answered: those, or one more, which was under way.
-fn check_left(
+/// The rows of as many journeys are there as were answered, or of one more, which was under way; how many that are.
+fn check_meta<S: Alter>(
     rt: &impl Abort,
-    alloc: Global,
-    left: Files<Memory>,
-    command: &Command,
+    conn: &mut Connection<S>,
     answered: u64,
-) -> Result<(), Fail>
-    requires log { IsTrue (memory_is_usable left.log) }
-    requires db { IsTrue (memory_is_usable left.db) }
-{
-    let mut conn = opened(alloc, over_files(alloc, left)?)?;
-    let found = read_meta(&mut conn)?;
+) -> Result<u64, Fail> {
+    let found = read_meta(conn)?;
     holds(
         rt,
         "an event a journey",
@@ -186,10 +175,34 @@ fn check_left(
     );
     let more = found.journeys.checked_sub(answered);
     holds(rt, "what stands", matches!(more, Some(0 | 1)));
-    check_rows(rt, &mut conn, found.journeys)?;
-    conn.set_step_limit(None);
-    holds(rt, "no transaction", conn.is_autocommit());
-    check_replies(rt, alloc, conn, command, found.journeys)
+    check_rows(rt, conn, found.journeys)?;
+    Ok(found.journeys)
+}
+
+/// What has to stand after a stop, where so many journeys were answered: those, or one more, which was under way.
+#[derive(Drop)]
+struct Standing<'a> {
+    command: &'a Command,
+    answered: u64,
+}
+
+impl Session for Standing<'_> {
+    fn run<S: Alter + Drop, R: Abort>(
+        &mut self,
+        rt: &R,
+        alloc: Global,
+        conn: Connection<S>,
+    ) -> Result<Connection<S>, Fail> {
+        let mut conn = opened(alloc, conn)?;
+        let journeys = check_meta(rt, &mut conn, self.answered)?;
+        conn.set_step_limit(None);
+        holds(rt, "no transaction", conn.is_autocommit());
+        let mut book = book_over(alloc, conn)?;
+        check_replies(rt, alloc, &mut book, self.command, journeys)?;
+        let mut conn = book.into_store();
+        check_rows(rt, &mut conn, 4)?;
+        Ok(conn)
+    }
 }
 
 /// One run over disks with this database, stopped and opened again; whether a call failed.
@@ -204,7 +217,13 @@ fn stop_once(
     let log = Fuse::new(Memory::new(alloc), stop.log_calls);
     let db = Fuse::new(disk_of(alloc, bytes)?, stop.db_calls);
     let turns = TURNS.get(begun as usize..).ok_or("turns")?;
-    let (last, files) = begin_some(rt, alloc, Files { log, db }, command, turns)?;
+    let mut beginning = Beginning {
+        command,
+        turns,
+        last: None,
+    };
+    let files = open_failing(rt, alloc, Files { log, db }, &mut beginning)?;
+    let last = beginning.last;
     let Files { mut log, mut db } = files;
     let met = has_blown(&mut log) || has_blown(&mut db);
     holds(
@@ -212,11 +231,10 @@ fn stop_once(
         "all is answered, or a call failed",
         met || last == Some(4),
     );
-    let left = Files {
-        log: left_of(alloc, log, stop.crashes)?,
-        db: left_of(alloc, db, stop.crashes)?,
-    };
-    check_left(rt, alloc, left, command, last.unwrap_or(begun))?;
+    let log = left_of(alloc, log, stop.crashes)?;
+    let db = left_of(alloc, db, stop.crashes)?;
+    let answered = last.unwrap_or(begun);
+    ClosedFile::left(log, db).open_for(rt, alloc, &mut Standing { command, answered })?;
     Ok(met)
 }
 
@@ -254,15 +272,32 @@ fn stop_at_each_call(rt: &impl Abort, alloc: Global, bytes: &[u8], begun: u64) -
     Ok(())
 }
 
+/// The first two journeys begin.
+#[derive(Drop)]
+struct FirstTwo<'a> {
+    command: &'a Command,
+}
+
+impl Session for FirstTwo<'_> {
+    fn run<S: Alter + Drop, R: Abort>(
+        &mut self,
+        rt: &R,
+        alloc: Global,
+        conn: Connection<S>,
+    ) -> Result<Connection<S>, Fail> {
+        let mut book = book_over(alloc, conn)?;
+        for &(id, asking) in TURNS.iter().take(2) {
+            let reply = answered(alloc, &mut book, self.command, asking)?;
+            holds(rt, "one of two", reply == Reply::Begun { id });
+        }
+        Ok(book.into_store())
+    }
+}
+
 /// A store with the first two journeys, closed in good order.
 fn of_two_journeys(rt: &impl Abort, alloc: Global) -> Result<ClosedFile, Fail> {
-    let command = begin(alloc, PLAN)?;
-    let mut book = ClosedFile::new(alloc).open(alloc)?;
-    for &(id, asking) in TURNS.iter().take(2) {
-        let reply = answered(alloc, &mut book, &command, asking)?;
-        holds(rt, "one of two", reply == Reply::Begun { id });
-    }
-    ClosedFile::of(alloc, book)
+    let command = &begin(alloc, PLAN)?;
+    ClosedFile::new(alloc).open_for(rt, alloc, &mut FirstTwo { command })
 }
 
 #[test]

@@ -1,14 +1,11 @@
-//! What the tests share: a plan, stores in memory, and short ways to ask and to judge.
+//! What the tests share: a plan, and short ways to ask and to judge.
 ghost use Rattle.std.specs.Prelude.{◌≡◌, false, None, IsTrue, IfOk, OnOk};
-ghost use Rattle.sqlite_disk.specs.Memory.{memory_is_usable};
 
 use commands::{Agent, Ask, Command, Fault, Key, Reply};
 use plan::{Plan, PlanFault};
 use saga_core::Book;
-use sqlite::{Alter, Connection, Error, FileStore, Files, Options};
-use sqlite_disk::{Disk, Memory};
+use sqlite::{Alter, Connection, Error};
 use std::alloc::Global;
-use std::io;
 use std::process::Abort;
 use std::test::Fail;
 use tables::{OpenFault, TableBook, open_from};
@@ -119,41 +116,4 @@ pub fn run<S: Alter>(conn: &mut Connection<S>, texts: &str) -> Result<(), Error>
     let mut tx = conn.transaction();
     tx.execute_batch(texts)?;
     tx.commit()
-}
-
-/// A disk with these bytes, on which nothing waits to be synced.
-pub fn disk_of(alloc: Global, bytes: &[u8]) -> io::Result<Memory>
-    ensures { IfOk result (λ m. IsTrue (memory_is_usable m)) }
-{
-    let mut disk = Memory::new(alloc);
-    disk.write_at(0, bytes)?;
-    disk.sync()?;
-    Ok(disk)
-}
-
-/// A connection over a log and a database file.
-pub fn over_files(
-    alloc: Global,
-    files: Files<Memory>,
-) -> Result<Connection<FileStore<Memory>>, Error>
-    requires log { IsTrue (memory_is_usable files.log) }
-    requires db { IsTrue (memory_is_usable files.db) }
-
-    ensures outside { IfOk result (λ c. c.in_transaction ≡ false) }
-    ensures unlimited { IfOk result (λ c. c.step_limit ≡ None) }
-{
-    match Connection::open_files(alloc, files, Options::new(1)) {
-        Ok(conn) => Ok(conn),
-        Err((error, _)) => Err(error),
-    }
-}
-
-/// The database file of a connection, which is closed.
-pub fn close(conn: Connection<FileStore<Memory>>) -> Result<Memory, Error>
-    ensures { IfOk result (λ db. IsTrue (memory_is_usable db)) }
-{
-    match conn.close_files() {
-        Ok(Files { log: _, db }) => Ok(db),
-        Err(failed) => Err(failed.0),
-    }
 }

@@ -1,8 +1,7 @@
 //! Values from outside: worked rows of the desk, each on a new store. What is asked, the line that is answered, and the
 //! rows that the formats then tell.
-use crate::tests::asking::{Asked, command_of};
-use crate::tests::helping::{book_over, counts, says};
-use saga_core::Book;
+use crate::tests::asking::{Asked, is_answered};
+use crate::tests::helping::{book_over, counts};
 use sqlite::Connection;
 use std::alloc::Global;
 use std::process::Abort;
@@ -32,16 +31,12 @@ fn leads_to(
     left: &[(&str, i64)],
 ) -> Result<(), Fail> {
     let mut book = book_over(alloc, Connection::open_in_memory(alloc)?)?;
-    for &(asked, expected) in rows {
-        let command = command_of(alloc, asked)?;
-        let reply = book.act(&command, None)?;
-        says(rt, alloc, &reply, expected)?;
-    }
+    is_answered(rt, alloc, &mut book, rows)?;
     counts(rt, &mut book.into_store(), left)
 }
 
 #[rattlefmt::skip]
-const ONE_STEP: [(Asked, &str); 11] = [
+static ONE_STEP: [(Asked, &str); 11] = [
     (Asked::Begin("F/AL/A1/2030-06-01/1/1!0"), "journey 1 begun"),
     (Asked::Step(1),                           "journey 1 B0r undone 0"),
     (Asked::Step(1),                           "refused 10 Finished"),
@@ -56,7 +51,7 @@ const ONE_STEP: [(Asked, &str); 11] = [
 ];
 
 #[rattlefmt::skip]
-const ONE_STEP_LEFT: [(&str, i64); 11] = [
+static ONE_STEP_LEFT: [(&str, i64); 11] = [
     ("SELECT count(*) FROM meta WHERE version = 2 AND events = 6 AND journeys = 2", 1),
     ("SELECT count(*) FROM stock WHERE kind = 0 AND supplier = 'AL' AND product = 'A1' AND night = 22066 AND allot = 3 AND free = 0", 1),
     ("SELECT count(*) FROM batch WHERE name = 'a' AND num = 3 AND content = x'462f414c2f41312f323033302d30362d30312f31300a'", 1),
@@ -78,7 +73,7 @@ fn allotments_are_loaded_and_taken(rt: HostRuntime) -> Result<(), Fail> {
 const TWO: &str = "F/AL/A1/2030-06-01/1/1;R/INN/DBL/2030-06-02/1/1!0";
 
 #[rattlefmt::skip]
-const LAST_ROOM: [(Asked, &str); 12] = [
+static LAST_ROOM: [(Asked, &str); 12] = [
     (Asked::Load("a", &[(A1, 10), ("R/INN/DBL/2030-06-02", 1)]), "loaded a 2"),
     (Asked::Begin(TWO), "journey 1 begun"),
     (Asked::Begin(TWO), "journey 2 begun"),
@@ -94,7 +89,7 @@ const LAST_ROOM: [(Asked, &str); 12] = [
 ];
 
 #[rattlefmt::skip]
-const LAST_ROOM_LEFT: [(&str, i64); 7] = [
+static LAST_ROOM_LEFT: [(&str, i64); 7] = [
     ("SELECT count(*) FROM meta WHERE events = 8 AND journeys = 2", 1),
     ("SELECT count(*) FROM stock WHERE kind = 0 AND allot = 10 AND free = 9", 1),
     ("SELECT count(*) FROM stock WHERE kind = 1 AND night = 22067 AND allot = 1 AND free = 0", 1),
@@ -110,7 +105,7 @@ fn the_second_journey_finds_no_room(rt: HostRuntime) -> Result<(), Fail> {
 }
 
 #[rattlefmt::skip]
-const NIGHTS: [(Asked, &str); 3] = [
+static NIGHTS: [(Asked, &str); 3] = [
     (Asked::Load("a", &[
         ("R/INN/DBL/2030-06-01", 1), ("R/INN/DBL/2030-06-02", 1), ("R/INN/DBL/2030-06-03", 1), ("R/INN/DBL/2030-06-04", 1),
         ("R/INN/DBL/2030-06-05", 1), ("R/INN/DBL/2030-06-06", 1), ("R/INN/DBL/2030-06-07", 1), ("R/INN/DBL/2030-06-08", 1),
@@ -125,7 +120,7 @@ const NIGHTS: [(Asked, &str); 3] = [
 ];
 
 #[rattlefmt::skip]
-const NIGHTS_LEFT: [(&str, i64); 3] = [
+static NIGHTS_LEFT: [(&str, i64); 3] = [
     ("SELECT count(*) FROM stock WHERE allot = 1 AND free = 1", 29),
     ("SELECT count(*) FROM stock WHERE night = 22095 AND allot = 0 AND free = 0", 1),
     ("SELECT count(*) FROM step WHERE taken = 1", 0),
@@ -137,7 +132,7 @@ fn a_room_without_its_last_night_is_not_taken(rt: HostRuntime) -> Result<(), Fai
 }
 
 #[rattlefmt::skip]
-const GIVEN_BACK: [(Asked, &str); 7] = [
+static GIVEN_BACK: [(Asked, &str); 7] = [
     (Asked::Load("a", &[(A1, 10)]), "loaded a 1"),
     (Asked::Begin("F/AL/A1/2030-06-01/1/2;T/BUS/X/2030-06-01/1/1!0"), "journey 1 begun"),
     (Asked::Step(1),     "journey 1 T1.1 run 1"),
@@ -148,7 +143,7 @@ const GIVEN_BACK: [(Asked, &str); 7] = [
 ];
 
 #[rattlefmt::skip]
-const GIVEN_BACK_LEFT: [(&str, i64); 3] = [
+static GIVEN_BACK_LEFT: [(&str, i64); 3] = [
     ("SELECT count(*) FROM stock WHERE allot = 10 AND free = 7", 1),
     ("SELECT count(*) FROM entry2 WHERE num = 6 AND journey = 1 AND item = 2 AND a = 0 AND b = 2", 1),
     ("SELECT count(*) FROM journey WHERE id = 1 AND pos = 0 AND phase = 3 AND target = 0 AND used = 0", 1),
@@ -162,7 +157,7 @@ fn a_compensation_gives_its_count_back(rt: HostRuntime) -> Result<(), Fail> {
 const TWO_LEGS: &str = "F/AL/A1/2030-06-01/1/1;T/BUS/X/2030-06-01/1/1!0";
 
 #[rattlefmt::skip]
-const ABORTS: [(Asked, &str); 10] = [
+static ABORTS: [(Asked, &str); 10] = [
     (Asked::Load("a", &[(A1, 10), (BUS, 10)]), "loaded a 2"),
     (Asked::Begin(TWO_LEGS), "journey 1 begun"),
     (Asked::Step(1),         "journey 1 T1.1 run 1"),
@@ -176,7 +171,7 @@ const ABORTS: [(Asked, &str); 10] = [
 ];
 
 #[rattlefmt::skip]
-const ABORTS_LEFT: [(&str, i64); 2] = [
+static ABORTS_LEFT: [(&str, i64); 2] = [
     ("SELECT count(*) FROM stock WHERE allot = 10 AND free = 10", 2),
     ("SELECT count(*) FROM journey WHERE pos = 0 AND phase = 3 AND target = 0 AND used = 0", 2),
 ];
@@ -194,7 +189,7 @@ const INNS: &[(&str, u32)] = &[
 ];
 
 #[rattlefmt::skip]
-const RETRIES: [(Asked, &str); 11] = [
+static RETRIES: [(Asked, &str); 11] = [
     (Asked::Load("a", INNS), "loaded a 4"),
     (Asked::Begin("F/AL/A1/2030-06-01/1/1*;R/INN/A/2030-06-01/1/1|R/INN/B/2030-06-01/1/1|R/INN/C/2030-06-01/1/1!1"), "journey 1 begun"),
     (Asked::Step(1), "journey 1 T1.1 run 1"),
@@ -209,7 +204,7 @@ const RETRIES: [(Asked, &str); 11] = [
 ];
 
 #[rattlefmt::skip]
-const RETRIES_LEFT: [(&str, i64); 5] = [
+static RETRIES_LEFT: [(&str, i64); 5] = [
     ("SELECT count(*) FROM stock WHERE free = 0", 4),
     ("SELECT count(*) FROM journey WHERE id = 1 AND pos = 0 AND phase = 3 AND used = 2", 1),
     ("SELECT count(*) FROM journey WHERE id = 2 AND pos = 2 AND phase = 2 AND used = 2", 1),
@@ -228,7 +223,7 @@ const MARKED: &str =
     "F/AL/A1/2030-06-01/1/1;F/AL/A2/2030-06-01/1/1*;F/AL/A3/2030-06-01/1/1;F/AL/A4/2030-06-01/1/1*;F/AL/A5/2030-06-01/1/1;F/AL/A6/2030-06-01/1/1!0";
 
 #[rattlefmt::skip]
-const SAVE_POINTS: [(Asked, &str); 19] = [
+static SAVE_POINTS: [(Asked, &str); 19] = [
     (Asked::Load("a", SIX), "loaded a 6"),
     (Asked::Begin(MARKED),  "journey 1 begun"),
     (Asked::Step(1),        "journey 1 T1.1 run 1"),
@@ -251,7 +246,7 @@ const SAVE_POINTS: [(Asked, &str); 19] = [
 ];
 
 #[rattlefmt::skip]
-const SAVE_POINTS_LEFT: [(&str, i64); 4] = [
+static SAVE_POINTS_LEFT: [(&str, i64); 4] = [
     ("SELECT count(*) FROM stock WHERE allot = 10 AND free = 9", 6),
     ("SELECT count(*) FROM step WHERE taken = 1", 6),
     ("SELECT count(*) FROM entry2", 15),
@@ -265,7 +260,7 @@ fn a_journey_goes_on_from_a_save_point(rt: HostRuntime) -> Result<(), Fail> {
 
 // a stop turns the journey back to its last save-point, and leaves one alone that is going back
 #[rattlefmt::skip]
-const STOPS: [(Asked, &str); 9] = [
+static STOPS: [(Asked, &str); 9] = [
     (Asked::Load("a", SIX), "loaded a 6"),
     (Asked::Begin(MARKED),  "journey 1 begun"),
     (Asked::Step(1),        "journey 1 T1.1 run 1"),
@@ -278,7 +273,7 @@ const STOPS: [(Asked, &str); 9] = [
 ];
 
 #[rattlefmt::skip]
-const STOPS_LEFT: [(&str, i64); 2] = [
+static STOPS_LEFT: [(&str, i64); 2] = [
     ("SELECT count(*) FROM journey WHERE id = 1 AND pos = 5 AND phase = 1 AND target = 4 AND used = 0", 1),
     ("SELECT count(*) FROM entry2 WHERE num = 8 AND journey = 1 AND item = 2 AND a = 4 AND b = 0", 1),
 ];
@@ -289,7 +284,7 @@ fn a_stop_turns_back_to_the_last_save_point(rt: HostRuntime) -> Result<(), Fail>
 }
 
 #[rattlefmt::skip]
-const BATCHES: [(Asked, &str); 7] = [
+static BATCHES: [(Asked, &str); 7] = [
     (Asked::Load("b1", &[(A1, 10), (ROOM, 4)]), "loaded b1 2"),
     (Asked::Load("b1", &[(A1, 10), (ROOM, 4)]), "loaded b1 2"),
     (Asked::Load("b1", &[(A1, 11), (ROOM, 4)]), "refused 13 BatchDiffers"),
@@ -300,7 +295,7 @@ const BATCHES: [(Asked, &str); 7] = [
 ];
 
 #[rattlefmt::skip]
-const BATCHES_LEFT: [(&str, i64); 4] = [
+static BATCHES_LEFT: [(&str, i64); 4] = [
     ("SELECT count(*) FROM meta WHERE events = 4 AND journeys = 1", 1),
     ("SELECT count(*) FROM stock WHERE kind = 0 AND allot = 12 AND free = 12", 1),
     ("SELECT count(*) FROM stock WHERE kind = 1 AND allot = 2 AND free = 0", 1),
@@ -314,7 +309,7 @@ fn a_batch_is_loaded_whole_or_not(rt: HostRuntime) -> Result<(), Fail> {
 
 // journey 2 gives the room back before journey 1 takes it
 #[rattlefmt::skip]
-const ONE_ROOM: [(Asked, &str); 9] = [
+static ONE_ROOM: [(Asked, &str); 9] = [
     (Asked::Load("a", &[(A1, 5), (ROOM, 1), (BUS, 5)]), "loaded a 3"),
     (Asked::Begin("F/AL/A1/2030-06-01/1/1*;R/INN/DBL/2030-06-01/1/1!0"), "journey 1 begun"),
     (Asked::Begin("R/INN/DBL/2030-06-01/1/1;T/BUS/X/2030-06-01/1/1!0"),  "journey 2 begun"),
@@ -327,7 +322,7 @@ const ONE_ROOM: [(Asked, &str); 9] = [
 ];
 
 #[rattlefmt::skip]
-const ONE_ROOM_LEFT: [(&str, i64); 2] = [
+static ONE_ROOM_LEFT: [(&str, i64); 2] = [
     ("SELECT count(*) FROM stock WHERE free = allot - 1", 2),
     ("SELECT count(*) FROM stock WHERE kind = 2 AND free = 5", 1),
 ];
@@ -340,7 +335,7 @@ fn two_journeys_want_one_room(rt: HostRuntime) -> Result<(), Fail> {
 const THREE: &str = "F/AL/A1/2030-06-01/1/1;T/BUS/X/2030-06-01/1/1;R/INN/DBL/2030-06-01/1/1!0";
 
 #[rattlefmt::skip]
-const SAVES: [(Asked, &str); 14] = [
+static SAVES: [(Asked, &str); 14] = [
     (Asked::Load("a", &[(A1, 10), (BUS, 10), (ROOM, 10)]), "loaded a 3"),
     (Asked::Begin(THREE), "journey 1 begun"),
     (Asked::Save(1),      "refused 28 NoSave"),
@@ -358,7 +353,7 @@ const SAVES: [(Asked, &str); 14] = [
 ];
 
 #[rattlefmt::skip]
-const SAVES_LEFT: [(&str, i64); 4] = [
+static SAVES_LEFT: [(&str, i64); 4] = [
     ("SELECT count(*) FROM mark WHERE journey = 1 AND pos = 1", 1),
     ("SELECT count(*) FROM mark", 1),
     ("SELECT count(*) FROM entry2 WHERE num = 4 AND journey = 1 AND item = 3 AND a = 1 AND b = 0", 1),

@@ -1,15 +1,17 @@
 //! What opening finds and makes, and what it leaves of a store that it refuses.
 ghost use Rattle.std.specs.Prelude.{◌≡◌, false, None};
 
-use crate::tests::helping::{close, counts, holds, opened, over_files, run};
-use sqlite::{Alter, Connection, Files};
-use sqlite_disk::Memory;
+use crate::tests::files::{ClosedFile, Session};
+use crate::tests::helping::{counts, holds, opened, run};
+use sqlite::{Alter, Connection};
+use std::alloc::Global;
+use std::process::Abort;
 use std::test::Fail;
 use tables::{OpenFault, open_from};
 
 // a new desk: one row of meta, and tables without rows
 #[rattlefmt::skip]
-const NEW: [(&str, i64); 10] = [
+static NEW: [(&str, i64); 10] = [
     ("SELECT count(*) FROM meta WHERE one = 1 AND version = 2 AND events = 0 AND journeys = 0", 1),
     ("SELECT count(*) FROM meta", 1),
     ("SELECT count(*) FROM stock", 0),
@@ -26,7 +28,7 @@ const NEW: [(&str, i64); 10] = [
 const KEPT: &str = "INSERT INTO answer VALUES ('ann', 'k1', x'626567696e', 'begun 1')";
 
 #[rattlefmt::skip]
-const KEPT_ROWS: [(&str, i64); 2] = [
+static KEPT_ROWS: [(&str, i64); 2] = [
     ("SELECT count(*) FROM answer WHERE agent = 'ann' AND mark = 'k1' AND ask = x'626567696e' AND reply = 'begun 1'", 1),
     ("SELECT count(*) FROM meta WHERE version = 2 AND events = 0 AND journeys = 0", 1),
 ];
@@ -38,15 +40,46 @@ fn a_new_store_gets_all_tables(rt: HostRuntime) -> Result<(), Fail> {
     counts(&rt, &mut conn, &NEW)
 }
 
+/// A reply is kept in the tables.
+#[derive(Drop)]
+struct Keeping;
+
+impl Session for Keeping {
+    fn run<S: Alter + Drop, R: Abort>(
+        &mut self,
+        _rt: &R,
+        alloc: Global,
+        conn: Connection<S>,
+    ) -> Result<Connection<S>, Fail> {
+        let mut conn = opened(alloc, conn)?;
+        run(&mut conn, KEPT)?;
+        Ok(conn)
+    }
+}
+
+/// The tables have these rows.
+#[derive(Drop)]
+struct Having(&'static [(&'static str, i64)]);
+
+impl Session for Having {
+    fn run<S: Alter + Drop, R: Abort>(
+        &mut self,
+        rt: &R,
+        alloc: Global,
+        conn: Connection<S>,
+    ) -> Result<Connection<S>, Fail> {
+        let mut conn = opened(alloc, conn)?;
+        counts(rt, &mut conn, self.0)?;
+        Ok(conn)
+    }
+}
+
 #[test]
 fn a_desk_that_is_opened_again_has_its_replies(rt: HostRuntime) -> Result<(), Fail> {
     let alloc = rt.alloc();
-    let (log, db) = (Memory::new(alloc), Memory::new(alloc));
-    let mut conn = opened(alloc, over_files(alloc, Files { log, db })?)?;
-    run(&mut conn, KEPT)?;
-    let (log, db) = (Memory::new(alloc), close(conn)?);
-    let mut conn = opened(alloc, over_files(alloc, Files { log, db })?)?;
-    counts(&rt, &mut conn, &KEPT_ROWS)
+    let closed = ClosedFile::new(alloc).open_for(&rt, alloc, &mut Keeping)?;
+    closed.open_for(&rt, alloc, &mut Having(&KEPT_ROWS))?;
+    Ok(())
 }
 
 /// The fault of an opening that is refused, and the connection that it gives back.
@@ -59,7 +92,7 @@ fn refused<S: Alter + Drop>(conn: Connection<S>) -> Option<(Connection<S>, OpenF
 
 // a version that is not known, how it is written, and what stands then
 #[rattlefmt::skip]
-const VERSIONS: [(u64, &str, &str); 2] = [
+static VERSIONS: [(u64, &str, &str); 2] = [
     (3, "UPDATE meta SET version = 3", "SELECT count(*) FROM meta WHERE version = 3 AND events = 0 AND journeys = 0"),
     (0, "UPDATE meta SET version = 0", "SELECT count(*) FROM meta WHERE version = 0 AND events = 0 AND journeys = 0"),
 ];
@@ -84,7 +117,7 @@ const TABLES: &str = "SELECT count(*) FROM sqlite_schema";
 
 // what makes a store that is no desk's, and a number that it shows, before it is refused and after
 #[rattlefmt::skip]
-const FOREIGN: [(&str, &str, i64); 6] = [
+static FOREIGN: [(&str, &str, i64); 6] = [
     ("CREATE TABLE note(a INTEGER)", "SELECT count(*) FROM note", 0),
     ("CREATE TABLE note(a INTEGER); INSERT INTO note VALUES (7)", "SELECT a FROM note", 7),
     ("CREATE VIEW two AS SELECT 2", "SELECT * FROM two", 2),

@@ -1,21 +1,22 @@
 //! Rows of an opened store, handed out one at a time: what each source hands out, that behind a row that tells nothing it
 //! hands out no more, and that the next source begins anew.
-use crate::tests::asking::{Asked, command_of};
-use crate::tests::files::{ClosedFile, FileOpened};
-use crate::tests::helping::{run, says};
+use crate::tests::asking::{Asked, is_answered};
+use crate::tests::files::{ClosedFile, Session};
+use crate::tests::helping::{book_over, run};
 use allotment::{Cell, Held};
 use commands::{Fault, Item};
-use saga_core::{Book, Brief, RowSource};
+use saga_core::{Brief, RowSource};
+use sqlite::{Alter, Connection};
 use std::alloc::{AllocError, Global};
 use std::process::Abort;
 use std::test::Fail;
-use tables::open_from;
+use tables::{Opened, open_from};
 
 const TWO: &str = "F/AL/A1/2030-06-01/1/1;R/INN/DBL/2030-06-02/1/1!0";
 
 // the first journey ends with the last room, and the second one turns back
 #[rattlefmt::skip]
-const DONE: [(Asked, &str); 7] = [
+static DONE: [(Asked, &str); 7] = [
     (Asked::Load("a", &[("R/INN/DBL/2030-06-02", 1), ("F/AL/A1/2030-06-01", 10)]), "loaded a 2"),
     (Asked::Begin(TWO), "journey 1 begun"),
     (Asked::Begin(TWO), "journey 2 begun"),
@@ -25,14 +26,21 @@ const DONE: [(Asked, &str); 7] = [
     (Asked::Step(2),    "journey 2 B0r back 1 to 0"),
 ];
 
-/// The files of a desk that has answered so.
-fn of_two_journeys(rt: &impl Abort, alloc: Global) -> Result<ClosedFile, Fail> {
-    let mut book = ClosedFile::new(alloc).open(alloc)?;
-    for &(asked, expected) in &DONE {
-        let reply = book.act(&command_of(alloc, asked)?, None)?;
-        says(rt, alloc, &reply, expected)?;
+/// The two journeys.
+#[derive(Drop)]
+struct TwoJourneys;
+
+impl Session for TwoJourneys {
+    fn run<S: Alter + Drop, R: Abort>(
+        &mut self,
+        rt: &R,
+        alloc: Global,
+        conn: Connection<S>,
+    ) -> Result<Connection<S>, Fail> {
+        let mut book = book_over(alloc, conn)?;
+        is_answered(rt, alloc, &mut book, &DONE)?;
+        Ok(book.into_store())
     }
-    ClosedFile::of(alloc, book)
 }
 
 /// A row of a source.
@@ -81,7 +89,7 @@ fn handed<T: Shown + Drop, R: RowSource<T>>(
 }
 
 /// What the sources of stock, of unfinished journeys and of the second journey's items answer to so many calls.
-fn told(alloc: Global, opened: &mut FileOpened, calls: u8) -> Result<[String; 3], Fail> {
+fn told<S: Alter>(alloc: Global, opened: &mut Opened<S>, calls: u8) -> Result<[String; 3], Fail> {
     let stock = handed(alloc, &mut opened.stock_rows()?, calls)?;
     let unfinished = handed(alloc, &mut opened.unfinished_rows()?, calls)?;
     let items = handed(alloc, &mut opened.item_rows(2)?, calls)?;
@@ -96,7 +104,7 @@ const ITEMS: &str = "T1.1;B0r;end;end;";
 
 // a change of the tables, and what is told then of stock, of unfinished journeys and of the second journey's items
 #[rattlefmt::skip]
-const TOLD: [(&str, [&str; 3]); 4] = [
+static TOLD: [(&str, [&str; 3]); 4] = [
     ("", [STOCK, UNFINISHED, ITEMS]),
     ("UPDATE stock SET supplier = 'inn' WHERE kind = 1",
         ["F/AL/A1/2030-06-01 10 8;Store;Store;Store;", UNFINISHED, ITEMS]),
@@ -109,22 +117,18 @@ fn is_told(rt: &impl Abort, case: &str, found: &str, expected: &str) {
     assert!(rt; found == expected, "{case}: {found}");
 }
 
-/// The sources of a store in which this was changed tell this, and again when they are asked anew.
-fn are_told(
+/// The sources of a store tell this, and again when they are asked anew.
+fn are_told<S: Alter>(
     rt: &impl Abort,
     alloc: Global,
+    opened: &mut Opened<S>,
     change: &str,
-    expected: &[&str; 3],
+    expected: [&str; 3],
 ) -> Result<(), Fail> {
-    let mut conn = of_two_journeys(rt, alloc)?.connect(alloc)?;
-    run(&mut conn, change)?;
-    let Ok(mut opened) = open_from(conn) else {
-        return Err(Fail::from("the desk is not opened"));
-    };
     // let go behind their first rows
-    told(alloc, &mut opened, 1)?;
+    told(alloc, opened, 1)?;
     for _ in 0..2u8 {
-        let [stock, unfinished, items] = told(alloc, &mut opened, 4)?;
+        let [stock, unfinished, items] = told(alloc, opened, 4)?;
         is_told(rt, change, stock.as_str(), expected[0]);
         is_told(rt, change, unfinished.as_str(), expected[1]);
         is_told(rt, change, items.as_str(), expected[2]);
@@ -132,10 +136,35 @@ fn are_told(
     Ok(())
 }
 
+/// A change of the tables, and what the sources tell then.
+#[derive(Drop)]
+struct Changed<'a> {
+    change: &'a str,
+    expected: [&'a str; 3],
+}
+
+impl Session for Changed<'_> {
+    fn run<S: Alter + Drop, R: Abort>(
+        &mut self,
+        rt: &R,
+        alloc: Global,
+        mut conn: Connection<S>,
+    ) -> Result<Connection<S>, Fail> {
+        run(&mut conn, self.change)?;
+        let Ok(mut opened) = open_from(conn) else {
+            return Err(Fail::from("the desk is not opened"));
+        };
+        are_told(rt, alloc, &mut opened, self.change, self.expected)?;
+        Ok(opened.into_store())
+    }
+}
+
 #[test]
 fn each_source_hands_out_its_rows_anew(rt: HostRuntime) -> Result<(), Fail> {
-    for (change, expected) in &TOLD {
-        are_told(&rt, rt.alloc(), change, expected)?;
+    let alloc = rt.alloc();
+    for &(change, expected) in &TOLD {
+        let closed = ClosedFile::new(alloc).open_for(&rt, alloc, &mut TwoJourneys)?;
+        closed.open_for(&rt, alloc, &mut Changed { change, expected })?;
     }
     Ok(())
 }

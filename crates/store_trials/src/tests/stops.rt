@@ -1,14 +1,14 @@
 //! Recovery over a file whose log fails from some call on: what was committed stands, and the next recovery goes on from
 //! there.
-use crate::tests::files::{ClosedFile, FileBook};
-use crate::tests::helping::{disk_of, holds};
+use crate::tests::files::{ClosedFile, Session, disk_of, open_failing};
+use crate::tests::helping::{book_over, holds};
 use allotment::{Cell, Row};
 use commands::{Batch, Command, Fault, Name, Phase};
 use plan::Plan;
 use recovery::{Ready, recover};
 use saga_core::Book;
-use sqlite::{Connection, Files, Options};
-use sqlite_disk::{Disk, Fuse, Memory};
+use sqlite::{Alter, Connection, Files};
+use sqlite_disk::{Fuse, Memory};
 use std::alloc::Global;
 use std::process::Abort;
 use std::test::Fail;
@@ -17,7 +17,7 @@ use tables::open_from;
 // more calls than a recovery here makes of the log
 const MOST_CALLS: u64 = 1_000;
 
-const CELLS: [&str; 6] = [
+static CELLS: [&str; 6] = [
     "F/AL/A1/2030-06-01",
     "F/AL/A2/2030-06-01",
     "F/AL/A3/2030-06-01",
@@ -34,9 +34,8 @@ const AFTER_SIX: &str = "T1.1 T2.1 B1s C2.1 T2.1 T3.1 T4.1 T5.1";
 
 const IN_THE_END: &str = "T1.1 T2.1 B1s C2.1 T2.1 T3.1 T4.1 T5.1 B3s C5.1 C4.1 T4.1 T5.1 T6.1";
 
-/// A file with ten places of each cell, and a journey of six steps that has done two of them.
-fn two_steps_done(alloc: Global) -> Result<ClosedFile, Fail> {
-    let mut book = ClosedFile::new(alloc).open(alloc)?;
+/// Loads ten places of each cell, and begins a journey of six steps that does two of them.
+fn do_two_steps<B: Book>(alloc: Global, book: &mut B) -> Result<(), Fail> {
     let mut rows = Vec::new(alloc);
     for &cell in &CELLS {
         rows.push(Row::new(Cell::parse(cell).ok_or("no cell")?, 10))?;
@@ -46,39 +45,61 @@ fn two_steps_done(alloc: Global) -> Result<ClosedFile, Fail> {
     book.act(&Command::Begin(Plan::from_line(alloc, PLAN)?), None)?;
     book.act(&Command::Step(1), None)?;
     book.act(&Command::Step(1), None)?;
-    ClosedFile::of(alloc, book)
+    Ok(())
 }
 
-/// Recovers the desk of these files. Whether that came through, and the files as they were left.
-fn recover_files(
-    rt: &impl Abort,
-    alloc: Global,
-    files: Files<Fuse<Memory>>,
-) -> Result<(bool, Files<Fuse<Memory>>), Fail> {
-    if !files.log.may_be_used() || !files.db.may_be_used() {
-        return Ok((false, files));
+/// Those two steps.
+#[derive(Drop)]
+struct TwoSteps;
+
+impl Session for TwoSteps {
+    fn run<S: Alter + Drop, R: Abort>(
+        &mut self,
+        _rt: &R,
+        alloc: Global,
+        conn: Connection<S>,
+    ) -> Result<Connection<S>, Fail> {
+        let mut book = book_over(alloc, conn)?;
+        do_two_steps(alloc, &mut book)?;
+        Ok(book.into_store())
     }
-    let conn = match Connection::open_files(alloc, files, Options::new(1)) {
-        Ok(conn) => conn,
-        Err((_, left)) => return Ok((false, left.into_files())),
-    };
-    let opened = match open_from(conn) {
-        Ok(opened) => opened,
-        Err((conn, _)) => return Ok((false, conn.into_store().close())),
-    };
-    let book = match opened.into_book(alloc) {
-        Ok(book) => book,
-        Err(_) => return Err(Fail::from("no book is made")),
-    };
+}
+
+/// Recovers a book. Whether that came through, and the book as it was left.
+fn recover_book<B: Book + Drop>(rt: &impl Abort, book: B) -> (bool, B) {
     match recover(book) {
-        Ok((ready, _)) => {
-            let conn = ready.into_inner().into_store();
-            Ok((true, conn.into_store().close()))
-        }
+        Ok((ready, _)) => (true, ready.into_inner()),
         Err((book, fault)) => {
             holds(rt, "a fault of the store", fault == Fault::Store);
-            Ok((false, book.into_store().into_store().close()))
+            (false, book)
         }
+    }
+}
+
+/// A recovery, and whether it came through.
+#[derive(Drop)]
+struct Recovery {
+    came_through: bool,
+}
+
+impl Session for Recovery {
+    fn run<S: Alter + Drop, R: Abort>(
+        &mut self,
+        rt: &R,
+        alloc: Global,
+        conn: Connection<S>,
+    ) -> Result<Connection<S>, Fail> {
+        let opened = match open_from(conn) {
+            Ok(opened) => opened,
+            Err((conn, _)) => return Ok(conn),
+        };
+        let book = match opened.into_book(alloc) {
+            Ok(book) => book,
+            Err(_) => return Err(Fail::from("no book is made")),
+        };
+        let (came_through, book) = recover_book(rt, book);
+        self.came_through = came_through;
+        Ok(book.into_store())
     }
 }
 
@@ -95,7 +116,7 @@ fn items<B: Book>(alloc: Global, book: &mut B) -> Result<String, Fail> {
 }
 
 /// Recovers the desk, whose journey ends then. How many events that made.
-fn recover_to_the_end(rt: &impl Abort, book: FileBook) -> Result<(Ready<FileBook>, u64), Fail> {
+fn recover_to_the_end<B: Book + Drop>(rt: &impl Abort, book: B) -> Result<(Ready<B>, u64), Fail> {
     match recover(book) {
         Ok((mut ready, made)) => {
             let record = ready.journey(1)?.ok_or("no journey")?;
@@ -112,7 +133,11 @@ fn recover_to_the_end(rt: &impl Abort, book: FileBook) -> Result<(Ready<FileBook
 }
 
 /// Recovers the desk that a stop left. Whether six commits stood before.
-fn check_left(rt: &impl Abort, alloc: Global, mut book: FileBook) -> Result<bool, Fail> {
+fn check_left<B: Book + Drop>(
+    rt: &impl Abort,
+    alloc: Global,
+    mut book: B,
+) -> Result<(B, bool), Fail> {
     let before = items(alloc, &mut book)?;
     let (mut ready, made) = recover_to_the_end(rt, book)?;
     let after = items(alloc, &mut ready)?;
@@ -126,29 +151,67 @@ fn check_left(rt: &impl Abort, alloc: Global, mut book: FileBook) -> Result<bool
         holds(rt, "six more commits", made == 6);
         holds(rt, IN_THE_END, after.as_str() == IN_THE_END);
     }
-    Ok(has_six)
+    Ok((ready.into_inner(), has_six))
+}
+
+/// The next recovery, and whether six commits stood before it.
+#[derive(Drop)]
+struct NextRecovery {
+    has_six: bool,
+}
+
+impl Session for NextRecovery {
+    fn run<S: Alter + Drop, R: Abort>(
+        &mut self,
+        rt: &R,
+        alloc: Global,
+        conn: Connection<S>,
+    ) -> Result<Connection<S>, Fail> {
+        let (book, has_six) = check_left(rt, alloc, book_over(alloc, conn)?)?;
+        self.has_six = has_six;
+        Ok(book.into_store())
+    }
+}
+
+/// One recovery over a log that fails from this call on; if it did not come through, the next one. Whether it came through,
+/// and whether six commits stood before the next one.
+fn stop_once(
+    rt: &impl Abort,
+    alloc: Global,
+    begun: &[u8],
+    calls: u64,
+) -> Result<(bool, bool), Fail> {
+    let files = Files {
+        log: Fuse::new(Memory::new(alloc), calls),
+        db: Fuse::new(disk_of(alloc, begun)?, u64::MAX),
+    };
+    let mut first = Recovery {
+        came_through: false,
+    };
+    let left = open_failing(rt, alloc, files, &mut first)?;
+    if first.came_through {
+        return Ok((true, false));
+    }
+    let log = disk_of(alloc, left.log.inner().bytes())?;
+    let db = disk_of(alloc, left.db.inner().bytes())?;
+    let mut next = NextRecovery { has_six: false };
+    ClosedFile::left(log, db).open_for(rt, alloc, &mut next)?;
+    Ok((false, next.has_six))
 }
 
 #[test]
 fn recovery_goes_on_after_a_stop_at_any_call_of_the_log(rt: HostRuntime) -> Result<(), Fail> {
     let alloc = rt.alloc();
-    let begun = two_steps_done(alloc)?;
+    let begun = ClosedFile::new(alloc).open_for(&rt, alloc, &mut TwoSteps)?;
     let mut has_ended = false;
     let mut has_met_six = false;
     for calls in 0..MOST_CALLS {
-        let files = Files {
-            log: Fuse::new(Memory::new(alloc), calls),
-            db: Fuse::new(disk_of(alloc, begun.bytes())?, u64::MAX),
-        };
-        let (came_through, left) = recover_files(&rt, alloc, files)?;
+        let (came_through, has_six) = stop_once(&rt, alloc, begun.bytes(), calls)?;
         has_ended = came_through;
         if has_ended {
             break;
         }
-        let log = disk_of(alloc, left.log.inner().bytes())?;
-        let db = disk_of(alloc, left.db.inner().bytes())?;
-        let book = ClosedFile::left(log, db).open(alloc)?;
-        has_met_six = check_left(&rt, alloc, book)? || has_met_six;
+        has_met_six = has_six || has_met_six;
     }
     holds(&rt, "a run without a fault", has_ended);
     holds(&rt, "a stop after six commits", has_met_six);
