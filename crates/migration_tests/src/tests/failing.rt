@@ -1,14 +1,12 @@
 //! Stores that fail from some call on while they are migrated: the file that is found then is the old one or the new one,
 //! and the next migration completes it.
-use crate::tests::helping::{
-    FileConn, bring_over, close, connect, connect_both, disk_of, holds, open,
-};
+use crate::tests::helping::{Session, bring_over, disk_of, holds, open_failing, open_for};
 use crate::tests::old_files::{OldFile, old_file};
-use crate::tests::reporting::{handed_back, shows_all};
-use crate::tests::rows::{Held, Schema, held_by};
+use crate::tests::reporting::{desk_over, handed_back, shown};
+use crate::tests::rows::{Held, Schema, held_in};
 use crate::tests::using::keeps_all;
 use migrate::{MigrateFault, Migrated};
-use sqlite::{Connection, Files, Options};
+use sqlite::{Alter, Connection, Files};
 use sqlite_disk::{Crash, Disk, Fuse, Memory};
 use std::alloc::Global;
 use std::process::Abort;
@@ -38,9 +36,15 @@ struct Left {
 }
 
 impl Left {
-    /// A connection over what was left.
-    fn connect(&self, alloc: Global) -> Result<FileConn, Fail> {
-        connect_both(alloc, self.log.bytes(), self.db.bytes())
+    /// Opens what was left for a session, and closes it.
+    fn open_for<T: Session>(
+        &self,
+        rt: &impl Abort,
+        alloc: Global,
+        session: &mut T,
+    ) -> Result<(), Fail> {
+        open_for(rt, alloc, self.log.bytes(), self.db.bytes(), session)?;
+        Ok(())
     }
 }
 
@@ -48,23 +52,21 @@ fn has_blown<D: Disk>(disk: &mut D) -> bool {
     !disk.may_be_used() || disk.len().is_err()
 }
 
-/// Opens the file, migrates it and closes it. What is answered, and the files as they were left.
-fn migrate_files(
-    rt: &impl Abort,
-    alloc: Global,
-    files: Files<Fuse<Memory>>,
-) -> (Answer, Files<Fuse<Memory>>) {
-    if !files.log.may_be_used() || !files.db.may_be_used() {
-        return (None, files);
-    }
-    let mut conn = match Connection::open_files(alloc, files, Options::new(1)) {
-        Ok(conn) => conn,
-        Err((_, left)) => return (None, left.into_files()),
-    };
-    let answer = bring_over(rt, &mut conn);
-    match conn.close_files() {
-        Ok(files) => (Some(answer), files),
-        Err((_, store)) => (Some(answer), store.close()),
+/// A file is migrated; what was answered then.
+#[derive(Drop)]
+struct Migration {
+    answer: Answer,
+}
+
+impl Session for Migration {
+    fn run<S: Alter + Drop, R: Abort>(
+        &mut self,
+        rt: &R,
+        _alloc: Global,
+        mut conn: Connection<S>,
+    ) -> Result<Connection<S>, Fail> {
+        self.answer = Some(bring_over(rt, &mut conn));
+        Ok(conn)
     }
 }
 
@@ -77,7 +79,8 @@ fn stop_once(rt: &impl Abort, alloc: Global, bytes: &[u8], stop: Stop) -> Result
     };
     let log = Fuse::new(Memory::new(alloc), log_calls);
     let db = Fuse::new(disk_of(alloc, bytes)?, db_calls);
-    let (answer, files) = migrate_files(rt, alloc, Files { log, db });
+    let mut migration = Migration { answer: None };
+    let files = open_failing(rt, alloc, Files { log, db }, &mut migration)?;
     let Files { mut log, mut db } = files;
     let met = has_blown(&mut log) || has_blown(&mut db);
     if stop.crashes {
@@ -85,7 +88,7 @@ fn stop_once(rt: &impl Abort, alloc: Global, bytes: &[u8], stop: Stop) -> Result
         db.crash();
     }
     Ok(Left {
-        answer,
+        answer: migration.answer,
         log: disk_of(alloc, log.inner().bytes())?,
         db: disk_of(alloc, db.inner().bytes())?,
         met,
@@ -116,31 +119,61 @@ impl Trial<'_> {
         }
     }
 
-    /// What was found after a stop: a file that is wholly old or wholly new, and that the next migration completes.
-    fn check_left(&self, rt: &impl Abort, alloc: Global, left: &Left) -> Result<Schema, Fail> {
+    /// What was found after a stop is what the answer says of it.
+    fn may_be_found(&self, rt: &impl Abort, left: &Left, found: Schema) {
         holds(rt, "the answer", self.may_answer(left));
-        let mut conn = left.connect(alloc)?;
-        let found = self.held.is_found(rt, alloc, &mut conn)?;
         if self.before == Schema::New || matches!(left.answer, Some(Ok(_))) {
             holds(rt, "what is new stays new", found == Schema::New);
         }
         if left.answer.is_none() {
             holds(rt, "what was not opened stays", found == self.before);
         }
-        let next = bring_over(rt, &mut conn);
+    }
+
+    /// The next migration completes what was found.
+    fn is_completed(&self, rt: &impl Abort, found: Schema, next: Result<Migrated, MigrateFault>) {
+        let events = self.events;
         match found {
-            Schema::Old => holds(
-                rt,
-                "completed",
-                next == Ok(Migrated {
-                    events: self.events,
-                }),
-            ),
+            Schema::Old => holds(rt, "completed", next == Ok(Migrated { events })),
             Schema::New => holds(rt, "complete", next == Err(MigrateFault::AlreadyNew)),
         }
-        let after = self.held.is_found(rt, alloc, &mut conn)?;
+    }
+
+    /// What was found after a stop: a file that is wholly old or wholly new, and that the next migration completes.
+    fn check_left(&self, rt: &impl Abort, alloc: Global, left: &Left) -> Result<Schema, Fail> {
+        let mut completion = Completion {
+            trial: self,
+            left,
+            found: None,
+        };
+        left.open_for(rt, alloc, &mut completion)?;
+        Ok(completion.found.ok_or("nothing is found")?)
+    }
+}
+
+/// What a stop left is completed; which schema was found before.
+#[derive(Drop)]
+struct Completion<'a> {
+    trial: &'a Trial<'a>,
+    left: &'a Left,
+    found: Option<Schema>,
+}
+
+impl Session for Completion<'_> {
+    fn run<S: Alter + Drop, R: Abort>(
+        &mut self,
+        rt: &R,
+        alloc: Global,
+        mut conn: Connection<S>,
+    ) -> Result<Connection<S>, Fail> {
+        let found = self.trial.held.is_found(rt, alloc, &mut conn)?;
+        self.trial.may_be_found(rt, self.left, found);
+        let next = bring_over(rt, &mut conn);
+        self.trial.is_completed(rt, found, next);
+        let after = self.trial.held.is_found(rt, alloc, &mut conn)?;
         holds(rt, "new", after == Schema::New);
-        Ok(found)
+        self.found = Some(found);
+        Ok(conn)
     }
 }
 
@@ -216,24 +249,19 @@ fn stop_at_each_call(
     Ok(())
 }
 
-/// What an old file holds; the connection that showed it is gone.
-fn held_in<'a>(alloc: Global, file: &'a OldFile) -> Result<Held<'a>, Fail> {
-    let mut conn = connect(alloc, file.bytes())?;
-    held_by(alloc, &mut conn, &file.written)
-}
-
 /// The old file, migrated and closed.
 fn migrated(rt: &impl Abort, alloc: Global, file: &OldFile) -> Result<Memory, Fail> {
-    let mut conn = connect(alloc, file.bytes())?;
-    bring_over(rt, &mut conn)?;
-    Ok(close(conn)?)
+    let mut migration = Migration { answer: None };
+    let db = open_for(rt, alloc, &[], file.bytes(), &mut migration)?;
+    migration.answer.ok_or("nothing is answered")??;
+    Ok(db)
 }
 
 #[test]
 fn an_old_file_may_fail_at_any_call(rt: HostRuntime) -> Result<(), Fail> {
     let alloc = rt.alloc();
     let file = old_file(&rt, alloc, 1)?;
-    let held = held_in(alloc, &file)?;
+    let held = held_in(&rt, alloc, &file)?;
     let trial = Trial {
         bytes: file.bytes(),
         held: &held,
@@ -247,7 +275,7 @@ fn an_old_file_may_fail_at_any_call(rt: HostRuntime) -> Result<(), Fail> {
 fn a_new_file_may_fail_at_any_call(rt: HostRuntime) -> Result<(), Fail> {
     let alloc = rt.alloc();
     let file = old_file(&rt, alloc, 1)?;
-    let held = held_in(alloc, &file)?;
+    let held = held_in(&rt, alloc, &file)?;
     let db = migrated(&rt, alloc, &file)?;
     let trial = Trial {
         bytes: db.bytes(),
@@ -263,7 +291,7 @@ fn a_new_file_may_fail_at_any_call(rt: HostRuntime) -> Result<(), Fail> {
 fn a_long_file_may_fail_at_any_call(rt: HostRuntime) -> Result<(), Fail> {
     let alloc = rt.alloc();
     let file = old_file(&rt, alloc, 120)?;
-    let held = held_in(alloc, &file)?;
+    let held = held_in(&rt, alloc, &file)?;
     let trial = Trial {
         bytes: file.bytes(),
         held: &held,
@@ -291,6 +319,27 @@ fn without_commit(rt: &impl Abort, alloc: Global, bytes: &[u8]) -> Result<Left, 
     Ok(last.ok_or("no call fails")?)
 }
 
+/// An old file of one round is shown, brought over, shown again, and used.
+#[derive(Drop)]
+struct Shown;
+
+impl Session for Shown {
+    fn run<S: Alter + Drop, R: Abort>(
+        &mut self,
+        rt: &R,
+        alloc: Global,
+        conn: Connection<S>,
+    ) -> Result<Connection<S>, Fail> {
+        let opened = shown(rt, alloc, conn, 1)?;
+        let mut conn = handed_back(rt, alloc, opened)?.into_store();
+        let again = bring_over(rt, &mut conn);
+        holds(rt, "again", again == Ok(Migrated { events: 37 }));
+        let mut book = desk_over(alloc, shown(rt, alloc, conn, 1)?)?;
+        keeps_all(rt, alloc, &mut book, 1)?;
+        Ok(book.into_store())
+    }
+}
+
 #[test]
 fn a_commit_that_fails_leaves_the_old_file(rt: HostRuntime) -> Result<(), Fail> {
     let alloc = rt.alloc();
@@ -301,18 +350,5 @@ fn a_commit_that_fails_leaves_the_old_file(rt: HostRuntime) -> Result<(), Fail> 
         "a fault",
         left.answer == Some(Err(MigrateFault::Store)),
     );
-    let mut opened = open(&rt, left.connect(alloc)?)?;
-    shows_all(&rt, alloc, &mut opened, 1)?;
-    let mut conn = handed_back(&rt, alloc, opened)?.into_store();
-    holds(
-        &rt,
-        "again",
-        bring_over(&rt, &mut conn) == Ok(Migrated { events: 37 }),
-    );
-    let mut opened = open(&rt, conn)?;
-    shows_all(&rt, alloc, &mut opened, 1)?;
-    let Ok(mut book) = opened.into_book(alloc) else {
-        return Err(Fail::from("no desk over the new file"));
-    };
-    keeps_all(&rt, alloc, &mut book, 1)
+    left.open_for(&rt, alloc, &mut Shown)
 }

@@ -1,18 +1,28 @@
-//! What the tests share: disks in memory, connections over them, and short ways to ask and to judge.
+//! What the tests share: files in memory, which are opened, used and closed, and short ways to ask and to judge. The store
+//! over files is named here alone: the proof of each function that hands it on opens its whole layout, and takes a minute or
+//! more. What tests do with it is a `Session`, which is proved once, for any store.
 ghost use Rattle.std.specs.Prelude.{◌≡◌, false, None, IsTrue, IfOk};
 ghost use Rattle.sqlite_disk.specs.Memory.{memory_is_usable};
 
 use migrate::{MigrateFault, Migrated, migrate};
 use sqlite::{Alter, Connection, Error, FileStore, Files, Options};
-use sqlite_disk::{Disk, Memory};
+use sqlite_disk::{Disk, Fuse, Memory};
 use std::alloc::Global;
 use std::io;
 use std::process::Abort;
 use std::test::Fail;
 use tables::{Opened, TableBook, open_from};
 
-/// A connection over files in memory.
-pub type FileConn = Connection<FileStore<Memory>>;
+/// What a test does between the opening of a database and its closing.
+pub trait Session {
+    /// Uses the connection, and hands it back.
+    fn run<S: Alter + Drop, R: Abort>(
+        &mut self,
+        rt: &R,
+        alloc: Global,
+        conn: Connection<S>,
+    ) -> Result<Connection<S>, Fail>;
+}
 
 /// Stops the test where this is not so.
 pub fn holds(rt: &impl Abort, case: &str, is_so: bool)
@@ -32,7 +42,7 @@ pub fn disk_of(alloc: Global, bytes: &[u8]) -> io::Result<Memory>
 }
 
 /// A connection over a log and a database file.
-pub fn over_files(alloc: Global, files: Files<Memory>) -> Result<FileConn, Error>
+fn over_files(alloc: Global, files: Files<Memory>) -> Result<Connection<FileStore<Memory>>, Error>
     requires log { IsTrue (memory_is_usable files.log) }
     requires db { IsTrue (memory_is_usable files.db) }
 {
@@ -42,24 +52,46 @@ pub fn over_files(alloc: Global, files: Files<Memory>) -> Result<FileConn, Error
     }
 }
 
-/// A connection over a database file with these bytes, and an empty log.
-pub fn connect(alloc: Global, bytes: &[u8]) -> Result<FileConn, Fail> {
-    connect_both(alloc, &[], bytes)
-}
-
-/// A connection over files with these bytes.
-pub fn connect_both(alloc: Global, log: &[u8], db: &[u8]) -> Result<FileConn, Fail> {
-    let log = disk_of(alloc, log)?;
-    let db = disk_of(alloc, db)?;
-    Ok(over_files(alloc, Files { log, db })?)
-}
-
 /// The database file of a connection, which is closed.
-pub fn close(conn: FileConn) -> Result<Memory, Error> {
+fn close(conn: Connection<FileStore<Memory>>) -> Result<Memory, Error> {
     match conn.close_files() {
         Ok(Files { log: _, db }) => Ok(db),
         Err(failed) => Err(failed.0),
     }
+}
+
+/// Opens files with these bytes for a session. The database file, which is closed then.
+pub fn open_for<T: Session>(
+    rt: &impl Abort,
+    alloc: Global,
+    log: &[u8],
+    db: &[u8],
+    session: &mut T,
+) -> Result<Memory, Fail> {
+    let log = disk_of(alloc, log)?;
+    let db = disk_of(alloc, db)?;
+    let conn = over_files(alloc, Files { log, db })?;
+    Ok(close(session.run(rt, alloc, conn)?)?)
+}
+
+/// Opens files that may fail for a session, if that can be done, and closes them. The files as they were left.
+pub fn open_failing<T: Session>(
+    rt: &impl Abort,
+    alloc: Global,
+    files: Files<Fuse<Memory>>,
+    session: &mut T,
+) -> Result<Files<Fuse<Memory>>, Fail> {
+    if !files.log.may_be_used() || !files.db.may_be_used() {
+        return Ok(files);
+    }
+    let conn = match Connection::open_files(alloc, files, Options::new(1)) {
+        Ok(conn) => conn,
+        Err((_, left)) => return Ok(left.into_files()),
+    };
+    Ok(match session.run(rt, alloc, conn)?.close_files() {
+        Ok(files) => files,
+        Err((_, store)) => store.close(),
+    })
 }
 
 /// The texts run in one transaction.

@@ -1,5 +1,5 @@
 //! Files of schema 1, written by its own statements.
-use crate::tests::helping::{close, connect, holds};
+use crate::tests::helping::{Session, holds, open_for};
 use crate::tests::old_desks::{
     ItemRow, MOST_ITEMS, OldJourney, OptionRow, cells, journeys, last_item,
 };
@@ -11,7 +11,7 @@ use std::test::Fail;
 
 /// The tables of schema 1, of which none refers to a later one.
 #[rattlefmt::skip]
-const OLD_TABLES: [&str; 7] = [
+static OLD_TABLES: [&str; 7] = [
     "CREATE TABLE meta(one INTEGER PRIMARY KEY CHECK(one = 1), version INTEGER NOT NULL, events INTEGER NOT NULL, journeys INTEGER NOT NULL) STRICT",
     "CREATE TABLE stock(kind INTEGER NOT NULL CHECK(kind BETWEEN 0 AND 3), supplier TEXT NOT NULL, product TEXT NOT NULL, night INTEGER NOT NULL, allot INTEGER NOT NULL, free INTEGER NOT NULL CHECK(free >= 0 AND free <= allot), PRIMARY KEY(kind, supplier, product, night)) STRICT",
     "CREATE TABLE batch(name TEXT NOT NULL PRIMARY KEY, num INTEGER NOT NULL UNIQUE, content BLOB NOT NULL) STRICT",
@@ -53,10 +53,33 @@ impl OldFile {
 
 /// A file of schema 1 in which so many rounds of journeys were begun; one without a round has no event at all.
 pub fn old_file(rt: &impl Abort, alloc: Global, rounds: u32) -> Result<OldFile, Fail> {
-    let mut conn = connect(alloc, &[])?;
-    let written = write_desk(rt, alloc, &mut conn, rounds)?;
-    let db = close(conn)?;
+    let mut writing = Writing {
+        rounds,
+        written: None,
+    };
+    let db = open_for(rt, alloc, &[], &[], &mut writing)?;
+    let written = writing.written.ok_or("nothing is written")?;
     Ok(OldFile { db, written })
+}
+
+/// The desk of so many rounds is written; what was written then.
+#[derive(Drop)]
+struct Writing {
+    rounds: u32,
+    written: Option<Written>,
+}
+
+impl Session for Writing {
+    fn run<S: Alter + Drop, R: Abort>(
+        &mut self,
+        rt: &R,
+        alloc: Global,
+        mut conn: Connection<S>,
+    ) -> Result<Connection<S>, Fail> {
+        let written = write_desk(rt, alloc, &mut conn, self.rounds)?;
+        self.written = Some(written);
+        Ok(conn)
+    }
 }
 
 /// Writes the tables and all rows, in one transaction.

@@ -1,13 +1,37 @@
 //! Stores that are not migrated: what each answers, and that nothing of it changes.
-use crate::tests::helping::{bring_over, close, connect, holds, run};
+use crate::tests::helping::{Session, bring_over, holds, open_for, run};
 use crate::tests::old_files::old_file;
 use migrate::MigrateFault;
+use sqlite::{Alter, Connection};
 use sqlite_disk::Memory;
 use std::alloc::Global;
 use std::process::Abort;
 use std::test::Fail;
 
-/// The store of these bytes is refused so, and not a byte of it changes, whether it is asked once or twice.
+/// A store is refused so, whether it is asked once or twice.
+#[derive(Drop)]
+struct Refused<'a> {
+    case: &'a str,
+    expected: MigrateFault,
+}
+
+impl Session for Refused<'_> {
+    fn run<S: Alter + Drop, R: Abort>(
+        &mut self,
+        rt: &R,
+        _alloc: Global,
+        mut conn: Connection<S>,
+    ) -> Result<Connection<S>, Fail> {
+        let Refused { case, expected } = self;
+        for _ in 0..2u8 {
+            let answer = bring_over(rt, &mut conn);
+            assert!(rt; answer == Err(*expected), "{case}: {answer:?}");
+        }
+        Ok(conn)
+    }
+}
+
+/// The store of these bytes is refused so, and not a byte of it changes.
 fn is_refused(
     rt: &impl Abort,
     alloc: Global,
@@ -15,14 +39,27 @@ fn is_refused(
     bytes: &[u8],
     expected: MigrateFault,
 ) -> Result<(), Fail> {
-    let mut conn = connect(alloc, bytes)?;
-    for _ in 0..2u8 {
-        let answer = bring_over(rt, &mut conn);
-        assert!(rt; answer == Err(expected), "{case}: {answer:?}");
-    }
-    let db = close(conn)?;
+    let db = open_for(rt, alloc, &[], bytes, &mut Refused { case, expected })?;
     holds(rt, case, db.bytes() == bytes);
     Ok(())
+}
+
+/// These statements run.
+#[derive(Drop)]
+struct Change<'a> {
+    statements: &'a [&'a str],
+}
+
+impl Session for Change<'_> {
+    fn run<S: Alter + Drop, R: Abort>(
+        &mut self,
+        rt: &R,
+        _alloc: Global,
+        mut conn: Connection<S>,
+    ) -> Result<Connection<S>, Fail> {
+        run(rt, &mut conn, self.statements)?;
+        Ok(conn)
+    }
 }
 
 /// The file of these statements, after others.
@@ -32,14 +69,12 @@ fn changed(
     bytes: &[u8],
     statements: &[&str],
 ) -> Result<Memory, Fail> {
-    let mut conn = connect(alloc, bytes)?;
-    run(rt, &mut conn, statements)?;
-    Ok(close(conn)?)
+    open_for(rt, alloc, &[], bytes, &mut Change { statements })
 }
 
 // what becomes of an old file, and what is answered then
 #[rattlefmt::skip]
-const CHANGES: [(&str, &[&str], MigrateFault); 8] = [
+static CHANGES: [(&str, &[&str], MigrateFault); 8] = [
     ("version 2",         &["UPDATE meta SET version = 2"], MigrateFault::AlreadyNew),
     ("version 3",         &["UPDATE meta SET version = 3"], MigrateFault::UnknownSchema(3)),
     ("version 0",         &["UPDATE meta SET version = 0"], MigrateFault::UnknownSchema(0)),
@@ -63,7 +98,7 @@ fn another_version_or_none_is_refused(rt: HostRuntime) -> Result<(), Fail> {
 
 // what makes a store that is no desk's, and what is answered
 #[rattlefmt::skip]
-const FOREIGN: [(&str, &[&str], MigrateFault); 5] = [
+static FOREIGN: [(&str, &[&str], MigrateFault); 5] = [
     ("no tables",            &[], MigrateFault::UnknownSchema(0)),
     ("another table",        &["CREATE TABLE note(a INTEGER)", "INSERT INTO note VALUES (7)"], MigrateFault::Store),
     ("a view",               &["CREATE VIEW two AS SELECT 2"], MigrateFault::Store),

@@ -1,21 +1,17 @@
 //! What is shown of an old file is what was written into it, and the same once the file is brought over. No desk is opened
 //! over an old file.
-use crate::tests::helping::{FileConn, bring_over, connect, holds, open};
+use crate::tests::helping::{Session, bring_over, holds, open, open_for};
 use crate::tests::old_desks::{IN_A_ROUND, OldJourney, cells, is_unfinished, journeys};
 use crate::tests::old_files::old_file;
 use saga_core::RowSource;
-use sqlite::{Alter, FileStore};
-use sqlite_disk::Memory;
+use sqlite::{Alter, Connection};
 use std::alloc::{AllocError, Global};
 use std::process::Abort;
 use std::test::Fail;
-use tables::{OpenFault, Opened};
+use tables::{OpenFault, Opened, TableBook};
 
 // more rows than a file here has of anything
 const MOST_ROWS: u32 = 100_000;
-
-/// What was found in a file.
-pub type FileOpened = Opened<FileStore<Memory>>;
 
 /// The report of the places of each cell.
 pub fn stock_of<S: Alter>(alloc: Global, opened: &mut Opened<S>) -> Result<String, Fail> {
@@ -164,8 +160,24 @@ pub fn shows_all<S: Alter>(
     Ok(())
 }
 
+/// What a store holds, all of which is shown.
+pub fn shown<S: Alter + Drop>(
+    rt: &impl Abort,
+    alloc: Global,
+    conn: Connection<S>,
+    rounds: u64,
+) -> Result<Opened<S>, Fail> {
+    let mut opened = open(rt, conn)?;
+    shows_all(rt, alloc, &mut opened, rounds)?;
+    Ok(opened)
+}
+
 /// No desk is opened over what was found, which is handed back.
-pub fn handed_back(rt: &impl Abort, alloc: Global, opened: FileOpened) -> Result<FileOpened, Fail> {
+pub fn handed_back<S: Alter + Drop>(
+    rt: &impl Abort,
+    alloc: Global,
+    opened: Opened<S>,
+) -> Result<Opened<S>, Fail> {
     match opened.into_book(alloc) {
         Ok(_) => Err(Fail::from("a desk over an old file")),
         Err((opened, fault)) => {
@@ -175,22 +187,35 @@ pub fn handed_back(rt: &impl Abort, alloc: Global, opened: FileOpened) -> Result
     }
 }
 
+/// The desk over what was found.
+pub fn desk_over<S: Alter + Drop>(alloc: Global, opened: Opened<S>) -> Result<TableBook<S>, Fail> {
+    match opened.into_book(alloc) {
+        Ok(book) => Ok(book),
+        Err(_) => Err(Fail::from("no desk over the new file")),
+    }
+}
+
 /// An old file is shown before and after no desk is opened over it, and once it is brought over.
-fn is_shown_alike(rt: &impl Abort, alloc: Global, conn: FileConn, rounds: u64) -> Result<(), Fail> {
-    let mut opened = open(rt, conn)?;
-    shows_all(rt, alloc, &mut opened, rounds)?;
-    let mut opened = handed_back(rt, alloc, opened)?;
-    shows_all(rt, alloc, &mut opened, rounds)?;
-    let mut conn = opened.into_store();
-    bring_over(rt, &mut conn)?;
-    let mut opened = open(rt, conn)?;
-    shows_all(rt, alloc, &mut opened, rounds)?;
-    holds(
-        rt,
-        "a desk over the new file",
-        opened.into_book(alloc).is_ok(),
-    );
-    Ok(())
+#[derive(Drop)]
+struct ShownAlike {
+    rounds: u64,
+}
+
+impl Session for ShownAlike {
+    fn run<S: Alter + Drop, R: Abort>(
+        &mut self,
+        rt: &R,
+        alloc: Global,
+        conn: Connection<S>,
+    ) -> Result<Connection<S>, Fail> {
+        let opened = shown(rt, alloc, conn, self.rounds)?;
+        let mut opened = handed_back(rt, alloc, opened)?;
+        shows_all(rt, alloc, &mut opened, self.rounds)?;
+        let mut conn = opened.into_store();
+        bring_over(rt, &mut conn)?;
+        let opened = shown(rt, alloc, conn, self.rounds)?;
+        Ok(desk_over(alloc, opened)?.into_store())
+    }
 }
 
 #[test]
@@ -198,8 +223,10 @@ fn an_old_file_is_shown_as_it_was_written(rt: HostRuntime) -> Result<(), Fail> {
     let alloc = rt.alloc();
     for rounds in [0u32, 1, 20] {
         let file = old_file(&rt, alloc, rounds)?;
-        let conn = connect(alloc, file.bytes())?;
-        is_shown_alike(&rt, alloc, conn, u64::from(rounds))?;
+        let mut alike = ShownAlike {
+            rounds: u64::from(rounds),
+        };
+        open_for(&rt, alloc, &[], file.bytes(), &mut alike)?;
     }
     Ok(())
 }

@@ -1,6 +1,6 @@
 //! The rows of a file as text, and whether they are those that were written into it, under the old schema or the new one.
-use crate::tests::helping::holds;
-use crate::tests::old_files::Written;
+use crate::tests::helping::{Session, holds, open_for};
+use crate::tests::old_files::{OldFile, Written};
 use sqlite::types::ValueRef;
 use sqlite::{Alter, Connection, Row};
 use std::alloc::Global;
@@ -9,7 +9,7 @@ use std::str;
 use std::test::Fail;
 
 // the tables that migration leaves as they are, each in the order of its key
-const SAME: [&str; 5] = [
+static SAME: [&str; 5] = [
     "SELECT * FROM stock ORDER BY kind, supplier, product, night",
     "SELECT * FROM batch ORDER BY name",
     "SELECT * FROM journey ORDER BY id",
@@ -126,12 +126,32 @@ impl Held<'_> {
     }
 }
 
-/// What a file holds into which this was written, read before anything else is done with it.
-pub fn held_by<'a, S: Alter>(
-    alloc: Global,
-    conn: &mut Connection<S>,
-    written: &'a Written,
-) -> Result<Held<'a>, Fail> {
-    let same = same_rows(alloc, conn)?;
-    Ok(Held { written, same })
+/// The rows of the tables that migration leaves as they are, once they are read.
+#[derive(Drop)]
+struct SameRows {
+    same: String,
+}
+
+impl Session for SameRows {
+    fn run<S: Alter + Drop, R: Abort>(
+        &mut self,
+        _rt: &R,
+        alloc: Global,
+        mut conn: Connection<S>,
+    ) -> Result<Connection<S>, Fail> {
+        self.same = same_rows(alloc, &mut conn)?;
+        Ok(conn)
+    }
+}
+
+/// What an old file holds, read before anything else is done with it.
+pub fn held_in<'a>(rt: &impl Abort, alloc: Global, file: &'a OldFile) -> Result<Held<'a>, Fail> {
+    let mut rows = SameRows {
+        same: String::new(alloc),
+    };
+    open_for(rt, alloc, &[], file.bytes(), &mut rows)?;
+    Ok(Held {
+        written: &file.written,
+        same: rows.same,
+    })
 }

@@ -1,25 +1,41 @@
 //! A file that was brought over is used: its keys give their replies, recovery brings every journey to its end, and a
 //! journey takes a save-point while it runs.
-use crate::tests::helping::{FileConn, book_over, bring_over, connect, holds, open, run};
+use crate::tests::helping::{Session, book_over, bring_over, holds, open_for, run};
 use crate::tests::old_desks::{journeys, last_item};
 use crate::tests::old_files::old_file;
-use crate::tests::reporting::shows_all;
+use crate::tests::reporting::shown;
 use crate::tests::rows::rows;
 use allotment::{Cell, Row};
 use commands::{Agent, Ask, Batch, Command, Key, Name, Reply};
 use plan::Plan;
 use recovery::recover;
 use saga_core::Book;
+use sqlite::{Alter, Connection};
 use std::alloc::Global;
 use std::process::Abort;
 use std::test::Fail;
+use tables::TableBook;
 
-/// A file of so many rounds that was brought over.
-fn brought_over(rt: &impl Abort, alloc: Global, rounds: u32) -> Result<FileConn, Fail> {
+/// Opens an old file of so many rounds for a session.
+fn open_old<T: Session>(
+    rt: &impl Abort,
+    alloc: Global,
+    rounds: u32,
+    session: &mut T,
+) -> Result<(), Fail> {
     let file = old_file(rt, alloc, rounds)?;
-    let mut conn = connect(alloc, file.bytes())?;
+    open_for(rt, alloc, &[], file.bytes(), session)?;
+    Ok(())
+}
+
+/// The desk over a store that is brought over now.
+fn brought_over<S: Alter + Drop>(
+    rt: &impl Abort,
+    alloc: Global,
+    mut conn: Connection<S>,
+) -> Result<TableBook<S>, Fail> {
     bring_over(rt, &mut conn)?;
-    Ok(conn)
+    book_over(rt, alloc, conn)
 }
 
 /// Stops the test where another line was answered.
@@ -81,14 +97,29 @@ pub fn keeps_all<B: Book>(
     Ok(())
 }
 
+/// The kept keys of three rounds give their replies.
+#[derive(Drop)]
+struct KeptKeys;
+
+impl Session for KeptKeys {
+    fn run<S: Alter + Drop, R: Abort>(
+        &mut self,
+        rt: &R,
+        alloc: Global,
+        conn: Connection<S>,
+    ) -> Result<Connection<S>, Fail> {
+        let mut book = brought_over(rt, alloc, conn)?;
+        keeps_all(rt, alloc, &mut book, 3)?;
+        let mut conn = book.into_store();
+        let events = rows(alloc, &mut conn, "SELECT events FROM meta")?;
+        assert_eq!(rt; events.as_str(), "107\n");
+        Ok(conn)
+    }
+}
+
 #[test]
 fn each_kept_key_gives_its_reply(rt: HostRuntime) -> Result<(), Fail> {
-    let alloc = rt.alloc();
-    let mut book = book_over(&rt, alloc, brought_over(&rt, alloc, 3)?)?;
-    keeps_all(&rt, alloc, &mut book, 3)?;
-    let events = rows(alloc, &mut book.into_store(), "SELECT events FROM meta")?;
-    assert_eq!(rt; events.as_str(), "107\n");
-    Ok(())
+    open_old(&rt, rt.alloc(), 3, &mut KeptKeys)
 }
 
 /// The items of a journey and its state.
@@ -105,7 +136,7 @@ fn history<B: Book>(alloc: Global, book: &mut B, id: u64) -> Result<String, Fail
 
 // what recovery makes of the journeys of a round
 #[rattlefmt::skip]
-const RECOVERED: [&str; 8] = [
+static RECOVERED: [&str; 8] = [
     "T1.1 T2.1 ended 2",
     "T1.1 B0a C1.1 undone 0",
     "T1.1 T2.1 T3.1 B1a C3.1 C2.1 T2.1 T3.1 T4.1 ended 4",
@@ -120,43 +151,95 @@ const RECOVERED: [&str; 8] = [
 const RECOVERED_EVENTS: u64 = 14;
 
 /// Recovery brings each journey of so many rounds to its end, and the kept keys still give their replies.
-fn is_recovered(rt: &impl Abort, alloc: Global, conn: FileConn, rounds: u8) -> Result<(), Fail> {
-    let Ok((mut ready, made)) = recover(book_over(rt, alloc, conn)?) else {
+fn is_recovered<B: Book + Drop>(
+    rt: &impl Abort,
+    alloc: Global,
+    book: B,
+    rounds: u8,
+) -> Result<B, Fail> {
+    let Ok((mut ready, made)) = recover(book) else {
         return Err(Fail::from("recovery failed"));
     };
     let expected = RECOVERED_EVENTS.saturating_mul(u64::from(rounds));
     assert_eq!(rt; made, expected);
     let unfinished = ready.first_unfinished(0)?;
     holds(rt, "none is unfinished", unfinished.is_none());
+    have_ended(rt, alloc, &mut ready, rounds)?;
+    keeps_all(rt, alloc, &mut ready, u32::from(rounds))?;
+    Ok(ready.into_inner())
+}
+
+/// The journeys of so many rounds have ended as recovery ends them.
+fn have_ended<B: Book>(
+    rt: &impl Abort,
+    alloc: Global,
+    book: &mut B,
+    rounds: u8,
+) -> Result<(), Fail> {
     let mut id = 0u64;
     for _ in 0..rounds {
         for expected in &RECOVERED {
             id = id.saturating_add(1);
-            let found = history(alloc, &mut ready, id)?;
+            let found = history(alloc, book, id)?;
             assert_eq!(rt; found.as_str(), *expected);
         }
-    }
-    keeps_all(rt, alloc, &mut ready, u32::from(rounds))
-}
-
-#[test]
-fn recovery_brings_every_journey_to_its_end(rt: HostRuntime) -> Result<(), Fail> {
-    let alloc = rt.alloc();
-    for rounds in [1u8, 5] {
-        let conn = brought_over(&rt, alloc, u32::from(rounds))?;
-        is_recovered(&rt, alloc, conn, rounds)?;
     }
     Ok(())
 }
 
+/// A file is brought over and recovered.
+#[derive(Drop)]
+struct Recovered {
+    rounds: u8,
+}
+
+impl Session for Recovered {
+    fn run<S: Alter + Drop, R: Abort>(
+        &mut self,
+        rt: &R,
+        alloc: Global,
+        conn: Connection<S>,
+    ) -> Result<Connection<S>, Fail> {
+        let book = brought_over(rt, alloc, conn)?;
+        Ok(is_recovered(rt, alloc, book, self.rounds)?.into_store())
+    }
+}
+
+#[test]
+fn recovery_brings_every_journey_to_its_end(rt: HostRuntime) -> Result<(), Fail> {
+    for rounds in [1u8, 5] {
+        open_old(
+            &rt,
+            rt.alloc(),
+            u32::from(rounds),
+            &mut Recovered { rounds },
+        )?;
+    }
+    Ok(())
+}
+
+/// A file of one round is brought over, and its old items are deleted.
+#[derive(Drop)]
+struct WithoutOld;
+
+impl Session for WithoutOld {
+    fn run<S: Alter + Drop, R: Abort>(
+        &mut self,
+        rt: &R,
+        alloc: Global,
+        mut conn: Connection<S>,
+    ) -> Result<Connection<S>, Fail> {
+        bring_over(rt, &mut conn)?;
+        run(rt, &mut conn, &["DELETE FROM entry"])?;
+        let conn = shown(rt, alloc, conn, 1)?.into_store();
+        let book = book_over(rt, alloc, conn)?;
+        Ok(is_recovered(rt, alloc, book, 1)?.into_store())
+    }
+}
+
 #[test]
 fn the_old_items_are_not_read(rt: HostRuntime) -> Result<(), Fail> {
-    let alloc = rt.alloc();
-    let mut conn = brought_over(&rt, alloc, 1)?;
-    run(&rt, &mut conn, &["DELETE FROM entry"])?;
-    let mut opened = open(&rt, conn)?;
-    shows_all(&rt, alloc, &mut opened, 1)?;
-    is_recovered(&rt, alloc, opened.into_store(), 1)
+    open_old(&rt, rt.alloc(), 1, &mut WithoutOld)
 }
 
 /// What is asked of the desk over a file of one round: the ninth journey begins, is moved, or has a save-point taken.
@@ -169,7 +252,7 @@ enum Asked {
 }
 
 #[rattlefmt::skip]
-const NEW_JOURNEY: [(Asked, &str); 13] = [
+static NEW_JOURNEY: [(Asked, &str); 13] = [
     (Asked::Begin("F/AL/A5/2030-06-01/1/1;T/BUS/X/2030-06-01/1/1;F/AL/A6/2030-06-01/1/1!0"), "journey 9 begun"),
     (Asked::Save,     "refused 28 NoSave"),
     (Asked::Step,     "journey 9 T1.1 run 1"),
@@ -187,7 +270,7 @@ const NEW_JOURNEY: [(Asked, &str); 13] = [
 
 // what stands then: 37 events before, and ten more
 #[rattlefmt::skip]
-const AFTER_IT: [(&str, &str); 5] = [
+static AFTER_IT: [(&str, &str); 5] = [
     ("SELECT version, events, journeys FROM meta", "2|47|9\n"),
     ("SELECT num, item, a, b FROM entry2 WHERE journey = 9 ORDER BY num",
         "39|0|1|1\n40|3|1|0\n41|0|2|1\n42|3|2|0\n43|2|1|2\n44|1|2|1\n45|0|2|1\n46|2|1|2\n47|1|2|1\n"),
@@ -205,19 +288,49 @@ fn command_of(alloc: Global, asked: Asked) -> Result<Command, Fail> {
     })
 }
 
-#[test]
-fn a_new_journey_takes_a_save_point(rt: HostRuntime) -> Result<(), Fail> {
-    let alloc = rt.alloc();
-    let mut book = book_over(&rt, alloc, brought_over(&rt, alloc, 1)?)?;
-    for (asked, expected) in NEW_JOURNEY {
+/// The ninth journey is answered so.
+fn is_answered<B: Book>(rt: &impl Abort, alloc: Global, book: &mut B) -> Result<(), Fail> {
+    for &(asked, expected) in &NEW_JOURNEY {
         let reply = book.act(&command_of(alloc, asked)?, None)?;
-        says(&rt, alloc, &reply, expected)?;
-    }
-    let mut conn = book.into_store();
-    for (statement, expected) in AFTER_IT {
-        assert_eq!(rt; rows(alloc, &mut conn, statement)?.as_str(), expected);
+        says(rt, alloc, &reply, expected)?;
     }
     Ok(())
+}
+
+/// The rows that stand then.
+fn has_rows<S: Alter>(
+    rt: &impl Abort,
+    alloc: Global,
+    conn: &mut Connection<S>,
+) -> Result<(), Fail> {
+    for &(statement, expected) in &AFTER_IT {
+        assert_eq!(rt; rows(alloc, conn, statement)?.as_str(), expected);
+    }
+    Ok(())
+}
+
+/// The ninth journey, in a file of one round that is brought over.
+#[derive(Drop)]
+struct NewJourney;
+
+impl Session for NewJourney {
+    fn run<S: Alter + Drop, R: Abort>(
+        &mut self,
+        rt: &R,
+        alloc: Global,
+        conn: Connection<S>,
+    ) -> Result<Connection<S>, Fail> {
+        let mut book = brought_over(rt, alloc, conn)?;
+        is_answered(rt, alloc, &mut book)?;
+        let mut conn = book.into_store();
+        has_rows(rt, alloc, &mut conn)?;
+        Ok(conn)
+    }
+}
+
+#[test]
+fn a_new_journey_takes_a_save_point(rt: HostRuntime) -> Result<(), Fail> {
+    open_old(&rt, rt.alloc(), 1, &mut NewJourney)
 }
 
 /// The batch of one cell, or of two.
@@ -233,22 +346,43 @@ fn batch(alloc: Global, name: &str, cells: &[(&str, u32)]) -> Result<Command, Fa
 
 // a batch, and what is answered: one that the old file has, with the same row and with another, and below what is held
 #[rattlefmt::skip]
-const BATCHES: [(&str, &[(&str, u32)], &str); 4] = [
+static BATCHES: [(&str, &[(&str, u32)], &str); 4] = [
     ("one", &[("F/AL/A1/2030-06-01", 100_000)], "loaded one 1"),
     ("one", &[("F/AL/A1/2030-06-01", 99_999)],  "refused 13 BatchDiffers"),
     ("two", &[("F/AL/A6/2030-06-01", 0), ("F/AL/A1/2030-06-01", 4)], "refused 12 BelowHeld 2"),
     ("two", &[("F/AL/A6/2030-06-01", 0), ("F/AL/A1/2030-06-01", 5)], "loaded two 2"),
 ];
 
+/// The batches are answered so.
+fn are_loaded<B: Book>(rt: &impl Abort, alloc: Global, book: &mut B) -> Result<(), Fail> {
+    for &(name, cells, expected) in &BATCHES {
+        let reply = book.act(&batch(alloc, name, cells)?, None)?;
+        says(rt, alloc, &reply, expected)?;
+    }
+    Ok(())
+}
+
+/// The batches, loaded into a file of one round that is brought over.
+#[derive(Drop)]
+struct Loads;
+
+impl Session for Loads {
+    fn run<S: Alter + Drop, R: Abort>(
+        &mut self,
+        rt: &R,
+        alloc: Global,
+        conn: Connection<S>,
+    ) -> Result<Connection<S>, Fail> {
+        let mut book = brought_over(rt, alloc, conn)?;
+        are_loaded(rt, alloc, &mut book)?;
+        let mut conn = book.into_store();
+        let meta = rows(alloc, &mut conn, "SELECT events FROM meta")?;
+        assert_eq!(rt; meta.as_str(), "38\n");
+        Ok(conn)
+    }
+}
+
 #[test]
 fn batches_are_known_and_places_are_held(rt: HostRuntime) -> Result<(), Fail> {
-    let alloc = rt.alloc();
-    let mut book = book_over(&rt, alloc, brought_over(&rt, alloc, 1)?)?;
-    for (name, cells, expected) in BATCHES {
-        let reply = book.act(&batch(alloc, name, cells)?, None)?;
-        says(&rt, alloc, &reply, expected)?;
-    }
-    let meta = rows(alloc, &mut book.into_store(), "SELECT events FROM meta")?;
-    assert_eq!(rt; meta.as_str(), "38\n");
-    Ok(())
+    open_old(&rt, rt.alloc(), 1, &mut Loads)
 }
