@@ -11,7 +11,7 @@ ghost use Rattle.cli.specs.Loading.{LoadsFile};
 
 use crate::desks::{close_desk, open_recovered};
 use allotment_csv::{CsvFault, read_batch};
-use commands::{Command, Refusal, Reply};
+use commands::{Command, MOST_BYTES, Refusal, Reply};
 use program_ends::{End, ProgramFault};
 use protocols::ServeFault;
 use recovery::Ready;
@@ -22,7 +22,7 @@ use std::io::{ErrorKind, Read, Write};
 use streams::send;
 
 /// How many bytes of an allotment file are read: one more than it may have.
-const MOST_READ: u64 = 262_145;
+const MOST_READ: u64 = MOST_BYTES as u64 + 1;
 
 /// Loads an allotment file as a batch into the desk over the database in a file, once it is recovered, and tells the
 /// reply.
