@@ -94,7 +94,7 @@ usage_of() { help_of "$@" | sed -n 's/^Usage: //p' | sed 's/-/\\-/g'; }
 # man_page: the page desk(1)
 man_page() {
   local word about
-  printf '.TH DESK 1 "" "desk" "User Commands"\n'
+  printf '.TH DESK 1 "" "%s" "User Commands"\n' "$("$program" --version)"
   printf '.SH NAME\ndesk \\- %s\n.SH SYNOPSIS\n' "$(help_of | sed -n 1p)"
   while IFS=$'\t' read -r word about; do
     printf '.B %s\n.br\n' "$(usage_of "$word")"

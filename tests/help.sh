@@ -45,12 +45,26 @@ for command in $commands; do
   same "$command: lines of more than 78 characters" "" "$(grep -E '^.{79}' err)"
   mv err whole
   helps "help $command" help "$command"
-  # clap names the command alone in this usage, without the program
-  same "help $command" "$(grep -v '^Usage: ' whole)" "$(grep -v '^Usage: ' err)"
+  same "help $command" "$(cat whole)" "$(cat err)"
   helps "$command -h" "$command" -h
   same "$command -h: what it does" "$about" "$(sed -n 1p err)"
   same "$command -h is shorter" 1 "$(($(wc -l <err) < $(wc -l <whole)))"
 done
+
+# the version, which is that of the newest numbered heading of CHANGES.md
+newest=$(sed -n 's/^## \([0-9][0-9]*\.[0-9][0-9]*\.[0-9][0-9]*\).*/\1/p' "$top/CHANGES.md" | sed -n 1p)
+for words in --version -V "--version run x.db"; do
+  same "$words" "desk $newest" "$("$DESK" $words 2>err </dev/null)"
+  same "$words: the status" 0 "$("$DESK" $words >/dev/null 2>&1; echo $?)"
+  same "$words: standard error" "" "$(cat err)"
+done
+"$DESK" --version >/dev/full 2>err
+same "a version that cannot be written: the status" 1 $?
+same "a version that cannot be written" "fault 25 Write" "$(cat err)"
+helps "a word that is not UTF-8" run $'a\xffb'
+same "a word that is not UTF-8: what is printed" "error: invalid UTF-8 was detected in one or more arguments
+
+For more information, try '--help'." "$(cat err)"
 
 helps "run --help" run --help
 while IFS= read -r line; do same "a line of run: $line" 1 "$(grep -c "^  $line  *[A-Z]" err)"; done <<'LINES'
@@ -114,6 +128,7 @@ fi
 same "warnings of the man page" "" "$(cat said)"
 if [ -s page ]; then
   same "the title" 1 "$(grep -c '^DESK(1) .*DESK(1)$' page)"
+  same "the version in the foot" 1 "$(grep -c "^desk $newest .*DESK(1)$" page)"
   found=$(words_of page)
   for command in "" $commands; do
     while IFS= read -r line; do
@@ -137,6 +152,7 @@ same "complete -p desk" "complete -F _desk desk" "$(bash --norc -c '. ../desk.ba
 completes "desk s" "serve stock" desk s
 completes "desk u" "unfinished" desk u
 completes "desk --h" "--help" desk --h
+completes "desk --v" "--version" desk --v
 completes "desk help r" "run recover" desk help r
 completes "desk serve --" "--port --connections --help" desk serve --
 completes "desk load --b" "--batch" desk load --b

@@ -52,7 +52,7 @@ cell_from-no_supplier (Some kind) supplier product (Some night) e =
     keep_if_no is_good_cell x
     (fails_too (is_good_cell x) (is_code supplier) (λ good. (and_both _ _ (and_both _ _ good).0).0) (keep_if_none is_code supplier e))
 
--- neither does such a product
+-- a product that is no code makes no cell
 pub cell_from-no_product : (kind : Option Kind) (supplier product : List ℕ) (night : Option ℕ)
     → keep_if is_code product ≡ None → cell_from kind supplier product night ≡ None
 cell_from-no_product None supplier product night e = refl

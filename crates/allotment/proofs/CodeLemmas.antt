@@ -46,7 +46,7 @@ kept_code text kept e some good =
     let code = is_code-short text (ap (is_short longest_code) short.0 ∙ short.1) there good in
     (sym short.0, ap is_code (sym short.0) ∙ code)
 
--- so it is what is kept of the text as a code
+-- such a text is what is kept of it as a code
 pub keep_if-code : (text kept : List ℕ) → Some kept ≡ keep_if (is_short longest_code) text → (length text == 0) ≡ false
     → list_all is_code_byte text ≡ true → Some kept ≡ keep_if is_code text
 keep_if-code text kept e some good =

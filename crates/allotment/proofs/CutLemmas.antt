@@ -13,7 +13,7 @@ whole_part : (p : ℕ → Bool) (text : List ℕ) → position_or_len p text ≡
 whole_part p text none =
     slice_split_none p text (λ k d high. fails_before_first p text k d (omega arith))
 
--- the first byte that passes ends the first part, and the other parts are those of what stands behind it
+-- the first byte that passes ends the first part; the other parts are the parts of the text after it
 cut_by_first : (c : ℕ) (text : List ℕ) (r : Option (Bor (List ℕ) × Bor (List ℕ)))
     → MatchOption r (position_or_len (λ b. b == c) text ≡ length text)
     (λ x. (position_or_len (λ b. b == c) text < length text)
@@ -31,6 +31,6 @@ pub cut_parts : (c : ℕ) (text : List ℕ) (r : Option (Bor (List ℕ) × Bor (
     → MatchOption r (parts c text ≡ text ∷ []) (λ x. parts c text ≡ x.0.now ∷ parts c x.1.now)
 cut_parts c text r h small = cut_by_first c text r (split_once_first c text r h small)
 
--- there is a part at least
+-- a text has at least one part
 pub some_part : (c : ℕ) (text : List ℕ) → 1 ≤ length (parts c text)
 some_part c text = omega (arith, length-slice_split (λ b. b == c) text)

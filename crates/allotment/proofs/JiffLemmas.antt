@@ -43,7 +43,7 @@ month_days y b (suc (suc (suc (suc (suc (suc (suc (suc (suc (suc zero)))))))))) 
 month_days y b (suc (suc (suc (suc (suc (suc (suc (suc (suc (suc (suc zero))))))))))) l e = grind arith
 month_days y b (suc (suc (suc (suc (suc (suc (suc (suc (suc (suc (suc (suc j)))))))))))) l e = absurd (omega arith)
 
--- so are the first so many of them together
+-- so many first months together are as long as `jiff` says
 months_days : (y : ℤ) (b : Bool) (j : ℕ) → j ≤ 12 → is_leap_year y ≡ b → days_of_months y j ≡ days_of j (months_if b)
 unfolding days_of_months
 months_days y b zero l e = refl
@@ -64,7 +64,7 @@ count_of y m d over within low high first sums =
     let leap = leap_count y within in
     omega (arith, signed_arith, years, before, leap)
 
--- so a date in these years has the day number that is counted here
+-- a date in these years has the day number that is counted here
 night_day : (y m d over n : ℕ) → y ≤ 99 → 1 ≤ m → m ≤ 12 → 1 ≤ d → days_of (m - 1) (months y) + d ≡ over + 1
     → n ≡ first_night + days_before y + over → days_from_civil (year_at y) m d ≡ pos n
 night_day y m d over n within low high first sums is =
@@ -176,7 +176,7 @@ out_of_range t found h far =
 
 -- Texts of numbers in the places of a date.
 
--- the numbers that two pairs of digits are, one behind the other
+-- a number written as two pairs of digits is split again into these pairs
 hundreds : (c y : ℕ) → y < 100 → ((100 * c + y) / 100 ≡ c) × ((100 * c + y) % 100 ≡ y)
 hundreds c y small = (omega arith, omega arith)
 
@@ -201,7 +201,7 @@ date_shown t c y m d long one two century year month day =
       shown = rw parts.0 (rw parts.1 read);
     }
 
--- the text of a night is one
+-- the text of a night is a date's text
 pub comes_shown : (t : List ℕ) (n : ℕ) → (c : Comes t n)
     → IsDateText t (2000 + year_of (n - first_night)) c.date.month c.date.day
 comes_shown t n c =
@@ -217,7 +217,7 @@ comes_shown t n c =
 pub no_date : (t : List ℕ) → IsNoDate t → night_in t ≡ None
 no_date t none = none_if (night_in t) (λ n is. none _ _ _ (comes_shown t n (comes_from t n is)))
 
--- two digits tell one number
+-- two digits represent one number
 pair_same : (a b : ℕ) → 48 + a / 10 ≡ 48 + b / 10 → 48 + a % 10 ≡ 48 + b % 10 → a ≡ b
 pair_same a b tens ones = omega arith
 

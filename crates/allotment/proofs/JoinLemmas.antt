@@ -1,5 +1,5 @@
--- Cutting what was joined gives it back, where the parts lack the byte between them. For the laws of the texts, and for
--- the spelling of a plan.
+-- Cutting a joined text gives its parts back, if no part contains the separator. For the laws of the texts, and for the
+-- spelling of a plan.
 use Rattle.std.proofs.Common.{◌≡◌, ℕ, Bool, true, false, not, ◌==◌, List, [], ◌∷◌, ◌++◌, refl, ap, ◌∙◌, eq-eqb}
 use Rattle.std.specs.List.{list_all, onto_first}
 use Rattle.std.proofs.lemmas.Bool.{eqb-true}
@@ -8,11 +8,11 @@ use Rattle.allotment.specs.Texts.{parts, joined, slash}
 use Rattle.allotment.proofs.TestLemmas.{and_both, and_make}
 use Rattle.allotment.proofs.PlainLemmas.{is_plain_byte, is_plain}
 
--- a text without this byte
+-- the text contains no such byte
 abbrev pub lacks : ℕ → List ℕ → Bool
 lacks c text = list_all (λ b. not (b == c)) text
 
--- what is not so is not so
+-- a test that does not hold is false
 not_true : (b : Bool) → not b ≡ true → b ≡ false
 not_true true e = cc
 not_true false e = refl
@@ -22,14 +22,14 @@ other_byte : (c b : ℕ) (t : Bool) → (b == c) ≡ t → is_plain_byte c ≡ f
 other_byte c b true e odd fine = let same : b ≡ c = eqb-true b c e in let h = ap is_plain_byte same in cc
 other_byte c b false e odd fine = refl
 
--- so a text of those lacks it
+-- a plain text contains no such byte
 plain_lacks : (c : ℕ) (text : List ℕ) → is_plain_byte c ≡ false → is_plain text ≡ true → lacks c text ≡ true
 plain_lacks c [] odd e = refl
 plain_lacks c (b ∷ text) odd e =
     let both = and_both (is_plain_byte b) (is_plain text) e in
     and_make _ _ (other_byte c b (b == c) refl odd both.0) (plain_lacks c text odd both.1)
 
--- and so do texts of those
+-- plain texts contain no such byte
 pub all_lack : (c : ℕ) (ts : List (List ℕ)) → is_plain_byte c ≡ false
     → list_all is_plain ts ≡ true → list_all (lacks c) ts ≡ true
 all_lack c [] odd e = refl

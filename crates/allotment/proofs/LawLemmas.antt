@@ -1,4 +1,4 @@
--- What is written is read as the same value, and what is read is written so. For the laws of the texts.
+-- A value is read back from its text, and a text that is read is the text of its value. For the laws of the texts.
 use Rattle.std.proofs.Common.{◌≡◌, ℕ, Bool, true, false, cond, ◌&&◌, ◌==◌, List, [], ◌∷◌, refl, sym, ap, ◌∙◌, Option, Some, None}
 use Rattle.std.specs.Prelude.{find, bytes_eq}
 use Rattle.std.specs.List.{list_all}
@@ -18,7 +18,7 @@ use Rattle.allotment.proofs.JoinLemmas.{plain_parts}
 
 -- Kinds.
 
--- the first element passes, or one behind it does
+-- the first element passes, or a later one does
 find_if : {X : Type 0} (test : X → Bool) (y x : X) (xs : List X) (b : Bool) → test y ≡ b
     → (find test xs ≡ Some x → test x ≡ true) → cond b (Some y) (find test xs) ≡ Some x → test x ≡ true
 find_if test y x xs true t h e = let same : y ≡ x = cc in ap test (sym same) ∙ t
@@ -33,29 +33,29 @@ find_passes test (y ∷ ys) x e = find_if test y x ys (test y) refl (find_passes
 pub number_read : (n : ℕ) (k : Kind) → kind_of_number n ≡ Some k → n ≡ kind_number k
 number_read n k e = sym (eqb-true (kind_number k) n (find_passes (λ kind. kind_number kind == n) kinds k e))
 
--- so it is with letters
+-- a kind that is read of a letter has it
 pub letter_read : (text : List ℕ) (k : Kind) → kind_of_letter text ≡ Some k → text ≡ kind_letter k
 letter_read text k e = sym (same_bytes _ text (find_passes (λ kind. bytes_eq (kind_letter kind) text) kinds k e))
 
--- and with words
+-- a kind that is read of a word has it
 pub word_read : (text : List ℕ) (k : Kind) → kind_of_word text ≡ Some k → text ≡ kind_word k
 word_read text k e = sym (same_bytes _ text (find_passes (λ kind. bytes_eq (kind_word kind) text) kinds k e))
 
--- the number of a kind is read as it
+-- the number of a kind is read back as the kind
 pub number_again : (k : Kind) → kind_of_number (kind_number k) ≡ Some k
 number_again Flight = refl
 number_again Room = refl
 number_again Transfer = refl
 number_again Cover = refl
 
--- so is its letter
+-- the letter of a kind is read back as the kind
 pub letter_again : (k : Kind) → kind_of_letter (kind_letter k) ≡ Some k
 letter_again Flight = refl
 letter_again Room = refl
 letter_again Transfer = refl
 letter_again Cover = refl
 
--- and its word
+-- the word of a kind is read back as the kind
 pub word_again : (k : Kind) → kind_of_word (kind_word k) ≡ Some k
 word_again Flight = refl
 word_again Room = refl
@@ -94,7 +94,7 @@ parts_made (a ∷ s ∷ p ∷ []) x e = cc
 parts_made (a ∷ s ∷ p ∷ t ∷ []) x e = cell_made a s p t (kind_of_letter a) (night_in t) x refl refl e
 parts_made (a ∷ s ∷ p ∷ t ∷ u ∷ more) x e = cc
 
--- a text that is read as a cell is its text
+-- a text that is read as a cell is the text of that cell
 pub cell_read : (text : List ℕ) (x : Cell) → cell_in text ≡ Some x → (is_good_cell x ≡ true) × (text ≡ cell_text x)
 cell_read text x e =
     let reads = parts_made (parts slash text) x e in
@@ -113,7 +113,7 @@ is_sound x e =
     let codes = and_both (is_code x.supplier) (is_code x.product) both.0 in
     record { supplier = codes.0; product = codes.1; night = both.1 }
 
--- its four parts lack what stands between them
+-- the four parts of a cell contain no `/`
 four_plain : (x : Cell) → IsSound x
     → list_all is_plain (kind_letter x.kind ∷ x.supplier ∷ x.product ∷ night_text x.night ∷ []) ≡ true
 four_plain x g =
@@ -122,7 +122,7 @@ four_plain x g =
     (and_make _ _ (code_plain x.product g.product)
     (and_make _ _ (night_plain x.night g.night) refl)))
 
--- they make the cell
+-- the four parts of a cell are read as the cell
 pub four_again : (x : Cell) → is_good_cell x ≡ true
     → cell_of_parts (kind_letter x.kind ∷ x.supplier ∷ x.product ∷ night_text x.night ∷ []) ≡ Some x
 four_again x e =
@@ -130,7 +130,7 @@ four_again x e =
     ∙ ap (λ n. cell_from (Some x.kind) x.supplier x.product n) (night_in-night_text x.night (is_sound x e).night)
     ∙ keep_if_yes is_good_cell x e
 
--- so the text of a cell is read as it
+-- the text of a cell is read back as the cell
 pub cell_again : (x : Cell) → is_good_cell x ≡ true → cell_in (cell_text x) ≡ Some x
 cell_again x e =
     let behind = x.supplier ∷ x.product ∷ night_text x.night ∷ [] in

@@ -46,7 +46,7 @@ both_codes supplier product {s} {p} {first} {second} is read is_too read_too =
 pub night_read : (o : Option ℕ) (night : ℕ) → Ok night ≡ ok_or o bad.Night → o ≡ Some night
 night_read o night e = ok_some o night bad.Night e
 
--- where a fault was told, nothing was there
+-- where a fault was reported, nothing was there
 err_none : {X F : Type 0} (o : Option X) (e fault : F) → Err e ≡ ok_or o fault → (o ≡ None) × (e ≡ fault)
 err_none (Some y) e fault is = cc
 err_none None e fault is = (refl, cc)
@@ -57,7 +57,7 @@ no_night o e is = err_none o e bad.Night is
 
 -- The first of four faults.
 
--- the four tests of a want, in order, and what each of them tells
+-- the four tests of a want, in order, and the fault that each of them reports
 abbrev first_of_four : Wanted → Bool → Bool → Bool → Bool → Result Wanted Bad
 first_of_four want codes night nights count =
     first_fault want

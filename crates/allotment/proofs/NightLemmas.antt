@@ -26,7 +26,7 @@ pub record IsPlace (first : ℕ) (ms : List ℕ) (over : ℕ) (place : ℕ × �
   pub sums : days_of (place.0 - first) ms + place.1 ≡ over + 1
   pub before_next : over < days_of (suc (place.0 - first)) ms
 
--- it is in the first month where fewer days are over than that has
+-- the place is in the first month if fewer days are left than the month has
 place_here : (first days : ℕ) (ms : List ℕ) (over : ℕ) → over < days → days ≤ 31
     → IsPlace first (days ∷ ms) over (first, over + 1)
 place_here first days ms over within short =
@@ -40,7 +40,7 @@ place_here first days ms over within short =
       before_next = rw none (omega arith);
     }
 
--- else it is where the rest of the days end in the later months
+-- else the place is that of the remaining days in the later months
 place_later : (first days : ℕ) (ms : List ℕ) (over : ℕ) (place : ℕ × ℕ) → days ≤ over
     → IsPlace (first + 1) ms (over - days) place → IsPlace first (days ∷ ms) over place
 place_later first days ms over place past later =
@@ -54,7 +54,7 @@ place_later first days ms over place past later =
       before_next = rw one (omega (arith, later.before_next));
     }
 
--- the one or the other, by how the test answers
+-- the place by the answer of the test
 place_by : (first days : ℕ) (ms : List ℕ) (over : ℕ) (b : Bool) → nat_lt over days ≡ b → days ≤ 31
     → (days ≤ over → IsPlace (first + 1) ms (over - days) (month_and_day (first + 1) ms (over - days)))
     → IsPlace first (days ∷ ms) over (if b then (first, over + 1) else month_and_day (first + 1) ms (over - days))
@@ -90,7 +90,7 @@ year_length : (year day : ℕ) (b : Bool) → (year % 4 == 0) ≡ b → year ≡
 year_length year day true e is = let leap = eqb-true (year % 4) 0 e in omega arith
 year_length year day false e is = let common = eqb-false (year % 4) 0 e in omega arith
 
--- so does each day of the hundred years
+-- each day of the hundred years has its year, month and day
 pub is_civil : (day : ℕ) → day ≤ 36524 → IsCivil day
 is_civil day within =
     let y = year_of day in
@@ -115,7 +115,7 @@ two_back z small =
     let ones = digit_back (z % 10) (omega arith) in
     rw (tens, ones) (omega arith)
 
--- so are four
+-- four digits are read as the number that was written
 four_back : (z : ℕ) → z ≤ 9999 → digits_value 10 (four_digits z) ≡ z
 four_back z small =
     let a = digit_back (z / 100 / 10) (omega arith) in
@@ -135,7 +135,7 @@ named_parts : (y m d : ℕ)
     ≡ night_at (digits_value 10 (four_digits (2000 + y))) (digits_value 10 (two_digits m)) (digits_value 10 (two_digits d))
 named_parts y m d = refl
 
--- which are those that were written
+-- the night of the digits is the night of the numbers that were written
 named_date : (y m d : ℕ) → y ≤ 99 → m ≤ 99 → d ≤ 99 → named_night (text_of (y, (m, d))) ≡ night_at (2000 + y) m d
 named_date y m d small_year small_month small_day =
     named_parts y m d
@@ -167,7 +167,7 @@ night_named n e =
     ∙ night_sum (year_of day) place.0 place.1 day c.starts c.place
     ∙ omega (arith, range.0)
 
--- so it is read as that night
+-- the text of a night is read as that night
 pub night_in-night_text : (n : ℕ) → is_night n ≡ true → night_in (night_text n) ≡ Some n
 night_in-night_text n e =
     ap (keep_if (is_text_of (night_text n))) (night_named n e)

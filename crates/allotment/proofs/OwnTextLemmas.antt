@@ -1,4 +1,4 @@
--- No two rows, and no two wants, are written in one way. For the laws of the texts.
+-- Two different rows have different texts, and so have two different wants. For the laws of the texts.
 use Rattle.std.proofs.Common.{◌≡◌, ℕ, ◌≤◌, ◌<◌, ◌^◌, true, List, [], ◌∷◌, take, refl, sym, ap, ◌∙◌, arith, append_assoc, Some}
 use Rattle.std.specs.Prelude.{decimal, nat_le}
 use Rattle.std.specs.List.{list_all}
@@ -19,7 +19,7 @@ use Rattle.allotment.proofs.LawLemmas.{letter_again, is_sound, four_again}
 
 -- Rows.
 
--- the parts of a row behind its letter
+-- the parts of a row after its letter
 abbrev four_of : Allotted → List (List ℕ)
 four_of r = r.cell.supplier ∷ r.cell.product ∷ night_text r.cell.night ∷ decimal r.places ∷ []
 
@@ -34,7 +34,7 @@ few_places r e =
     let few : r.places ≤ most_places = leb-true r.places most_places both.1 in
     omega arith
 
--- so they lack what stands between them
+-- the five parts of a row contain no `/`
 row_plain : (r : Allotted) → is_row r ≡ true → list_all is_plain (kind_letter r.cell.kind ∷ four_of r) ≡ true
 row_plain r e =
     let g = is_sound r.cell (and_both (is_good_cell r.cell) (nat_le r.places most_places) e).0 in
@@ -44,11 +44,11 @@ row_plain r e =
     (and_make _ _ (night_plain r.cell.night g.night)
     (and_make _ _ (decimal_plain r.places (few_places r e)) refl))))
 
--- and are found again by cutting
+-- cutting the text of a row gives its parts back
 row_parts : (r : Allotted) → is_row r ≡ true → parts slash (row_text r) ≡ kind_letter r.cell.kind ∷ four_of r
 row_parts r e = ap (parts slash) (row_five r) ∙ plain_parts (kind_letter r.cell.kind) (four_of r) (row_plain r e)
 
--- rows whose parts are the same are one
+-- rows with equal parts are equal
 row_by_parts : (r s : Allotted) → is_row r ≡ true → is_row s ≡ true
     → kind_letter r.cell.kind ∷ four_of r ≡ kind_letter s.cell.kind ∷ four_of s → r ≡ s
 row_by_parts r s good fine e =
@@ -61,14 +61,14 @@ row_by_parts r s good fine e =
     let places = decimal_injective r.places s.places (few_places r good) (few_places s fine) shown in
     ap (λ x. allotted x r.places) cells ∙ ap (λ n. allotted s.cell n) places
 
--- so rows that are written in one way are one
+-- rows with the same text are the same
 pub row_same : (r s : Allotted) → is_row r ≡ true → is_row s ≡ true → row_text r ≡ row_text s → r ≡ s
 row_same r s good fine e =
     row_by_parts r s good fine (sym (row_parts r good) ∙ ap (parts slash) e ∙ row_parts s fine)
 
 -- Wants.
 
--- the parts of a want behind its letter
+-- the parts of a want after its letter
 abbrev five_of : Wanted → List (List ℕ)
 five_of w = w.supplier ∷ w.product ∷ night_text w.first ∷ decimal w.nights ∷ decimal w.count ∷ []
 
@@ -100,7 +100,7 @@ is_sound_want w e =
     let counted : w.count ≤ most_count = leb-true w.count most_count (and_both (nat_le 1 w.count) (nat_le w.count most_count) a.1).1 in
     record { supplier = codes.0; product = codes.1; first = d.1; nights = omega arith; count = omega arith }
 
--- its six parts lack what stands between them
+-- the six parts of a want contain no `/`
 want_plain : (w : Wanted) → IsSoundWant w → list_all is_plain (kind_letter w.kind ∷ five_of w) ≡ true
 want_plain w g =
     and_make _ _ (letter_plain w.kind)
@@ -110,20 +110,20 @@ want_plain w g =
     (and_make _ _ (decimal_plain w.nights g.nights)
     (and_make _ _ (decimal_plain w.count g.count) refl)))))
 
--- and are found again by cutting
+-- cutting the text of a want gives its parts back
 want_parts : (w : Wanted) → IsSoundWant w → parts slash (want_text w) ≡ kind_letter w.kind ∷ five_of w
 want_parts w g = plain_parts (kind_letter w.kind) (five_of w) (want_plain w g)
 
--- kinds of one letter are one
+-- kinds with the same letter are the same
 letter_same : (k l : Kind) → kind_letter k ≡ kind_letter l → k ≡ l
 letter_same k l e = let both : Some k ≡ Some l = sym (letter_again k) ∙ ap kind_of_letter e ∙ letter_again l in cc
 
--- so are nights of one text
+-- nights with the same text are the same
 night_same : (m n : ℕ) → is_night m ≡ true → is_night n ≡ true → night_text m ≡ night_text n → m ≡ n
 night_same m n p q e =
     let both : Some m ≡ Some n = sym (night_in-night_text m p) ∙ ap night_in e ∙ night_in-night_text n q in cc
 
--- wants whose parts are the same are one
+-- wants with equal parts are equal
 want_by_parts : (w v : Wanted) → IsSoundWant w → IsSoundWant v
     → kind_letter w.kind ∷ five_of w ≡ kind_letter v.kind ∷ five_of v → w ≡ v
 want_by_parts w v g h e =
@@ -144,7 +144,7 @@ want_by_parts w v g h e =
     ∙ ap (λ n. wanted v.kind v.supplier v.product v.first n w.count) many
     ∙ ap (λ n. wanted v.kind v.supplier v.product v.first v.nights n) each
 
--- so wants that are written in one way are one
+-- wants with the same text are the same
 pub want_same : (w v : Wanted) → is_want w ≡ true → is_want v ≡ true → want_text w ≡ want_text v → w ≡ v
 want_same w v good fine e =
     let g = is_sound_want w good in

@@ -1,5 +1,5 @@
--- Texts of digits, capitals and dashes, which lack what stands between parts. For the laws of the texts, and for the
--- spelling of a plan.
+-- Texts of digits, capitals and dashes, which contain no separator. For the laws of the texts, and for the spelling of
+-- a plan.
 use Rattle.std.proofs.Common.{◌≡◌, ℕ, ◌+◌, ◌-◌, ◌/◌, ◌%◌, ◌<◌, ◌≤◌, ◌^◌, Bool, true, false, ◌||◌, ◌==◌, List, [], ◌∷◌, refl, arith}
 use Rattle.std.specs.Prelude.{decimal}
 use Rattle.std.specs.List.{list_all}
@@ -60,29 +60,29 @@ code_byte true false c e = refl
 code_byte false true c e = refl
 code_byte false false c e = cc
 
--- so is a text of such bytes
+-- a text of such bytes is plain
 code_bytes : (t : List ℕ) → list_all (λ b. is_capital b || is_digit b) t ≡ true → is_plain t ≡ true
 code_bytes [] e = refl
 code_bytes (b ∷ t) e =
     let both = and_both (is_capital b || is_digit b) (list_all (λ b. is_capital b || is_digit b) t) e in
     and_make _ _ (code_byte (is_capital b) (is_digit b) (b == 45) both.0) (code_bytes t both.1)
 
--- and a code
+-- a code is plain
 pub code_plain : (t : List ℕ) → is_code t ≡ true → is_plain t ≡ true
 code_plain t e = code_bytes t (and_both _ _ e).1
 
--- and the digits of a number
+-- a text of digits is plain
 digits_plain : (t : List ℕ) → AllDigits 10 t → is_plain t ≡ true
 digits_plain [] e = refl
 digits_plain (b ∷ t) e =
     let r = digit_from_value b e.0 in
     and_make _ _ (or_first _ _ (or_first _ _ (and_make _ _ (le-leb 48 b r.0) (le-leb b 57 r.1)))) (digits_plain t e.1)
 
--- and a number
+-- the text of a number is plain
 pub decimal_plain : (n : ℕ) → n < 2 ^ 64 → is_plain (decimal n) ≡ true
 decimal_plain n l = digits_plain (decimal n) (decimal_is_IsNumeral n l).0.1
 
--- and the letter of a kind
+-- the letter of a kind is plain
 pub letter_plain : (k : Kind) → is_plain (kind_letter k) ≡ true
 letter_plain Flight = refl
 letter_plain Room = refl

@@ -1,9 +1,9 @@
--- Numbers in a row.
+-- Consecutive numbers.
 use Rattle.std.proofs.Common.{◌≡◌, ℕ, zero, suc, ◌∷◌, refl, ap, ◌∙◌, add-one}
 use Rattle.std.specs.List.{range_with_len}
 use Rattle.allotment.specs.Cells.{numbers_from}
 
--- so many numbers in a row are those that a range goes through
+-- so many consecutive numbers are those that a range goes through
 pub range_with_len-numbers_from : (first n : ℕ) → range_with_len first n ≡ numbers_from first n
 range_with_len-numbers_from first zero = refl
 range_with_len-numbers_from first (suc n) =

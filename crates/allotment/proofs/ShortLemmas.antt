@@ -1,4 +1,4 @@
--- Texts of ASCII that lie in place.
+-- Texts of ASCII that are stored inline.
 use Rattle.std.proofs.Common.{◌≡◌, ℕ, ◌≤◌, ◌<◌, ◌++◌, true, List, length, take, drop, Decides, refl, sym, ap, ◌∙◌, arith, length-append, length-drop}
 use Rattle.std.specs.Prelude.{replicate, nat_lt, nat_le, Some}
 use Rattle.std.specs.Str.{IsAscii, IsUtf8}
@@ -34,7 +34,7 @@ is_padded most text kept e within ascii =
       ascii = ap is_ascii (take-append_seam text zeros) ∙ ((is_ascii-Decides text).1 ascii);
     })
 
--- and it is the text that was asked for
+-- a text that was written over so many zeros is kept as it was
 pub keep_if-is_short : (most : ℕ) (text kept rest : List ℕ) → kept ≡ text → length text ≤ most → IsAscii text
     → Some (take (length text) (kept ++ rest)) ≡ keep_if (is_short most) text
 keep_if-is_short most text kept rest e within ascii =

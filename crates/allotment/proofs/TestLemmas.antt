@@ -1,21 +1,21 @@
--- What tests say, and what is kept where one passes.
+-- What the answer of a test implies, and what is kept where a test passes.
 use Rattle.std.proofs.Common.{◌≡◌, ℕ, Bool, true, false, ◌&&◌, List, [], ◌∷◌, refl, sym, ap, ◌∙◌, Some, None}
 use Rattle.std.specs.Prelude.{bytes_eq, if◌then◌else◌}
 use Rattle.std.specs.List.{list_all}
 use Rattle.std.proofs.lemmas.Slice.Eq.{bytes_eq-Decides}
 use Rattle.allotment.specs.Texts.{keep_if}
 
--- both of two tests hold
+-- if a conjunction holds, both tests hold
 pub and_both : (a b : Bool) → (a && b) ≡ true → (a ≡ true) × (b ≡ true)
 and_both true b e = (refl, e)
 and_both false b e = cc
 
--- where both hold, their conjunction does
+-- if both tests hold, their conjunction holds
 pub and_make : (a b : Bool) → a ≡ true → b ≡ true → (a && b) ≡ true
 and_make true b p q = q
 and_make false b p q = cc
 
--- what the choice keeps where the test answered true
+-- where the test answered true, the choice keeps the value
 keep_yes : {X : Type 0} (x : X) (b : Bool) → b ≡ true → (if b then Some x else None) ≡ Some x
 keep_yes x true t = refl
 keep_yes x false t = cc
@@ -24,7 +24,7 @@ keep_yes x false t = cc
 pub keep_if_yes : {X : Type 0} (test : X → Bool) (x : X) → test x ≡ true → keep_if test x ≡ Some x
 keep_if_yes test x t = keep_yes x (test x) t
 
--- and where it answered false
+-- where the test answered false, the choice keeps nothing
 keep_no : {X : Type 0} (x : X) (b : Bool) → b ≡ false → (if b then Some x else None) ≡ None
 keep_no x true t = cc
 keep_no x false t = refl
@@ -33,7 +33,7 @@ keep_no x false t = refl
 pub keep_if_no : {X : Type 0} (test : X → Bool) (x : X) → test x ≡ false → keep_if test x ≡ None
 keep_if_no test x t = keep_no x (test x) t
 
--- what a choice that kept something says of the test
+-- where a choice kept something, the test passed
 keep_by : {X : Type 0} (test : X → Bool) (y x : X) (b : Bool) → test y ≡ b → (if b then Some y else None) ≡ Some x
     → (y ≡ x) × (test x ≡ true)
 keep_by test y x true t e = let same : y ≡ x = cc in (same, ap test (sym same) ∙ t)
@@ -43,7 +43,7 @@ keep_by test y x false t e = cc
 pub keep_if_some : {X : Type 0} (test : X → Bool) (y x : X) → keep_if test y ≡ Some x → (y ≡ x) × (test x ≡ true)
 keep_if_some test y x e = keep_by test y x (test y) refl e
 
--- and one that kept nothing
+-- where a choice kept nothing, the test failed
 kept_none : {X : Type 0} (x : X) (b : Bool) → (if b then Some x else None) ≡ None → b ≡ false
 kept_none x true e = cc
 kept_none x false e = refl
@@ -52,7 +52,7 @@ kept_none x false e = refl
 pub keep_if_none : {X : Type 0} (test : X → Bool) (x : X) → keep_if test x ≡ None → test x ≡ false
 keep_if_none test x e = kept_none x (test x) e
 
--- a test that another one implies fails only where that fails
+-- a test fails if a test that it implies fails
 pub fails_too : (a b : Bool) → (a ≡ true → b ≡ true) → b ≡ false → a ≡ false
 fails_too true b h e = cc (h refl)
 fails_too false b h e = refl
@@ -69,6 +69,6 @@ list_all_weaker p q weaker (x ∷ xs) e =
 pub same_bytes : (xs ys : List ℕ) → bytes_eq xs ys ≡ true → xs ≡ ys
 same_bytes xs ys e = (bytes_eq-Decides xs ys).0 e
 
--- and each compares as equal to itself
+-- a text compares as equal to itself
 pub bytes_eq_self : (xs : List ℕ) → bytes_eq xs xs ≡ true
 bytes_eq_self xs = (bytes_eq-Decides xs xs).1 refl

@@ -13,13 +13,13 @@ kind_number Room = 1
 kind_number Transfer = 2
 kind_number Cover = 3
 
--- two cells are one where kind, supplier, product and night are the same
+-- two cells are the same if kind, supplier, product and night are
 abbrev pub is_cell : Cell → Cell → Bool
 is_cell x y =
     (kind_number x.kind == kind_number y.kind) && bytes_eq x.supplier y.supplier && bytes_eq x.product y.product
     && (x.night == y.night)
 
--- so many numbers in a row, from the first on
+-- so many consecutive numbers, from the first on
 abbrev pub numbers_from : ℕ → ℕ → List ℕ
 numbers_from first zero = []
 numbers_from first (suc more) = first ∷ numbers_from (suc first) more

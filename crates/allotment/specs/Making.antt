@@ -16,7 +16,7 @@ abbrev pub first_fault : {X F : Type 0} → X → List F → Result X F
 first_fault value [] = Ok value
 first_fault value (fault ∷ later) = Err fault
 
--- all that is wrong with a want of these parts, in the order in which it is told
+-- all that is wrong with a want of these parts, in the order in which it is reported
 abbrev pub want_faults : Kind → List ℕ → List ℕ → Option ℕ → ℕ → ℕ → List Bad
 want_faults kind supplier product first nights count =
     unless (is_code supplier && is_code product) bad.Code

@@ -1,4 +1,4 @@
--- Texts that lie in place, with zeros behind them.
+-- Texts that are stored inline, padded with zeros.
 use Rattle.std.specs.Prelude.{◌≡◌, ℕ, ◌-◌, ◌≤◌, ◌++◌, ◌&&◌, Bool, List, length, take, drop, replicate, nat_lt, nat_le, IsTrue}
 use Rattle.std.specs.List.{list_all}
 use Rattle.std.proofs.Common.{◌∙◌, ap, sym, arith, take-append-drop, length-take-le}
@@ -22,11 +22,11 @@ pub record IsPadded (most len : ℕ) (bytes : List ℕ) : Type 0 where
   pub zeros : drop len bytes ≡ replicate (most - len) 0
   pub ascii : IsTrue (is_ascii (take len bytes))
 
--- the text is as long as it says
+-- the text has as many bytes as its length field says
 pub length_of : (most len : ℕ) (bytes : List ℕ) → IsPadded most len bytes → length (take len bytes) ≡ len
 length_of most len bytes h = length-take-le len bytes (omega (arith, h.within, h.whole))
 
--- what the text is padded to is what was there
+-- cutting the padded text to its length gives the text
 pub padded-take : (most len : ℕ) (bytes : List ℕ) → IsPadded most len bytes → padded most (take len bytes) ≡ bytes
 padded-take most len bytes h =
     ap (λ n. take len bytes ++ replicate (most - n) 0) (length_of most len bytes h)

@@ -43,7 +43,7 @@ parts between text = slice_split (λ byte. byte == between) text
 abbrev pub IsOnePart : List ℕ → Type 0
 IsOnePart text = parts slash text ≡ text ∷ []
 
--- this is the first part of the text at `/`, and the other parts are those of what stands behind it
+-- this is the first part of the text at `/`, and the other parts are the parts of the text after it
 abbrev pub IsCut : List ℕ → List ℕ → List ℕ → Type 0
 IsCut text front behind = parts slash text ≡ front ∷ parts slash behind
 
@@ -112,7 +112,7 @@ abbrev pub cell_from : Option Kind → List ℕ → List ℕ → Option ℕ → 
 cell_from (Some kind) supplier product (Some night) = keep_if is_good_cell (the_cell kind supplier product night)
 cell_from _ supplier product _ = None
 
--- the cell whose kind, codes and night are written so
+-- the cell of the texts of its kind, codes and night
 abbrev pub cell_in_four : List ℕ → List ℕ → List ℕ → List ℕ → Option Cell
 cell_in_four kind supplier product night = cell_from (kind_of_letter kind) supplier product (night_in night)
 

@@ -1,4 +1,4 @@
--- What a want says: so many places of a product, for some nights in a row.
+-- What a want says: so many places of a product, for some consecutive nights.
 use Rattle.std.specs.Prelude.{ℕ, List}
 use Rattle.allotment.specs.declared.kinds.Kind.{Kind}
 

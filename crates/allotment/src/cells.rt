@@ -10,7 +10,7 @@ use std::alloc::{AllocError, Global};
 use std::fmt;
 use std::marker::Model;
 
-/// One night of a product.
+/// One night of a supplier's product.
 #[derive(Clone, Copy, Debug, PartialEq, Eq)]
 pub struct Cell {
     pub kind: Kind,
@@ -36,7 +36,7 @@ impl Cell {
         }
     }
 
-    /// The cell that is written so, as `KIND/SUPPLIER/PRODUCT/NIGHT`.
+    /// Reads a cell from `KIND/SUPPLIER/PRODUCT/NIGHT`. Returns `None` for any other text.
     pub fn parse(text: &str) -> Option<Cell>
         ensures { result ≡ cell_in text.now }
     {
@@ -70,14 +70,14 @@ impl Cell {
         self.product
     }
 
-    /// The night.
+    /// The night, from 2000-01-01 to 2099-12-31.
     pub fn night(&self) -> Night
         ensures { result ≡ self.now.night }
     {
         self.night
     }
 
-    /// How the cell is written.
+    /// The text of the cell, `KIND/SUPPLIER/PRODUCT/NIGHT`. The only fault is out of memory.
     pub fn text(&self, alloc: Global) -> Result<String, AllocError>
         ensures { IfOk result (λ text. string_bytes text ≡ cell_text self.now) }
     {
@@ -130,7 +130,7 @@ impl Row {
     ghost use Rattle.allotment.specs.Rows.{allotted};
     ghost use Rattle.allotment.specs.Texts.{row_text};
 
-    /// The row of a cell, with its places.
+    /// The row of a cell, with its places. The precondition says that these are at most 100,000.
     pub fn new(cell: Cell, places: u32) -> Row
         requires { places ≤ most_places }
         ensures { result ≡ allotted cell places }
@@ -145,7 +145,7 @@ impl Row {
         self.cell
     }
 
-    /// How many places of it.
+    /// How many places of it, 0 to 100,000.
     pub fn places(&self) -> u32
         ensures places { result ≡ self.now.places }
         ensures limits { self.now.places ≤ most_places }
@@ -153,7 +153,7 @@ impl Row {
         self.places
     }
 
-    /// How the row is written: `KIND/SUPPLIER/PRODUCT/NIGHT/PLACES`.
+    /// The text of the row, `KIND/SUPPLIER/PRODUCT/NIGHT/PLACES`. The only fault is out of memory.
     pub fn text(&self, alloc: Global) -> Result<String, AllocError>
         ensures { IfOk result (λ text. string_bytes text ≡ row_text self.now) }
     {

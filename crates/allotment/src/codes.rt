@@ -29,7 +29,7 @@ impl Code {
     ghost use Rattle.allotment.specs.Limits.{is_code};
     ghost use Rattle.allotment.specs.Texts.{keep_if};
 
-    /// The code that is written so, where it is one.
+    /// Reads a code from its text. Returns `None` for a text that is no code.
     pub fn parse(text: &str) -> Option<Code>
         ensures { result ≡ keep_if is_code text.now }
     {
@@ -42,7 +42,7 @@ impl Code {
         }
     }
 
-    /// How the code is written.
+    /// The text of the code.
     pub fn as_str(&self) -> &str
         ensures text { result.now ≡ self.now }
         ensures limits { IsTrue (is_code self.now) }

@@ -30,7 +30,7 @@ impl Kind {
         }
     }
 
-    /// The kind with this number.
+    /// The kind with this number. Returns `None` for a number above 3.
     pub fn from_number(number: u8) -> Option<Kind>
         ensures { result ≡ kind_of_number number }
     {
@@ -43,7 +43,7 @@ impl Kind {
         }
     }
 
-    /// The letter that stands for the kind in the text of a cell or a want: `F`, `R`, `T` or `C`.
+    /// The letter that represents the kind in the text of a cell or a want: `F`, `R`, `T` or `C`.
     pub fn letter(self) -> &'static str
         ensures { result.now ≡ kind_letter self }
     {
@@ -55,7 +55,7 @@ impl Kind {
         }
     }
 
-    /// The kind with this letter.
+    /// The kind with this letter. Returns `None` for any other text.
     pub fn from_letter(text: &str) -> Option<Kind>
         ensures { result ≡ kind_of_letter text.now }
     {
@@ -68,7 +68,7 @@ impl Kind {
         }
     }
 
-    /// The word that stands for the kind elsewhere: `flight`, `room`, `transfer` or `cover`.
+    /// The word that represents the kind elsewhere: `flight`, `room`, `transfer` or `cover`.
     pub fn word(self) -> &'static str
         ensures { result.now ≡ kind_word self }
     {
@@ -80,7 +80,7 @@ impl Kind {
         }
     }
 
-    /// The kind with this word.
+    /// The kind with this word. Returns `None` for any other text.
     pub fn from_word(text: &str) -> Option<Kind>
         ensures { result ≡ kind_of_word text.now }
     {
@@ -93,7 +93,7 @@ impl Kind {
         }
     }
 
-    /// How many nights a want of the kind may have.
+    /// The most nights that a want of the kind may have: 1 for a flight or a transfer, 30 for a room, 60 for cover.
     pub fn most_nights(self) -> u8
         ensures { result ≡ most_nights self }
     {

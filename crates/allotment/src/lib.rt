@@ -1,9 +1,9 @@
 //! What suppliers allot: cells, wants, and the places of one cell.
 //!
-//! A *cell* is one night of a supplier's product; a *want* is so many places of a product for some nights in a row.
-//! It promises that every value keeps its limits; that a text is read exactly where it is the one way in which its
-//! value is written; that `Want::new` tells the first fault in the order of `Bad`; that `Want::cells` gives a cell for
-//! each night of the want; and that `fits`, `take`, `give` and `set` are the sums on one cell.
+//! A *cell* is one night of a supplier's product; a *want* is so many places of a product for some consecutive nights.
+//! It promises that every value keeps its limits; that a text is read exactly if it is the one text of its value; that
+//! `Want::new` reports the first fault in the order of `Bad`; that `Want::cells` gives a cell for each night of the
+//! want; and that `fits`, `take`, `give` and `set` are the sums on one cell.
 //!
 //! Words: *allotted* is what the supplier gave, *held* what journeys have taken, *free* the rest.
 #![tactic(auto)]

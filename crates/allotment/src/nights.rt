@@ -43,7 +43,7 @@ impl Night {
     ghost use Rattle.allotment.specs.Nights.{night_in, night_text};
     ghost use Rattle.allotment.specs.Texts.{keep_if};
 
-    /// The night that is written so, as `YYYY-MM-DD`. The fault is always `Bad::Night`.
+    /// Reads a night from `YYYY-MM-DD` (ISO 8601, calendar date). The fault is always `Bad::Night`.
     pub fn parse(text: &str) -> Result<Night, Bad>
         ensures { result ≡ ok_or (night_in text.now) Bad.Night }
     {
@@ -53,7 +53,7 @@ impl Night {
         }
     }
 
-    /// The night with this day number, counted from 1970-01-01.
+    /// The night with this day number, counted from 1970-01-01 as 0. Returns `None` for a day that is no night.
     pub fn from_day(day: u32) -> Option<Night>
         ensures { result ≡ keep_if is_night day }
     {
@@ -64,7 +64,7 @@ impl Night {
         }
     }
 
-    /// The night with this day number, which is one.
+    /// The night with this day number. The precondition says that there is one.
     pub(crate) fn of_day(day: u32) -> Night
         requires { IsTrue (is_night day) }
         ensures { result ≡ day }
@@ -72,7 +72,7 @@ impl Night {
         Night { day }
     }
 
-    /// The number of the day, counted from 1970-01-01.
+    /// The day number, counted from 1970-01-01 as 0: 10,957 to 47,481.
     pub fn day(&self) -> u32
         ensures number { result ≡ self.now }
         ensures limits { IsTrue (is_night self.now) }
@@ -80,7 +80,7 @@ impl Night {
         self.day
     }
 
-    /// How the night is written: `YYYY-MM-DD`.
+    /// The text of the night, `YYYY-MM-DD`. The only fault is out of memory.
     pub fn text(&self, alloc: Global) -> Result<String, AllocError>
         ensures { IfOk result (λ text. string_bytes text ≡ night_text self.now) }
     {
@@ -102,7 +102,7 @@ impl fmt::Display for Night {
     }
 }
 
-/// The day of the night that is written so.
+/// The day number of the night that a text spells.
 fn day_of(text: &str) -> Option<u32>
     ensures { result ≡ night_in text.now }
 {

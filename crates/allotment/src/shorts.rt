@@ -1,11 +1,11 @@
-//! Short texts that lie in place, so that they are copied and take no memory.
+//! Short texts that are stored inline, so that they are copied and allocate nothing.
 use std::marker::Model;
 use std::{fmt, str};
 
 /// A text of at most `N` bytes of ASCII. To a contract it is its bytes.
 #[derive(Clone, Copy)]
 pub struct Short<const N: usize> {
-    /// The text, and zeros behind it.
+    /// The text, padded with zeros.
     bytes: [u8; N],
     /// How many bytes the text has.
     len: usize,
@@ -34,7 +34,7 @@ impl<const N: usize> Short<N> {
     ghost use Rattle.allotment.specs.Short.{is_short};
     ghost use Rattle.allotment.specs.Texts.{keep_if};
 
-    /// The text, where it has at most `N` bytes, all of ASCII.
+    /// Stores the text. Returns `None` if it has more than `N` bytes or a byte that is not ASCII.
     pub fn new(text: &str) -> Option<Short<N>>
         ensures { result ≡ keep_if (is_short N) text.now }
     {
@@ -55,7 +55,7 @@ impl<const N: usize> Short<N> {
         ensures text { result.now ≡ self.now }
         ensures limits { IsTrue (is_short N self.now) }
     {
-        // the text is ASCII, as the invariant says, so it need not be looked through again
+        // the text is ASCII, as the invariant says, so it need not be checked again
         unsafe { str::from_utf8_unchecked(&self.bytes[..self.len]) }
     }
 

@@ -11,7 +11,7 @@ use crate::wants::Want;
 #[derive(Clone, Copy, Debug, PartialEq, Eq)]
 pub struct BelowHeld;
 
-/// Whether each night of the want stands in the list with at least its count of free places.
+/// Whether the list has each night of the want with at least its count of free places.
 pub fn fits(rows: &[(Night, Held)], want: &Want) -> bool
     ensures { result ≡ fits_in rows.now want.now }
 {
@@ -20,7 +20,7 @@ pub fn fits(rows: &[(Night, Held)], want: &Want) -> bool
     (first..first + u32::from(want.nights())).all(|day| has_free(rows, count, day))
 }
 
-/// Takes so many places.
+/// Takes so many places: `free` falls by `count`. The precondition says that there are as many.
 pub fn take(held: Held, count: u32) -> Held
     requires { count ≤ held.free }
     ensures free { result.free + count ≡ held.free }
@@ -32,7 +32,7 @@ pub fn take(held: Held, count: u32) -> Held
     }
 }
 
-/// Gives so many places back.
+/// Gives so many places back: `free` rises by `count`. The precondition says that journeys hold as many.
 pub fn give(held: Held, count: u32) -> Held
     requires { held.free + count ≤ held.allot }
     ensures free { result.free ≡ held.free + count }
@@ -44,7 +44,8 @@ pub fn give(held: Held, count: u32) -> Held
     }
 }
 
-/// Sets how many places the supplier allots. Places that journeys hold stay held.
+/// Sets how many places the supplier allots. Places that journeys hold stay held. Returns `BelowHeld` if journeys hold
+/// more.
 pub fn set(held: Held, places: u32) -> Result<Held, BelowHeld>
     requires { places ≤ most_places }
 
@@ -62,7 +63,7 @@ pub fn set(held: Held, places: u32) -> Result<Held, BelowHeld>
     }
 }
 
-/// Whether the night of this day stands in the list with at least so many free places.
+/// Whether the list has the night of this day with at least so many free places.
 fn has_free(rows: &[(Night, Held)], count: u32, day: u32) -> bool
     ensures { result ≡ has_free_places rows.now count day }
 {

@@ -8,7 +8,7 @@ use crate::{Bad, Cell, Code, Kind, Night, Row, Short, values_have_one_text};
 use std::alloc::AllocError;
 use std::process::Abort;
 
-// stops the test where this is not so
+// stops the test where this is false
 fn holds(rt: &impl Abort, case: &str, is_so: bool)
     ensures { IsTrue is_so }
 {
@@ -20,7 +20,7 @@ fn reads(rt: &impl Abort, case: &str, found: &str, expected: &str) {
     assert_eq!(rt; found, expected, "{case}");
 }
 
-// stops the test where another text was written, or where there was no memory for it
+// stops the test where another text was written, or where it was out of memory
 fn is_written(rt: &impl Abort, case: &str, written: Result<String, AllocError>, expected: &str) {
     reads(rt, case, written.expect(rt, case).as_str(), expected);
 }
@@ -233,7 +233,7 @@ fn a_row_is_its_cell_and_its_places(rt: HostRuntime) {
     holds(&rt, "rows with other places differ", full != none);
 }
 
-// a law does nothing when it runs
+// a law does nothing at run time
 #[test]
 fn the_law_of_the_texts_can_be_called() {
     values_have_one_text();

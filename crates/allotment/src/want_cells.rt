@@ -1,10 +1,10 @@
-//! The cells of a want, one after another.
+//! An iterator over the cells of a want.
 use crate::cells::Cell;
 use crate::nights::Night;
 use crate::wants::Want;
 use std::marker::Model;
 
-/// The cells of a want that are still to come, by rising night. To a contract it is their list.
+/// The cells of a want that are yet to be returned, by rising night. To a contract it is their list.
 #[derive(Drop)]
 pub struct WantCells {
     want: Want,
@@ -32,7 +32,7 @@ impl WantCells {
     ghost use Rattle.std.specs.Prelude.{◌≡◌};
     ghost use Rattle.allotment.specs.Cells.{cells_of};
 
-    /// All cells of a want.
+    /// An iterator over all cells of a want.
     pub fn new(want: &Want) -> WantCells
         ensures { result ≡ cells_of want.now }
     {

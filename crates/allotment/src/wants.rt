@@ -1,4 +1,4 @@
-//! Wants: so many places of a product for some nights in a row.
+//! Wants: so many places of a product for some consecutive nights.
 ghost use Rattle.std.specs.Prelude.{◌≡◌};
 ghost use Rattle.allotment.specs.Limits.{are_nights as may_have_nights, is_count as may_be_count};
 
@@ -12,7 +12,7 @@ use std::alloc::{AllocError, Global};
 use std::fmt;
 use std::marker::Model;
 
-/// So many places of each of some nights in a row. To a contract it is the record of its parts.
+/// So many places of each of some consecutive nights. To a contract it is the record of its parts.
 #[derive(Clone, Copy, Debug, PartialEq, Eq)]
 pub struct Want {
     kind: Kind,
@@ -45,8 +45,8 @@ impl Want {
     ghost use Rattle.allotment.specs.Making.{want_made};
     ghost use Rattle.allotment.specs.Texts.{want_text};
 
-    /// The want of these parts, or the first thing that is wrong with them, in the order of `Bad`. A number that was
-    /// written in a wrong way may be passed as 0, which is out of range for nights and for a count.
+    /// Makes a want of its parts, or returns the first thing that is wrong with them, in the order of `Bad`. The caller
+    /// may pass 0 for a number that was misspelt: 0 is out of range for nights and for a count.
     pub fn new(
         kind: Kind,
         supplier: &str,
@@ -105,7 +105,7 @@ impl Want {
         self.first
     }
 
-    /// How many nights, from the first one on.
+    /// How many nights, from the first one on: 1 to 60.
     pub fn nights(&self) -> u8
         ensures nights { result ≡ self.now.nights }
         ensures limits { IsTrue (is_want self.now) }
@@ -113,7 +113,7 @@ impl Want {
         self.nights
     }
 
-    /// How many places of each night.
+    /// How many places of each night, 1 to 50.
     pub fn count(&self) -> u8
         ensures { result ≡ self.now.count }
     {
@@ -127,7 +127,7 @@ impl Want {
         WantCells::new(self)
     }
 
-    /// How the want is written: `KIND/SUPPLIER/PRODUCT/FIRST/NIGHTS/COUNT`.
+    /// The text of the want, `KIND/SUPPLIER/PRODUCT/FIRST/NIGHTS/COUNT`. The only fault is out of memory.
     pub fn text(&self, alloc: Global) -> Result<String, AllocError>
         ensures { IfOk result (λ text. string_bytes text ≡ want_text self.now) }
     {

@@ -25,12 +25,12 @@ ascii_at start (end ∷ ends) bytes zero field ascii is =
     subst IsAscii here (IsAscii-take (drop start bytes) (end - start) (IsAscii-drop bytes start ascii))
 ascii_at start (end ∷ ends) bytes (suc i) field ascii is = ascii_at end ends bytes i field ascii is
 
--- so it is text
+-- a field of a text of ASCII is text
 pub text_of_ascii : (r : Row) (i : ℕ) (field : List ℕ) → IsAscii (text_of r) → Some field ≡ field_at (fields_of r) i
     → IsUtf8 field
 text_of_ascii r i field ascii is = IsUtf8-from_ascii field (ascii_at 0 r.ends r.bytes i field ascii (sym is))
 
--- of bytes that are no text nothing is kept
+-- where bytes are no text, nothing is kept of them
 pub text_gone : (bytes : List ℕ) → (IsUtf8 bytes → ⊥) → keep_if is_utf8 bytes ≡ None
 text_gone bytes other = keep_if_no is_utf8 bytes (go (is_utf8 bytes) refl)
   where
@@ -38,7 +38,7 @@ text_gone bytes other = keep_if_no is_utf8 bytes (go (is_utf8 bytes) refl)
     go true is = absurd (other (IsUtf8-from_is_utf8 bytes is))
     go false is = refl
 
--- a field that is no text spoils all
+-- where one field is no text, the fields are not kept
 none_text : (fields : List (List ℕ)) (k : ℕ) → text_at fields k ≡ None → k < length fields
     → list_all is_utf8 fields ≡ false
 unfolding field_at
@@ -51,25 +51,25 @@ none_text (f ∷ fields) (suc k) none within =
     and_false true = refl
     and_false false = refl
 
--- with a field that is no text the record has not the shape of a row
+-- a record with a field that is no text has not the shape of a row
 pub no_shape_at : (fields : List (List ℕ)) (k : ℕ) → k < 5 → length fields ≡ 5 → text_at fields k ≡ None
     → keep_if has_shape fields ≡ None
 no_shape_at fields k low five none =
     keep_if_no has_shape fields
     (ap (λ n. (n == 5) && list_all is_utf8 fields) five ∙ none_text fields k none (omega arith))
 
--- with another number of fields it has not either
+-- a record with another number of fields has not the shape of a row
 pub no_shape : (fields : List (List ℕ)) → length fields ≢ 5 → keep_if has_shape fields ≡ None
 no_shape fields other = keep_if_no has_shape fields (ap (λ b. b && list_all is_utf8 fields) (ne_eqb (length fields) 5 other))
 
--- five tests that hold hold together
+-- if five tests hold, their conjunction holds
 all_texts : (v w x y z : Bool) → v ≡ true → w ≡ true → x ≡ true → y ≡ true → z ≡ true
     → (v && (w && (x && (y && (z && true))))) ≡ true
 all_texts v w x y z a b c d e =
     ap (λ m. m && (w && (x && (y && (z && true))))) a ∙ ap (λ m. m && (x && (y && (z && true)))) b
     ∙ ap (λ m. m && (y && (z && true))) c ∙ ap (λ m. m && (z && true)) d ∙ ap (λ m. m && true) e
 
--- with five texts it has
+-- a record of five texts has the shape of a row
 pub has_texts : (fields : List (List ℕ)) (a b c d e : List ℕ) → length fields ≡ 5
     → text_at fields 0 ≡ Some a → text_at fields 1 ≡ Some b → text_at fields 2 ≡ Some c → text_at fields 3 ≡ Some d
     → text_at fields 4 ≡ Some e → keep_if has_shape fields ≡ Some (a ∷ b ∷ c ∷ d ∷ e ∷ [])

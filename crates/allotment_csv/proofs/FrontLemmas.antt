@@ -1,4 +1,4 @@
--- What a front of rows comes to: which of the faults of all rows is the first. For `fronts`.
+-- The result of a prefix of rows: which of the faults of all rows is the first. For `fronts`.
 use Rattle.std.proofs.Common.{◌≡◌, ◌∙◌, ap, sym, subst, refl, ℕ, zero, suc, ◌+◌, ◌<◌, ◌≤◌, List, [], ◌∷◌, ◌++◌, Bool, true, false, length, map, append_assoc, arith, Option, Some, None}
 use Rattle.std.specs.Prelude.{◌==◌, ◌&&◌, not, nat_le, option_map, unwrap_or, if◌then◌else◌, Ok, Err}
 use Rattle.std.specs.List.{cons_option, list_all}
@@ -16,7 +16,7 @@ use Rattle.commands.specs.Limits.{most_rows}
 use Rattle.allotment_csv.specs.Rows.{record_causes, row_of_record}
 use Rattle.allotment_csv.specs.Files.{in_csv, rows_of, comes_again, causes_at, row_faults, faults_behind, rows_faults}
 use Rattle.allotment_csv.specs.Fronts.{AreRows, Ends, IsFront, AreRowsOfBatch}
-use Rattle.allotment_csv.specs.Told.{IsFirst}
+use Rattle.allotment_csv.specs.Results.{IsFirst}
 use Rattle.allotment.proofs.TestLemmas.{and_make}
 use Rattle.allotment_csv.proofs.RowLemmas.{good_row}
 
@@ -29,7 +29,7 @@ as_many_rows [] (r ∷ rows) are = absurd are
 as_many_rows (fields ∷ front) [] are = absurd are
 as_many_rows (fields ∷ front) (r ∷ rows) are = ap (λ n. suc n) (as_many_rows front rows are.2)
 
--- one more
+-- one more row
 pub one_more_row : (front : List (List (List ℕ))) (rows : List Row) (fields : List (List ℕ)) (r : Row)
     → AreRows front rows → record_causes fields ≡ [] → row_of_record fields ≡ Some r
     → AreRows (front ++ (fields ∷ [])) (rows ++ (r ∷ []))
@@ -39,7 +39,7 @@ one_more_row (f ∷ front) [] fields r are good is = absurd are
 one_more_row (f ∷ front) (s ∷ rows) fields r are good is =
     (are.0, are.1, one_more_row front rows fields r are.2 good is)
 
--- they are the rows of the records
+-- the rows of such records are these
 pub rows_of-front : (front : List (List (List ℕ))) (rows : List Row) → AreRows front rows → rows_of front ≡ rows
 rows_of-front [] [] are = refl
 rows_of-front [] (r ∷ rows) are = absurd are
@@ -47,7 +47,7 @@ rows_of-front (fields ∷ front) [] are = absurd are
 rows_of-front (fields ∷ front) (r ∷ rows) are =
     ap (λ o. cons_option o (rows_of front)) are.1 ∙ ap (λ xs. r ∷ xs) (rows_of-front front rows are.2)
 
--- they keep the limits
+-- such rows keep the limits
 all_good : (front : List (List (List ℕ))) (rows : List Row) → AreRows front rows → list_all is_good_row rows ≡ true
 all_good [] [] are = refl
 all_good [] (r ∷ rows) are = absurd are
@@ -62,12 +62,12 @@ no_rows (fields ∷ front) are = absurd are
 
 -- Faults of rows.
 
--- twice the other way is the same way
+-- a double negation is the test itself
 not_not : (b : Bool) → not (not b) ≡ b
 not_not true = refl
 not_not false = refl
 
--- a row is wrong where its cell stands before, and nowhere else
+-- a row after good ones is wrong if its cell stands before, and otherwise not
 pub row_faults-front : (earlier : List (List (List ℕ))) (before : List Row) (fields : List (List ℕ)) (r : Row)
     → AreRows earlier before → record_causes fields ≡ [] → row_of_record fields ≡ Some r → length before + 1 ≤ most_rows
     → row_faults earlier fields ≡ unless (is_new_cell r before) (in_csv (length before + 1) cause.Twice)
@@ -83,12 +83,12 @@ row_faults-front earlier before fields r are good is few =
     ∙ ap (λ b. unless b (in_csv (length before + 1) cause.Twice)) (not_not (is_new_cell r (rows_of earlier)))
     ∙ ap (λ rows. unless (is_new_cell r rows) (in_csv (length before + 1) cause.Twice)) (rows_of-front earlier before are)
 
--- what a front comes to among all that is wrong behind some rows: nothing, or that a cell comes again
+-- what a prefix adds to all that is wrong after some rows: nothing, or that a cell is repeated
 abbrev ComesTo : List (List (List ℕ)) → List (List (List ℕ)) → List (List (List ℕ)) → Option ℕ → Type 0
 ComesTo earlier front rest None = faults_behind earlier (front ++ rest) ≡ faults_behind (earlier ++ front) rest
 ComesTo earlier front rest (Some i) = IsFirst (in_csv (i + 1) cause.Twice) (faults_behind earlier (front ++ rest))
 
--- with a good row before it, it comes to the same
+-- a good row before the prefix does not change the result
 behind_new : (earlier front rest : List (List (List ℕ))) (fields : List (List ℕ)) (o : Option ℕ)
     → row_faults earlier fields ≡ [] → ComesTo (earlier ++ (fields ∷ [])) front rest o
     → ComesTo earlier (fields ∷ front) rest o
@@ -99,7 +99,7 @@ behind_new earlier front rest fields None none comes =
 behind_new earlier front rest fields (Some i) none comes =
     (comes.0, ap (λ xs. xs ++ faults_behind (earlier ++ (fields ∷ [])) (front ++ rest)) none ∙ comes.1)
 
--- with a row before it whose cell comes again, it comes to that
+-- a row before the prefix whose cell is repeated is the result
 behind_old : (earlier front rest : List (List (List ℕ))) (fields : List (List ℕ)) (n : ℕ) (o : Option ℕ)
     → row_faults earlier fields ≡ in_csv (n + 1) cause.Twice ∷ [] → Some n ≡ o
     → ComesTo earlier (fields ∷ front) rest o
@@ -111,7 +111,7 @@ behind_old earlier front rest fields n (Some i) again is =
           ∙ ap (λ m. in_csv (m + 1) cause.Twice ∷ faults_behind (earlier ++ (fields ∷ [])) (front ++ rest)) same,
     )
 
--- a row decides, or those behind it do
+-- the first row decides, or else the later ones
 at_row : (earlier front rest : List (List (List ℕ))) (fields : List (List ℕ)) (before rows : List Row) (r : Row)
     → (o : Option ℕ) (b : Bool) → is_new_cell r before ≡ b
     → row_faults earlier fields ≡ unless (is_new_cell r before) (in_csv (length before + 1) cause.Twice)
@@ -127,7 +127,7 @@ at_row earlier front rest fields before rows r o false old faults on is =
     (faults ∙ ap (λ b. unless b (in_csv (length before + 1) cause.Twice)) old)
     (sym (ap (λ b. if b then repeat_behind (before ++ (r ∷ [])) rows else Some (length before)) old) ∙ is)
 
--- the first row whose cell comes again decides
+-- the first row whose cell is repeated decides
 comes_to : (earlier front rest : List (List (List ℕ))) (before rows : List Row) (o : Option ℕ)
     → AreRows earlier before → AreRows front rows → length before + length rows ≤ most_rows
     → repeat_behind before rows ≡ o → ComesTo earlier front rest o
@@ -145,26 +145,26 @@ comes_to earlier (fields ∷ front) rest before (r ∷ rows) o are good few is =
 
 -- All rows.
 
--- the first thing that is wrong is told
+-- the first thing that is wrong is reported
 told : {X F : Type 0} (value : X) (x : F) (xs : List F) → IsFirst x xs → first_fault value xs ≡ Err x
 told value x xs first = ap (first_fault value) first.1
 
--- it is the first too where more is wrong
+-- the first thing that is wrong stays the first where more is wrong after it
 first-append : {F : Type 0} (x : F) (xs ys : List F) → IsFirst x xs → IsFirst x (xs ++ ys)
 first-append x xs ys first = (first.0 ++ ys, ap (λ zs. zs ++ ys) first.1)
 
--- what stands behind a front
+-- the suffix after a prefix
 behind : (all front : List (List (List ℕ))) (rows : List Row) (wrong : Option CsvCause) → Ends all front rows wrong
     → (rest : List (List (List ℕ))) × (all ≡ front ++ rest)
 behind all front rows None end = ([], end ∙ sym (append-nil front))
 behind all front rows (Some cause) end = (end.fields ∷ end.later, end.parts)
 
--- what a front comes to, from the first row on
+-- the result of a prefix, from the first row on
 front_comes_to : (front rest : List (List (List ℕ))) (rows : List Row) (o : Option ℕ)
     → AreRows front rows → length rows ≤ most_rows → repeat_among rows ≡ o → ComesTo [] front rest o
 front_comes_to front rest rows o good few is = comes_to [] front rest [] rows o tt good (omega (arith, few)) is
 
--- a cell comes again in the front
+-- a cell is repeated in the prefix
 pub whole_again : (all : List (List (List ℕ))) (rows : List Row) (wrong : Option CsvCause) (i : ℕ)
     → IsFront all rows wrong → repeat_among rows ≡ Some i
     → first_fault (rows_of all) (rows_faults all) ≡ Err (in_csv (i + 1) cause.Twice)
@@ -184,7 +184,7 @@ row_first earlier n fields c many first = (
       ∙ ap (λ cs. map (in_csv (n + 1)) cs ++ unless (not (comes_again earlier fields)) (in_csv (n + 1) cause.Twice)) first.1,
 )
 
--- the front has no cell twice, and behind it stands a record that is no row
+-- the prefix repeats no cell, and the record after it is no row
 pub whole_stopped : (all : List (List (List ℕ))) (rows : List Row) (c : CsvCause)
     → IsFront all rows (Some c) → repeat_among rows ≡ None
     → first_fault (rows_of all) (rows_faults all) ≡ Err (in_csv (length rows + 1) c)
@@ -218,7 +218,7 @@ whole_good all rows is none some =
     ∙ ap (λ b. first_fault (rows_of is.front) (unless b (in_csv 0 cause.Empty))) (le-leb 1 (length rows) some)
     ∙ ap (λ xs. Ok xs) (rows_of-front is.front rows is.good)
 
--- such rows are those of a batch
+-- rows without a fault make a batch
 pub whole_of_batch : (all : List (List (List ℕ))) (rows : List Row) → IsFront all rows None → repeat_among rows ≡ None
     → 1 ≤ length rows → AreRowsOfBatch rows
 whole_of_batch all rows is none some =
@@ -322,7 +322,7 @@ some_if_not n m is some = go n refl
         contrary e = cc
     go (suc k) more = omega (arith, is, more)
 
--- what is none of its kind is none
+-- an option without a value is `None`
 pub none_if_not : {X : Type 0} (o : Option X) → ((x : X) → o ≡ Some x → ⊥) → o ≡ None
 none_if_not None other = refl
 none_if_not (Some x) other = absurd (other x refl)

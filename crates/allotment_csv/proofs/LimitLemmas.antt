@@ -14,7 +14,7 @@ use Rattle.allotment.specs.declared.kinds.Kind.TheVariants.{Flight}
 use Rattle.allotment.proofs.NightLemmas.{night_text-night_in}
 use Rattle.allotment.proofs.TestLemmas.{and_both, and_make, keep_if_some, keep_if_yes}
 use Rattle.plan.proofs.ListFacts.{append_none, unless_none, first_fault_ok, some_is}
-use Rattle.commands.specs.Batched.{Batched}
+use Rattle.commands.specs.BatchData.{Batched}
 use Rattle.commands.specs.Batches.{is_new_cell, repeat_behind, is_good_row, is_batch}
 use Rattle.commands.specs.Names.{is_batch_name}
 use Rattle.commands.specs.declared.refusals.CsvCause.TheVariants as cause
@@ -74,7 +74,7 @@ fields_good (kind ∷ supplier ∷ product ∷ night ∷ places ∷ []) many e =
     }
 fields_good (kind ∷ supplier ∷ product ∷ night ∷ places ∷ more ∷ later) many e = absurd (omega (arith, many))
 
--- so is a record without a fault
+-- a record without a fault is such a row
 record_good : (fields : List (List ℕ)) → record_causes fields ≡ [] → IsGood fields
 record_good fields e =
     let parts = append_none _ _ e in
@@ -88,7 +88,7 @@ map_none : {X Y : Type 0} (f : X → Y) (xs : List X) → map f xs ≡ [] → xs
 map_none f [] e = refl
 map_none f (x ∷ xs) e = cc
 
--- behind these rows the records are rows, which keep the limits, and of which none is of a cell that stands before
+-- after these rows the records are rows, which keep the limits, and of which none repeats a cell
 record AreGood (before : List Row) (records : List (List (List ℕ))) : Type 0 where
   pub rows : List Row
   pub are : AreRows records rows
@@ -96,7 +96,7 @@ record AreGood (before : List Row) (records : List (List (List ℕ))) : Type 0 w
   pub few : length before + length rows ≤ most_rows
   pub new : repeat_behind before rows ≡ None
 
--- one row, and those behind it
+-- one row, and the later ones
 good_cons : (before : List Row) (fields : List (List ℕ)) (later : List (List (List ℕ))) (here : IsGood fields)
     → record_causes fields ≡ [] → is_new_cell here.row before ≡ true → AreGood (before ++ (here.row ∷ [])) later
     → AreGood before (fields ∷ later)

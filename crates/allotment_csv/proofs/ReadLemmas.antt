@@ -58,7 +58,7 @@ none_at_zero : (cfg : Config) (s : State) (xs : List ℕ) → Suffices 0 s xs �
 none_at_zero cfg s xs h =
     elim h [ inl less ↦ absurd (omega arith) | inr start ↦ none_at_start cfg s xs start.0 start.1 ]
 
--- after a read one read fewer suffices
+-- after a read, one read fewer suffices
 suffices_next : (cfg : Config) (n : ℕ) (s : State) (xs : List ℕ) (p : Read)
     → next_record cfg s [] [] xs ≡ Some p → Suffices (suc n) s xs → Suffices n p.1 p.2
 suffices_next cfg n s xs p e h =
@@ -71,7 +71,7 @@ suffices_next cfg n s xs p e h =
       | inr all ↦ inr all
     ]
 
--- two ways to read on that agree behind each record agree
+-- two ways to read on that agree after each record agree
 agree : (f g : State → List ℕ → List (List (List ℕ))) (o : Option Read)
     → ((p : Read) → o ≡ Some p → f p.1 p.2 ≡ g p.1 p.2) → records_next f o ≡ records_next g o
 agree f g None h = refl
@@ -102,7 +102,7 @@ first_and_on cfg n s xs p h e =
 one_more : (n : ℕ) → n + 1 ≡ suc n
 one_more n = omega arith
 
--- the records from a state on are the next one and those behind it
+-- the records from a state on are the next one and the later ones
 records_on-more : (s : State) (xs : List ℕ) (p : Read) → next_record default_config s [] [] xs ≡ Some p
     → records_on s xs ≡ p.0 ∷ records_on p.1 p.2
 records_on-more s xs p e =

@@ -16,7 +16,7 @@ use Rattle.allotment.proofs.TestLemmas.{and_both, and_make, keep_if_some, keep_i
 use Rattle.commands.specs.declared.refusals.CsvCause.{CsvCause}
 use Rattle.commands.specs.declared.refusals.CsvCause.TheVariants as cause
 use Rattle.allotment_csv.specs.Rows.{field_causes, record_causes, has_shape, row_from, row_of_record}
-use Rattle.allotment_csv.specs.Told.{IsFirst}
+use Rattle.allotment_csv.specs.Results.{IsFirst}
 
 -- Fields.
 
@@ -34,7 +34,7 @@ found_some : {X : Type 0} (o : Option X) (x : X) → o ≡ Some x → is_some o 
 found_some None x e = cc
 found_some (Some y) x e = refl
 
--- the kind is none
+-- the first text is no kind
 pub no_kind : (kind supplier product night places : List ℕ) → kind_of_word kind ≡ None
     → IsFirst cause.Kind (field_causes (kind ∷ supplier ∷ product ∷ night ∷ places ∷ []))
 no_kind kind supplier product night places none = (
@@ -43,7 +43,7 @@ no_kind kind supplier product night places none = (
       (found_none (kind_of_word kind) none),
 )
 
--- of the codes one is none
+-- one of the codes is none
 pub no_codes : (kind supplier product night places : List ℕ) (k : Kind) → kind_of_word kind ≡ Some k
     → (is_code supplier && is_code product) ≡ false
     → IsFirst cause.Code (field_causes (kind ∷ supplier ∷ product ∷ night ∷ places ∷ []))
@@ -54,7 +54,7 @@ no_codes kind supplier product night places k is none = (
       ∙ ap (λ b. causes_by true b (is_some (night_in night)) (is_some (places_in places))) none,
 )
 
--- the supplier is none
+-- the supplier is no code
 pub no_supplier : (kind supplier product night places : List ℕ) (k : Kind) → kind_of_word kind ≡ Some k
     → keep_if is_code supplier ≡ None
     → IsFirst cause.Code (field_causes (kind ∷ supplier ∷ product ∷ night ∷ places ∷ []))
@@ -67,7 +67,7 @@ and_false : (b : Bool) → (b && false) ≡ false
 and_false true = refl
 and_false false = refl
 
--- the product is none
+-- the product is no code
 pub no_product : (kind supplier product night places : List ℕ) (k : Kind) → kind_of_word kind ≡ Some k
     → keep_if is_code product ≡ None
     → IsFirst cause.Code (field_causes (kind ∷ supplier ∷ product ∷ night ∷ places ∷ []))
@@ -85,7 +85,7 @@ both_codes : (supplier product s p : List ℕ) → keep_if is_code supplier ≡ 
 both_codes supplier product s p first second =
     ap (λ b. b && is_code product) (is_one supplier s first) ∙ is_one product p second
 
--- the night is none
+-- the text is no night
 pub no_night : (kind supplier product night places : List ℕ) (k : Kind) (s p : List ℕ) → kind_of_word kind ≡ Some k
     → keep_if is_code supplier ≡ Some s → keep_if is_code product ≡ Some p → night_in night ≡ None
     → IsFirst cause.Night (field_causes (kind ∷ supplier ∷ product ∷ night ∷ places ∷ []))
@@ -98,7 +98,7 @@ no_night kind supplier product night places k s p is first second none = (
       ∙ ap (λ b. causes_by true true b (is_some (places_in places))) (found_none (night_in night) none),
 )
 
--- what hangs on the places alone
+-- what depends on the places alone
 up_to_places : (kind supplier product night places : List ℕ) (k : Kind) (s p : List ℕ) (n : ℕ)
     → kind_of_word kind ≡ Some k → keep_if is_code supplier ≡ Some s → keep_if is_code product ≡ Some p
     → night_in night ≡ Some n
@@ -130,7 +130,7 @@ no_causes kind supplier product night places k s p n m is first second there som
     up_to_places kind supplier product night places k s p n is first second there
     ∙ ap (λ b. causes_by true true true b) (found_some (places_in places) m some)
 
--- what a text names as a night is one
+-- the night that a text names is a night
 named_is_night : (text : List ℕ) (named n : ℕ) → (if is_text_of text named then Some named else None) ≡ Some n
     → is_night n ≡ true
 named_is_night text named n e = go (is_night named) refl e
@@ -144,7 +144,7 @@ named_is_night text named n e = go (is_night named) refl e
         whole false one = cc
     go false is found = cc
 
--- and they are the row
+-- what was read of the fields makes the row
 pub the_row : (kind supplier product night places : List ℕ) (k : Kind) (s p : List ℕ) (n m : ℕ)
     → kind_of_word kind ≡ Some k → keep_if is_code supplier ≡ Some s → keep_if is_code product ≡ Some p
     → night_in night ≡ Some n → places_in places ≡ Some m
@@ -174,7 +174,7 @@ pub found_value : {X E : Type 0} (o : Option X) (why : E) (x : X) → Ok x ≡ o
 found_value None why x is = cc
 found_value (Some y) why x is = let same : y ≡ x = cc in ap (λ z. Some z) same
 
--- a record that has not the shape of a row is told so
+-- a record that has not the shape of a row is reported as such
 pub shape_first : (fields : List (List ℕ)) → None ≡ keep_if has_shape fields → IsFirst cause.Shape (record_causes fields)
 shape_first fields none =
     (field_causes fields, ap (λ b. unless b cause.Shape ++ field_causes fields) (keep_if_none has_shape fields (sym none)))
@@ -186,7 +186,7 @@ causes_of_fields fields texts kept =
     let one = keep_if_some has_shape fields texts (sym kept) in
     ap (λ b. unless b cause.Shape ++ field_causes fields) (ap has_shape one.0 ∙ one.1) ∙ ap field_causes one.0
 
--- and the row is that of the fields
+-- the row of the record is that of the fields
 pub row_of_fields : (fields texts : List (List ℕ)) → Some texts ≡ keep_if has_shape fields
     → row_of_record fields ≡ row_of_record texts
 row_of_fields fields texts kept = ap row_of_record (keep_if_some has_shape fields texts (sym kept)).0
@@ -201,19 +201,19 @@ record_read fields texts (Err c) kept is = (is.0, causes_of_fields fields texts 
 
 -- Limits of rows.
 
--- a cell that is there keeps the limits
+-- a cell that is read keeps the limits
 good_cell : (k : Option Kind) (s p : List ℕ) (n : Option ℕ) (x : Cell) → cell_from k s p n ≡ Some x → is_good_cell x ≡ true
 good_cell None s p n x is = cc
 good_cell (Some k) s p None x is = cc
 good_cell (Some k) s p (Some n) x is = (keep_if_some is_good_cell (the_cell k s p n) x is).1
 
--- so do places that are there
+-- places that are read keep the limits
 few_places : (o : Option ℕ) (m : ℕ) → option_and_then (keep_if (is_between 0 most_places)) o ≡ Some m
     → nat_le m most_places ≡ true
 few_places None m is = cc
 few_places (Some n) m is = (and_both _ _ (keep_if_some (is_between 0 most_places) n m is).1).1
 
--- so does a row of both
+-- a row of both keeps the limits
 good_parts : (c : Option Cell) (n : Option ℕ) (r : Row) → row_from c n ≡ Some r
     → ((x : Cell) → c ≡ Some x → is_good_cell x ≡ true) → ((m : ℕ) → n ≡ Some m → nat_le m most_places ≡ true)
     → is_good_row r ≡ true
@@ -223,7 +223,7 @@ good_parts (Some x) (Some m) r is cell places =
     let same : allotted x m ≡ r = cc in
     ap is_good_row (sym same) ∙ and_make (is_good_cell x) (nat_le m most_places) (cell x refl) (places m refl)
 
--- so does the row of a record
+-- the row of a record keeps the limits
 pub good_row : (fields : List (List ℕ)) (r : Row) → row_of_record fields ≡ Some r → is_good_row r ≡ true
 good_row [] r is = cc
 good_row (a ∷ []) r is = cc

@@ -11,7 +11,7 @@ use Rattle.commands.specs.declared.refusals.CsvCause.TheVariants as cause
 use Rattle.allotment_csv.specs.Files.{in_csv, rows_in, batch_of}
 use Rattle.allotment_csv.specs.declared.faults.CsvFault.TheVariants.{BadBody}
 
--- the heading of a file, and what stands behind it
+-- the heading of a file, and the text after it
 abbrev pub behind_heading : List ℕ → List ℕ
 behind_heading behind = codes "kind,supplier,product,night,places\n" ++ behind
 
@@ -39,7 +39,7 @@ pub no_kind : rows_in (behind_heading (codes "bus,AL,A1,2030-06-01,1")) ≡ Err 
 unfolding digits csv_on_literals is_utf8 chars encode
 no_kind = refl
 
--- a cell that comes twice
+-- a cell that is repeated
 pub twice :
     rows_in (behind_heading (codes "flight,AL,A1,2030-06-01,1\nflight,AL,A1,2030-06-01,1\n"))
     ≡ Err (in_csv 2 cause.Twice)

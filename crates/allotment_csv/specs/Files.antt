@@ -3,7 +3,7 @@ use Rattle.std.specs.Prelude.{ℕ, ◌+◌, not, Bool, false, List, [], ◌∷�
 use Rattle.csv.specs.Reading.{records, default_config, strip_bom}
 use Rattle.allotment.specs.Making.{unless, first_fault}
 use Rattle.allotment.specs.declared.cells.Row.{Row}
-use Rattle.commands.specs.Batched.{Batched}
+use Rattle.commands.specs.BatchData.{Batched}
 use Rattle.commands.specs.Batches.{is_new_cell}
 use Rattle.commands.specs.Limits.{most_bytes, most_rows}
 use Rattle.commands.specs.Names.{is_batch_name}
@@ -30,13 +30,13 @@ comes_again earlier fields =
 abbrev pub causes_at : ℕ → List (List ℕ) → List CsvCause
 causes_at i fields = unless (nat_le i most_rows) cause.Many ++ record_causes fields
 
--- all that is wrong with a row behind these ones, in the order in which it is told
+-- all that is wrong with a row after these ones, in the order in which it is reported
 abbrev pub row_faults : List (List (List ℕ)) → List (List ℕ) → List CsvFault
 row_faults earlier fields =
     map (in_csv (length earlier + 1)) (causes_at (length earlier + 1) fields)
     ++ unless (not (comes_again earlier fields)) (in_csv (length earlier + 1) cause.Twice)
 
--- all that is wrong with the rows behind these ones, row by row
+-- all that is wrong with the rows after these ones, row by row
 abbrev pub faults_behind : List (List (List ℕ)) → List (List (List ℕ)) → List CsvFault
 faults_behind earlier [] = []
 faults_behind earlier (fields ∷ later) =
@@ -47,11 +47,11 @@ abbrev pub begins_with_heading : List (List (List ℕ)) → Bool
 begins_with_heading [] = false
 begins_with_heading (first ∷ later) = is_heading first
 
--- all that is wrong with rows, of which the first thing is told
+-- all that is wrong with rows, of which the first fault is reported
 abbrev pub rows_faults : List (List (List ℕ)) → List CsvFault
 rows_faults rows = faults_behind [] rows ++ unless (nat_le 1 (length rows)) (in_csv 0 cause.Empty)
 
--- all that is wrong with a file of so many bytes and these records, of which the first thing is told
+-- all that is wrong with a file of so many bytes and these records, of which the first fault is reported
 abbrev pub file_faults : ℕ → List (List (List ℕ)) → List CsvFault
 file_faults size all =
     unless (nat_le size most_bytes) (in_csv 0 cause.Size)

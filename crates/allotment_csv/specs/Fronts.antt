@@ -8,7 +8,7 @@ use Rattle.commands.specs.Limits.{most_rows}
 use Rattle.commands.specs.declared.refusals.CsvCause.{CsvCause}
 use Rattle.allotment_csv.specs.Rows.{record_causes, row_of_record}
 use Rattle.allotment_csv.specs.Files.{causes_at}
-use Rattle.allotment_csv.specs.Told.{IsFirst}
+use Rattle.allotment_csv.specs.Results.{IsFirst}
 
 -- nothing is wrong with these records by themselves, and these are their rows
 abbrev pub AreRows : List (List (List ℕ)) → List Row → Type 0
@@ -17,14 +17,14 @@ AreRows (fields ∷ later) (r ∷ rows) =
     (record_causes fields ≡ []) × (row_of_record fields ≡ Some r) × AreRows later rows
 AreRows _ _ = ⊥
 
--- behind the front stands this record, and the first thing wrong with it by itself is this
+-- after the prefix stands this record, and this is the first thing that is wrong with it by itself
 pub record IsStopped (all front : List (List (List ℕ))) (rows : List Row) (cause : CsvCause) : Type 0 where
   pub fields : List (List ℕ)
   pub later : List (List (List ℕ))
   pub parts : all ≡ front ++ (fields ∷ later)
   pub first : IsFirst cause (causes_at (length rows + 1) fields)
 
--- so many of these records are rows, and then they end or this is wrong
+-- this prefix of the records is rows, and then the records end or this is wrong
 abbrev pub Ends : List (List (List ℕ)) → List (List (List ℕ)) → List Row → Option CsvCause → Type 0
 Ends all front rows None = all ≡ front
 Ends all front rows (Some cause) = IsStopped all front rows cause

@@ -1,6 +1,6 @@
 pub mod Rows
 pub mod Files
-pub mod Told
+pub mod Results
 pub mod Fields
 pub mod Reading
 pub mod Fronts

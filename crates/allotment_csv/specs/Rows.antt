@@ -30,7 +30,7 @@ is_heading fields = are_same fields heading
 abbrev pub has_shape : List (List ℕ) → Bool
 has_shape fields = (length fields == 5) && list_all is_utf8 fields
 
--- from the left, the fields that are not what stands there
+-- the fields, from the left, that are not what their column holds
 abbrev pub field_causes : List (List ℕ) → List CsvCause
 field_causes (kind ∷ supplier ∷ product ∷ night ∷ places ∷ []) =
     unless (is_some (kind_of_word kind)) cause.Kind
@@ -39,7 +39,7 @@ field_causes (kind ∷ supplier ∷ product ∷ night ∷ places ∷ []) =
     ++ unless (is_some (places_in places)) cause.Places
 field_causes _ = []
 
--- all that is wrong with a record by itself, in the order in which it is told
+-- all that is wrong with a record by itself, in the order in which it is reported
 abbrev pub record_causes : List (List ℕ) → List CsvCause
 record_causes fields = unless (has_shape fields) cause.Shape ++ field_causes fields
 

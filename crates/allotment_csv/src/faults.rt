@@ -6,18 +6,18 @@ ghost use Rattle.allotment_csv.specs.Files.{in_csv};
 use commands::CsvCause;
 use std::alloc::{AllocError, AllocFailed};
 
-/// Why a file gives no batch: a refusal, or that memory ran out.
+/// Why a file gives no batch: a refusal, or out of memory.
 #[derive(Clone, Copy, Debug, PartialEq, Eq)]
 pub enum CsvFault {
     /// The name is no name of a batch.
     BadBody,
-    /// What is wrong with the file, and in which row, counted from 1; 0 where it is no row.
+    /// What is wrong with the file, and in which row, counted from 1; 0 where the fault is of the file as a whole.
     BadCsv { row: usize, cause: CsvCause },
-    /// There was no memory for it.
+    /// Out of memory.
     Memory,
 }
 
-/// This is wrong in this row.
+/// The fault of this cause in this row.
 pub fn in_row(row: usize, cause: CsvCause) -> CsvFault
     ensures { result ≡ in_csv row cause }
 {

@@ -25,7 +25,7 @@ fn is_ascii(record: &ByteRecord) -> bool
     record.as_slice().is_ascii()
 }
 
-/// The field at this place, if it is there and is text. Where the record is known to be ASCII, no byte is looked at.
+/// The field at this index, if it is there and is UTF-8. If the record is known to be ASCII, no byte is checked.
 fn field_in(record: &ByteRecord, place: usize, ascii: bool) -> Option<&str>
     requires { IsTrue ascii → IsAscii (text_of record.now) }
     ensures { option_map (λ text. text.now) result ≡ text_at (fields_of record.now) place }
@@ -40,7 +40,7 @@ fn field_in(record: &ByteRecord, place: usize, ascii: bool) -> Option<&str>
     }
 }
 
-/// The fields of the record, if they are five and each is text.
+/// The fields of the record. Returns `None` if there are not five, or if one is not UTF-8.
 pub fn fields_in(record: &ByteRecord) -> Option<Fields<'_>>
     ensures { option_map texts result ≡ keep_if has_shape (fields_of record.now) }
 {

@@ -2,7 +2,7 @@
 ghost use Rattle.std.specs.Prelude.{◌≡◌, Ok, IfOk, IfErr, MatchResult};
 ghost use Rattle.allotment_csv.specs.Files.{rows_in, batch_of};
 ghost use Rattle.allotment_csv.specs.Fronts.{AreRowsOfBatch};
-ghost use Rattle.allotment_csv.specs.Told.{IsTold};
+ghost use Rattle.allotment_csv.specs.Results.{IsTold};
 
 use crate::faults::{CsvFault, in_row};
 use crate::fields::has_heading;
@@ -31,8 +31,8 @@ fn read_rows(alloc: Global, bytes: &[u8]) -> Result<Vec<Row>, CsvFault>
     whole(alloc, front)
 }
 
-/// The batch of this name and of a file's bytes, or the first thing that is wrong with them: the name, and then the
-/// file.
+/// Reads the batch of this name from the bytes of an allotment file, or reports the first thing that is wrong: first
+/// with the name, then with the file. The other fault is out of memory.
 pub fn read_batch(alloc: Global, name: &str, bytes: &[u8]) -> Result<Batch, CsvFault>
     ensures read { IfOk result (λ batch. batch_of name.now bytes.now ≡ Ok batch) }
 

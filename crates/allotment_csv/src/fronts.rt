@@ -1,10 +1,10 @@
-//! The rows of a file up to the first record that is none, and what they come to.
+//! The prefix of a file's rows up to the first record that is none, and its result.
 ghost use Rattle.std.specs.Prelude.{◌≡◌, Ok, IfOk, IfErr, MatchResult, List, ℕ};
 ghost use Rattle.allotment.specs.Making.{first_fault};
 ghost use Rattle.allotment_csv.specs.Files.{rows_of, rows_faults};
 ghost use Rattle.allotment_csv.specs.Fronts.{AreRowsOfBatch, IsFront};
 ghost use Rattle.allotment_csv.specs.Reading.{IsReading, records_left};
-ghost use Rattle.allotment_csv.specs.Told.{IsTold};
+ghost use Rattle.allotment_csv.specs.Results.{IsTold};
 
 use crate::faults::{CsvFault, in_row};
 use crate::records::next_record;
@@ -21,7 +21,8 @@ pub struct Front {
     pub wrong: Option<CsvCause>,
 }
 
-/// The front of the records that the reader has yet to give.
+/// Reads the rows of the records that the reader has left, up to the first record that is none. The only fault is out
+/// of memory.
 pub fn read_front(alloc: Global, reader: &mut Reader<&[u8]>) -> Result<Front, CsvFault>
     requires { IsReading reader.old }
 
@@ -53,7 +54,7 @@ pub fn read_front(alloc: Global, reader: &mut Reader<&[u8]>) -> Result<Front, Cs
     Ok(Front { rows, wrong })
 }
 
-/// The rows of a front that is all of its file, or the first thing that is wrong.
+/// The rows of a prefix that is the whole file, or the first thing that is wrong.
 pub fn whole(alloc: Global, front: Front) -> Result<Vec<Row>, CsvFault>
     ensures whole { (all : List (List (List ℕ))) → IsFront all front.rows.items front.wrong
         → MatchResult result

@@ -1,11 +1,11 @@
 //! Batches from allotment files.
 //!
-//! A file is a heading and a record for each row: `kind,supplier,product,night,places`. `read_batch` gives the batch of
-//! a file's bytes under a name, or the first thing that is wrong with them, in the order of the definition: a bad name,
-//! the size, the heading, each row in turn, and last that there is none.
+//! A file is a heading and a record for each row: `kind,supplier,product,night,places`. `read_batch` returns the batch
+//! of a file's bytes under a name, or reports the first thing that is wrong with them, in the order of the definition:
+//! a bad name, the size, the heading, each row in turn, and last that there is no row.
 //!
-//! Words: a *record* is what `csv` reads, with its default delimiter and quoting; a *row* is a record behind the heading
-//! and counts from 1; a *front* of a file is its rows up to the first record that is none.
+//! Words: a *record* is what `csv` reads, with its default delimiter and quoting; a *row* is a record after the
+//! heading, counted from 1; the *front* of a file is the prefix of its rows up to the first record that is none.
 #![tactic(auto)]
 
 mod faults;

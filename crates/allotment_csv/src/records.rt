@@ -19,9 +19,9 @@ pub fn open(alloc: Global, bytes: &[u8]) -> Reader<&[u8]>
         .from_reader(alloc, bytes)
 }
 
-/// The next record into `record`, and whether there was one.
+/// Reads the next record into `record`, and returns whether there was one.
 ///
-/// A reader of bytes fails for want of memory alone, since records may differ in length.
+/// Since records may differ in length, the only fault is out of memory.
 pub fn next_record(reader: &mut Reader<&[u8]>, record: &mut ByteRecord) -> Result<bool, CsvFault>
     requires { IsReading reader.old }
 

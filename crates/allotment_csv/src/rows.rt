@@ -5,14 +5,14 @@ ghost use Rattle.allotment.specs.Limits.{most_places};
 ghost use Rattle.allotment.specs.Texts.{places_in};
 ghost use Rattle.allotment_csv.specs.Fields.{texts};
 ghost use Rattle.allotment_csv.specs.Rows.{field_causes, record_causes, row_of_record};
-ghost use Rattle.allotment_csv.specs.Told.{IsFirst};
+ghost use Rattle.allotment_csv.specs.Results.{IsFirst};
 
 use crate::fields::{Fields, fields_in};
 use allotment::{Cell, Code, Kind, MOST_PLACES, Night, Row};
 use commands::{CsvCause, number_between};
 use csv::ByteRecord;
 
-/// The places that are written so.
+/// The places that a text spells, 0 to 100,000.
 fn places_of(text: &str) -> Option<u32>
     ensures places { result ≡ places_in text.now }
     ensures limit { IfSome result (λ places. places ≤ most_places) }
@@ -21,7 +21,7 @@ fn places_of(text: &str) -> Option<u32>
     Some(places as u32)
 }
 
-/// The row of these fields, or the first of them, from the left, that is not what stands there.
+/// The row of these fields, or the cause of the first of them, from the left, that is not what its column holds.
 fn row_of(fields: &Fields<'_>) -> Result<Row, CsvCause>
     ensures { MatchResult result
         (λ row. (field_causes (texts fields.now) ≡ [])

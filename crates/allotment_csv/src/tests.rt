@@ -6,7 +6,7 @@ use std::alloc::Global;
 use std::fmt::Write;
 use std::process::Abort;
 
-/// Stops the test where something else is told of a file under a name.
+/// Stops the test where another result is reported of a file under a name.
 fn is_told(
     rt: &impl Abort,
     alloc: Global,
@@ -42,7 +42,7 @@ flight,AL,A1,2030-06-01,10
 room,INN,DBL,2030-06-01,4
 ";
 
-// what stands behind the heading, and in which row which cause is told
+// the text after the heading, the row and the cause that are reported
 #[rattlefmt::skip]
 const REFUSED: [(&str, usize, CsvCause); 28] = [
     ("",                                                        0, CsvCause::Empty),
@@ -75,7 +75,7 @@ const REFUSED: [(&str, usize, CsvCause); 28] = [
     ("\"flight,AL,A1,2030-06-01,1\n",                           1, CsvCause::Shape),
 ];
 
-/// The heading and what stands behind it.
+/// The heading and the text after it.
 fn headed(rt: &impl Abort, alloc: Global, behind: &str) -> String {
     let file = format!(in alloc; "{HEADING}{behind}");
     file.expect(rt, "memory")
@@ -90,7 +90,7 @@ fn the_first_fault_is_told_with_its_row(rt: HostRuntime) {
     }
 }
 
-// what stands behind the heading of files that have the rows of `TWO`
+// the text after the heading of files that have the rows of `TWO`
 #[rattlefmt::skip]
 const READ: [&str; 6] = [
     "flight,AL,A1,2030-06-01,10\nroom,INN,DBL,2030-06-01,4\n",
@@ -106,7 +106,7 @@ fn cell(rt: &impl Abort, text: &str) -> Cell {
     Cell::parse(text).expect(rt, "a cell")
 }
 
-/// Stops the test where these rows are not those of the batch that stands behind a heading.
+/// Stops the test where these rows are not those of the batch after a heading.
 fn is_read(rt: &impl Abort, alloc: Global, behind: &str, rows: &[Row]) {
     let file = headed(rt, alloc, behind);
     let batch = read_batch(alloc, "b1", file.as_bytes()).expect(rt, "a batch");
@@ -123,7 +123,7 @@ fn quotes_ends_and_empty_lines_are_good(rt: HostRuntime) {
     }
 }
 
-// files by their bytes, and what is told of them: nothing, where they have the rows of `TWO`
+// files by their bytes, and the fault of each: none, where they have the rows of `TWO`
 #[rattlefmt::skip]
 const FILES: [(&[u8], Option<CsvCause>); 9] = [
     (b"",                                                                          Some(CsvCause::Header)),
@@ -163,7 +163,7 @@ const NAMES: [(&str, bool); 6] = [
     ("b 1",                       false),
 ];
 
-/// What is told where the name is good, and else that it is not.
+/// This fault where the name is good, and else that it is not.
 fn named(good: bool, told: Option<CsvFault>) -> Option<CsvFault> {
     if good { told } else { Some(CsvFault::BadBody) }
 }
@@ -190,7 +190,7 @@ fn each_front_of_a_file_is_a_batch_or_refused(rt: HostRuntime) {
     }
 }
 
-/// A file of so many rows, one a night, and what stands behind them.
+/// A file of so many rows, one a night, and the text after them.
 fn nights(rt: &impl Abort, alloc: Global, count: u32, behind: &str) -> String {
     let mut file = String::from_str(alloc, HEADING).expect(rt, "memory");
     for day in 0..count {
@@ -201,7 +201,7 @@ fn nights(rt: &impl Abort, alloc: Global, count: u32, behind: &str) -> String {
     file
 }
 
-// how many good rows there are, what stands behind them, and what is told
+// how many good rows there are, the text after them, and the fault
 #[rattlefmt::skip]
 const LONG: [(u32, &str, Option<(usize, CsvCause)>); 6] = [
     (2000, "",                                                None),
@@ -224,7 +224,7 @@ fn a_file_has_at_most_2000_rows(rt: HostRuntime) {
     }
 }
 
-// how many bytes a file has, with empty lines at its end, and what is told
+// how many bytes a file has, with empty lines at its end, and the fault
 #[rattlefmt::skip]
 const SIZES: [(usize, Option<CsvCause>); 2] = [
     (262_144, None),

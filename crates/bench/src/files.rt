@@ -5,8 +5,7 @@ use std::alloc::{AllocError, Global};
 use std::io::{self, ErrorKind};
 use std::time::{Clock, Duration, Instant};
 
-/// How often both are timed. The shortest time of each counts, so that other work on the machine disturbs
-/// little.
+/// How often both are timed. The shortest time of each counts, so that other work on the machine disturbs little.
 const TRIALS: u32 = 50;
 
 /// How many products the file has.
@@ -53,7 +52,7 @@ fn file(alloc: Global) -> Result<String, AllocError> {
     Ok(file)
 }
 
-/// The times of one trial. What was counted is compared, so that nothing can be left out.
+/// The times of one trial. The counts are compared, so that nothing can be left out.
 fn measure(rt: &(impl Clock + AllocGlobal), file: &[u8]) -> io::Result<Times> {
     let start = Instant::now(rt)?;
     let rows = count_rows(rt.alloc(), file)?;
@@ -72,7 +71,7 @@ fn measure(rt: &(impl Clock + AllocGlobal), file: &[u8]) -> io::Result<Times> {
     }
 }
 
-/// Reads the file as a batch, and says how many rows it has.
+/// Reads the file as a batch, and returns how many rows it has.
 fn count_rows(alloc: Global, file: &[u8]) -> io::Result<usize> {
     match read_batch(alloc, "bench", file) {
         Ok(batch) => Ok(batch.rows().len()),
@@ -80,7 +79,7 @@ fn count_rows(alloc: Global, file: &[u8]) -> io::Result<usize> {
     }
 }
 
-/// Reads the records of the file, and says how many have five fields.
+/// Reads the records of the file, and returns how many have five fields.
 fn count_records(alloc: Global, file: &[u8]) -> io::Result<usize> {
     let mut reader = ReaderBuilder::new()
         .has_headers(false)

@@ -32,7 +32,7 @@ pub(crate) fn ask_history(rt: &HostRuntime, file: &str, journey: &str) -> io::Re
     println!(rt; "history {journey} {items} {asked:.1}")
 }
 
-/// Asks for a journey and for its items, one after another, and says how many there are.
+/// Asks for a journey and for its items, one after another, and returns how many there are.
 fn count_items<S: Alter>(alloc: Global, opened: &mut Opened<S>, journey: u64) -> io::Result<u32> {
     match opened.journey_of(alloc, journey) {
         Ok(Some(_)) => {}
@@ -51,7 +51,7 @@ fn count_items<S: Alter>(alloc: Global, opened: &mut Opened<S>, journey: u64) ->
     Err(fault())
 }
 
-/// What every fault is told as.
+/// The error that represents every fault.
 fn fault() -> io::Error {
     io::Error::from(ErrorKind::Other)
 }

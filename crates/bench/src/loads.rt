@@ -65,7 +65,7 @@ fn load_all<S: Alter>(rt: &HostRuntime, book: &mut TableBook<S>, count: u32) -> 
     Ok(Times { loaded, made })
 }
 
-/// What every fault is told as.
+/// The error that represents every fault.
 fn fault() -> io::Error {
     io::Error::from(ErrorKind::Other)
 }

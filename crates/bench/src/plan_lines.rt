@@ -4,11 +4,10 @@ use std::alloc::{AllocError, Global};
 use std::io::{self, ErrorKind};
 use std::time::{Clock, Duration, Instant};
 
-/// How often a line is read before the clock is looked at again.
+/// How often a line is read before the clock is read again.
 const ROUNDS: u32 = 500;
 
-/// How often both are timed. The shortest time of each counts, so that other work on the machine disturbs
-/// little.
+/// How often both are timed. The shortest time of each counts, so that other work on the machine disturbs little.
 const TRIALS: u32 = 15;
 
 /// The longest option there is.
@@ -66,7 +65,7 @@ fn shortest_times(rt: &(impl Clock + AllocGlobal), line: &str) -> io::Result<Tim
     Ok(shortest)
 }
 
-/// The times of one trial. What was counted is compared, so that no round can be left out.
+/// The times of one trial. The counts are compared, so that no round can be left out.
 fn measure(rt: &(impl Clock + AllocGlobal), line: &str) -> io::Result<Times> {
     let start = Instant::now(rt)?;
     let mut steps = 0usize;
@@ -88,7 +87,7 @@ fn measure(rt: &(impl Clock + AllocGlobal), line: &str) -> io::Result<Times> {
     }
 }
 
-/// Reads the line as a plan, and says how many steps it has.
+/// Reads the line as a plan, and returns how many steps it has.
 fn count_steps(alloc: Global, line: &str) -> io::Result<usize> {
     match Plan::from_line(alloc, line) {
         Ok(plan) => Ok(plan.steps()),
@@ -96,7 +95,7 @@ fn count_steps(alloc: Global, line: &str) -> io::Result<usize> {
     }
 }
 
-/// Splits the line at `;`, `|` and `/`, and says how many parts there are.
+/// Splits the line at `;`, `|` and `/`, and returns how many parts there are.
 fn count_parts(line: &str) -> usize {
     let mut parts = 0usize;
     for step in line.split(';') {

@@ -4,8 +4,9 @@
 //! the steps of some more are timed, in turns.
 use allotment::{Cell, Row};
 use commands::{Batch, Command, Name, Reply};
+use memory_book::MemBook;
 use plan::Plan;
-use saga_core::{Book, MemBook};
+use saga_core::Book;
 use std::alloc::Global;
 use std::io::{self, ErrorKind};
 use std::time::{Clock, Duration, Instant};
@@ -16,7 +17,7 @@ const STEPS: u32 = 24;
 /// How many journeys do the steps that are timed.
 const TIMED: u32 = 40;
 
-/// How often all is done. The shortest time counts, so that other work on the machine disturbs little.
+/// How often the whole is measured. The shortest time counts, so that other work on the machine disturbs little.
 const TRIALS: u32 = 15;
 
 /// Prints a row for each number of journeys before, each of which made 25 events.
@@ -118,7 +119,7 @@ fn begin(alloc: Global, book: &mut MemBook, journeys: u32) -> io::Result<()> {
     Ok(())
 }
 
-/// Does one step, which must be carried out.
+/// Does one step, which must be executed.
 fn step(book: &mut MemBook, id: u64) -> io::Result<()> {
     match book.act(&Command::Step(id), None) {
         Ok(Reply::Moved { .. }) => Ok(()),

@@ -13,7 +13,8 @@ use Rattle.migrate.specs.declared.faults.MigrateFault.TheVariants as migration
 use Rattle.protocols.specs.Scenes.{ended}
 use Rattle.desk_lines.specs.Lines.{journey_in}
 use Rattle.command_line.specs.declared.jobs.Job.{Job}
-use Rattle.command_line.specs.declared.jobs.Job.TheVariants.{Run, Serve, Recover, Load, Stock, Unfinished, History, Migrate}
+use Rattle.command_line.specs.Version.{version_line}
+use Rattle.command_line.specs.declared.jobs.Job.TheVariants.{Run, Serve, Recover, Load, Stock, Unfinished, History, Migrate, Version}
 use Rattle.program_ends.specs.declared.ends.End.{End}
 use Rattle.program_ends.specs.declared.ends.End.TheVariants as finish
 use Rattle.program_ends.specs.declared.faults.ProgramFault.TheVariants as fault
@@ -76,6 +77,7 @@ TellsOf (Stock file) held holds = ⊤
 TellsOf (Unfinished file) held holds = ⊤
 TellsOf (History file id) held holds = ⊤
 TellsOf (Migrate file) held holds = TellsMigrated held holds
+TellsOf Version held holds = Appends held holds version_line
 
 -- a history is asked of a word that is no number of a journey
 abbrev pub HasBadId : Job → Type 0

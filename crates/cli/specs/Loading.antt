@@ -1,6 +1,6 @@
 -- What a load of an allotment file comes to, and where it leaves the book.
 use Rattle.std.specs.Prelude.{◌≡◌, None, Result, Ok, Err}
-use Rattle.commands.specs.Batched.{Batched}
+use Rattle.commands.specs.BatchData.{Batched}
 use Rattle.commands.specs.Request.{Request}
 use Rattle.commands.specs.Request as request
 use Rattle.commands.specs.declared.refusals.Refusal.{Refusal}

@@ -5,6 +5,7 @@ ghost use Rattle.commands.specs.Texts.{refusal_line};
 ghost use Rattle.streams.specs.Written.{WroteFront};
 ghost use Rattle.protocols.specs.Scenes.{ended};
 ghost use Rattle.program_ends.specs.Ends.{EndsJob, IfDone, TellsNoneOrFault};
+ghost use Rattle.command_line.specs.Version.{version_line as line_of_version};
 ghost use Rattle.cli.specs.Ends.{HasBadId, ReadsFor, TellsOf, TellsRecovered, recovered_line};
 
 use crate::desks::{close_desk, open_recovered};
@@ -12,10 +13,10 @@ use crate::listening::serve_file;
 use crate::loads::load_file;
 use crate::migrations::migrate_file;
 use crate::telling::{history_file, stock_file, unfinished_file};
-use command_line::Job;
+use command_line::{Job, version_line};
 use commands::Refusal;
 use desk_lines::run_lines;
-use program_ends::End;
+use program_ends::{End, ProgramFault};
 use protocols::ServeFault;
 use std::alloc::Global;
 use std::io::{Read, Write};
@@ -76,6 +77,7 @@ fn carry_out<R: Read, O: Write>(
         Job::Unfinished { file } => unfinished_file(rt, alloc, file.as_str(), out),
         Job::History { file, id } => history_file(rt, alloc, file.as_str(), id.as_str(), out),
         Job::Migrate { file } => migrate_file(rt, alloc, file.as_str(), out),
+        Job::Version => tell_version(out),
     }
 }
 
@@ -127,4 +129,15 @@ fn send_recovered<O: Write>(alloc: Global, made: u64, out: &mut O) -> Result<(),
 {
     let line = format!(in alloc; "recovered {made}\n")?;
     Ok(send(out, line.as_bytes())?)
+}
+
+/// Prints which version of the program this is.
+fn tell_version<O: Write>(out: &mut O) -> End
+    ensures job { EndsJob result }
+    ensures told { IfDone result (Appends (O.contents out.old) (O.contents out.new) line_of_version) }
+{
+    match send(out, version_line().as_bytes()) {
+        Ok(()) => End::Done,
+        Err(_) => End::Fault(ProgramFault::Write),
+    }
 }

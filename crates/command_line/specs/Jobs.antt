@@ -1,28 +1,29 @@
 -- The jobs that the words of the command line ask for. The first word names the subcommand, and the
 -- others are read by the rules of clap for that subcommand.
-use Rattle.std.specs.Prelude.{◌≡◌, ◌||◌, ⊤, ℕ, Bool, true, false, is_none, List, [], ◌∷◌, codes, Option, Some, Result, Ok, Err}
+use Rattle.std.specs.Prelude.{◌≡◌, ◌||◌, ◌⊎◌, ⊤, ℕ, Bool, true, false, is_none, bytes_eq, if◌then◌else◌, List, [], ◌∷◌, codes, Option, None, Some, Result, Ok, Err}
 use Rattle.std.specs.Option.{option_and_then, option_map_or}
 use Rattle.std.specs.String.{string_bytes}
 use Rattle.allotment.specs.Texts.{number_from}
 use Rattle.clap.specs.Words.{App, Text, first_of, matches_of}
 use Rattle.command_line.specs.Subcommands.{app_for, is_refused_by, name_of, subcommand_in}
 use Rattle.command_line.specs.declared.jobs.Job.{Job}
-use Rattle.command_line.specs.declared.jobs.Job.TheVariants.{Run, Serve, Recover, Load, Stock, Unfinished, History, Migrate}
+use Rattle.command_line.specs.declared.jobs.Job.TheVariants.{Run, Serve, Recover, Load, Stock, Unfinished, History, Migrate, Version}
 use Rattle.command_line.specs.declared.jobs.JobFault.{JobFault}
 use Rattle.command_line.specs.declared.jobs.JobFault.TheVariants.{Usage, Memory}
 use Rattle.command_line.specs.declared.subcommands.Subcommand.{Subcommand}
 use Rattle.command_line.specs.declared.subcommands.Subcommand.TheVariants as sub
 
--- the subcommand of a job
-abbrev pub subcommand_of : Job → Subcommand
-subcommand_of (Run file) = sub.Run
-subcommand_of (Serve file port connections) = sub.Serve
-subcommand_of (Recover file) = sub.Recover
-subcommand_of (Load file csv batch) = sub.Load
-subcommand_of (Stock file) = sub.Stock
-subcommand_of (Unfinished file) = sub.Unfinished
-subcommand_of (History file id) = sub.History
-subcommand_of (Migrate file) = sub.Migrate
+-- the subcommand of a job; to print the version there is none
+abbrev pub subcommand_of : Job → Option Subcommand
+subcommand_of (Run file) = Some sub.Run
+subcommand_of (Serve file port connections) = Some sub.Serve
+subcommand_of (Recover file) = Some sub.Recover
+subcommand_of (Load file csv batch) = Some sub.Load
+subcommand_of (Stock file) = Some sub.Stock
+subcommand_of (Unfinished file) = Some sub.Unfinished
+subcommand_of (History file id) = Some sub.History
+subcommand_of (Migrate file) = Some sub.Migrate
+subcommand_of Version = None
 
 -- the words name this file
 abbrev pub NamesFile : (Text → Option Text) → Text → Type 0
@@ -61,6 +62,7 @@ HasValues value (Unfinished file) = NamesFile value (string_bytes file)
 HasValues value (History file id) = NamesFile value (string_bytes file)
     × (value (codes "ID") ≡ Some (string_bytes id))
 HasValues value (Migrate file) = NamesFile value (string_bytes file)
+HasValues value Version = ⊤
 
 -- the value of this name that clap reads from the words
 abbrev pub value_in : App → List Text → Text → Option Text
@@ -68,13 +70,28 @@ value_in app words id = first_of id (matches_of app words)
 
 -- the job is that of this subcommand, with the values that are read from these words
 pub record IsJobOf (s : Subcommand) (words : List Text) (job : Job) : Type 0 where
-  pub subcommand : subcommand_of job ≡ s
+  pub subcommand : subcommand_of job ≡ Some s
   pub values : HasValues (value_in (app_for s) words) job
+
+-- a word that asks for the version
+abbrev pub names_version : Text → Bool
+names_version word = bytes_eq word (codes "--version") || bytes_eq word (codes "-V")
+
+-- the job is to print the version, and this word asks for it
+pub record IsVersionJob (word : Text) (job : Job) : Type 0 where
+  pub version : job ≡ Version
+  pub named : names_version word ≡ true
+
+-- the first word names the subcommand of the job, whose values are read from the others
+pub record IsSubcommandJob (word : Text) (others : List Text) (job : Job) : Type 0 where
+  pub subcommand : Subcommand
+  pub named : word ≡ name_of subcommand
+  pub fits : IsJobOf subcommand others job
 
 -- the job is the one that the first word names, with the values that are read from the others
 abbrev pub IsJob : List Text → Job → Type 0
 IsJob [] job = ⊥
-IsJob (name ∷ others) job = (s : Subcommand) × (name ≡ name_of s) × IsJobOf s others job
+IsJob (word ∷ others) job = IsVersionJob word job ⊎ IsSubcommandJob word others job
 
 -- a subcommand that reads numbers is given something else for one of them
 abbrev pub lacks_number : Subcommand → (Text → Option Text) → Bool
@@ -85,11 +102,13 @@ lacks_number _ value = false
 abbrev pub refuses : Subcommand → List Text → Bool
 refuses s words = is_refused_by (app_for s) words || lacks_number s (value_in (app_for s) words)
 
--- the words ask for no job: the first one names no subcommand, or that one refuses the others
+-- the words ask for no job: the first one asks for no version and names no subcommand, or the
+-- subcommand refuses the others
 abbrev pub are_refused : List Text → Bool
 are_refused [] = true
-are_refused (name ∷ others) =
-    option_map_or (λ s. refuses s others) (subcommand_in name) true
+are_refused (word ∷ others) =
+    if names_version word then false
+    else option_map_or (λ s. refuses s others) (subcommand_in word) true
 
 -- the fault is a usage
 abbrev pub IsText : JobFault → Type 0

@@ -46,6 +46,8 @@ pub enum Job {
     Migrate {
         file: String,
     },
+    /// Print the version of the program.
+    Version,
 }
 
 /// Why the words are no job.

@@ -1,16 +1,17 @@
 //! What the words of the command line ask for.
 //!
-//! The first word names the subcommand. `clap` reads the others, by its rules for that subcommand
-//! alone. Words that name none get the usage of them all.
+//! The first word names the subcommand, or asks for the version. `clap` reads the others, by its rules for that
+//! subcommand alone. Words that name none get the usage of them all.
 ghost use Rattle.std.specs.Prelude.{◌≡◌, ◌≢◌, None, false, true, map, All, IfErr, IfOk, IsOk, Some, is_some};
 ghost use Rattle.std.specs.String.{string_bytes};
 ghost use Rattle.clap.specs.Words.{first_value, found_of, kind_of, matches_of, rows_of};
-ghost use Rattle.command_line.specs.Jobs.{are_refused, number_named, refuses, IsJob, IsJobOf, IsText, IsUsage};
+ghost use Rattle.command_line.specs.Jobs.{are_refused, names_version, number_named, refuses, IsJob, IsJobOf, IsText, IsUsage};
 ghost use Rattle.command_line.specs.Subcommands.{app_for, ids_of, is_refused_by};
 
 use crate::help::PROGRAM;
 use crate::jobs::{Job, JobFault};
 use crate::subcommands::Subcommand;
+use crate::version::program_version;
 use clap::error::ErrorKind;
 use clap::{ArgMatches, Command, Error};
 use commands::number_between;
@@ -32,10 +33,20 @@ pub fn job(alloc: Global, words: Vec<String>) -> Result<Job, JobFault>
     let Some((name, others)) = words.split_first() else {
         return Err(usage_of_all(alloc, words.as_slice()));
     };
+    if is_version(name.as_str()) {
+        return Ok(Job::Version);
+    }
     match Subcommand::named(name.as_str()) {
         Some(subcommand) => job_of(alloc, subcommand, others),
         None => Err(usage_of_all(alloc, words.as_slice())),
     }
+}
+
+/// Whether a word asks for the version.
+fn is_version(word: &str) -> bool
+    ensures version { result ≡ names_version word.now }
+{
+    word == "--version" || word == "-V"
 }
 
 /// The job of a subcommand, with the values that the words name which follow it.
@@ -146,8 +157,12 @@ fn usage_of_all(alloc: Global, words: &[String]) -> JobFault {
 
 /// The same, but for want of memory.
 fn usage_text(alloc: Global, words: &[String]) -> Result<JobFault, AllocError> {
+    if let Some(subcommand) = helped(words) {
+        return help_text(alloc, subcommand);
+    }
     let mut desk = Command::new(alloc, "desk")
         .about("A booking desk for travel agencies")
+        .version(program_version())
         .after_long_help(PROGRAM)
         .no_binary_name(true)
         .subcommand_required(true)
@@ -159,6 +174,20 @@ fn usage_text(alloc: Global, words: &[String]) -> Result<JobFault, AllocError> {
         Err(error) => Ok(fault_of(alloc, &error)),
         Ok(_) => Ok(JobFault::Usage(desk.render_usage()?)),
     }
+}
+
+/// The subcommand that `help` asks about by its next word, where that is the last one.
+fn helped(words: &[String]) -> Option<Subcommand> {
+    match words {
+        [help, name] if help.as_str() == "help" => Subcommand::named(name.as_str()),
+        _ => None,
+    }
+}
+
+/// The whole help of a subcommand. Here `clap` knows that it is called by `desk` and its name.
+fn help_text(alloc: Global, subcommand: Subcommand) -> Result<JobFault, AllocError> {
+    let mut command = subcommand.command(alloc)?;
+    Ok(JobFault::Usage(command.render_long_help()?))
 }
 
 /// The fault of an error of `clap`: its text, but for want of memory.

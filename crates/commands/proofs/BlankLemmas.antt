@@ -1,5 +1,4 @@
--- The words of a reply have no blank, so its line is cut at blanks into just these. For the reader
--- of lines.
+-- The words of a reply contain no blank, so cutting its line at blanks gives the words back. For the reader of lines.
 use Rattle.std.specs.Prelude.{◌≡◌, ℕ, ◌<◌, ◌^◌, ◌==◌, ◌&&◌, not, Bool, true, false, List, [], ◌∷◌, ◌++◌, decimal, IsTrue}
 use Rattle.std.specs.List.{list_all, onto_first}
 use Rattle.std.specs.Int.{IsInRange}
@@ -35,7 +34,7 @@ lacks byte text = list_all (λ b. not (b == byte)) text
 abbrev pub has_no_blank : List ℕ → Bool
 has_no_blank text = lacks 32 text
 
--- two texts without blanks have none together
+-- two texts without blanks are joined without one
 append_no_blank : (x y : List ℕ)
     → has_no_blank x ≡ true → has_no_blank y ≡ true → has_no_blank (x ++ y) ≡ true
 append_no_blank [] y front back = back
@@ -43,7 +42,7 @@ append_no_blank (b ∷ x) y front back =
     let both = and_parts (not (b == 32)) (has_no_blank x) front in
     and_from _ _ both.0 (append_no_blank x y both.1 back)
 
--- digits lack each byte below them
+-- digits contain no byte below them
 digits_lack : (byte : ℕ) → byte < 48 → (ds : List ℕ) → AllDigits 10 ds → lacks byte ds ≡ true
 digits_lack byte below [] digits = refl
 digits_lack byte below (d ∷ ds) digits =
@@ -51,19 +50,19 @@ digits_lack byte below (d ∷ ds) digits =
     let here : not (d == byte) ≡ true = grind (arith, nat_tests) in
     and_from _ _ here (digits_lack byte below ds digits.1)
 
--- what is written of a number up to a limit lacks each byte below the digits
+-- the text of a number up to a limit contains no byte below the digits
 pub number_lacks : (byte low high n : ℕ) → byte < 48 → high < 2 ^ 64
     → IsTrue (is_between low high n) → lacks byte (decimal n) ≡ true
 number_lacks byte low high n below small within =
     let limits = between_parts low high n within in
     digits_lack byte below (decimal n) (decimal_is_IsNumeral n (omega arith)).0.1
 
--- so it has no blank
+-- the text of a number has no blank
 number_no_blank : (low high n : ℕ) → high < 2 ^ 64
     → IsTrue (is_between low high n) → has_no_blank (decimal n) ≡ true
 number_no_blank low high n small within = number_lacks 32 low high n (omega arith) small within
 
--- bytes of a batch's name are no blanks
+-- the bytes of a batch's name are no blanks
 name_bytes_no_blank : (bytes : List ℕ)
     → list_all is_batch_byte bytes ≡ true → has_no_blank bytes ≡ true
 name_bytes_no_blank [] good = refl
@@ -153,7 +152,7 @@ parts_first (b ∷ text) more none =
     slice_split-cons_no (λ x. x == 32) b (text ++ blank ∷ more) (not_true (b == 32) both.0)
     ∙ ap (onto_first b) (parts_first text more both.1)
 
--- words without blanks, with a blank between each two, are cut into these words
+-- cutting words without blanks, joined by blanks, gives the words back
 pub parts_joined : (word : List ℕ) (words : List (List ℕ))
     → list_all has_no_blank (word ∷ words) ≡ true
     → parts blank (joined blank (word ∷ words)) ≡ word ∷ words

@@ -1,4 +1,5 @@
--- Cells as keys: two keys are alike where the cells are one. For repeats, and for the maps of a book in memory.
+-- Cells as keys: two keys compare as equal exactly if the cells are equal. For repeats, and for the maps of a book in
+-- memory.
 use Rattle.std.proofs.Common.{rules, ◌≡◌, ℕ, Bool, true, false, List, refl, ap, sym, ◌∙◌}
 use Rattle.std.specs.Prelude.{◌==◌, ◌&&◌, bytes_eq}
 use Rattle.std.specs.Ordering.{is_eq, nat_cmp, ordering_then}
@@ -20,7 +21,7 @@ key_of x = record { cell = x }
 pub cell_key_total : IsTotalOrder cell_key_cmp
 cell_key_total = Prim.search (comparing, rules)
 
--- two orders, one after the other, tell equal where both do
+-- two comparisons, one after the other, find equality where both do
 pub is_eq-then : (a b : Ordering) → is_eq (ordering_then a b) ≡ (is_eq a && is_eq b)
 is_eq-then Less b = refl
 is_eq-then Equal b = refl
@@ -31,12 +32,12 @@ and_three : (a b c : Bool) → (a && (b && c)) ≡ ((a && b) && c)
 and_three true b c = refl
 and_three false b c = refl
 
--- so may four
+-- four tests may be joined from either end
 and_four : (a b c d : Bool) → (a && (b && (c && d))) ≡ (((a && b) && c) && d)
 and_four true b c d = and_three b c d
 and_four false b c d = refl
 
--- four orders, one after another, tell equal where all do
+-- four comparisons, one after another, find equality where all do
 is_eq-four : (a b c d : Ordering)
     → is_eq (ordering_then a (ordering_then b (ordering_then c d)))
     ≡ (((is_eq a && is_eq b) && is_eq c) && is_eq d)
@@ -46,15 +47,15 @@ is_eq-four a b c d =
     ∙ ap (λ t. is_eq b && t) (is_eq-then c d))
     ∙ and_four (is_eq a) (is_eq b) (is_eq c) (is_eq d)
 
--- texts that are ordered alike are one text
+-- texts that compare as equal are equal
 pub is_eq-texts : (a b : List ℕ) → is_eq (slice_cmp nat_cmp a b) ≡ bytes_eq a b
 is_eq-texts a b = sym (texts_ties a b)
 
--- numbers that are ordered alike are one number
+-- numbers that compare as equal are equal
 is_eq-numbers : (a b : ℕ) → is_eq (nat_cmp a b) ≡ (a == b)
 is_eq-numbers a b = sym (unsigned_ties a b)
 
--- two keys are alike where the cells are one
+-- two keys compare as equal exactly if the cells are equal
 pub is_eq-cells : (k x : Cell) → is_eq (cell_key_cmp (key_of k) (key_of x)) ≡ is_cell k x
 is_eq-cells k x =
     is_eq-four (nat_cmp (kind_number k.kind) (kind_number x.kind))
@@ -71,7 +72,7 @@ is_eq-cells k x =
     ∙ ap (λ t. (((kind_number k.kind == kind_number x.kind) && bytes_eq k.supplier x.supplier)
     && bytes_eq k.product x.product) && t) (is_eq-numbers k.night x.night)
 
--- it does not matter which of two cells is named first
+-- the comparison of cells is symmetric
 pub is_cell-swap : (x y : Cell) → is_cell x y ≡ is_cell y x
 is_cell-swap x y =
     let kind = nat_eq_equiv.symm (kind_number x.kind) (kind_number y.kind) in

@@ -18,7 +18,7 @@ heads_apart a b xs ys text apart one other =
 abbrev pub IsNoItem : List ℕ → Type 0
 IsNoItem text = (item : Item) → IsTrue (is_item item) → text ≡ item_text item → ⊥
 
--- behind a T stand no step and option
+-- the text after a T is no step and option
 pub no_transaction : (text rest : List ℕ) → text ≡ 84 ∷ rest
     → ((pair : ℕ × ℕ) → IsTrue (is_step_pair pair) → rest ≡ step_pair_text pair → ⊥) → IsNoItem text
 no_transaction text rest first none (Transaction step option) good spelled =
@@ -30,7 +30,7 @@ no_transaction text rest first none (Turn target cause) good spelled =
 no_transaction text rest first none (Save position) good spelled =
     heads_apart 84 83 rest (decimal position) text refl first spelled
 
--- behind a C stand no step and option
+-- the text after a C is no step and option
 pub no_compensation : (text rest : List ℕ) → text ≡ 67 ∷ rest
     → ((pair : ℕ × ℕ) → IsTrue (is_step_pair pair) → rest ≡ step_pair_text pair → ⊥) → IsNoItem text
 no_compensation text rest first none (Transaction step option) good spelled =
@@ -42,7 +42,7 @@ no_compensation text rest first none (Turn target cause) good spelled =
 no_compensation text rest first none (Save position) good spelled =
     heads_apart 67 83 rest (decimal position) text refl first spelled
 
--- behind a B stand no target and cause
+-- the text after a B is no target and cause
 pub no_turn : (text rest : List ℕ) → text ≡ 66 ∷ rest
     → ((pair : ℕ × Cause) → IsTrue (is_turn_pair pair) → rest ≡ turn_pair_text pair → ⊥)
     → IsNoItem text
@@ -54,7 +54,7 @@ no_turn text rest first none (Turn target cause) good spelled = none (target, ca
 no_turn text rest first none (Save position) good spelled =
     heads_apart 66 83 rest (decimal position) text refl first spelled
 
--- no such letter stands in front
+-- the text begins with no letter of an item
 pub no_letter : (text : List ℕ)
     → ((rest : List ℕ) → text ≢ 84 ∷ rest) → ((rest : List ℕ) → text ≢ 67 ∷ rest)
     → ((rest : List ℕ) → text ≢ 66 ∷ rest) → ((rest : List ℕ) → text ≢ 83 ∷ rest) → IsNoItem text
@@ -63,7 +63,7 @@ no_letter text t c b s (Compensation step option) good spelled = c _ spelled
 no_letter text t c b s (Turn target cause) good spelled = b _ spelled
 no_letter text t c b s (Save position) good spelled = s _ spelled
 
--- no letter of a cause stands at the end
+-- the text ends with no letter of a cause
 pub no_cause : (text : List ℕ)
     → ((front : List ℕ) → text ≢ front ++ (115 ∷ []))
     → ((front : List ℕ) → text ≢ front ++ (114 ∷ []))

@@ -21,7 +21,7 @@ between_parts low high n within = grind (arith, nat_tests)
 pub between_from : (low high n : ℕ) → low ≤ n → n ≤ high → IsTrue (is_between low high n)
 between_from low high n above below = grind (arith, nat_tests)
 
--- a digit alone, or behind which others stand and which is not 0, begins as a number does
+-- a digit alone, or digits of which the first is not 0, begin as a number does
 digits_start_plain : (ds : List ℕ) → 0 < length ds → 48 ≤ get_or ds 0 0 → get_or ds 0 0 ≤ 57
     → (length ds ≡ 1) ⊎ (48 < get_or ds 0 0) → is_plain_start ds ≡ true
 digits_start_plain [] some low high lone = absurd (omega arith)
@@ -29,12 +29,12 @@ digits_start_plain (d ∷ []) some low high lone = between_from 48 57 d low high
 digits_start_plain (d ∷ e ∷ ds) some low high (inl one) = absurd (omega arith)
 digits_start_plain (d ∷ e ∷ ds) some low high (inr above) = between_from 49 57 d (omega arith) high
 
--- 0 is written by one digit, and any other number with another digit in front
+-- 0 is written by one digit, and any other number without a leading 0
 first_digit : (n : ℕ) → n < 2 ^ 64 → (length (decimal n) ≡ 1) ⊎ (48 < get_or (decimal n) 0 0)
 first_digit zero small = inl (ap length (decimal_digit 0 (omega arith)))
 first_digit (suc n) small = inr (first_decimal (suc n) (omega arith) small)
 
--- what is written of a number begins as a number does
+-- the text of a number begins as a number does
 pub plain_start_decimal : (n : ℕ) → n < 2 ^ 64 → is_plain_start (decimal n) ≡ true
 plain_start_decimal n small =
     let some : 0 < length (decimal n) = decimal_nonempty n small in
@@ -42,7 +42,7 @@ plain_start_decimal n small =
     digit_at (decimal n) 0 (decimal_is_IsNumeral n small).0.1 some in
     digits_start_plain (decimal n) some digit.0 (omega (arith, digit)) (first_digit n small)
 
--- a text that begins as a number does has no sign, and a 0 in front only alone
+-- a text that begins as a number does has no sign and no leading zero
 plain_first : (bs : List ℕ) → is_plain_start bs ≡ true
     → (get_or bs 0 0 ≢ 43) × (get_or bs 0 0 ≡ 48 → length bs ≡ 1)
 plain_first [] plain = cc
@@ -51,7 +51,7 @@ plain_first (b ∷ []) plain =
 plain_first (b ∷ c ∷ bs) plain =
     let limits = between_parts 49 57 b plain in (λ e. omega arith, λ e. omega arith)
 
--- what begins as a number does and is read as one is what is written of it
+-- a text that begins as a number does and is read as one is the text of that number
 pub plain_parsed : (bs : List ℕ) (n : ℕ) → is_plain_start bs ≡ true
     → ParsesUnsigned {E = ℕ} 64 10 bs (Ok n) → bs ≡ decimal n
 plain_parsed bs n plain parsed =
@@ -62,14 +62,14 @@ plain_parsed bs n plain parsed =
     decimal-digits_value own bs whole.0 whole.1 first.1 whole.2 in
     sym back ∙ sym (ap decimal read.1)
 
--- a text that is written of a number within the limits begins as a number does
+-- the text of a number within the limits begins as a number does
 pub spelled_plain : (low high : ℕ) (text : List ℕ) → high < 2 ^ 64
     → (x : ℕ) → IsTrue (is_between low high x) → text ≡ decimal x → is_plain_start text ≡ true
 spelled_plain low high text small x within spelled =
     let limits = between_parts low high x within in
     ap is_plain_start spelled ∙ plain_start_decimal x (omega arith)
 
--- and it is read as that number
+-- the text of a number within the limits is read as that number
 pub spelled_parsed : {E : Type 0} (low high : ℕ) (text : List ℕ) (r : Result ℕ E) → high < 2 ^ 64
     → ParsesUnsigned 64 10 text r
     → (x : ℕ) → IsTrue (is_between low high x) → text ≡ decimal x → r ≡ Ok x
@@ -77,7 +77,7 @@ spelled_parsed low high text r small parsed x within spelled =
     let limits = between_parts low high x within in
     parse-decimal 64 x text r (omega arith) (omega arith) spelled parsed
 
--- a byte that is no digit does not stand in what is written of a number
+-- the text of a number contains digits alone
 pub decimal_lacks : (byte n : ℕ) → n < 2 ^ 64 → ¬ (IsInRange 48 57 byte)
     → (i : ℕ) → i < length (decimal n) → get_or (decimal n) i 0 ≢ byte
 decimal_lacks byte n small other =

@@ -1,4 +1,4 @@
--- No line is that of two replies. For the law of lines, and for the reader of them.
+-- No two replies have the same line. For the law of lines, and for the reader of them.
 use Rattle.std.specs.Prelude.{◌≡◌, ℕ, ◌<◌, ◌^◌, ◌==◌, ◌&&◌, not, if◌then◌else◌, true, false, List, [], ◌∷◌, ◌++◌, length, decimal, Option, Some, None, IsTrue}
 use Rattle.std.proofs.Common.{◌∙◌, sym, ap, refl, get_or, drop, arith}
 use Rattle.std.proofs.lemmas.Bool.{and_parts}
@@ -24,7 +24,7 @@ use Rattle.commands.proofs.BlankLemmas.{lacks, number_lacks}
 use Rattle.commands.proofs.LineLemmas.{parts_line}
 use Rattle.commands.proofs.NumberLemmas.{between_parts}
 
--- numbers within limits that are written alike are equal
+-- numbers within limits with the same text are equal
 number_once : (low high m n : ℕ) → high < 2 ^ 64
     → IsTrue (is_between low high m) → IsTrue (is_between low high n) → decimal m ≡ decimal n → m ≡ n
 number_once low high m n small first other same =
@@ -36,7 +36,7 @@ number_once low high m n small first other same =
 dot_here : (b : ℕ) → not (b == 46) ≡ true → b ≡ 46 → ⊥
 dot_here b other same = grind (arith, nat_tests)
 
--- texts with a dot behind a front without one are equal in both parts
+-- equal texts that are cut at their first dot have equal parts
 cut_once : (x y u v : List ℕ) → lacks 46 x ≡ true → lacks 46 u ≡ true
     → x ++ 46 ∷ y ≡ u ++ 46 ∷ v → (x ≡ u) × (y ≡ v)
 cut_once [] y [] v left right same = (refl, cc)
@@ -51,7 +51,7 @@ cut_once (a ∷ x) y (b ∷ u) v left right same =
     let later = cut_once x y u v in_x.1 in_u.1 rest in
     (cc, later.1)
 
--- a step and an option that are written alike are equal
+-- a step and an option with the same text are equal
 step_once : (s o t p : ℕ) → IsTrue (is_option s o) → IsTrue (is_option t p)
     → step_text s o ≡ step_text t p → (s ≡ t) × (o ≡ p)
 step_once s o t p first other same =
@@ -89,7 +89,7 @@ cause_back turn.Stop = refl
 cause_back turn.Refused = refl
 cause_back turn.Asked = refl
 
--- turns that are written alike are equal
+-- turns with the same text are equal
 turn_once : (p q : ℕ) (a b : Cause) → IsTrue (is_position p) → IsTrue (is_position q)
     → decimal p ++ turn_letter a ≡ decimal q ++ turn_letter b → (p ≡ q) × (a ≡ b)
 turn_once p q a b first other same =
@@ -106,7 +106,7 @@ apart : (a b : ℕ) (xs ys : List ℕ) → (a == b) ≡ false → a ∷ xs ≡ b
 apart a b xs ys other same =
     let first : a ≡ b = ap (λ t. get_or t 0 0) same in grind (arith, nat_tests)
 
--- items that are written alike are equal
+-- items with the same text are equal
 item_once : (x y : Item) → IsTrue (is_item x) → IsTrue (is_item y)
     → item_text x ≡ item_text y → x ≡ y
 item_once (Transaction s o) (Transaction t p) first other same =
@@ -141,7 +141,7 @@ word_of i words = get_or words i []
 abbrev first_length : List (List ℕ) → ℕ
 first_length words = length (word_of 0 words)
 
--- states that are written alike are equal: the words for the four phases differ in length
+-- states with the same text are equal: the words for the four phases differ in length
 state_once : (p q : ℕ) (x y : Phase) → IsTrue (is_state p x) → IsTrue (is_state q y)
     → state_words p x ≡ state_words q y → (p ≡ q) × (x ≡ y)
 state_once p q Run Run first other same =

@@ -1,4 +1,4 @@
--- Rows whose cell stands in an earlier row: what a set of the cells passed so far tells, and that a list without such a
+-- Rows whose cell stands in an earlier row: what the set of the earlier cells answers, and that a list without such a
 -- row has distinct cells. For `first_repeat` and `Batch::new`.
 use Rattle.std.proofs.Common.{◌≡◌, ℕ, ◌+◌, ◌<◌, ◌≤◌, Bool, true, false, cond, List, [], ◌∷◌, ◌++◌, refl, ap, sym, ◌∙◌, subst, take, drop, get_or, arith, length-take-le}
 use Rattle.std.proofs.lemmas.List.{take_more, drop_more}
@@ -50,13 +50,13 @@ has_cells_of-more old new rows r has updates x =
     ∙ ap (λ b. cond (is_cell x r.cell) true b) (has x)
     ∙ sym (has_row_of-more rows r x)
 
--- the row at hand is passed, since its cell is new
+-- the current row is passed, since its cell is new
 pub repeat_behind-new : (earlier later : List Row) (r : Row) → has_row_of earlier r.cell ≡ false
     → repeat_behind earlier (r ∷ later) ≡ repeat_behind (earlier ++ (r ∷ [])) later
 repeat_behind-new earlier later r new =
     ap (λ b. if not b then repeat_behind (earlier ++ (r ∷ [])) later else Some (length earlier)) new
 
--- the row at hand is the first one whose cell stands in an earlier row
+-- the current row is the first one whose cell stands in an earlier row
 pub repeat_behind-old : (earlier later : List Row) (r : Row) → has_row_of earlier r.cell ≡ true
     → repeat_behind earlier (r ∷ later) ≡ Some (length earlier)
 repeat_behind-old earlier later r old =
@@ -84,7 +84,7 @@ are_new-more earlier r (s ∷ later) =
     parts false true c d = refl
     parts false false c d = refl
 
--- no cell comes again behind these rows where the later ones are of other cells, and of distinct ones
+-- no cell is repeated after these rows if the later ones are of other cells, and of distinct ones
 repeat_behind-none : (earlier later : List Row)
     → is_none (repeat_behind earlier later) ≡ (are_new earlier later && are_distinct later)
 repeat_behind-none earlier [] = refl
@@ -109,7 +109,7 @@ repeat_behind-none earlier (r ∷ later) =
     four true b c = refl
     four false b c = refl
 
--- no cell comes again exactly where all are distinct
+-- no cell is repeated exactly if all are distinct
 pub repeat_among-none : (rows : List Row) → is_none (repeat_among rows) ≡ are_distinct rows
 repeat_among-none rows = repeat_behind-none [] rows ∙ ap (λ b. b && are_distinct rows) (none_before rows)
   where
@@ -117,11 +117,11 @@ repeat_among-none rows = repeat_behind-none [] rows ∙ ap (λ b. b && are_disti
     none_before [] = refl
     none_before (r ∷ later) = none_before later
 
--- where no cell comes again all are distinct
+-- if no cell is repeated, all are distinct
 pub distinct_if_none : (rows : List Row) → repeat_among rows ≡ None → are_distinct rows ≡ true
 distinct_if_none rows none = sym (repeat_among-none rows) ∙ ap (λ (o : Option ℕ). is_none o) none
 
--- where one comes again they are not
+-- if a cell is repeated, they are not distinct
 pub repeated_if_some : (rows : List Row) (i : ℕ) → repeat_among rows ≡ Some i → are_distinct rows ≡ false
 repeated_if_some rows i some = sym (repeat_among-none rows) ∙ ap (λ (o : Option ℕ). is_none o) some
 
@@ -135,7 +135,7 @@ from_on : (rows : List Row) (i : ℕ) (r : Row) → i < length rows → r ≡ ge
     → drop i rows ≡ r ∷ drop (i + 1) rows
 from_on rows i r within at = drop_more rows i r within ∙ ap (λ x. x ∷ drop (i + 1) rows) (sym at)
 
--- the row at a place is of a new cell, so the search goes on behind it
+-- the row at a place is of a new cell, so the search goes on after it
 pub repeat_at-new : (rows : List Row) (i : ℕ) (r : Row) → i < length rows → r ≡ get_or rows i r
     → has_row_of (take i rows) r.cell ≡ false
     → repeat_behind (take i rows) (drop i rows) ≡ repeat_behind (take (i + 1) rows) (drop (i + 1) rows)
@@ -162,7 +162,7 @@ has_cells_of-next old new rows i r within at has updates =
 
 -- Rows that rise.
 
--- what is above a cell is another cell
+-- a cell above another is a different cell
 is_other : (k x : Cell) → is_above (Some (key_of k)) (key_of x) ≡ true → is_cell x k ≡ false
 is_other k x above = is_cell-swap x k ∙ sym (is_eq-cells k x) ∙ apart (cell_key_cmp (key_of k) (key_of x)) above
   where
@@ -171,7 +171,7 @@ is_other k x above = is_cell-swap x k ∙ sym (is_eq-cells k x) ∙ apart (cell_
     apart Equal e = cc
     apart Greater e = refl
 
--- what is above a cell is above all that this is above
+-- the order of keys is transitive
 above_too : (last : Option CellKey) (k x : CellKey) → is_above last k ≡ true → is_above (Some k) x ≡ true
     → is_above last x ≡ true
 above_too None k x below above = refl
@@ -183,7 +183,7 @@ above_too (Some before) k x below above =
     is_less Equal e = cc
     is_less Greater e = cc
 
--- the rows behind these have no cell twice, where they rise above all of these
+-- the rows after these repeat no cell, if they rise above all of these
 repeat_behind-rising : (earlier later : List Row) (last : Option CellKey)
     → ((x : Cell) → is_above last (key_of x) ≡ true → has_row_of earlier x ≡ false)
     → rises_above last later ≡ true → repeat_behind earlier later ≡ None
@@ -201,11 +201,11 @@ repeat_behind-rising earlier (r ∷ later) last new rising =
     and_both true b e = (refl, e)
     and_both false b e = cc
 
--- rows that rise have no cell twice
+-- rows that rise repeat no cell
 pub repeat_among-rising : (rows : List Row) → rises rows ≡ true → repeat_among rows ≡ None
 repeat_among-rising rows rising = repeat_behind-rising [] rows None (λ x above. refl) rising
 
--- the row at a place, and those behind it
+-- the row at a place, and the later ones
 pub rises_at : (rows : List Row) (i : ℕ) (r : Row) (last : Option CellKey) → i < length rows → r ≡ get_or rows i r
     → rises_above last (drop i rows) ≡ (is_above last (row_key r) && rises_above (Some (row_key r)) (drop (i + 1) rows))
 rises_at rows i r last within at = ap (rises_above last) (from_on rows i r within at)

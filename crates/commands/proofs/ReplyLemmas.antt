@@ -11,7 +11,7 @@ use Rattle.commands.specs.Readings.{is_state_pair, state_pair_words, standing_wo
 abbrev pub IsNoReply : List (List ℕ) → Type 0
 IsNoReply words = (reply : Reply) → IsTrue (is_accepted reply) → words ≡ reply_words reply → ⊥
 
--- behind the item stand no phase and position
+-- the words after the item are no phase and position
 pub no_state : (id item phase position : List ℕ)
     → ((pair : ℕ × Phase)
     → IsTrue (is_state_pair pair) → standing_words phase position ≡ state_pair_words pair → ⊥)

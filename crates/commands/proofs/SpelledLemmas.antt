@@ -25,7 +25,7 @@ none_within low high text (Some n) is none =
     let spelled : text ≡ decimal n = sym (same_bytes (decimal n) text kept.1) in
     keep_if_no (is_between low high) n (not_so (is_between low high n) (λ within. none n within spelled))
 
--- what the reader of numbers finds is the number that the text spells
+-- the number that the reader finds is the one that the text spells
 pub found_number : (low high : ℕ) (text : List ℕ) (found : Option ℕ) → high < 2 ^ 64
     → Finds (is_between low high) decimal text found → found ≡ number_from low high text
 found_number low high text None small none = sym (none_within low high text (number_in text) refl none)

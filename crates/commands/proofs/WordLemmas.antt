@@ -50,26 +50,26 @@ seven (a ∷ b ∷ c ∷ d ∷ e ∷ f ∷ []) count = absurd (omega arith)
 seven (a ∷ b ∷ c ∷ d ∷ e ∷ f ∷ g ∷ []) count = refl
 seven (a ∷ b ∷ c ∷ d ∷ e ∷ f ∷ g ∷ h ∷ ws) count = absurd (omega arith)
 
--- texts that `==` finds equal are
+-- texts for which `==` answers true are equal
 pub same_text : (a b : List ℕ) → true ≡ bytes_eq a b → a ≡ b
 same_text a b test = (bytes_eq-Decides a b).0 (sym test)
 
--- texts that `!=` does not find unlike are equal
+-- texts for which `!=` answers false are equal
 pub not_unlike : (a b : List ℕ) → false ≡ not (bytes_eq a b) → a ≡ b
 not_unlike a b test = same_text a b (grind arith)
 
--- texts that `!=` finds unlike are
+-- texts for which `!=` answers true differ
 pub unlike : (a b : List ℕ) → true ≡ not (bytes_eq a b) → a ≢ b
 unlike a b test same =
     let equal : bytes_eq a b ≡ true = (bytes_eq-Decides a b).1 same in grind arith
 
--- the words that tell of a batch
+-- the words of the reply to a batch
 pub are_loaded : (ws : List (Bor (List ℕ))) → length ws ≡ 3
     → true ≡ bytes_eq (word_at ws 0) (codes "loaded")
     → texts_of ws ≡ loaded_words (word_at ws 1) (word_at ws 2)
 are_loaded ws count first = cc (three ws count, same_text (word_at ws 0) (codes "loaded") first)
 
--- the words that tell of a journey which begins
+-- the words of the reply to a journey which begins
 pub are_begun : (ws : List (Bor (List ℕ))) → length ws ≡ 3
     → true ≡ bytes_eq (word_at ws 0) (codes "journey")
     → true ≡ bytes_eq (word_at ws 2) (codes "begun") → texts_of ws ≡ begun_words (word_at ws 1)
@@ -77,13 +77,13 @@ are_begun ws count first last =
     let told = same_text (word_at ws 0) (codes "journey") first in
     cc (three ws count, told, same_text (word_at ws 2) (codes "begun") last)
 
--- the words that tell of a journey which goes forward or is at its end
+-- the words of the reply for a journey which goes forward or is at its end
 pub are_standing : (ws : List (Bor (List ℕ))) → length ws ≡ 5
     → false ≡ not (bytes_eq (word_at ws 0) (codes "journey"))
     → texts_of ws ≡ stood_words (word_at ws 1) (word_at ws 2) (word_at ws 3) (word_at ws 4)
 are_standing ws count first = cc (five ws count, not_unlike (word_at ws 0) (codes "journey") first)
 
--- the words that tell of a journey which goes back
+-- the words of the reply for a journey which goes back
 pub are_back : (ws : List (Bor (List ℕ))) → length ws ≡ 7
     → false ≡ not (bytes_eq (word_at ws 0) (codes "journey"))
     → false ≡ not (bytes_eq (word_at ws 3) (codes "back"))
@@ -99,8 +99,7 @@ length_texts : (ws : List (Bor (List ℕ))) → length (texts_of ws) ≡ length 
 length_texts [] = refl
 length_texts (w ∷ ws) = ap (λ n. suc n) (length_texts ws)
 
--- of a journey which goes back seven words tell, of which the first, the fourth and the sixth are
--- always the same
+-- the reply for a journey which goes back has seven words, of which the first, the fourth and the sixth are fixed
 pub no_seven : (ws : List (Bor (List ℕ))) → length ws ≡ 7
     → (word_at ws 0 ≡ codes "journey" → word_at ws 3 ≡ codes "back" → word_at ws 5 ≡ codes "to" → ⊥)
     → IsNoReply (texts_of ws)

@@ -8,7 +8,7 @@ use Rattle.commands.specs.Limits.{most_rows}
 use Rattle.commands.specs.Names.{is_batch_name}
 use Rattle.commands.specs.declared.batches.BadBatch.{BadBatch}
 use Rattle.commands.specs.declared.batches.BadBatch.TheVariants.{Count, Twice}
-use Rattle.commands.specs.Batched.{Batched}
+use Rattle.commands.specs.BatchData.{Batched}
 
 -- no row is of this cell
 abbrev pub is_new_cell : Row → List Row → Bool
@@ -19,13 +19,13 @@ abbrev pub are_distinct : List Row → Bool
 are_distinct [] = true
 are_distinct (r ∷ later) = is_new_cell r later && are_distinct later
 
--- among rows that stand behind these, the first one whose cell stands in a row before it: its place, from 0
+-- among rows after these, the first one whose cell stands in an earlier row: its index, counted from 0
 abbrev pub repeat_behind : List Row → List Row → Option ℕ
 repeat_behind earlier [] = None
 repeat_behind earlier (r ∷ later) =
     if is_new_cell r earlier then repeat_behind (earlier ++ (r ∷ [])) later else Some (length earlier)
 
--- the place, from 0, of the first row whose cell stands in an earlier row
+-- the index, counted from 0, of the first row whose cell stands in an earlier row
 abbrev pub repeat_among : List Row → Option ℕ
 repeat_among rows = repeat_behind [] rows
 
@@ -39,7 +39,7 @@ is_batch name rows =
     is_batch_name name && is_between 1 most_rows (length rows) && list_all is_good_row rows
     && are_distinct rows
 
--- the batch of this name and these rows, or the first limit that they pass
+-- the batch of this name and these rows, or the first limit that they break
 abbrev pub batch_made : List ℕ → List Row → Result Batched BadBatch
 batch_made name rows =
     if not (is_between 1 most_rows (length rows)) then Err Count

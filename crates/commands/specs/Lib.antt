@@ -1,11 +1,11 @@
 pub mod Limits
 pub mod Request
-pub mod Asked
+pub mod Asks
 pub mod Names
 pub mod Orders
 pub mod Texts
 pub mod Readings
-pub mod Batched
+pub mod BatchData
 pub mod Batches
 pub mod Making
 pub mod CellKeys

@@ -1,4 +1,4 @@
--- What a command asks.
+-- What a command asks for.
 use Rattle.commands.specs.Request as request
 use Rattle.commands.specs.Request.{Request}
 use Rattle.commands.specs.declared.orders.Command.{Command}

@@ -9,7 +9,7 @@ use Rattle.commands.specs.declared.replies.Reply.{Reply}
 use Rattle.commands.specs.declared.replies.Reply.TheVariants.{Loaded, Begun, Moved, Refused}
 use Rattle.commands.specs.Texts.{step_text, is_option, is_position, is_state, turn_letter, item_text, refusal_line}
 
--- what a reader finds: the good value that is spelled so, or that there is none
+-- what a reader finds: the good value with this text, or that there is none
 abbrev pub Finds : {X T : Type 0} → (X → Bool) → (X → T) → T → Option X → Type 0
 Finds {X} good spelling text None = (x : X) → IsTrue (good x) → text ≡ spelling x → ⊥
 Finds good spelling text (Some x) = IsTrue (good x) × (text ≡ spelling x)
@@ -64,23 +64,23 @@ state_words position Undone = standing_words (codes "undone") (codes "0")
 abbrev pub state_pair_words : ℕ × Phase → List (List ℕ)
 state_pair_words pair = state_words pair.0 pair.1
 
--- the words that tell of a batch
+-- the words of the reply to a batch
 abbrev pub loaded_words : List ℕ → List ℕ → List (List ℕ)
 loaded_words name rows = codes "loaded" ∷ name ∷ rows ∷ []
 
--- the words that tell of a journey which begins
+-- the words of the reply to a journey which begins
 abbrev pub begun_words : List ℕ → List (List ℕ)
 begun_words id = codes "journey" ∷ id ∷ codes "begun" ∷ []
 
--- the words that tell of a journey which moved
+-- the words of the reply for a journey which moved
 abbrev pub moved_words : List ℕ → List ℕ → List (List ℕ) → List (List ℕ)
 moved_words id item state = codes "journey" ∷ id ∷ item ∷ state
 
--- the words that tell of a journey which moved, and goes forward or is at its end
+-- the words of the reply for a journey which moved, and goes forward or is at its end
 abbrev pub stood_words : List ℕ → List ℕ → List ℕ → List ℕ → List (List ℕ)
 stood_words id item phase position = moved_words id item (standing_words phase position)
 
--- the words that tell of a journey which moved, and goes back
+-- the words of the reply for a journey which moved, and goes back
 abbrev pub turned_words : List ℕ → List ℕ → List ℕ → List ℕ → List (List ℕ)
 turned_words id item position target = moved_words id item (back_words position target)
 

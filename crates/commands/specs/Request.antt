@@ -1,7 +1,7 @@
--- What is asked of the desk. Positions and journeys are numbers; a batch is its name and its rows.
+-- Requests to the desk. Positions and journeys are numbers; a batch is its name and its rows.
 use Rattle.std.specs.Prelude.{ℕ, List}
 use Rattle.allotment.specs.declared.cells.Row.{Row}
-use Rattle.plan.specs.Planned.{Planned}
+use Rattle.plan.specs.PlanModel.{Planned}
 
 pub data Request : Type 0 where
   -- set the allotments of these cells, under this name

@@ -77,7 +77,7 @@ csv_word csv.Places = codes "places"
 csv_word csv.Twice = codes "twice"
 csv_word csv.Empty = codes "empty"
 
--- what a refusal tells: its number and name, and the step, row, cause or version that it has
+-- what a refusal reports: its number and name, and the step, row, cause or version that it has
 pub record Told : Type 0 where
   pub number : ℕ
   pub name : List ℕ
@@ -118,11 +118,11 @@ told (UnknownSchema version) =
 told AlreadyNew = plainly 23 (codes "AlreadyNew")
 told NoSave = plainly 28 (codes "NoSave")
 
--- a number that may be there, as no word or one
+-- an optional number, as one word or none
 abbrev pub number_told : Option ℕ → List (List ℕ)
 number_told number = option_to_list (option_map decimal number)
 
--- the words behind a refusal's name: its step, row, cause and version, each where it has one
+-- the words after a refusal's name: its step, row, cause and version, each where it has one
 abbrev pub particulars : Told → List (List ℕ)
 particulars t =
     number_told t.step ++ number_told t.row ++ option_to_list t.cause ++ number_told t.version

@@ -28,7 +28,7 @@ impl Agent {
     ghost use Rattle.allotment.specs.Texts.{keep_if};
     ghost use Rattle.commands.specs.Names.{is_agent_byte, is_agent, house};
 
-    /// The agent that this text is, if it is one.
+    /// Reads an agent from its text. Returns `None` for any other text.
     #[tactic(auto, using(crate::proofs::NameLemmas::agent_is_short))]
     pub fn parse(text: &str) -> Option<Agent>
         ensures form { result ≡ keep_if is_agent text.now }
@@ -40,7 +40,7 @@ impl Agent {
         Some(Agent { text })
     }
 
-    /// The house, which asks where nobody else does: `desk`.
+    /// The house, `desk`: the agent of a command that comes without an ask.
     pub fn house() -> Agent
         ensures house { result ≡ house }
     {
@@ -50,7 +50,7 @@ impl Agent {
         }
     }
 
-    /// Its text.
+    /// The text of the agent.
     pub fn as_str(&self) -> &str
         ensures text { result.now ≡ self.now }
         ensures form { IsTrue (is_agent self.now) }

@@ -1,4 +1,4 @@
-//! Who asks.
+//! Asks: who asks, under which key and with which text.
 ghost use Rattle.std.specs.Prelude.{◌≡◌};
 
 use crate::agents::Agent;
@@ -14,7 +14,7 @@ pub struct Ask {
 }
 
 impl Model for Ask {
-    ghost use Rattle.commands.specs.Asked.{Asked};
+    ghost use Rattle.commands.specs.Asks.{Asked};
 
     ghost Value = { Asked };
 
@@ -22,7 +22,7 @@ impl Model for Ask {
 }
 
 impl Ask {
-    /// This agent asks, under this key and with this text.
+    /// The ask of this agent, under this key and with this text.
     pub fn new(agent: Agent, key: Key, text: Vec<u8>) -> Ask
         ensures agent { result.agent ≡ agent }
         ensures key { result.key ≡ key }
@@ -45,7 +45,7 @@ impl Ask {
         self.key
     }
 
-    /// With which text.
+    /// With which text: the bytes that a retry under the key must repeat.
     pub fn text(&self) -> &[u8]
         ensures text { result.now ≡ self.now.text }
     {

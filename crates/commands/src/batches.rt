@@ -10,14 +10,14 @@ use allotment::Row;
 use std::alloc::{AllocError, Global};
 use std::marker::Model;
 
-/// Why rows are no batch.
+/// Why rows make no batch.
 #[derive(Clone, Copy, Debug, PartialEq, Eq)]
 pub enum BadBatch {
     /// There is no row, or there are more than 2,000.
     Count,
-    /// A cell stands in two rows.
+    /// Two rows have the same cell.
     Twice,
-    /// Memory ran out.
+    /// Out of memory.
     Memory,
 }
 
@@ -30,7 +30,7 @@ pub struct Batch {
 
 impl Model for Batch {
     ghost use Rattle.std.specs.Prelude.{IsTrue};
-    ghost use Rattle.commands.specs.Batched.{Batched};
+    ghost use Rattle.commands.specs.BatchData.{Batched};
 
     ghost Value = { Batched };
 
@@ -46,7 +46,8 @@ impl Batch {
     ghost use Rattle.commands.specs.Batches.{batch_made, is_batch};
     ghost use Rattle.commands.specs.Making.{IsMade};
 
-    /// The batch of this name and these rows, unless they are too many or none, or two of them are of one cell.
+    /// Makes a batch of this name and these rows, or reports which limit they break: first `Count`, then `Twice`. The
+    /// other fault is out of memory.
     #[tactic(auto, using(crate::proofs::RepeatLemmas::distinct_if_none, crate::proofs::RepeatLemmas::repeated_if_some))]
     pub fn new(alloc: Global, name: Name, rows: Vec<Row>) -> Result<Batch, BadBatch>
         ensures made { IsMade (batch_made name rows.items) result }
@@ -63,7 +64,7 @@ impl Batch {
         }
     }
 
-    /// The batch of this name and these rows, which keep the limits: nothing is looked for again.
+    /// Makes a batch of rows that the precondition says keep the limits. Nothing is checked again.
     pub fn of_rows(name: Name, rows: Vec<Row>) -> Batch
         requires limits { IsTrue (is_batch name rows.items) }
 
@@ -73,14 +74,14 @@ impl Batch {
         Batch { name, rows }
     }
 
-    /// Its name.
+    /// The name of the batch.
     pub fn name(&self) -> Name
         ensures name { result ≡ self.now.name }
     {
         self.name
     }
 
-    /// Its rows, in order.
+    /// The rows, in the order in which they were given.
     pub fn rows(&self) -> &[Row]
         ensures rows { result.now ≡ self.now.rows }
 
@@ -89,7 +90,7 @@ impl Batch {
         &self.rows
     }
 
-    /// The same batch again.
+    /// A copy of the batch. The only fault is out of memory.
     pub fn clone(&self, alloc: Global) -> Result<Batch, AllocError>
         ensures same { IfOk result (λ batch. batch ≡ self.now) }
     {
@@ -100,7 +101,7 @@ impl Batch {
     }
 }
 
-/// A row keeps the limits: there is no other.
+/// A row keeps its limits: its type has no other value.
 fn know_limit(row: &Row)
     ensures limits { IsTrue (is_good_row row.now) }
 {
@@ -111,7 +112,7 @@ fn know_limit(row: &Row)
     let _places = row.places();
 }
 
-/// Each row keeps the limits: there is no other.
+/// Each row keeps its limits: its type has no other value.
 fn know_limits(rows: &[Row])
     ensures limits { IsTrue (list_all is_good_row rows.now) }
 {

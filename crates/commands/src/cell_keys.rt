@@ -1,4 +1,4 @@
-//! Cells, as maps and sets are ordered by them.
+//! Cells as keys of maps and sets.
 use allotment::Cell;
 use std::cmp::Ordering;
 

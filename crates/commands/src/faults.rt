@@ -1,10 +1,10 @@
-//! Faults.
+//! Faults of a book.
 
-/// Why a call has no answer.
+/// Why a call of a book has no answer.
 #[derive(Clone, Copy, Debug, PartialEq, Eq)]
 pub enum Fault {
-    /// Memory ran out, and nothing changed.
+    /// Out of memory. The call changed nothing.
     Memory,
-    /// The store failed. From then on every call of the book answers this.
+    /// The store failed. From then on every call of the book reports this fault.
     Store,
 }

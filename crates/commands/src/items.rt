@@ -1,4 +1,4 @@
-//! What may stand in the history of a journey, and where a journey may be.
+//! Items of a journey's history, and where a journey is.
 
 /// Why a journey turns back.
 #[derive(Clone, Copy, Debug, PartialEq, Eq)]
@@ -7,7 +7,7 @@ pub enum Cause {
     Stop,
     /// No option of the next step fitted.
     Refused,
-    /// Somebody asked for it.
+    /// A caller asked for it.
     Asked,
 }
 
@@ -24,7 +24,7 @@ pub enum Item {
     Save { position: usize },
 }
 
-/// What a journey is doing.
+/// What a journey does.
 #[derive(Clone, Copy, Debug, PartialEq, Eq)]
 pub enum Phase {
     /// It goes forward.

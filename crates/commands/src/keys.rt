@@ -1,4 +1,4 @@
-//! Keys, under which an agent asks once.
+//! Keys, which make requests idempotent: under one key an agent's request acts once.
 use crate::limits::LONGEST_KEY;
 use allotment::Short;
 use std::marker::Model;
@@ -28,7 +28,7 @@ impl Key {
     ghost use Rattle.allotment.specs.Texts.{keep_if};
     ghost use Rattle.commands.specs.Names.{is_key_byte, is_key};
 
-    /// The key that this text is, if it is one.
+    /// Reads a key from its text. Returns `None` for any other text.
     #[tactic(auto, using(crate::proofs::NameLemmas::key_is_short))]
     pub fn parse(text: &str) -> Option<Key>
         ensures form { result ≡ keep_if is_key text.now }
@@ -40,7 +40,7 @@ impl Key {
         Some(Key { text })
     }
 
-    /// Its text.
+    /// The text of the key.
     pub fn as_str(&self) -> &str
         ensures text { result.now ≡ self.now }
         ensures form { IsTrue (is_key self.now) }

@@ -1,7 +1,7 @@
-//! Laws of the texts, for all values. Nothing here does anything when it runs.
+//! Laws of the texts, for all values. A call does nothing at run time.
 ghost use Rattle.commands.specs.Texts.{HaveOneLine};
 
-/// No line is that of two accepted replies.
+/// Two different accepted replies have different lines.
 pub fn replies_have_one_line()
     ensures once { HaveOneLine }
 {}

@@ -1,8 +1,8 @@
-//! What is asked of the desk and what it answers: commands, asks, items, replies and refusals.
+//! Commands, asks, items, replies and refusals: what is asked of the desk, and what it answers.
 //!
-//! A *command* may come with an *ask*: who asks, under which key, with which text. Without one
-//! the house asks. The answer is a *reply*; want of memory and trouble with the store are *faults*,
-//! and no replies. Each reply has one line, and an accepted one is found again by it.
+//! A *command* may come with an *ask*: who asks, under which key, with which text. Without one the house asks. The
+//! answer is a *reply*. Out of memory and a failed store are *faults*, and no replies. Each reply has one line, and an
+//! accepted reply is read back from it.
 #![tactic(auto)]
 
 mod agents;

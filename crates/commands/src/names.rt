@@ -28,7 +28,7 @@ impl Name {
     ghost use Rattle.allotment.specs.Texts.{keep_if};
     ghost use Rattle.commands.specs.Names.{is_batch_byte, is_batch_name};
 
-    /// The name of a batch that this text is, if it is one.
+    /// Reads the name of a batch from its text. Returns `None` for any other text.
     #[tactic(auto, using(crate::proofs::NameLemmas::batch_is_short))]
     pub fn parse(text: &str) -> Option<Name>
         ensures form { result ≡ keep_if is_batch_name text.now }
@@ -40,7 +40,7 @@ impl Name {
         Some(Name { text })
     }
 
-    /// Its text.
+    /// The text of the name.
     pub fn as_str(&self) -> &str
         ensures text { result.now ≡ self.now }
         ensures form { IsTrue (is_batch_name self.now) }

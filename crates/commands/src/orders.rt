@@ -2,7 +2,7 @@
 use crate::batches::Batch;
 use plan::Plan;
 
-/// What is asked of the desk. Journeys are told by their numbers, from 1.
+/// A command to the desk. Journeys are named by their numbers, from 1.
 #[derive(Drop)]
 pub enum Command {
     /// Set the allotments of the cells of a batch.

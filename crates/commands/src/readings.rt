@@ -1,7 +1,7 @@
-//! Reply lines, read back.
+//! Readers of reply lines.
 //!
-//! Each reader finds the one value that is spelled so, within its limits, or tells that there is
-//! none. Numbers have no sign and no leading zeros.
+//! Each reader returns the one value that has this text, within its limits, or `None`. Numbers have no sign and no
+//! leading zeros.
 ghost use Rattle.std.specs.Prelude.{◌≡◌, ◌≤◌, decimal, length, IfOk, IfSome};
 ghost use Rattle.allotment.specs.Limits.{is_between};
 ghost use Rattle.allotment.specs.Texts.{number_from};
@@ -27,7 +27,8 @@ fn begins_plain(text: &str) -> bool
     matches!(text.as_bytes(), [b'0'] | [b'1'..=b'9', ..])
 }
 
-/// The number from `low` to `high` that the text spells, without sign and without leading zeros.
+/// The number from `low` to `high` that the text spells, without sign and without leading zeros. Returns `None` if it
+/// spells none of them.
 pub fn number_in(text: &str, low: usize, high: usize) -> Option<usize>
     ensures found { Finds (is_between low high) decimal text.now result }
 {
@@ -43,7 +44,8 @@ pub fn number_in(text: &str, low: usize, high: usize) -> Option<usize>
     Some(number)
 }
 
-/// The number between these limits that a word spells.
+/// The number from `low` to `high` that a word spells, without sign and without leading zeros. Returns `None` if it
+/// spells none of them.
 pub fn number_between(word: &str, low: usize, high: usize) -> Option<usize>
     ensures number { result ≡ number_from low high word.now }
     ensures high { IfSome result (λ number. number ≤ high) }
@@ -126,7 +128,7 @@ fn state_in(phase: &str, position: &str) -> Option<(usize, Phase)>
     }
 }
 
-/// The reply that tells of a batch by these words.
+/// The reply to a batch, by the words for its name and rows.
 fn loaded_in(name: &str, rows: &str) -> Option<Reply>
     ensures found { Finds is_accepted reply_words (loaded_words name.now rows.now) result }
 {
@@ -135,7 +137,7 @@ fn loaded_in(name: &str, rows: &str) -> Option<Reply>
     Some(Reply::Loaded { name, rows })
 }
 
-/// The reply that tells of a journey which begins, by this number.
+/// The reply to a journey which begins, by the word for its number.
 fn begun_in(id: &str) -> Option<Reply>
     ensures found { Finds is_accepted reply_words (begun_words id.now) result }
 {
@@ -143,7 +145,7 @@ fn begun_in(id: &str) -> Option<Reply>
     Some(Reply::Begun { id })
 }
 
-/// The reply that tells of a journey which moved and goes forward or is at its end, by these words.
+/// The reply for a journey which moved and goes forward or is at its end, by these words.
 fn stood_in(id: &str, item: &str, phase: &str, position: &str) -> Option<Reply>
     ensures found { let words = stood_words id.now item.now phase.now position.now in
         Finds is_accepted reply_words words result }
@@ -159,7 +161,7 @@ fn stood_in(id: &str, item: &str, phase: &str, position: &str) -> Option<Reply>
     })
 }
 
-/// The reply that tells of a journey which moved and goes back, by these words.
+/// The reply for a journey which moved and goes back, by these words.
 fn turned_in(id: &str, item: &str, position: &str, target: &str) -> Option<Reply>
     ensures found { let words = turned_words id.now item.now position.now target.now in
         Finds is_accepted reply_words words result }
@@ -177,7 +179,7 @@ fn turned_in(id: &str, item: &str, position: &str, target: &str) -> Option<Reply
     })
 }
 
-/// The reply that three words tell: of a batch, or of a journey which begins.
+/// The reply of three words: to a batch, or to a journey which begins.
 fn three_in(words: &[&str]) -> Option<Reply>
     requires three { length words.now ≡ 3 }
 
@@ -192,7 +194,7 @@ fn three_in(words: &[&str]) -> Option<Reply>
     None
 }
 
-/// The reply that five words tell: of a journey which moved, and goes forward or is at its end.
+/// The reply of five words: for a journey which moved, and goes forward or is at its end.
 fn five_in(words: &[&str]) -> Option<Reply>
     requires five { length words.now ≡ 5 }
 
@@ -204,7 +206,7 @@ fn five_in(words: &[&str]) -> Option<Reply>
     stood_in(words[1], words[2], words[3], words[4])
 }
 
-/// The reply that seven words tell: of a journey which moved, and goes back.
+/// The reply of seven words: for a journey which moved, and goes back.
 fn seven_in(words: &[&str]) -> Option<Reply>
     requires seven { length words.now ≡ 7 }
 
@@ -229,7 +231,8 @@ fn reply_in(words: &[&str]) -> Option<Reply>
 }
 
 impl Reply {
-    /// The accepted reply that has this line, or `None` where there is none. No refusal is read.
+    /// Reads an accepted reply from its line. Returns `None` for any other line, and for the line of a refusal. The
+    /// only fault is out of memory.
     pub fn from_line(alloc: Global, text: &str) -> Result<Option<Reply>, AllocError>
         ensures found { IfOk result (FindsReply text.now) }
         ensures reads { IfOk result (ReadsReply text.now) }

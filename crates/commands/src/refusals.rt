@@ -10,7 +10,7 @@ pub enum CsvCause {
     Header,
     /// It has more rows than a batch may have.
     Many,
-    /// A row has not five fields, or is no text.
+    /// A row has not five fields, or a field is not UTF-8.
     Shape,
     /// A row's kind is none of the four.
     Kind,

@@ -8,9 +8,9 @@ use allotment::Row;
 use std::alloc::{AllocError, Global};
 use std::collections::BTreeSet;
 
-/// The place, from 0, of the first row whose cell stands in an earlier row.
+/// The index, counted from 0, of the first row whose cell stands in an earlier row. The only fault is out of memory.
 ///
-/// Rows that rise in the order of their cells take no memory; the cells of others are put into a set.
+/// Rows in rising order of their cells are compared without allocating; otherwise the cells are put into a set.
 pub fn first_repeat(alloc: Global, rows: &[Row]) -> Result<Option<usize>, AllocError>
     ensures repeat { IfOk result (λ place. place ≡ repeat_among rows.now) }
     ensures within { IfOk result (λ place. IfSome place (λ i. i < length rows.now)) }
@@ -27,7 +27,7 @@ pub fn first_repeat(alloc: Global, rows: &[Row]) -> Result<Option<usize>, AllocE
     Ok(None)
 }
 
-/// Whether the cell of each row is above that of the row before it. Then none stands twice.
+/// Whether the cell of each row is above that of the row before it. Then no cell is repeated.
 fn are_rising(rows: &[Row]) -> bool
     ensures rising { result ≡ rises rows.now }
 {

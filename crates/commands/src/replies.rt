@@ -3,10 +3,10 @@ use crate::items::{Item, Phase};
 use crate::names::Name;
 use crate::refusals::Refusal;
 
-/// What the desk answers to a command.
+/// The answer to a command.
 #[derive(Clone, Copy, Debug, PartialEq, Eq)]
 pub enum Reply {
-    /// The batch stands, with so many rows.
+    /// The batch is loaded, with so many rows.
     Loaded {
         name: Name,
         rows: usize,
@@ -15,13 +15,13 @@ pub enum Reply {
     Begun {
         id: u64,
     },
-    /// The journey made this item, and is there now.
+    /// The journey made this item, and is now at this position and in this phase.
     Moved {
         id: u64,
         item: Item,
         pos: usize,
         phase: Phase,
     },
-    /// Nothing changed.
+    /// The command was refused, and changed nothing.
     Refused(Refusal),
 }

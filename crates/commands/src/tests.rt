@@ -8,7 +8,7 @@ use plan::{BadPlan, PlanCause};
 use std::alloc::{AllocError, Global};
 use std::process::Abort;
 
-// stops the test where this is not so
+// stops the test where this is false
 fn holds(rt: &impl Abort, case: &str, is_so: bool) {
     assert!(rt; is_so, "{case}");
 }
@@ -18,7 +18,7 @@ fn reads(rt: &impl Abort, case: &str, found: &str, expected: &str) {
     assert_eq!(rt; found, expected, "{case}");
 }
 
-// stops the test where another text was written, or where there was no memory for it
+// stops the test where another text was written, or where it was out of memory
 fn is_written(rt: &impl Abort, written: Result<String, AllocError>, expected: &str) {
     reads(
         rt,
@@ -28,7 +28,7 @@ fn is_written(rt: &impl Abort, written: Result<String, AllocError>, expected: &s
     );
 }
 
-// stops the test where the line is read as another reply, or where there was no memory for it
+// stops the test where the line is read as another reply, or where it was out of memory
 fn is_read(rt: &impl Abort, alloc: Global, case: &str, line: &str, expected: Option<Reply>) {
     let found = Reply::from_line(alloc, line).expect(rt, case);
     assert_eq!(rt; found, expected, "{case}");
@@ -355,7 +355,7 @@ fn a_batch_has_at_most_2000_rows(rt: HostRuntime) {
     }
 }
 
-// the cell of a row behind that of the room DBL of INN on 2030-06-01, and whether they are one
+// the cell of a row after that of the room DBL of INN on 2030-06-01, and whether they are equal
 #[rattlefmt::skip]
 const CELLS: [(&str, bool); 6] = [
     ("R/INN/DBL/2030-06-01", true),
@@ -386,7 +386,7 @@ fn a_batch_has_each_cell_once(rt: HostRuntime) {
     }
 }
 
-// the cells of some rows, and the place of the first one that stood before
+// the cells of some rows, and the index of the first one that stood before
 #[rattlefmt::skip]
 const REPEATS: [(&[&str], Option<usize>); 6] = [
     (&[],                                                          None),

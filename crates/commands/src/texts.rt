@@ -13,7 +13,7 @@ use plan::BadPlan;
 use std::alloc::{AllocError, Global};
 
 impl Cause {
-    /// Why a journey turned, by the letter that ends the item's text.
+    /// The letter that ends the text of a turn: `s`, `r` or `a` for a stop, a refusal or a request.
     fn letter(&self) -> &'static str
         ensures letter { result.now ≡ turn_letter self.now }
     {
@@ -26,7 +26,7 @@ impl Cause {
 }
 
 impl Item {
-    /// The item's text, as `T1.2`, `C1.2`, `B0s` or `S3`.
+    /// The text of the item, as `T1.2`, `C1.2`, `B0s` or `S3`. The only fault is out of memory.
     pub fn text(&self, alloc: Global) -> Result<String, AllocError>
         ensures text { IfOk result (λ text. string_bytes text ≡ item_text self.now) }
     {
@@ -55,7 +55,7 @@ fn state(alloc: Global, position: usize, phase: Phase) -> Result<String, AllocEr
 }
 
 impl Cursor {
-    /// Where the journey is: `run 2`, `back 5 to 2`, `ended 6` or `undone 0`.
+    /// Where the journey is: `run 2`, `back 5 to 2`, `ended 6` or `undone 0`. The only fault is out of memory.
     pub fn state(&self, alloc: Global) -> Result<String, AllocError>
         ensures text { IfOk result (λ text. string_bytes text ≡ cursor_text self.now) }
     {
@@ -64,8 +64,8 @@ impl Cursor {
 }
 
 impl Refusal {
-    /// The refusal's line: `refused`, its number, its name, and its step, row, cause or version
-    /// where it has them, with a blank between each two.
+    /// The line of the refusal: `refused`, its number, its name, and its step, row, cause or version if it has them,
+    /// with a blank between each two. The only fault is out of memory.
     pub fn line(&self, alloc: Global) -> Result<String, AllocError>
         ensures line { IfOk result (λ text. string_bytes text ≡ refusal_line self.now) }
     {
@@ -90,8 +90,8 @@ impl Refusal {
 }
 
 impl Reply {
-    /// The line of the reply: `loaded b1 2`, `journey 1 begun`, `journey 1 T1.1 run 1`, or the
-    /// refusal's line.
+    /// The line of the reply: `loaded b1 2`, `journey 1 begun`, `journey 1 T1.1 run 1`, or the line of the refusal. The
+    /// only fault is out of memory.
     pub fn line(&self, alloc: Global) -> Result<String, AllocError>
         ensures line { IfOk result (λ text. string_bytes text ≡ reply_line self.now) }
     {

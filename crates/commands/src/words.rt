@@ -1,6 +1,6 @@
-//! The words and numbers by which refusals, their causes and phases are known.
+//! The words and numbers that represent refusals, their causes and phases.
 //!
-//! Each is the one in the table of `specs/Texts.antt`. Nothing here takes memory.
+//! Each is the one in the table of `specs/Texts.antt`. Nothing here allocates.
 ghost use Rattle.std.specs.Prelude.{◌≡◌};
 ghost use Rattle.commands.specs.Texts.{told, phase_word, csv_word};
 
@@ -42,7 +42,7 @@ impl CsvCause {
 }
 
 impl Refusal {
-    /// The number by which the refusal is known, 1 to 28.
+    /// The number of the refusal, 1 to 28.
     pub fn number(&self) -> u8
         ensures number { result ≡ (told self.now).number }
     {
@@ -70,7 +70,7 @@ impl Refusal {
         }
     }
 
-    /// The name by which the refusal is known, as `NoJourney`.
+    /// The name of the refusal, as `NoJourney`.
     pub fn name(&self) -> &'static str
         ensures name { result.now ≡ (told self.now).name }
     {

@@ -3,17 +3,16 @@
 
 use cli::perform;
 use command_line::job;
-use program_ends::{End, ProgramFault};
+use program_ends::{End, ProgramFault, end_of_arguments};
 use std::env;
-use std::io::{self, ErrorKind};
 use std::process::ExitCode;
 
-/// The words after the program's name. Words that are not UTF-8 cannot be read.
+/// The words after the program's name, or how the program ends where they cannot be read.
 fn words(rt: &HostRuntime) -> Result<Vec<String>, End> {
     let mut words = Vec::new(rt.alloc());
     let all = match env::args(rt) {
         Ok(all) => all,
-        Err(error) => return Err(end_of(&error)),
+        Err(error) => return Err(end_of_arguments(rt.alloc(), error.kind())),
     };
     for word in all.skip(1) {
         if words.push(word).is_err() {
@@ -21,13 +20,6 @@ fn words(rt: &HostRuntime) -> Result<Vec<String>, End> {
         }
     }
     Ok(words)
-}
-
-fn end_of(error: &io::Error) -> End {
-    match error.kind() {
-        ErrorKind::OutOfMemory => End::Fault(ProgramFault::Memory),
-        _ => End::Fault(ProgramFault::Read),
-    }
 }
 
 fn main(rt: HostRuntime) -> ExitCode {

@@ -4,7 +4,7 @@ use Rattle.std.specs.Prelude.{Option, Some, None, Result, Ok, Err, bytes_eq, cod
 use Rattle.std.proofs.lemmas.Bool.{and_parts}
 use Rattle.std.proofs.lemmas.Slice.Eq.{bytes_eq-Decides}
 use Rattle.allotment.proofs.TestLemmas.{bytes_eq_self}
-use Rattle.commands.specs.Asked.{Asked}
+use Rattle.commands.specs.Asks.{Asked}
 use Rattle.commands.specs.Request.{Request}
 use Rattle.commands.specs.declared.refusals.Refusal.{Refusal}
 use Rattle.commands.specs.declared.replies.Reply.{Reply}
@@ -13,10 +13,10 @@ use Rattle.commands.specs.declared.refusals.Refusal.TheVariants.{KeyReused}
 use Rattle.ledger.specs.Answer.{State, Kept, KeptReply, answer, asker, keep, kept_for, outcome, outcome_for, state_with}
 use Rattle.ledger.specs.Ledger.{Event}
 use Rattle.ledger.specs.World.{Moment, Done, Cut, Reopened, after}
-use Rattle.messages.specs.Heads.{complaint_of, is_method, parts_of}
-use Rattle.messages.specs.Messages.{Message, NoHead, Asks}
-use Rattle.pages.specs.Pages.{page_text, reply_page}
-use Rattle.pages.specs.declared.admitting.Denied.{Denied}
+use Rattle.http_messages.specs.Heads.{complaint_of, is_method, parts_of}
+use Rattle.http_messages.specs.Messages.{Message, NoHead, Asks}
+use Rattle.http_pages.specs.Pages.{page_text, reply_page}
+use Rattle.http_pages.specs.declared.admitting.Denied.{Denied}
 use Rattle.desk_http.specs.Demands.{Demand, Carry, SeeJourney, SeeUnfinished, SeeStock, demand_of}
 use Rattle.desk_http.specs.Laws.{AnswersAgain, MakesEvent, later}
 use Rattle.desk_http.specs.Pages.{Command, IsPage, Says, SaysUnless, closes, command_in, command_unless, state_after, state_by}

@@ -2,15 +2,15 @@
 use Rattle.std.proofs.Common.{◌≡◌, ◌∙◌, ap, sym, subst, inl, inr, ℕ, List, Bool, true, false, ◌||◌}
 use Rattle.std.specs.Prelude.{None, Result, Ok, Err, IfOk, IfErr, is_some, codes}
 use Rattle.ledger.specs.Answer.{State}
-use Rattle.messages.specs.Asked.{IsRequest, IsTaken}
-use Rattle.messages.specs.Heads.{Parts, asks_to_close, complaint_of, is_method, parts_of}
-use Rattle.messages.specs.Messages as sent
-use Rattle.messages.specs.declared.requests.Message.TheVariants as taken
-use Rattle.messages.specs.declared.requests.Request.{Request}
+use Rattle.http_messages.specs.Requests.{IsRequest, IsTaken}
+use Rattle.http_messages.specs.Heads.{Parts, asks_to_close, complaint_of, is_method, parts_of}
+use Rattle.http_messages.specs.Messages as sent
+use Rattle.http_messages.specs.declared.requests.Message.TheVariants as taken
+use Rattle.http_messages.specs.declared.requests.Request.{Request}
 use Rattle.commands.specs.declared.refusals.Refusal.TheVariants.{BadHead}
-use Rattle.pages.specs.Pages.{Paged, denied_page, page_said, page_text, refused_page}
-use Rattle.pages.specs.declared.admitting.Denied.{Denied}
-use Rattle.pages.specs.declared.answers.Page.{Page}
+use Rattle.http_pages.specs.Pages.{Paged, denied_page, page_said, page_text, refused_page}
+use Rattle.http_pages.specs.declared.admitting.Denied.{Denied}
+use Rattle.http_pages.specs.declared.answers.Page.{Page}
 use Rattle.desk_http.specs.Answering.{Answers, Tells}
 use Rattle.desk_http.specs.Demands.{demand_of}
 use Rattle.desk_http.specs.Pages.{SaysUnless, command_unless, state_by}

@@ -5,9 +5,9 @@ use Rattle.std.specs.Str.{IsUtf8, is_utf8}
 use Rattle.std.proofs.lemmas.Str.{IsUtf8-from_is_utf8}
 use Rattle.commands.specs.Request.{Request}
 use Rattle.commands.specs.declared.refusals.Refusal.{Refusal}
-use Rattle.pages.specs.Admitting.{plain}
+use Rattle.http_pages.specs.Admitting.{plain}
 use Rattle.desk_http.specs.Demands.{Sender, carried, denied_by}
-use Rattle.desk_http.specs.Told.{AsksFor, Demands}
+use Rattle.desk_http.specs.DemandValues.{AsksFor, Demands}
 use Rattle.desk_http.specs.declared.demands.Unmet.{Unmet}
 use Rattle.desk_http.specs.declared.demands.Unmet.TheVariants.{Memory, Refused}
 

@@ -4,11 +4,11 @@ use Rattle.std.specs.Prelude.{Some, None, Ok, Err}
 use Rattle.std.specs.List.{concat}
 use Rattle.std.specs.Io.KnownBytes.{Appends}
 use Rattle.ledger.specs.Answer.{State}
-use Rattle.messages.specs.Asked.{IsTaken}
-use Rattle.messages.specs.Messages as sent
-use Rattle.messages.specs.Messages.{BeginsWith, BeginsWithAll}
-use Rattle.messages.specs.Reading.{IsNext, Unused, to_come}
-use Rattle.messages.specs.declared.requests.Message.{Message}
+use Rattle.http_messages.specs.Requests.{IsTaken}
+use Rattle.http_messages.specs.Messages as sent
+use Rattle.http_messages.specs.Messages.{BeginsWith, BeginsWithAll}
+use Rattle.http_messages.specs.Reading.{IsNext, Unused, to_come}
+use Rattle.http_messages.specs.declared.requests.Message.{Message}
 use Rattle.streams.specs.Written.{WroteFront}
 use Rattle.streams.proofs.ByteLemmas.{appends_more, appends_none, keeps_same}
 use Rattle.desk_http.specs.Answering.{Answers}

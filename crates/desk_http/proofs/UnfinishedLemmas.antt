@@ -6,7 +6,7 @@ use Rattle.std.proofs.lemmas.Bool.{le-ltb, lt-ltb, ltb-true}
 use Rattle.allotment.specs.Cells.{numbers_from}
 use Rattle.ledger.specs.History.{is_finished}
 use Rattle.ledger.specs.Ledger.{Event, Journey, journey_at, numbers, history}
-use Rattle.saga_core.specs.Shown.{brief_of, brief_of_journey, first_unfinished, is_unfinished_above}
+use Rattle.saga_core.specs.Views.{brief_of, brief_of_journey, first_unfinished, is_unfinished_above}
 use Rattle.saga_core.specs.declared.records.Brief.{Brief}
 use Rattle.desk_http.specs.Pages.{own_unfinished}
 

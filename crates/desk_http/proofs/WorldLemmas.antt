@@ -1,12 +1,12 @@
 -- How a world goes on with the messages of a connection. For serve.
-use Rattle.std.proofs.Common.{◌≡◌, ◌∙◌, ap, sym, subst, refl, inl, inr, List, [], ◌∷◌, ◌++◌, ℕ, Bool, true, false, append_assoc, IsTrue}
-use Rattle.std.specs.Prelude.{Option, Some, None, Result, Ok, Err, IfOk, IfErr, IfSome, OnOk}
+use Rattle.std.proofs.Common.{◌≡◌, ◌≤◌, ◌∙◌, ap, sym, subst, refl, inl, inr, arith, List, [], ◌∷◌, ◌++◌, ℕ, Bool, true, false, length, append_assoc, append-nil, IsTrue}
+use Rattle.std.specs.Prelude.{Option, Some, None, Result, Ok, Err, IfOk, IfErr, IfSome}
 use Rattle.serde_json.specs.Data.{Data}
-use Rattle.plan.specs.Planned.{Planned}
+use Rattle.plan.specs.PlanModel.{Planned}
 use Rattle.plan.specs.PlanJson.{plan_in_json}
 use Rattle.plan.specs.declared.faults.BadPlan.{BadPlan}
 use Rattle.plan.proofs.JsonKeptLemmas.{json_keeps_limits}
-use Rattle.commands.specs.Batched.{Batched}
+use Rattle.commands.specs.BatchData.{Batched}
 use Rattle.commands.specs.Request as asks
 use Rattle.commands.specs.Request.{Request}
 use Rattle.commands.specs.declared.refusals.Refusal.{Refusal}
@@ -15,24 +15,27 @@ use Rattle.allotment_csv.specs.declared.faults.CsvFault.{CsvFault}
 use Rattle.allotment_csv.specs.declared.faults.CsvFault.TheVariants as csv
 use Rattle.allotment_csv.proofs.LimitLemmas.{batch_keeps_limits}
 use Rattle.ledger.specs.Answer.{State, start, is_request}
-use Rattle.ledger.specs.World.{Moment, after, GoesOn, IsWorld}
-use Rattle.messages.specs.Heads.{Parts, agent_of, complaint_of, key_of, parts_of}
-use Rattle.messages.specs.Messages.{Message, NoHead, Asks, BeginsWithAll}
-use Rattle.pages.specs.declared.admitting.Denied.{Denied}
-use Rattle.pages.specs.declared.routes.Route.{Route}
-use Rattle.pages.specs.declared.routes.Route.TheVariants.{LoadBatch, Begin, Step, Abort, Save, ShowJourney, ShowUnfinished, ShowStock}
-use Rattle.saga_core.specs.Worlds.{StandsAtEnd, StoodAtEnd}
-use Rattle.saga_core.proofs.WorldLemmas.{after-append, GoesOn-append}
+use Rattle.ledger.specs.World.{Moment, after}
+use Rattle.http_messages.specs.Heads.{Parts, agent_of, complaint_of, key_of, parts_of}
+use Rattle.http_messages.specs.Messages as sent
+use Rattle.http_messages.specs.Messages.{Message, NoHead, BeginsWithAll}
+use Rattle.http_pages.specs.declared.admitting.Denied.{Denied}
+use Rattle.http_pages.specs.declared.routes.Route.{Route}
+use Rattle.http_pages.specs.declared.routes.Route.TheVariants.{LoadBatch, Begin, Step, Abort, Save, ShowJourney, ShowUnfinished, ShowStock}
+use Rattle.saga_core.specs.Runs as runs
+use Rattle.saga_core.specs.Runs.{Asks}
+use Rattle.saga_core.specs.Worlds.{KeepLimits, StandsAtEnd, EndsWith, EndsAmong}
+use Rattle.saga_core.proofs.WorldLemmas.{KeepLimits-append, ends-with, ends-after, ends-cut}
 use Rattle.desk_http.specs.Demands.{Carry, Sender, admitted_by, asked_by, asked_if, bare, begin_by, begin_of, carried, carried_under, demand_of, demanded, denied_by, load_of, value_in}
-use Rattle.desk_http.specs.Pages.{Command, command_in, state_after, state_after_all, state_by}
+use Rattle.desk_http.specs.Pages.{Command, command_in, state_after, state_after_all, state_by, stays_open}
 use Rattle.protocols.specs.Scenes.{Scene}
-use Rattle.desk_http.specs.Serving.{Leaves, ServesAll, ServesSome}
-use Rattle.desk_http.specs.Worlds.{done_of, dones_of, cut_of, with_messages, CutsMessage, EndsAmongMessages, EndsWithMessages, GoesOnAmongMessages, GoesOnWithMessages}
+use Rattle.desk_http.specs.Serving.{Answered, Leaves, ServesAll, ServesSome}
+use Rattle.desk_http.specs.Worlds.{asks_by, asks_in, EndsAmongMessages, EndsWithMessages, GoesOnAmongMessages, GoesOnWithMessages}
 use Rattle.protocols.specs.declared.faults.ServeFault.{ServeFault}
 use Rattle.desk_http.specs.declared.serving.Served.{Served}
 use Rattle.protocols.specs.declared.faults.ServeFault.TheVariants.{Memory, Read, Store, Write}
 use Rattle.desk_http.proofs.AgainLemmas.{carry_of}
-use Rattle.desk_http.proofs.ServeLemmas.{after_more, begins_more}
+use Rattle.desk_http.proofs.ServeLemmas.{after_more}
 
 -- Limits.
 
@@ -94,157 +97,168 @@ asked_within (Ok route) parts body c = go (agent_of parts)
 -- what a message asks for keeps the limits
 limits_of : (m : Message) (c : Command) → command_in m ≡ Some c → IsTrue (is_request c.0)
 limits_of NoHead c = λ same. cc
-limits_of (Asks h body) c = λ same.
+limits_of (sent.Asks h body) c = λ same.
     let parts = parts_of h in
     asked_within (admitted_by parts) parts body c (carry_of (complaint_of parts) (demand_of parts body) c same).1
 
--- Moments of messages.
+-- what messages ask for keeps the limits
+by-in_limits : (o : Option Command) (rest : Asks) → ((c : Command) → o ≡ Some c → IsTrue (is_request c.0))
+    → KeepLimits rest → KeepLimits (asks_by o ++ rest)
+by-in_limits (Some c) rest limits all = (limits c refl, all)
+by-in_limits None rest limits all = all
 
--- the command, if there is one, keeps the limits
-abbrev IsWithin : Option Command → Type 0
-IsWithin o = (c : Command) → o ≡ Some c → IsTrue (is_request c.0)
+in-limits : (ms : List Message) → KeepLimits (asks_in ms)
+in-limits [] = tt
+in-limits (m ∷ ms) = by-in_limits (command_in m) (asks_in ms) (limits_of m) (in-limits ms)
 
-after-done : (s : State) (o : Option Command) (rest : List Moment) → after s (done_of s o ++ rest) ≡ after (state_by s o) rest
-after-done s (Some c) rest = refl
-after-done s None rest = refl
+-- What messages ask for.
 
-after-dones : (s : State) (ms : List Message) (last : List Moment)
-    → after s (dones_of s ms ++ last) ≡ after (state_after_all s ms) last
-after-dones s [] last = refl
-after-dones s (m ∷ ms) last =
-    ap (after s) (append_assoc (done_of s (command_in m)) (dones_of (state_after s m) ms) last)
-    ∙ after-done s (command_in m) (dones_of (state_after s m) ms ++ last)
-    ∙ after-dones (state_after s m) ms last
+-- messages and then others
+asks_in-append : (ms ns : List Message) → asks_in (ms ++ ns) ≡ asks_in ms ++ asks_in ns
+asks_in-append [] ns = refl
+asks_in-append (m ∷ ms) ns =
+    ap (λ l. asks_by (command_in m) ++ l) (asks_in-append ms ns)
+    ∙ sym (append_assoc (asks_by (command_in m)) (asks_in ms) (asks_in ns))
 
-GoesOn-done : (s : State) (o : Option Command) (rest : List Moment) → IsWithin o → GoesOn (state_by s o) rest
-    → GoesOn s (done_of s o ++ rest)
-GoesOn-done s (Some c) rest limits on = (λ made. limits c refl, refl, on)
-GoesOn-done s None rest limits on = on
+-- one message asks for at most one thing
+one-asked : (o : Option Command) → length (asks_by o ++ []) ≤ 1
+one-asked (Some c) = omega arith
+one-asked None = omega arith
 
-GoesOn-dones : (s : State) (ms : List Message) (last : List Moment)
-    → GoesOn (state_after_all s ms) last → GoesOn s (dones_of s ms ++ last)
-GoesOn-dones s [] last on = on
-GoesOn-dones s (m ∷ ms) last on =
-    subst (GoesOn s)
-    (sym (append_assoc (done_of s (command_in m)) (dones_of (state_after s m) ms) last))
-    (GoesOn-done s (command_in m) (dones_of (state_after s m) ms ++ last) (limits_of m)
-    (GoesOn-dones (state_after s m) ms last on))
+-- a message leads where what it asks for leads
+leads-by : (s : State) (o : Option Command) (rest : Asks)
+    → runs.state_after (state_by s o) rest ≡ runs.state_after s (asks_by o ++ rest)
+leads-by s (Some c) rest = refl
+leads-by s None rest = refl
 
--- nothing of a command that is cut off was kept
-after-lost : (s : State) (o : Option Command) → after s (cut_of o false) ≡ s
-after-lost s (Some c) = refl
-after-lost s None = refl
-
--- or all of it
-after-kept : (s : State) (o : Option Command) → after s (cut_of o true) ≡ state_by s o
-after-kept s (Some c) = refl
-after-kept s None = refl
-
-GoesOn-cut : (s : State) (o : Option Command) (was_kept : Bool) → IsWithin o → GoesOn s (cut_of o was_kept)
-GoesOn-cut s (Some c) true limits = (λ made. limits c refl, refl, tt)
-GoesOn-cut s (Some c) false limits = (λ made. limits c refl, refl, tt)
-GoesOn-cut s None was_kept limits = tt
+leads : (s : State) (ms : List Message) → state_after_all s ms ≡ runs.state_after s (asks_in ms)
+leads s [] = refl
+leads s (m ∷ ms) = leads (state_after s m) ms ∙ leads-by s (command_in m) (asks_in ms)
 
 -- Worlds that go on.
 
-world-messages : {stood : State → Type 0} (w : List Moment) (ms : List Message) (last : List Moment)
-    → StoodAtEnd stood w → GoesOn (state_after_all (after start w) ms) last → IsWorld (with_messages w ms last)
-world-messages w ms last here on =
-    GoesOn-append start w (dones_of (after start w) ms ++ last) here.world here.whole
-    (GoesOn-dones (after start w) ms last on)
-
-after-messages : (w : List Moment) (ms : List Message) (last : List Moment)
-    → after start (with_messages w ms last) ≡ after (state_after_all (after start w) ms) last
-after-messages w ms last =
-    after-append start w (dones_of (after start w) ms ++ last) ∙ after-dones (after start w) ms last
-
--- the book stands where the messages led
-stands-messages : {stood : State → Type 0} (stands : State → Type 0) (w : List Moment) (ms : List Message)
-    → StoodAtEnd stood w → stands (state_after_all (after start w) ms) → StandsAtEnd stands (with_messages w ms [])
-stands-messages stands w ms here now = record {
-  world = world-messages w ms [] here tt;
-  stands_there = subst stands (sym (after-messages w ms [])) now;
-}
-
--- the next message is cut off
-cuts-message : {stood : State → Type 0} (leaves : State → State → Type 0) (w : List Moment) (ms : List Message) (m : Message)
-    → StoodAtEnd stood w → leaves (state_after_all (after start w) ms) (state_after (state_after_all (after start w) ms) m)
-    → CutsMessage leaves w ms m
-cuts-message leaves w ms m here left =
-    let t = state_after_all (after start w) ms in
-    let o = command_in m in
-    record {
-      first = world-messages w ms (cut_of o false) here (GoesOn-cut t o false (limits_of m));
-      second = world-messages w ms (cut_of o true) here (GoesOn-cut t o true (limits_of m));
-      left = subst (λ s. leaves s (after start (with_messages w ms (cut_of o true))))
-          (sym (after-messages w ms (cut_of o false) ∙ after-lost t o))
-          (subst (leaves t) (sym (after-messages w ms (cut_of o true) ∙ after-kept t o)) left);
-    }
-
 -- all messages were answered
 all_go_on : {stood : State → Type 0} (x : Scene) (w : List Moment) (input : List ℕ) (count : ℕ)
-    → StoodAtEnd stood w → ServesAll x (after start w) input count → EndsWithMessages x.stands w input
-all_go_on x w input count here all = record {
-  carried = all.messages;
-  rest = all.rest;
-  begins = all.answered.begins;
-  all = all.ends;
-  ends = stands-messages x.stands w all.messages here all.left;
+    → ((u : State) → x.stands u → x.leaves u u)
+    → StandsAtEnd stood w → ServesAll x (after start w) input count → EndsWithMessages x w input count
+all_go_on x w input count settled here all = record {
+  all = all;
+  ends = ends-with x.stands x.leaves w (asks_in all.messages) settled here (in-limits all.messages)
+      (subst x.stands (leads (after start w) all.messages) all.left);
 }
 
--- the book stands behind the next message
-behind : {stood : State → Type 0} (x : Scene) (w : List Moment) (ms : List Message) (m : Message)
-    → StoodAtEnd stood w → x.stands (state_after (state_after_all (after start w) ms) m)
-    → StandsAtEnd x.stands (with_messages w (ms ++ m ∷ []) [])
-behind x w ms m here now =
-    stands-messages x.stands w (ms ++ m ∷ []) here (subst x.stands (sym (after_more (after start w) ms m)) now)
+-- these messages were carried out, and no other came
+abbrev stops-after : {stood : State → Type 0} (x : Scene) (w : List Moment) (ms : List Message)
+    → ((u : State) → x.stands u → x.leaves u u) → StandsAtEnd stood w
+    → x.stands (state_after_all (after start w) ms)
+    → EndsAmong x.stands x.leaves w (asks_in (ms ++ [])) false
+stops-after x w ms settled here now =
+    ends-after x.stands x.leaves w (asks_in (ms ++ [])) (asks_in ms) [] settled here
+    (ap asks_in (append-nil ms) ∙ sym (append-nil (asks_in ms))) (in-limits ms)
+    (subst x.stands (leads (after start w) ms) now)
 
+-- the next one was carried out too
+abbrev stops-with : {stood : State → Type 0} (x : Scene) (w : List Moment) (ms : List Message) (m : Message)
+    → ((u : State) → x.stands u → x.leaves u u) → StandsAtEnd stood w
+    → x.stands (state_after (state_after_all (after start w) ms) m)
+    → EndsAmong x.stands x.leaves w (asks_in (ms ++ m ∷ [])) false
+stops-with x w ms m settled here now =
+    let all = asks_in (ms ++ m ∷ []) in
+    ends-after x.stands x.leaves w all all [] settled here (sym (append-nil all)) (in-limits (ms ++ m ∷ []))
+    (subst x.stands (leads (after start w) (ms ++ m ∷ []))
+    (subst x.stands (sym (after_more (after start w) ms m)) now))
+
+-- what a crash leaves of the next one
+message-cut : (leaves : State → State → Type 0) (s : State) (ms : List Message) (m : Message)
+    → leaves (state_after_all s ms) (state_after (state_after_all s ms) m)
+    → leaves (runs.state_after s (asks_in ms)) (runs.state_after s (asks_in ms ++ asks_in (m ∷ [])))
+message-cut leaves s ms m left =
+    let both : runs.state_after s (asks_in ms ++ asks_in (m ∷ [])) ≡ state_after (state_after_all s ms) m =
+    ap (runs.state_after s) (sym (asks_in-append ms (m ∷ [])))
+    ∙ sym (leads s (ms ++ m ∷ [])) ∙ after_more s ms m in
+    subst (λ t. leaves t (runs.state_after s (asks_in ms ++ asks_in (m ∷ [])))) (leads s ms)
+    (subst (leaves (state_after_all s ms)) (sym both) left)
+
+-- it was cut off
+abbrev cuts : {stood : State → Type 0} (x : Scene) (w : List Moment) (ms : List Message) (m : Message)
+    → StandsAtEnd stood w
+    → x.leaves (state_after_all (after start w) ms) (state_after (state_after_all (after start w) ms) m)
+    → EndsAmong x.stands x.leaves w (asks_in (ms ++ m ∷ [])) true
+cuts x w ms m here left =
+    ends-cut x.stands x.leaves w (asks_in (ms ++ m ∷ [])) (asks_in ms) (asks_in (m ∷ [])) [] here
+    (asks_in-append ms (m ∷ []) ∙ sym (append-nil (asks_in ms ++ asks_in (m ∷ []))))
+    (one-asked (command_in m)) (KeepLimits-append (asks_in ms) (asks_in (m ∷ [])) (in-limits ms) (in-limits (m ∷ [])))
+    (message-cut x.leaves (after start w) ms m left)
+
+-- a fault ended it
 ends_by : {stood : State → Type 0} (x : Scene) (w : List Moment) (input rest : List ℕ) (fault : ServeFault)
-    (ms : List Message) (pages : List (List ℕ)) → StoodAtEnd stood w → BeginsWithAll input ms rest
-    → Leaves fault x (state_after_all (after start w) ms) pages rest → EndsAmongMessages x.stands x.leaves w input fault
-ends_by x w input rest Read ms pages here begins left =
-    record { carried = ms; rest = rest; begins = begins; ends = stands-messages x.stands w ms here left.1 }
-ends_by x w input rest Write ms pages here begins left = record {
-  carried = ms ++ left.0 ∷ [];
-  rest = left.1;
-  begins = begins_more input rest left.1 ms left.0 begins left.2;
-  ends = behind x w ms left.0 here left.3.4;
+    (ms : List Message) (pages : List (List ℕ)) → ((u : State) → x.stands u → x.leaves u u)
+    → StandsAtEnd stood w → Answered (after start w) input ms rest pages → stays_open ms ≡ true
+    → Leaves fault x (state_after_all (after start w) ms) pages rest → EndsAmongMessages x w input fault
+ends_by x w input rest Read ms pages settled here answered stays left = record {
+  some = record { messages = ms; rest = rest; pages = pages; answered = answered; stays = stays; leaves = left };
+  next = [];
+  comes = tt;
+  among = stops-after x w ms settled here left.1;
+  carried_out = refl;
+  under_way = refl;
 }
-ends_by x w input rest Memory ms pages here begins left =
+ends_by x w input rest Write ms pages settled here answered stays left = record {
+  some = record { messages = ms; rest = rest; pages = pages; answered = answered; stays = stays; leaves = left };
+  next = left.0 ∷ [];
+  comes = (left.1, left.2);
+  among = stops-with x w ms left.0 settled here left.3.4;
+  carried_out = (refl, refl);
+  under_way = refl;
+}
+ends_by x w input rest Memory ms pages settled here answered stays left =
     elim left.1 [
-      | inl now ↦ record { carried = ms; rest = rest; begins = begins; ends = stands-messages x.stands w ms here now }
+      | inl now ↦ record {
+        some = record { messages = ms; rest = rest; pages = pages; answered = answered; stays = stays; leaves = left };
+        next = [];
+        comes = tt;
+        among = stops-after x w ms settled here now;
+        carried_out = inl refl;
+        under_way = refl;
+      }
       | inr next ↦ record {
-        carried = ms ++ next.0 ∷ [];
-        rest = next.1;
-        begins = begins_more input rest next.1 ms next.0 begins next.2;
-        ends = behind x w ms next.0 here next.3;
+        some = record { messages = ms; rest = rest; pages = pages; answered = answered; stays = stays; leaves = left };
+        next = next.0 ∷ [];
+        comes = (next.1, next.2);
+        among = stops-with x w ms next.0 settled here next.3;
+        carried_out = inr refl;
+        under_way = refl;
       }
     ]
-ends_by x w input rest Store ms pages here begins left = record {
-  carried = ms;
-  rest = rest;
-  begins = begins;
-  ends = (left.1.0, left.1.1, left.1.2, cuts-message x.leaves w ms left.1.0 here left.1.3);
+ends_by x w input rest Store ms pages settled here answered stays left = record {
+  some = record { messages = ms; rest = rest; pages = pages; answered = answered; stays = stays; leaves = left };
+  next = left.1.0 ∷ [];
+  comes = (left.1.1, left.1.2);
+  among = cuts x w ms left.1.0 here left.1.3;
+  carried_out = refl;
+  under_way = (refl, refl);
 }
 
 -- What was served, as a world.
 
 -- at Ok it goes on with all messages, up to and with the first that closes
 pub messages_go_on : {stood : State → Type 0} (x : Scene) (known : Option (List ℕ)) (r : Result Served ServeFault)
+    → ((u : State) → x.stands u → x.leaves u u)
     → ((s : State) → stood s → IfSome known (λ input. IfOk r (λ served. ServesAll x s input served.pages)))
-    → IfSome known (λ input. OnOk r (GoesOnWithMessages stood x.stands input))
-messages_go_on x None r each = tt
-messages_go_on x (Some input) (Ok served) each =
-    λ w here. all_go_on x w input served.pages here (each (after start w) here.stood_there)
-messages_go_on x (Some input) (Err fault) each = tt
+    → IfSome known (λ input. IfOk r (λ served. GoesOnWithMessages stood x input served.pages))
+messages_go_on x None r settled each = tt
+messages_go_on x (Some input) (Ok served) settled each =
+    λ w here. all_go_on x w input served.pages settled here (each (after start w) here.stands_there)
+messages_go_on x (Some input) (Err fault) settled each = tt
 
--- at a fault with a front of them
+-- at a fault with a prefix of them
 pub messages_stop : {stood : State → Type 0} (x : Scene) (known : Option (List ℕ)) (r : Result Served ServeFault)
+    → ((u : State) → x.stands u → x.leaves u u)
     → ((s : State) → stood s → IfSome known (λ input. IfErr r (ServesSome x s input)))
-    → IfSome known (λ input. IfErr r (GoesOnAmongMessages stood x.stands x.leaves input))
-messages_stop x None r each = tt
-messages_stop x (Some input) (Ok served) each = tt
-messages_stop x (Some input) (Err fault) each =
+    → IfSome known (λ input. IfErr r (GoesOnAmongMessages stood x input))
+messages_stop x None r settled each = tt
+messages_stop x (Some input) (Ok served) settled each = tt
+messages_stop x (Some input) (Err fault) settled each =
     λ w here.
-    let some = each (after start w) here.stood_there in
-    ends_by x w input some.rest fault some.messages some.pages here some.answered.begins some.leaves
+    let some = each (after start w) here.stands_there in
+    ends_by x w input some.rest fault some.messages some.pages settled here some.answered some.stays some.leaves

@@ -1,10 +1,10 @@
 -- What the answer to a message is, and where it leaves the book.
 use Rattle.std.specs.Prelude.{◌≡◌, ◌⊎◌, ℕ, List, Result, Ok, Err}
 use Rattle.ledger.specs.Answer.{State}
-use Rattle.messages.specs.Heads.{Parts, complaint_of}
-use Rattle.messages.specs.Messages.{Message}
-use Rattle.pages.specs.Pages.{page_said}
-use Rattle.pages.specs.declared.answers.Page.{Page}
+use Rattle.http_messages.specs.Heads.{Parts, complaint_of}
+use Rattle.http_messages.specs.Messages.{Message}
+use Rattle.http_pages.specs.Pages.{page_said}
+use Rattle.http_pages.specs.declared.answers.Page.{Page}
 use Rattle.desk_http.specs.Demands.{Demand, demand_of}
 use Rattle.desk_http.specs.Pages.{IsPage, Says, SaysUnless, closes, command_by, command_unless, state_after, state_by}
 use Rattle.desk_http.specs.declared.answering.Answer.{Answer}

@@ -4,11 +4,11 @@ use Rattle.std.specs.Str.{is_utf8}
 use Rattle.serde_json.specs.Data.{Data}
 use Rattle.serde_json.specs.Read.{read}
 use Rattle.allotment.specs.Texts.{line_feed}
-use Rattle.plan.specs.Planned.{Planned}
+use Rattle.plan.specs.PlanModel.{Planned}
 use Rattle.plan.specs.PlanJson.{plan_in_json}
 use Rattle.plan.specs.declared.faults.BadPlan.{BadPlan}
-use Rattle.commands.specs.Asked.{Asked}
-use Rattle.commands.specs.Batched.{Batched}
+use Rattle.commands.specs.Asks.{Asked}
+use Rattle.commands.specs.BatchData.{Batched}
 use Rattle.commands.specs.Request as asks
 use Rattle.commands.specs.Request.{Request}
 use Rattle.commands.specs.declared.refusals.Refusal.{Refusal}
@@ -16,12 +16,12 @@ use Rattle.commands.specs.declared.refusals.Refusal.TheVariants as refusal
 use Rattle.allotment_csv.specs.Files.{batch_of}
 use Rattle.allotment_csv.specs.declared.faults.CsvFault.{CsvFault}
 use Rattle.allotment_csv.specs.declared.faults.CsvFault.TheVariants as csv
-use Rattle.messages.specs.Heads.{Parts, agent_of, is_method, key_of}
-use Rattle.pages.specs.Admitting.{admitted, plain}
-use Rattle.pages.specs.Routes.{route_of}
-use Rattle.pages.specs.declared.admitting.Denied.{Denied}
-use Rattle.pages.specs.declared.routes.Route.{Route}
-use Rattle.pages.specs.declared.routes.Route.TheVariants.{LoadBatch, Begin, Step, Abort, Save, ShowJourney, ShowUnfinished, ShowStock}
+use Rattle.http_messages.specs.Heads.{Parts, agent_of, is_method, key_of}
+use Rattle.http_pages.specs.Admitting.{admitted, plain}
+use Rattle.http_pages.specs.Routes.{route_of}
+use Rattle.http_pages.specs.declared.admitting.Denied.{Denied}
+use Rattle.http_pages.specs.declared.routes.Route.{Route}
+use Rattle.http_pages.specs.declared.routes.Route.TheVariants.{LoadBatch, Begin, Step, Abort, Save, ShowJourney, ShowUnfinished, ShowStock}
 
 -- What a body says.
 

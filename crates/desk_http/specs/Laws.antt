@@ -2,7 +2,7 @@
 use Rattle.std.specs.Prelude.{◌≡◌, ℕ, List, Some, is_some, IsTrue}
 use Rattle.ledger.specs.Answer.{State, outcome}
 use Rattle.ledger.specs.World.{Moment, after}
-use Rattle.messages.specs.Messages.{Message}
+use Rattle.http_messages.specs.Messages.{Message}
 use Rattle.desk_http.specs.Pages.{Command, IsPage, command_in, state_after}
 
 -- the message asks for a command, which makes an event

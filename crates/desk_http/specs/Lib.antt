@@ -1,5 +1,5 @@
 pub mod Demands
-pub mod Told
+pub mod DemandValues
 pub mod Pages
 pub mod Answering
 pub mod Serving

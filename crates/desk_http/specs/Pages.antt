@@ -2,21 +2,21 @@
 use Rattle.std.specs.Prelude.{◌≡◌, ℕ, ◌||◌, not, Bool, true, false, List, [], ◌∷◌, filter, filter_map, bytes_eq, codes, if◌then◌else◌, Option, Some, None, is_some, option_and_then, Result, Ok, Err}
 use Rattle.allotment.specs.declared.cells.Cell.{Cell}
 use Rattle.allotment.specs.declared.places.Held.{Held}
-use Rattle.commands.specs.Asked.{Asked}
+use Rattle.commands.specs.Asks.{Asked}
 use Rattle.commands.specs.Request.{Request}
 use Rattle.commands.specs.declared.refusals.Refusal.{Refusal}
 use Rattle.commands.specs.declared.refusals.Refusal.TheVariants.{BadHead, NoJourney}
 use Rattle.ledger.specs.Answer.{State, outcome}
 use Rattle.ledger.specs.History.{is_finished}
 use Rattle.ledger.specs.Ledger.{Event, history, numbers}
-use Rattle.saga_core.specs.Shown.{IsStock, record_of, unfinished_of}
+use Rattle.saga_core.specs.Views.{IsStock, record_of, unfinished_of}
 use Rattle.saga_core.specs.declared.records.Brief.{Brief}
 use Rattle.saga_core.specs.declared.records.Record.{Record}
-use Rattle.messages.specs.Heads.{Parts, asks_to_close, complaint_of, is_method, parts_of}
-use Rattle.messages.specs.Messages.{Message, NoHead, Asks}
-use Rattle.pages.specs.Bodies.{journey_data, unfinished_data}
-use Rattle.pages.specs.Pages.{Paged, denied_page, page_text, refused_page, reply_page, report_page, value_page}
-use Rattle.pages.specs.declared.admitting.Denied.{Denied}
+use Rattle.http_messages.specs.Heads.{Parts, asks_to_close, complaint_of, is_method, parts_of}
+use Rattle.http_messages.specs.Messages.{Message, NoHead, Asks}
+use Rattle.http_pages.specs.Bodies.{journey_data, unfinished_data}
+use Rattle.http_pages.specs.Pages.{Paged, denied_page, page_text, refused_page, reply_page, report_page, value_page}
+use Rattle.http_pages.specs.declared.admitting.Denied.{Denied}
 use Rattle.reports.specs.Layouts.{stock_report}
 use Rattle.desk_http.specs.Demands.{Demand, Carry, SeeJourney, SeeUnfinished, SeeStock, demand_of}
 

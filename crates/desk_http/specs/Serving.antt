@@ -2,9 +2,9 @@
 use Rattle.std.specs.Prelude.{◌≡◌, ◌⊎◌, ℕ, true, List, [], ◌∷◌, ◌++◌, length, take}
 use Rattle.std.specs.List.{concat}
 use Rattle.ledger.specs.Answer.{State}
-use Rattle.messages.specs.declared.faults.ReadFault.{ReadFault}
-use Rattle.messages.specs.declared.faults.ReadFault.TheVariants as reading
-use Rattle.messages.specs.Messages.{Message, BeginsWith, BeginsWithAll, HasNoMessage}
+use Rattle.http_messages.specs.declared.faults.ReadFault.{ReadFault}
+use Rattle.http_messages.specs.declared.faults.ReadFault.TheVariants as reading
+use Rattle.http_messages.specs.Messages.{Message, BeginsWith, BeginsWithAll, HasNoMessage}
 use Rattle.desk_http.specs.Pages.{ArePages, IsPage, closes, state_after, state_after_all, stays_open}
 use Rattle.protocols.specs.Scenes.{Scene, Wrote}
 use Rattle.protocols.specs.declared.faults.ServeFault.{ServeFault}

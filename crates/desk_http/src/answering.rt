@@ -2,18 +2,18 @@
 ghost use Rattle.std.specs.Prelude.{◌≡◌, ◌||◌, ℕ, List, is_some, IfErr, IfOk, IsErrOf, IsTrue};
 ghost use Rattle.ledger.specs.Answer.{State};
 ghost use Rattle.saga_core.specs.Books.{LeavesNoMore};
-ghost use Rattle.messages.specs.Asked.{IsRequest, IsTaken};
-ghost use Rattle.messages.specs.Heads.{Parts};
-ghost use Rattle.messages.specs.Messages as sent;
-ghost use Rattle.pages.specs.Pages.{page_said, page_text};
+ghost use Rattle.http_messages.specs.Requests.{IsRequest, IsTaken};
+ghost use Rattle.http_messages.specs.Heads.{Parts};
+ghost use Rattle.http_messages.specs.Messages as sent;
+ghost use Rattle.http_pages.specs.Pages.{page_said, page_text};
 ghost use Rattle.desk_http.specs.Answering.{Answers, Meets, Tells};
-ghost use Rattle.desk_http.specs.Told.{demand_said};
+ghost use Rattle.desk_http.specs.DemandValues.{demand_said};
 
 use crate::demands::{Demand, Unmet, demand_in};
 use crate::showing::{see_journey, see_stock, see_unfinished};
 use commands::Refusal;
-use messages::{Message, Request};
-use pages::{Page, Paths, denied_page, page_bytes, refused_page, reply_page};
+use http_messages::{Message, Request};
+use http_pages::{Page, Paths, denied_page, page_bytes, refused_page, reply_page};
 use protocols::ServeFault;
 use saga_core::Book;
 use std::alloc::Global;

@@ -3,7 +3,7 @@ ghost use Rattle.std.specs.Prelude.{◌≡◌, IfOk};
 ghost use Rattle.commands.specs.Orders.{request_of};
 ghost use Rattle.allotment_csv.specs.Files.{batch_of};
 ghost use Rattle.desk_http.specs.Demands.{bare, begin_by, load_of, value_in};
-ghost use Rattle.desk_http.specs.Told.{AsksFor, ReadsAs};
+ghost use Rattle.desk_http.specs.DemandValues.{AsksFor, ReadsAs};
 
 use crate::demands::Unmet;
 use allotment_csv::{CsvFault, read_batch};

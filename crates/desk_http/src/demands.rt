@@ -1,17 +1,17 @@
 //! What a request asks of the desk.
 ghost use Rattle.std.specs.Prelude.{◌≡◌, List, ℕ};
-ghost use Rattle.messages.specs.Asked.{IsRequest};
-ghost use Rattle.messages.specs.Heads.{Parts};
-ghost use Rattle.pages.specs.Admitting.{plain};
+ghost use Rattle.http_messages.specs.Requests.{IsRequest};
+ghost use Rattle.http_messages.specs.Heads.{Parts};
+ghost use Rattle.http_pages.specs.Admitting.{plain};
 ghost use Rattle.desk_http.specs.Demands.{demand_of, demanded};
-ghost use Rattle.desk_http.specs.Told.{Demands, denied_by, sender_said};
+ghost use Rattle.desk_http.specs.DemandValues.{Demands, denied_by, sender_said};
 ghost use Rattle.desk_http.specs.declared.demands.Unmet.TheVariants.{Memory, Refused};
 
 use crate::bodies::{bare, begin, load};
 use crate::senders::Sender;
 use commands::{Agent, Ask, Command, Refusal};
-use messages::Request;
-use pages::{Denied, Paths, Route, admit};
+use http_messages::Request;
+use http_pages::{Denied, Paths, Route, admit};
 use std::alloc::{AllocError, Global};
 
 /// What a request asks for, once all is well with it.

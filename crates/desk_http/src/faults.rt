@@ -3,7 +3,7 @@ ghost use Rattle.std.specs.Prelude.{◌≡◌};
 ghost use Rattle.protocols.specs.Faults.{IsOfReading};
 ghost use Rattle.desk_http.specs.Serving.{fault_of_reading};
 
-use messages::ReadFault;
+use http_messages::ReadFault;
 use protocols::ServeFault;
 
 /// The fault of serving, where reading a message failed.

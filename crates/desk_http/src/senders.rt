@@ -2,7 +2,7 @@
 ghost use Rattle.std.specs.Prelude.{◌≡◌, IfOk, Ok};
 ghost use Rattle.commands.specs.Orders.{request_of};
 ghost use Rattle.desk_http.specs.Demands.{carried, text_of};
-ghost use Rattle.desk_http.specs.Told.{Demands, denied_by, sender_said};
+ghost use Rattle.desk_http.specs.DemandValues.{Demands, denied_by, sender_said};
 
 use crate::demands::{Demand, Unmet};
 use commands::{Agent, Ask, Command, Key, Refusal};

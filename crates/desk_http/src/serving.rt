@@ -1,8 +1,8 @@
 //! Serving a connection.
-ghost use Rattle.std.specs.Prelude.{◌≡◌, IfOk, IfErr, IfSome, IsErrOf, IsTrue, OnOk};
+ghost use Rattle.std.specs.Prelude.{◌≡◌, IfOk, IfErr, IfSome, IsErrOf, IsTrue};
 ghost use Rattle.ledger.specs.Answer.{State};
 ghost use Rattle.saga_core.specs.Books.{LeavesNoMore};
-ghost use Rattle.messages.specs.Reading.{IsNext, to_come};
+ghost use Rattle.http_messages.specs.Reading.{IsNext, to_come};
 ghost use Rattle.protocols.specs.Faults.{IsOfReading};
 ghost use Rattle.protocols.specs.Scenes.{scene};
 ghost use Rattle.desk_http.specs.Serving.{ServesAll, ServesSome};
@@ -10,8 +10,8 @@ ghost use Rattle.desk_http.specs.Worlds.{GoesOnWithMessages, GoesOnAmongMessages
 
 use crate::answering::answer_to;
 use crate::faults::reading_fault;
-use messages::{Incoming, Message};
-use pages::Paths;
+use http_messages::{Incoming, Message};
+use http_pages::Paths;
 use protocols::ServeFault;
 use recovery::Ready;
 use saga_core::Book;
@@ -47,9 +47,13 @@ pub fn serve<R: Read, W: Write, B: Book>(
         (B.stands book.new) (B.leaves book.new)) s input)) }
 
     ensures world { B.is_sound book.new → IfSome (R.remaining reader.old) (λ input.
-        OnOk result (GoesOnWithMessages (B.stands book.old) (B.stands book.new) input)) }
+        IfOk result (λ served. GoesOnWithMessages (B.stands book.old)
+        (scene (W.contents writer.old) (W.contents writer.new)
+        (B.stands book.new) (B.leaves book.new)) input served.pages)) }
     ensures world_at_fault { B.is_sound book.new → IfSome (R.remaining reader.old) (λ input.
-        IfErr result (GoesOnAmongMessages (B.stands book.old) (B.stands book.new) (B.leaves book.new) input)) }
+        IfErr result (GoesOnAmongMessages (B.stands book.old)
+        (scene (W.contents writer.old) (W.contents writer.new)
+        (B.stands book.new) (B.leaves book.new)) input)) }
     ensures failed { IsErrOf result ServeFault.Store → IsTrue (B.has_failed book.new) }
     ensures stays_failed { IsTrue (B.has_failed book.old) → IsTrue (B.has_failed book.new) }
     ensures stays_left { IsTrue (B.has_failed book.old) →

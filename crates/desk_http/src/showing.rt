@@ -2,13 +2,13 @@
 ghost use Rattle.std.specs.Prelude.{◌≡◌, IfOk, IsErrOf, IsTrue};
 ghost use Rattle.ledger.specs.Answer.{State};
 ghost use Rattle.saga_core.specs.Books.{LeavesNoMore};
-ghost use Rattle.pages.specs.Pages.{page_said, value_page};
-ghost use Rattle.pages.specs.Bodies.{unfinished_data};
+ghost use Rattle.http_pages.specs.Pages.{page_said, value_page};
+ghost use Rattle.http_pages.specs.Bodies.{unfinished_data};
 ghost use Rattle.desk_http.specs.Pages.{journey_page, own_journey, own_unfinished, ShowsStock};
 ghost use Rattle.desk_http.specs.Answering.{Shows};
 
 use commands::{Agent, Refusal};
-use pages::{Body, Page, journey_body, refused_page, shown_page, unfinished_body};
+use http_pages::{Body, Page, journey_body, refused_page, shown_page, unfinished_body};
 use protocols::ServeFault;
 use reports::stock_text;
 use saga_core::{Book, Brief, Listed};

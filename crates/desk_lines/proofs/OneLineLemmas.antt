@@ -14,7 +14,7 @@ use Rattle.allotment.specs.declared.cells.Row.{Row}
 use Rattle.allotment.proofs.LawLemmas.{cell_again, cell_read, is_sound}
 use Rattle.allotment.proofs.PlainLemmas.{is_plain, is_plain_byte, letter_plain, code_plain, night_plain}
 use Rattle.allotment.proofs.TestLemmas.{keep_if_some, keep_if_yes, same_bytes}
-use Rattle.plan.specs.Planned.{Planned}
+use Rattle.plan.specs.PlanModel.{Planned}
 use Rattle.plan.specs.PlanLine.{plan_in, plan_line}
 use Rattle.plan.specs.declared.faults.BadPlan.{BadPlan}
 use Rattle.plan.proofs.ReadLemmas.{read_is_spelled}

@@ -1,18 +1,19 @@
 -- How a world goes on with the lines of an input. For run_lines.
-use Rattle.std.proofs.Common.{◌≡◌, ◌∙◌, ap, sym, subst, refl, inl, inr, List, [], ◌∷◌, ◌++◌, ℕ, Bool, true, false, append_assoc, IsTrue}
+use Rattle.std.proofs.Common.{◌≡◌, ◌≤◌, ◌∙◌, ap, sym, subst, refl, inl, inr, arith, List, [], ◌∷◌, ◌++◌, ℕ, Bool, true, false, length, append_assoc, IsTrue}
 use Rattle.std.specs.Prelude.{Option, Some, None, Result, Ok, Err, IfOk, IfErr, IfSome, OnOk, if◌then◌else◌}
 use Rattle.commands.specs.Request.{Request, Load, Begin, Step, Abort, Stop, Save}
 use Rattle.commands.specs.declared.refusals.Refusal.TheVariants.{BadBody}
 use Rattle.ledger.specs.Answer.{State, start, is_request}
-use Rattle.ledger.specs.World.{Moment, after, GoesOn, IsWorld}
-use Rattle.saga_core.specs.Worlds.{StandsAtEnd, StoodAtEnd}
-use Rattle.saga_core.proofs.WorldLemmas.{after-append, GoesOn-append}
-use Rattle.desk_lines.specs.Lines.{IsLineOf, Meaning, answer_line, answer_to, is_readable, lines, meaning_in, state_after_lines, text_meaning}
+use Rattle.ledger.specs.World.{Moment, after}
+use Rattle.saga_core.specs.Runs.{Asks, state_after}
+use Rattle.saga_core.specs.Worlds.{KeepLimits, StandsAtEnd, EndsWith, EndsAmong, GoesOnWith}
+use Rattle.saga_core.proofs.WorldLemmas.{KeepLimits-append, ends-with, ends-after, ends-cut}
 use Rattle.protocols.specs.Scenes.{Scene}
-use Rattle.desk_lines.specs.Serving.{AnswersAll, AnswersSome, Leaves}
-use Rattle.desk_lines.specs.Worlds.{done_of, dones_of, cut_of, with_lines, CutsLine, EndsAmongLines, GoesOnWithLines, GoesOnAmongLines}
 use Rattle.protocols.specs.declared.faults.ServeFault.{ServeFault}
 use Rattle.protocols.specs.declared.faults.ServeFault.TheVariants.{Memory, Read, Store, Write}
+use Rattle.desk_lines.specs.Lines.{IsLineOf, Meaning, answer_line, answer_to, is_readable, lines, meaning_in, state_after_lines, text_meaning}
+use Rattle.desk_lines.specs.Serving.{AnswersAll, AnswersSome, Leaves}
+use Rattle.desk_lines.specs.Worlds.{asks_meant, asks_in, EndsAmongLines, GoesOnAmongLines}
 use Rattle.desk_lines.proofs.OneLineLemmas.{meant_is_line}
 use Rattle.desk_lines.proofs.ServeLemmas.{after_more}
 
@@ -45,177 +46,165 @@ asked_in_limits line request false is means =
 limits_of : (line : List ℕ) (request : Request) → meaning_in line ≡ Ok request → IsTrue (is_request request)
 limits_of line request = asked_in_limits line request (is_readable line) refl
 
--- Moments of lines.
+-- what lines ask for keeps the limits
+meant-in_limits : (m : Meaning) (rest : Asks) → ((request : Request) → m ≡ Ok request → IsTrue (is_request request))
+    → KeepLimits rest → KeepLimits (asks_meant m ++ rest)
+meant-in_limits (Ok request) rest limits all = (limits request refl, all)
+meant-in_limits (Err why) rest limits all = all
 
--- a line leads where its answer leads
-after-done : (s : State) (m : Meaning) (rest : List Moment)
-    → after s (done_of s m ++ rest) ≡ after (answer_to s m).after rest
-after-done s (Ok request) rest = refl
-after-done s (Err why) rest = refl
+in-limits : (ls : List (List ℕ)) → KeepLimits (asks_in ls)
+in-limits [] = tt
+in-limits (line ∷ ls) = meant-in_limits (meaning_in line) (asks_in ls) (limits_of line) (in-limits ls)
 
-after-dones : (s : State) (ls : List (List ℕ)) (last : List Moment)
-    → after s (dones_of s ls ++ last) ≡ after (state_after_lines s ls) last
-after-dones s [] last = refl
-after-dones s (line ∷ ls) last =
-    ap (after s) (append_assoc (done_of s (meaning_in line)) (dones_of (answer_line s line).after ls) last)
-    ∙ after-done s (meaning_in line) (dones_of (answer_line s line).after ls ++ last)
-    ∙ after-dones (answer_line s line).after ls last
+-- What lines ask for.
 
--- what goes on from there goes on behind the line
-GoesOn-done : (s : State) (m : Meaning) (rest : List Moment)
-    → ((request : Request) → m ≡ Ok request → IsTrue (is_request request))
-    → GoesOn (answer_to s m).after rest → GoesOn s (done_of s m ++ rest)
-GoesOn-done s (Ok request) rest limits on = (λ made. limits request refl, refl, on)
-GoesOn-done s (Err why) rest limits on = on
+-- lines and then others
+asks_in-append : (ls ms : List (List ℕ)) → asks_in (ls ++ ms) ≡ asks_in ls ++ asks_in ms
+asks_in-append [] ms = refl
+asks_in-append (line ∷ ls) ms =
+    ap (λ l. asks_meant (meaning_in line) ++ l) (asks_in-append ls ms)
+    ∙ sym (append_assoc (asks_meant (meaning_in line)) (asks_in ls) (asks_in ms))
 
-GoesOn-dones : (s : State) (ls : List (List ℕ)) (last : List Moment)
-    → GoesOn (state_after_lines s ls) last → GoesOn s (dones_of s ls ++ last)
-GoesOn-dones s [] last on = on
-GoesOn-dones s (line ∷ ls) last on =
-    subst (GoesOn s)
-    (sym (append_assoc (done_of s (meaning_in line)) (dones_of (answer_line s line).after ls) last))
-    (GoesOn-done s (meaning_in line) (dones_of (answer_line s line).after ls ++ last) (limits_of line)
-    (GoesOn-dones (answer_line s line).after ls last on))
+-- one line asks for at most one thing
+one-meant : (m : Meaning) → length (asks_meant m ++ []) ≤ 1
+one-meant (Ok request) = omega arith
+one-meant (Err why) = omega arith
 
--- nothing of a line that is cut off was kept
-after-lost : (s : State) (m : Meaning) → after s (cut_of m false) ≡ s
-after-lost s (Ok request) = refl
-after-lost s (Err why) = refl
+-- a line leads where what it asks for leads
+leads-meant : (s : State) (m : Meaning) (rest : Asks)
+    → state_after (answer_to s m).after rest ≡ state_after s (asks_meant m ++ rest)
+leads-meant s (Ok request) rest = refl
+leads-meant s (Err why) rest = refl
 
--- or all of it
-after-kept : (s : State) (m : Meaning) → after s (cut_of m true) ≡ (answer_to s m).after
-after-kept s (Ok request) = refl
-after-kept s (Err why) = refl
-
-GoesOn-cut : (s : State) (m : Meaning) (was_kept : Bool)
-    → ((request : Request) → m ≡ Ok request → IsTrue (is_request request)) → GoesOn s (cut_of m was_kept)
-GoesOn-cut s (Ok request) true limits = (λ made. limits request refl, refl, tt)
-GoesOn-cut s (Ok request) false limits = (λ made. limits request refl, refl, tt)
-GoesOn-cut s (Err why) was_kept limits = tt
+leads : (s : State) (ls : List (List ℕ)) → state_after_lines s ls ≡ state_after s (asks_in ls)
+leads s [] = refl
+leads s (line ∷ ls) = leads (answer_line s line).after ls ∙ leads-meant s (meaning_in line) (asks_in ls)
 
 -- Worlds that go on.
 
-world-lines : {stood : State → Type 0} (w : List Moment) (ls : List (List ℕ)) (last : List Moment)
-    → StoodAtEnd stood w → GoesOn (state_after_lines (after start w) ls) last → IsWorld (with_lines w ls last)
-world-lines w ls last here on =
-    GoesOn-append start w (dones_of (after start w) ls ++ last) here.world here.whole
-    (GoesOn-dones (after start w) ls last on)
-
-after-lines : (w : List Moment) (ls : List (List ℕ)) (last : List Moment)
-    → after start (with_lines w ls last) ≡ after (state_after_lines (after start w) ls) last
-after-lines w ls last =
-    after-append start w (dones_of (after start w) ls ++ last) ∙ after-dones (after start w) ls last
-
--- the book stands where the lines led
-stands-lines : {stood : State → Type 0} (stands : State → Type 0) (w : List Moment) (ls : List (List ℕ))
-    → StoodAtEnd stood w → stands (state_after_lines (after start w) ls) → StandsAtEnd stands (with_lines w ls [])
-stands-lines stands w ls here now = record {
-  world = world-lines w ls [] here tt;
-  stands_there = subst stands (sym (after-lines w ls [])) now;
-}
-
--- the next line is cut off
-cuts-line : {stood : State → Type 0} (leaves : State → State → Type 0) (w : List Moment)
-    (ls : List (List ℕ)) (line : List ℕ) → StoodAtEnd stood w
-    → leaves (state_after_lines (after start w) ls) (answer_line (state_after_lines (after start w) ls) line).after
-    → CutsLine leaves w ls line
-cuts-line leaves w ls line here left =
-    let t = state_after_lines (after start w) ls in
-    let m = meaning_in line in
-    record {
-      first = world-lines w ls (cut_of m false) here (GoesOn-cut t m false (limits_of line));
-      second = world-lines w ls (cut_of m true) here (GoesOn-cut t m true (limits_of line));
-      left = subst (λ s. leaves s (after start (with_lines w ls (cut_of m true))))
-          (sym (after-lines w ls (cut_of m false) ∙ after-lost t m))
-          (subst (leaves t) (sym (after-lines w ls (cut_of m true) ∙ after-kept t m)) left);
-    }
-
 -- all lines were answered
 all_go_on : {stood : State → Type 0} (x : Scene) (w : List Moment) (input : List ℕ) (count : ℕ)
-    → StoodAtEnd stood w → AnswersAll x (after start w) input count
-    → StandsAtEnd x.stands (with_lines w (lines input) [])
-all_go_on x w input count here all = stands-lines x.stands w (lines input) here all.left
+    → ((u : State) → x.stands u → x.leaves u u)
+    → StandsAtEnd stood w → AnswersAll x (after start w) input count
+    → EndsWith x.stands x.leaves w (asks_in (lines input))
+all_go_on x w input count settled here all =
+    ends-with x.stands x.leaves w (asks_in (lines input)) settled here (in-limits (lines input))
+    (subst x.stands (leads (after start w) (lines input)) all.left)
 
--- a fault came: the next line was not carried out
-stops_before : {stood : State → Type 0} (x : Scene) (w : List Moment) (input : List ℕ)
-    (answered later : List (List ℕ)) → StoodAtEnd stood w → lines input ≡ answered ++ later
-    → x.stands (state_after_lines (after start w) answered)
-    → (carried : List (List ℕ)) × (rest : List (List ℕ)) × (lines input ≡ carried ++ rest)
-    × StandsAtEnd x.stands (with_lines w carried [])
-stops_before x w input answered later here cut now =
-    (answered, later, cut, stands-lines x.stands w answered here now)
+-- these lines were carried out
+abbrev stops-after : {stood : State → Type 0} (x : Scene) (w : List Moment) (input : List ℕ)
+    (carried later : List (List ℕ)) → ((u : State) → x.stands u → x.leaves u u)
+    → StandsAtEnd stood w → lines input ≡ carried ++ later
+    → x.stands (state_after_lines (after start w) carried)
+    → EndsAmong x.stands x.leaves w (asks_in (lines input)) false
+stops-after x w input carried later settled here cut now =
+    ends-after x.stands x.leaves w (asks_in (lines input)) (asks_in carried) (asks_in later) settled here
+    (ap asks_in cut ∙ asks_in-append carried later) (in-limits carried)
+    (subst x.stands (leads (after start w) carried) now)
 
--- or it was
-stops_behind : {stood : State → Type 0} (x : Scene) (w : List Moment) (input : List ℕ)
-    (answered : List (List ℕ)) (line : List ℕ) (later : List (List ℕ)) → StoodAtEnd stood w
+-- a line more
+one-more : (input : List ℕ) (answered : List (List ℕ)) (line : List ℕ) (later : List (List ℕ))
+    → lines input ≡ answered ++ line ∷ later → lines input ≡ (answered ++ line ∷ []) ++ later
+one-more input answered line later cut = cut ∙ sym (append_assoc answered (line ∷ []) later)
+
+-- what a crash leaves of the next line
+line-cut : (leaves : State → State → Type 0) (s : State) (answered : List (List ℕ)) (line : List ℕ)
+    → leaves (state_after_lines s answered) (answer_line (state_after_lines s answered) line).after
+    → leaves (state_after s (asks_in answered)) (state_after s (asks_in answered ++ asks_in (line ∷ [])))
+line-cut leaves s answered line left =
+    let both : state_after s (asks_in answered ++ asks_in (line ∷ []))
+    ≡ (answer_line (state_after_lines s answered) line).after =
+    ap (state_after s) (sym (asks_in-append answered (line ∷ [])))
+    ∙ sym (leads s (answered ++ line ∷ [])) ∙ after_more s answered line in
+    subst (λ t. leaves t (state_after s (asks_in answered ++ asks_in (line ∷ [])))) (leads s answered)
+    (subst (leaves (state_after_lines s answered)) (sym both) left)
+
+-- what its requests are among
+parted : (input : List ℕ) (answered : List (List ℕ)) (line : List ℕ) (later : List (List ℕ))
     → lines input ≡ answered ++ line ∷ later
-    → x.stands (answer_line (state_after_lines (after start w) answered) line).after
-    → (carried : List (List ℕ)) × (rest : List (List ℕ)) × (lines input ≡ carried ++ rest)
-    × StandsAtEnd x.stands (with_lines w carried [])
-stops_behind x w input answered line later here cut now = (
-  answered ++ line ∷ [],
-  later,
-  cut ∙ sym (append_assoc answered (line ∷ []) later),
-  stands-lines x.stands w (answered ++ line ∷ []) here
-      (subst x.stands (sym (after_more (after start w) answered line)) now),
-)
+    → asks_in (lines input) ≡ asks_in answered ++ asks_in (line ∷ []) ++ asks_in later
+parted input answered line later cut =
+    ap asks_in (one-more input answered line later cut) ∙ asks_in-append (answered ++ line ∷ []) later
+    ∙ ap (λ l. l ++ asks_in later) (asks_in-append answered (line ∷ []))
 
+-- a fault ended the run
 ends_by : {stood : State → Type 0} (x : Scene) (w : List Moment) (input : List ℕ) (fault : ServeFault)
-    (answered later : List (List ℕ)) → StoodAtEnd stood w → lines input ≡ answered ++ later
-    → Leaves fault x (after start w) answered later → EndsAmongLines x.stands x.leaves w input fault
-ends_by x w input Read answered later here cut left =
-    let e = stops_before x w input answered later here cut left.1 in
-    record { carried = e.0; later = e.1; front = e.2; ends = e.3 }
-ends_by x w input Write answered [] here cut left = absurd left
-ends_by x w input Write answered (line ∷ later) here cut left =
-    let e = stops_behind x w input answered line later here cut left.2 in
-    record { carried = e.0; later = e.1; front = e.2; ends = e.3 }
-ends_by x w input Memory answered [] here cut left =
+    (answered later : List (List ℕ)) → ((u : State) → x.stands u → x.leaves u u)
+    → StandsAtEnd stood w → lines input ≡ answered ++ later
+    → Leaves fault x (after start w) answered later → EndsAmongLines x w input fault
+ends_by x w input Read answered later settled here cut left = record {
+  some = record { answered = answered; later = later; cut = cut; leaves = left };
+  among = stops-after x w input answered later settled here cut left.1;
+  carried_out = refl;
+  under_way = refl;
+}
+ends_by x w input Write answered [] settled here cut left = absurd left
+ends_by x w input Write answered (line ∷ later) settled here cut left = record {
+  some = record { answered = answered; later = line ∷ later; cut = cut; leaves = left };
+  among = stops-after x w input (answered ++ line ∷ []) later settled here
+      (one-more input answered line later cut)
+      (subst x.stands (sym (after_more (after start w) answered line)) left.2);
+  carried_out = refl;
+  under_way = refl;
+}
+ends_by x w input Memory answered [] settled here cut left =
     elim left.1 [
-      | inl now ↦
-          let e = stops_before x w input answered [] here cut now in
-          record { carried = e.0; later = e.1; front = e.2; ends = e.3 }
+      | inl now ↦ record {
+        some = record { answered = answered; later = []; cut = cut; leaves = left };
+        among = stops-after x w input answered [] settled here cut now;
+        carried_out = inl refl;
+        under_way = refl;
+      }
       | inr none ↦ absurd none
     ]
-ends_by x w input Memory answered (line ∷ later) here cut left =
+ends_by x w input Memory answered (line ∷ later) settled here cut left =
     elim left.1 [
-      | inl now ↦
-          let e = stops_before x w input answered (line ∷ later) here cut now in
-          record { carried = e.0; later = e.1; front = e.2; ends = e.3 }
-      | inr now ↦
-          let e = stops_behind x w input answered line later here cut now in
-          record { carried = e.0; later = e.1; front = e.2; ends = e.3 }
+      | inl now ↦ record {
+        some = record { answered = answered; later = line ∷ later; cut = cut; leaves = left };
+        among = stops-after x w input answered (line ∷ later) settled here cut now;
+        carried_out = inl refl;
+        under_way = refl;
+      }
+      | inr now ↦ record {
+        some = record { answered = answered; later = line ∷ later; cut = cut; leaves = left };
+        among = stops-after x w input (answered ++ line ∷ []) later settled here
+            (one-more input answered line later cut)
+            (subst x.stands (sym (after_more (after start w) answered line)) now);
+        carried_out = inr refl;
+        under_way = refl;
+      }
     ]
-ends_by x w input Store answered [] here cut left = absurd left.1
-ends_by x w input Store answered (line ∷ later) here cut left = record {
-  carried = answered;
-  later = line ∷ later;
-  front = cut;
-  ends = cuts-line x.leaves w answered line here left.1;
+ends_by x w input Store answered [] settled here cut left = absurd left.1
+ends_by x w input Store answered (line ∷ later) settled here cut left = record {
+  some = record { answered = answered; later = line ∷ later; cut = cut; leaves = left };
+  among = ends-cut x.stands x.leaves w (asks_in (lines input)) (asks_in answered) (asks_in (line ∷ []))
+      (asks_in later) here (parted input answered line later cut) (one-meant (meaning_in line))
+      (KeepLimits-append (asks_in answered) (asks_in (line ∷ [])) (in-limits answered) (in-limits (line ∷ [])))
+      (line-cut x.leaves (after start w) answered line left.1);
+  carried_out = refl;
+  under_way = refl;
 }
-
--- the first lines were answered, and on came a fault
-some_go_on : {stood : State → Type 0} (x : Scene) (w : List Moment) (input : List ℕ) (fault : ServeFault)
-    → StoodAtEnd stood w → AnswersSome x (after start w) input fault
-    → EndsAmongLines x.stands x.leaves w input fault
-some_go_on x w input fault here some = ends_by x w input fault some.answered some.later here some.cut some.leaves
 
 -- What a run answered, as a world.
 
 -- at Ok it goes on with all lines
 pub lines_go_on : {stood : State → Type 0} (x : Scene) (known : Option (List ℕ)) (r : Result ℕ ServeFault)
+    → ((u : State) → x.stands u → x.leaves u u)
     → ((s : State) → stood s → IfSome known (λ input. IfOk r (AnswersAll x s input)))
-    → IfSome known (λ input. OnOk r (GoesOnWithLines stood x.stands input))
-lines_go_on x None r each = tt
-lines_go_on x (Some input) (Ok count) each =
-    λ w here. all_go_on x w input count here (each (after start w) here.stood_there)
-lines_go_on x (Some input) (Err fault) each = tt
+    → IfSome known (λ input. OnOk r (GoesOnWith stood x.stands x.leaves (asks_in (lines input))))
+lines_go_on x None r settled each = tt
+lines_go_on x (Some input) (Ok count) settled each =
+    λ w here. all_go_on x w input count settled here (each (after start w) here.stands_there)
+lines_go_on x (Some input) (Err fault) settled each = tt
 
--- at a fault with a front of them
+-- at a fault with a prefix of them
 pub lines_stop : {stood : State → Type 0} (x : Scene) (known : Option (List ℕ)) (r : Result ℕ ServeFault)
+    → ((u : State) → x.stands u → x.leaves u u)
     → ((s : State) → stood s → IfSome known (λ input. IfErr r (AnswersSome x s input)))
-    → IfSome known (λ input. IfErr r (GoesOnAmongLines stood x.stands x.leaves input))
-lines_stop x None r each = tt
-lines_stop x (Some input) (Ok count) each = tt
-lines_stop x (Some input) (Err fault) each =
-    λ w here. some_go_on x w input fault here (each (after start w) here.stood_there)
+    → IfSome known (λ input. IfErr r (GoesOnAmongLines stood x input))
+lines_stop x None r settled each = tt
+lines_stop x (Some input) (Ok count) settled each = tt
+lines_stop x (Some input) (Err fault) settled each =
+    λ w here.
+    let some = each (after start w) here.stands_there in
+    ends_by x w input fault some.answered some.later settled here some.cut some.leaves

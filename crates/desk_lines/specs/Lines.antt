@@ -7,7 +7,7 @@ use Rattle.allotment.specs.Rows.{allotted}
 use Rattle.allotment.specs.Texts.{line_feed, blank, parts, keep_if, number_from, cell_in, cell_text, places_in}
 use Rattle.allotment.specs.declared.cells.Cell.{Cell}
 use Rattle.allotment.specs.declared.cells.Row.{Row}
-use Rattle.plan.specs.Planned.{Planned, is_plan}
+use Rattle.plan.specs.PlanModel.{Planned, is_plan}
 use Rattle.plan.specs.PlanLine.{plan_in, plan_line}
 use Rattle.plan.specs.declared.faults.BadPlan.{BadPlan}
 use Rattle.commands.specs.Batches.{is_batch}

@@ -1,64 +1,51 @@
 -- How a world goes on with the lines of an input: what each of them asks for, asked by the house and
 -- answered, and perhaps a last one that the store cut off.
-use Rattle.std.specs.Prelude.{◌≡◌, Bool, true, false, ℕ, List, [], ◌∷◌, ◌++◌, None, Ok, Err}
-use Rattle.ledger.specs.Answer.{State, start, outcome}
-use Rattle.ledger.specs.World.{Moment, Done, Cut, after}
-use Rattle.saga_core.specs.Worlds.{StandsAtEnd, LeavesEnd, StoodAtEnd}
-use Rattle.desk_lines.specs.Lines.{Meaning, answer_line, lines, meaning_in}
-use Rattle.desk_lines.specs.Serving.{ForNext}
+use Rattle.std.specs.Prelude.{◌≡◌, ◌⊎◌, ℕ, List, [], ◌∷◌, ◌++◌, None, Ok, Err}
+use Rattle.ledger.specs.Answer.{State, start}
+use Rattle.ledger.specs.World.{Moment, after}
+use Rattle.saga_core.specs.Runs.{Asks}
+use Rattle.saga_core.specs.Worlds.{StandsAtEnd, EndsAmong}
+use Rattle.desk_lines.specs.Lines.{Meaning, lines, meaning_in}
+use Rattle.desk_lines.specs.Serving.{AnswersSome, ForNext}
+use Rattle.protocols.specs.Faults.{is_store}
+use Rattle.protocols.specs.Scenes.{Scene}
 use Rattle.protocols.specs.declared.faults.ServeFault.{ServeFault}
 use Rattle.protocols.specs.declared.faults.ServeFault.TheVariants.{Memory, Store, Read, Write}
 
--- what a line asks for, answered; a line that is refused asks for nothing
-abbrev pub done_of : State → Meaning → List Moment
-done_of s (Ok request) = Done request None (outcome s None request).reply ∷ []
-done_of s (Err why) = []
+-- what a line asks for, asked by the house; a line that is refused asks for nothing
+abbrev pub asks_meant : Meaning → Asks
+asks_meant (Ok request) = (request, None) ∷ []
+asks_meant (Err why) = []
 
--- what these lines ask for, one after another, each answered
-abbrev pub dones_of : State → List (List ℕ) → List Moment
-dones_of s [] = []
-dones_of s (line ∷ later) =
-    done_of s (meaning_in line) ++ dones_of (answer_line s line).after later
+-- what these lines ask for, one after another
+abbrev pub asks_in : List (List ℕ) → Asks
+asks_in [] = []
+asks_in (line ∷ later) = asks_meant (meaning_in line) ++ asks_in later
 
--- what a line asks for is cut off by a stop
-abbrev pub cut_of : Meaning → Bool → List Moment
-cut_of (Ok request) was_kept = Cut request None was_kept ∷ []
-cut_of (Err why) was_kept = []
+-- what was carried out at a fault, where these lines were answered and these come later: what the answered lines ask
+-- for; where the answer to the next line could not be written, what that asks for too; and out of memory either
+abbrev pub IsCarriedOut : ServeFault → List (List ℕ) → List (List ℕ) → Asks → Type 0
+IsCarriedOut Read answered later carried = carried ≡ asks_in answered
+IsCarriedOut Write answered later carried =
+    ForNext later (λ line. carried ≡ asks_in (answered ++ line ∷ []))
+IsCarriedOut Memory answered later carried =
+    (carried ≡ asks_in answered) ⊎ ForNext later (λ line. carried ≡ asks_in (answered ++ line ∷ []))
+IsCarriedOut Store answered later carried = carried ≡ asks_in answered
 
--- the world goes on with these lines, each answered, and then with these moments
-abbrev pub with_lines : List Moment → List (List ℕ) → List Moment → List Moment
-with_lines w answered last = w ++ (dones_of (after start w) answered ++ last)
+-- what was under way then: where the store failed, what the next line asks for, and else nothing
+abbrev pub IsUnderWay : ServeFault → List (List ℕ) → Asks → Type 0
+IsUnderWay Store later under_way = ForNext later (λ line. under_way ≡ asks_in (line ∷ []))
+IsUnderWay _ later under_way = under_way ≡ []
 
--- each world at whose end the book stood goes on with all lines of the input
-abbrev pub GoesOnWithLines : (State → Type 0) → (State → Type 0) → List ℕ → Type 0
-GoesOnWithLines stood stands input =
-    (w : List Moment) → StoodAtEnd stood w → StandsAtEnd stands (with_lines w (lines input) [])
+-- the first lines were answered, and then came a fault: the world goes on among what the lines ask for, as far as that
+-- was carried out
+pub record EndsAmongLines (x : Scene) (w : List Moment) (input : List ℕ) (fault : ServeFault) : Type 0 where
+  pub some : AnswersSome x (after start w) input fault
+  pub among : EndsAmong x.stands x.leaves w (asks_in (lines input)) (is_store fault)
+  pub carried_out : IsCarriedOut fault some.answered some.later among.progress.answered
+  pub under_way : IsUnderWay fault some.later among.progress.under_way
 
--- whatever a stop leaves stands for the world's end before this line, or with it
-abbrev pub CutsLine : (State → State → Type 0) → List Moment → List (List ℕ) → List ℕ → Type 0
-CutsLine leaves w carried line =
-    LeavesEnd leaves (with_lines w carried (cut_of (meaning_in line) false))
-    (with_lines w carried (cut_of (meaning_in line) true))
-
--- where a world ends once these lines were carried out and these come later: there, and where the
--- store failed with the next one cut off
-abbrev pub EndsAtLine : ServeFault → (State → Type 0) → (State → State → Type 0) → List Moment
-    → List (List ℕ) → List (List ℕ) → Type 0
-EndsAtLine Store stands leaves w carried later = ForNext later (CutsLine leaves w carried)
-EndsAtLine Memory stands leaves w carried later = StandsAtEnd stands (with_lines w carried [])
-EndsAtLine Read stands leaves w carried later = StandsAtEnd stands (with_lines w carried [])
-EndsAtLine Write stands leaves w carried later = StandsAtEnd stands (with_lines w carried [])
-
--- a front of the lines was carried out, and the world ends with it, or with the next one cut off
-pub record EndsAmongLines (stands : State → Type 0) (leaves : State → State → Type 0)
-    (w : List Moment) (input : List ℕ) (fault : ServeFault) : Type 0 where
-  pub carried : List (List ℕ)
-  pub later : List (List ℕ)
-  pub front : lines input ≡ carried ++ later
-  pub ends : EndsAtLine fault stands leaves w carried later
-
--- each world at whose end the book stood goes on with a front of the lines
-abbrev pub GoesOnAmongLines : (State → Type 0) → (State → Type 0) → (State → State → Type 0)
-    → List ℕ → ServeFault → Type 0
-GoesOnAmongLines stood stands leaves input fault =
-    (w : List Moment) → StoodAtEnd stood w → EndsAmongLines stands leaves w input fault
+-- each world at whose end the book stood goes on so
+abbrev pub GoesOnAmongLines : (State → Type 0) → Scene → List ℕ → ServeFault → Type 0
+GoesOnAmongLines stood x input fault =
+    (w : List Moment) → StandsAtEnd stood w → EndsAmongLines x w input fault

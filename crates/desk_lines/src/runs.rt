@@ -5,7 +5,9 @@ ghost use Rattle.ledger.specs.Answer.{State};
 ghost use Rattle.saga_core.specs.Books.{LeavesNoMore};
 ghost use Rattle.protocols.specs.Scenes.{scene};
 ghost use Rattle.desk_lines.specs.Serving.{AnswersAll, AnswersSome};
-ghost use Rattle.desk_lines.specs.Worlds.{GoesOnWithLines, GoesOnAmongLines};
+ghost use Rattle.saga_core.specs.Worlds.{GoesOnWith};
+ghost use Rattle.desk_lines.specs.Lines.{lines};
+ghost use Rattle.desk_lines.specs.Worlds.{GoesOnAmongLines, asks_in};
 
 use crate::answers::answer;
 use crate::lines::Line;
@@ -38,9 +40,12 @@ pub fn run_lines<R: Read, W: Write, B: Book>(
         (B.stands book.new) (B.leaves book.new)) s input)) }
 
     ensures world { B.is_sound book.new → IfSome (R.remaining reader.old) (λ input.
-        OnOk result (GoesOnWithLines (B.stands book.old) (B.stands book.new) input)) }
+        OnOk result (GoesOnWith (B.stands book.old) (B.stands book.new) (B.leaves book.new)
+        (asks_in (lines input)))) }
     ensures world_at_fault { B.is_sound book.new → IfSome (R.remaining reader.old) (λ input.
-        IfErr result (GoesOnAmongLines (B.stands book.old) (B.stands book.new) (B.leaves book.new) input)) }
+        IfErr result (GoesOnAmongLines (B.stands book.old)
+        (scene (W.contents writer.old) (W.contents writer.new)
+        (B.stands book.new) (B.leaves book.new)) input)) }
     ensures failed { IsErrOf result ServeFault.Store → IsTrue (B.has_failed book.new) }
     ensures stays_failed { IsTrue (B.has_failed book.old) → IsTrue (B.has_failed book.new) }
     ensures stays_left { IsTrue (B.has_failed book.old) →

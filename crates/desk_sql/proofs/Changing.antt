@@ -17,7 +17,7 @@ use Rattle.desk_sql.specs.Schema.{stock_at, journey_at, step_at, mark_at}
 use Rattle.desk_sql.specs.Lists.{numbered_row, changed}
 use Rattle.desk_sql.specs.Rows.{whole, Tables, StockRow, stock_columns, JourneyRow, journey_row, StepRow, step_columns, MarkRow, mark_columns}
 use Rattle.desk_sql.specs.Calls.{MayRun, Makes}
-use Rattle.desk_sql.specs.Found.{is_numbered}
+use Rattle.desk_sql.specs.FoundRows.{is_numbered}
 use Rattle.desk_sql.specs.Changes.{moves_journey, with_cursor, marks_step, is_option, with_taken, drops_mark, is_mark_at}
 use Rattle.desk_sql.specs.Stock.{is_within, with_fewer, with_more, HaveFree, HaveRoom, takes_nights, gives_nights}
 use Rattle.desk_sql.specs.Texts.{move_journey_text, mark_step_text, delete_mark_text, shift_nights_text}

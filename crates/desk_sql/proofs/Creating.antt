@@ -52,5 +52,6 @@ creates sql old new before table (Ok count) is plain whole defined uncounted may
             (sym (ap (λ (d : Database). d.trees) now))
             (still before.tables (record table { tree = next_tree before }) old.now.trees first.0.trees start.empty others empty);
       };
+      sound = w.sound;
       committed = shown.committed_is;
     }

@@ -63,6 +63,7 @@ module _ (old new : State) (edit : Edit) (it : Edits old new edit) where
     sees = record {
       schema = it.schema;
       rows = shows_next rows after is (subst (λ t. Shows (with_tree db t rows) after) (sym at) shown);
+      sound = it.sound;
     };
     committed = it.shown.committed_is;
   }

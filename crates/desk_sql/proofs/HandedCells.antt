@@ -14,9 +14,9 @@ use Rattle.sqlite_trees.specs.Tree.{Trees}
 use Rattle.sqlite_trees.proofs.ListLemmas.{ascending_weaker}
 use Rattle.desk_sql.specs.Lists.{IsTableOf}
 use Rattle.desk_sql.specs.Rows.{whole, StockRow, stock_columns}
-use Rattle.desk_sql.specs.Found.{six_of}
+use Rattle.desk_sql.specs.FoundRows.{six_of}
 use Rattle.desk_sql.specs.Stock.{stock_of, cell_cmp, IsByCell, shows_cell}
-use Rattle.desk_sql.specs.Handing.{IsOnlyOrder, stock_shown}
+use Rattle.desk_sql.specs.RemainingRows.{IsOnlyOrder, stock_shown}
 use Rattle.desk_sql.specs.Meanings.{find_stock_query}
 use Rattle.desk_sql.specs.declared.stock.CellFound.{CellFound}
 use Rattle.desk_sql.proofs.Answering.{table_answers}

@@ -9,8 +9,8 @@ use Rattle.sqlite_trees.specs.Tree.{Trees}
 use Rattle.sqlite_trees.proofs.ListLemmas.{ascending-filter, ascending_weaker}
 use Rattle.desk_sql.specs.Lists.{IsNumbered, IsListed}
 use Rattle.desk_sql.specs.Rows.{whole, JourneyRow, journey_row}
-use Rattle.desk_sql.specs.Found.{journey_of, is_unfinished_after, shows_journey, nine_of}
-use Rattle.desk_sql.specs.Handing.{IsByNumber, journey_shown}
+use Rattle.desk_sql.specs.FoundRows.{journey_of, is_unfinished_after, shows_journey, nine_of}
+use Rattle.desk_sql.specs.RemainingRows.{IsByNumber, journey_shown}
 use Rattle.desk_sql.specs.Meanings.{first_unfinished_query, journey_project, rising}
 use Rattle.desk_sql.specs.declared.journeys.JourneyFound.{JourneyFound}
 use Rattle.desk_sql.proofs.Testing.{gt_whole, le_whole, and_true}

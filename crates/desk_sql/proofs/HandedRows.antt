@@ -17,7 +17,7 @@ use Rattle.desk_sql.specs.declared.versions.Version.{Version}
 use Rattle.desk_sql.specs.declared.versions.Version.TheVariants.{Two}
 use Rattle.desk_sql.specs.Schema.{schema_of}
 use Rattle.desk_sql.specs.Meanings.{select}
-use Rattle.desk_sql.specs.Handing.{HandsFirst, Hands, RunsOn, Rests}
+use Rattle.desk_sql.specs.RemainingRows.{HandsFirst, Hands, RunsOn, Rests}
 use Rattle.desk_sql.proofs.Meaning.{MeansEach}
 use Rattle.desk_sql.proofs.Selecting.{understood_bare}
 use Rattle.desk_sql.proofs.Finding.{whole_answer}

@@ -15,7 +15,7 @@ use Rattle.desk_sql.specs.Lists.{numbered_row}
 use Rattle.desk_sql.specs.Rows.{whole, Tables, BatchRow, batch_columns, JourneyRow, journey_row, StepRow, step_columns, EntryRow, entry_row, AnswerRow, answer_columns, mark_columns}
 use Rattle.desk_sql.specs.Calls.{MayRun, Makes}
 use Rattle.desk_sql.specs.Changes.{adds_batch, adds_journey, adds_step, adds_item, adds_answer, adds_mark}
-use Rattle.desk_sql.specs.Found.{item_of, mark_at_pos}
+use Rattle.desk_sql.specs.FoundRows.{item_of, mark_at_pos}
 use Rattle.desk_sql.specs.declared.items.ItemFound.{ItemFound}
 use Rattle.desk_sql.specs.Texts.{insert_batch_text, insert_journey_text, insert_step_text, insert_item_text, insert_answer_text, insert_mark_text}
 use Rattle.desk_sql.specs.Meanings.{insert_batch_terms, insert_journey_terms, insert_step_terms, insert_item_terms, insert_answer_terms, insert_mark_terms}

@@ -13,7 +13,7 @@ use Rattle.desk_sql.specs.declared.versions.Version.{Version}
 use Rattle.desk_sql.specs.declared.versions.Version.TheVariants.{Two}
 use Rattle.desk_sql.specs.Calls.{MaySee, MaySeeIn}
 use Rattle.desk_sql.specs.Queries.{GivesRow}
-use Rattle.desk_sql.specs.Found.{journey_of, is_numbered, is_unfinished_after, FindsJourney, FindsUnfinished, shows_journey, nine_of}
+use Rattle.desk_sql.specs.FoundRows.{journey_of, is_numbered, is_unfinished_after, FindsJourney, FindsUnfinished, shows_journey, nine_of}
 use Rattle.desk_sql.specs.Texts.{find_journey_text, first_unfinished_text}
 use Rattle.desk_sql.specs.Meanings.{find_journey_query, first_unfinished_query, journey_names, journey_project, rising}
 use Rattle.desk_sql.specs.declared.journeys.JourneyFound.{JourneyFound}

@@ -14,7 +14,7 @@ use Rattle.desk_sql.specs.Lists.{numbered_row}
 use Rattle.desk_sql.specs.Rows.{Tables, AnswerRow, answer_columns}
 use Rattle.desk_sql.specs.Calls.{MaySee}
 use Rattle.desk_sql.specs.Queries.{GivesRow}
-use Rattle.desk_sql.specs.Found.{is_for, answer_of, FindsAnswer, shows_answer, two_of}
+use Rattle.desk_sql.specs.FoundRows.{is_for, answer_of, FindsAnswer, shows_answer, two_of}
 use Rattle.desk_sql.specs.Texts.{find_answer_text}
 use Rattle.desk_sql.specs.Meanings.{find_answer_query, find_answer_names}
 use Rattle.desk_sql.specs.declared.answers.KeptAnswer.{KeptAnswer}

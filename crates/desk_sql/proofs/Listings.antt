@@ -14,7 +14,7 @@ use Rattle.desk_sql.specs.Rows.{whole, Tables, StepRow, step_columns, EntryRow, 
 use Rattle.desk_sql.specs.declared.versions.Version.{Version}
 use Rattle.desk_sql.specs.Calls.{MaySee, MaySeeIn}
 use Rattle.desk_sql.specs.Queries.{GivesRows}
-use Rattle.desk_sql.specs.Found.{step_of, is_step_of, IsByPlace, FindsSteps, is_option_of, FindsOptions, shows_step, ten_of, item_of, is_item_after, FindsItems, shows_item, four_of, mark_at_pos, is_mark_of, IsByPosition, FindsMarks}
+use Rattle.desk_sql.specs.FoundRows.{step_of, is_step_of, IsByPlace, FindsSteps, is_option_of, FindsOptions, shows_step, ten_of, item_of, is_item_after, FindsItems, shows_item, four_of, mark_at_pos, is_mark_of, IsByPosition, FindsMarks}
 use Rattle.desk_sql.specs.Texts.{find_steps_text, find_options_text, find_items_text, find_marks_text}
 use Rattle.desk_sql.specs.Meanings.{find_steps_query, find_steps_names, find_options_query, find_items_query, find_items_names, find_marks_query, find_marks_names}
 use Rattle.desk_sql.specs.declared.steps.StepFound.{StepFound}

@@ -12,7 +12,7 @@ use Rattle.desk_sql.specs.Lists.{numbered_row}
 use Rattle.desk_sql.specs.Rows.{whole, Tables, BatchRow, batch_columns}
 use Rattle.desk_sql.specs.Calls.{MaySee}
 use Rattle.desk_sql.specs.Queries.{GivesRow}
-use Rattle.desk_sql.specs.Found.{is_named, batch_of, FindsBatch, shows_batch, two_of}
+use Rattle.desk_sql.specs.FoundRows.{is_named, batch_of, FindsBatch, shows_batch, two_of}
 use Rattle.desk_sql.specs.Texts.{find_batch_text}
 use Rattle.desk_sql.specs.Meanings.{find_batch_query, find_batch_names}
 use Rattle.desk_sql.specs.declared.batches.BatchFound.{BatchFound}

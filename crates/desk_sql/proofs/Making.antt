@@ -4,6 +4,7 @@ use Rattle.sqlite_schema.specs.declared.schema.Schema.{Schema}
 use Rattle.sqlite.specs.Change.{created}
 use Rattle.sqlite.specs.declared.error.Error.{Error}
 use Rattle.sqlite.specs.Listing.{understood}
+use Rattle.sqlite.specs.Effect.{IsDatabase}
 use Rattle.sqlite.specs.State.{State, ExecutesInside}
 use Rattle.sqlite_tied.specs.Compute.{everything}
 use Rattle.desk_sql.specs.Texts.{meta_text, stock_text, batch_text, step_text, journey_text, entry_text, answer_text, entry2_text, mark_text}
@@ -86,7 +87,14 @@ then_build a b s it = record { inside = it.inside; empty = λ _. it.made }
 
 pub builds_then : (a b c : State) (s t : Schema) → Builds a b s → Builds b c t → Builds a c t
 builds_then a b c s t p q =
-    record { was_open = p.was_open; is_open = q.is_open; inside = q.inside; made = q.made; committed = q.committed ∙ p.committed }
+    record {
+      was_open = p.was_open;
+      is_open = q.is_open;
+      inside = q.inside;
+      made = q.made;
+      sound = q.sound;
+      committed = q.committed ∙ p.committed;
+    }
 
 no_rows_of : {X : Type 0} (columns : X → Row) (rows : List Row) → rows ≡ [] → IsTableOf columns rows []
 no_rows_of columns rows none = record { numbered = []; values_are = refl; rows_are = none; rise = tt }
@@ -95,8 +103,8 @@ no_values_of : {X : Type 0} (number : X → ℕ) (row_of : X → Row) (rows : Li
 no_values_of number row_of rows none = record { rows_are = none; rise = tt }
 
 -- empty tables show no rows
-pub sees_none : (s : State) → IsEmptyWith desk_schema s → Sees s no_rows
-sees_none s it =
+pub sees_none : (s : State) → IsEmptyWith desk_schema s → IsDatabase s.now → Sees s no_rows
+sees_none s it sound =
     let e = it.empty in
     record {
       schema = it.is;
@@ -110,4 +118,5 @@ sees_none s it =
         entries = no_values_of (λ (n : EntryRow). n.num) entry_row (s.now.trees 13) e.1.1.1.1.1.1.1.0;
         mark = no_rows_of mark_columns (s.now.trees 14) e.1.1.1.1.1.1.1.1.0;
       };
+      sound = sound;
     }

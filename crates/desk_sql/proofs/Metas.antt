@@ -18,7 +18,7 @@ use Rattle.desk_sql.specs.Rows.{whole, Tables, MetaRow, meta_row}
 use Rattle.desk_sql.specs.declared.versions.Version.{Version}
 use Rattle.desk_sql.specs.Calls.{MayRun, MaySeeIn, Makes}
 use Rattle.desk_sql.specs.Queries.{GivesRow}
-use Rattle.desk_sql.specs.Found.{meta_of, IsMeta, shows_meta, three_of}
+use Rattle.desk_sql.specs.FoundRows.{meta_of, IsMeta, shows_meta, three_of}
 use Rattle.desk_sql.specs.declared.meta.Meta.{Meta}
 use Rattle.desk_sql.specs.Changes.{counts, at_first, adds_meta}
 use Rattle.desk_sql.specs.Texts.{insert_meta_text, update_meta_text, read_meta_text}

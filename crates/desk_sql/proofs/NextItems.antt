@@ -14,7 +14,7 @@ use Rattle.desk_sql.specs.declared.versions.Version.TheVariants.{One, Two}
 use Rattle.desk_sql.specs.Rows.{whole, Tables, EntryRow, entry_row, items_tree}
 use Rattle.desk_sql.specs.Calls.{MaySeeIn}
 use Rattle.desk_sql.specs.Queries.{GivesRow}
-use Rattle.desk_sql.specs.Found.{is_item_after, FindsNextItem, shows_item, four_of}
+use Rattle.desk_sql.specs.FoundRows.{is_item_after, FindsNextItem, shows_item, four_of}
 use Rattle.desk_sql.specs.Meanings.{find_items_in, find_items_names}
 use Rattle.desk_sql.specs.declared.items.ItemFound.{ItemFound}
 use Rattle.desk_sql.proofs.Meaning.{MeansIn}

@@ -16,7 +16,7 @@ use Rattle.desk_sql.specs.Lists.{numbered_row, IsListed}
 use Rattle.desk_sql.specs.Rows.{whole, Tables, StockRow, stock_columns}
 use Rattle.desk_sql.specs.Calls.{MaySee}
 use Rattle.desk_sql.specs.Queries.{GivesRows}
-use Rattle.desk_sql.specs.Found.{three_of, six_of}
+use Rattle.desk_sql.specs.FoundRows.{three_of, six_of}
 use Rattle.desk_sql.specs.Stock.{is_within, night_of, IsByNight, FindsNights, shows_night, stock_of, cell_cmp, IsByCell, FindsStock, shows_cell}
 use Rattle.desk_sql.specs.Texts.{find_nights_text, find_stock_text}
 use Rattle.desk_sql.specs.Meanings.{find_nights_query, find_nights_names, find_stock_query, find_stock_names}

@@ -128,6 +128,7 @@ upserts sql params old new terms width q source count is plain unstamped rows re
         schema = ap (λ (d : Database). d.schema) done.2;
         applies = subst (λ (t : Trees). Applies desk_schema Enforced old.now.trees put.0 t) (sym (ap (λ (d : Database). d.trees) done.2 ∙ one.2)) put.2;
         shown = subst (λ b. Shows old new new.now (if b then old.committed else new.now) b) ready.inside w.shown;
+        sound = w.sound;
       },
     )
 

@@ -25,7 +25,7 @@ use Rattle.sqlite_rules.specs.Action.{works}
 use Rattle.sqlite.specs.Does.{Tally, Does, OnRows, WritesRows, Concludes}
 use Rattle.sqlite.specs.declared.run.Mode.{Mode}
 use Rattle.sqlite.specs.Rows.{Written, Task, Inserts, Edited, CountsIn, Gives, stamped, sequence, count_of, higher, rowids_for}
-use Rattle.sqlite.specs.Effect.{Database, value_rows}
+use Rattle.sqlite.specs.Effect.{Database, IsDatabase, value_rows}
 use Rattle.sqlite.specs.Listing.{understood}
 use Rattle.sqlite.specs.State.{State, mode_of, Executes, Shows}
 use Rattle.sqlite.proofs.Callers.{IsPlain, command_of, statement_of, runs_as, one_step}
@@ -58,6 +58,7 @@ pub record Edits (old new : State) (edit : Edit) : Type 0 where
   pub schema : new.now.schema ≡ desk_schema
   pub applies : Applies desk_schema Enforced old.now.trees edit new.now.trees
   pub shown : Shows old new new.now old.committed true
+  pub sound : IsDatabase new.now
 
 abbrev pub source_edit : Table → List Term → ℕ → Row → Trees → Edit
 source_edit table terms width params db = edit_of db table [] Chosen 0 (value_rows params width (length terms / width) terms)
@@ -108,6 +109,7 @@ inserts sql params old new at table terms width count is plain there uncounted u
       schema = ap (λ (d : Database). d.schema) done.2;
       applies = subst (λ (t : Trees). Applies desk_schema Enforced old.now.trees (source_edit table terms width params old.now.trees) t) (sym (ap (λ (d : Database). d.trees) done.2)) step;
       shown = subst (λ b. Shows old new new.now (if b then old.committed else new.now) b) ready.inside w.shown;
+      sound = w.sound;
     }
 
 no_action : (b : Bool) → (if b then NoAction else NoAction) ≡ NoAction
@@ -143,6 +145,7 @@ updates sql params old new at table q count is plain there ready h =
         schema = ap (λ (d : Database). d.schema) done.2;
         applies = subst (λ (t : Trees). Applies desk_schema Enforced old.now.trees edit t) (sym (ap (λ (d : Database). d.trees) done.2 ∙ trees)) step;
         shown = subst (λ b. Shows old new new.now (if b then old.committed else new.now) b) ready.inside w.shown;
+        sound = w.sound;
       },
     )
 
@@ -171,5 +174,6 @@ deletes sql params old new at table q count is plain there ready h =
         schema = ap (λ (d : Database). d.schema) done.2;
         applies = subst (λ (t : Trees). Applies desk_schema Enforced old.now.trees edit t) (sym (ap (λ (d : Database). d.trees) done.2 ∙ trees)) step;
         shown = subst (λ b. Shows old new new.now (if b then old.committed else new.now) b) ready.inside w.shown;
+        sound = w.sound;
       },
     )

@@ -2,6 +2,7 @@
 use Rattle.std.specs.Prelude.{◌≡◌, ◌⊎◌, ℕ, [], Result, OnOk, IfOk, IsTrue, ⊤}
 use Rattle.std.specs.List.{AllByRecursion}
 use Rattle.sqlite_schema.specs.declared.schema.Schema.{Schema}
+use Rattle.sqlite.specs.Effect.{IsDatabase}
 use Rattle.sqlite.specs.Store.{Ghosts}
 use Rattle.sqlite.specs.Held.{Held, state}
 use Rattle.sqlite.specs.State.{State, HasCleanDisk, IsUnchanged, IsRolledBack, Survives, KeepsCommit}
@@ -11,10 +12,11 @@ use Rattle.desk_sql.specs.declared.versions.Version.TheVariants.{Two}
 use Rattle.desk_sql.specs.Schema.{no_schema, desk_schema, schema_of}
 use Rattle.desk_sql.specs.Rows.{Tables, ShowsIn}
 
--- the connection sees these rows, in tables of this version
+-- the connection sees these rows, in tables of this version; the trees list the schema, and obey it
 pub record SeesIn (v : Version) (s : State) (t : Tables) : Type 0 where
   pub schema : s.now.schema ≡ schema_of v
   pub rows : ShowsIn v s.now.trees t
+  pub sound : IsDatabase s.now
 
 -- the connection sees these rows, in tables of the newest version
 abbrev pub Sees : State → Tables → Type 0
@@ -61,6 +63,7 @@ pub record Builds (old new : State) (after : Schema) : Type 0 where
   pub is_open : IsTrue new.is_open
   pub inside : IsTrue new.in_transaction
   pub made : IsEmptyWith after new
+  pub sound : IsDatabase new.now
   pub committed : new.committed ≡ old.committed
 
 module _ {S : Type 0} (g : Ghosts S) (old new : Held S) where

@@ -3,7 +3,7 @@ use Rattle.std.specs.Prelude.{◌≡◌, ℕ, ◌<◌, ◌^◌, ◌==◌, ◌&&�
 use Rattle.std.specs.List.{AllByRecursion}
 use Rattle.desk_sql.specs.Lists.{changed}
 use Rattle.desk_sql.specs.Rows.{Tables, no_rows, MetaRow, BatchRow, CursorRow, JourneyRow, StepRow, EntryRow, MarkRow, AnswerRow}
-use Rattle.desk_sql.specs.Found.{is_numbered, item_of, mark_at_pos}
+use Rattle.desk_sql.specs.FoundRows.{is_numbered, item_of, mark_at_pos}
 use Rattle.desk_sql.specs.declared.journeys.Cursor.{Cursor}
 use Rattle.desk_sql.specs.declared.steps.StepOption.{StepOption}
 use Rattle.desk_sql.specs.declared.items.ItemFound.{ItemFound}

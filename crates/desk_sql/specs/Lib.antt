@@ -1,7 +1,7 @@
 pub mod Calls
 pub mod Changes
-pub mod Found
-pub mod Handing
+pub mod FoundRows
+pub mod RemainingRows
 pub mod Lists
 pub mod Meanings
 pub mod Queries

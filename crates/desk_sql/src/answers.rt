@@ -3,7 +3,7 @@
 ghost use Rattle.std.specs.Prelude.{◌≡◌, false, IfOk};
 ghost use Rattle.desk_sql.specs.Calls.{Writes, StaysInside, WasOpen, CommitsNothing, LeavesNoMore, Reads, ChangesNothing};
 ghost use Rattle.desk_sql.specs.Changes.{adds_answer, kept};
-ghost use Rattle.desk_sql.specs.Found.{FindsAnswer, shows_answer, two_of};
+ghost use Rattle.desk_sql.specs.FoundRows.{FindsAnswer, shows_answer, two_of};
 
 use crate::queries::first_row;
 use sqlite::types::ValueRef;

@@ -3,7 +3,7 @@
 ghost use Rattle.std.specs.Prelude.{◌≡◌, ◌<◌, ◌^◌, false, IfOk};
 ghost use Rattle.desk_sql.specs.Calls.{Writes, StaysInside, WasOpen, CommitsNothing, LeavesNoMore, Reads, ChangesNothing};
 ghost use Rattle.desk_sql.specs.Changes.{adds_batch};
-ghost use Rattle.desk_sql.specs.Found.{FindsBatch, shows_batch, two_of};
+ghost use Rattle.desk_sql.specs.FoundRows.{FindsBatch, shows_batch, two_of};
 
 use crate::queries::first_row;
 use sqlite::types::ValueRef;

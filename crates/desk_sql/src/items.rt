@@ -3,7 +3,7 @@
 ghost use Rattle.std.specs.Prelude.{◌≡◌, ◌<◌, ◌^◌, false, map, IfOk};
 ghost use Rattle.desk_sql.specs.Calls.{WritesWhere, StaysInside, WasOpen, CommitsNothing, LeavesNoMore, Reads, ChangesNothing};
 ghost use Rattle.desk_sql.specs.Changes.{IsSmallItem, AreItemsBelow, adds_item};
-ghost use Rattle.desk_sql.specs.Found.{FindsItems, shows_item, four_of};
+ghost use Rattle.desk_sql.specs.FoundRows.{FindsItems, shows_item, four_of};
 
 use crate::queries::all_rows;
 use sqlite::types::ValueRef;

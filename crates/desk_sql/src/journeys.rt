@@ -3,7 +3,7 @@
 ghost use Rattle.std.specs.Prelude.{◌≡◌, ◌<◌, ◌^◌, false, IfOk};
 ghost use Rattle.desk_sql.specs.Calls.{Writes, WritesWhere, StaysInside, WasOpen, CommitsNothing, LeavesNoMore, Reads, ReadsEach, ChangesNothing};
 ghost use Rattle.desk_sql.specs.Changes.{AreJourneysBelow, adds_journey, begun, IsSmallCursor, moves_journey};
-ghost use Rattle.desk_sql.specs.Found.{FindsJourney, FindsUnfinished, shows_cursor, cursor_of, shows_journey, nine_of};
+ghost use Rattle.desk_sql.specs.FoundRows.{FindsJourney, FindsUnfinished, shows_cursor, cursor_of, shows_journey, nine_of};
 
 use crate::queries::first_row;
 use sqlite::types::ValueRef;

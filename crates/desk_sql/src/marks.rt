@@ -4,7 +4,7 @@ ghost use Rattle.std.specs.Prelude.{◌≡◌, ◌<◌, ◌^◌, false, map, IfO
 ghost use Rattle.sqlite.specs.Order.{column};
 ghost use Rattle.desk_sql.specs.Calls.{Writes, StaysInside, WasOpen, CommitsNothing, LeavesNoMore, Reads, ChangesNothing};
 ghost use Rattle.desk_sql.specs.Changes.{adds_mark, drops_mark};
-ghost use Rattle.desk_sql.specs.Found.{FindsMarks};
+ghost use Rattle.desk_sql.specs.FoundRows.{FindsMarks};
 ghost use Rattle.desk_sql.specs.Rows.{whole};
 
 use crate::queries::all_rows;

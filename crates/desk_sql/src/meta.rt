@@ -3,7 +3,7 @@
 ghost use Rattle.std.specs.Prelude.{◌≡◌, ◌<◌, ◌^◌, false, IfOk};
 ghost use Rattle.desk_sql.specs.Calls.{Writes, WritesWhere, StaysInside, WasOpen, CommitsNothing, LeavesNoMore, ReadsEach, ChangesNothing};
 ghost use Rattle.desk_sql.specs.Changes.{LacksMeta, adds_meta, at_first, counts};
-ghost use Rattle.desk_sql.specs.Found.{IsMeta, shows_meta, three_of};
+ghost use Rattle.desk_sql.specs.FoundRows.{IsMeta, shows_meta, three_of};
 
 use crate::queries::first_row;
 use sqlite::types::ValueRef;

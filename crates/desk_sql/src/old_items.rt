@@ -4,7 +4,7 @@
 
 ghost use Rattle.std.specs.Prelude.{◌≡◌, ◌<◌, ◌^◌, false};
 ghost use Rattle.desk_sql.specs.Calls.{ReadsIn, ChangesNothing, LeavesNoMore};
-ghost use Rattle.desk_sql.specs.Found.{FindsNextItem};
+ghost use Rattle.desk_sql.specs.FoundRows.{FindsNextItem};
 
 use crate::items::{ItemFound, read_item};
 use crate::queries::first_row;

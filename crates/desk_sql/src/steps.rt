@@ -3,7 +3,7 @@
 ghost use Rattle.std.specs.Prelude.{◌≡◌, ◌<◌, ◌^◌, false, map, IfOk};
 ghost use Rattle.desk_sql.specs.Calls.{Writes, StaysInside, WasOpen, CommitsNothing, LeavesNoMore, Reads, ReadsEach, ChangesNothing};
 ghost use Rattle.desk_sql.specs.Changes.{IsSmallOption, adds_step, untaken, marks_step};
-ghost use Rattle.desk_sql.specs.Found.{FindsSteps, FindsOptions, shows_step, ten_of};
+ghost use Rattle.desk_sql.specs.FoundRows.{FindsSteps, FindsOptions, shows_step, ten_of};
 
 use crate::queries::all_rows;
 use sqlite::types::ValueRef;

@@ -22,14 +22,14 @@ AtLeast n (r ∷ rs) = (n ≤ r.places) × AtLeast n rs
 last_places : Option Row → ℕ
 last_places o = unwrap_or (option_map (λ (r : Row). r.places) o) 0
 
--- so has the last of them
+-- the last row has at least n places
 at_least-last : (n : ℕ) (r : Row) (rs : List Row) → AtLeast n (r ∷ rs)
     → n ≤ last_places (last_of (r ∷ rs))
 unfolding AtLeast last_places
 at_least-last n r [] all = all.0
 at_least-last n r (s ∷ rs) all = at_least-last n s rs all.1
 
--- and the last of earlier rows and these, whether there is one of these or not
+-- the last of earlier rows and these has at least n places, whether there is one of these or not
 at_least-append : (n : ℕ) (rs ss : List Row) → n ≤ last_places (last_of rs) → AtLeast n ss
     → n ≤ last_places (last_of (rs ++ ss))
 at_least-append n rs [] room all =
@@ -58,7 +58,7 @@ at_least-rows l x (r ∷ rows) all =
         (leb-true _ _ enough, later)
     go false e later = later
 
--- an event adds its rows behind those that were loaded before
+-- an event appends its rows to those that were loaded before
 rows-more : (l : List Event) (e : Event)
     → flat_map rows_of (l ++ e ∷ []) ≡ flat_map rows_of l ++ rows_of e
 rows-more l e =

@@ -3,7 +3,7 @@ use Rattle.std.proofs.Common.{◌≡◌, ℕ, List, [], ◌∷◌, length, refl,
 use Rattle.std.proofs.lemmas.Bool.{and_from}
 use Rattle.std.specs.Prelude.{Bool, true, false, not, ◌&&◌, ◌==◌, nat_le, Option, Some, None, is_some, option_map, option_and_then, unwrap_or, find, position, if◌then◌else◌, IsTrue}
 use Rattle.allotment.specs.declared.cells.Row.{Row}
-use Rattle.plan.specs.Planned.{Planned}
+use Rattle.plan.specs.PlanModel.{Planned}
 use Rattle.commands.specs.Request.{Request, Load, Begin, Step, Abort, Stop, Save}
 use Rattle.commands.specs.declared.items.Item.{Item}
 use Rattle.commands.specs.declared.refusals.Refusal.{Refusal}
@@ -13,7 +13,7 @@ use Rattle.ledger.specs.Ledger.{Event, Journey, journey_at, history, batches_nam
 use Rattle.ledger.specs.Answer.{refused, are_same_rows, loaded, step_choices, abort_choices, stop_choices, save_choices, answer_new, answer_load, sees, seen_journey, moved, answer_move, answer_within, answer, most_events, is_request}
 use Rattle.ledger.proofs.Lists.{find-passes, position-none}
 
--- what an answer's event owes: it is allowed
+-- the event of an answer, if there is one, is allowed
 abbrev pub IsAllowedEvent : List Event → Option Event → Type 0
 IsAllowedEvent l None = Unit {0}
 IsAllowedEvent l (Some e) = IsTrue (is_allowed l e)

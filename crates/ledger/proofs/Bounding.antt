@@ -5,7 +5,7 @@ use Rattle.std.proofs.lemmas.List.{length-map}
 use Rattle.std.proofs.lemmas.List.Sums.{sum_by-cons}
 use Rattle.std.specs.Prelude.{Bool, true, false, Option, Some, None, option_map, unwrap_or, filter, sum_by, cond, if◌then◌else◌}
 use Rattle.allotment.specs.Cells.{numbers_from}
-use Rattle.plan.specs.Planned.{numbered, step_count}
+use Rattle.plan.specs.PlanModel.{numbered, step_count}
 use Rattle.ledger.specs.History.{phase, is_running, is_open}
 use Rattle.ledger.specs.Ledger.{Event, Journey, journeys, journey_at, numbers, history, is_in, IsLegal}
 use Rattle.ledger.specs.Recovery.{last_save_of, stops, bound_of, bound}
@@ -15,8 +15,8 @@ use Rattle.ledger.proofs.Phases.{passing}
 use Rattle.ledger.proofs.Stopping.{journeys-stops, stop_of, stop_items, history-stops, turns_of, need_of, stop-within}
 use Rattle.ledger.proofs.Working.{left_to, left_of, work, work-sum}
 
--- where each number of a row needs no more than it may, one for a turn and what is left after it,
--- the row needs no more than those that may need something
+-- where each of consecutive numbers needs no more than it may, one for a turn and what is left after it, they need no
+-- more than those that may need something
 turns-within : (turns may : ℕ → Bool) (left most : ℕ → ℕ) (n first : ℕ)
     → ((j : ℕ) → first ≤ j → j < first + n
     → turns_of (turns j) + left j ≤ (if may j then most j else 0))
@@ -90,7 +90,7 @@ journey-within l legal j low high = go (journey_at l j) refl
         let within = stop-within a.plan (history l j) (last_save_of l j) goes in
         omega arith
 
--- so the turns, and what is left after them, are within the bound
+-- the turns, and what is left after them, are within the bound
 pub stops-within : (l : List Event) → IsLegal l
     → length (stops l) + work (l ++ stops l) ≤ bound l
 stops-within l legal =

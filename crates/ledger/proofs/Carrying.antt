@@ -1,5 +1,5 @@
--- One part of recovery: one journey after another is carried on, by steps of some kind, until none
--- of them is in some kind of phase. For the law of recovery.
+-- One part of recovery: one journey after another goes on, by steps of some kind, until none of them is in some kind of
+-- phase. For the law of recovery.
 use Rattle.std.proofs.Common.{◌≡◌, ℕ, zero, suc, ◌+◌, ◌<◌, ◌≤◌, List, [], ◌∷◌, ◌++◌, refl, ap, sym, ◌∙◌, arith, append_assoc, eqb-true}
 use Rattle.std.proofs.lemmas.Bool.{and_parts, and_from, le-leb, leb-true, eqb-false}
 use Rattle.std.specs.Prelude.{Bool, true, false, ◌==◌, nat_le}
@@ -19,7 +19,7 @@ pub record IsStage (test : Item → Bool) (passes : Phase → Bool) : Type 0 whe
   pub has : (l : List Event) (j : ℕ) → IsLegal l → is_in passes l j ≡ true
       → (x : Item) × (test x ≡ true) × (is_item_allowed l j x ≡ true)
 
--- events that carry these journeys on, one after another, until none is in such a phase
+-- events by which these journeys go on, one after another, until none is in such a phase
 pub record Carries (test : Item → Bool) (passes : Phase → Bool) (first n : ℕ) (l : List Event)
     : Type 0 where
   pub events : List Event
@@ -29,7 +29,7 @@ pub record Carries (test : Item → Bool) (passes : Phase → Bool) (first n : �
   pub behind : list_all (λ d. nat_le first (journey_of d)) events ≡ true
   pub done : (j : ℕ) → first ≤ j → j < first + n → is_in passes (l ++ events) j ≡ false
 
--- what is behind the next number is behind this one
+-- events from the next number on are events from this one on
 behind-lower : (first : ℕ) (p : List Event)
     → list_all (λ d. nat_le (suc first) (journey_of d)) p ≡ true
     → list_all (λ d. nat_le first (journey_of d)) p ≡ true
@@ -40,7 +40,7 @@ behind-lower first (d ∷ p) e =
     let here = leb-true _ _ both.0 in
     and_from _ _ (le-leb _ _ (omega arith)) (behind-lower first p both.1)
 
--- no journey is carried by no event
+-- no event is needed if there is no journey
 carries-none : (test : Item → Bool) (passes : Phase → Bool) (first : ℕ) (l : List Event)
     → Carries test passes first zero l
 carries-none test passes first l = record {
@@ -52,7 +52,7 @@ carries-none test passes first l = record {
   done = λ j low high. absurd (omega arith);
 }
 
--- where the first is in no such phase, what carries the others carries all, and leaves the first
+-- where the first is in no such phase, events that carry the others on carry all on, and do not change the first
 carries-next : (test : Item → Bool) (passes : Phase → Bool) (first n : ℕ) (l : List Event)
     → is_in passes l first ≡ false → Carries test passes (suc first) n l
     → Carries test passes first (suc n) l
@@ -76,7 +76,7 @@ carries-next test passes first n l out c =
     by_first j false e low high =
         let other = eqb-false _ _ e in c.done j (omega arith) (omega arith)
 
--- a step of the first, and then what carries on
+-- a step of the first, and then events that carry on
 carries-step : (test : Item → Bool) (passes : Phase → Bool) (first n : ℕ) (l : List Event)
     (x : Item) → test x ≡ true → is_item_allowed l first x ≡ true
     → Carries test passes first n (l ++ Did first x ∷ []) → Carries test passes first n l
@@ -107,7 +107,7 @@ carries-one test passes stage first n l legal again others = go (is_in passes l 
         (again (l ++ Did first step.0 ∷ []) (IsLegal-append l (Did first step.0) legal step.2)
         (left_of-fewer l first step.0 legal (stage.steps step.0 step.1) step.2))
 
--- the first is carried to the end, since each step leaves it fewer
+-- the first goes on to the end, since each step leaves it fewer
 carries-first : (test : Item → Bool) (passes : Phase → Bool) → IsStage test passes
     → (first n : ℕ) → ((m : List Event) → IsLegal m → Carries test passes (suc first) n m)
     → (most : ℕ) (l : List Event) → IsLegal l → left_of l first ≤ most
@@ -120,7 +120,7 @@ carries-first test passes stage first n others (suc most) l legal low =
     (λ m is fewer. carries-first test passes stage first n others most m is (omega arith))
     (others l legal)
 
--- and so are all, one after another
+-- all journeys go on to the end, one after another
 pub carries-all : (test : Item → Bool) (passes : Phase → Bool) → IsStage test passes
     → (n first : ℕ) (l : List Event) → IsLegal l → Carries test passes first n l
 carries-all test passes stage zero first l legal = carries-none test passes first l

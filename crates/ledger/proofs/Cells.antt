@@ -1,4 +1,4 @@
--- Two cells that the test takes for one are one. For the places of a cell.
+-- Two cells for which the test passes are equal. For the places of a cell.
 use Rattle.std.proofs.Common.{◌≡◌, ℕ, zero, suc, List, refl, ap, sym, ◌∙◌, eqb-true}
 use Rattle.std.proofs.lemmas.Bool.{and_parts}
 use Rattle.std.proofs.lemmas.Slice.Eq.{bytes_eq-Decides}
@@ -23,11 +23,11 @@ kind_of-number Room = refl
 kind_of-number Transfer = refl
 kind_of-number Cover = refl
 
--- kinds of one number are one
+-- kinds with the same number are equal
 same_kind : (k m : Kind) → (kind_number k == kind_number m) ≡ true → k ≡ m
 same_kind k m e = sym (kind_of-number k) ∙ ap kind_of (eqb-true _ _ e) ∙ kind_of-number m
 
--- texts that the test takes for one are one
+-- texts for which the test passes are equal
 same_bytes : (a b : List ℕ) → bytes_eq a b ≡ true → a ≡ b
 same_bytes a b e = (bytes_eq-Decides a b).0 e
 
@@ -35,7 +35,7 @@ same_bytes a b e = (bytes_eq-Decides a b).0 e
 made : Kind → List ℕ → List ℕ → ℕ → Cell
 made k s p n = record { kind = k; supplier = s; product = p; night = n }
 
--- where kind, supplier, product and night are the same, the cells are
+-- cells with the same kind, supplier, product and night are equal
 pub is_cell-same : (x y : Cell) → is_cell x y ≡ true → x ≡ y
 unfolding made
 is_cell-same x y e =

@@ -1,8 +1,8 @@
--- What it takes for each item to come, and that it then comes. For journeys, places and steps.
+-- What each item requires to come next, and that it may then come. For journeys, places and steps.
 use Rattle.std.proofs.Common.{◌≡◌, ℕ, ◌+◌, List, refl, ap, ◌∙◌, eqb-true, eq-eqb}
 use Rattle.std.proofs.lemmas.Bool.{and_parts, and_from, not_from_false}
 use Rattle.std.specs.Prelude.{Bool, true, false, ◌&&◌, not, ◌==◌, nat_lt, Option, Some, None}
-use Rattle.plan.specs.Planned.{Planned}
+use Rattle.plan.specs.PlanModel.{Planned}
 use Rattle.commands.specs.declared.items.Cause.TheVariants.{Stop, Refused}
 use Rattle.commands.specs.declared.items.Item.{Item}
 use Rattle.commands.specs.declared.items.Item.TheVariants.{Transaction, Compensation, Turn, Save}
@@ -15,7 +15,7 @@ pub record StepComes (plan : Planned) (h : List Item) (fits : Bool) (i c : ℕ) 
   pub option : c ≡ next_option plan h
   pub fitting : fits ≡ true
 
--- each test of the rule says its part
+-- if the rule lets it come, each condition of a transaction holds
 pub step-comes : (plan : Planned) (h : List Item) (fits : Bool) (i c : ℕ)
     → may_come plan h fits (Transaction i c) ≡ true → StepComes plan h fits i c
 step-comes plan h fits i c may =
@@ -29,7 +29,7 @@ step-comes plan h fits i c may =
       fitting = all.1;
     }
 
--- where these hold the rule lets it come
+-- if these conditions hold, the rule lets the transaction come
 pub step-may_come : (plan : Planned) (h : List Item) (fits : Bool)
     → is_running (phase plan h) ≡ true → fits ≡ true
     → may_come plan h fits (Transaction (position_of h + 1) (next_option plan h)) ≡ true
@@ -50,14 +50,14 @@ pub record CompensationComes (plan : Planned) (h : List Item) (i c : ℕ) : Type
   pub back : is_going_back (phase plan h) ≡ true
   pub last : last_of (net h) ≡ Some (i, c)
 
--- each test of the rule says its part
+-- if the rule lets it come, each condition of a compensation holds
 pub compensation-comes : (plan : Planned) (h : List Item) (fits : Bool) (i c : ℕ)
     → may_come plan h fits (Compensation i c) ≡ true → CompensationComes plan h i c
 compensation-comes plan h fits i c may =
     let both = and_parts (is_going_back (phase plan h)) (is_done_with (last_of (net h)) i c) may in
     record { back = both.0; last = is_pair _ i c both.1 }
 
--- where these hold the rule lets it come
+-- if these conditions hold, the rule lets the compensation come
 pub compensation-may_come : (plan : Planned) (h : List Item) (fits : Bool) (i c : ℕ)
     → is_going_back (phase plan h) ≡ true → last_of (net h) ≡ Some (i, c)
     → may_come plan h fits (Compensation i c) ≡ true
@@ -79,7 +79,7 @@ pub record RefusedComes (plan : Planned) (h : List Item) (fits : Bool) (p : ℕ)
   pub unfitting : not fits ≡ true
   pub target : p ≡ refused_target plan h
 
--- each test of the rule says its part
+-- if the rule lets it come, each condition of a refused turn holds
 pub refused-comes : (plan : Planned) (h : List Item) (fits : Bool) (p : ℕ)
     → may_come plan h fits (Turn p Refused) ≡ true → RefusedComes plan h fits p
 refused-comes plan h fits p may =
@@ -87,7 +87,7 @@ refused-comes plan h fits p may =
     let some = and_parts (is_running (phase plan h)) (not fits) all.0 in
     record { running = some.0; unfitting = some.1; target = eqb-true _ _ all.1 }
 
--- where the journey runs and its want does not fit, the rule lets it come
+-- if the journey runs and its want does not fit, the rule lets the refused turn come
 pub refused-may_come : (plan : Planned) (h : List Item) (fits : Bool)
     → is_running (phase plan h) ≡ true → fits ≡ false
     → may_come plan h fits (Turn (refused_target plan h) Refused) ≡ true

@@ -2,7 +2,7 @@
 use Rattle.std.proofs.Common.{◌≡◌, ℕ, ◌+◌, ◌<◌, ◌⊎◌, List, [], ◌∷◌, length, map, refl, ap, sym, ◌∙◌, arith, inl, inr}
 use Rattle.std.proofs.lemmas.Bool.{false_from_ne_true}
 use Rattle.std.specs.Prelude.{Bool, true, false, Option, Some, None, option_map, option_to_list, unwrap_or, find, cond, if◌then◌else◌, IsTrue}
-use Rattle.plan.specs.Planned.{Planned}
+use Rattle.plan.specs.PlanModel.{Planned}
 use Rattle.commands.specs.declared.items.Cause.TheVariants.{Stop, Refused, Asked}
 use Rattle.commands.specs.declared.items.Item.{Item}
 use Rattle.commands.specs.declared.items.Item.TheVariants.{Transaction, Compensation, Turn, Save}
@@ -49,7 +49,7 @@ finished_not_running (Back q) e run = cc
 finished_not_running Ended e run = cc
 finished_not_running Undone e run = cc
 
--- nor does it go back
+-- a finished phase does not go back
 finished_not_back : {X : Type 0} (p : Phase) → is_finished p ≡ true → is_going_back p ≡ true → X
 finished_not_back Run e back = cc
 finished_not_back (Back q) e back = cc
@@ -191,7 +191,7 @@ back-step plan h fits back t last =
     alone (Turn p Asked) forward may = cc
     alone (Save p) forward may = cc
 
--- a journey on its word that is open has one step
+-- an open journey that follows its word has one step
 one-step : (plan : Planned) (h : List Item) (fits : Bool) → Goes plan h
     → is_open (phase plan h) ≡ true → OneStep plan h fits
 one-step plan h fits g unfinished =
@@ -213,7 +213,7 @@ one-step plan h fits g unfinished =
 
 -- Of a ledger.
 
--- what a phase's test says of journey j, if it is this one
+-- whether journey j, if it is this one, is in a phase that passes
 abbrev in_phase : (Phase → Bool) → List Event → ℕ → Option Journey → Bool
 in_phase passes l j o =
     unwrap_or
@@ -277,7 +277,7 @@ finished-none plan h fits (Turn p Asked) e may = asked (phase plan h) e may
 finished-none plan h fits (Save p) e may =
     finished_not_running (phase plan h) e (save-comes plan h fits p may)
 
--- so nothing is allowed of a finished journey
+-- no item is allowed of a finished journey
 pub no_finished_goes_on : (l : List Event) → NoFinishedJourneyGoesOn l
 no_finished_goes_on l j item finished = go (journey_at l j) refl
   where

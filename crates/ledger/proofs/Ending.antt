@@ -1,10 +1,10 @@
--- A history item by item: each may come after those before it, where the journey stands after it,
--- and with which of them it is finished. For those who read a history one item at a time.
+-- A history item by item: each may come after those before it, where the journey is after it, and which of them
+-- finishes it. For those who read a history one item at a time.
 use Rattle.std.proofs.Common.{◌≡◌, ℕ, zero, suc, ◌+◌, ◌-◌, ◌<◌, ◌⊎◌, List, [], ◌∷◌, ◌++◌, refl, ap, sym, ◌∙◌, subst, arith, append_assoc, append-nil, eqb-true, eq-eqb, inl, inr}
 use Rattle.std.proofs.lemmas.Bool.{ne_eqb, eqb-false}
 use Rattle.std.proofs.lemmas.Bool.Decides.{nat_tests}
 use Rattle.std.specs.Prelude.{Bool, true, false, ◌==◌, ◌&&◌, ◌||◌, nat_lt, Option, Some, None, if◌then◌else◌, IsTrue}
-use Rattle.plan.specs.Planned.{Planned, step_count, numbered}
+use Rattle.plan.specs.PlanModel.{Planned, step_count, numbered}
 use Rattle.commands.specs.declared.items.Cause.{Cause}
 use Rattle.commands.specs.declared.items.Cause.TheVariants.{Stop, Refused, Asked}
 use Rattle.commands.specs.declared.items.Item.{Item}
@@ -35,7 +35,7 @@ abbrev pub AllCome : Planned → List Item → List Item → Type 0
 AllCome plan before [] = Unit {0}
 AllCome plan before (x ∷ later) = Comes plan before x × AllCome plan (before ++ x ∷ []) later
 
--- one more at the end may come after all of them
+-- one more item at the end may come after all of them
 all_come-snoc : (plan : Planned) (before h : List Item) (x : Item) → AllCome plan before h
     → Comes plan (before ++ h) x → AllCome plan before (h ++ x ∷ [])
 all_come-snoc plan before [] x all one =
@@ -97,7 +97,7 @@ all_come = induct EachComes none come-more
     none : (j : ℕ) (a : Journey) → journey_at [] j ≡ Some a → AllCome a.plan [] []
     none j a e = tt
 
--- after the first items of a history the journey is on its word, and each later one may come
+-- after a prefix of a history the journey follows its word, and each later item may come
 all_come-split : (plan : Planned) (before h rest : List Item) → Goes plan before
     → AllCome plan before (h ++ rest) → Goes plan (before ++ h) × AllCome plan (before ++ h) rest
 all_come-split plan before [] rest g all = (
@@ -117,7 +117,7 @@ pub record GoesOn (plan : Planned) (h : List Item) (x : Item) (later : List Item
   pub comes : Comes plan h x
   pub rest : AllCome plan (h ++ x ∷ []) later
 
--- so does that of each journey of a legal ledger, wherever it is cut
+-- the history of each journey of a legal ledger goes on so, wherever it is cut
 pub goes_on : (l : List Event) (legal : IsLegal l) (j : ℕ) (a : Journey) → journey_at l j ≡ Some a
     → (h : List Item) (x : Item) (later : List Item) → history l j ≡ h ++ x ∷ later
     → GoesOn a.plan h x later
@@ -126,7 +126,7 @@ goes_on l legal j a at h x later e =
     (subst (AllCome a.plan []) e (all_come l legal j a at)) in
     record { goes = both.0; comes = both.1.0; rest = both.1.1 }
 
--- Where it stands.
+-- Where the journey is.
 
 module _ (plan : Planned) (h later : List Item) where
   pub stands-transaction : (i c : ℕ) → GoesOn plan h (Transaction i c) later
@@ -143,7 +143,7 @@ module _ (plan : Planned) (h later : List Item) where
       let lower = k.lower in
       omega arith
 
--- With which item it is finished.
+-- Which item finishes it.
 
 -- by whether all steps stand, or none after a turn to the start
 finished_at : (n pos : ℕ) (turned : Bool) (going : Option ℕ)
@@ -184,7 +184,7 @@ or_no false = refl
 swapped : (a b : ℕ) → (a == b) ≡ (b == a)
 swapped a b = grind (arith, nat_tests)
 
--- the first step is compensated on the way to the start alone
+-- the first step is compensated only on the way to the start
 first_back : (i target : ℕ) → target < i → ((0 == target) && (i - 1 == 0)) ≡ (i == 1)
 first_back i target above = go (i == 1) refl
   where
@@ -197,7 +197,7 @@ first_back i target above = go (i == 1) refl
         ap (λ b. (0 == target) && b) (ne_eqb (i - 1) 0 (λ z. omega arith)) ∙ and_no (0 == target)
 
 module _ (plan : Planned) (h later : List Item) where
-  -- with the transaction of the last step
+  -- a transaction finishes it if it is that of the last step
   pub finished-transaction : (i c : ℕ) → GoesOn plan h (Transaction i c) later
       → is_finished (phase plan (h ++ Transaction i c ∷ [])) ≡ (i == step_count plan)
   finished-transaction i c on =
@@ -207,7 +207,7 @@ module _ (plan : Planned) (h later : List Item) where
       (turned-other h (Transaction i c) refl ∙ up.0.unturned)
       ∙ or_no (i == step_count plan)
 
-  -- with the compensation of the first one
+  -- a compensation finishes it if it is that of the first step
   pub finished-compensation : (i c : ℕ) → GoesOn plan h (Compensation i c) later
       → is_finished (phase plan (h ++ Compensation i c ∷ [])) ≡ (i == 1)
   finished-compensation i c on =
@@ -224,7 +224,7 @@ module _ (plan : Planned) (h later : List Item) where
       ∙ ap (λ v. v || ((0 == f.target) && (i - 1 == 0))) (ne_eqb (i - 1) (step_count plan) (λ e. omega arith))
       ∙ first_back i f.target (omega arith)
 
-  -- with a turn to the start where no step stands
+  -- a turn finishes it if it leads to the start where no step stands
   turned_running : (p : ℕ) (cause : Cause) → Rising plan h × (position_of h < step_count plan)
       → is_finished (phase plan (h ++ Turn p cause ∷ [])) ≡ ((p == 0) && (position_of h == 0))
   turned_running p cause up =
@@ -263,7 +263,7 @@ module _ (plan : Planned) (h later : List Item) where
           ∙ sym (ap (λ v. (p == 0) && v) stands ∙ and_no (p == 0))
       by_mode (fell f) = absurd (let bad : false ≡ true = at Undone (phase-fallen plan h f) in cc)
 
-  -- with no save-point
+  -- a save-point never finishes it
   pub finished-save : (p : ℕ) → GoesOn plan h (Save p) later
       → is_finished (phase plan (h ++ Save p ∷ [])) ≡ false
   finished-save p on =
@@ -273,7 +273,7 @@ module _ (plan : Planned) (h later : List Item) where
       (turned-other h (Save p) refl ∙ up.0.unturned)
       ∙ ap (λ v. v || false) (ne_eqb (position_of h) (step_count plan) (λ e. omega arith))
 
-  -- and then no item comes later
+  -- after the item that finishes it no item comes
   pub none_later : (x : Item) → GoesOn plan h x later
       → is_finished (phase plan (h ++ x ∷ [])) ≡ true → later ≡ []
   none_later x on finished = go later on.rest

@@ -1,9 +1,8 @@
--- One more item on the way down: a turn further down, or a compensation. For each item that may
--- come.
+-- One more item on the way down: a turn further down, or a compensation. For each item that may come.
 use Rattle.std.proofs.Common.{◌≡◌, ℕ, suc, ◌<◌, ◌≤◌, ◌⊎◌, List, [], ◌∷◌, ◌++◌, refl, ap, sym, ◌∙◌, arith, append_assoc, subst, append-nil, eqb-true, inl, inr}
 use Rattle.std.proofs.lemmas.Bool.{eqb-false, ltb-true, ltb-false, ne_eqb}
 use Rattle.std.specs.Prelude.{Bool, true, false, ◌==◌, nat_lt, Some, IsTrue}
-use Rattle.plan.specs.Planned.{Planned}
+use Rattle.plan.specs.PlanModel.{Planned}
 use Rattle.commands.specs.declared.items.Cause.{Cause}
 use Rattle.commands.specs.declared.items.Item.{Item}
 use Rattle.commands.specs.declared.items.Item.TheVariants.{Compensation, Turn}
@@ -46,7 +45,7 @@ falling-turn plan h p cause f lower kept =
 abbrev compensated : List Item → ℕ → ℕ → List Item
 compensated h i c = h ++ Compensation i c ∷ []
 
--- the compensation of the last step reads as one step more on the way down
+-- the compensation of the last step reads as one more step on the way down
 reads-compensation : (plan : Planned) (h : List Item) (i c : ℕ) (f : Falling plan h)
     → Compensates h i c
     → word (compensated f.part i c)
@@ -73,7 +72,7 @@ part-compensation plan h i c f k = record {
   reads = reads-compensation plan h i c f k;
 }
 
--- the target stays the start or a save-point, as long as the journey is not below it
+-- the target stays the start or a save-point while the journey is not below it
 kept-compensation : (plan : Planned) (h : List Item) (i c : ℕ) (f : Falling plan h)
     → Compensates h i c → f.target ≤ position_of (compensated h i c)
     → (f.target ≡ 0) ⊎ IsTrue (is_save_point plan h f.target)
@@ -83,7 +82,7 @@ kept-compensation plan h i c f k low (inr e) =
     inr (is_save_point-compensation plan h i c f.target low
     (λ same. let a = k.is_last in let b = f.above in omega arith) e)
 
--- a compensation is no turn, so what was turned to stays
+-- a compensation is no turn, so the target of the last turn stays
 turned-compensation : (plan : Planned) (h : List Item) (i c : ℕ) (f : Falling plan h)
     → has_turned_to_start (compensated h i c) ≡ (0 == f.target)
 turned-compensation plan h i c f = turned-other h (Compensation i c) refl ∙ f.turned
@@ -155,7 +154,7 @@ compensation-returns plan h i c f k more here =
         (subst (λ n. IsTrue (is_save_point plan (compensated h i c) n)) (sym here)
         (saved (kept-compensation plan h i c f k (omega arith) f.kept)))
 
--- there the journey is on its way up again
+-- at that save-point the journey is on its way up again
 compensation-to_save_point : (plan : Planned) (h : List Item) (i c : ℕ) (f : Falling plan h)
     → Compensates h i c → 0 < f.target → position_of (compensated h i c) ≡ f.target
     → Rising plan (compensated h i c)

@@ -1,5 +1,4 @@
--- What one more item does to where a journey goes, and to the save-points that stand. For its
--- modes.
+-- What one more item changes of the journey's target and of its save-points. For its modes.
 use Rattle.std.proofs.Common.{◌≡◌, ℕ, ◌≤◌, ◌⊎◌, List, [], ◌∷◌, ◌++◌, refl, ap, ◌∙◌, inl, inr}
 use Rattle.std.proofs.Math.Bool.{or-false}
 use Rattle.std.proofs.lemmas.Bool.{ne_eqb, le-leb}
@@ -7,54 +6,54 @@ use Rattle.std.proofs.lemmas.List.{reverse-append}
 use Rattle.std.proofs.lemmas.List.Folds.{list_any-append}
 use Rattle.std.specs.Prelude.{Bool, true, false, ◌||◌, ◌&&◌, not, ◌==◌, nat_le, Some, None, IsTrue}
 use Rattle.std.specs.List.{list_any}
-use Rattle.plan.specs.Planned.{Planned, is_marked_at}
+use Rattle.plan.specs.PlanModel.{Planned, is_marked_at}
 use Rattle.commands.specs.declared.items.Cause.{Cause}
 use Rattle.commands.specs.declared.items.Item.{Item}
 use Rattle.commands.specs.declared.items.Item.TheVariants.{Transaction, Compensation, Turn, Save}
 use Rattle.ledger.specs.History.{position_of, going_to, latest_turn, is_taken, is_save_point, is_compensation_of, has_turned_to_start, is_turn_to}
 use Rattle.ledger.proofs.Standing.{compensated-other, position_of-turn}
 
--- Where it goes.
+-- Its target.
 
 -- a transaction ends the way back
 pub going_to-transaction : (h : List Item) (i c : ℕ) → going_to (h ++ Transaction i c ∷ []) ≡ None
 going_to-transaction h i c = ap latest_turn (reverse-append h (Transaction i c ∷ []))
 
--- a turn says where to go
+-- a turn sets the target
 pub going_to-turn : (h : List Item) (p : ℕ) (cause : Cause)
     → going_to (h ++ Turn p cause ∷ []) ≡ Some p
 going_to-turn h p cause = ap latest_turn (reverse-append h (Turn p cause ∷ []))
 
--- a compensation leaves where the journey goes
+-- a compensation leaves the target
 pub going_to-compensation : (h : List Item) (i c : ℕ)
     → going_to (h ++ Compensation i c ∷ []) ≡ going_to h
 going_to-compensation h i c = ap latest_turn (reverse-append h (Compensation i c ∷ []))
 
--- so does a save-point
+-- a save-point leaves the target
 pub going_to-save : (h : List Item) (p : ℕ) → going_to (h ++ Save p ∷ []) ≡ going_to h
 going_to-save h p = ap latest_turn (reverse-append h (Save p ∷ []))
 
--- a journey has turned to its start if it had, or if the new item says so
+-- a journey has turned to its start if it had before, or if the new item is such a turn
 pub turned-more : (h : List Item) (x : Item)
     → has_turned_to_start (h ++ x ∷ []) ≡ (has_turned_to_start h || is_turn_to 0 x)
 turned-more h x =
     list_any-append (is_turn_to 0) h (x ∷ [])
     ∙ ap (λ b. has_turned_to_start h || b) (or-false (is_turn_to 0 x))
 
--- an item that is no turn to the start leaves it
+-- an item that is no turn to the start does not change whether there was one
 pub turned-other : (h : List Item) (x : Item) → is_turn_to 0 x ≡ false
     → has_turned_to_start (h ++ x ∷ []) ≡ has_turned_to_start h
 turned-other h x other =
     turned-more h x ∙ ap (λ b. has_turned_to_start h || b) other ∙ or-false (has_turned_to_start h)
 
--- where it had not, it has after a turn to 0 alone
+-- where there was none, there is one after a turn to 0 alone
 pub turned-turn : (h : List Item) (p : ℕ) (cause : Cause) → has_turned_to_start h ≡ false
     → has_turned_to_start (h ++ Turn p cause ∷ []) ≡ (0 == p)
 turned-turn h p cause e = turned-more h (Turn p cause) ∙ ap (λ b. b || (0 == p)) e
 
 -- Save-points.
 
--- an item that neither takes nor compensates p leaves whether a save-point was taken there
+-- an item that neither takes nor compensates p does not change whether a save-point was taken there
 pub is_taken-other : (h : List Item) (x : Item) (p : ℕ) → is_compensation_of p x ≡ false
     → is_taken (x ∷ []) p ≡ false → is_taken (h ++ x ∷ []) p ≡ is_taken h p
 is_taken-other [] x p other same = same
@@ -75,14 +74,14 @@ is_save_point-turn plan h q cause p =
     ∙ ap (λ b. (is_marked_at plan p && nat_le p (position_of h)) || b)
     (is_taken-other h (Turn q cause) p refl refl)
 
--- the start, or a save-point, is so after a turn
+-- p is the start or a save-point after a turn if it was so before
 pub kept-turn : (plan : Planned) (h : List Item) (q : ℕ) (cause : Cause) (p : ℕ)
     → (p ≡ 0) ⊎ IsTrue (is_save_point plan h p)
     → (p ≡ 0) ⊎ IsTrue (is_save_point plan (h ++ Turn q cause ∷ []) p)
 kept-turn plan h q cause p (inl e) = inl e
 kept-turn plan h q cause p (inr e) = inr (is_save_point-turn plan h q cause p ∙ e)
 
--- a mark that counted stays one where the position is not below it
+-- a mark that counted still counts where the position is not below it
 keeps_mark : (marked old taken : Bool) → ((marked && old) || taken) ≡ true
     → ((marked && true) || taken) ≡ true
 keeps_mark true old taken e = refl

@@ -1,5 +1,4 @@
--- How a legal ledger grows by one event, and proofs by its events one after another. For what holds
--- of all legal ledgers.
+-- How a legal ledger grows by one event, and induction over its events. For what holds of all legal ledgers.
 use Rattle.std.proofs.Common.{◌≡◌, ℕ, List, [], ◌∷◌, ◌++◌, ap, sym, ◌∙◌, append_assoc, subst, append-nil}
 use Rattle.std.proofs.lemmas.List.Elements.{filter_map-append}
 use Rattle.std.specs.Prelude.{Bool, true, false, ◌==◌, Some, None, option_map, unwrap_or, if◌then◌else◌, IsTrue}
@@ -25,12 +24,12 @@ pub IsLegal-append : (l : List Event) (e : Event) → IsLegal l → IsTrue (is_a
     → IsLegal (l ++ e ∷ [])
 IsLegal-append l e legal one = AreAllowedAfter-append [] l e legal one
 
--- what each allowed event keeps of a legal ledger
+-- each allowed event keeps this property of a legal ledger
 abbrev pub Keeps : (List Event → Type 0) → Type 0
 Keeps P = (l : List Event) (e : Event) → IsLegal l → IsTrue (is_allowed l e) → P l
     → P (l ++ e ∷ [])
 
--- the same from a legal ledger on, event by event
+-- induction from a legal ledger on, event by event
 induct-from : (P : List Event → Type 0) → Keeps P → (before es : List Event) → IsLegal before
     → P before → AreAllowedAfter before es → P (before ++ es)
 induct-from P more before [] legal p all = subst P (sym (append-nil before)) p
@@ -39,13 +38,13 @@ induct-from P more before (e ∷ es) legal p all =
     (induct-from P more (before ++ e ∷ []) es (IsLegal-append before e legal all.0)
     (more before e legal all.0 p) all.1)
 
--- what holds of no event, and is kept by each allowed event, holds of every legal ledger
+-- induction: what holds of the empty ledger, and is kept by each allowed event, holds of every legal ledger
 pub induct : (P : List Event → Type 0) → P [] → Keeps P → (l : List Event) → IsLegal l → P l
 induct P none more l legal = induct-from P more [] l tt none legal
 
 -- Journeys and histories.
 
--- a begun journey comes last
+-- a journey that is begun is the last one
 pub journeys-began : (l : List Event) (agent : List ℕ) (plan : _)
     → journeys (l ++ Began agent plan ∷ [])
     ≡ journeys l ++ record { agent = agent; plan = plan } ∷ []
@@ -57,25 +56,25 @@ pub journeys-loaded : (l : List Event) (name : List ℕ) (rows : _)
 journeys-loaded l name rows =
     filter_map-append begun_by l (Loaded name rows ∷ []) ∙ append-nil (journeys l)
 
--- nor does an item
+-- an item begins no journey
 pub journeys-did : (l : List Event) (k : ℕ) (item : Item)
     → journeys (l ++ Did k item ∷ []) ≡ journeys l
 journeys-did l k item =
     filter_map-append begun_by l (Did k item ∷ []) ∙ append-nil (journeys l)
 
--- a begun journey leaves each history
+-- a begin leaves each history
 pub history-began : (l : List Event) (agent : List ℕ) (plan : _) (j : ℕ)
     → history (l ++ Began agent plan ∷ []) j ≡ history l j
 history-began l agent plan j =
     filter_map-append (item_of j) l (Began agent plan ∷ []) ∙ append-nil (history l j)
 
--- so does a batch
+-- a batch leaves each history
 pub history-loaded : (l : List Event) (name : List ℕ) (rows : _) (j : ℕ)
     → history (l ++ Loaded name rows ∷ []) j ≡ history l j
 history-loaded l name rows j =
     filter_map-append (item_of j) l (Loaded name rows ∷ []) ∙ append-nil (history l j)
 
--- an item goes to the end of its journey's history, and of no other
+-- an item is appended to the history of its journey, and to no other
 history-item : (l : List Event) (k : ℕ) (item : Item) (j : ℕ) (v : Bool) → (j == k) ≡ v
     → history (l ++ Did k item ∷ []) j
     ≡ history l j ++ cons_option (if v then Some item else None) []
@@ -83,12 +82,12 @@ history-item l k item j v e =
     filter_map-append (item_of j) l (Did k item ∷ [])
     ∙ ap (λ b. history l j ++ cons_option (if b then Some item else None) []) e
 
--- to the end of the history of its own journey
+-- an item is appended to the history of its own journey
 pub history-did_same : (l : List Event) (k : ℕ) (item : Item) (j : ℕ) → (j == k) ≡ true
     → history (l ++ Did k item ∷ []) j ≡ history l j ++ item ∷ []
 history-did_same l k item j e = history-item l k item j true e
 
--- and of no other
+-- an item leaves the histories of the other journeys
 pub history-did_other : (l : List Event) (k : ℕ) (item : Item) (j : ℕ) → (j == k) ≡ false
     → history (l ++ Did k item ∷ []) j ≡ history l j
 history-did_other l k item j e = history-item l k item j false e ∙ append-nil (history l j)
@@ -107,7 +106,7 @@ pub is_item_allowed-none : (l : List Event) (k : ℕ) (item : Item) → journey_
 is_item_allowed-none l k item absent =
     ap (λ o. unwrap_or (option_map (may_do l k item) o) false) absent
 
--- so an item that is allowed where there is none can't be
+-- it is absurd that an item is allowed where there is no journey
 pub absurd_item : {X : Type 0} (l : List Event) (k : ℕ) (item : Item) → journey_at l k ≡ None
     → is_item_allowed l k item ≡ true → X
 absurd_item l k item absent may =

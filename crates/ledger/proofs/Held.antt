@@ -4,7 +4,7 @@ use Rattle.std.proofs.lemmas.List.Sums.{sum_by-cons, sum_by-append}
 use Rattle.std.specs.Prelude.{Bool, true, false, not, ◌==◌, Option, Some, None, option_map, unwrap_or, sum_by, if◌then◌else◌}
 use Rattle.allotment.specs.Cells.{numbers_from}
 use Rattle.allotment.specs.declared.cells.Cell.{Cell}
-use Rattle.plan.specs.Planned.{Planned, numbered, want_at}
+use Rattle.plan.specs.PlanModel.{Planned, numbered, want_at}
 use Rattle.commands.specs.declared.items.Cause.{Cause}
 use Rattle.commands.specs.declared.items.Item.{Item}
 use Rattle.commands.specs.declared.items.Item.TheVariants.{Transaction, Compensation, Turn, Save}
@@ -39,7 +39,7 @@ held_in-nothing : (x : Cell) (o : Option Journey) → held_in x [] o ≡ 0
 held_in-nothing x None = refl
 held_in-nothing x (Some a) = refl
 
--- a begun journey holds nothing, and the others hold what they held
+-- a journey that is begun holds nothing, and the others hold what they held
 held_by_journey-began : (l : List Event) (agent : List ℕ) (plan : Planned) (x : Cell) → AllGo l
     → (j : ℕ) → held_by_journey (l ++ Began agent plan ∷ []) x j ≡ held_by_journey l x j
 held_by_journey-began l agent plan x all j = known (journey_at l j) refl
@@ -59,7 +59,7 @@ held_by_journey-began l agent plan x all j = known (journey_at l j) refl
         (ap (λ js. numbered js j) (journeys-began l agent plan)
         ∙ numbered-some (journeys l) (record { agent = agent; plan = plan }) j b e ∙ sym e)
 
--- so a begun journey changes nothing that is held
+-- a begin changes nothing that is held
 pub held-began : (l : List Event) (agent : List ℕ) (plan : Planned) (x : Cell) → AllGo l
     → held (l ++ Began agent plan ∷ []) x ≡ held l x
 held-began l agent plan x all =
@@ -160,7 +160,7 @@ pub held_by-turn : (plan : Planned) (h : List Item) (p : ℕ) (cause : Cause) (x
 unfolding places_of
 held_by-turn plan h p cause x = ap (sum_by (places_of plan x)) (net-turn h p cause)
 
--- so does a save-point
+-- a save-point leaves what is held
 pub held_by-save : (plan : Planned) (h : List Item) (p : ℕ) (x : Cell)
     → held_by plan (h ++ Save p ∷ []) x ≡ held_by plan h x
 unfolding places_of

@@ -1,8 +1,8 @@
--- A journey goes along an up-and-down word, however it goes on. For all legal ledgers.
+-- A journey follows an up-and-down word, however it goes on. For all legal ledgers.
 use Rattle.std.proofs.Common.{◌≡◌, ℕ, ◌⊎◌, List, [], ◌∷◌, ◌++◌, refl, ap, sym, ◌∙◌, arith}
 use Rattle.std.proofs.lemmas.Bool.{ltb-true, and_parts}
 use Rattle.std.specs.Prelude.{Bool, true, false, ◌||◌, ◌==◌, nat_lt, Some, None, IsTrue}
-use Rattle.plan.specs.Planned.{Planned}
+use Rattle.plan.specs.PlanModel.{Planned}
 use Rattle.commands.specs.declared.items.Cause.{Cause}
 use Rattle.commands.specs.declared.items.Cause.TheVariants.{Stop, Refused, Asked}
 use Rattle.commands.specs.declared.items.Item.{Item}
@@ -31,7 +31,7 @@ turns plan h p cause g run kept tries =
       tries = tries;
     }
 
--- one who asks turns a running journey as a stop does, and one that goes back further down
+-- a turn on request turns a running journey as a stop does, and lowers the target of one that goes back
 asked : (plan : Planned) (h : List Item) (p : ℕ) → Goes plan h
     → may_turn plan h (phase plan h) p ≡ true → Goes plan (h ++ Turn p Asked ∷ [])
 asked plan h p g may =

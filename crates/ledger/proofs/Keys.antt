@@ -1,9 +1,9 @@
--- Under each agent and key at most one event is made. For the law of worlds.
+-- Under each agent and key at most one event is made: requests are idempotent. For the law of worlds.
 use Rattle.std.proofs.Common.{◌≡◌, ℕ, ◌+◌, ◌≤◌, ◌⊎◌, List, [], ◌∷◌, refl, ap, sym, ◌∙◌, arith, inl, inr}
 use Rattle.std.proofs.lemmas.Bool.{and_parts}
 use Rattle.std.proofs.lemmas.Slice.Eq.{bytes_eq-Decides}
 use Rattle.std.specs.Prelude.{Bool, true, false, ◌&&◌, Option, Some, None, is_some, if◌then◌else◌, bytes_eq}
-use Rattle.commands.specs.Asked.{Asked}
+use Rattle.commands.specs.Asks.{Asked}
 use Rattle.commands.specs.Request.{Request}
 use Rattle.commands.specs.declared.replies.Reply.{Reply}
 use Rattle.ledger.specs.Answer.{State, answer, KeptReply, state_with, outcome_for, outcome}
@@ -17,7 +17,7 @@ use Rattle.ledger.proofs.Outcomes.{IsKept, outcome-kept}
 counted : Bool → Option Event → ℕ
 counted under e = if under && is_some e then 1 else 0
 
--- no event counts for none
+-- without an event nothing is counted
 counted-none : (v : Bool) → counted v None ≡ 0
 unfolding counted
 counted-none true = refl
@@ -30,13 +30,13 @@ record Once (agent key : List ℕ) (s : State) (ask : Option Asked) (asked : Req
   known : IsKept s.kept agent key → acts agent key s ask asked ≡ 0
   kept : (acts agent key s ask asked ≡ 0) ⊎ IsKept (outcome s ask asked).state.kept agent key
 
--- a request that does not act there
+-- a request that does not act under this key
 idle : (agent key : List ℕ) (s : State) (ask : Option Asked) (asked : Request)
     → acts agent key s ask asked ≡ 0 → Once agent key s ask asked
 idle agent key s ask asked zero_is =
     record { at_most = omega arith; known = λ k. zero_is; kept = inl zero_is }
 
--- without an event nothing acts
+-- a request without an event does not act
 no_event-idle : (agent key : List ℕ) (s : State) (a : Asked) (asked : Request)
     → (outcome s (Some a) asked).event ≡ None → Once agent key s (Some a) asked
 unfolding counted
@@ -79,7 +79,7 @@ acting agent key s a asked e fresh made under =
         (ap (λ o. (outcome_for s (Some a) asked o).event) fresh ∙ made)
         ∙ ap (λ v. counted v (Some e)) under
 
--- each request acts once at most: it has another key, or a kept reply, or no event, or it acts
+-- each request acts at most once: it has another key, or a kept reply, or no event, or it acts
 once : (agent key : List ℕ) (s : State) (ask : Option Asked) (asked : Request)
     → Once agent key s ask asked
 unfolding counted
@@ -110,7 +110,7 @@ once agent key s (Some a) asked = by_key (bytes_eq agent a.agent && bytes_eq key
 
 -- Worlds.
 
--- where a reply is kept, its key makes no event any more
+-- where a reply is kept, its key makes no further event
 never_again : (agent key : List ℕ) (s : State) (w : List Moment) → IsKept s.kept agent key
     → times_acted agent key s w ≡ 0
 never_again agent key s [] k = refl
@@ -127,7 +127,7 @@ never_again agent key s (Cut asked ask true ∷ later) k =
 never_again agent key s (Cut asked ask false ∷ later) k = never_again agent key s later k
 never_again agent key s (Reopened ∷ later) k = never_again agent key s later k
 
--- a request that acts leaves its reply kept, and one that does not leaves the rest to act once
+-- after a request that acts its reply is kept; after one that does not, the later ones act at most once
 one_more : (agent key : List ℕ) (s : State) (ask : Option Asked) (asked : Request)
     (later : List Moment) → times_acted agent key (outcome s ask asked).state later ≤ 1
     → acts agent key s ask asked + times_acted agent key (outcome s ask asked).state later ≤ 1
@@ -142,7 +142,7 @@ one_more agent key s ask asked later rest =
           )
     ]
 
--- so in all a key acts once at most
+-- in all, a key acts at most once
 pub acts_once : (agent key : List ℕ) (s : State) (w : List Moment) → times_acted agent key s w ≤ 1
 acts_once agent key s [] = omega arith
 acts_once agent key s (Done asked ask reply ∷ later) =

@@ -1,8 +1,7 @@
--- In every legal ledger each journey goes along an up-and-down word. For the laws of words and
--- steps.
+-- In every legal ledger each journey follows an up-and-down word. For the laws of words and steps.
 use Rattle.std.proofs.Common.{◌≡◌, ℕ, zero, suc, ◌⊎◌, List, [], ◌∷◌, ◌++◌, refl, ap, sym, ◌∙◌, subst, eqb-true, inl, inr}
 use Rattle.std.specs.Prelude.{Bool, true, false, ◌==◌, Some, None, IsTrue}
-use Rattle.plan.specs.Planned.{numbered}
+use Rattle.plan.specs.PlanModel.{numbered}
 use Rattle.commands.specs.declared.items.Item.{Item}
 use Rattle.ledger.specs.History.{net, next_want}
 use Rattle.ledger.specs.Ledger.{Event, Loaded, Began, Did, Journey, journeys, journey_at, history, fits, is_allowed, IsLegal}
@@ -13,7 +12,7 @@ use Rattle.ledger.proofs.Lists.{numbered-snoc, numbered-none, map-none}
 use Rattle.ledger.proofs.Modes.{Goes}
 use Rattle.ledger.proofs.Whole.{begins-word, ended-word, undone-word}
 
--- every journey goes along its word, and a number without a journey has no history
+-- every journey follows its word, and a number without a journey has no history
 pub record AllGo (l : List Event) : Type 0 where
   pub go : (j : ℕ) (a : Journey) → journey_at l j ≡ Some a → Goes a.plan (history l j)
   pub none : (j : ℕ) → journey_at l j ≡ None → history l j ≡ []
@@ -31,7 +30,7 @@ go-loaded l name rows all =
     was : (j : ℕ) → journey_at l j ≡ journey_at (l ++ Loaded name rows ∷ []) j
     was j = ap (λ js. numbered js j) (sym (journeys-loaded l name rows))
 
--- a begun journey is new and has no history yet, and the others are as they were
+-- a journey that is begun is new and has no history yet, and the others are as they were
 go-began : (l : List Event) (agent : List ℕ) (plan : _) → AllGo l
     → AllGo (l ++ Began agent plan ∷ [])
 go-began l agent plan all =
@@ -58,7 +57,7 @@ go-began l agent plan all =
     old_or_new j a (inl old) = all.go j a old
     old_or_new j a (inr new) = subst (Goes a.plan) (sym (all.none j new.0)) (goes-begin a.plan)
 
--- an item leads its own journey on along its word, and leaves the others
+-- an item takes its own journey on along its word, and leaves the others
 go-did : (l : List Event) (k : ℕ) (item : Item) → IsTrue (is_allowed l (Did k item)) → AllGo l
     → AllGo (l ++ Did k item ∷ [])
 go-did l k item may all =
@@ -93,7 +92,7 @@ all_go-more l (Loaded name rows) legal may all = go-loaded l name rows all
 all_go-more l (Began agent plan) legal may all = go-began l agent plan all
 all_go-more l (Did k item) legal may all = go-did l k item may all
 
--- in every legal ledger every journey goes along its word
+-- in every legal ledger every journey follows its word
 pub all_go : (l : List Event) → IsLegal l → AllGo l
 all_go = induct AllGo (record { go = λ j a e. no_journey j a e; none = λ j e. refl }) all_go-more
   where
@@ -101,7 +100,7 @@ all_go = induct AllGo (record { go = λ j a e. no_journey j a e; none = λ j e. 
     no_journey zero a e = cc
     no_journey (suc i) a e = cc
 
--- so each journey reads as an up-and-down word
+-- each journey of a legal ledger reads as an up-and-down word
 pub up_and_down : (l : List Event) → IsLegal l → EveryJourneyIsUpAndDown l
 up_and_down l legal j a e =
     let g = (all_go l legal).go j a e in

@@ -4,12 +4,12 @@ use Rattle.std.proofs.Common.{◌≡◌, ℕ, zero, suc, ◌+◌, ◌≤◌, ◌
 use Rattle.std.proofs.lemmas.Bool.{ltb-false, and_parts}
 use Rattle.std.specs.Prelude.{Bool, true, false, ◌&&◌, ◌||◌, not, nat_lt, Some, None, find, position, slice_get, cond}
 use Rattle.std.specs.List.{list_any, list_all, position_or_len}
-use Rattle.plan.specs.Planned.{numbered}
+use Rattle.plan.specs.PlanModel.{numbered}
 use Rattle.ledger.specs.History.{last_of}
 
 -- The last element.
 
--- a list with a last element is some front and that element
+-- a list with a last element is a prefix and that element
 pub last_of-is : {X : Type 0} (xs : List X) (t : X) → last_of xs ≡ Some t
     → (front : List X) × (xs ≡ front ++ t ∷ [])
 last_of-is [] t e = cc
@@ -17,7 +17,7 @@ last_of-is (x ∷ []) t e = let is : x ≡ t = cc in ([], ap (λ y. y ∷ []) is
 last_of-is (x ∷ y ∷ ys) t e =
     let rest = last_of-is (y ∷ ys) t e in (x ∷ rest.0, ap (λ zs. x ∷ zs) rest.1)
 
--- what stands in front does not change the last element
+-- what comes before does not change the last element
 pub last_of-append : {X : Type 0} (xs : List X) (y : X) (ys : List X)
     → last_of (xs ++ y ∷ ys) ≡ last_of (y ∷ ys)
 last_of-append [] y ys = refl
@@ -30,16 +30,16 @@ front_of [] = []
 front_of (x ∷ []) = []
 front_of (x ∷ y ∷ ys) = x ∷ front_of (y ∷ ys)
 
--- an element put at the end is what `front_of` leaves out
+-- an element that is appended is what `front_of` leaves out
 pub front_of-snoc : {X : Type 0} (xs : List X) (a : X) → front_of (xs ++ a ∷ []) ≡ xs
 unfolding front_of
 front_of-snoc [] a = refl
 front_of-snoc (x ∷ []) a = refl
 front_of-snoc (x ∷ y ∷ ys) a = ap (λ zs. x ∷ zs) (front_of-snoc (y ∷ ys) a)
 
--- The element of a number.
+-- The element with a number.
 
--- the same, counted from 0: it was there, or it is the new one behind all others
+-- the same, counted from 0: it was there, or it is the appended one
 slice_get-snoc : {X : Type 0} (xs : List X) (a : X) (i : ℕ) (b : X)
     → slice_get (xs ++ a ∷ []) i ≡ Some b
     → (slice_get xs i ≡ Some b) ⊎ ((slice_get xs i ≡ None) × (a ≡ b))
@@ -48,7 +48,7 @@ slice_get-snoc [] a (suc i) b e = cc
 slice_get-snoc (x ∷ xs) a zero b e = inl e
 slice_get-snoc (x ∷ xs) a (suc i) b e = slice_get-snoc xs a i b e
 
--- of a list with one more at its end, the element of a number was there, or is the new one
+-- of a list with one more element at its end, the element with a number was there, or is the appended one
 pub numbered-snoc : {X : Type 0} (xs : List X) (a : X) (j : ℕ) (b : X)
     → numbered (xs ++ a ∷ []) j ≡ Some b
     → (numbered xs j ≡ Some b) ⊎ ((numbered xs j ≡ None) × (a ≡ b))
@@ -62,7 +62,7 @@ slice_get-none [] a i e = refl
 slice_get-none (x ∷ xs) a zero e = cc
 slice_get-none (x ∷ xs) a (suc i) e = slice_get-none xs a i e
 
--- a number that the longer list does not have, the shorter one has not either
+-- a number that the longer list does not have, the shorter one does not have either
 pub numbered-none : {X : Type 0} (xs : List X) (a : X) (j : ℕ)
     → numbered (xs ++ a ∷ []) j ≡ None → numbered xs j ≡ None
 numbered-none xs a zero e = refl
@@ -75,7 +75,7 @@ slice_get-some [] a i b e = cc
 slice_get-some (x ∷ xs) a zero b e = e
 slice_get-some (x ∷ xs) a (suc i) b e = slice_get-some xs a i b e
 
--- one more at the end leaves the elements that were there
+-- an appended element leaves the elements that were there
 pub numbered-some : {X : Type 0} (xs : List X) (a : X) (j : ℕ) (b : X)
     → numbered xs j ≡ Some b → numbered (xs ++ a ∷ []) j ≡ Some b
 numbered-some xs a zero b e = cc
@@ -104,7 +104,7 @@ find-passes test (y ∷ ys) x e = go (test y) refl (λ r. find-passes test ys x 
     go true passes later s = let same : y ≡ x = cc in ap test (sym same) ∙ passes
     go false fails later s = later s
 
--- where the first that fails lies behind the list, none fails
+-- where the first that fails is past the end of the list, none fails
 all_pass : {X : Type 0} (p : X → Bool) (xs : List X)
     → length xs ≤ position_or_len (λ x. not (p x)) xs → list_all p xs ≡ true
 all_pass p [] h = refl

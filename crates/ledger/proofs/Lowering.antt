@@ -1,9 +1,8 @@
--- How many more steps a journey may make at most, and that each step leaves fewer. For the bound of
--- recovery.
+-- How many more steps a journey may make at most, and that each step leaves fewer. For the bound of recovery.
 use Rattle.std.proofs.Common.{◌≡◌, ℕ, ◌+◌, ◌-◌, ◌*◌, ◌<◌, ◌≤◌, List, [], ◌∷◌, ◌++◌, refl, ap, sym, ◌∙◌, arith}
 use Rattle.std.proofs.Math.Nat.{mul-le-mul_left}
 use Rattle.std.specs.Prelude.{Bool, true, false}
-use Rattle.plan.specs.Planned.{Planned, step_count}
+use Rattle.plan.specs.PlanModel.{Planned, step_count}
 use Rattle.commands.specs.declared.items.Cause.TheVariants.{Stop, Refused, Asked}
 use Rattle.commands.specs.declared.items.Item.{Item}
 use Rattle.commands.specs.declared.items.Item.TheVariants.{Transaction, Compensation, Turn, Save}
@@ -25,8 +24,8 @@ rounds plan h = plan.tries + 1 - refusals h
 pub way : Planned → List Item → ℕ
 way plan h = 2 * step_count plan * rounds plan h
 
--- how many more steps a journey in this phase may make at most: a journey that runs has the steps
--- that stand behind it, and one that goes back has them before it
+-- how many more steps a journey in this phase may make at most: a running journey has done the steps below its
+-- position, and one that goes back has yet to compensate them
 abbrev pub left_in : Planned → List Item → Phase → ℕ
 left_in plan h Run = way plan h - position_of h
 left_in plan h (Back p) = way plan h + position_of h
@@ -117,7 +116,7 @@ fewer-transaction plan h fits i c g may =
       | ended at e ↦ (let after = ap (left_in plan (h ++ Transaction i c ∷ [])) e in omega arith)
     ]
 
--- so does a compensation
+-- a compensation leaves fewer steps
 fewer-compensation : (plan : Planned) (h : List Item) (fits : Bool) (i c : ℕ) → Goes plan h
     → may_come plan h fits (Compensation i c) ≡ true
     → steps_left plan (h ++ Compensation i c ∷ []) < steps_left plan h
@@ -130,7 +129,7 @@ fewer-compensation plan h fits i c g may =
     (phase plan (h ++ Compensation i c ∷ [])) in
     omega arith
 
--- so does a refused turn, however far it leads back
+-- a refused turn leaves fewer steps, however far it leads back
 fewer-refused : (plan : Planned) (h : List Item) (fits : Bool) (p : ℕ) → Goes plan h
     → may_come plan h fits (Turn p Refused) ≡ true
     → steps_left plan (h ++ Turn p Refused ∷ []) < steps_left plan h

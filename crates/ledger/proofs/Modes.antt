@@ -1,11 +1,10 @@
--- Where a journey may be in its up-and-down word: on its way up, on its way down, or all the way
--- down. And what its phase is there. For each item that may come, and for what the word says in the
--- end.
+-- Where a journey may be in its up-and-down word: on its way up, on its way down, or all the way down. And what its
+-- phase is there. For each item that may come, and for what the word says in the end.
 use Rattle.std.proofs.Common.{◌≡◌, ℕ, ◌<◌, ◌≤◌, ◌⊎◌, List, [], ◌∷◌, ◌++◌, refl, ap, sym, ◌∙◌, arith, append_assoc, eqb-true, eq-eqb}
 use Rattle.std.proofs.lemmas.Bool.{eqb-false, lt-ltb, le-ltb, ne_eqb, and_right}
 use Rattle.std.specs.Prelude.{Bool, true, false, ◌&&◌, ◌==◌, Option, Some, None, if◌then◌else◌, IsTrue}
 use Rattle.allotment.specs.Cells.{numbers_from}
-use Rattle.plan.specs.Planned.{Planned, step_count}
+use Rattle.plan.specs.PlanModel.{Planned, step_count}
 use Rattle.commands.specs.declared.items.Item.{Item}
 use Rattle.commands.specs.declared.items.Phase.{Phase}
 use Rattle.commands.specs.declared.items.Phase.TheVariants.{Run, Back, Ended, Undone}
@@ -25,7 +24,7 @@ pub record Rising (plan : Planned) (h : List Item) : Type 0 where
   pub within : position_of h ≤ step_count plan
   pub reads : word part ≡ up from (position_of h)
   pub unturned : has_turned_to_start h ≡ false
-  -- it is where it was told to go back to, or below
+  -- it is at the target of its last turn, or below
   pub arrived : (p : ℕ) → going_to h ≡ Some p → position_of h ≤ p
 
 -- the journey is on its way down to a target: from `from` it went up to `top`, and is on the way
@@ -60,8 +59,8 @@ pub data Mode (plan : Planned) (h : List Item) : Type 0 where
   falls : Falling plan h → Mode plan h
   fell : Fallen plan h → Mode plan h
 
--- the journey goes along an up-and-down word, steps 1 to its position stand, and it has a try left
--- unless it has turned to its start
+-- the journey follows an up-and-down word, steps 1 to its position stand, and it has a try left unless it has turned to
+-- its start
 pub record Goes (plan : Planned) (h : List Item) : Type 0 where
   pub stands : standing h ≡ numbers_from 1 (position_of h)
   pub mode : Mode plan h
@@ -74,7 +73,7 @@ part-more h before part x e = ap (λ g. g ++ x ∷ []) e ∙ append_assoc before
 
 -- Phases.
 
--- a journey that is not above where it was told to go runs
+-- a journey that is not above its target runs
 back_or_run-run : (pos : ℕ) (going : Option ℕ) → ((p : ℕ) → going ≡ Some p → pos ≤ p)
     → back_or_run pos going ≡ Run
 back_or_run-run pos None arrived = refl
@@ -149,7 +148,7 @@ upward plan h r = go (position_of h == step_count plan) refl
         let below : position_of h < step_count plan = omega arith in
         runs below (phase-rising plan h r below)
 
--- two phases that a test tells apart are not the same
+-- two phases for which a test answers differently are different
 pub told_apart : {X : Type 0} (test : Phase → Bool) (p q : Phase) → test p ≡ true → p ≡ q
     → test q ≡ false → X
 told_apart test p q passes same fails =

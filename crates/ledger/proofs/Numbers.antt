@@ -1,8 +1,8 @@
--- Numbers in a row, and how such rows join. For words and for sums over journeys.
+-- Consecutive numbers, and how such lists join. For words and for sums over journeys.
 use Rattle.std.proofs.Common.{◌≡◌, ℕ, zero, suc, ◌+◌, ◌-◌, ◌≤◌, [], ◌∷◌, ◌++◌, ap, ◌∙◌, arith}
 use Rattle.allotment.specs.Cells.{numbers_from}
 
--- n + m numbers in a row are the first n of them, and then m more
+-- n + m consecutive numbers are the first n of them, followed by m more
 pub numbers_from-append : (first n m : ℕ)
     → numbers_from first (n + m) ≡ numbers_from first n ++ numbers_from (first + n) m
 numbers_from-append first zero m =
@@ -13,7 +13,7 @@ numbers_from-append first (suc n) m =
     (numbers_from-append (suc first) n m
     ∙ ap (λ k. numbers_from (suc first) n ++ numbers_from k m) (omega arith))
 
--- the numbers from a + 1 to d are those up to b, and then those behind b
+-- the numbers from a + 1 to d are those up to b, followed by those after b
 pub numbers_between-join : (a b d : ℕ) → a ≤ b → b ≤ d
     → numbers_from (suc a) (d - a) ≡ numbers_from (suc a) (b - a) ++ numbers_from (suc b) (d - b)
 numbers_between-join a b d low high =

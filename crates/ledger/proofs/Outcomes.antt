@@ -1,8 +1,7 @@
--- What a request leaves: a legal ledger that grew by its event, and kept replies that stay kept.
--- For worlds.
+-- What a request changes: a legal ledger grows by its event and stays legal, and kept replies stay kept. For worlds.
 use Rattle.std.proofs.Common.{◌≡◌, ℕ, List, ◌++◌, refl, sym, append-nil}
 use Rattle.std.specs.Prelude.{Bool, true, false, ◌&&◌, Option, Some, None, is_some, option_to_list, if◌then◌else◌, bytes_eq}
-use Rattle.commands.specs.Asked.{Asked}
+use Rattle.commands.specs.Asks.{Asked}
 use Rattle.commands.specs.Request.{Request}
 use Rattle.commands.specs.declared.replies.Reply.{Reply}
 use Rattle.ledger.specs.Answer.{answer, is_request, State, KeptReply, Kept, keep, state_with, asker, kept_for, outcome_for, outcome}
@@ -18,8 +17,8 @@ legal-with : (s : State) (ask : Option Asked) (answered : Reply) (e : Option Eve
 legal-with s ask answered None legal may = legal
 legal-with s ask answered (Some e) legal may = IsLegal-append s.ledger e legal may
 
--- a request that keeps the limits leaves the ledger legal: a kept reply adds nothing, an answer an
--- event that is allowed
+-- a request that keeps the limits leaves the ledger legal: a kept reply adds nothing, an answer adds an event that is
+-- allowed
 pub outcome-legal : (s : State) (ask : Option Asked) (asked : Request)
     → IsLegal s.ledger → is_request asked ≡ true → IsLegal (outcome s ask asked).state.ledger
 outcome-legal s ask asked legal good = go (kept_for s ask)
@@ -33,7 +32,7 @@ outcome-legal s ask asked legal good = go (kept_for s ask)
 
 -- Growth.
 
--- an answer adds its event to the end of the ledger
+-- an answer appends its event to the ledger
 ledger-with : (s : State) (ask : Option Asked) (answered : Reply) (e : Option Event)
     → (state_with s ask answered e).ledger ≡ s.ledger ++ option_to_list e
 ledger-with s ask answered None = sym (append-nil s.ledger)
@@ -58,7 +57,7 @@ outcome-ledger s ask asked = go (kept_for s ask)
 abbrev pub IsKept : Kept → List ℕ → List ℕ → Type 0
 IsKept kept agent key = is_some (kept agent key) ≡ true
 
--- to keep one reply more leaves what was kept, or puts another in its place
+-- keeping one more reply leaves what was kept, or replaces it
 keep-kept : (kept : Kept) (ask : Asked) (answered : Reply) (agent key : List ℕ)
     → IsKept kept agent key → IsKept (keep kept ask answered) agent key
 keep-kept kept ask answered agent key e = go (bytes_eq agent ask.agent && bytes_eq key ask.key)
@@ -69,7 +68,7 @@ keep-kept kept ask answered agent key e = go (bytes_eq agent ask.agent && bytes_
     go true = refl
     go false = e
 
--- so does an answer
+-- an answer leaves what was kept, or replaces it
 kept-with : (s : State) (ask : Option Asked) (answered : Reply) (e : Option Event)
     (agent key : List ℕ) → IsKept s.kept agent key
     → IsKept (state_with s ask answered e).kept agent key
@@ -77,7 +76,7 @@ kept-with s ask answered None agent key k = k
 kept-with s None answered (Some e) agent key k = k
 kept-with s (Some ask) answered (Some e) agent key k = keep-kept s.kept ask answered agent key k
 
--- under a key where a reply is kept, one stays kept
+-- under a key with a kept reply a reply stays kept
 pub outcome-kept : (s : State) (ask : Option Asked) (asked : Request) (agent key : List ℕ)
     → IsKept s.kept agent key → IsKept (outcome s ask asked).state.kept agent key
 outcome-kept s ask asked agent key k = go (kept_for s ask)

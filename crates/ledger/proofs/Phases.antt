@@ -1,12 +1,12 @@
--- In which phases the journeys of a ledger are: what the items of others leave, and what it says
--- that none is in one. For the parts that recovery adds.
+-- In which phases the journeys of a ledger are: what the items of other journeys leave, and what follows if none is in
+-- such a phase. For the parts that recovery adds.
 use Rattle.std.proofs.Common.{◌≡◌, ℕ, zero, suc, ◌+◌, ◌<◌, ◌≤◌, List, [], ◌∷◌, ◌++◌, length, refl, ap, sym, ◌∙◌, arith, append_assoc, append-nil, eqb-true}
 use Rattle.std.proofs.lemmas.Bool.{and_parts, ltb-true, ltb-false, eqb-false, or_parts, ne_eqb}
 use Rattle.std.proofs.lemmas.Option.{slice_get_past}
 use Rattle.std.specs.Prelude.{Bool, true, false, ◌==◌, not, nat_lt, Option, option_map, unwrap_or}
 use Rattle.std.specs.List.{list_all, list_any}
 use Rattle.allotment.specs.Cells.{numbers_from}
-use Rattle.plan.specs.Planned.{numbered}
+use Rattle.plan.specs.PlanModel.{numbered}
 use Rattle.commands.specs.declared.items.Item.{Item}
 use Rattle.commands.specs.declared.items.Phase.{Phase}
 use Rattle.ledger.specs.History.{phase}
@@ -29,7 +29,7 @@ is_in-did_other passes l k item j other =
     (history-did_other l k item j other)
     ∙ ap (λ js. passing passes (history l j) (numbered js j)) (journeys-did l k item)
 
--- so do items of later journeys, as many as there are
+-- items of later journeys leave the phase of this one, however many there are
 pub is_in-later : (passes : Phase → Bool) (test : Item → Bool) (j : ℕ) (l p : List Event)
     → list_all (are_items test) p ≡ true → list_all (λ d. nat_lt j (journey_of d)) p ≡ true
     → is_in passes (l ++ p) j ≡ is_in passes l j
@@ -46,7 +46,7 @@ is_in-later passes test j l (Did k item ∷ p) items later =
 
 -- Numbers.
 
--- a test that no number in a row passes fails at each of them
+-- a test that none of consecutive numbers passes fails at each of them
 none-numbered : (test : ℕ → Bool) (first n j : ℕ) → list_any test (numbers_from first n) ≡ false
     → first ≤ j → j < first + n → test j ≡ false
 none-numbered test first zero j none low high = absurd (omega arith)

@@ -7,7 +7,7 @@ use Rattle.allotment.specs.Want.{Wanted}
 use Rattle.allotment.specs.Cells.{is_cell, cells_of, wants_cell}
 use Rattle.allotment.specs.declared.cells.Cell.{Cell}
 use Rattle.allotment.specs.declared.cells.Row.{Row}
-use Rattle.plan.specs.Planned.{want_at}
+use Rattle.plan.specs.PlanModel.{want_at}
 use Rattle.commands.specs.declared.items.Item.{Item}
 use Rattle.commands.specs.declared.items.Item.TheVariants.{Transaction, Compensation, Turn, Save}
 use Rattle.ledger.specs.History.{position_of, next_want}
@@ -123,6 +123,6 @@ room-more l (Did k item) legal may room = go (journey_at l k) refl
     go None absent = absurd_item l k item absent may
     go (Some a) at = item-room l k a item at (sym (is_item_allowed-may_do l k item a at) ∙ may) room
 
--- so no cell of a legal ledger is overfull
+-- no cell of a legal ledger is overfull
 pub no_cell_overfull : (l : List Event) → IsLegal l → NoCellIsOverfull l
 no_cell_overfull = induct NoCellIsOverfull (λ x. omega arith) room-more

@@ -1,11 +1,10 @@
--- A journey without save-points only ever went up before it went down for good. For the law of
--- words.
+-- A journey without save-points only went up before it went down for good. For the law of words.
 use Rattle.std.proofs.Common.{◌≡◌, ℕ, ◌<◌, ◌⊎◌, List, [], ◌∷◌, ◌++◌, refl, ap, sym, ◌∙◌, arith, append_assoc, append-nil, inl, inr}
 use Rattle.std.proofs.lemmas.Bool.{or_parts, or_from, and_left}
 use Rattle.std.proofs.lemmas.List.Folds.{list_any-append}
 use Rattle.std.specs.Prelude.{true, false, nat_le}
 use Rattle.std.specs.List.{list_any}
-use Rattle.plan.specs.Planned.{Planned, step_count, is_marked_at}
+use Rattle.plan.specs.PlanModel.{Planned, step_count, is_marked_at}
 use Rattle.commands.specs.declared.items.Item.{Item}
 use Rattle.commands.specs.declared.items.Item.TheVariants.{Transaction, Compensation, Turn, Save}
 use Rattle.ledger.specs.History.{is_save, is_taken, is_save_point, position_of}
@@ -15,7 +14,7 @@ use Rattle.ledger.specs.Word.{word, up, down, Returns, begins, goes_on, GoesToEn
 use Rattle.ledger.proofs.Ledgers.{up_and_down}
 use Rattle.ledger.proofs.Runs.{word-append, up-none, up-join, down-none}
 
--- where none was taken, none stands
+-- where no save-point was taken, none stands
 is_taken-none : (h : List Item) (p : ℕ) → list_any is_save h ≡ false → is_taken h p ≡ false
 is_taken-none [] p none = refl
 is_taken-none (Transaction i c ∷ h) p none = is_taken-none h p none
@@ -30,14 +29,14 @@ is_save_point-none plan h p unmarked untaken =
     or_from _ _ (and_left (is_marked_at plan p) (nat_le p (position_of h)) unmarked)
     (is_taken-none h p untaken)
 
--- what a history did not take, its first part did not take
+-- what a history did not take, its prefix did not take
 untaken-front : (g rest : List Item) → list_any is_save (g ++ rest) ≡ false
     → list_any is_save g ≡ false
 untaken-front g rest none =
     (or_parts (list_any is_save g) (list_any is_save rest)
     (sym (list_any-append is_save g rest) ∙ none)).0
 
--- so before its last run a journey went up without a step down
+-- before its last run such a journey went up without a step down
 returns-up : (plan : Planned) → ((i : ℕ) → is_marked_at plan i ≡ false)
     → (g : List Item) (pos : ℕ) → Returns plan g pos → list_any is_save g ≡ false
     → word g ≡ up 0 pos
@@ -86,8 +85,7 @@ plain-start plan h none g =
     ∙ ap (λ w. w ++ down g.top 0) (sym (up-join 0 g.from g.top (omega arith) g.turns.rises)) in
     (g.top, g.turns.short, reads)
 
--- so without save-points an ended journey did all its steps, and an undone one took back what it
--- did
+-- without save-points an ended journey did all its steps, and an undone one compensated what it did
 pub all_or_nothing : (l : List Event) → IsLegal l → EachPlainJourneyIsAllOrNothing l
 all_or_nothing l legal j a at none =
     let reads = up_and_down l legal j a at in

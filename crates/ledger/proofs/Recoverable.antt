@@ -4,7 +4,7 @@ use Rattle.std.proofs.lemmas.Bool.{and_parts, and_from, or_from, not_from_false}
 use Rattle.std.specs.Prelude.{Bool, true, false, not, Option, Some, None}
 use Rattle.std.specs.List.{list_all, list_any}
 use Rattle.allotment.specs.Cells.{numbers_from}
-use Rattle.plan.specs.Planned.{Planned}
+use Rattle.plan.specs.PlanModel.{Planned}
 use Rattle.commands.specs.declared.items.Cause.TheVariants.{Stop, Refused, Asked}
 use Rattle.commands.specs.declared.items.Item.{Item}
 use Rattle.commands.specs.declared.items.Item.TheVariants.{Transaction, Compensation, Turn, Save}
@@ -46,7 +46,7 @@ back-compensates plan h fits (Turn p Refused) back forward may =
 back-compensates plan h fits (Turn p Asked) back forward may = cc
 back-compensates plan h fits (Save p) back forward may = cc
 
--- compensations carry those that go back
+-- journeys that go back go on by compensations
 pub back-stage : IsStage is_compensation is_going_back
 back-stage = record { steps = compensation-forward; has = has }
   where
@@ -73,7 +73,7 @@ back-stage = record { steps = compensation-forward; has = has }
               one.allowed,
             )
 
--- steps carry those that are open
+-- open journeys go on by steps
 pub forward-stage : IsStage is_forward is_open
 forward-stage = record {
   steps = λ x e. e;
@@ -94,7 +94,7 @@ journeys-items test (Did k x ∷ p) l items =
     ap journeys (sym (append_assoc l (Did k x ∷ []) p))
     ∙ journeys-items test p (l ++ Did k x ∷ []) both.1 ∙ journeys-did l k x
 
--- a test that fails at each number of a row is passed by none
+-- a test that fails at each of consecutive numbers is passed by none
 pub none-pass : (test : ℕ → Bool) (n first : ℕ)
     → ((j : ℕ) → first ≤ j → j < first + n → test j ≡ false)
     → list_any test (numbers_from first n) ≡ false
@@ -103,11 +103,11 @@ none-pass test (suc n) first each =
     or_from _ _ (each first (omega arith) (omega arith))
     (none-pass test n (suc first) (λ j low high. each j (omega arith) (omega arith)))
 
--- what carries all journeys of a ledger
+-- events by which all journeys of a ledger go on
 abbrev pub CarriesAll : (Item → Bool) → (Phase → Bool) → List Event → Type 0
 CarriesAll test passes l = Carries test passes 1 (length (journeys l)) l
 
--- leaves none of them in such a phase
+-- after such events no journey is in such a phase
 pub carried-none : (test : Item → Bool) (passes : Phase → Bool) (l : List Event)
     (c : CarriesAll test passes l) → has_none passes (l ++ c.events) ≡ true
 carried-none test passes l c =

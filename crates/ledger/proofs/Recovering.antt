@@ -29,12 +29,12 @@ abbrev IsAlone : (Item → Bool) → Type 0
 IsAlone test = (l : List Event) (j : ℕ) (x y : Item) → IsLegal l → test x ≡ true → test y ≡ true
     → is_item_allowed l j x ≡ true → is_item_allowed l j y ≡ true → x ≡ y
 
--- and one may come only in such a phase
+-- such an item may come only in such a phase
 abbrev NeedsPhase : (Item → Bool) → (Phase → Bool) → Type 0
 NeedsPhase test passes = (l : List Event) (j : ℕ) (x : Item) → test x ≡ true
     → is_item_allowed l j x ≡ true → is_in passes l j ≡ true
 
--- what is not below k is above j, where j is below k
+-- what is not below k is above j, if j is below k
 pub above-lower : (j k : ℕ) (p : List Event) → j < k
     → list_all (λ d. nat_le k (journey_of d)) p ≡ true
     → list_all (λ d. nat_lt j (journey_of d)) p ≡ true
@@ -44,7 +44,7 @@ above-lower j k (d ∷ p) lower e =
     let here = leb-true _ _ both.0 in
     and_from _ _ (lt-ltb j (journey_of d) (omega arith)) (above-lower j k p lower both.1)
 
--- a part that begins with a later journey leaves this one as it is, so it can't be in such a phase
+-- a part that begins with a later journey leaves this one as it is, so this one cannot be in such a phase
 not_passed : {X : Type 0} (test : Item → Bool) (passes : Phase → Bool) (l : List Event) (j k : ℕ)
     (y : Item) (q : List Event) → j < k → IsPart test passes l (Did k y ∷ q)
     → is_in passes l j ≡ true → X
@@ -57,7 +57,7 @@ not_passed test passes l j k y q lower part in_it =
     ∙ has_none-at passes (l ++ Did k y ∷ q) j part.none in
     cc
 
--- nor is it where nothing follows
+-- where nothing follows, this journey is not in such a phase either
 not_left : {X : Type 0} (test : Item → Bool) (passes : Phase → Bool) (l : List Event) (j : ℕ)
     → IsPart test passes l [] → is_in passes l j ≡ true → X
 not_left test passes l j part in_it =
@@ -66,7 +66,7 @@ not_left test passes l j part in_it =
     ∙ has_none-at passes l j (ap (has_none passes) (sym (append-nil l)) ∙ part.none) in
     cc
 
--- after its first event a part is a part
+-- a part without its first event is a part of what follows that event
 rest-part : (test : Item → Bool) (passes : Phase → Bool) (l : List Event) (e : Event)
     (p : List Event) → IsPart test passes l (e ∷ p) → IsPart test passes (l ++ e ∷ []) p
 rest-part test passes l e p part = record {
@@ -77,7 +77,7 @@ rest-part test passes l e p part = record {
   none = ap (has_none passes) (append_assoc l (e ∷ []) p) ∙ part.none;
 }
 
--- the first events of two parts are the same: neither can pass by the journey of the other
+-- the first events of two parts are the same: neither can skip the journey of the other
 first-same : (test : Item → Bool) (passes : Phase → Bool) → IsAlone test → NeedsPhase test passes
     → (l : List Event) (j k : ℕ) (x y : Item) (p q : List Event) → IsLegal l
     → IsPart test passes l (Did j x ∷ p) → IsPart test passes l (Did k y ∷ q)
@@ -106,7 +106,7 @@ first-same test passes alone needs l j k x y p q legal first second = go (nat_lt
         not_passed test passes l j k y q (ltb-true _ _ e) second (needs l j x x_is first.allowed.0)
     go false e = let low = ltb-false _ _ e in not_below (nat_lt k j) refl low
 
--- so two parts are the same, event by event
+-- two parts are the same, event by event
 part-unique : (test : Item → Bool) (passes : Phase → Bool) → IsAlone test → NeedsPhase test passes
     → (p q l : List Event) → IsLegal l → IsPart test passes l p → IsPart test passes l q → p ≡ q
 part-unique test passes alone needs [] [] l legal first second = refl
@@ -154,7 +154,7 @@ step-needs_open l j x forward may = go (journey_at l j) refl
     go None at = absurd_item l j x at may
     go (Some a) at = open_if a at (is_finished (phase a.plan (history l j))) refl
 
--- and only one step may come there
+-- in an open journey only one step may come
 step-alone : IsAlone is_forward
 step-alone l j x y legal x_is y_is x_may y_may =
     let one = each_open_has_one l legal j (step-needs_open l j x x_is x_may) in
@@ -167,12 +167,12 @@ compensation-forward (Compensation i c) e = refl
 compensation-forward (Turn p cause) e = cc
 compensation-forward (Save p) e = cc
 
--- so only one may come
+-- only one compensation may come
 compensation-alone : IsAlone is_compensation
 compensation-alone l j x y legal x_is y_is x_may y_may =
     step-alone l j x y legal (compensation-forward x x_is) (compensation-forward y y_is) x_may y_may
 
--- and only in a journey that goes back
+-- a compensation may come only in a journey that goes back
 compensation-needs_back : NeedsPhase is_compensation is_going_back
 compensation-needs_back l j (Transaction i c) is may = cc
 compensation-needs_back l j (Compensation i c) is may = go (journey_at l j) refl
@@ -188,7 +188,7 @@ compensation-needs_back l j (Save p) is may = cc
 
 -- Recovery.
 
--- events that are allowed are allowed front and rest
+-- events that are allowed are allowed as a prefix and the suffix after it
 pub AreAllowedAfter-split : (before xs ys : List Event) → AreAllowedAfter before (xs ++ ys)
     → AreAllowedAfter before xs × AreAllowedAfter (before ++ xs) ys
 AreAllowedAfter-split before [] ys all =
@@ -207,7 +207,7 @@ record Parts (l r : List Event) : Type 0 where
   returned : IsLegal ((l ++ stops l) ++ backward)
   on : IsPart is_forward is_open ((l ++ stops l) ++ backward) forward
 
--- each recovered ledger has them
+-- each recovered ledger has these parts
 parts : (l r : List Event) → IsRecovered l r → Parts l r
 parts l r e =
     let last = AreAllowedAfter-split [] ((l ++ stops l) ++ e.backward) e.forward
@@ -233,7 +233,7 @@ parts l r e =
       };
     }
 
--- the turns are given, the compensations are the only ones, and then the steps are
+-- the turns are determined, the compensations are the only ones, and so are the steps
 pub recovered-unique : (l : List Event) → AtMostOneIsRecovered l
 recovered-unique l r s first second =
     let p = parts l r first in

@@ -1,11 +1,11 @@
--- How often a journey was refused, as items come: within its tries, unless it has turned to its
--- start. For the modes of a journey, and for how many steps it may still make.
+-- How often a journey was refused, as items come: within its tries, unless it has turned to its start. For the modes of
+-- a journey, and for how many steps it may still make.
 use Rattle.std.proofs.Common.{◌≡◌, ℕ, ◌+◌, ◌≤◌, List, [], ◌∷◌, ◌++◌, length, refl, ap, sym, ◌∙◌, arith, length-append, eq-eqb}
 use Rattle.std.proofs.lemmas.Bool.{ltb-true, or_parts}
 use Rattle.std.proofs.lemmas.List.Elements.{filter-append}
 use Rattle.std.proofs.lemmas.List.Sums.{length-filter}
 use Rattle.std.specs.Prelude.{Bool, true, false, ◌==◌, nat_lt, filter, if◌then◌else◌}
-use Rattle.plan.specs.Planned.{Planned}
+use Rattle.plan.specs.PlanModel.{Planned}
 use Rattle.commands.specs.declared.items.Cause.TheVariants.{Refused}
 use Rattle.commands.specs.declared.items.Item.{Item}
 use Rattle.commands.specs.declared.items.Item.TheVariants.{Turn}
@@ -16,7 +16,7 @@ use Rattle.ledger.proofs.Going.{turned-more}
 abbrev pub HasTries : Planned → List Item → Type 0
 HasTries plan h = has_turned_to_start h ≡ false → refusals h ≤ plan.tries
 
--- the refusals of a history and one more item are those of both
+-- the refusals of a history with one more item are those of both
 refusals-more : (h : List Item) (x : Item)
     → refusals (h ++ x ∷ []) ≡ refusals h + refusals (x ∷ [])
 refusals-more h x =
@@ -27,7 +27,7 @@ refusals-more h x =
     let parts = length-append (filter is_refused_turn h) (filter is_refused_turn (x ∷ [])) in
     omega arith
 
--- an item that is no refused turn leaves how often it was refused
+-- an item that is no refused turn does not change how often the journey was refused
 pub refusals-other : (h : List Item) (x : Item) → is_refused_turn x ≡ false
     → refusals (h ++ x ∷ []) ≡ refusals h
 refusals-other h x other =
@@ -35,12 +35,12 @@ refusals-other h x other =
     let none : refusals (x ∷ []) ≡ 0 = rw other refl in
     omega arith
 
--- a refused turn is one refusal more
+-- a refused turn is one more refusal
 pub refusals-refused : (h : List Item) (p : ℕ)
     → refusals (h ++ Turn p Refused ∷ []) ≡ refusals h + 1
 refusals-refused h p = refusals-more h (Turn p Refused)
 
--- what has not turned to the start with one more item had not before, and the item is no such turn
+-- where a history with one more item has not turned to the start, neither the history nor the item has
 unturned-parts : (h : List Item) (x : Item) → has_turned_to_start (h ++ x ∷ []) ≡ false
     → (has_turned_to_start h ≡ false) × (is_turn_to 0 x ≡ false)
 unturned-parts h x e =
@@ -54,7 +54,7 @@ has_tries-other plan h x other has unturned =
     let old = has (unturned-parts h x unturned).0 in
     omega arith
 
--- a refused turn leads to the start where no try is left, and else it takes one
+-- a refused turn leads to the start where no try is left, and else uses one
 pub has_tries-refused : (plan : Planned) (h : List Item) (p : ℕ) → p ≡ refused_target plan h
     → HasTries plan h → HasTries plan (h ++ Turn p Refused ∷ [])
 has_tries-refused plan h p is has unturned = go (nat_lt (refusals h) plan.tries) refl is

@@ -2,7 +2,7 @@
 use Rattle.std.proofs.Common.{◌≡◌, ℕ, suc, ◌+◌, ◌<◌, ◌≤◌, ◌⊎◌, List, [], ◌∷◌, ◌++◌, refl, ap, sym, ◌∙◌, arith, append-nil, eqb-true}
 use Rattle.std.proofs.lemmas.Bool.{eqb-false, ltb-true, ltb-false, ne_eqb}
 use Rattle.std.specs.Prelude.{Bool, true, false, ◌==◌, nat_lt, Some, IsTrue}
-use Rattle.plan.specs.Planned.{Planned, step_count}
+use Rattle.plan.specs.PlanModel.{Planned, step_count}
 use Rattle.commands.specs.declared.items.Cause.{Cause}
 use Rattle.commands.specs.declared.items.Item.{Item}
 use Rattle.commands.specs.declared.items.Item.TheVariants.{Transaction, Turn, Save}
@@ -13,7 +13,7 @@ use Rattle.ledger.proofs.Modes.{Rising, Falling, Fallen, Mode, rises, falls, fel
 use Rattle.ledger.proofs.Runs.{word-append, down-none, up-join, up-one}
 use Rattle.ledger.proofs.Standing.{position_of-transaction, position_of-turn, position_of-save}
 
--- the next transaction is one step more on the way up
+-- the next transaction is one more step on the way up
 pub rising-transaction : (plan : Planned) (h : List Item) (i c : ℕ) → Rising plan h
     → position_of h < step_count plan → i ≡ position_of h + 1
     → Rising plan (h ++ Transaction i c ∷ [])
@@ -39,7 +39,7 @@ rising-transaction plan h i c r below is =
       arrived = λ p e. let none = going_to-transaction h i c in cc;
     }
 
--- a save-point changes neither the word nor the way
+-- a save-point changes neither the word nor the direction
 pub rising-save : (plan : Planned) (h : List Item) (p : ℕ) → Rising plan h
     → Rising plan (h ++ Save p ∷ [])
 rising-save plan h p r =
@@ -110,7 +110,7 @@ turn-here plan h p cause r here more =
           omega arith;
     }
 
--- a turn to the start, at the start, ends the journey: it went down by no step
+-- a turn to the start, at the start, ends the journey: no step had to be compensated
 turn-at_start : (plan : Planned) (h : List Item) (p : ℕ) (cause : Cause) → Rising plan h
     → position_of h < step_count plan → position_of h ≡ 0 → p ≡ 0
     → Fallen plan (h ++ Turn p cause ∷ [])

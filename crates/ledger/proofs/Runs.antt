@@ -7,7 +7,7 @@ use Rattle.commands.specs.declared.items.Item.TheVariants.{Transaction, Compensa
 use Rattle.ledger.specs.Word.{Up, Down, word, up, down}
 use Rattle.ledger.proofs.Numbers.{numbers_between-join, numbers_between-none, numbers_between-one}
 
--- the word of two histories, one after the other, is their words one after the other
+-- the word of two histories, one after the other, is the word of the first followed by that of the second
 pub word-append : (g h : List Item) → word (g ++ h) ≡ word g ++ word h
 word-append [] h = refl
 word-append (Transaction i c ∷ g) h = ap (λ w. Up i ∷ w) (word-append g h)

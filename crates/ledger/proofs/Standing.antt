@@ -1,5 +1,4 @@
--- What one more item does to the transactions that stand. For the modes of a journey and for
--- places.
+-- What one more item does to the transactions that stand. For the modes of a journey and for places.
 use Rattle.std.proofs.Common.{◌≡◌, ℕ, zero, suc, ◌+◌, ◌≤◌, List, [], ◌∷◌, ◌++◌, length, map, refl, ap, sym, ◌∙◌, arith, length-append, append-nil, eq-eqb}
 use Rattle.std.proofs.Math.Bool.{or-false}
 use Rattle.std.proofs.lemmas.Bool.{ne_eqb, not_from_false}
@@ -20,7 +19,7 @@ use Rattle.ledger.proofs.Numbers.{numbers_from-append}
 abbrev pub standing : List Item → List ℕ
 standing h = map (λ t. t.0) (net h)
 
--- an item that does not compensate step i leaves whether one does
+-- an item that does not compensate step i does not change whether one does
 pub compensated-other : (i : ℕ) (later : List Item) (x : Item) → is_compensation_of i x ≡ false
     → list_any (is_compensation_of i) (later ++ x ∷ []) ≡ list_any (is_compensation_of i) later
 compensated-other i later x other =
@@ -30,15 +29,14 @@ compensated-other i later x other =
 
 -- What each item does to the list of what stands.
 
--- more behind the list does not change whether the first one stands
+-- an append to the list does not change whether the first one stands
 adds-append : (i c : ℕ) (gone : Bool) (rest more : List (ℕ × ℕ))
     → (if gone then rest ++ more else (i, c) ∷ (rest ++ more))
     ≡ (if gone then rest else (i, c) ∷ rest) ++ more
 adds-append i c true rest more = refl
 adds-append i c false rest more = refl
 
--- an item that compensates nothing adds to the end what it stands for, since what stood still
--- stands
+-- an item that compensates nothing appends what it adds, since what stood still stands
 net-other : (h : List Item) (x : Item) → ((i : ℕ) → is_compensation_of i x ≡ false)
     → net (h ++ x ∷ []) ≡ net h ++ net (x ∷ [])
 net-other [] x other = refl
@@ -51,7 +49,7 @@ net-other (Compensation i c ∷ h) x other = net-other h x other
 net-other (Turn p cause ∷ h) x other = net-other h x other
 net-other (Save p ∷ h) x other = net-other h x other
 
--- a transaction is added at the end
+-- a transaction is appended
 pub net-transaction : (h : List Item) (i c : ℕ)
     → net (h ++ Transaction i c ∷ []) ≡ net h ++ (i, c) ∷ []
 net-transaction h i c = net-other h (Transaction i c) (λ j. refl)
@@ -75,7 +73,7 @@ without-step keeps false true t rest e =
 without-step keeps false false t rest e =
     sym (ap (λ b. cond b (t ∷ filter keeps rest) (filter keeps rest)) e)
 
--- a compensation takes every transaction of its step out of what stands
+-- a compensation removes every transaction of its step from what stands
 pub net-compensation : (h : List Item) (i c : ℕ)
     → net (h ++ Compensation i c ∷ []) ≡ filter (λ t. not (t.0 == i)) (net h)
 net-compensation [] i c = refl
@@ -139,7 +137,7 @@ standing-transaction h i c is e =
     ∙ sym (numbers_from-append 1 (position_of h) 1)
     ∙ ap (numbers_from 1) (sym (position_of-transaction h i c))
 
--- to leave out a number above all of these leaves them all
+-- leaving out a number above all of these changes nothing
 filter-above : (xs : List (ℕ × ℕ)) (first n m : ℕ) → map (λ t. t.0) xs ≡ numbers_from first n
     → first + n ≤ m → filter (λ t. not (t.0 == m)) xs ≡ xs
 filter-above [] first n m e h = refl
@@ -151,8 +149,8 @@ filter-above (x ∷ xs) first (suc n) m e h =
     ap (λ b. cond b (x ∷ filter (λ t. not (t.0 == m)) xs) (filter (λ t. not (t.0 == m)) xs)) differs
     ∙ ap (λ ys. x ∷ ys) (filter-above xs (suc first) n m rest (omega arith))
 
--- what the compensation of the last transaction does: its step was the last that stood, the
--- position is one lower, and the steps up to there stand
+-- what the compensation of the last transaction does: its step was the last that stood, the position is one lower, and
+-- the steps up to there stand
 pub record Compensates (h : List Item) (i c : ℕ) : Type 0 where
   pub is_last : i ≡ position_of h
   pub lower : position_of (h ++ Compensation i c ∷ []) + 1 ≡ position_of h
@@ -160,8 +158,7 @@ pub record Compensates (h : List Item) (i c : ℕ) : Type 0 where
       standing (h ++ Compensation i c ∷ [])
       ≡ numbers_from 1 (position_of (h ++ Compensation i c ∷ []))
 
--- where steps 1 to the position stand, the last of them is that of the position, so its
--- compensation takes it alone
+-- where steps 1 to the position stand, the last of them is that of the position, so its compensation removes it alone
 pub compensates : (h : List Item) (i c : ℕ) → standing h ≡ numbers_from 1 (position_of h)
     → last_of (net h) ≡ Some (i, c) → Compensates h i c
 compensates h i c stands last =

@@ -1,12 +1,12 @@
--- What the turns of recovery do: each is allowed, each journey that ran turns once, and after them
--- no journey may need more than its bound. For the law of recovery.
+-- What the turns of recovery do: each is allowed, each running journey turns once, and after them no journey may need
+-- more than its bound. For the law of recovery.
 use Rattle.std.proofs.Common.{◌≡◌, ℕ, zero, suc, ◌+◌, ◌*◌, ◌<◌, ◌≤◌, List, [], ◌∷◌, ◌++◌, length, map, refl, ap, sym, ◌∙◌, arith, subst, append-nil, eqb-true, eq-eqb}
 use Rattle.std.proofs.lemmas.Bool.{and_from, ne_eqb, eqb-false}
 use Rattle.std.proofs.lemmas.List.Elements.{filter_map-append}
 use Rattle.std.specs.Prelude.{Bool, true, false, ◌==◌, Option, Some, None, option_map, unwrap_or, filter, filter_map, cond, if◌then◌else◌, IsTrue}
 use Rattle.std.specs.List.{cons_option}
 use Rattle.allotment.specs.Cells.{numbers_from}
-use Rattle.plan.specs.Planned.{Planned, numbered, step_count}
+use Rattle.plan.specs.PlanModel.{Planned, numbered, step_count}
 use Rattle.commands.specs.declared.items.Cause.TheVariants.{Stop}
 use Rattle.commands.specs.declared.items.Item.{Item}
 use Rattle.commands.specs.declared.items.Item.TheVariants.{Turn}
@@ -36,7 +36,7 @@ no_stop-begins : (l : List Event) (ks : List ℕ) → filter_map begun_by (map (
 no_stop-begins l [] = refl
 no_stop-begins l (k ∷ ks) = no_stop-begins l ks
 
--- so the journeys stay
+-- turns leave the journeys
 pub journeys-stops : (l : List Event) → journeys (l ++ stops l) ≡ journeys l
 journeys-stops l =
     filter_map-append begun_by l (stops l)
@@ -51,7 +51,7 @@ record IsSameFrom (first : ℕ) (l m : List Event) : Type 0 where
   at : (j : ℕ) → journey_at m j ≡ journey_at l j
   of : (j : ℕ) → first ≤ j → history m j ≡ history l j
 
--- an item of a journey leaves those behind it the same
+-- an item of a journey leaves the histories of the later ones
 same_from-did : (first : ℕ) (l m : List Event) (item : Item) → IsSameFrom first l m
     → IsSameFrom (suc first) l (m ++ Did first item ∷ [])
 same_from-did first l m item same = record {
@@ -61,7 +61,7 @@ same_from-did first l m item same = record {
       ∙ same.of j (omega arith);
 }
 
--- what is the same from one number on is so from the next
+-- what is the same from one number on is the same from the next
 same_from-later : (first : ℕ) (l m : List Event) → IsSameFrom first l m → IsSameFrom (suc first) l m
 same_from-later first l m same =
     record { at = same.at; of = λ j above. same.of j (omega arith) }
@@ -86,7 +86,7 @@ stop-allowed first l m same run = go (journey_at l first) refl
         is_item_allowed-may_do m first (Turn (last_save_of l first) Stop) a (same.at first ∙ at)
         ∙ and_from _ _ runs (eq-eqb _ _ target)
 
--- so each turn is allowed, one after another
+-- each turn is allowed, one after another
 stops_from-allowed : (l : List Event) (n first : ℕ) (m : List Event) → IsSameFrom first l m
     → AreAllowedAfter m (stops_from l first n)
 stops_from-allowed l zero first m same = tt
@@ -115,11 +115,11 @@ stops-allowed l =
 
 -- Each running journey turns once.
 
--- what the turns put into a history: one turn if the journey runs
+-- what the turns append to a history: one turn if the journey runs
 abbrev pub stop_items : Bool → ℕ → List Item
 stop_items runs p = if runs then Turn p Stop ∷ [] else []
 
--- turns of later journeys put nothing into it
+-- turns of later journeys append nothing to it
 stops-later : (l : List Event) (j n first : ℕ) → j < first
     → filter_map (item_of j) (stops_from l first n) ≡ []
 stops-later l j zero first above = refl
@@ -214,7 +214,7 @@ position_of-most plan h (fell f) = let a = f.low in omega arith
 abbrev pub turns_of : Bool → ℕ
 turns_of runs = if runs then 1 else 0
 
--- what a journey may need that is in a phase that is open, or not
+-- what a journey in an open phase, or in another one, may need
 abbrev pub need_of : Planned → Bool → ℕ
 need_of plan is_open = if is_open then 2 * step_count plan * (plan.tries + 2) else 0
 

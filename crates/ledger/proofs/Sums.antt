@@ -1,4 +1,4 @@
--- Sums over lists and over numbers in a row. For the places that journeys hold.
+-- Sums over lists and over consecutive numbers. For the places that journeys hold.
 use Rattle.std.proofs.Common.{◌≡◌, ℕ, zero, suc, ◌+◌, ◌<◌, ◌≤◌, List, [], ◌∷◌, refl, sym, ◌∙◌, arith, subst, eqb-true}
 use Rattle.std.proofs.lemmas.Bool.{ne_eqb}
 use Rattle.std.proofs.lemmas.List.Sums.{sum_by-cons}
@@ -17,7 +17,7 @@ sum_by-same f g (x ∷ xs) same =
     both)
     ∙ sym (sum_by-cons g x xs)
 
--- what is left of a list sums to no more than the list
+-- a filtered list sums to no more than the list
 pub sum_by-filter : {X : Type 0} (f : X → ℕ) (test : X → Bool) (xs : List X)
     → sum_by f (filter test xs) ≤ sum_by f xs
 sum_by-filter f test [] = omega arith
@@ -33,12 +33,12 @@ sum_by-filter f test (x ∷ xs) = go (test x) (sum_by-filter f test xs)
 abbrev pub only_at : ℕ → ℕ → ℕ → ℕ
 only_at k d j = if j == k then d else 0
 
--- at every other number it is nothing
+-- at every other number nothing is added
 added-other : (f g : ℕ → ℕ) (k d j : ℕ) → ((i : ℕ) → g i ≤ f i + only_at k d i) → (j == k) ≡ false
     → g j ≤ f j + 0
 added-other f g k d j each e = subst (λ v. g j ≤ f j + (if v then d else 0)) e (each j)
 
--- behind the number k a sum does not rise
+-- after the number k a sum does not rise
 sum_by-above : (f g : ℕ → ℕ) (k d first n : ℕ) → ((j : ℕ) → g j ≤ f j + only_at k d j) → k < first
     → sum_by g (numbers_from first n) ≤ sum_by f (numbers_from first n)
 sum_by-above f g k d first zero each above = omega arith
@@ -49,7 +49,7 @@ sum_by-above f g k d first (suc n) each above =
     let rest = sum_by-above f g k d (suc first) n each (omega arith) in
     omega arith
 
--- where one number adds d at most, and the others nothing, the sum rises by d at most
+-- where one number adds at most d, and the others nothing, the sum rises by at most d
 pub sum_by-once : (f g : ℕ → ℕ) (k d first n : ℕ) → ((j : ℕ) → g j ≤ f j + only_at k d j)
     → sum_by g (numbers_from first n) ≤ sum_by f (numbers_from first n) + d
 sum_by-once f g k d first zero each = omega arith

@@ -3,7 +3,7 @@ use Rattle.std.proofs.Common.{◌≡◌, ℕ, ◌⊎◌, List, [], ◌∷◌, re
 use Rattle.std.proofs.lemmas.Bool.{ltb-true, ltb-false, and_parts, or_cases}
 use Rattle.std.specs.Prelude.{Bool, true, false, ◌||◌, filter, ◌==◌, nat_lt, max, Option, if◌then◌else◌, cond, IsTrue}
 use Rattle.allotment.specs.Cells.{numbers_from}
-use Rattle.plan.specs.Planned.{Planned, step_count}
+use Rattle.plan.specs.PlanModel.{Planned, step_count}
 use Rattle.savepoints.specs.Rules.{is_save_point, greatest, last_save, refused_target, is_below_going, may_turn}
 
 -- p is the start, or a save-point that stands
@@ -18,7 +18,7 @@ max-is a b = go (nat_lt a b) refl
     go true e = let h = ltb-true _ _ e in inr (omega arith)
     go false e = let h = ltb-false _ _ e in inl (omega arith)
 
--- one number more at the head is the greatest, or the greatest is the same
+-- with one more number at the head, that number is the greatest, or the greatest stays the same
 greatest-more : (test : ℕ → Bool) (p : ℕ) (rest : List ℕ) (v : Bool) → test p ≡ v
     → (greatest rest ≡ 0) ⊎ IsTrue (test (greatest rest))
     → (greatest (cond v (p ∷ rest) rest) ≡ 0) ⊎ IsTrue (test (greatest (cond v (p ∷ rest) rest)))
@@ -53,7 +53,7 @@ refused-target plan taken pos used p e = go (nat_lt used plan.tries) e
     go true e = last_save-target plan taken pos p e
     go false e = inl e
 
--- one who asks may turn to a target alone
+-- a request turns the journey only to a target
 pub asked-target : (plan : Planned) (taken : ℕ → Bool) (pos p : ℕ) (going : Option ℕ)
     → may_turn plan taken pos going p ≡ true → IsTarget plan taken pos p
 asked-target plan taken pos p going e =

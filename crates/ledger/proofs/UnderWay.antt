@@ -1,4 +1,4 @@
--- However far recovery has come, it goes on to the recovered ledger. For the law of recovery.
+-- Each ledger that recovery passes through is a prefix of the recovered ledger. For the law of recovery.
 use Rattle.std.proofs.Common.{◌≡◌, ℕ, suc, ◌+◌, ◌<◌, ◌≤◌, List, [], ◌∷◌, ◌++◌, length, refl, ap, sym, ◌∙◌, arith, append_assoc, append-nil, subst}
 use Rattle.std.proofs.lemmas.Bool.{and_parts, and_from, le-leb, leb-true, lt-ltb, ltb-true, ltb-false, not_from_false}
 use Rattle.std.proofs.lemmas.List.Folds.{list_all-append}
@@ -16,7 +16,7 @@ use Rattle.ledger.proofs.Phases.{is_in-later}
 use Rattle.ledger.proofs.Recoverable.{back-stage, forward-stage, journeys-items, none-pass, CarriesAll, carried-none, AreAllowedAfter-join}
 use Rattle.ledger.proofs.Stopping.{stops-allowed}
 
--- The rest of a part.
+-- What is left of a part.
 
 -- the events that are left of a part of recovery, and what the whole part then is
 record Completes (test : Item → Bool) (passes : Phase → Bool) (before part : List Event)
@@ -38,7 +38,7 @@ from-lower a b (d ∷ r) lower all =
     let here = leb-true _ _ both.0 in
     and_from _ _ (le-leb _ _ (omega arith)) (from-lower a b r lower both.1)
 
--- what comes up to a number, and what comes from there on, is by number
+-- events up to a number, followed by events from there on, are by number
 by_number-join : (p q : List Event) (number : ℕ) → is_by_number p ≡ true
     → list_all (λ e. nat_le (journey_of e) number) p ≡ true → is_by_number q ≡ true
     → list_all (λ e. nat_le number (journey_of e)) q ≡ true → is_by_number (p ++ q) ≡ true
@@ -53,7 +53,7 @@ by_number-join (e ∷ p) q number sorted low sorted_rest high =
     ∙ and_from _ _ first.0 (from-lower (journey_of e) number q (leb-true _ _ lows.0) high))
     (by_number-join p q number first.1 lows.1 sorted_rest high)
 
--- what comes from a number on is behind each journey below it
+-- events from a number on are of later journeys than each one below it
 behind-below : (j number : ℕ) (p : List Event) → j < number
     → list_all (λ d. nat_le number (journey_of d)) p ≡ true
     → list_all (λ d. nat_lt j (journey_of d)) p ≡ true
@@ -99,7 +99,7 @@ completes test passes stage before part number legal reached =
 
 -- Recovery.
 
--- after the turns and the whole way back, all journeys are carried on
+-- after the turns and all compensations of the way back, all journeys go on
 from-back : (l back : List Event) → IsLegal ((l ++ stops l) ++ back)
     → list_all (are_items is_compensation) back ≡ true → is_by_number back ≡ true
     → has_none is_going_back ((l ++ stops l) ++ back) ≡ true
@@ -124,7 +124,7 @@ from-back l back legal items sorted none =
       };
     }
 
--- what begins a beginning of the recovered ledger begins that ledger
+-- a prefix of a prefix of the recovered ledger is a prefix of it
 begins-front : (l begun more : List Event) → BeginsRecovered l (begun ++ more)
     → BeginsRecovered l begun
 begins-front l begun more b = record {
@@ -132,7 +132,7 @@ begins-front l begun more b = record {
   recovered = subst (IsRecovered l) (append_assoc begun more b.rest) b.recovered;
 }
 
--- some way back, the journeys that still go back are carried on, and then all others
+-- part of the way back, the journeys that still go back go on, and then all others
 from-part : (l part : List Event) (number : ℕ) → IsLegal (l ++ stops l)
     → HasReached is_compensation is_going_back (l ++ stops l) part number
     → BeginsRecovered l ((l ++ stops l) ++ part)
@@ -149,7 +149,7 @@ from-part l part number turned reached =
     (from-back l (part ++ c.rest) whole c.items c.sorted
     (ap (has_none is_going_back) (sym (append_assoc (l ++ stops l) part c.rest)) ∙ c.none)))
 
--- with all turns made, all journeys are carried on
+-- after all turns, all journeys go on
 from-turns : (l : List Event) → IsLegal (l ++ stops l) → BeginsRecovered l (l ++ stops l)
 from-turns l turned =
     subst (BeginsRecovered l) (append-nil (l ++ stops l))
@@ -161,7 +161,7 @@ from-turns l turned =
       done = λ j below. absurd (omega arith);
     }))
 
--- after the whole way back, the journeys that are still open are carried on
+-- after the whole way back, the journeys that are still open go on
 from-forward : (l back part : List Event) (last number : ℕ) → IsLegal (l ++ stops l)
     → HasReached is_compensation is_going_back (l ++ stops l) back last
     → has_none is_going_back ((l ++ stops l) ++ back) ≡ true
@@ -190,7 +190,7 @@ from-forward l back part last number turned reached none on =
       };
     }
 
--- however far it has come
+-- each ledger that recovery passes through is a prefix of the recovered ledger
 pub recovery-goes_on : (l : List Event) → IsLegal l → EachRecoveryGoesOn l
 recovery-goes_on l legal begun come = by_part begun come
   where

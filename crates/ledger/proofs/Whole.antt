@@ -1,7 +1,7 @@
 -- What the mode of a journey says of its whole word. For the law of words.
 use Rattle.std.proofs.Common.{◌≡◌, List, [], ◌++◌, ap, sym, ◌∙◌, arith, append_assoc, subst, append-nil, inl, inr}
 use Rattle.allotment.specs.Cells.{numbers_from}
-use Rattle.plan.specs.Planned.{Planned, step_count}
+use Rattle.plan.specs.PlanModel.{Planned, step_count}
 use Rattle.commands.specs.declared.items.Item.{Item}
 use Rattle.commands.specs.declared.items.Phase.TheVariants.{Run, Back, Ended, Undone}
 use Rattle.ledger.specs.History.{position_of, phase}
@@ -10,7 +10,7 @@ use Rattle.ledger.proofs.Modes.{Rising, Falling, Mode, rises, falls, fell, Goes,
 use Rattle.ledger.proofs.Runs.{word-append, up-join, down-join, rise, fall, word-rise, word-fall}
 use Rattle.ledger.proofs.Standing.{standing}
 
--- on its way up a journey would be whole with the rest of its steps
+-- on its way up a journey is completed by the steps that are left
 rising-begins : (plan : Planned) (h : List Item) (r : Rising plan h)
     → GoesToEnd plan (h ++ rise (position_of h) (step_count plan))
 rising-begins plan h r =
@@ -28,7 +28,7 @@ rising-begins plan h r =
           ∙ sym (up-join r.from (position_of h) (step_count plan) r.low r.within);
     }
 
--- on its way down it would be whole with the rest of its compensations
+-- on its way down it is completed by the compensations that are left
 falling-begins : (plan : Planned) (h : List Item) (f : Falling plan h)
     → GoesToStart plan (h ++ fall (position_of h) 0)
 falling-begins plan h f =
@@ -54,7 +54,7 @@ falling-begins plan h f =
       };
     }
 
--- so in each mode it begins an up-and-down word
+-- in each mode the history begins an up-and-down word
 pub begins-word : (plan : Planned) (h : List Item) → Goes plan h → BeginsUpAndDown plan h
 begins-word plan h g = by_mode g.mode
   where

@@ -1,5 +1,5 @@
--- The steps that are left to all journeys of a ledger, and that each step that one of them makes
--- leaves fewer. For the bound of recovery.
+-- The steps that are left to all journeys of a ledger, and that each step of one of them leaves fewer. For the bound of
+-- recovery.
 use Rattle.std.proofs.Common.{◌≡◌, ℕ, zero, suc, ◌+◌, ◌<◌, ◌≤◌, List, [], ◌∷◌, ◌++◌, length, refl, ap, sym, ◌∙◌, arith, append_assoc, append-nil, eqb-true, eq-eqb}
 use Rattle.std.proofs.lemmas.Bool.{and_parts, ne_eqb, eqb-false, ltb-true, ltb-false}
 use Rattle.std.proofs.lemmas.List.Sums.{sum_by-cons}
@@ -7,7 +7,7 @@ use Rattle.std.proofs.lemmas.Option.{slice_get_past}
 use Rattle.std.specs.Prelude.{Bool, true, false, ◌==◌, nat_lt, Option, Some, None, option_map, unwrap_or, sum_by}
 use Rattle.std.specs.List.{list_all}
 use Rattle.allotment.specs.Cells.{numbers_from}
-use Rattle.plan.specs.Planned.{numbered}
+use Rattle.plan.specs.PlanModel.{numbered}
 use Rattle.commands.specs.declared.items.Item.{Item}
 use Rattle.ledger.specs.History.{next_want}
 use Rattle.ledger.specs.Ledger.{Event, Loaded, Began, Did, Journey, journeys, journey_at, numbers, history, fits, is_item_allowed, AreAllowedAfter, IsLegal}
@@ -59,12 +59,12 @@ left_of-fewer l k x legal forward may = go (journey_at l k) refl
 pub work : List Event → ℕ
 work l = sum_by (left_of l) (numbers l)
 
--- it is that sum
+-- the work is the sum over the numbers of all journeys
 pub work-sum : (l : List Event) → work l ≡ sum_by (left_of l) (numbers l)
 unfolding work
 work-sum l = refl
 
--- where no number in a row is k, and all else is the same, so is the sum
+-- where none of consecutive numbers is k, and all other terms are the same, so is the sum
 sum_by-past : (f g : ℕ → ℕ) (k : ℕ) → ((j : ℕ) → (j == k) ≡ false → g j ≡ f j)
     → (n first : ℕ) → k < first
     → sum_by g (numbers_from first n) ≡ sum_by f (numbers_from first n)
@@ -76,7 +76,7 @@ sum_by-past f g k same (suc n) first past =
     let rest = sum_by-past f g k same n (suc first) (omega arith) in
     omega arith
 
--- where one number of a row has less, and all else is the same, the sum is less
+-- where one of consecutive numbers has less, and all other terms are the same, the sum is less
 sum_by-fewer : (f g : ℕ → ℕ) (k : ℕ) → ((j : ℕ) → (j == k) ≡ false → g j ≡ f j) → g k < f k
     → (n first : ℕ) → first ≤ k → k < first + n
     → sum_by g (numbers_from first n) < sum_by f (numbers_from first n)
@@ -134,7 +134,7 @@ work-fewer l k x legal forward may = go (journey_at l k) refl
         within.0 within.1 in
         omega arith
 
--- so steps are no more than were left
+-- there are no more steps than were left
 pub steps-within : (p l : List Event) → IsLegal l → AreAllowedAfter l p
     → list_all (are_items is_forward) p ≡ true → length p + work (l ++ p) ≤ work l
 steps-within [] l legal allowed items =

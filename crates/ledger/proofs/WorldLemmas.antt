@@ -1,7 +1,7 @@
--- A world leaves a legal ledger, which is the events that were made. For the law of worlds.
+-- After a world the ledger is legal, and is the list of the events that were made. For the law of worlds.
 use Rattle.std.proofs.Common.{◌≡◌, List, [], ◌∷◌, ◌++◌, refl, ap, subst, sym, ◌∙◌, append_assoc, append-nil}
 use Rattle.std.specs.Prelude.{Bool, true, false, Option, Some, None, is_some, option_to_list}
-use Rattle.commands.specs.Asked.{Asked}
+use Rattle.commands.specs.Asks.{Asked}
 use Rattle.commands.specs.Request.{Request}
 use Rattle.ledger.specs.Answer.{State, is_request, outcome}
 use Rattle.ledger.specs.Ledger.{Event, IsLegal}
@@ -28,7 +28,7 @@ stays-legal s ask asked legal keeps = go (is_request asked) refl
         ∙ append-nil s.ledger))
         legal
 
--- so does all that a world asks
+-- all requests of a world leave the ledger legal
 pub after-legal : (s : State) (w : List Moment) → IsLegal s.ledger → GoesOn s w
     → IsLegal (after s w).ledger
 after-legal s [] legal goes = legal
@@ -39,7 +39,7 @@ after-legal s (Cut asked ask true ∷ later) legal goes =
 after-legal s (Cut asked ask false ∷ later) legal goes = after-legal s later legal goes.2
 after-legal s (Reopened ∷ later) legal goes = after-legal s later legal goes
 
--- to grow by some events and then by others is to grow by both
+-- growing by some events and then by others is growing by both
 grown : (l m n : List Event) (es fs : List Event) → m ≡ l ++ es → n ≡ m ++ fs
     → n ≡ l ++ (es ++ fs)
 grown l m n es fs a b = b ∙ ap (λ k. k ++ fs) a ∙ append_assoc l es fs

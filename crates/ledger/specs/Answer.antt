@@ -1,8 +1,7 @@
--- What the desk answers to a request, and what a request with a key comes to, by the replies that
--- are kept.
+-- The answer of the desk to a request, and the outcome of a request with a key, by the replies that are kept.
 use Rattle.std.specs.Prelude.{ℕ, ◌&&◌, Bool, true, List, [], ◌∷◌, ◌++◌, length, nat_le, if◌then◌else◌, Option, Some, None, is_some, option_map, option_and_then, unwrap_or, bytes_eq}
-use Rattle.plan.specs.Planned.{is_plan}
-use Rattle.commands.specs.Asked.{Asked}
+use Rattle.plan.specs.PlanModel.{is_plan}
+use Rattle.commands.specs.Asks.{Asked}
 pub use Rattle.commands.specs.Limits.{most_events}
 use Rattle.commands.specs.Request.{Request, Load, Begin, Step, Abort, Stop, Save}
 use Rattle.commands.specs.declared.refusals.Refusal.TheVariants.{NoSavePoint, KeyReused, Limit, NoSave}
@@ -26,7 +25,7 @@ answer_within l who (Stop j) =
 answer_within l who (Save j) =
     answer_move l j save_choices NoSave (seen_journey l who j)
 
--- an answer, save that where an event is due and the ledger is full it is refused
+-- an answer, except that an answer with an event is a refusal if the ledger is full
 abbrev pub limited : List Event → Answer → Answer
 limited l a = if is_some a.event && nat_le most_events (length l) then refused Limit else a
 
@@ -62,7 +61,7 @@ keep kept ask answered agent key =
     then Some (record { text = ask.text; reply = answered })
     else kept agent key
 
--- where the desk stands: its ledger and the kept replies
+-- the state of the desk: its ledger and the kept replies
 pub record State : Type 0 where
   pub ledger : List Event
   pub kept : Kept
@@ -71,24 +70,24 @@ pub record State : Type 0 where
 abbrev pub start : State
 start = record { ledger = []; kept = nothing_kept }
 
--- what a request comes to: a reply, an event if it made one, and where the desk stands then
+-- the outcome of a request: a reply, an event if it made one, and the state of the desk after it
 pub record Outcome : Type 0 where
   pub reply : Reply
   pub event : Option Event
   pub state : State
 
--- the kept replies once an event was made: its reply is kept where there is an ask
+-- the kept replies after an event: its reply is kept if there is an ask
 abbrev pub kept_after : Kept → Option Asked → Reply → Kept
 kept_after kept None answered = kept
 kept_after kept (Some ask) answered = keep kept ask answered
 
--- where the desk stands after an answer: an event goes to the end of the ledger
+-- the state of the desk after an answer: an event is appended to the ledger
 abbrev pub state_with : State → Option Asked → Reply → Option Event → State
 state_with s ask answered None = s
 state_with s ask answered (Some e) =
     record { ledger = s.ledger ++ e ∷ []; kept = kept_after s.kept ask answered }
 
--- what a request comes to by its answer
+-- the outcome of a request by its answer
 abbrev pub carried_out : State → Option Asked → Answer → Outcome
 carried_out s ask a = record {
   reply = a.reply;
@@ -108,7 +107,7 @@ kept_for s ask = option_and_then (λ (a : Asked). s.kept a.agent a.key) ask
 abbrev pub text_of : Option Asked → List ℕ
 text_of ask = unwrap_or (option_map (λ (a : Asked). a.text) ask) []
 
--- a known key gets its kept reply where the text is the same, and nothing changes
+-- a known key gets its kept reply if the text is the same, and nothing changes: requests are idempotent
 abbrev pub answered_again : State → List ℕ → KeptReply → Outcome
 answered_again s text k = record {
   reply = if bytes_eq k.text text then k.reply else reply.Refused KeyReused;
@@ -116,11 +115,11 @@ answered_again s text k = record {
   state = s;
 }
 
--- what a request comes to, by what is kept under its key
+-- the outcome of a request, by what is kept under its key
 abbrev pub outcome_for : State → Option Asked → Request → Option KeptReply → Outcome
 outcome_for s ask asked (Some k) = answered_again s (text_of ask) k
 outcome_for s ask asked None = carried_out s ask (answer s.ledger (asker ask) asked)
 
--- what a request comes to: a known key gets its kept reply, any other request is carried out
+-- the outcome of a request: a known key gets its kept reply, any other request is executed
 abbrev pub outcome : State → Option Asked → Request → Outcome
 outcome s ask asked = outcome_for s ask asked (kept_for s ask)

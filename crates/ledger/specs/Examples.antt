@@ -1,11 +1,11 @@
--- Small words for the worked examples: wants, rows and plans of one supplier and one night, items
--- with the first option, and what a list of requests comes to.
+-- Small words for the worked examples: wants, rows and plans of one supplier and one night, items with the first
+-- option, and the outcome of a list of requests.
 use Rattle.std.specs.Prelude.{ℕ, ◌+◌, true, false, List, [], ◌∷◌, None, replicate}
 use Rattle.allotment.specs.Want.{Wanted}
 use Rattle.allotment.specs.declared.kinds.Kind.{Kind}
 use Rattle.allotment.specs.declared.kinds.Kind.TheVariants.{Flight}
 use Rattle.allotment.specs.declared.cells.Row.{Row}
-use Rattle.plan.specs.Planned.{StepPlan, Planned}
+use Rattle.plan.specs.PlanModel.{StepPlan, Planned}
 use Rattle.commands.specs.Request.{Request, Load, Step}
 use Rattle.commands.specs.declared.items.Item.{Item}
 use Rattle.commands.specs.declared.items.Item.TheVariants.{Transaction, Compensation}
@@ -27,7 +27,7 @@ nights_of nights kind product count = record {
   count = count;
 }
 
--- the same for one night
+-- so many places, for one night, of product 0 to 9 of supplier A
 abbrev pub want : Kind → ℕ → ℕ → Wanted
 want kind product count = nights_of 1 kind product count
 
@@ -43,7 +43,7 @@ row_after nights kind product places = record {
   places = places;
 }
 
--- the same for the first night
+-- so many places are allotted of product 0 to 9 of supplier A, on the first night
 abbrev pub row : Kind → ℕ → ℕ → Row
 row kind product places = row_after 0 kind product places
 
@@ -51,7 +51,7 @@ row kind product places = row_after 0 kind product places
 abbrev pub step : List Wanted → StepPlan
 step options = record { options = options; is_marked = false }
 
--- the same, with a save-point behind it
+-- the same, with a save-point after it
 abbrev pub marked : List Wanted → StepPlan
 marked options = record { options = options; is_marked = true }
 
@@ -85,7 +85,7 @@ done i = Transaction i 1
 abbrev pub undone : ℕ → Item
 undone i = Compensation i 1
 
--- where the desk stands after these requests of the house
+-- the state of the desk after these requests of the house
 abbrev pub after_all : State → List Request → State
 after_all s [] = s
 after_all s (asked ∷ later) = after_all (outcome s None asked).state later

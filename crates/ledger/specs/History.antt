@@ -1,10 +1,10 @@
--- The history of a journey: the items that it made, in order. What stands of it, where the journey
--- is, and what may come next. What speaks of positions and counts alone is a rule of the crate
--- savepoints; here the position and the counts are read off the items.
+-- The history of a journey: the items that it made, in order. What stands of it, where the journey is, and what may
+-- come next. A rule on positions and counts alone is in the crate savepoints; here the position and the counts are read
+-- off the items.
 use Rattle.std.specs.Prelude.{ℕ, ◌+◌, ◌==◌, ◌&&◌, ◌||◌, not, Bool, true, false, List, [], ◌∷◌, length, reverse, nat_lt, if◌then◌else◌, count_by, Option, Some, None}
 use Rattle.std.specs.List.{list_any}
 use Rattle.allotment.specs.Want.{Wanted}
-use Rattle.plan.specs.Planned.{Planned, step_count}
+use Rattle.plan.specs.PlanModel.{Planned, step_count}
 use Rattle.savepoints.specs.Rules as rules
 use Rattle.commands.specs.declared.items.Cause.TheVariants.{Stop, Refused, Asked}
 use Rattle.commands.specs.declared.items.Item.{Item}
@@ -89,21 +89,20 @@ latest_turn (Turn p cause ∷ earlier) = Some p
 latest_turn (Transaction i c ∷ earlier) = None
 latest_turn (_ ∷ earlier) = latest_turn earlier
 
--- where the journey was last told to go back to, if it has not gone forward since
+-- the target of the last turn, if the journey has not gone forward since
 abbrev pub going_to : List Item → Option ℕ
 going_to h = latest_turn (reverse h)
 
--- the journey was told, at some time, to go back to its beginning
+-- the journey turned, at some time, to its start
 abbrev pub has_turned_to_start : List Item → Bool
 has_turned_to_start h = list_any (is_turn_to 0) h
 
--- above the position that it was told to go back to the journey goes back, else it runs
+-- above its target the journey goes back, else it runs
 abbrev pub back_or_run : ℕ → Option ℕ → Phase
 back_or_run pos None = Run
 back_or_run pos (Some p) = if nat_lt p pos then Back p else Run
 
--- all n steps stand: ended; none stands and it was told to go back to its beginning: undone;
--- else it goes back or runs
+-- all n steps stand: ended; none stands and the journey turned to its start: undone; else it goes back or runs
 abbrev pub phase_at : ℕ → ℕ → Bool → Option ℕ → Phase
 phase_at n pos to_start going =
     if pos == n then Ended
@@ -148,8 +147,7 @@ next_want plan h = rules.next_want plan (position_of h) (refusals h)
 abbrev pub refused_target : Planned → List Item → ℕ
 refused_target plan h = rules.refused_target plan (is_taken h) (position_of h) (refusals h)
 
--- one who asks may turn the journey back to p: to the beginning or a save-point, and below
--- where it is going already
+-- a caller may turn the journey back to p: to the start or a save-point, and below where it is going already
 abbrev pub may_turn : Planned → List Item → Phase → ℕ → Bool
 may_turn plan h Run p = rules.may_turn plan (is_taken h) (position_of h) None p
 may_turn plan h (Back q) p = rules.may_turn plan (is_taken h) (position_of h) (Some q) p

@@ -2,7 +2,7 @@
 use Rattle.std.specs.Prelude.{◌≡◌, ℕ, ◌++◌, List, [], ◌∷◌, Some, refl}
 use Rattle.allotment.specs.declared.cells.Row.{Row}
 use Rattle.allotment.specs.declared.kinds.Kind.TheVariants.{Flight, Room, Transfer}
-use Rattle.plan.specs.Planned.{Planned}
+use Rattle.plan.specs.PlanModel.{Planned}
 use Rattle.commands.specs.Request.{Request, Begin, Step, Abort, Stop, Save}
 use Rattle.commands.specs.declared.items.Cause.TheVariants as cause
 use Rattle.commands.specs.declared.items.Item.TheVariants as item
@@ -34,8 +34,8 @@ pub known_batch_loads_again_or_differs :
     ≡ Loaded (97 ∷ []) 1 ∷ Loaded (97 ∷ []) 1 ∷ Refused BatchDiffers ∷ []
 known_batch_loads_again_or_differs = refl
 
--- with 3 places held a row of 2 is refused, and the rest of its batch with it; a journey that has
--- ended takes no step, and a journey that is not there neither
+-- with 3 places held a row of 2 is refused, and its whole batch with it; a journey that has ended takes no step, and
+-- neither does one that is absent
 pub batch_below_what_is_held_is_refused :
     replies_to start
     (load 97 (row Flight 1 10 ∷ row Flight 2 10 ∷ []) ∷ Begin (one_flight 3) ∷ Step 1
@@ -69,7 +69,7 @@ pub third_option_after_two_refusals :
     ∷ Moved 1 (Transaction 2 3) 2 Ended ∷ []
 third_option_after_two_refusals = refl
 
--- with one try, the second refusal leads to the beginning
+-- with one try, the second refusal leads to the start
 pub undone_once_the_tries_are_used_up :
     replies_to start (four_steps 1)
     ≡ Loaded (97 ∷ []) 4 ∷ Begun 1 ∷ Moved 1 (done 1) 1 Run
@@ -99,14 +99,14 @@ one_aborted =
 pub compensation_gives_back_what_it_took : held one_aborted.ledger (row Flight 1 10).cell ≡ 3
 compensation_gives_back_what_it_took = refl
 
--- and still 10 are allotted
+-- 10 places are still allotted
 pub allotment_stays_where_it_was_set :
     allotment one_aborted.ledger (row Flight 1 10).cell ≡ Some 10
 allotment_stays_where_it_was_set = refl
 
 -- Save-points of the plan.
 
--- six flights, with save-points behind the first and the third
+-- six flights, with save-points after the first and the third
 abbrev pub saved_after_1_and_3 : Planned
 saved_after_1_and_3 =
     untried
@@ -127,7 +127,7 @@ pub stops_turn_back_to_the_last_save_point :
     ∷ Turn 3 cause.Stop ∷ undone 5 ∷ undone 4 ∷ done 4 ∷ done 5 ∷ done 6 ∷ []
 stops_turn_back_to_the_last_save_point = refl
 
--- and it went on to its end
+-- after both stops the journey went on to its end
 pub stopped_twice_it_has_ended : phase_of stopped_twice.ledger 1 ≡ Some Ended
 stopped_twice_it_has_ended = refl
 
@@ -161,28 +161,28 @@ begun_unmarked =
     after_all start
     (load 97 (row Flight 1 10 ∷ row Transfer 1 10 ∷ row Room 1 10 ∷ []) ∷ Begin unmarked ∷ [])
 
--- none at the beginning, one behind the first step, and no second one there
+-- none at the start, one after the first step, and no second one there
 pub save_point_is_taken_once_and_not_at_0 :
     replies_to begun_unmarked (Save 1 ∷ Step 1 ∷ Save 1 ∷ Save 1 ∷ [])
     ≡ Refused NoSave ∷ Moved 1 (done 1) 1 Run ∷ Moved 1 (item.Save 1) 1 Run ∷ Refused NoSave ∷ []
 save_point_is_taken_once_and_not_at_0 = refl
 
--- a save-point was taken behind the first step, the desk was stopped behind the second
+-- a save-point was taken after the first step, the desk was stopped after the second
 abbrev pub saved_and_stopped : State
 saved_and_stopped =
     after_all begun_unmarked (Step 1 ∷ Save 1 ∷ Step 1 ∷ Stop 1 ∷ steps 3)
 
--- it turned back to 1, not to the beginning
+-- it turned back to 1, not to the start
 pub stop_turns_back_to_a_save_point_that_was_taken :
     history saved_and_stopped.ledger 1
     ≡ done 1 ∷ item.Save 1 ∷ done 2 ∷ Turn 1 cause.Stop ∷ undone 2 ∷ done 2 ∷ done 3 ∷ []
 stop_turns_back_to_a_save_point_that_was_taken = refl
 
--- and it went on to its end
+-- after the stop the journey went on to its end
 pub saved_and_stopped_it_has_ended : phase_of saved_and_stopped.ledger 1 ≡ Some Ended
 saved_and_stopped_it_has_ended = refl
 
--- save-points taken behind steps 1 and 2, then back to 1 and forward again
+-- save-points taken after steps 1 and 2, then back to 1 and forward again
 pub compensation_drops_the_save_point_of_its_step :
     replies_to (after_all begun_unmarked (Step 1 ∷ Save 1 ∷ Step 1 ∷ Save 1 ∷ []))
     (Abort 1 1 ∷ Save 1 ∷ Step 1 ∷ Step 1 ∷ Abort 1 2 ∷ Save 1 ∷ [])

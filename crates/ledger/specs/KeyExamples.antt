@@ -1,7 +1,7 @@
 -- Worked examples of requests with a key: each is computed by the definitions.
 use Rattle.std.specs.Prelude.{◌≡◌, ℕ, true, List, [], ◌∷◌, Option, Some, None, refl}
 use Rattle.allotment.specs.declared.kinds.Kind.TheVariants.{Flight}
-use Rattle.commands.specs.Asked.{Asked}
+use Rattle.commands.specs.Asks.{Asked}
 use Rattle.commands.specs.Request.{Request, Begin, Step}
 use Rattle.commands.specs.declared.items.Phase.TheVariants.{Ended}
 use Rattle.commands.specs.declared.refusals.Refusal.TheVariants.{NoJourney, KeyReused}
@@ -35,7 +35,7 @@ flight_loaded = after_all start (load 97 (row Flight 1 10 ∷ []) ∷ [])
 abbrev pub ann_began : State
 ann_began = (outcome flight_loaded (ask ann 107 98) begin).state
 
--- and has stepped it, under the key m
+-- ann has stepped it, under the key m
 abbrev pub ann_stepped : Outcome
 ann_stepped = outcome ann_began (ask ann 109 115) (Step 1)
 
@@ -43,11 +43,11 @@ ann_stepped = outcome ann_began (ask ann 109 115) (Step 1)
 pub step_is_answered : ann_stepped.reply ≡ Moved 1 (done 1) 1 Ended
 step_is_answered = refl
 
--- it made one event
+-- her step made one event
 pub step_makes_its_event : ann_stepped.event ≡ Some (Did 1 (done 1))
 step_makes_its_event = refl
 
--- the same key with the same text: the same reply, no event, and nothing changes
+-- retried under its key with the same text: the same reply, no event, and nothing changes
 pub key_sent_again_gets_its_reply :
     outcome ann_stepped.state (ask ann 109 115) (Step 1)
     ≡ record { reply = ann_stepped.reply; event = None; state = ann_stepped.state }
@@ -65,10 +65,9 @@ pub other_agent_does_not_see_the_journey :
     ≡ record { reply = Refused NoJourney; event = None; state = ann_began }
 other_agent_does_not_see_the_journey = refl
 
--- A stop cuts off a step whose event is kept, and the step is sent again with its key.
+-- A stop cuts off a step whose event is kept, and the step is retried under its key.
 
--- the flight is loaded, ann begins, her step is cut off, the desk is opened again, and she sends it
--- again
+-- the flight is loaded, ann begins, her step is cut off, the desk is opened again, and she retries it
 abbrev pub step_cut_off : List Moment
 step_cut_off =
     Done (load 97 (row Flight 1 10 ∷ [])) None (Loaded (97 ∷ []) 1)
@@ -85,6 +84,6 @@ step_cut_off_is_a_world =
 pub step_is_done_once : history (after start step_cut_off).ledger 1 ≡ done 1 ∷ []
 step_is_done_once = refl
 
--- and its key made one event
+-- the key of the step made one event
 pub its_key_acts_once : times_acted ann (109 ∷ []) start step_cut_off ≡ 1
 its_key_acts_once = refl

@@ -1,9 +1,9 @@
--- What holds of each legal ledger, and of each world.
+-- Laws of each legal ledger, and of each world.
 use Rattle.std.specs.Prelude.{◌≡◌, ℕ, ◌+◌, ◌<◌, ◌≤◌, false, List, [], ◌++◌, length, map, Some, unwrap_or, IsTrue}
 use Rattle.std.specs.List.{list_any}
 use Rattle.allotment.specs.Cells.{numbers_from}
 use Rattle.allotment.specs.declared.cells.Cell.{Cell}
-use Rattle.plan.specs.Planned.{Planned, step_count, is_marked_at}
+use Rattle.plan.specs.PlanModel.{Planned, step_count, is_marked_at}
 use Rattle.commands.specs.declared.items.Item.{Item}
 use Rattle.commands.specs.declared.items.Phase.TheVariants.{Ended, Undone}
 use Rattle.commands.specs.declared.refusals.Refusal.TheVariants.{NoSavePoint}
@@ -37,8 +37,8 @@ pub record HasNoSavePoint (plan : Planned) (h : List Item) : Type 0 where
   pub unmarked : (i : ℕ) → is_marked_at plan i ≡ false
   pub untaken : list_any is_save h ≡ false
 
--- ended, it has done each step once and in order; undone, it has done some in order, short of all,
--- and then compensated these in the opposite order
+-- ended, it has done each step once and in order; undone, it has done some in order, short of all, and then compensated
+-- these in the reverse order
 pub record IsAllOrNothing (plan : Planned) (h : List Item) : Type 0 where
   pub ended : phase plan h ≡ Ended → word h ≡ up 0 (step_count plan)
   pub undone : phase plan h ≡ Undone
@@ -76,26 +76,26 @@ NoFinishedJourneyGoesOn l =
 
 -- Recovery.
 
--- no two ledgers are this one, recovered: the rules leave no choice
+-- no two ledgers are this one, recovered: recovery is deterministic
 abbrev pub AtMostOneIsRecovered : List Event → Type 0
 AtMostOneIsRecovered l = (r s : List Event) → IsRecovered l r → IsRecovered l s → r ≡ s
 
--- recovery comes to its end: this is the ledger, recovered, with no more new events than the bound,
--- however many events that makes; where they run out, or a stop comes, what is left is legal
+-- recovery terminates: this is the ledger, recovered, with no more new events than the bound; each prefix of it, which
+-- is left at the limit of events or after a stop, is legal
 pub record IsRecoverable (l : List Event) : Type 0 where
   pub recovered : List Event
   pub is_recovered : IsRecovered l recovered
   pub within : length recovered ≤ length l + bound l
   pub cut_off : (front rest : List Event) → recovered ≡ front ++ rest → IsLegal front
 
--- however far recovery has come, it goes on to the recovered ledger
+-- each ledger that recovery passes through is a prefix of the recovered ledger
 abbrev pub EachRecoveryGoesOn : List Event → Type 0
 EachRecoveryGoesOn l = (begun : List Event) → HasComeTo l begun → BeginsRecovered l begun
 
 -- Worlds.
 
--- the ledger after a world is legal, it is the events of what was answered or was cut off and kept,
--- in order, and under each agent and key at most one event was made
+-- the ledger after a world is legal, it is the events of what was answered or was cut off and kept, in order, and under
+-- each agent and key at most one event was made
 pub record IsSound (w : List Moment) : Type 0 where
   pub legal : IsLegal (after start w).ledger
   pub events : (after start w).ledger ≡ events_of start w

@@ -6,7 +6,7 @@ use Rattle.allotment.specs.Want.{Wanted}
 use Rattle.allotment.specs.Cells.{is_cell, cells_of, wants_cell, numbers_from}
 use Rattle.allotment.specs.declared.cells.Cell.{Cell}
 use Rattle.allotment.specs.declared.cells.Row.{Row}
-use Rattle.plan.specs.Planned.{Planned, is_plan, numbered, want_at}
+use Rattle.plan.specs.PlanModel.{Planned, is_plan, numbered, want_at}
 pub use Rattle.commands.specs.Batches.{are_distinct, is_good_row, is_batch}
 use Rattle.commands.specs.declared.items.Item.{Item}
 use Rattle.commands.specs.declared.items.Phase.{Phase}

@@ -1,9 +1,9 @@
--- Recovery: the ledger that it makes of another, and how many events it may need.
+-- Recovery: the ledger that it makes of another, and a bound on its events.
 use Rattle.std.specs.Prelude.{◌≡◌, ℕ, ◌+◌, ◌*◌, ◌<◌, Bool, true, false, List, [], ◌∷◌, ◌++◌, map, filter, nat_le, sum_by, option_map, unwrap_or, IsTrue, not, ◌&&◌, ◌||◌}
 use Rattle.std.specs.List.{list_all, list_any}
 use Rattle.ledger.specs.Ledger.{Event, Did, Journey, journey_at, numbers, history, is_in, AreAllowedAfter, IsLegal}
 use Rattle.ledger.specs.History.{last_save, is_running, is_going_back, is_open, is_compensation, is_transaction, is_refused_turn}
-use Rattle.plan.specs.Planned.{step_count}
+use Rattle.plan.specs.PlanModel.{step_count}
 use Rattle.commands.specs.declared.items.Item.{Item}
 use Rattle.commands.specs.declared.items.Item.TheVariants.{Turn}
 use Rattle.commands.specs.declared.items.Cause.TheVariants.{Stop}
@@ -24,7 +24,7 @@ abbrev pub journey_of : Event → ℕ
 journey_of (Did j item) = j
 journey_of _ = 0
 
--- the items come by rising number of their journeys
+-- the items are ordered by the numbers of their journeys
 abbrev pub is_by_number : List Event → Bool
 is_by_number [] = true
 is_by_number (e ∷ later) =
@@ -43,8 +43,8 @@ has_none test l = not (list_any (is_in test l) (numbers l))
 abbrev pub is_forward : Item → Bool
 is_forward item = is_transaction item || is_compensation item || is_refused_turn item
 
--- the ledger is recovered: first each running journey turns to its last save-point, then those that
--- go back get where they go, then each is carried to its end; each time one journey after another
+-- the ledger is recovered: first each running journey turns to its last save-point, then those that go back reach their
+-- targets, then each goes on to its end; each time one journey after another
 pub record IsRecovered (l recovered : List Event) : Type 0 where
   pub backward : List Event
   pub forward : List Event
@@ -57,7 +57,7 @@ pub record IsRecovered (l recovered : List Event) : Type 0 where
   pub in_order : IsTrue (is_by_number forward)
   pub all_finished : IsTrue (has_none is_open recovered)
 
--- Recovery under way.
+-- Recovery in progress.
 
 -- so far a part of recovery has items of this kind, by rising number of their journeys up to this
 -- number, and no journey below it is left in such a phase
@@ -69,8 +69,8 @@ pub record HasReached (test : Item → Bool) (passes : Phase → Bool) (before p
   pub up_to : IsTrue (list_all (λ e. nat_le (journey_of e) number) part)
   pub done : (j : ℕ) → j < number → is_in passes (before ++ part) j ≡ false
 
--- recovery of a ledger has come to this one: it has made some of the turns; or all of them and some
--- compensations; or all of these and some steps
+-- recovery of a ledger has come to this one: it has made some of the turns; or all of them and some compensations; or
+-- all of these and some steps
 pub data HasComeTo (l : List Event) : List Event → Type 0 where
   turning : (front rest : List Event) → stops l ≡ front ++ rest → HasComeTo l (l ++ front)
   going_back : (part : List Event) (number : ℕ)
@@ -82,7 +82,7 @@ pub data HasComeTo (l : List Event) : List Event → Type 0 where
       → HasReached is_forward is_open (l ++ stops l ++ back) part number
       → HasComeTo l (l ++ stops l ++ back ++ part)
 
--- with some further events it is the recovered ledger
+-- with some more events it is the recovered ledger
 pub record BeginsRecovered (l begun : List Event) : Type 0 where
   pub rest : List Event
   pub recovered : IsRecovered l (begun ++ rest)

@@ -5,7 +5,7 @@ use Rattle.std.proofs.Common.{ap, sym, ◌∙◌}
 use Rattle.std.proofs.lemmas.Bool.{and_parts}
 use Rattle.std.proofs.Math.Nat.{not-suc-le-zero, le_of_suc-le-suc}
 use Rattle.allotment.specs.declared.kinds.Kind.TheVariants.{Flight, Room, Transfer}
-use Rattle.plan.specs.Planned.{Planned}
+use Rattle.plan.specs.PlanModel.{Planned}
 use Rattle.commands.specs.Names.{house}
 use Rattle.commands.specs.Request.{Begin, Step, Abort, Save}
 use Rattle.commands.specs.declared.items.Cause.TheVariants as cause
@@ -28,7 +28,7 @@ are_allowed_after before [] = true
 are_allowed_after before (e ∷ later) =
     is_allowed before e && are_allowed_after (before ++ e ∷ []) later
 
--- events that pass the test are allowed: it looks at each of them as legality does
+-- events that pass the test are allowed: the test checks each of them as legality does
 pub allowed_by_test : (before later : List Event)
     → are_allowed_after before later ≡ true → AreAllowedAfter before later
 allowed_by_test before [] passes = tt
@@ -84,7 +84,7 @@ longest_journey_needs_at_most_528 = refl
 
 -- A journey that goes back keeps its target.
 
--- six flights, with save-points behind the second and the fourth
+-- six flights, with save-points after the second and the fourth
 abbrev pub saved_after_2_and_4 : Planned
 saved_after_2_and_4 =
     untried
@@ -98,7 +98,7 @@ aborted_to_2 =
     ∷ items
     (done 1 ∷ done 2 ∷ done 3 ∷ done 4 ∷ done 5 ∷ Turn 2 cause.Asked ∷ undone 5 ∷ [])
 
--- so the requests make it
+-- these requests make it
 pub steps_and_an_abort_make_these_events :
     (after_all start
     (load 97 six_flights ∷ Begin saved_after_2_and_4 ∷ steps 5 ++ Abort 1 2 ∷ Step 1 ∷ [])).ledger
@@ -113,7 +113,7 @@ aborted_it_goes_back = refl
 pub aborted_it_needs_at_most_24 : bound aborted_to_2 ≡ 24
 aborted_it_needs_at_most_24 = refl
 
--- recovery leaves its target, compensates two steps more, and goes forward: 6 events
+-- recovery keeps its target, compensates two more steps, and goes forward: 6 events
 pub journey_going_back_is_recovered :
     IsRecovered aborted_to_2
     (aborted_to_2 ++ [] ++ items (undone 4 ∷ undone 3 ∷ [])
@@ -128,7 +128,7 @@ pub none_is_below_1 : (passes : Phase → Bool) (l : List Event) (j : ℕ) → j
 none_is_below_1 passes l zero below = refl
 none_is_below_1 passes l (suc j) below = absurd (not-suc-le-zero (le_of_suc-le-suc below))
 
--- after the first of these two compensations, recovery is under way
+-- after the first of these two compensations, recovery is in progress
 pub journey_going_back_is_under_way :
     HasComeTo aborted_to_2 (aborted_to_2 ++ [] ++ items (undone 4 ∷ []))
 journey_going_back_is_under_way = going_back (items (undone 4 ∷ [])) 1 (record {
@@ -141,12 +141,12 @@ journey_going_back_is_under_way = going_back (items (undone 4 ∷ [])) 1 (record
 
 -- A running journey turns back to a save-point that was taken.
 
--- a save-point was taken behind the first step, and a second step is done
+-- a save-point was taken after the first step, and a second step is done
 abbrev pub saved_at_1 : List Event
 saved_at_1 =
     (after_all begun_unmarked (Step 1 ∷ Save 1 ∷ Step 1 ∷ [])).ledger
 
--- it turns back to 1, and recovery makes 4 events
+-- recovery turns it back to 1, and makes 4 events
 pub journey_with_a_taken_save_point_is_recovered :
     IsRecovered saved_at_1
     (saved_at_1 ++ items (Turn 1 cause.Stop ∷ []) ++ items (undone 2 ∷ [])
@@ -170,7 +170,7 @@ two_want_one_room =
 abbrev pub both_turn_back : List Event
 both_turn_back = Did 1 (Turn 1 cause.Stop) ∷ Did 2 (Turn 0 cause.Stop) ∷ []
 
--- then the second gives its room back, and the first takes it
+-- the second journey gives its room back before the first takes it
 pub second_journey_goes_back_before_the_first_goes_on :
     IsRecovered two_want_one_room
     (two_want_one_room ++ both_turn_back ++ (Did 2 (undone 1) ∷ []) ++ Did 1 (done 2) ∷ [])

@@ -1,9 +1,9 @@
--- What is answered to a load, a begin and a move of a journey: one event and its reply, or a
--- refusal, or the reply of a known batch.
+-- The answers to a load, a begin and a move of a journey: one event and its reply, or a refusal, or the reply of a
+-- known batch.
 use Rattle.std.specs.Prelude.{ℕ, ◌+◌, ◌==◌, ◌&&◌, not, Bool, true, false, List, [], ◌∷◌, ◌++◌, map, length, if◌then◌else◌, find, position, Option, Some, None, option_map, option_and_then, option_to_list, unwrap_or, bytes_eq}
 use Rattle.allotment.specs.Cells.{is_cell}
 use Rattle.allotment.specs.declared.cells.Row.{Row}
-use Rattle.plan.specs.Planned.{Planned}
+use Rattle.plan.specs.PlanModel.{Planned}
 use Rattle.commands.specs.Names.{house}
 use Rattle.commands.specs.declared.items.Cause.TheVariants as cause
 use Rattle.commands.specs.declared.items.Item.{Item}
@@ -57,7 +57,7 @@ answer_load l name rows [] =
 
 -- Begins.
 
--- the journey gets the next number, and belongs to who asks, or to the house
+-- the journey gets the next number, and belongs to the agent who asks, or to the house
 abbrev pub answer_begin : List Event → Option (List ℕ) → Planned → Answer
 answer_begin l who plan = record {
   event = Some (Began (unwrap_or who house) plan);
@@ -66,12 +66,12 @@ answer_begin l who plan = record {
 
 -- Moves of a journey.
 
--- whoever asks sees his own journeys, and the house sees all
+-- an agent sees its own journeys, and the house sees all
 abbrev pub sees : Option (List ℕ) → Journey → Bool
 sees None a = true
 sees (Some agent) a = bytes_eq agent a.agent
 
--- the journey of this number, if who asks sees it
+-- the journey of this number, if the caller sees it
 abbrev pub seen_journey : List Event → Option (List ℕ) → ℕ → Option Journey
 seen_journey l who j =
     option_and_then (λ (a : Journey). if sees who a then Some a else None) (journey_at l j)
@@ -116,7 +116,7 @@ answer_choices l j a choices otherwise =
     (option_map (moved a.plan (history l j) j) (find (λ next. may_do l j next a) choices))
     (refused otherwise)
 
--- to a request about a journey, if it is seen: nothing moves a finished one
+-- to a request about a journey, if the caller sees it: nothing moves a finished one
 abbrev pub answer_move : List Event → ℕ → (Planned → List Item → List Item) → Refusal
     → Option Journey → Answer
 answer_move l j choices otherwise None = refused NoJourney

@@ -1,7 +1,7 @@
--- The shape of a journey's history: up by transactions, down by compensations, and up again from a
--- save-point alone. To the end, or all the way down.
+-- The shape of a journey's history: up by transactions, down by compensations, and up again only from a save-point. To
+-- the end, or all the way down.
 use Rattle.std.specs.Prelude.{◌≡◌, ℕ, suc, ◌-◌, ◌<◌, ◌≤◌, ◌⊎◌, List, [], ◌∷◌, ◌++◌, map, reverse, IsTrue}
-use Rattle.plan.specs.Planned.{Planned, step_count}
+use Rattle.plan.specs.PlanModel.{Planned, step_count}
 use Rattle.allotment.specs.Cells.{numbers_from}
 use Rattle.ledger.specs.History.{is_save_point}
 use Rattle.commands.specs.declared.items.Item.{Item}
@@ -74,6 +74,6 @@ pub record GoesToStart (plan : Planned) (h : List Item) : Type 0 where
 abbrev pub IsUpAndDown : Planned → List Item → Type 0
 IsUpAndDown plan h = GoesToEnd plan h ⊎ GoesToStart plan h
 
--- with some further items it would be whole
+-- with some more items it would be whole
 abbrev pub BeginsUpAndDown : Planned → List Item → Type 0
 BeginsUpAndDown plan h = (rest : List Item) × IsUpAndDown plan (h ++ rest)

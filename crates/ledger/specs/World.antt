@@ -1,7 +1,7 @@
--- Worlds: whatever was asked, with stops and reopenings. Where the desk stands after one, which
--- events it made, and how often a key acted.
+-- Worlds: histories of requests, stops and reopenings. The state of the desk after one, the events that it made, and
+-- how often a key acted.
 use Rattle.std.specs.Prelude.{◌≡◌, ℕ, ◌+◌, ◌&&◌, Bool, true, false, List, [], ◌∷◌, ◌++◌, if◌then◌else◌, Option, is_some, option_to_list, option_map, unwrap_or, bytes_eq, IsTrue}
-use Rattle.commands.specs.Asked.{Asked}
+use Rattle.commands.specs.Asks.{Asked}
 use Rattle.ledger.specs.Ledger.{Event}
 use Rattle.ledger.specs.Answer.{State, start, outcome, is_request}
 use Rattle.commands.specs.Request.{Request}
@@ -10,7 +10,7 @@ use Rattle.commands.specs.declared.replies.Reply.{Reply}
 -- a request that was answered, a request that a stop cut off, and a reopening
 pub data Moment : Type 0 where
   Done : (asked : Request) (ask : Option Asked) (reply : Reply) → Moment
-  -- its event and its kept reply were kept whole, or nothing of it was
+  -- the event and the kept reply of the request were both kept, or neither was
   Cut : (asked : Request) (ask : Option Asked) (was_kept : Bool) → Moment
   Reopened : Moment
 
@@ -20,7 +20,7 @@ is_reopened [] = true
 is_reopened (Reopened ∷ later) = true
 is_reopened _ = false
 
--- where the desk stands after these
+-- the state of the desk after these
 abbrev pub after : State → List Moment → State
 after s [] = s
 after s (Done asked ask reply ∷ later) = after (outcome s ask asked).state later
@@ -45,7 +45,7 @@ GoesOn s (Cut asked ask false ∷ later) =
     KeepsLimits s ask asked × IsTrue (is_reopened later) × GoesOn s later
 GoesOn s (Reopened ∷ later) = GoesOn s later
 
--- a world: all that came to a new desk
+-- a world, an execution: all that came to a new desk
 abbrev pub IsWorld : List Moment → Type 0
 IsWorld w = GoesOn start w
 

@@ -1,6 +1,6 @@
-//! What holds of each legal ledger, and of each world, whatever was asked.
+//! Laws of each legal ledger, and of each world, whatever was asked.
 //!
-//! A law is the contract of a function that does nothing: who calls it may use the law.
+//! A law is the contract of a function that does nothing: a caller of it may use the law.
 ghost use Rattle.std.specs.Prelude.{List};
 ghost use Rattle.ledger.specs.Laws.{AtMostOneIsRecovered};
 ghost use Rattle.ledger.specs.Laws.{EachOpenJourneyHasOneStep, EachPlainJourneyIsAllOrNothing};
@@ -25,17 +25,17 @@ pub fn steps()
     ensures finished { (l : List Event) → NoFinishedJourneyGoesOn l }
 {}
 
-/// Recovery has no choice, and it comes to its end: of each ledger at most one is the recovered
-/// one, and of each legal ledger there is one, with no more new events than its bound. However far
-/// it has come, it goes on to that one.
+/// Recovery is deterministic and terminates: of each ledger at most one is the recovered one, and of each legal ledger
+/// there is one, with no more new events than its bound. Each ledger that recovery passes through is a prefix of that
+/// one.
 pub fn recoveries()
     ensures unique { (l : List Event) → AtMostOneIsRecovered l }
     ensures exists { (l : List Event) → IsLegal l → IsRecoverable l }
     ensures under_way { (l : List Event) → IsLegal l → EachRecoveryGoesOn l }
 {}
 
-/// After each world, with any stops and reopenings, the ledger is legal and is the events that were
-/// made, and no key has acted twice.
+/// After each world, with any stops and reopenings, the ledger is legal and is the list of the events that were made,
+/// and no key has acted twice.
 pub fn worlds()
     ensures sound { (w : List Moment) → IsWorld w → IsSound w }
 {}

@@ -8,7 +8,7 @@ use Rattle.sqlite.specs.Compile.{table_defined_by}
 use Rattle.sqlite.specs.Change.{created, next_tree}
 use Rattle.sqlite.specs.Does.{Tally, lacks_sequence}
 use Rattle.sqlite.specs.declared.error.Error.{Error}
-use Rattle.sqlite.specs.Effect.{Database}
+use Rattle.sqlite.specs.Effect.{Database, IsDatabase}
 use Rattle.sqlite.specs.Order.{Row}
 use Rattle.sqlite.specs.Tree.{Trees}
 use Rattle.sqlite.specs.Listing.{understood}
@@ -35,6 +35,7 @@ pub record Adds (old new : State) (before : Schema) (table : Table) : Type 0 whe
   pub is_open : IsTrue new.is_open
   pub inside : IsTrue new.in_transaction
   pub schema : new.now.schema ≡ created before table
+  pub sound : IsDatabase new.now
   pub empty : new.now.trees (next_tree before) ≡ []
   pub others : KeepsRows before.tables old.now.trees new.now.trees
 
@@ -65,6 +66,7 @@ adds sql old new before table (Ok count) is plain whole defined uncounted within
       is_open = shown.is_open;
       inside = shown.mode;
       schema = ap (λ (d : Database). d.schema) now ∙ schema;
+      sound = w.sound;
       empty = subst (λ (d : Database). d.trees (next_tree before) ≡ []) (sym now) empty;
       others = subst (λ (d : Database). KeepsRows before.tables old.now.trees d.trees) (sym now) others;
     }
@@ -126,6 +128,7 @@ has_added a b c t may one two =
       inside = two.inside;
       sees = record {
         schema = two.schema ∙ desk_is;
+        sound = two.sound;
         rows = record {
           meta = rw r0 (shown.meta);
           stock = rw r1 (shown.stock);

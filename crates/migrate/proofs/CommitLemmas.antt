@@ -2,7 +2,7 @@
 use Rattle.std.proofs.Common.{◌≡◌, ◌⊎◌, inl, inr, true, false, IsTrue, refl, sym, ap, subst, ◌∙◌, arith}
 use Rattle.sqlite.specs.Tree.{Trees}
 use Rattle.sqlite.specs.Store.{Ghosts}
-use Rattle.sqlite.specs.Effect.{Database}
+use Rattle.sqlite.specs.Effect.{Database, IsDatabase}
 use Rattle.sqlite.specs.State.{HasCleanDisk, Survives, Shows as ShowsNow}
 use Rattle.sqlite.specs.Held.{Held, state}
 use Rattle.desk_sql.specs.declared.versions.Version.TheVariants.{One, Two}
@@ -10,7 +10,8 @@ use Rattle.desk_sql.specs.declared.meta.Meta.{Meta}
 use Rattle.desk_sql.specs.Calls.{Sees, LeavesNoMore}
 use Rattle.desk_sql.specs.Rows.{Tables, ShowsIn}
 use Rattle.ledger.specs.Answer.{State}
-use Rattle.standing.specs.Keeping.{MeansIn, SeesOf, IsKeptIn, KeepsIn}
+use Rattle.sql_model.specs.Keeping.{MeansIn, SeesOf, IsKeptIn, KeepsIn}
+use Rattle.sql_model.proofs.KeepLemmas.{is_database}
 use Rattle.migrate.specs.Copying.{MayAdd}
 use Rattle.migrate.specs.Migrating.{AreNumbersOf, migrated}
 use Rattle.migrate.proofs.Standing.{migrated_stands}
@@ -51,11 +52,12 @@ module _ {S : Type 0} (g : Ghosts S) (old late : Held S) (m : Meta) (s : State)
   has_made : Sees (state g late) (migrated m saw.tables)
   has_made =
       wrote.made clean saw.tables
-      (record { inside = refl; sees = λ _. record { schema = saw.schema; rows = saw.shown } })
+      (record { inside = refl; sees = λ _. record { schema = saw.schema; rows = saw.shown; sound = saw.sound } })
 
   -- the transaction's trees mean the same, in tables of version 2
   late_means : MeansIn Two (state g late).now.trees s
   late_means = record {
+    of = is_database (state g late) (migrated m saw.tables) has_made;
     tables = migrated m saw.tables;
     shown = has_made.rows;
     stands = migrated_stands m saw.tables s numbers saw.stands;
@@ -76,6 +78,7 @@ module _ {S : Type 0} (g : Ghosts S) (old late : Held S) (m : Meta) (s : State)
   keeps_new law end shown = record {
     sees = λ _. record {
       schema = ap (λ (d : Database). d.schema) shown.now_is ∙ has_made.schema;
+      sound = subst IsDatabase (sym shown.now_is) has_made.sound;
       committed = shown.now_is ∙ sym shown.committed_is;
       tables = migrated m saw.tables;
       shown = subst (λ (d : Database). ShowsIn Two d.trees (migrated m saw.tables)) (sym shown.now_is) has_made.rows;

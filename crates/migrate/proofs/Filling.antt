@@ -97,6 +97,7 @@ copies_rows params old new count unstamped ready h =
         schema = ap (λ (d : Database). d.schema) done.2;
         applies = subst (λ (t : Trees). Applies desk_schema Enforced old.now.trees edit t) (sym (ap (λ (d : Database). d.trees) done.2)) step;
         shown = subst (λ b. ShowsNow old new new.now (if b then old.committed else new.now) b) ready.inside w.shown;
+        sound = w.sound;
       },
     )
 

@@ -3,6 +3,7 @@ pub mod Adding
 pub mod Filling
 pub mod Quiet
 pub mod Reading
+pub mod Telling
 pub mod Standing
 pub mod CommitLemmas
 pub mod Stopping

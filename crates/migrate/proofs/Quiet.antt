@@ -2,15 +2,15 @@
 use Rattle.std.proofs.Common.{◌≡◌, ◌⊎◌, inl, inr, IsTrue, sym, ap, subst, ◌∙◌, arith}
 use Rattle.sqlite.specs.Store.{Ghosts}
 use Rattle.sqlite.specs.Held.{Held, state}
-use Rattle.sqlite.specs.Effect.{Database}
+use Rattle.sqlite.specs.Effect.{Database, IsDatabase}
 use Rattle.sqlite.specs.State.{State as Connected, HasCleanDisk, IsUnchanged, IsRolledBack}
 use Rattle.desk_sql.specs.declared.versions.Version.{Version}
 use Rattle.desk_sql.specs.declared.versions.Version.TheVariants.{One, Two}
 use Rattle.desk_sql.specs.Calls.{LeavesNoMore}
 use Rattle.desk_sql.specs.Rows.{ShowsIn}
 use Rattle.ledger.specs.Answer.{State}
-use Rattle.standing.specs.Keeping.{SeesOf, SeesNew, Sees, IsFound}
-use Rattle.standing.proofs.KeepLemmas.{left_before}
+use Rattle.sql_model.specs.Keeping.{SeesOf, SeesNew, Sees, IsFound}
+use Rattle.sql_model.proofs.KeepLemmas.{left_before}
 use Rattle.migrate.specs.Migrating.{IsAsBefore}
 
 -- as far as it is open a connection was so before, and sees what was committed then, and still is
@@ -36,6 +36,7 @@ of_same v a b s same live saw =
     let now = settled a b saw.committed (same.now live) in
     record {
       schema = ap (λ (d : Database). d.schema) now ∙ saw.schema;
+      sound = subst IsDatabase (sym now) saw.sound;
       committed = now ∙ saw.committed ∙ sym (same.committed live);
       tables = saw.tables;
       shown = subst (λ (d : Database). ShowsIn v d.trees saw.tables) (sym now) saw.shown;

@@ -5,11 +5,11 @@ use Rattle.desk_sql.specs.declared.versions.Version.{Version}
 use Rattle.desk_sql.specs.declared.versions.Version.TheVariants.{One, Two}
 use Rattle.desk_sql.specs.declared.meta.Meta.{Meta}
 use Rattle.desk_sql.specs.Calls.{MaySeeIn}
-use Rattle.desk_sql.specs.Found.{IsMeta, meta_of}
+use Rattle.desk_sql.specs.FoundRows.{IsMeta, meta_of}
 use Rattle.desk_sql.specs.Rows.{Tables, no_rows}
 use Rattle.ledger.specs.Answer.{State}
-use Rattle.standing.specs.Called.{meta_in}
-use Rattle.standing.specs.Keeping.{SeesOf, IsFound, IsKeptIn}
+use Rattle.sql_model.specs.ExpectedRows.{meta_in}
+use Rattle.sql_model.specs.Keeping.{SeesOf, IsFound, IsKeptIn}
 use Rattle.migrate.specs.Migrating.{AreNumbersOf}
 
 module _ (old new : Connected) (m : Meta) (seen : (v : Version) (t : Tables) → MaySeeIn v old t → IsUnchanged old new × IsMeta t m) where
@@ -25,7 +25,7 @@ module _ (old new : Connected) (m : Meta) (seen : (v : Version) (t : Tables) →
   pub numbers_read : (s : State) → IsFound One old s → AreNumbersOf m s
   numbers_read s found =
       let desk : SeesOf One old s = found.sees was_open in
-      let read = seen One desk.tables (λ _. record { schema = desk.schema; rows = desk.shown }) in
+      let read = seen One desk.tables (λ _. record { schema = desk.schema; rows = desk.shown; sound = desk.sound }) in
       let same : meta_of m ∷ [] ≡ meta_in One s.ledger ∷ [] = sym read.1 ∙ desk.stands.meta in
       cc
 

@@ -11,8 +11,8 @@ use Rattle.ledger.specs.Answer.{State}
 use Rattle.desk_sql.specs.declared.versions.Version.TheVariants.{One, Two}
 use Rattle.desk_sql.specs.declared.meta.Meta.{Meta}
 use Rattle.desk_sql.specs.Rows.{Tables, MetaRow, EntryRow}
-use Rattle.standing.specs.Called.{counted_from, entry_row_of, entry_row_if, entries_called, meta_in}
-use Rattle.standing.specs.Standing.{StandsIn}
+use Rattle.sql_model.specs.ExpectedRows.{counted_from, entry_row_of, entry_row_if, entries_called, meta_in}
+use Rattle.sql_model.specs.Standing.{StandsIn}
 use Rattle.migrate.specs.Copying.{items_below}
 use Rattle.migrate.specs.Migrating.{AreNumbersOf, migrated}
 use Rattle.migrate.proofs.Ranges.{items_below-all}

@@ -12,9 +12,9 @@ use Rattle.desk_sql.specs.Rows.{Tables, MetaRow, no_rows}
 use Rattle.desk_sql.specs.Schema.{no_schema, seven_schema}
 use Rattle.desk_sql.specs.Versions.{number_of, AreOfVersion, SawVersion}
 use Rattle.ledger.specs.Answer.{State}
-use Rattle.standing.specs.Keeping.{SeesOf, IsFound, KeepsIn, StoodFor, WasClean}
-use Rattle.standing.specs.Standing.{StandsIn}
-use Rattle.standing.proofs.KeepLemmas.{left_before}
+use Rattle.sql_model.specs.Keeping.{SeesOf, IsFound, KeepsIn, StoodFor, WasClean}
+use Rattle.sql_model.specs.Standing.{StandsIn}
+use Rattle.sql_model.proofs.KeepLemmas.{left_before}
 use Rattle.migrate.specs.declared.faults.MigrateFault.{MigrateFault}
 use Rattle.migrate.specs.declared.faults.MigrateFault.TheVariants.{AlreadyNew, UnknownSchema, Store, Memory}
 use Rattle.migrate.specs.Migrating.{IsAsBefore, IsRefusal, LeavesEither, LeavesOneOf, NumbersOld, ShowsAsBefore, ShowsOld, Tells, WasNotOld}
@@ -48,7 +48,8 @@ module _ {S : Type 0} (g : Ghosts S) (old mid : Held S) where
   saw_number : (v : Version) (n : ℕ) (s : State) → SawVersion g old mid n → HasCleanDisk (state g mid)
       → SeesOf v (state g old) s → number_of v ≡ n
   saw_number v n s saw clean desk =
-      has_number v n desk.tables s desk.stands (saw clean v desk.tables (λ _. record { schema = desk.schema; rows = desk.shown }))
+      has_number v n desk.tables s desk.stands
+      (saw clean v desk.tables (λ _. record { schema = desk.schema; rows = desk.shown; sound = desk.sound }))
 
   -- where the tables have version 1, the connection did not stand for a state in tables of version 2
   not_new : (s : State) → SawVersion g old mid 1 → (old.schema ≡ no_schema → ⊥) → HasCleanDisk (state g mid) → HasCleanDisk (state g old)

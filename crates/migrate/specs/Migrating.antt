@@ -12,11 +12,11 @@ use Rattle.desk_sql.specs.Schema.{no_schema}
 use Rattle.desk_sql.specs.Calls.{Sees, LeavesNoMore}
 use Rattle.desk_sql.specs.Versions.{SawVersion}
 use Rattle.desk_sql.specs.Changes.{counts}
-use Rattle.desk_sql.specs.Found.{meta_of}
+use Rattle.desk_sql.specs.FoundRows.{meta_of}
 use Rattle.desk_sql.specs.Rows.{Tables}
 use Rattle.ledger.specs.Answer.{State}
-use Rattle.standing.specs.Called.{meta_in}
-use Rattle.standing.specs.Keeping.{MeansIn, MeansOf, SeesOf, Sees as Shows, IsKeptIn, KeepsIn, StoodFor}
+use Rattle.sql_model.specs.ExpectedRows.{meta_in}
+use Rattle.sql_model.specs.Keeping.{MeansIn, MeansOf, SeesOf, Sees as Shows, IsKeptIn, KeepsIn, StoodFor}
 use Rattle.migrate.specs.Copying.{MayAdd, with_items_below}
 use Rattle.migrate.specs.declared.faults.MigrateFault.{MigrateFault}
 use Rattle.migrate.specs.declared.faults.MigrateFault.TheVariants.{AlreadyNew, UnknownSchema, Store, Memory}

@@ -8,7 +8,7 @@ ghost use Rattle.sqlite.specs.Held.{state};
 ghost use Rattle.desk_sql.specs.Schema.{no_schema};
 ghost use Rattle.desk_sql.specs.Calls.{StaysInside, WasOpen, CommitsNothing, LeavesNoMore};
 ghost use Rattle.desk_sql.specs.Versions.{SawVersion};
-ghost use Rattle.standing.specs.Keeping.{WasClean};
+ghost use Rattle.sql_model.specs.Keeping.{WasClean};
 ghost use Rattle.migrate.specs.Migrating.{BringsOver, CountsEvents, IsAsBefore, LeavesNew, LeavesEither, ShowsAsBefore, WasNotOld, SawUnknown, Tells, WritesNew, BringsAll, LeavesNewOf, LeavesOneOf, ShowsOld, NumbersOld, RefusesNumbers, IsFault, IsRefusal};
 
 use crate::faults::{MigrateFault, fault_of};

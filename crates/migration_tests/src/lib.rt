@@ -1,4 +1,4 @@
-//! Tests of migration: files of schema 1, made here by its own statements, are shown, refused, brought over and used, also
+//! Tests of migration: files of schema 1, made here by its own statements, are shown, refused, migrated and used, also
 //! where the store fails at any call.
 #![tactic(auto)]
 

@@ -14,7 +14,7 @@ use Rattle.plan.specs.Levels.{judged_option, option_in, options_in, step_in, ste
 
 -- One after another.
 
--- the value in front of the values, or the first fault
+-- the value prepended to the values, or the first fault
 abbrev pub onto : {X F : Type 0} → Result X F → Result (List X) F → Result (List X) F
 onto (Ok x) (Ok xs) = Ok (x ∷ xs)
 onto (Ok x) (Err f) = Err f
@@ -25,17 +25,17 @@ abbrev pub each : {A X F : Type 0} → (ℕ → A → Result X F) → ℕ → Li
 each read i [] = Ok []
 each read i (t ∷ ts) = onto (read i t) (each read (i + 1) ts)
 
--- these values in front of the values
+-- these values prepended to the values
 abbrev pub behind : {X F : Type 0} → List X → Result (List X) F → Result (List X) F
 behind done (Ok xs) = Ok (done ++ xs)
 behind done (Err f) = Err f
 
--- in front of nothing
+-- nothing prepended to a result leaves it the same
 pub none_behind : {X F : Type 0} (r : Result (List X) F) → behind [] r ≡ r
 none_behind (Ok xs) = refl
 none_behind (Err f) = refl
 
--- what is read next is one more of what was read
+-- a value that is read next is appended to those that were read
 pub behind_more : {X F : Type 0} (done : List X) (x : X) (r : Result (List X) F)
     → behind (done ++ x ∷ []) r ≡ behind done (onto (Ok x) r)
 behind_more done x (Ok xs) = ap Ok (append_assoc done (x ∷ []) xs)
@@ -49,7 +49,7 @@ each_from read i k ts t l e =
     ap (each read i) (drop-cons ts k t l)
     ∙ ap (λ z. onto (read i z) (each read (i + 1) (drop (suc k) ts))) (sym e)
 
--- one part more was read
+-- one more part was read
 pub each_more : {A X F : Type 0} (read : ℕ → A → Result X F) (i k : ℕ) (ts : List A) (t : A)
     (done : List X) (x : X) (whole : Result (List X) F)
     → k < length ts → t ≡ get_or ts k t → read i t ≡ Ok x
@@ -75,7 +75,7 @@ each_fails read i k ts t done f whole l e r h =
     ∙ ap (behind done) (each_from read i k ts t l e)
     ∙ ap (λ z. behind done (onto z later)) r
 
--- nothing is left behind all
+-- after all elements there is nothing left
 drop_all : {X : Type 0} (xs : List X) → drop (length xs) xs ≡ []
 drop_all [] = refl
 drop_all (x ∷ xs) = drop_all xs
@@ -91,7 +91,7 @@ each_ends read i k ts done whole e h =
 
 -- The first fault of a list.
 
--- the first fault of one and of the later ones
+-- the first fault of a list is that of its head, or else of its tail
 pub first_onto : {X F : Type 0} (x : X) (xs : List X) (fs more : List F)
     → first_fault (x ∷ xs) (fs ++ more) ≡ onto (first_fault x fs) (first_fault xs more)
 first_onto x xs [] [] = refl
@@ -102,7 +102,7 @@ first_onto x xs (g ∷ fs) more = refl
 abbrev option_drafts : List (List ℕ) → List (Option OptionDraft)
 option_drafts ts = map option_draft ts
 
--- what is told of options, the first of them apart
+-- the first fault of options, by the first option and the later ones
 options_onto : (i : ℕ) (o : Option OptionDraft) (os : List (Option OptionDraft))
     → first_fault (filter_map (option_map want_of) (o ∷ os)) (flat_map (option_faults i) (o ∷ os))
     ≡ onto (judged_option i o) (first_fault (filter_map (option_map want_of) os) (flat_map (option_faults i) os))
@@ -114,7 +114,7 @@ options_onto i (Some o) os =
 unfoldable pub option_at : ℕ → ℕ → List ℕ → Result Wanted BadPlan
 option_at i k t = option_in i t
 
--- its number does not matter
+-- the number of an option does not matter
 pub option_at-is : (i k : ℕ) (t : List ℕ) → option_at i k t ≡ option_in i t
 unfolding option_at
 option_at-is i k t = refl

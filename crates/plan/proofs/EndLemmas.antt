@@ -28,14 +28,14 @@ marked front =
     ap (λ z. bytes_eq (star ∷ []) z)
     (ap (λ z. drop z (front ++ star ∷ [])) (seam front star) ∙ drop-append_seam front (star ∷ []))
 
--- and without it is what stands before the `*`
+-- the text without its mark is what stands before the `*`
 pub marked_front : (front : List ℕ) → without_mark (front ++ star ∷ []) ≡ front
 marked_front front =
     let text = front ++ star ∷ [] in
     ap (λ b. if b then take (length text - 1) text else text) (marked front)
     ∙ ap (λ z. take z text) (seam front star) ∙ take-append_seam front (star ∷ [])
 
--- where no front with a `*` behind it is the text, there is no mark
+-- a text that is no prefix followed by `*` has no mark
 unmarked_by : (text : List ℕ) (b : Bool) → has_mark text ≡ b
     → ((front : List ℕ) → text ≢ front ++ star ∷ []) → has_mark text ≡ false
 unmarked_by text true e none =
@@ -49,7 +49,7 @@ unmarked_by text false e none = e
 pub unmarked : (text : List ℕ) → ((front : List ℕ) → text ≢ front ++ star ∷ []) → has_mark text ≡ false
 unmarked text none = unmarked_by text (has_mark text) refl none
 
--- and is what it is without a mark
+-- a text that ends with no `*` is unchanged without a mark
 pub unmarked_front : (text : List ℕ) → ((front : List ℕ) → text ≢ front ++ star ∷ []) → without_mark text ≡ text
 unmarked_front text none = ap (λ b. if b then take (length text - 1) text else text) (unmarked text none)
 
@@ -64,19 +64,19 @@ two_behind : (front : List ℕ) (c d : ℕ) → (front ++ c ∷ []) ++ d ∷ [] 
 two_behind [] c d = refl
 two_behind (x ∷ front) c d = ap (λ z. x ∷ z) (two_behind front c d)
 
--- the two bytes behind a front are the end
+-- the two bytes after a prefix are the end
 pub end_of_two : (front : List ℕ) (c d : ℕ) → end_of ((front ++ c ∷ []) ++ d ∷ []) ≡ c ∷ d ∷ []
 end_of_two front c d =
     ap (λ z. drop z ((front ++ c ∷ []) ++ d ∷ [])) (two_seam front c d)
     ∙ ap (drop (length front)) (two_behind front c d) ∙ drop-append_seam front (c ∷ d ∷ [])
 
--- and what stands before them is the front
+-- what stands before the last two bytes is the prefix
 pub front_of_two : (front : List ℕ) (c d : ℕ) → front_of ((front ++ c ∷ []) ++ d ∷ []) ≡ front
 front_of_two front c d =
     ap (λ z. take z ((front ++ c ∷ []) ++ d ∷ [])) (two_seam front c d)
     ∙ ap (take (length front)) (two_behind front c d) ∙ take-append_seam front (c ∷ d ∷ [])
 
--- what is printed of few tries is read as them
+-- the text of few tries is read as their number
 pub tries_again : (n : ℕ) → n ≤ most_tries → tries_in (tries_text n) ≡ Some n
 unfolding tries_in digits
 tries_again zero l = refl
@@ -137,7 +137,7 @@ none_by text (Some n) e none = absurd (none (ends_in_tries text (ap is_some e)))
 tries_none : (text : List ℕ) → (EndsInTries text → ⊥) → tries_in (end_of text) ≡ None
 tries_none text none = none_by text (tries_in (end_of text)) refl none
 
--- the byte behind a front
+-- the byte after a prefix
 behind_front : (front : List ℕ) (d : ℕ) → slice_get (front ++ d ∷ []) (length front) ≡ Some d
 behind_front [] d = refl
 behind_front (x ∷ front) d = behind_front front d
@@ -157,7 +157,7 @@ pub tries_empty : (text : List ℕ) → slice_get text (length text - 1) ≡ Non
 tries_empty text e =
     tries_none text (λ ends. let last = last_byte text (ends.front ++ 33 ∷ []) ends.digit ends.whole in cc)
 
--- nor has one that ends with no digit
+-- a line that ends with no digit has no tries
 pub tries_no_digit : (text : List ℕ) (d : ℕ) → slice_get text (length text - 1) ≡ Some d → (d < 48) ⊎ (57 < d)
     → tries_in (end_of text) ≡ None
 tries_no_digit text d e out =
@@ -169,7 +169,7 @@ tries_no_digit text d e out =
       | inr above ↦ absurd (omega (arith, ends.high))
     ])
 
--- nor one with no `!` before the digit
+-- a line with no `!` before its last digit has no tries
 pub tries_no_mark : (text front : List ℕ) (d : ℕ) → text ≡ front ++ d ∷ []
     → ((body : List ℕ) → front ≢ body ++ 33 ∷ []) → tries_in (end_of text) ≡ None
 tries_no_mark text front d e none =

@@ -54,7 +54,7 @@ parts_step n i k c f m q l =
     (wrong_step n i m cause.Nights l))
     (wrong_step n i q cause.Count l)
 
--- and with an option
+-- all that may be wrong with an option
 option_step : (n i : ℕ) (o : Option OptionDraft) → i ≤ n → AllByRecursion (up_to n) (option_faults i o)
 option_step n i None l = (l, tt)
 option_step n i (Some o) l =
@@ -62,12 +62,12 @@ option_step n i (Some o) l =
     (is_some o.nights && are_nights (kind_or_any o.kind) (number_or_none o.first) (number_or_none o.nights))
     (is_some o.count && is_count (number_or_none o.count)) l
 
--- and with options
+-- all that may be wrong with options
 options_step : (n i : ℕ) (os : List (Option OptionDraft)) → i ≤ n → AllByRecursion (up_to n) (flat_map (option_faults i) os)
 options_step n i [] l = tt
 options_step n i (o ∷ os) l = all_append (up_to n) (option_faults i o) _ (option_step n i o l) (options_step n i os l)
 
--- and with a step
+-- all that may be wrong with a step
 step_step : (n last i : ℕ) (s : Option StepDraft) → i ≤ n → AllByRecursion (up_to n) (step_faults last (i, s))
 step_step n last i None l = (l, tt)
 step_step n last i (Some s) l =
@@ -79,20 +79,20 @@ step_step n last i (Some s) l =
     (all_append (up_to n) save options (wrong_step n i mark cause.Save l) (wrong_step n i many cause.Options l))
     (options_step n i s.options l)
 
--- and with steps
+-- all that may be wrong with steps
 steps_step : (n last i : ℕ) (ss : List (Option StepDraft)) → i + length ss ≤ n + 1
     → AllByRecursion (up_to n) (flat_map (step_faults last) (enumerate_from i ss))
 steps_step n last i [] l = tt
 steps_step n last i (s ∷ ss) l =
     all_append (up_to n) (step_faults last (i, s)) _ (step_step n last i s (omega arith)) (steps_step n last (i + 1) ss (omega arith))
 
--- where there are too many steps, that is told, or the tries
+-- where there are too many steps or no tries, that fault is reported, at step 0
 told_at_0 : (a : Bool) (fs : List BadPlan) (f : BadPlan) {X : Type 0} (x : X)
     → first_fault x (unless a (at 0 cause.Tries) ++ unless false (at 0 cause.Steps) ++ fs) ≡ Err f → f.step ≤ most_steps
 told_at_0 false fs f x e = let same : at 0 cause.Tries ≡ f = cc in subst (up_to most_steps) same (omega arith)
 told_at_0 true fs f x e = let same : at 0 cause.Steps ≡ f = cc in subst (up_to most_steps) same (omega arith)
 
--- what is told of a line is at no step past the most that a plan may have, however many it has
+-- the reported fault of a line names no step after the last one that a plan may have, however many steps the line has
 pub told_within_steps : (a b : Bool) (d : Draft) (f : BadPlan) {X : Type 0} (x : X) → is_between 1 most_steps (length d.steps) ≡ b
     → first_fault x (unless a (at 0 cause.Tries) ++ unless b (at 0 cause.Steps)
     ++ flat_map (step_faults (length d.steps)) (enumerate_from 1 d.steps)) ≡ Err f → f.step ≤ most_steps
@@ -107,7 +107,7 @@ told_within_steps a true d f x e h =
     (all_append (up_to most_steps) tries [] (wrong_step most_steps 0 a cause.Tries (omega arith)) tt)
     (steps_step most_steps n 1 d.steps (omega arith)))
 
--- a fault of a line is at such a step
+-- a fault of a line names such a step
 pub fault_step : (text : List ℕ) (f : BadPlan) → plan_in text ≡ Err f → f.step ≤ most_steps
 unfolding plan_in
 fault_step text f e = told_within_steps _ _ (line_draft text) f _ refl e

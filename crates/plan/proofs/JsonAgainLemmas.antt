@@ -10,7 +10,7 @@ use Rattle.allotment.specs.Texts.{keep_if, kind_word, kind_of_word}
 use Rattle.allotment.specs.declared.kinds.Kind.{Kind}
 use Rattle.allotment.specs.declared.kinds.Kind.TheVariants.{Flight, Room, Transfer, Cover}
 use Rattle.plan.specs.Limits.{most_options, most_steps, most_tries}
-use Rattle.plan.specs.Planned.{Planned, StepPlan, is_step, is_last_unmarked, is_plan}
+use Rattle.plan.specs.PlanModel.{Planned, StepPlan, is_step, is_last_unmarked, is_plan}
 use Rattle.plan.specs.Drafts.{OptionDraft, StepDraft, drafted, drafted_step, drafted_plan, judged}
 use Rattle.plan.specs.PlanJson.{json_option, json_step, step_with, draft_with, json_draft, plan_in_json}
 use Rattle.plan.specs.PlanData.{want_data, step_data, plan_data}
@@ -38,13 +38,13 @@ made w kind first = record {
   count = Some w.count;
 }
 
--- the value of a want is read as it was
+-- the value of a want is read back as the want
 option_again : (w : Wanted) → IsGood w → json_option (want_data w) ≡ Some (drafted w)
 option_again w g =
     ap (λ z. Some (made w z (night_in (night_text w.first)))) (word_again w.kind)
     ∙ ap (λ z. Some (made w (Some w.kind) z)) (night_in-night_text w.first g.night)
 
--- and so are those of all options
+-- the values of all options are read back as these
 options_again : (ws : List Wanted) → list_all is_want ws ≡ true
     → map json_option (map want_data ws) ≡ map (λ w. Some (drafted w)) ws
 options_again [] e = refl
@@ -64,7 +64,7 @@ step_again s e =
     ap (λ z. Some (step_with z s.is_marked)) (values_of-items_of (map want_data s.options))
     ∙ ap (λ z. Some (marked_so z s.is_marked)) (options_again s.options both.1)
 
--- and so are those of all steps
+-- the values of all steps are read back as these
 steps_again : (steps : List StepPlan) → list_all is_step steps ≡ true
     → map json_step (map step_data steps) ≡ map (λ s. Some (drafted_step s)) steps
 steps_again [] e = refl
@@ -82,7 +82,7 @@ draft_again p good few =
     ∙ ap (λ z. Some (draft_with z (map step_data p.steps))) (keep_if_yes (is_between 0 most_tries) p.tries in_range)
     ∙ ap (λ z. Some (record { steps = z; tries = Some p.tries })) (steps_again p.steps good)
 
--- so it is read as the plan
+-- the value of a plan is read back as the plan
 pub json_again : (p : Planned) → is_plan p ≡ true → plan_in_json (plan_data p) ≡ Ok p
 unfolding plan_in_json
 json_again p e =

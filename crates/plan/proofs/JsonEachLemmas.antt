@@ -12,7 +12,7 @@ use Rattle.allotment.specs.Making.{first_fault}
 use Rattle.plan.specs.Limits.{most_options}
 use Rattle.plan.specs.declared.causes.PlanCause.TheVariants as cause
 use Rattle.plan.specs.declared.faults.BadPlan.{BadPlan}
-use Rattle.plan.specs.Planned.{StepPlan}
+use Rattle.plan.specs.PlanModel.{StepPlan}
 use Rattle.plan.specs.Drafts.{OptionDraft, StepDraft, at, want_of, option_faults, step_of, step_faults}
 use Rattle.plan.specs.Levels.{judged_option, step_limits}
 use Rattle.plan.specs.PlanJson.{json_option, json_step, step_with}
@@ -26,12 +26,12 @@ use Rattle.plan.proofs.LevelLemmas.{told_step, first_of_step, limits_fail, limit
 unfoldable pub value_want : ℕ → ℕ → Value → Result Wanted BadPlan
 value_want i k v = want_of_json i (view v)
 
--- its number does not matter
+-- the number of an option does not matter
 pub value_want-is : (i k : ℕ) (v : Value) → value_want i k v ≡ want_of_json i (view v)
 unfolding value_want
 value_want-is i k v = refl
 
--- what is told of options, the first of them apart
+-- the first fault of options, by the first option and the later ones
 wants_onto : (i : ℕ) (o : Option OptionDraft) (os : List (Option OptionDraft))
     → first_fault (filter_map (option_map want_of) (o ∷ os)) (flat_map (option_faults i) (o ∷ os))
     ≡ onto (judged_option i o) (first_fault (filter_map (option_map want_of) os) (flat_map (option_faults i) os))
@@ -57,12 +57,12 @@ wants_whole i vs = none_behind _ ∙ wants_each i 0 vs
 unfoldable pub value_step : ℕ → ℕ → Value → Result StepPlan BadPlan
 value_step n i v = step_of_json n i (view v)
 
--- that is what is read of its data
+-- what is read of a value as a step is what is read of its data
 pub value_step-is : (n i : ℕ) (v : Value) → value_step n i v ≡ step_of_json n i (view v)
 unfolding value_step
 value_step-is n i v = refl
 
--- what is told of steps, the first of them apart
+-- the first fault of steps, by the first step and the later ones
 steps_onto : (n i : ℕ) (s : Option StepDraft) (ss : List (Option StepDraft))
     → first_fault (filter_map (option_map step_of) (s ∷ ss)) (flat_map (step_faults n) (enumerate_from i (s ∷ ss)))
     ≡ onto (judged_step n i s)
@@ -94,7 +94,7 @@ pub step_unshaped : (n i : ℕ) (d : Data) → None ≡ json_step d → step_of_
 unfolding step_of_json
 step_unshaped n i d e = ap (judged_step n i) (sym e)
 
--- a step is told by its mark, by the number of its options and by what they are
+-- the first fault of a step is that of its mark, then of the number of its options, then of an option
 step_shaped : (n i : ℕ) (d : Data) (vs : List Value) (m : Bool) → Some (step_with (views vs) m) ≡ json_step d
     → step_of_json n i d ≡ told_step (not (m && i == n)) (is_between 1 most_options (length vs)) i m (wants_of_json i (views vs))
 unfolding step_of_json wants_of_json
@@ -113,7 +113,7 @@ pub step_refused : (n i : ℕ) (d : Data) (vs : List Value) (m : Bool) (f : BadP
 step_refused n i d vs m f e limits =
     step_shaped n i d vs m e ∙ limits_fail (not (m && i == n)) (is_between 1 most_options (length vs)) i m (wants_of_json i (views vs)) f limits
 
--- any other step is told by its options
+-- where mark and number are in order, the first fault of a step is that of its options
 pub step_by_wants : (n i : ℕ) (d : Data) (vs : List Value) (m : Bool) (r : Result (List Wanted) BadPlan)
     → Some (step_with (views vs) m) ≡ json_step d → Ok tt ≡ step_limits n i m (length vs) → wants_of_json i (views vs) ≡ r
     → step_of_json n i d ≡ told_step true true i m r

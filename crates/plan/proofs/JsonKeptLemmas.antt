@@ -8,7 +8,7 @@ use Rattle.serde_json.specs.Find.{as_bool}
 use Rattle.allotment.specs.Want.{Wanted}
 use Rattle.allotment.specs.Limits.{is_between, is_want}
 use Rattle.plan.specs.Limits.{most_options, most_steps}
-use Rattle.plan.specs.Planned.{Planned, StepPlan, is_step, is_last_unmarked, is_plan}
+use Rattle.plan.specs.PlanModel.{Planned, StepPlan, is_step, is_last_unmarked, is_plan}
 use Rattle.plan.specs.Drafts.{OptionDraft, StepDraft, option_faults, step_faults, faults, want_of, step_of, plan_of, judged}
 use Rattle.plan.specs.PlanJson.{has_just, in_member, list_of, text_of, option_members, option_said, json_option, step_with, step_from, step_members, json_step, json_steps, json_tries, draft_with, plan_in_json}
 use Rattle.allotment.proofs.TestLemmas.{and_both, and_make}
@@ -51,7 +51,7 @@ record AreGoodOptions (xs : List (Option OptionDraft)) (n : ℕ) : Type 0 where
   pub good : list_all is_want (wants_in xs) ≡ true
   pub many : length (wants_in xs) ≡ n
 
--- one option, and those behind it
+-- one option, and the later ones
 options_cons : (x : Option OptionDraft) (xs : List (Option OptionDraft)) (n : ℕ) → IsGoodOption x → AreGoodOptions xs n
     → AreGoodOptions (x ∷ xs) (suc n)
 options_cons x xs n here later =
@@ -90,7 +90,7 @@ with_good n i ds m e =
       good = and_make _ _ (ap (is_between 1 most_options) (sym counts) ∙ unless_none _ _ first.1) options.good;
     }
 
--- which it has where it has a list of options and says whether it is marked
+-- a step without a fault has a list of options, and says whether it is marked
 from_good : (n i : ℕ) (os : Option (List Data)) (m : Option Bool) → step_faults n (i, step_from os m) ≡ []
     → IsGoodDraft n i (step_from os m)
 from_good n i (Some ds) (Some m) e = with_good n i ds m e
@@ -98,7 +98,7 @@ from_good n i (Some ds) None e = cc
 from_good n i None (Some m) e = cc
 from_good n i None None e = cc
 
--- and where it has just those members
+-- a step without a fault has just these members
 step_by : (n i : ℕ) (os : Option (List Data)) (m : Option Bool) (b : Bool)
     → step_faults n (i, (if b then step_from os m else None)) ≡ [] → IsGoodDraft n i (if b then step_from os m else None)
 step_by n i os m true e = from_good n i os m e
@@ -122,7 +122,7 @@ last_unmarked : (s : StepPlan) (steps : List StepPlan) (n i : ℕ) → i + lengt
 last_unmarked s [] n i l e h = let same : i ≡ n = omega arith in not_left s.is_marked (i == n) (eq-eqb i n same) e
 last_unmarked s (t ∷ steps) n i l e h = h
 
--- one step, and those behind it
+-- one step, and the later ones
 steps_cons : (n i k : ℕ) (x : Option StepDraft) (xs : List (Option StepDraft)) → i + suc k ≡ n + 1
     → IsGoodDraft n i x → AreGoodDrafts xs k → AreGoodDrafts (x ∷ xs) (suc k)
 steps_cons n i k x xs l here later =

@@ -26,7 +26,7 @@ test_there test (Some n) zero = refl
 abbrev six_said : Option Kind → List ℕ → List ℕ → List ℕ → Option ℕ → Option ℕ → OptionDraft
 six_said k s p f n c = record { kind = k; supplier = s; product = p; first = night_in f; nights = n; count = c }
 
--- an option with a kind is told as the want of its members
+-- the first fault of an option with a kind is that of the want of its members
 kind_said : (i : ℕ) (k : Kind) (s p f : List ℕ) (n c : Option ℕ)
     → judged_option i (Some (six_said (Some k) s p f n c)) ≡ told_want i (want_made k s p f (number_or_none n) (number_or_none c))
 kind_said i k s p f n c =
@@ -41,13 +41,13 @@ kind_said i k s p f n c =
     ∙ ap (told (nights_test (number_or_none n))) (test_there is_count c refl)
     ∙ first_told i good night (nights_test (number_or_none n)) (is_count (number_or_none c)) v v (λ e g. refl)
 
--- an option is told by its kind first
+-- the first fault of an option is that of its kind
 by_kind : (i : ℕ) (o : Option Kind) (s p f : List ℕ) (n c : Option ℕ)
     → judged_option i (Some (six_said o s p f n c)) ≡ told_option i o s p f (number_or_none n) (number_or_none c)
 by_kind i None s p f n c = refl
 by_kind i (Some k) s p f n c = kind_said i k s p f n c
 
--- equal members are told the same
+-- equal members give equal results
 six_equal : {A B C D E F R : Type 0} (g : A → B → C → D → E → F → R) {a x : A} {b y : B} {c z : C} {d u : D} {e v : E} {f w : F}
     → a ≡ x → b ≡ y → c ≡ z → d ≡ u → e ≡ v → f ≡ w → g a b c d e f ≡ g x y z u v w
 six_equal g p q r s t h = cc
@@ -57,7 +57,7 @@ pub want_unshaped : (i : ℕ) (d : Data) → has_just option_members d ≡ false
 unfolding want_of_json
 want_unshaped i d e = ap (λ b. judged_option i (if b then Some (option_said d) else None)) e
 
--- an object with the six members is told by its kind, and then as the want of its members
+-- the first fault of an object with the six members is that of its kind, then of the want of its members
 pub want_shaped : (i : ℕ) (d : Data) → has_just option_members d ≡ true → want_of_json i d
     ≡ told_option i (kind_of_word (text_of (codes "kind") d)) (text_of (codes "supplier") d) (text_of (codes "product") d)
     (text_of (codes "first") d) (number_or_none (in_member (codes "nights") whole_number d))
@@ -68,7 +68,7 @@ want_shaped i d e =
     ∙ by_kind i (kind_of_word (text_of (codes "kind") d)) (text_of (codes "supplier") d) (text_of (codes "product") d)
     (text_of (codes "first") d) (in_member (codes "nights") whole_number d) (in_member (codes "count") whole_number d)
 
--- its kind is none
+-- its kind is no word of a kind
 pub want_unkind : (i : ℕ) (d : Data) (k : List ℕ) → has_just option_members d ≡ true → None ≡ kind_of_word k
     → k ≡ text_of (codes "kind") d → Err (at i cause.Kind) ≡ want_of_json i d
 want_unkind i d k e none same =
@@ -87,7 +87,7 @@ pub record ReadsMembers (d : Data) (kind : Kind) (s p f : List ℕ) (n c : ℕ) 
   pub nights : n ≡ number_or_none (in_member (codes "nights") whole_number d)
   pub count : c ≡ number_or_none (in_member (codes "count") whole_number d)
 
--- it is told as the want that is made of them
+-- what is read of such an option is the want of its members, or the fault of that want
 pub want_told : (i : ℕ) (d : Data) (kind : Kind) (s p f : List ℕ) (n c : ℕ) (r : Result Wanted Bad)
     → ReadsMembers d kind s p f n c → r ≡ want_made kind s p f n c → told_want i r ≡ want_of_json i d
 want_told i d kind s p f n c r m made =

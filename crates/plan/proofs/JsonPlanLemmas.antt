@@ -12,7 +12,7 @@ use Rattle.allotment.specs.Making.{first_fault}
 use Rattle.plan.specs.Limits.{most_steps, most_tries}
 use Rattle.plan.specs.declared.causes.PlanCause.TheVariants as cause
 use Rattle.plan.specs.declared.faults.BadPlan.{BadPlan}
-use Rattle.plan.specs.Planned.{StepPlan}
+use Rattle.plan.specs.PlanModel.{StepPlan}
 use Rattle.plan.specs.Drafts.{Draft, StepDraft, at, number_or_none, step_of, step_faults, judged}
 use Rattle.plan.specs.PlanJson.{json_step, json_steps, json_tries, draft_with, json_draft, plan_in_json}
 use Rattle.plan.specs.JsonLevels.{steps_of_json, views}
@@ -20,7 +20,7 @@ use Rattle.plan.proofs.LineLemmas.{told_line, first_of_line, are_tries}
 use Rattle.plan.proofs.MadeLemmas.{between_no, between_yes}
 use Rattle.plan.proofs.FaultLemmas.{told_within_steps}
 
--- a draft is told by its tries, by the number of its steps and by what they are
+-- the first fault of a draft is that of its tries, then of the number of its steps, then of a step
 draft_told : (tries : Option ℕ) (ds : List Data) (n : ℕ) → length ds ≡ n
     → judged (Some (draft_with tries ds))
     ≡ told_line (are_tries tries) (is_between 1 most_steps n) (number_or_none tries) (steps_of_json n ds)
@@ -54,7 +54,7 @@ pub plan_no_tries : (d : Data) (vs : List Value) → Some (views vs) ≡ json_st
     → plan_in_json d ≡ Err (at 0 cause.Tries)
 plan_no_tries d vs e none = plan_shaped d vs None e none
 
--- a plan with tries is told by the number of its steps and by what they are
+-- the first fault of a plan with tries is that of the number of its steps, then of a step
 plan_with_tries : (d : Data) (vs : List Value) (tries : ℕ) → Some (views vs) ≡ json_steps d → Some tries ≡ json_tries d → tries ≤ most_tries
     → plan_in_json d ≡ told_line true (is_between 1 most_steps (length vs)) tries (steps_of_json (length vs) (views vs))
 plan_with_tries d vs tries e same few =
@@ -68,7 +68,7 @@ plan_miscounted d vs tries e same few many =
     plan_with_tries d vs tries e same few
     ∙ ap (λ z. told_line true z tries (steps_of_json (length vs) (views vs))) (between_no (length vs) most_steps many)
 
--- any other plan is told by its steps
+-- where tries and number are in order, the first fault of a plan is that of its steps
 pub plan_by_steps : (d : Data) (vs : List Value) (tries : ℕ) (r : Result (List StepPlan) BadPlan)
     → Some (views vs) ≡ json_steps d → Some tries ≡ json_tries d → tries ≤ most_tries → 1 ≤ length vs → length vs ≤ most_steps
     → steps_of_json (length vs) (views vs) ≡ r → plan_in_json d ≡ told_line true true tries r
@@ -77,13 +77,13 @@ plan_by_steps d vs tries r e same few low high read =
     ∙ ap (λ z. told_line true z tries (steps_of_json (length vs) (views vs))) (between_yes (length vs) most_steps low high)
     ∙ ap (told_line true true tries) read
 
--- what is told of a draft is at no step past the most that a plan may have
+-- the reported fault of a draft names no step after the last one that a plan may have
 draft_fault : (o : Option Draft) (f : BadPlan) → judged o ≡ Err f → f.step ≤ most_steps
 draft_fault None f e =
     let same : at 0 cause.Shape ≡ f = cc in subst (λ (b : BadPlan). b.step ≤ most_steps) same (omega arith)
 draft_fault (Some d) f e = told_within_steps _ _ d f _ refl e
 
--- and so is what is told of a value
+-- the reported fault of a value names no step after that one either
 pub json_fault_step : (d : Data) (f : BadPlan) → plan_in_json d ≡ Err f → f.step ≤ most_steps
 unfolding plan_in_json
 json_fault_step d f e = draft_fault (json_draft d) f e

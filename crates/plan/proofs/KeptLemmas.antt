@@ -1,5 +1,5 @@
--- Wants, steps and plans that are drafted again: they have no fault but those of their limits. For plans that are made
--- of steps, and for lines.
+-- The drafts of wants, steps and plans: their only faults are the limits that they break. For plans that are made of
+-- steps, and for lines.
 use Rattle.std.proofs.Common.{◌≡◌, ℕ, ◌+◌, ◌<◌, ◌≤◌, ◌^◌, Bool, true, false, not, ◌&&◌, ◌==◌, List, [], ◌∷◌, ◌++◌, map, length, refl, sym, ap, ◌∙◌, arith, eq-eqb, Option, Some, Ok, Err}
 use Rattle.std.specs.Prelude.{flat_map, filter_map, option_map, nat_le}
 use Rattle.std.specs.List.{AllByRecursion, list_all, enumerate_from}
@@ -10,7 +10,7 @@ use Rattle.allotment.specs.Limits.{is_between, is_night, is_code, is_count, are_
 use Rattle.allotment.specs.Making.{unless, first_fault}
 use Rattle.plan.specs.Limits.{most_options, most_steps, most_tries}
 use Rattle.plan.specs.declared.faults.BadPlan.{BadPlan}
-use Rattle.plan.specs.Planned.{Planned, StepPlan, is_last_unmarked}
+use Rattle.plan.specs.PlanModel.{Planned, StepPlan, is_last_unmarked}
 use Rattle.plan.specs.Drafts.{OptionDraft, option_faults, step_faults, want_of, step_of, drafted, drafted_step, plan_made}
 use Rattle.plan.specs.Levels.{step_limits, step_kept, steps_kept}
 use Rattle.allotment.proofs.TestLemmas.{and_both}
@@ -68,7 +68,7 @@ option_clean i w g =
     (none_append _ _ (none_append _ _ (none_append _ _ refl (unless_yes _ _ g.codes)) refl) (unless_yes _ _ g.nights))
     (unless_yes _ _ g.count)
 
--- nor with the options of wants
+-- nothing is wrong with the options of wants
 pub options_clean : (i : ℕ) (ws : List Wanted) → list_all is_want ws ≡ true
     → flat_map (option_faults i) (map (λ w. Some (drafted w)) ws) ≡ []
 options_clean i [] e = refl
@@ -91,7 +91,7 @@ steps_back (s ∷ steps) =
 
 -- A step.
 
--- a step of wants is told by its mark and by the number of its options
+-- the first fault of a step of wants is that of its mark, then of the number of its options
 pub kept_told : (n i : ℕ) (s : StepPlan) → list_all is_want s.options ≡ true
     → step_kept n i s
     ≡ told_step (not (s.is_marked && i == n)) (is_between 1 most_options (length s.options)) i s.is_marked (Ok s.options)
@@ -104,14 +104,14 @@ kept_told n i s good =
     (options_clean i s.options good)
     ∙ ap (λ z. told_step marked (is_between 1 most_options z) i s.is_marked (Ok s.options)) (length-map s.options (λ w. Some (drafted w)))
 
--- a limit of a step that is not kept is told
+-- a limit that a step breaks is reported
 pub kept_refused : (n i : ℕ) (s : StepPlan) (f : BadPlan) → list_all is_want s.options ≡ true
     → Err f ≡ step_limits n i s.is_marked (length s.options) → step_kept n i s ≡ Err f
 kept_refused n i s f good limits =
     kept_told n i s good
     ∙ limits_fail (not (s.is_marked && i == n)) (is_between 1 most_options (length s.options)) i s.is_marked (Ok s.options) f limits
 
--- where both are kept, the step is as it should be
+-- where a step keeps both limits, it is read unchanged
 pub kept_within : (n i : ℕ) (s : StepPlan) → list_all is_want s.options ≡ true
     → Ok tt ≡ step_limits n i s.is_marked (length s.options) → step_kept n i s ≡ Ok s
 kept_within n i s good limits =
@@ -120,7 +120,7 @@ kept_within n i s good limits =
 
 -- The steps.
 
--- steps are looked at one after another
+-- steps are checked one after another
 kept_each : (n i : ℕ) (steps : List StepPlan)
     → each (step_kept n) i steps
     ≡ first_fault steps (flat_map (step_faults n) (enumerate_from i (map (λ s. Some (drafted_step s)) steps)))
@@ -151,7 +151,7 @@ unmarked_by n i (s ∷ []) l e =
     not_left s.is_marked (i == n) (eq_yes i n (i == n) refl same) (unless_none _ _ first.0)
 unmarked_by n i (s ∷ t ∷ steps) l e = unmarked_by n (i + 1) (t ∷ steps) (omega arith) e.1
 
--- nor on the last of steps that keep the limits
+-- no mark is on the last of steps that keep the limits
 pub kept_unmarked : (n : ℕ) (steps : List StepPlan) → n ≡ length steps → steps_kept n steps ≡ Ok steps → is_last_unmarked steps ≡ true
 unfolding steps_kept
 kept_unmarked n steps many e =
@@ -161,7 +161,7 @@ kept_unmarked n steps many e =
 
 -- A plan.
 
--- a plan that is made is told by its tries, the number of its steps, and what they keep
+-- the first fault of a plan of steps is that of its tries, then of the number of its steps, then of a step
 pub made_told : (p : Planned) (n : ℕ) → n ≡ length p.steps
     → plan_made p ≡ told_line (nat_le p.tries most_tries) (is_between 1 most_steps n) p.tries (steps_kept n p.steps)
 unfolding plan_made steps_kept

@@ -12,18 +12,18 @@ use Rattle.plan.specs.declared.causes.PlanCause.TheVariants as cause
 use Rattle.plan.specs.declared.faults.BadPlan.{BadPlan}
 use Rattle.plan.specs.declared.faults.PlanFault.{PlanFault}
 use Rattle.plan.specs.declared.faults.PlanFault.TheVariants.{Bad, Memory}
-use Rattle.plan.specs.Planned.{StepPlan}
+use Rattle.plan.specs.PlanModel.{StepPlan}
 use Rattle.plan.specs.Faults.{IfBad}
 use Rattle.plan.specs.Drafts.{at, option_faults, step_of}
 use Rattle.plan.specs.PlanLine.{option_draft, has_mark, without_mark, step_draft}
 use Rattle.plan.specs.Levels.{options_in, step_in, step_limits}
 
--- what a fault of the plan says of one text, it says of another of which that follows
+-- a fact of a fault of the plan implies each weaker fact
 pub IfBad-weaker : (fault : PlanFault) (P Q : BadPlan → Type 0) → ((b : BadPlan) → P b → Q b) → IfBad P fault → IfBad Q fault
 IfBad-weaker (Bad b) P Q f h = f b h
 IfBad-weaker Memory P Q f h = tt
 
--- what is told of a step: whether its mark is in place, whether it has as many options as it may, and its options
+-- the result of a step: the fault of its mark, the fault of the number of its options, or what its options give
 abbrev pub told_step : Bool → Bool → ℕ → Bool → Result (List Wanted) BadPlan → Result StepPlan BadPlan
 told_step false few i m r = Err (at i cause.Save)
 told_step true false i m r = Err (at i cause.Options)
@@ -39,25 +39,25 @@ first_of_step true false i m ws fs = refl
 first_of_step true true i m ws [] = refl
 first_of_step true true i m ws (f ∷ fs) = refl
 
--- what is told of a mark and a number of options, by the tests of both
+-- the result of the mark and the number of options, by the tests of both
 abbrev pub limits_by : Bool → Bool → ℕ → Result (Unit {0}) BadPlan
 limits_by a b i = first_fault tt (unless a (at i cause.Save) ++ unless b (at i cause.Options))
 
--- a limit that is not kept is told
+-- a limit that is not kept is reported
 pub limits_fail : (a b : Bool) (i : ℕ) (m : Bool) (r : Result (List Wanted) BadPlan) (f : BadPlan)
     → Err f ≡ limits_by a b i → told_step a b i m r ≡ Err f
 limits_fail false b i m r f e = let same : at i cause.Save ≡ f = cc in ap Err same
 limits_fail true false i m r f e = let same : at i cause.Options ≡ f = cc in ap Err same
 limits_fail true true i m r f e = cc
 
--- where both are kept, the options are told
+-- where both limits are kept, the result is that of the options
 pub limits_pass : (a b : Bool) (i : ℕ) (m : Bool) (r : Result (List Wanted) BadPlan)
     → Ok tt ≡ limits_by a b i → told_step a b i m r ≡ told_step true true i m r
 limits_pass false b i m r e = cc
 limits_pass true false i m r e = cc
 limits_pass true true i m r e = refl
 
--- and there are as many of them as there may be
+-- where both limits are kept, there are as many options as there may be
 pub limits_count : (a b : Bool) (i : ℕ) → Ok tt ≡ limits_by a b i → b ≡ true
 limits_count false b i e = cc
 limits_count true false i e = cc
@@ -67,7 +67,7 @@ limits_count true true i e = refl
 abbrev may_have : List ℕ → Bool
 may_have rest = is_between 1 most_options (length (map option_draft (parts bar rest)))
 
--- a step is told by its mark, by the number of its options and by what they are
+-- the first fault of a step is that of its mark, then of the number of its options, then of an option
 step_told : (n i : ℕ) (text : List ℕ)
     → step_in n i text
     ≡ told_step (not (has_mark text && i == n)) (may_have (without_mark text)) i (has_mark text) (options_in i (without_mark text))
@@ -95,7 +95,7 @@ step_refused n i k text rest m f cut mark many limits =
     step_cut n i k text rest m cut mark many
     ∙ limits_fail (not (m && i == n)) (is_between 1 most_options k) i m (options_in i rest) f limits
 
--- any other step is told by its options
+-- where mark and number are in order, the first fault of a step is that of its options
 pub step_by_options : (n i k : ℕ) (text rest : List ℕ) (m : Bool) (r : Result (List Wanted) BadPlan)
     → rest ≡ without_mark text → m ≡ has_mark text → k ≡ length (parts bar rest)
     → Ok tt ≡ step_limits n i m k → options_in i rest ≡ r → step_in n i text ≡ told_step true true i m r
@@ -104,18 +104,18 @@ step_by_options n i k text rest m r cut mark many limits read =
     ∙ limits_pass (not (m && i == n)) (is_between 1 most_options k) i m (options_in i rest) limits
     ∙ ap (told_step true true i m) read
 
--- two numbers are another's
+-- two different numbers compare as different
 mark_by : (t : Bool) (i n : ℕ) → (i == n) ≡ t → i ≢ n → not t ≡ true
 mark_by true i n e other = absurd (other (eqb-true i n e))
 mark_by false i n e other = refl
 
--- no mark, or another step
+-- a step has no mark, or is another than the last
 pub mark_right : (m : Bool) (i n : ℕ) → (m ≡ false) ⊎ (i ≢ n) → not (m && i == n) ≡ true
 mark_right false i n h = refl
 mark_right true i n (inl e) = cc
 mark_right true i n (inr other) = mark_by (i == n) i n refl other
 
--- not both, where not the second
+-- a conjunction fails where its second part does
 pub and_false : (a b : Bool) → b ≡ false → (a && b) ≡ false
 and_false true b e = e
 and_false false b e = refl

@@ -1,10 +1,10 @@
--- What a plan that keeps the limits keeps, part by part. For all that stands on plans.
+-- What a plan that keeps the limits keeps, part by part. For all that is built on plans.
 use Rattle.std.proofs.Common.{◌≡◌, ℕ, ◌≤◌, ◌&&◌, true, List, [], ◌∷◌, zero, suc, length, nat_le, leb-true, IsTrue, option_map, unwrap_or, slice_get, arith}
 use Rattle.std.specs.List.{list_all}
 use Rattle.allotment.specs.Limits.{is_between, is_want}
 use Rattle.allotment.proofs.TestLemmas.{and_both}
 use Rattle.plan.specs.Limits.{most_options, most_steps, most_tries}
-use Rattle.plan.specs.Planned.{Planned, StepPlan, is_step, is_plan, is_last_unmarked, step_count, option_count}
+use Rattle.plan.specs.PlanModel.{Planned, StepPlan, is_step, is_plan, is_last_unmarked, step_count, option_count}
 
 -- a step that keeps the limits, part by part
 pub record IsLimitedStep (s : StepPlan) : Type 0 where

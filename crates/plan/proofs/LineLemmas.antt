@@ -10,7 +10,7 @@ use Rattle.allotment.specs.Texts.{parts, semicolon}
 use Rattle.plan.specs.Limits.{most_steps, most_tries}
 use Rattle.plan.specs.declared.causes.PlanCause.TheVariants as cause
 use Rattle.plan.specs.declared.faults.BadPlan.{BadPlan}
-use Rattle.plan.specs.Planned.{Planned, StepPlan}
+use Rattle.plan.specs.PlanModel.{Planned, StepPlan}
 use Rattle.plan.specs.Drafts.{at, number_or_none, step_faults, plan_of}
 use Rattle.plan.specs.PlanLine.{front_of, end_of, tries_in, step_draft, line_draft, plan_in}
 use Rattle.plan.specs.Levels.{step_drafts, steps_in}
@@ -19,7 +19,7 @@ use Rattle.plan.proofs.LevelLemmas.{and_false}
 use Rattle.allotment.proofs.TestLemmas.{and_make}
 use Rattle.plan.proofs.ReadLemmas.{tries_read}
 
--- what is told of a line: whether it has tries, whether it has as many steps as it may, and its steps
+-- the result of a line: the fault of its tries, the fault of the number of its steps, or what its steps give
 abbrev pub told_line : Bool → Bool → ℕ → Result (List StepPlan) BadPlan → Result Planned BadPlan
 told_line false few tries r = Err (at 0 cause.Tries)
 told_line true false tries r = Err (at 0 cause.Steps)
@@ -39,7 +39,7 @@ first_of_line true true tries steps (f ∷ fs) = refl
 abbrev pub are_tries : Option ℕ → Bool
 are_tries tries = is_some tries && nat_le (number_or_none tries) most_tries
 
--- a line is told so, with so many steps
+-- the result of a line with so many steps
 line_told : (text : List ℕ) (n : ℕ) → n ≡ length (parts semicolon (front_of text))
     → plan_in text
     ≡ told_line (are_tries (tries_in (end_of text))) (is_between 1 most_steps n) (number_or_none (tries_in (end_of text))) (steps_in n (front_of text))
@@ -67,7 +67,7 @@ tries_few text tries e =
     let read = tries_read (end_of text) (ap is_some e) in
     le-leb tries most_tries (omega (arith, read.few, ap number_or_none e))
 
--- a line with tries is told by the number of its steps and by what they are
+-- the first fault of a line with tries is that of the number of its steps, then of a step
 line_with_tries : (text front : List ℕ) (tries n : ℕ) → front ≡ front_of text → tries_in (end_of text) ≡ Some tries
     → n ≡ length (parts semicolon front)
     → plan_in text ≡ told_line true (is_between 1 most_steps n) tries (steps_in n front)
@@ -89,7 +89,7 @@ line_too_long text front tries n same e many h =
     line_with_tries text front tries n same e many
     ∙ ap (λ z. told_line true z tries (steps_in n front)) (and_false (nat_le 1 n) (nat_le n most_steps) (over_by n (nat_le n most_steps) refl h))
 
--- any other line is told by its steps
+-- where tries and number are in order, the first fault of a line is that of its steps
 pub line_by_steps : (text front : List ℕ) (tries n : ℕ) (r : Result (List StepPlan) BadPlan)
     → front ≡ front_of text → tries_in (end_of text) ≡ Some tries
     → n ≡ length (parts semicolon front) → n ≤ most_steps → steps_in n front ≡ r → plan_in text ≡ told_line true true tries r

@@ -4,7 +4,7 @@ use Rattle.std.specs.Prelude.{flat_map, find, is_some, unwrap_or}
 use Rattle.std.specs.List.{AllByRecursion}
 use Rattle.allotment.specs.Making.{unless, first_fault}
 
--- two lists that are empty together
+-- if a joined list is empty, both its parts are
 pub append_none : {X : Type 0} (xs ys : List X) → xs ++ ys ≡ [] → (xs ≡ []) × (ys ≡ [])
 append_none [] ys e = (refl, e)
 append_none (x ∷ xs) ys e = cc
@@ -24,12 +24,12 @@ pub flat_map_none : {X Y : Type 0} (f : X → List Y) (xs : List X) → flat_map
 flat_map_none f [] e = tt
 flat_map_none f (x ∷ xs) e = let both = append_none (f x) (flat_map f xs) e in (both.0, flat_map_none f xs both.1)
 
--- what is answered Ok has no fault
+-- an `Ok` result has no fault
 pub first_fault_ok : {X F : Type 0} (x y : X) (fs : List F) → first_fault x fs ≡ Ok y → (fs ≡ []) × (x ≡ y)
 first_fault_ok x y [] e = (refl, cc)
 first_fault_ok x y (f ∷ fs) e = cc
 
--- the first element passes, or one behind it does
+-- the first element passes, or a later one does
 find_if : {X : Type 0} (test : X → Bool) (y x : X) (xs : List X) (b : Bool) → test y ≡ b → (find test xs ≡ Some x → test x ≡ true) → cond b (Some y) (find test xs) ≡ Some x → test x ≡ true
 find_if test y x xs true t h e = let same : y ≡ x = cc in ap test (sym same) ∙ t
 find_if test y x xs false t h e = h e

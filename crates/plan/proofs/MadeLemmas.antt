@@ -11,7 +11,7 @@ use Rattle.plan.specs.Limits.{most_options, most_steps, most_tries}
 use Rattle.plan.specs.declared.causes.PlanCause.TheVariants as cause
 use Rattle.plan.specs.declared.faults.BadPlan.{BadPlan}
 use Rattle.plan.specs.declared.steps.PlanStep.{PlanStep}
-use Rattle.plan.specs.Planned.{Planned, StepPlan, step_said, is_step, is_plan}
+use Rattle.plan.specs.PlanModel.{Planned, StepPlan, step_said, is_step, is_plan}
 use Rattle.plan.specs.Drafts.{at, plan_made}
 use Rattle.plan.specs.Levels.{step_kept, steps_kept}
 use Rattle.allotment.proofs.TestLemmas.{and_make}
@@ -19,17 +19,17 @@ use Rattle.plan.proofs.LevelLemmas.{told_step, mark_right, and_false}
 use Rattle.plan.proofs.LineLemmas.{told_line}
 use Rattle.plan.proofs.KeptLemmas.{kept_told, made_told, kept_unmarked}
 
--- none, or more than the most, is not between
+-- a number over the most is not at most it
 le_no : (n most : ℕ) (b : Bool) → nat_le n most ≡ b → most < n → b ≡ false
 le_no n most true e h = let few : n ≤ most = leb-true n most e in absurd (omega arith)
 le_no n most false e h = refl
 
--- so it is not from 1 to the most
+-- 0, or a number over the most, is not from 1 to the most
 pub between_no : (n most : ℕ) → (n ≡ 0) ⊎ (most < n) → is_between 1 most n ≡ false
 between_no n most (inl none) = ap (is_between 1 most) none
 between_no n most (inr many) = and_false (nat_le 1 n) (nat_le n most) (le_no n most (nat_le n most) refl many)
 
--- any other number is
+-- a number from 1 to the most is between them
 pub between_yes : (n most : ℕ) → 1 ≤ n → n ≤ most → is_between 1 most n ≡ true
 between_yes n most low high = and_make _ _ (le-leb 1 n low) (le-leb n most high)
 
@@ -60,7 +60,7 @@ said_more items k x l e =
     ∙ map-append step_said (take k items) (get_or items k x ∷ [])
     ∙ ap (λ z. map step_said (take k items) ++ step_said z ∷ []) (sym e)
 
--- keeps the limits as those before it
+-- one more step keeps the limits, like those before it
 pub limits_more : (items : List PlanStep) (k : ℕ) (x : PlanStep) → k < length items → x ≡ get_or items k x
     → list_all is_step (map step_said (take k items)) ≡ true → is_step (step_said x) ≡ true
     → list_all is_step (map step_said (take (k + 1) items)) ≡ true
@@ -86,7 +86,7 @@ made_miscounted p n same few many =
     ∙ ap (λ z. told_line z (is_between 1 most_steps n) p.tries (steps_kept n p.steps)) (le-leb p.tries most_tries few)
     ∙ ap (λ z. told_line true z p.tries (steps_kept n p.steps)) (between_no n most_steps many)
 
--- any other plan is told by its steps
+-- where tries and number are in order, the first fault of a plan is that of its steps
 pub made_by_steps : (p : Planned) (n : ℕ) (r : Result (List StepPlan) BadPlan) → n ≡ length p.steps → p.tries ≤ most_tries
     → 1 ≤ n → n ≤ most_steps → steps_kept n p.steps ≡ r → plan_made p ≡ told_line true true p.tries r
 made_by_steps p n r same few low high kept =
@@ -95,7 +95,7 @@ made_by_steps p n r same few low high kept =
     ∙ ap (λ z. told_line true z p.tries (steps_kept n p.steps)) (between_yes n most_steps low high)
     ∙ ap (told_line true true p.tries) kept
 
--- and keeps the limits where they do
+-- a plan keeps the limits where its steps do
 pub made_keeps : (p : Planned) (n : ℕ) → n ≡ length p.steps → p.tries ≤ most_tries → 1 ≤ n → n ≤ most_steps
     → steps_kept n p.steps ≡ Ok p.steps → list_all is_step p.steps ≡ true → is_plan p ≡ true
 made_keeps p n same few low high kept limits =

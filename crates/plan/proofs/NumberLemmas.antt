@@ -37,7 +37,7 @@ unspelled_within n true e none =
     absurd (none (leb-true 1 n both.0) (leb-true n 255 both.1))
 unspelled_within n false e none = refl
 
--- so does what is spelled
+-- a text that spells no number from 1 to 255 counts as 0
 unspelled_by : (t : List ℕ) (o : Option ℕ) → number_in t ≡ o
     → ((n : ℕ) → 1 ≤ n → n ≤ 255 → decimal n ≡ t → ⊥)
     → number_or_none (option_and_then (keep_if (is_between 1 255)) o) ≡ 0

@@ -38,7 +38,7 @@ nights_between k f n e =
     let few = nights_few k n (leb-true n (most_nights k) both.1) in
     and_make _ _ both.0 (le-leb n 255 (omega arith))
 
--- and so is a count
+-- a count that a want may have is from 1 to 255
 count_between : (n : ℕ) → is_count n ≡ true → is_between 1 255 n ≡ true
 count_between n e =
     let both = and_both (nat_le 1 n) (nat_le n 50) e in
@@ -70,7 +70,7 @@ value_same : (test : ℕ → Bool) (o : Option ℕ) → test 0 ≡ false → tes
 value_same test None zero e = refl
 value_same test (Some n) zero e = value_by test n (is_between 1 255 n) zero e
 
--- what is told of an option whose want is made of its parts so
+-- the result of an option whose want is made of its parts so
 abbrev pub told_want : ℕ → Result Wanted Bad → Result Wanted BadPlan
 told_want i (Ok w) = Ok w
 told_want i (Err b) = Err (at i (cause_of b))
@@ -111,7 +111,7 @@ two_wants : (k : Kind) (s p : List ℕ) (f : ℕ) {a b x y : ℕ} → a ≡ x �
     } in want a b ≡ want x y
 two_wants k s p f {a} {b} {x} {y} e g = cc
 
--- an option with a kind is told as the want of its parts
+-- the first fault of an option with a kind is that of the want of its parts
 kind_told : (i : ℕ) (k : Kind) (s p f n c : List ℕ)
     → judged_option i (Some (six_draft k s p f n c)) ≡ told_want i (want_made k s p f (small_number n) (small_number c))
 kind_told i k s p f n c =
@@ -131,12 +131,12 @@ kind_told i k s p f n c =
     (λ e g. two_wants k s p first
     (value_same nights_test (number_in n) refl e) (value_same is_count (number_in c) refl g))
 
--- what is told of an option by its kind and its other parts
+-- the result of an option by its kind and its other parts
 abbrev pub told_option : ℕ → Option Kind → List ℕ → List ℕ → List ℕ → ℕ → ℕ → Result Wanted BadPlan
 told_option i None s p f n c = Err (at i cause.Kind)
 told_option i (Some k) s p f n c = told_want i (want_made k s p f n c)
 
--- an option is told by its kind first
+-- the first fault of an option is that of its kind
 with_kind : (i : ℕ) (o : Option Kind) (s p f n c : List ℕ)
     → judged_option i (Some (record {
       kind = o;
@@ -149,14 +149,14 @@ with_kind : (i : ℕ) (o : Option Kind) (s p f n c : List ℕ)
 with_kind i None s p f n c = refl
 with_kind i (Some k) s p f n c = kind_told i k s p f n c
 
--- an option of six parts is told by its kind, and then as the want of its parts
+-- the first fault of an option of six parts is that of its kind, then of the want of its parts
 pub option_told : (i : ℕ) (text k s p f n c : List ℕ) → parts slash text ≡ k ∷ s ∷ p ∷ f ∷ n ∷ c ∷ []
     → option_in i text ≡ told_option i (kind_of_letter k) s p f (small_number n) (small_number c)
 unfolding option_in
 option_told i text k s p f n c e =
     ap (λ z. judged_option i (option_of_parts z)) e ∙ with_kind i (kind_of_letter k) s p f n c
 
--- what has not six parts has the wrong shape
+-- a text that has not six parts has the wrong shape
 pub option_shape : (i : ℕ) (text : List ℕ) → option_draft text ≡ None → option_in i text ≡ Err (at i cause.Shape)
 unfolding option_in
 option_shape i text e = ap (judged_option i) e

@@ -1,10 +1,10 @@
--- One text more behind those that stand. For the printers of options and of steps.
+-- One more text is appended to those that were printed. For the printers of options and of steps.
 use Rattle.std.proofs.Common.{◌≡◌, ℕ, suc, ◌+◌, ◌<◌, ◌≤◌, ◌⊎◌, inl, inr, List, [], ◌∷◌, ◌++◌, map, length, take, refl, sym, ap, ◌∙◌, arith, append_assoc, get_or, length-take-le}
 use Rattle.std.proofs.Math.Seq.{take-suc}
 use Rattle.std.proofs.lemmas.List.{length-map, map-append}
 use Rattle.allotment.specs.Texts.{joined}
 
--- one text more stands behind the byte that is between the texts
+-- one more text is joined after the separator
 joined_more : (c : ℕ) (ts : List (List ℕ)) (t : List ℕ) → 1 ≤ length ts → joined c (ts ++ t ∷ []) ≡ joined c ts ++ c ∷ t
 joined_more c [] t some = absurd (omega arith)
 joined_more c (x ∷ []) t some = refl
@@ -12,7 +12,7 @@ joined_more c (x ∷ y ∷ ts) t some =
     ap (λ z. x ++ (c ∷ z)) (joined_more c (y ∷ ts) t (omega arith))
     ∙ sym (append_assoc x (c ∷ joined c (y ∷ ts)) (c ∷ t))
 
--- one text more was printed, behind that byte unless it is the first
+-- one more text was printed, after the separator unless it is the first
 pub printed_more : (c : ℕ) (old before now after : List ℕ) (ts : List (List ℕ)) (t : List ℕ)
     → before ≡ old ++ joined c ts
     → ((1 ≤ length ts) × (now ≡ before ++ c ∷ [])) ⊎ ((ts ≡ []) × (now ≡ before))

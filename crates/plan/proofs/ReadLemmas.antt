@@ -13,7 +13,7 @@ use Rattle.allotment.specs.Texts.{parts, joined, number_in, slash, bar, semicolo
 use Rattle.allotment.specs.Nights.{night_text, night_in, named_night}
 use Rattle.allotment.specs.declared.kinds.Kind.TheVariants.{Flight}
 use Rattle.plan.specs.Limits.{most_options, most_steps, most_tries}
-use Rattle.plan.specs.Planned.{Planned, StepPlan, is_step, is_last_unmarked}
+use Rattle.plan.specs.PlanModel.{Planned, StepPlan, is_step, is_last_unmarked}
 use Rattle.plan.specs.Drafts.{OptionDraft, StepDraft, kind_or_any, number_or_none, option_faults, step_faults, faults, want_of, step_of, plan_of}
 use Rattle.plan.specs.PlanLine.{step_text, mark_text, tries_text, tries_in, IsPlanLine, option_of_parts, option_draft, has_mark, without_mark, step_draft, line_draft, plan_in}
 use Rattle.allotment.proofs.TestLemmas.{keep_if_some, same_bytes, and_both, and_make}
@@ -102,7 +102,7 @@ record ReadsOptions (xs : List (Option OptionDraft)) (ts : List (List ℕ)) : Ty
   pub good : list_all is_want (wants_in xs) ≡ true
   pub many : length (wants_in xs) ≡ length ts
 
--- one option, and those behind it
+-- one option, and the later ones
 options_cons : (x : Option OptionDraft) (xs : List (Option OptionDraft)) (t : List ℕ) (ts : List (List ℕ)) → ReadsOption x t → ReadsOptions xs ts → ReadsOptions (x ∷ xs) (t ∷ ts)
 unfolding wants_in
 options_cons x xs t ts here later =
@@ -192,14 +192,14 @@ steps_read n i (t ∷ ts) l e =
 
 -- The tries.
 
--- what is found at the first number or behind it is below the end
+-- what is found at the first number or later is below the end
 found_within : (test : ℕ → Bool) (a n x : ℕ) (b : Bool)
     → (find test (numbers_from (suc a) n) ≡ Some x → x < suc a + n)
     → (if b then Some a else find test (numbers_from (suc a) n)) ≡ Some x → x < a + suc n
 found_within test a n x true h e = let same : a ≡ x = cc in omega arith
 found_within test a n x false h e = let l = h e in omega arith
 
--- a number that is found is one of those that are looked at
+-- a number that is found is one of those that are searched
 find_within : (test : ℕ → Bool) (a n x : ℕ) → find test (numbers_from a n) ≡ Some x → x < a + n
 find_within test a zero x e = cc
 find_within test a (suc n) x e = found_within test a n x (test a) (find_within test (suc a) n x) e
@@ -209,7 +209,7 @@ pub record ReadsTries (t : List ℕ) : Type 0 where
   pub spelled : tries_text (number_or_none (tries_in t)) ≡ t
   pub few : number_or_none (tries_in t) ≤ most_tries
 
--- tries that are read are spelled so, and at most 9
+-- tries that are read have this text, and are at most 9
 pub tries_read : (t : List ℕ) → is_some (tries_in t) ≡ true → ReadsTries t
 unfolding tries_in
 tries_read t e =

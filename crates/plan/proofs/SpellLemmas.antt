@@ -13,7 +13,7 @@ use Rattle.allotment.specs.Texts.{parts, joined, number_in, kind_letter, kind_of
 use Rattle.allotment.specs.declared.kinds.Kind.{Kind}
 use Rattle.allotment.specs.declared.kinds.Kind.TheVariants.{Flight, Room, Transfer, Cover}
 use Rattle.plan.specs.Limits.{most_options, most_steps, most_tries}
-use Rattle.plan.specs.Planned.{Planned, StepPlan, is_step, is_plan, is_last_unmarked}
+use Rattle.plan.specs.PlanModel.{Planned, StepPlan, is_step, is_plan, is_last_unmarked}
 use Rattle.plan.specs.Drafts.{OptionDraft, StepDraft, Draft, drafted, drafted_step, drafted_plan, judged, plan_made}
 use Rattle.plan.specs.PlanLine.{step_text, mark_text, tries_text, tries_in, plan_line, IsPlanLine, option_of_parts, option_draft, has_mark, without_mark, step_draft, front_of, end_of, line_draft, plan_in}
 use Rattle.plan.specs.Levels.{step_kept, steps_kept}
@@ -37,11 +37,11 @@ letter_again Room = refl
 letter_again Transfer = refl
 letter_again Cover = refl
 
--- the parts of a want behind its letter
+-- the parts of a want after its letter
 abbrev five_of : Wanted → List (List ℕ)
 five_of w = w.supplier ∷ w.product ∷ night_text w.first ∷ decimal w.nights ∷ decimal w.count ∷ []
 
--- none of its parts has a byte that stands between parts
+-- no part of a want contains a separator
 six_plain : (w : Wanted) → IsGood w → list_all is_plain (kind_letter w.kind ∷ five_of w) ≡ true
 six_plain w g =
     let two = and_both (is_code w.supplier) (is_code w.product) g.codes in
@@ -70,14 +70,14 @@ option_again w g =
     ∙ ap (λ z. Some (made w (Some w.kind) (Some w.first) z c)) (number_again w.nights g.nights_small)
     ∙ ap (λ z. Some (made w (Some w.kind) (Some w.first) (Some w.nights) z)) (number_again w.count g.count_small)
 
--- the text of a want lacks what stands between options and steps
+-- the text of a want contains no separator of options or steps
 want_lacks : (c : ℕ) (w : Wanted) → not (slash == c) ≡ true → is_plain_byte c ≡ false → IsGood w → lacks c (want_text w) ≡ true
 want_lacks c w o odd g =
     lacks_joined c slash (kind_letter w.kind ∷ five_of w) o (all_lack c (kind_letter w.kind ∷ five_of w) odd (six_plain w g))
 
 -- The options of a step.
 
--- each option is read as it was
+-- each option is read back as it was
 options_again : (ws : List Wanted) → list_all is_want ws ≡ true → map option_draft (map want_text ws) ≡ map (λ w. Some (drafted w)) ws
 options_again [] e = refl
 options_again (w ∷ ws) e =
@@ -85,7 +85,7 @@ options_again (w ∷ ws) e =
     ap (λ z. z ∷ map option_draft (map want_text ws)) (option_again w (is_good w both.0))
     ∙ ap (λ z. Some (drafted w) ∷ z) (options_again ws both.1)
 
--- and lacks what stands between options and steps
+-- the texts of options contain no separator of options or steps
 wants_lack : (c : ℕ) (ws : List Wanted) → not (slash == c) ≡ true → is_plain_byte c ≡ false → list_all is_want ws ≡ true
     → list_all (lacks c) (map want_text ws) ≡ true
 wants_lack c [] o odd e = refl
@@ -102,19 +102,19 @@ unmarked x true e l =
     let h = ap (lacks star) (sym end) ∙ lacks_drop star (length x - 1) x l in cc
 unmarked x false e l = refl
 
--- the mark behind such a text is read as it was
+-- the mark after a text without stars is read back as it was
 mark_again : (x : List ℕ) (b : Bool) → lacks star x ≡ true → has_mark (x ++ mark_text b) ≡ b
 mark_again x true l = marked x
 mark_again x false l = ap has_mark (append-nil x) ∙ unmarked x (has_mark x) refl l
 
--- and taken off
+-- the mark after a text without stars is taken off
 without_again : (x : List ℕ) (b : Bool) → lacks star x ≡ true → without_mark (x ++ mark_text b) ≡ x
 without_again x true l = marked_front x
 without_again x false l =
     let t = x ++ [] in
     ap (λ z. if z then take (length t - 1) t else t) (mark_again x false l) ∙ append-nil x
 
--- the options of a step are cut as they were
+-- cutting the text of a step gives its options back
 parts_of_step : (ws : List Wanted) → 1 ≤ length ws → list_all is_want ws ≡ true
     → parts bar (joined bar (map want_text ws)) ≡ map want_text ws
 parts_of_step [] some e = absurd (omega arith)
@@ -152,7 +152,7 @@ mark_lacks : (c : ℕ) (b : Bool) → not (star == c) ≡ true → lacks c (mark
 mark_lacks c true e = and_make _ _ e refl
 mark_lacks c false e = refl
 
--- and lacks what stands between steps
+-- the text of a step contains no separator of steps
 step_lacks : (s : StepPlan) → IsGoodStep s → lacks semicolon (step_text s) ≡ true
 step_lacks s g =
     lacks_append semicolon (joined bar (map want_text s.options)) (mark_text s.is_marked)
@@ -161,7 +161,7 @@ step_lacks s g =
 
 -- The steps.
 
--- each step is read as it was
+-- each step is read back as it was
 steps_again : (steps : List StepPlan) → list_all is_step steps ≡ true
     → map (λ t. Some (step_draft t)) (map step_text steps) ≡ map (λ s. Some (drafted_step s)) steps
 steps_again [] e = refl
@@ -170,14 +170,14 @@ steps_again (s ∷ steps) e =
     ap (λ z. Some z ∷ map (λ t. Some (step_draft t)) (map step_text steps)) (step_again s (good_step s both.0))
     ∙ ap (λ z. Some (drafted_step s) ∷ z) (steps_again steps both.1)
 
--- and lacks what stands between them
+-- the texts of steps contain no separator of steps
 steps_lack : (steps : List StepPlan) → list_all is_step steps ≡ true → list_all (lacks semicolon) (map step_text steps) ≡ true
 steps_lack [] e = refl
 steps_lack (s ∷ steps) e =
     let both = and_both (is_step s) (list_all is_step steps) e in
     and_make _ _ (step_lacks s (good_step s both.0)) (steps_lack steps both.1)
 
--- and the steps are cut as they were
+-- cutting the text of the steps gives them back
 parts_of_plan : (steps : List StepPlan) → 1 ≤ length steps → list_all is_step steps ≡ true
     → parts semicolon (joined semicolon (map step_text steps)) ≡ map step_text steps
 parts_of_plan [] some e = absurd (omega arith)
@@ -205,7 +205,7 @@ line_again p some few good =
     ∙ ap (λ z. draft (read z) (Some p.tries)) (parts_of_plan p.steps some good)
     ∙ ap (λ z. draft z (Some p.tries)) (steps_again p.steps good)
 
--- what is not so is not so
+-- a test that does not hold is false
 not_so : (b : Bool) → not b ≡ true → b ≡ false
 not_so true e = cc
 not_so false e = refl
@@ -216,12 +216,12 @@ mark_in_place : (n i : ℕ) (s : StepPlan) (steps : List StepPlan) → i + lengt
 mark_in_place n i s [] l u = inl (not_so s.is_marked u)
 mark_in_place n i s (t ∷ steps) l u = inr (λ same. absurd (omega arith))
 
--- nor on the last of the later ones
+-- no mark stands on the last of the later ones
 rest_unmarked : (s : StepPlan) (steps : List StepPlan) → is_last_unmarked (s ∷ steps) ≡ true → is_last_unmarked steps ≡ true
 rest_unmarked s [] u = refl
 rest_unmarked s (t ∷ steps) u = u
 
--- steps that keep the limits are told to
+-- steps that keep the limits are read as they are
 kept_again : (n i : ℕ) (steps : List StepPlan) → i + length steps ≡ n + 1 → is_last_unmarked steps ≡ true
     → list_all is_step steps ≡ true → each (step_kept n) i steps ≡ Ok steps
 kept_again n i [] l u e = refl
@@ -243,7 +243,7 @@ made_again p e =
     sym (kept_whole n p.steps) ∙ none_behind (each (step_kept n) 1 p.steps) ∙ kept_again n 1 p.steps (omega arith) marks.1 counts.1 in
     made_by_steps p n (Ok p.steps) refl (leb-true p.tries most_tries all.1) (leb-true 1 n count.0) (leb-true n most_steps count.1) kept
 
--- what is made of a plan is what is told of its draft
+-- the plan that is made, or the fault, is the result of its draft
 pub made_is : (p : Planned) → judged (Some (drafted_plan p)) ≡ plan_made p
 unfolding plan_made
 made_is p = refl

@@ -4,9 +4,9 @@ use Rattle.std.proofs.lemmas.List.{length-map}
 use Rattle.std.specs.Prelude.{option_map}
 use Rattle.std.proofs.lemmas.Option.{slice_get_read, slice_get-map}
 use Rattle.plan.specs.declared.steps.PlanStep.{PlanStep}
-use Rattle.plan.specs.Planned.{Planned, step_said, plan_said, numbered, step_count}
+use Rattle.plan.specs.PlanModel.{Planned, step_said, plan_said, numbered, step_count}
 
--- what stands before a number from 1 is what has the number
+-- the element at an index is the one with the next number, counted from 1
 pub numbered_read : {X : Type 0} (xs : List X) (i : ℕ) (x : X)
     → 1 ≤ i → i ≤ length xs → x ≡ get_or xs (i - 1) x → numbered xs i ≡ Some x
 numbered_read xs zero x low high e = absurd (omega arith)

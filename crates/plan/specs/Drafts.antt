@@ -7,7 +7,7 @@ use Rattle.allotment.specs.Making.{unless, first_fault}
 use Rattle.allotment.specs.declared.kinds.Kind.{Kind}
 use Rattle.allotment.specs.declared.kinds.Kind.TheVariants.{Flight}
 use Rattle.plan.specs.Limits.{most_options, most_steps, most_tries}
-use Rattle.plan.specs.Planned.{Planned, StepPlan}
+use Rattle.plan.specs.PlanModel.{Planned, StepPlan}
 use Rattle.plan.specs.declared.causes.PlanCause.{PlanCause}
 use Rattle.plan.specs.declared.causes.PlanCause.TheVariants as cause
 use Rattle.plan.specs.declared.faults.BadPlan.{BadPlan}
@@ -63,7 +63,8 @@ step_faults n (i, Some s) =
     ++ unless (is_between 1 most_options (length s.options)) (at i cause.Options)
     ++ flat_map (option_faults i) s.options
 
--- all that is wrong with a plan, in order. Only the first is told, so it does not matter what a later one says
+-- all that is wrong with a plan, in order. Only the first fault is reported, so it does not matter what a later one
+-- says
 abbrev pub faults : Option Draft → List BadPlan
 faults None = at 0 cause.Shape ∷ []
 faults (Some d) =
@@ -114,6 +115,6 @@ drafted_step s = record { options = map (λ w. Some (drafted w)) s.options; is_m
 abbrev pub drafted_plan : Planned → Draft
 drafted_plan p = record { steps = map (λ s. Some (drafted_step s)) p.steps; tries = Some p.tries }
 
--- the plan that says this, if it keeps the limits, or the first that it does not keep
+-- the plan of these steps and tries if it keeps the limits, else the first limit that it breaks
 unfoldable pub plan_made : Planned → Result Planned BadPlan
 plan_made p = judged (Some (drafted_plan p))

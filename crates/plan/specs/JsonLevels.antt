@@ -6,7 +6,7 @@ use Rattle.serde_json.specs.View.{view}
 use Rattle.serde_json.specs.declared.value.Value.{Value}
 use Rattle.allotment.specs.Want.{Wanted}
 use Rattle.allotment.specs.Making.{first_fault}
-use Rattle.plan.specs.Planned.{StepPlan, step_said}
+use Rattle.plan.specs.PlanModel.{StepPlan, step_said}
 use Rattle.plan.specs.declared.steps.PlanStep.{PlanStep}
 use Rattle.plan.specs.declared.causes.PlanCause.TheVariants as cause
 use Rattle.plan.specs.declared.faults.BadPlan.{BadPlan}

@@ -8,7 +8,7 @@ use Rattle.allotment.specs.Texts.{parts, bar, semicolon}
 use Rattle.allotment.specs.declared.faults.Bad.{Bad}
 use Rattle.allotment.specs.declared.faults.Bad.TheVariants as bad
 use Rattle.plan.specs.Limits.{most_options}
-use Rattle.plan.specs.Planned.{Planned, StepPlan, step_said, plan_said}
+use Rattle.plan.specs.PlanModel.{Planned, StepPlan, step_said, plan_said}
 use Rattle.plan.specs.declared.steps.PlanStep.{PlanStep}
 use Rattle.plan.specs.declared.causes.PlanCause.{PlanCause}
 use Rattle.plan.specs.declared.causes.PlanCause.TheVariants as cause
@@ -16,7 +16,7 @@ use Rattle.plan.specs.declared.faults.BadPlan.{BadPlan}
 use Rattle.plan.specs.Drafts.{OptionDraft, StepDraft, at, want_of, option_faults, step_of, step_faults, drafted_step, plan_made}
 use Rattle.plan.specs.PlanLine.{option_draft, step_draft}
 
--- what is wrong with a plan where this is wrong with a want
+-- the cause of a plan's fault for this fault of a want
 abbrev pub cause_of : Bad → PlanCause
 cause_of bad.Code = cause.Code
 cause_of bad.Night = cause.Night
@@ -28,7 +28,7 @@ abbrev pub judged_option : ℕ → Option OptionDraft → Result Wanted BadPlan
 judged_option i None = Err (at i cause.Shape)
 judged_option i (Some o) = first_fault (want_of o) (option_faults i (Some o))
 
--- the same of a text
+-- the want of an option that a text spells, or the first thing that is wrong with it
 unfoldable pub option_in : ℕ → List ℕ → Result Wanted BadPlan
 option_in i text = judged_option i (option_draft text)
 
@@ -58,20 +58,20 @@ steps_in n text =
     first_fault (filter_map (option_map step_of) (step_drafts text))
     (flat_map (step_faults n) (enumerate_from 1 (step_drafts text)))
 
--- the step of this number, of so many, or the first limit that it does not keep
+-- the step of this number, of so many, or the first limit that it breaks
 unfoldable pub step_kept : ℕ → ℕ → StepPlan → Result StepPlan BadPlan
 step_kept n i s = first_fault s (step_faults n (i, Some (drafted_step s)))
 
--- the steps, of so many, or the first limit that one of them does not keep
+-- the steps, of so many, or the first limit that one of them breaks
 unfoldable pub steps_kept : ℕ → List StepPlan → Result (List StepPlan) BadPlan
 steps_kept n steps =
     first_fault steps (flat_map (step_faults n) (enumerate_from 1 (map (λ s. Some (drafted_step s)) steps)))
 
--- the same of a step of a program
+-- the same for a step as the program holds it
 abbrev pub step_checked : ℕ → ℕ → PlanStep → Result StepPlan BadPlan
 step_checked n i step = step_kept n i (step_said step)
 
--- and of all steps of one
+-- the same for all steps as the program holds them
 abbrev pub steps_checked : List PlanStep → Result (List StepPlan) BadPlan
 steps_checked steps = steps_kept (length steps) (map step_said steps)
 
@@ -79,6 +79,6 @@ steps_checked steps = steps_kept (length steps) (map step_said steps)
 abbrev pub AreStepsOf : ℕ → List ℕ → List PlanStep → Type 0
 AreStepsOf n text steps = steps_in n text ≡ Ok (map step_said steps)
 
--- this is the plan that is made of these steps and tries, or the first limit that it would not keep
+-- this is the plan of these steps and tries, or the first limit that it would break
 abbrev pub MakesPlan : List PlanStep → ℕ → Result Planned BadPlan → Type 0
 MakesPlan steps tries result = plan_made (plan_said steps tries) ≡ result

@@ -1,5 +1,5 @@
 pub mod Limits
-pub mod Planned
+pub mod PlanModel
 pub mod Causes
 pub mod Faults
 pub mod Drafts

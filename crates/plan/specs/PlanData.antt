@@ -5,7 +5,7 @@ use Rattle.serde_json.specs.View.{items_of}
 use Rattle.allotment.specs.Want.{Wanted}
 use Rattle.allotment.specs.Nights.{night_text}
 use Rattle.allotment.specs.Texts.{kind_word}
-use Rattle.plan.specs.Planned.{Planned, StepPlan, is_plan}
+use Rattle.plan.specs.PlanModel.{Planned, StepPlan, is_plan}
 use Rattle.plan.specs.PlanJson.{JsonReadsAs}
 
 -- an option: its six parts, the kind by its word and the first night by its text
@@ -30,6 +30,6 @@ plan_data p =
     object (member (codes "steps") (array (items_of (map step_data p.steps)))
     (member (codes "tries") (number (unsigned p.tries)) no_members))
 
--- each plan has a JSON value, which is read as it
+-- each plan has a JSON value, which is read back as the plan
 abbrev pub IsReadBack : Type 0
 IsReadBack = (p : Planned) → IsTrue (is_plan p) → JsonReadsAs (plan_data p) (Ok p)

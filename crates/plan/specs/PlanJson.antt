@@ -7,7 +7,7 @@ use Rattle.allotment.specs.Nights.{night_in}
 use Rattle.allotment.specs.Limits.{is_between}
 use Rattle.allotment.specs.Texts.{keep_if, kind_of_word}
 use Rattle.plan.specs.Limits.{most_tries}
-use Rattle.plan.specs.Planned.{Planned}
+use Rattle.plan.specs.PlanModel.{Planned}
 use Rattle.plan.specs.declared.faults.BadPlan.{BadPlan}
 use Rattle.plan.specs.Drafts.{OptionDraft, StepDraft, Draft, judged}
 
@@ -91,7 +91,7 @@ json_step d =
 abbrev pub plan_members : List (List ℕ)
 plan_members = codes "steps" ∷ codes "tries" ∷ []
 
--- the values that stand for the steps of a plan, which is an object with just its two members, the steps a list
+-- the values that represent the steps of a plan, which is an object with just its two members, the steps a list
 abbrev pub json_steps : Data → Option (List Data)
 json_steps d = if has_just plan_members d then in_member (codes "steps") list_of d else None
 

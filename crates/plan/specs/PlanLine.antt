@@ -5,13 +5,13 @@ use Rattle.allotment.specs.Want.{Wanted}
 use Rattle.allotment.specs.Cells.{numbers_from}
 use Rattle.allotment.specs.Texts.{parts, joined, number_in, kind_of_letter, want_text, slash, bar, semicolon, star}
 use Rattle.allotment.specs.Nights.{night_in}
-use Rattle.plan.specs.Planned.{Planned, StepPlan, is_plan}
+use Rattle.plan.specs.PlanModel.{Planned, StepPlan, is_plan}
 use Rattle.plan.specs.declared.faults.BadPlan.{BadPlan}
 use Rattle.plan.specs.Drafts.{OptionDraft, StepDraft, Draft, judged}
 
 -- Printing.
 
--- `*` behind a marked step
+-- `*` after a marked step
 abbrev pub mark_text : Bool → List ℕ
 mark_text true = codes "*"
 mark_text false = []
@@ -36,7 +36,7 @@ tries_text n = codes "!" ++ decimal n
 abbrev pub plan_line : Planned → List ℕ
 plan_line p = steps_text p.steps ++ tries_text p.tries
 
--- what was written stands behind what was there
+-- the text was appended to what the string held
 abbrev pub Writes : {A : Type 0} → String A → String A → List ℕ → Type 0
 Writes old new text = string_bytes new ≡ string_bytes old ++ text
 
@@ -98,7 +98,7 @@ line_draft text = record {
 unfoldable pub plan_in : List ℕ → Result Planned BadPlan
 plan_in text = judged (Some (line_draft text))
 
--- read as a plan, the text gives this
+-- reading the text as a plan gives this
 abbrev pub ReadsAs : List ℕ → Result Planned BadPlan → Type 0
 ReadsAs text result = plan_in text ≡ result
 

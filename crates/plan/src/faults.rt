@@ -9,12 +9,12 @@ use std::alloc::{AllocError, AllocFailed};
 /// The first thing that is wrong with a plan, and where.
 #[derive(Clone, Copy, Debug, PartialEq, Eq)]
 pub struct BadPlan {
-    /// The step, counted from 1; 0 where it is no step.
+    /// The step, counted from 1; 0 where the fault is of the plan as a whole.
     pub step: usize,
     pub cause: PlanCause,
 }
 
-/// This is wrong at this step.
+/// The fault of this cause at this step.
 pub fn bad(step: usize, cause: PlanCause) -> BadPlan
     ensures bad { result ≡ at step cause }
 {
@@ -24,9 +24,9 @@ pub fn bad(step: usize, cause: PlanCause) -> BadPlan
 /// Why there is no plan.
 #[derive(Clone, Copy, Debug, PartialEq, Eq)]
 pub enum PlanFault {
-    /// It would break a rule.
+    /// A text, a value or steps that make no plan.
     Bad(BadPlan),
-    /// There was no memory for it.
+    /// Out of memory.
     Memory,
 }
 

@@ -4,7 +4,7 @@
 ghost use Rattle.std.specs.Prelude.{◌≡◌, ◌≤◌, Ok, Err, option_map, length, IfOk, IfErr, IfSome};
 ghost use Rattle.serde_json.specs.View.{view};
 ghost use Rattle.plan.specs.Limits.{most_steps, most_tries};
-ghost use Rattle.plan.specs.Planned.{step_said};
+ghost use Rattle.plan.specs.PlanModel.{step_said};
 ghost use Rattle.plan.specs.Faults.{IfBad};
 ghost use Rattle.plan.specs.PlanJson.{json_step, json_steps, json_tries, step_with};
 ghost use Rattle.plan.specs.JsonLevels.{want_of_json, wants_of_json, step_of_json, steps_of_json, views, AreJsonSteps};
@@ -19,7 +19,7 @@ use allotment::{Kind, Want};
 use serde_json::Value;
 use std::alloc::Global;
 
-/// The values that stand for the steps of a plan, if the value has the shape of one.
+/// The values that represent the steps of a plan. Returns `None` if the value has not the shape of a plan.
 pub fn plan_steps(value: &Value) -> Option<&[Value]>
     ensures steps { option_map (λ steps. views steps.now) result ≡ json_steps (view value.now) }
 {
@@ -29,7 +29,7 @@ pub fn plan_steps(value: &Value) -> Option<&[Value]>
     list_in(value, "steps")
 }
 
-/// The tries of a plan, 0 to 9.
+/// The tries of a plan, 0 to 9. Returns `None` if they are anything else.
 pub fn plan_tries(value: &Value) -> Option<u8>
     ensures tries { result ≡ json_tries (view value.now) }
 
@@ -42,7 +42,8 @@ pub fn plan_tries(value: &Value) -> Option<u8>
     Some(tries as u8)
 }
 
-/// The steps that these values spell.
+/// Reads the steps that these values spell, or reports the first thing that is wrong with one of them. The other fault
+/// is out of memory.
 pub fn steps_of(alloc: Global, values: &[Value]) -> Result<Vec<PlanStep>, PlanFault>
     requires few { length values.now ≤ most_steps }
 
@@ -60,7 +61,7 @@ pub fn steps_of(alloc: Global, values: &[Value]) -> Result<Vec<PlanStep>, PlanFa
     Ok(steps)
 }
 
-/// The step of this number that a value spells, where so many is the last one's.
+/// The step of this number that a value spells, where `last` is the number of the last step.
 fn step_of(alloc: Global, last: usize, step: usize, value: &Value) -> Result<PlanStep, PlanFault>
     ensures read { IfOk result
         (λ read. step_of_json last step (view value.now) ≡ Ok (step_said read)) }

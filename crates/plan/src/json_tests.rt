@@ -1,4 +1,4 @@
-// Values from outside: plans in JSON as the format has them, and the fault that each wrong one is told.
+// Values from outside: plans in JSON as the format has them, and the fault that each wrong one gets.
 use crate::tests::{is_told, reads, repeated};
 use crate::{Plan, PlanCause, PlanFault};
 use serde_json::{Error, Value};
@@ -6,7 +6,7 @@ use std::alloc::{AllocError, Global};
 use std::process::Abort;
 use std::test::Fail;
 
-/// What stands before each member of an option.
+/// The name before each member of an option.
 const NAMES: [&str; 6] = [
     r#"{"count":"#,
     r#","first":"#,
@@ -48,7 +48,7 @@ fn line_of(alloc: Global, text: &str) -> Result<String, Fail> {
     Ok(plan.line(alloc)?)
 }
 
-/// What is told of this text.
+/// The fault that this text gets, if any.
 fn told(alloc: Global, text: &str) -> Result<Option<PlanFault>, Error> {
     let value = Value::from_str(alloc, text)?;
     Ok(Plan::from_json(alloc, &value).err())
@@ -108,7 +108,7 @@ fn an_option_is_read_as_that_of_a_line(rt: HostRuntime) -> Result<(), Fail> {
     Ok(())
 }
 
-// a wrong option, and what is told of it
+// a wrong option, and its fault
 #[rattlefmt::skip]
 const WRONG: [(&str, &str, PlanCause); 38] = [
     ("a kind's letter",            r#"1, "2030-06-01", "F", 1, "A1", "AL""#,                       PlanCause::Kind),
@@ -151,7 +151,7 @@ const WRONG: [(&str, &str, PlanCause); 38] = [
     ("a null for a count",         r#"null, "2030-06-01", "flight", 1, "A1", "AL""#,               PlanCause::Count),
 ];
 
-// an option with two faults, of which the first is told
+// an option with two faults, of which the first is reported
 #[rattlefmt::skip]
 const FIRST: [(&str, &str, PlanCause); 5] = [
     ("a kind, a supplier",         r#"1, "2030-06-01", "F", 1, "A1", "al""#,       PlanCause::Kind),
@@ -161,7 +161,7 @@ const FIRST: [(&str, &str, PlanCause); 5] = [
     ("nights, a count",            r#"51, "2030-06-01", "flight", 2, "A1", "AL""#, PlanCause::Nights),
 ];
 
-/// Each option is told the cause that stands behind it.
+/// Each option gets the cause beside it.
 fn each_is_told(
     rt: &impl Abort,
     alloc: Global,
@@ -184,7 +184,7 @@ fn the_first_fault_of_an_option_is_told(rt: HostRuntime) -> Result<(), Fail> {
     each_is_told(&rt, rt.alloc(), &FIRST)
 }
 
-// a wrong plan, the step and what is told of it
+// a wrong plan, the step and the fault that are reported
 #[rattlefmt::skip]
 const PLANS: [(&str, &str, usize, PlanCause); 40] = [
     ("a null",                      "null", 0, PlanCause::Shape),
@@ -251,7 +251,7 @@ fn a_wrong_value_is_told_its_first_fault(rt: HostRuntime) -> Result<(), Fail> {
     Ok(())
 }
 
-// how many marked steps, the step behind them, and what is told
+// how many marked steps, the step after them, and the fault
 #[rattlefmt::skip]
 const STEPS: [(&str, u8, bool, Option<(usize, PlanCause)>); 5] = [
     ("thirteen steps",              12, false, None),
@@ -261,7 +261,7 @@ const STEPS: [(&str, u8, bool, Option<(usize, PlanCause)>); 5] = [
     ("25 steps, the last marked",   24, true, Some((0, PlanCause::Steps))),
 ];
 
-// how many options, what stands in each, and what is told
+// how many options, the places of each, and the fault
 #[rattlefmt::skip]
 const MANY: [(&str, u8, &str, Option<(usize, PlanCause)>); 4] = [
     ("five options",              5, "1", None),

@@ -1,10 +1,11 @@
 //! Plans of journeys, and their texts.
 //!
 //! A *plan* is 1 to 24 steps and a number of *tries*. A *step* has 1 to 8 *options*, each a want, in order of
-//! preference; a *marked* step leaves a save-point behind it. The last step is never marked.
+//! preference; a save-point is taken after a *marked* step. The last step is never marked.
 //!
-//! Every plan keeps these limits. A plan has one *line*: a text is read as a plan exactly where it is the line of that
-//! plan, and any other text is told the first thing that is wrong with it, in one order. A JSON value is read likewise.
+//! Every plan keeps these limits. A plan has one *line*: a text is read as a plan exactly if it is the line of that
+//! plan. Any other text is refused with the first thing that is wrong with it, in one order. A JSON value is read
+//! likewise.
 #![tactic(auto)]
 
 mod causes;

@@ -3,7 +3,7 @@ ghost use Rattle.std.specs.Prelude.{◌≡◌, ◌≤◌, Ok, Err, map, length, 
 ghost use Rattle.std.specs.List.{list_all};
 ghost use Rattle.allotment.specs.Limits.{is_want};
 ghost use Rattle.plan.specs.Limits.{most_steps};
-ghost use Rattle.plan.specs.Planned.{step_said, is_step};
+ghost use Rattle.plan.specs.PlanModel.{step_said, is_step};
 ghost use Rattle.plan.specs.Levels.{step_limits, step_checked, steps_checked};
 
 use crate::causes::PlanCause;
@@ -20,7 +20,7 @@ pub const MOST_OPTIONS: usize = 8;
 /// The most tries that a plan may have.
 pub const MOST_TRIES: u8 = 9;
 
-/// The first limit that one of the steps does not keep.
+/// Checks the steps, and reports the first limit that one of them breaks.
 pub fn check_steps(steps: &[PlanStep]) -> Result<(), BadPlan>
     requires few { length steps.now ≤ most_steps }
 
@@ -37,7 +37,7 @@ pub fn check_steps(steps: &[PlanStep]) -> Result<(), BadPlan>
     Ok(())
 }
 
-/// The first limit that the step of this number does not keep, where so many is the last one's.
+/// Checks the step of this number, where `last` is the number of the last step.
 fn check_step(last: usize, number: usize, step: &PlanStep) -> Result<(), BadPlan>
     ensures kept { OnOk result (step_checked last number step.now ≡ Ok (step_said step.now)) }
     ensures limits { OnOk result (IsTrue (is_step (step_said step.now))) }
@@ -49,7 +49,8 @@ fn check_step(last: usize, number: usize, step: &PlanStep) -> Result<(), BadPlan
     Ok(())
 }
 
-/// Whether the step of this number may have this mark and so many options, where so many is the last one's.
+/// Checks whether the step of this number may have this mark and so many options, where `last` is the number of the
+/// last step.
 pub fn check_limits(last: usize, step: usize, save: bool, options: usize) -> Result<(), BadPlan>
     ensures limits { result ≡ step_limits last step save options }
 {
@@ -62,7 +63,7 @@ pub fn check_limits(last: usize, step: usize, save: bool, options: usize) -> Res
     Ok(())
 }
 
-/// Each want keeps the limits: there is no other.
+/// Each want keeps its limits: its type has no other value.
 fn know_limits(wants: &[Want])
     ensures limits { IsTrue (list_all is_want wants.now) }
 {

@@ -1,10 +1,10 @@
 //! The steps of a plan line, read one after another up to the first fault.
 //!
-//! A text is cut where it stands, and each list is allocated once.
+//! A text is cut in place, and each list is allocated once.
 ghost use Rattle.std.specs.Prelude.{◌≡◌, ◌≤◌, Ok, Err, length, IfOk, IfErr};
 ghost use Rattle.allotment.specs.Texts.{parts, bar, semicolon};
 ghost use Rattle.plan.specs.Limits.{most_steps};
-ghost use Rattle.plan.specs.Planned.{step_said};
+ghost use Rattle.plan.specs.PlanModel.{step_said};
 ghost use Rattle.plan.specs.Faults.{IfBad};
 ghost use Rattle.plan.specs.Levels.{options_in as wants_in, step_in as step_read, steps_in as steps_read, AreStepsOf};
 
@@ -16,7 +16,8 @@ use crate::steps::PlanStep;
 use allotment::Want;
 use std::alloc::Global;
 
-/// The steps that a line spells before its tries: `last` of them.
+/// Reads the `last` steps that a line spells before its tries, or reports the first thing that is wrong with one of
+/// them. The other fault is out of memory.
 pub fn steps_in(alloc: Global, last: usize, text: &str) -> Result<Vec<PlanStep>, PlanFault>
     requires whole { last ≡ length (parts semicolon text.now) }
     requires few { last ≤ most_steps }
@@ -34,7 +35,7 @@ pub fn steps_in(alloc: Global, last: usize, text: &str) -> Result<Vec<PlanStep>,
     Ok(steps)
 }
 
-/// The step of this number that a text spells, where so many is the last one's.
+/// The step of this number that a text spells, where `last` is the number of the last step.
 fn step_in(alloc: Global, last: usize, step: usize, text: &str) -> Result<PlanStep, PlanFault>
     ensures read { IfOk result (λ read. step_read last step text.now ≡ Ok (step_said read)) }
     ensures refused { IfErr result (IfBad (λ bad. step_read last step text.now ≡ Err bad)) }
@@ -59,14 +60,14 @@ fn options_in(alloc: Global, step: usize, count: usize, text: &str) -> Result<Ve
     Ok(options)
 }
 
-/// How many options stand in the text of a step.
+/// How many options the text of a step has.
 fn count_options(text: &str) -> usize
     ensures count { result ≡ length (parts bar text.now) }
 {
     text.split('|').count()
 }
 
-/// How many steps stand in a line before its tries.
+/// How many steps a line has before its tries.
 pub fn count_steps(text: &str) -> usize
     ensures count { result ≡ length (parts semicolon text.now) }
 {

@@ -1,4 +1,4 @@
-//! What is taken out of a JSON value. It takes no memory: each part is a piece of the value.
+//! Members of a JSON value. Nothing is allocated: each part is borrowed from the value.
 ghost use Rattle.std.specs.Prelude.{◌≡◌, map, option_map, is_some};
 ghost use Rattle.std.specs.List.{list_all};
 ghost use Rattle.serde_json.specs.Find.{get, as_bool};
@@ -39,7 +39,7 @@ fn has_member(value: &Value, name: &str) -> bool
     value.get(name).is_some()
 }
 
-/// The list that the member of this name is.
+/// The list under this name. Returns `None` if there is none.
 pub fn list_in<'a>(value: &'a Value, name: &str) -> Option<&'a [Value]>
     ensures list { option_map (λ list. views list.now) result
         ≡ in_member name.now list_of (view value.now) }
@@ -48,21 +48,21 @@ pub fn list_in<'a>(value: &'a Value, name: &str) -> Option<&'a [Value]>
     Some(list.as_slice())
 }
 
-/// The text that the member of this name is, and an empty one where it is none.
+/// The text under this name, empty if there is none.
 pub fn text_in<'a>(value: &'a Value, name: &str) -> &'a str
     ensures text { result.now ≡ text_of name.now (view value.now) }
 {
     value.get(name).and_then(Value::as_str).unwrap_or("")
 }
 
-/// The whole number that the member of this name is.
+/// The whole number from 0 on under this name. Returns `None` if there is none.
 pub fn number_in(value: &Value, name: &str) -> Option<u64>
     ensures number { result ≡ in_member name.now whole_number (view value.now) }
 {
     value.get(name)?.as_u64()
 }
 
-/// The answer, true or false, that the member of this name is.
+/// The boolean under this name. Returns `None` if there is none.
 pub fn answer_in(value: &Value, name: &str) -> Option<bool>
     ensures answer { result ≡ in_member name.now as_bool (view value.now) }
 {

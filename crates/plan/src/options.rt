@@ -7,7 +7,7 @@ use crate::faults::{BadPlan, bad};
 use crate::parts::{number, option_parts};
 use allotment::{Bad, Kind, Want};
 
-/// The want that an option of this step spells, or the first thing that is wrong with it.
+/// Reads the want that an option of this step spells, or reports the first thing that is wrong with it.
 pub fn option_in(step: usize, text: &str) -> Result<Want, BadPlan>
     ensures want { result ≡ want_in step text.now }
 {
@@ -30,7 +30,7 @@ pub fn option_in(step: usize, text: &str) -> Result<Want, BadPlan>
     }
 }
 
-/// What is wrong with a plan where this is wrong with a want.
+/// The cause of a plan's fault for this fault of a want.
 pub fn cause_of(fault: Bad) -> PlanCause
     ensures cause { result ≡ plan_cause fault }
 {

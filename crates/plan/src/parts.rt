@@ -1,4 +1,4 @@
-//! What is cut out of a plan line. Cutting takes no memory: each part is a piece of the text.
+//! Pieces of a plan line. Cutting allocates nothing: each piece is a slice of the text.
 ghost use Rattle.std.specs.Prelude.{◌≡◌, ◌≢◌, ◌<◌, ℕ, Some, None, List, [], ◌∷◌, ◌++◌, MatchOption, IfNone, IfSome};
 ghost use Rattle.allotment.specs.Texts.{IsOnePart, IsCut, number_from};
 ghost use Rattle.plan.specs.Drafts.{number_or_none};
@@ -16,7 +16,7 @@ pub struct OptionParts<'a> {
     pub count: &'a str,
 }
 
-/// The six parts of an option. There are none where the text has more or fewer.
+/// The six parts of an option. Returns `None` if the text has more or fewer.
 pub fn option_parts(text: &str) -> Option<OptionParts<'_>>
     ensures six { MatchOption result (HasNotSixParts text.now) (λ six. HasSixParts text.now six) }
 {
@@ -38,14 +38,14 @@ pub fn option_parts(text: &str) -> Option<OptionParts<'_>>
     }
 }
 
-/// What stands before the first `/`, and behind it.
+/// The text before the first `/`, and the text after it.
 fn cut(text: &str) -> Option<(&str, &str)>
     ensures cut { MatchOption result (IsOnePart text.now) (λ p. IsCut text.now p.0.now p.1.now) }
 {
     text.split_once('/')
 }
 
-/// A step without the `*` at its end, and whether there was one.
+/// The step without the `*` at its end, and whether there was one.
 pub fn split_mark(text: &str) -> (&str, bool)
     ensures rest { result.0.now ≡ without_mark text.now }
     ensures mark { result.1 ≡ has_mark text.now }
@@ -56,7 +56,7 @@ pub fn split_mark(text: &str) -> (&str, bool)
     }
 }
 
-/// A line without the tries at its end, and their number.
+/// The line without the tries at its end, and their number. Returns `None` if it ends in no tries.
 pub fn split_tries(text: &str) -> Option<(&str, u8)>
     ensures none { IfNone result (tries_in (end_of text.now) ≡ None) }
     ensures rest { IfSome result (λ p. p.0.now ≡ front_of text.now) }
@@ -71,7 +71,7 @@ pub fn split_tries(text: &str) -> Option<(&str, u8)>
     Some((body, digit - b'0'))
 }
 
-/// The text without this ASCII character at its end.
+/// The text without this ASCII character at its end. Returns `None` if it ends otherwise.
 fn cut_last(text: &str, last: u8) -> Option<&str>
     requires ascii { last < 128 }
 
@@ -81,7 +81,7 @@ fn cut_last(text: &str, last: u8) -> Option<&str>
     text.strip_suffix(char::from(last))
 }
 
-/// The number from 1 to 255 that a text spells, without leading zeros; 0 where it spells none of them.
+/// The number from 1 to 255 that a text spells, without leading zeros; 0 if it spells none of them.
 pub fn number(text: &str) -> u64
     ensures number { result ≡ number_or_none (number_from 1 255 text.now) }
 {

@@ -1,7 +1,7 @@
 //! Plans that keep the limits, and what they say of their steps.
 ghost use Rattle.std.specs.Prelude.{◌≡◌, ◌≤◌, Some, Ok, Err, IfOk, IfErr, IsTrue, string_bytes};
 ghost use Rattle.plan.specs.Limits.{most_steps};
-ghost use Rattle.plan.specs.Planned.{plan_said, is_plan, step_count, is_marked_at, option_count, want_at};
+ghost use Rattle.plan.specs.PlanModel.{plan_said, is_plan, step_count, is_marked_at, option_count, want_at};
 ghost use Rattle.plan.specs.Faults.{IfBad, IsBadAnd};
 ghost use Rattle.plan.specs.Levels.{MakesPlan};
 ghost use Rattle.plan.specs.PlanLine.{ReadsAs, IsPlanLine, plan_line};
@@ -30,7 +30,7 @@ pub struct Plan {
 
 impl Model for Plan {
     ghost use Rattle.std.specs.Prelude.{IsTrue};
-    ghost use Rattle.plan.specs.Planned.{Planned, plan_said, is_plan};
+    ghost use Rattle.plan.specs.PlanModel.{Planned, plan_said, is_plan};
 
     ghost Value = { Planned };
 
@@ -40,7 +40,7 @@ impl Model for Plan {
 }
 
 impl Plan {
-    /// The plan of a line, or the first thing that is wrong with it.
+    /// Reads the plan of a line, or reports the first thing that is wrong with it. The other fault is out of memory.
     ///
     /// A line is the steps with `;` between them, `!` and the tries, one digit. A step is its options with `|` between
     /// them, and `*` where it is marked. An option is `KIND/SUPPLIER/PRODUCT/FIRST/NIGHTS/COUNT`. Numbers have no
@@ -63,11 +63,12 @@ impl Plan {
         Ok(Plan { steps, tries })
     }
 
-    /// The plan of a JSON value, or the first thing that is wrong with it.
+    /// Reads the plan of a JSON value, or reports the first thing that is wrong with it. The other fault is out of
+    /// memory.
     ///
     /// A plan is an object with the members `steps`, a list, and `tries`; a step one with `options`, a list, and
     /// `save`, true or false; an option one with `kind`, a kind's word, `supplier`, `product` and `first`, which are
-    /// texts, and `nights` and `count`. None has another member. A number is held as an integer: `1.0` is none.
+    /// texts, and `nights` and `count`. None has another member. A number must be an integer: `1.0` is refused.
     pub fn from_json(alloc: Global, value: &Value) -> Result<Plan, PlanFault>
         ensures read { IfOk result (λ plan. JsonReadsAs (view value.now) (Ok plan)) }
 
@@ -88,8 +89,8 @@ impl Plan {
         Ok(Plan { steps, tries })
     }
 
-    /// The plan of these steps and tries, or the first limit that it would not keep: its tries, the number of its
-    /// steps, then of each step its mark and the number of its options.
+    /// Makes a plan of these steps and tries, or reports the first limit that it would break: its tries, the number of
+    /// its steps, then of each step its mark and the number of its options.
     pub fn from_steps(steps: Vec<PlanStep>, tries: u8) -> Result<Plan, PlanFault>
         ensures made { IfOk result (λ plan. MakesPlan steps.items tries (Ok plan)) }
         ensures same { IfOk result (λ plan. plan ≡ plan_said steps.items tries) }
@@ -107,7 +108,7 @@ impl Plan {
         Ok(Plan { steps, tries })
     }
 
-    /// The line of the plan: its one spelling.
+    /// The line of the plan: its one spelling. The only fault is out of memory.
     pub fn line(&self, alloc: Global) -> Result<String, AllocError>
         ensures line { IfOk result (λ text. string_bytes text ≡ plan_line self.now) }
     {
@@ -127,14 +128,14 @@ impl Plan {
         self.steps.len()
     }
 
-    /// How often a refused step is tried again, 0 to 9.
+    /// How often a refused step is retried, 0 to 9.
     pub fn tries(&self) -> u8
         ensures tries { result ≡ self.now.tries }
     {
         self.tries
     }
 
-    /// Whether a step, counted from 1, leaves a save-point behind it.
+    /// Whether a save-point is taken after a step, counted from 1. The precondition says that the plan has the step.
     pub fn marked(&self, step: usize) -> bool
         requires from_one { 1 ≤ step }
         requires in_plan { step ≤ step_count self.now }
@@ -144,7 +145,7 @@ impl Plan {
         self.steps[step - 1].save
     }
 
-    /// How many options a step, counted from 1, has: 1 to 8.
+    /// How many options a step, counted from 1, has: 1 to 8. The precondition says that the plan has the step.
     pub fn options(&self, step: usize) -> usize
         requires from_one { 1 ≤ step }
         requires in_plan { step ≤ step_count self.now }
@@ -154,7 +155,7 @@ impl Plan {
         self.steps[step - 1].options.len()
     }
 
-    /// An option of a step, both counted from 1.
+    /// An option of a step, both counted from 1. The precondition says that the plan has both.
     pub fn want(&self, step: usize, option: usize) -> Want
         requires step_from_one { 1 ≤ step }
         requires step_in_plan { step ≤ step_count self.now }
@@ -166,7 +167,7 @@ impl Plan {
         self.steps[step - 1].options[option - 1]
     }
 
-    /// The same plan again.
+    /// A copy of the plan. The only fault is out of memory.
     pub fn clone(&self, alloc: Global) -> Result<Plan, AllocError>
         ensures same { IfOk result (λ plan. plan ≡ self.now) }
     {

@@ -1,14 +1,14 @@
-//! The texts of wants, steps and plans, behind what a line has already.
+//! The texts of wants, steps and plans, appended to a line.
 ghost use Rattle.std.specs.Prelude.{map, OnOk};
 ghost use Rattle.allotment.specs.Texts.{want_text};
-ghost use Rattle.plan.specs.Planned.{step_said};
+ghost use Rattle.plan.specs.PlanModel.{step_said};
 ghost use Rattle.plan.specs.PlanLine.{options_text, step_text, steps_text, Writes};
 
 use crate::steps::PlanStep;
 use allotment::Want;
 use std::alloc::AllocError;
 
-/// Writes the steps, with `;` between them.
+/// Appends the steps, with `;` between them. The only fault is out of memory.
 pub fn push_steps(line: &mut String, steps: &[PlanStep]) -> Result<(), AllocError>
     ensures steps { OnOk result (Writes line.old line.new (steps_text (map step_said steps.now))) }
 {
@@ -21,7 +21,7 @@ pub fn push_steps(line: &mut String, steps: &[PlanStep]) -> Result<(), AllocErro
     Ok(())
 }
 
-/// Writes the options, with `|` between them, and the mark.
+/// Appends the options, with `|` between them, and the mark.
 fn push_step(line: &mut String, step: &PlanStep) -> Result<(), AllocError>
     ensures step { OnOk result (Writes line.old line.new (step_text (step_said step.now))) }
 {
@@ -32,7 +32,7 @@ fn push_step(line: &mut String, step: &PlanStep) -> Result<(), AllocError>
     Ok(())
 }
 
-/// Writes the options, with `|` between them.
+/// Appends the options, with `|` between them.
 fn push_options(line: &mut String, options: &[Want]) -> Result<(), AllocError>
     ensures options { OnOk result (Writes line.old line.new (options_text options.now)) }
 {
@@ -45,7 +45,7 @@ fn push_options(line: &mut String, options: &[Want]) -> Result<(), AllocError>
     Ok(())
 }
 
-/// Writes the want: `KIND/SUPPLIER/PRODUCT/FIRST/NIGHTS/COUNT`.
+/// Appends the want: `KIND/SUPPLIER/PRODUCT/FIRST/NIGHTS/COUNT`.
 fn push_want(line: &mut String, want: &Want) -> Result<(), AllocError>
     ensures want { OnOk result (Writes line.old line.new (want_text want.now)) }
 {

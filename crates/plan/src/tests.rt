@@ -1,4 +1,4 @@
-// Values from outside: lines as the format has them, and the fault that each wrong line is told.
+// Values from outside: lines as the format has them, and the fault that each wrong line gets.
 use crate::{BadPlan, Plan, PlanCause, PlanFault, PlanStep};
 use allotment::{Kind, Want};
 use std::alloc::{AllocError, Global};
@@ -10,7 +10,7 @@ pub fn reads(rt: &impl Abort, case: &str, found: &str, expected: &str) {
     assert!(rt; found == expected, "{case}: {found}");
 }
 
-/// Stops the test where something else is told: the step and the cause are expected, or no fault.
+/// Stops the test where another fault is reported: the step and the cause are expected, or no fault.
 pub fn is_told(
     rt: &impl Abort,
     case: &str,
@@ -61,7 +61,7 @@ fn a_line_is_read_and_printed_again(rt: HostRuntime) -> Result<(), Fail> {
     Ok(())
 }
 
-// a wrong line, and what is told of it
+// a wrong line, and its fault
 #[rattlefmt::skip]
 const WRONG: [(&str, &str, usize, PlanCause); 50] = [
     ("nothing",                     "", 0, PlanCause::Tries),
@@ -122,7 +122,7 @@ fn a_wrong_line_is_told_its_fault(rt: HostRuntime) {
     each_is_told(&rt, rt.alloc(), &WRONG);
 }
 
-/// Each line is told the step and the cause that stand behind it.
+/// Each line gets the step and the cause beside it.
 fn each_is_told(rt: &impl Abort, alloc: Global, lines: &[(&str, &str, usize, PlanCause)]) {
     for &(case, line, step, cause) in lines {
         is_told(
@@ -134,7 +134,7 @@ fn each_is_told(rt: &impl Abort, alloc: Global, lines: &[(&str, &str, usize, Pla
     }
 }
 
-// a line with two faults, of which the first is told
+// a line with two faults, of which the first is reported
 #[rattlefmt::skip]
 const ORDER: [(&str, &str, usize, PlanCause); 10] = [
     ("tries, a mark",           "F/AL/A1/2030-06-01/1/1*", 0, PlanCause::Tries),
@@ -154,7 +154,7 @@ fn the_first_fault_is_told(rt: HostRuntime) {
     each_is_told(&rt, rt.alloc(), &ORDER);
 }
 
-/// So many times this text, with this between, and this at the end.
+/// So many times this text, with a separator between each two, and with this at the end.
 pub fn repeated(
     alloc: Global,
     text: &str,
@@ -173,7 +173,7 @@ pub fn repeated(
     Ok(line)
 }
 
-// how many options or steps, what stands between them and at the end, and what is told
+// how many options or steps, the separator, what stands at the end, and the fault
 #[rattlefmt::skip]
 const MANY: [(&str, u8, &str, &str, Option<(usize, PlanCause)>); 9] = [
     ("thirteen steps",                    13, ";", "!0", None),
@@ -224,7 +224,7 @@ fn step(alloc: Global, count: u8, save: bool) -> Result<PlanStep, AllocError> {
     Ok(PlanStep { options, save })
 }
 
-// how many steps, how many options each has, the number of the marked one, the tries, and what is told
+// how many steps, how many options each has, the number of the marked one, the tries, and the fault
 #[rattlefmt::skip]
 const STEPS: [(&str, u8, u8, u8, u8, Option<(usize, PlanCause)>); 14] = [
     ("one step",                  1, 1, 0, 0, None),

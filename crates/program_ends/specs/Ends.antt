@@ -1,5 +1,5 @@
 -- How the program ends, and what it tells.
-use Rattle.std.specs.Prelude.{◌⊎◌, ⊤, ℕ, List, [], ◌∷◌, codes, decimal, Option, Result, Ok, Err}
+use Rattle.std.specs.Prelude.{◌≡◌, ◌⊎◌, ⊤, ℕ, List, [], ◌∷◌, codes, decimal, Option, Result, Ok, Err}
 use Rattle.std.specs.String.{string_bytes}
 use Rattle.std.specs.Io.KnownBytes.{Keeps}
 use Rattle.streams.specs.Written.{WroteFront}
@@ -69,6 +69,17 @@ end_of_both first after = first
 abbrev pub end_of_job : JobFault → End
 end_of_job (job.Usage text) = finish.Usage text
 end_of_job job.Memory = finish.Fault fault.Memory
+
+-- what is printed where a word of the command line is not UTF-8
+abbrev pub not_text : List ℕ
+not_text =
+    codes "error: invalid UTF-8 was detected in one or more arguments\n\nFor more information, try '--help'.\n"
+
+-- the end is wrong usage, for which this is printed; or there was no memory for the text
+abbrev pub IsUsageFor : List ℕ → End → Type 0
+IsUsageFor text (finish.Usage shown) = string_bytes shown ≡ text
+IsUsageFor text (finish.Fault fault.Memory) = ⊤
+IsUsageFor text _ = ⊥
 
 -- the exit status: 0 done, 1 refused or fault, 2 usage
 abbrev pub status_of : End → ℕ

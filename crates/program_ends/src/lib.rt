@@ -1,11 +1,13 @@
 //! How the program `desk` ends: its faults, its exit statuses, and what it prints at its end.
 //!
 //! `End::tell` prints an end and returns its exit status. A refusal goes to standard output; a `ProgramFault`, and the
-//! usage, go to standard error.
+//! usage, go to standard error. `end_of_arguments` is the end where the words of the command line cannot be read.
 #![tactic(auto)]
 
+mod arguments;
 mod ends;
 mod faults;
 
+pub use arguments::end_of_arguments;
 pub use ends::End;
 pub use faults::ProgramFault;

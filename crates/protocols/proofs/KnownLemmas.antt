@@ -1,8 +1,8 @@
--- What is said of bytes that may be known. For the runs of both protocols.
+-- Facts on bytes that may be known. For the runs of both protocols.
 use Rattle.std.proofs.Common.{◌≡◌, refl, List, ℕ, Option}
 use Rattle.std.specs.Prelude.{Some, None, IfSome}
 
--- what holds for known bytes, by an equation
+-- to prove a fact of known bytes, an equation for them may be assumed
 pub for_known : (known : Option (List ℕ)) (So : List ℕ → Type 0)
     → ((input : List ℕ) → known ≡ Some input → So input) → IfSome known So
 for_known None So each = tt

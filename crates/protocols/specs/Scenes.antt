@@ -11,16 +11,16 @@ pub record Scene : Type 1 where
   pub stands : State → Type 0
   pub leaves : State → State → Type 0
 
--- the same, in a row
+-- a scene from its four parts
 abbrev pub scene : Option (List ℕ) → Option (List ℕ) → (State → Type 0) → (State → State → Type 0)
     → Scene
 scene held holds stands leaves =
     record { held = held; holds = holds; stands = stands; leaves = leaves }
 
--- these bytes were written behind what the writer held
+-- these bytes were appended to what the writer held
 abbrev pub Wrote : Scene → List ℕ → Type 0
 Wrote x bytes = Appends x.held x.holds bytes
 
--- a line, and a line feed behind it
+-- a line, followed by a line feed
 abbrev pub ended : List ℕ → List ℕ
 ended text = text ++ line_feed ∷ []

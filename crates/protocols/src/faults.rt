@@ -7,16 +7,16 @@ use commands::Fault;
 use std::alloc::{AllocError, AllocFailed};
 use streams::WriteFailed;
 
-/// Why a run over a reader and a writer ended early.
+/// Why a run over a reader and a writer ended early. What was answered before stays answered.
 #[derive(Clone, Copy, Debug, PartialEq, Eq)]
 pub enum ServeFault {
-    /// Memory ran out.
+    /// Out of memory.
     Memory,
     /// The store failed.
     Store,
-    /// A read failed, or more could be read than can be counted.
+    /// A read failed, or the input has more bytes than can be counted.
     Read,
-    /// A write failed, or took nothing.
+    /// A write failed, or took no byte.
     Write,
 }
 

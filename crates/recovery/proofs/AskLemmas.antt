@@ -14,10 +14,10 @@ use Rattle.ledger.specs.History.{phase}
 use Rattle.ledger.specs.Ledger.{Event, Did, Journey, journey_at, history, phase_of, is_item_allowed}
 use Rattle.ledger.specs.Recovery.{is_forward}
 use Rattle.ledger.proofs.Growing.{journeys-did, history-did_same}
-use Rattle.plan.specs.Planned.{numbered}
+use Rattle.plan.specs.PlanModel.{numbered}
 use Rattle.saga_core.specs.Books.{KeepsAtMemory, LeavesAtStore}
 use Rattle.recovery.specs.Asking.{phase_told, Adds, Stepped, SteppedTo}
-use Rattle.recovery.specs.Growing.{with_events, MayHaveGrown}
+use Rattle.recovery.specs.Growing.{with_events, LeavesAt, MayHaveGrown}
 
 -- a request that moves journey j by this item
 pub record Moves (l : List Event) (asked : Request) (j : ℕ) (item : Item) : Type 0 where
@@ -102,14 +102,14 @@ steps stands s asked j item m forward allowed r is st =
     (steps-cut stands s j item m.journey v m.at forward allowed refl
     (subst (λ (p : Outcome). stands p.state) o st))
 
--- at a fault a stop leaves the old state, or the one with the event more
+-- at a fault a crash leaves the old state, or the one with the event more
 pub left_at_fault : (stood stands : State → Type 0) (leaves : State → State → Type 0) (s : State)
     (asked : Request) (j : ℕ) (item : Item) (Are : List Event → Type 0)
     → Moves s.ledger asked j item → Are [] → Are (Did j item ∷ [])
     → ((t : State) → stands t → leaves t t) → (fault : Fault)
     → KeepsAtMemory {T = Reply} stood stands (Err fault)
     → LeavesAtStore stood leaves None asked (Err fault) → stood s
-    → MayHaveGrown leaves Are s fault
+    → MayHaveGrown (LeavesAt fault stands leaves) Are s fault
 left_at_fault stood stands leaves s asked j item Are m none one settled Memory memory store st = record {
   events = [];
   next = [];
@@ -117,7 +117,7 @@ left_at_fault stood stands leaves s asked j item Are m none one settled Memory m
   are_with = none;
   at_most = omega arith;
   within = omega arith;
-  left = subst (λ t. leaves t t) (sym (with_none s)) (settled s (memory s st));
+  left = subst (λ t. stands t × leaves t t) (sym (with_none s)) (memory s st, settled s (memory s st));
 }
 left_at_fault stood stands leaves s asked j item Are m none one settled Store memory store st =
     go (nat_le most_events (length s.ledger)) refl
@@ -125,7 +125,7 @@ left_at_fault stood stands leaves s asked j item Are m none one settled Store me
   where
     go : (v : Bool) → nat_le most_events (length s.ledger) ≡ v
         → leaves s (cut s (moved m.journey.plan (history s.ledger j) j item) v).state
-        → MayHaveGrown leaves Are s Store
+        → MayHaveGrown (LeavesAt Store stands leaves) Are s Store
     go true full left = record {
       events = [];
       next = [];

@@ -10,7 +10,7 @@ use Rattle.ledger.specs.History.{is_open}
 use Rattle.ledger.specs.Ledger.{Event, journeys, is_in}
 use Rattle.ledger.specs.Recovery.{has_none, HasReached}
 use Rattle.ledger.proofs.Recoverable.{none-pass}
-use Rattle.saga_core.specs.Shown.{first_unfinished}
+use Rattle.saga_core.specs.Views.{first_unfinished}
 use Rattle.saga_core.specs.declared.records.Brief.{Brief}
 use Rattle.recovery.specs.Growing.{with_events, room_of, Grew, GrewFull, MayHaveGrown}
 use Rattle.recovery.specs.Passes.{goes_on, makes, Carry, CarryOut, IsUnderWay, IsThrough}

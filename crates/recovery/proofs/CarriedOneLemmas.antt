@@ -7,7 +7,7 @@ use Rattle.commands.specs.declared.items.Phase.{Phase}
 use Rattle.ledger.specs.Answer.{State, most_events}
 use Rattle.ledger.specs.Ledger.{Event, Did, is_in, IsLegal}
 use Rattle.recovery.specs.Asking.{Stepped, Steps, StepsOrNot, IsStepOrNone, stays, goes}
-use Rattle.recovery.specs.Growing.{with_events, room_of, Grew, GrewFull, MayHaveGrown}
+use Rattle.recovery.specs.Growing.{with_events, room_of, Grew, GrewFull, LeavesAt, MayHaveGrown}
 use Rattle.recovery.specs.Passes.{goes_on, Carry, CarryOut}
 use Rattle.recovery.specs.declared.passes.Pass.{Pass}
 use Rattle.recovery.proofs.CarryLemmas.{in-open, carry-start, carry-more, goes-told}
@@ -137,12 +137,12 @@ one-refused p stands then s j made t step =
     }) stayed.0
 
 -- the step met a fault
-pub one-fault : (p : Pass) (stands : State → Type 0) (leaves : State → State → Type 0) (s : State)
+pub one-fault : (p : Pass) (stands then : State → Type 0) (leaves : State → State → Type 0) (s : State)
     (j made : ℕ) (fault : Fault) → (t : OneSoFar p stands s j made)
-    → IsLegal (s.ledger ++ t.events) → StepsOrNot stands leaves j fault
-    → MayHaveGrown leaves (Carry p j s.ledger) s fault
-one-fault p stands leaves s j made fault t legal step =
-    may-join leaves s (IsStepOrNone (s.ledger ++ t.events) j) (Carry p j s.ledger) t.events made
+    → IsLegal (s.ledger ++ t.events) → StepsOrNot stands then leaves j fault
+    → MayHaveGrown (LeavesAt fault then leaves) (Carry p j s.ledger) s fault
+one-fault p stands then leaves s j made fault t legal step =
+    may-join (LeavesAt fault then leaves) s (IsStepOrNone (s.ledger ++ t.events) j) (Carry p j s.ledger) t.events made
     fault t.counted t.within
     (step (with_events s t.events) t.stands_there (in-open p (s.ledger ++ t.events) j t.on))
     (λ more is. go more is)

@@ -9,5 +9,6 @@ pub mod TurnedLemmas
 pub mod CarriedOneLemmas
 pub mod CarriedLemmas
 pub mod FinishLemmas
+pub mod OneLemmas
 pub mod MadeLemmas
 pub mod WorldLemmas

@@ -1,11 +1,10 @@
--- The commands of recovery make its events. For the worlds of `recover`.
+-- The requests of recovery make its events. For the worlds of `recover`.
 use Rattle.std.proofs.Common.{◌≡◌, ℕ, ◌+◌, ◌-◌, ◌<◌, ◌≤◌, List, [], ◌∷◌, ◌++◌, length, refl, ap, sym, ◌∙◌, subst, arith, append_assoc, length-append, eqb-true}
 use Rattle.std.proofs.lemmas.Bool.{and_parts, and_from, false_from_ne_true, lt-leb}
 use Rattle.std.proofs.lemmas.List.{append_cancel_left}
 use Rattle.std.proofs.lemmas.List.Folds.{list_all-append}
 use Rattle.std.specs.Prelude.{Bool, true, false, filter, map, nat_le, Option, Some, None, option_map, option_to_list, unwrap_or, IsTrue}
 use Rattle.std.specs.List.{list_all}
-use Rattle.commands.specs.Orders.{request_of}
 use Rattle.commands.specs.Request.{Request}
 use Rattle.commands.specs.Request as request
 use Rattle.commands.specs.declared.items.Cause.TheVariants as cause
@@ -24,10 +23,9 @@ use Rattle.ledger.proofs.Phases.{passing}
 use Rattle.ledger.proofs.Recoverable.{AreAllowedAfter-join}
 use Rattle.ledger.proofs.Recovering.{AreAllowedAfter-split}
 use Rattle.saga_core.specs.Runs.{state_after}
-use Rattle.saga_core.specs.Worlds.{dones}
-use Rattle.saga_core.proofs.WorldLemmas.{KeepLimits}
+use Rattle.saga_core.specs.Worlds.{dones, KeepLimits}
 use Rattle.recovery.specs.Growing.{with_events, room_of}
-use Rattle.recovery.specs.Worlds.{command_of, orders_of}
+use Rattle.recovery.specs.Worlds.{request_making, orders_of}
 use Rattle.recovery.proofs.AskLemmas.{Moves, with_none, cut, outcome-moves}
 use Rattle.recovery.proofs.PassLemmas.{with_more}
 use Rattle.recovery.proofs.TellLemmas.{stop-moves, step-moves}
@@ -100,22 +98,12 @@ ours l events rest r =
           (sym (list_all-append k events rest) ∙ ap (list_all k) same ∙ all)).0;
     }
 
--- the rest of recovery's events is recovery's from there on
-pub ours-rest : (l events more : List Event) → AreOurs l (events ++ more) → AreOurs (l ++ events) more
-ours-rest l events more o =
-    let k = are_items is_of_recovery in
-    record {
-      allowed = (AreAllowedAfter-split l events more o.allowed).1;
-      kind = (and_parts (list_all k events) (list_all k more)
-          (sym (list_all-append k events more) ∙ o.kind)).1;
-    }
+-- Each is made by its request.
 
--- Each is made by its command.
-
--- the command of the event makes it
+-- the request of the event makes it
 pub record IsMade (s : State) (e : Event) : Type 0 where
-  pub event : (outcome s None (request_of (command_of e))).event ≡ Some e
-  pub state : (outcome s None (request_of (command_of e))).state ≡ with_events s (e ∷ [])
+  pub event : (outcome s None (request_making e)).event ≡ Some e
+  pub state : (outcome s None (request_making e)).state ≡ with_events s (e ∷ [])
 
 -- a request that moves a journey by this item makes it, where the ledger has room
 moves-make : (s : State) (asked : Request) (j : ℕ) (item : Item) → Moves s.ledger asked j item
@@ -199,7 +187,7 @@ made s (Did j (Save p)) legal kind may room = cc
 
 -- All of them.
 
--- the commands of the events, one after another, make them
+-- the requests of the events, one after another, make them
 pub record AreMade (s : State) (events : List Event) : Type 0 where
   pub made : events_of s (dones s (orders_of events)) ≡ events
   pub leads : state_after s (orders_of events) ≡ with_events s events
@@ -216,7 +204,7 @@ all-made s (e ∷ es) legal o room =
     length-append s.ledger (e ∷ []) in
     let rest = all-made next es (AreAllowedAfter-join [] s.ledger (e ∷ []) legal (o.allowed.0, tt))
     (record { allowed = o.allowed.1; kind = both.1 }) (omega arith) in
-    let then = (outcome s None (request_of (command_of e))).state in
+    let then = (outcome s None (request_making e)).state in
     record {
       made =
           ap (λ d. option_to_list d ++ events_of then (dones then (orders_of es))) m.event
@@ -226,15 +214,8 @@ all-made s (e ∷ es) legal o room =
           ap (λ t. state_after t (orders_of es)) m.state ∙ rest.leads ∙ with_more s (e ∷ []) es;
     }
 
--- the next one, where there is one
-pub next-made : (s : State) (e : Event) → IsLegal s.ledger → AreOurs s.ledger (e ∷ [])
-    → 1 ≤ room_of s → IsMade s e
-next-made s e legal o room =
-    let k = are_items is_of_recovery in
-    made s e legal (and_parts (k e) true o.kind).0 o.allowed.0 (omega arith)
-
 -- they keep the limits of a request
-pub in-limit : (e : Event) → IsTrue (is_request (request_of (command_of e)))
+pub in-limit : (e : Event) → IsTrue (is_request (request_making e))
 in-limit (Loaded name rows) = refl
 in-limit (Began agent plan) = refl
 in-limit (Did j (Turn p cause.Stop)) = refl

@@ -1,11 +1,14 @@
 -- How the state of a book grows in a pass. For the passes.
 use Rattle.std.proofs.Common.{◌≡◌, ℕ, ◌+◌, ◌-◌, ◌^◌, ◌<◌, ◌≤◌, List, [], ◌∷◌, suc, ◌++◌, length, ap, ◌∙◌, arith, append_assoc, append-nil, length-append, sym, subst}
-use Rattle.std.specs.Prelude.{Option, Some, None}
+use Rattle.std.specs.Prelude.{Option, Some, None, Err}
 use Rattle.std.specs.List.{cons_option}
 use Rattle.commands.specs.declared.faults.Fault.{Fault}
+use Rattle.commands.specs.declared.faults.Fault.TheVariants.{Memory, Store}
 use Rattle.ledger.specs.Answer.{State}
 use Rattle.ledger.specs.Ledger.{Event, Journey, journeys, begun_by}
-use Rattle.recovery.specs.Growing.{with_events, room_of, Grew, GrewFull, MayHaveGrown}
+use Rattle.saga_core.specs.Books.{Keeps, LeavesNoMore}
+use Rattle.saga_core.specs.declared.records.Brief.{Brief}
+use Rattle.recovery.specs.Growing.{with_events, room_of, Grew, GrewFull, LeavesAt, MayHaveGrown}
 
 -- events after events are all of them
 pub with_more : (s : State) (events more : List Event)
@@ -112,6 +115,13 @@ may-just leaves s Are events n fault counted low are left =
       within = subst (λ e. length e ≤ room_of s) none fits;
       left = subst (λ e. leaves (with_events s events) (with_events s e)) none left;
     }
+
+-- a look that met a fault leaves what there was
+pub looked : (stood stands : State → Type 0) (left leaves : State → State → Type 0) (fault : Fault)
+    → Keeps {T = Option Brief} stood stands (Err fault) → LeavesNoMore left leaves → ((u : State) → stood u → left u u)
+    → (u : State) → stood u → LeavesAt fault stands leaves u u
+looked stood stands left leaves Memory keeps stop settled u here = (keeps u here, stop u u (settled u here))
+looked stood stands left leaves Store keeps stop settled u here = stop u u (settled u here)
 
 -- growing, and then growing till the ledger is full
 pub full-join : (stands : State → Type 0) (s : State) (AreMore Are : List Event → Type 0)

@@ -15,7 +15,7 @@ use Rattle.ledger.specs.Ledger.{Event, Did, Journey, journey_at, history, is_in,
 use Rattle.ledger.specs.Laws.{HasOneStep}
 use Rattle.ledger.specs.Recovery.{last_save_of}
 use Rattle.ledger.proofs.Phases.{passing}
-use Rattle.changes.proofs.Moves.{seen, find-first}
+use Rattle.ledger_transitions.proofs.Moves.{seen, find-first}
 use Rattle.recovery.proofs.AskLemmas.{Moves}
 
 -- a journey in some phase is there

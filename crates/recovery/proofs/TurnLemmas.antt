@@ -3,7 +3,7 @@ use Rattle.std.proofs.Common.{◌≡◌, ℕ, zero, suc, ◌+◌, ◌-◌, ◌<�
 use Rattle.std.proofs.lemmas.Bool.{ne_eqb}
 use Rattle.std.specs.Prelude.{Bool, true, false, filter, option_map, unwrap_or}
 use Rattle.allotment.specs.Cells.{numbers_from}
-use Rattle.plan.specs.Planned.{numbered}
+use Rattle.plan.specs.PlanModel.{numbered}
 use Rattle.commands.specs.declared.items.Item.{Item}
 use Rattle.commands.specs.declared.items.Item.TheVariants.{Turn}
 use Rattle.commands.specs.declared.items.Cause.TheVariants.{Stop}

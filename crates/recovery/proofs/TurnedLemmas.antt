@@ -10,10 +10,10 @@ use Rattle.ledger.specs.History.{is_running, is_open}
 use Rattle.ledger.specs.Ledger.{Event, history, journeys, is_in, phase_of}
 use Rattle.ledger.specs.Recovery.{stops}
 use Rattle.ledger.proofs.Phases.{passing}
-use Rattle.saga_core.specs.Shown.{first_unfinished}
+use Rattle.saga_core.specs.Views.{first_unfinished}
 use Rattle.saga_core.specs.declared.records.Brief.{Brief}
 use Rattle.recovery.specs.Asking.{stop_of, Stops, StopsOrNot, IsAtMost, none, one}
-use Rattle.recovery.specs.Growing.{with_events, room_of, Grew, GrewFull, MayHaveGrown}
+use Rattle.recovery.specs.Growing.{with_events, room_of, Grew, GrewFull, LeavesAt, MayHaveGrown}
 use Rattle.recovery.specs.Passes.{AreStops, AreFirstStops}
 use Rattle.saga_core.proofs.FirstLemmas.{IsFirst, first-found, first-none}
 use Rattle.recovery.proofs.PassLemmas.{with_more, may-join, may-just, journeys-fewer}
@@ -225,14 +225,14 @@ turned-look stands leaves s after made rounds fault t settled =
     (settled (with_events s t.events) t.stands_there)
 
 -- the stop met a fault
-pub turned-fault : (stands : State → Type 0) (leaves : State → State → Type 0) (s : State)
+pub turned-fault : (stands then : State → Type 0) (leaves : State → State → Type 0) (s : State)
     (after made rounds : ℕ) (b : Brief) (fault : Fault)
     → (t : TurnedSoFar stands s after made rounds)
     → Some b ≡ first_unfinished (s.ledger ++ t.events) after
-    → is_running b.cursor.phase ≡ true → StopsOrNot stands leaves b.id fault
-    → MayHaveGrown leaves (AreFirstStops s.ledger) s fault
-turned-fault stands leaves s after made rounds b fault t is runs stopped =
-    may-join leaves s (IsAtMost (stop_of (s.ledger ++ t.events) b.id)) (AreFirstStops s.ledger)
+    → is_running b.cursor.phase ≡ true → StopsOrNot stands then leaves b.id fault
+    → MayHaveGrown (LeavesAt fault then leaves) (AreFirstStops s.ledger) s fault
+turned-fault stands then leaves s after made rounds b fault t is runs stopped =
+    may-join (LeavesAt fault then leaves) s (IsAtMost (stop_of (s.ledger ++ t.events) b.id)) (AreFirstStops s.ledger)
     t.events made fault t.counted t.within (stopped (with_events s t.events) t.stands_there now)
     (λ more at_most. go more at_most)
   where

@@ -1,6 +1,6 @@
 -- A worked example of recovery's commands, computed by the definitions.
 use Rattle.std.specs.Prelude.{◌≡◌, List, [], ◌∷◌, ◌++◌, None, refl}
-use Rattle.commands.specs.declared.orders.Command.TheVariants.{Step, Stop}
+use Rattle.commands.specs.Request.{Step, Stop}
 use Rattle.ledger.specs.Answer.{State, start}
 use Rattle.ledger.specs.Examples.{done, undone}
 use Rattle.ledger.specs.Ledger.{Event, Did}

@@ -34,6 +34,12 @@ abbrev pub most_kept : Fault → ℕ
 most_kept Memory = 0
 most_kept Store = 1
 
+-- what is left at a fault: whatever a crash leaves stands for one of two states, and where memory ran out the book
+-- stands for the first
+abbrev pub LeavesAt : Fault → (State → Type 0) → (State → State → Type 0) → State → State → Type 0
+LeavesAt Memory stands leaves s t = stands s × leaves s t
+LeavesAt Store stands leaves s t = leaves s t
+
 -- whatever a stop leaves is the state with some events of this kind more, or with the next one too,
 -- where the store failed; and no more than it has room for
 pub record MayHaveGrown (leaves : State → State → Type 0) (Are : List Event → Type 0) (s : State)

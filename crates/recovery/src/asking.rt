@@ -1,5 +1,6 @@
 //! One command of recovery, asked by the house.
 ghost use Rattle.std.specs.Prelude.{IfOk, IfErr, ◌↔◌, ◌≡◌, IsTrue, IsErrOf, is_some};
+ghost use Rattle.saga_core.specs.Books.{LeavesNoMore};
 ghost use Rattle.recovery.specs.Asking.{phase_told, Stops, StopsOrNot, Steps, StepsOrNot};
 
 use commands::{Command, Fault, Phase, Reply};
@@ -20,8 +21,11 @@ pub fn stop<B: Book>(book: &mut B, id: u64) -> Result<bool, Fault>
     ensures ok { B.is_sound book.new →
         IfOk result (λ made. Stops (B.stands book.old) (B.stands book.new) id made) }
     ensures fault { B.is_sound book.new →
-        IfErr result (StopsOrNot (B.stands book.old) (B.leaves book.new) id) }
+        IfErr result (StopsOrNot (B.stands book.old) (B.stands book.new) (B.leaves book.new) id) }
     ensures failed { IsErrOf result Fault.Store ↔ IsTrue (B.has_failed book.new) }
+    ensures stays_failed { IsTrue (B.has_failed book.old) → IsTrue (B.has_failed book.new) }
+    ensures stays_left { IsTrue (B.has_failed book.old) →
+        LeavesNoMore (B.leaves book.old) (B.leaves book.new) }
     ensures sound { B.is_sound book.new → B.is_sound book.old }
 {
     let command = Command::Stop(id);
@@ -36,8 +40,11 @@ pub fn step<B: Book>(book: &mut B, id: u64) -> Result<Option<Phase>, Fault>
     ensures ok { B.is_sound book.new →
         IfOk result (λ phase. Steps (B.stands book.old) (B.stands book.new) id phase) }
     ensures fault { B.is_sound book.new →
-        IfErr result (StepsOrNot (B.stands book.old) (B.leaves book.new) id) }
+        IfErr result (StepsOrNot (B.stands book.old) (B.stands book.new) (B.leaves book.new) id) }
     ensures failed { IsErrOf result Fault.Store ↔ IsTrue (B.has_failed book.new) }
+    ensures stays_failed { IsTrue (B.has_failed book.old) → IsTrue (B.has_failed book.new) }
+    ensures stays_left { IsTrue (B.has_failed book.old) →
+        LeavesNoMore (B.leaves book.old) (B.leaves book.new) }
     ensures sound { B.is_sound book.new → B.is_sound book.old }
 {
     let command = Command::Step(id);

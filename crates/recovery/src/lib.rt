@@ -9,12 +9,11 @@
 #![tactic(auto)]
 
 mod asking;
+mod laws;
 mod passes;
 mod ready;
 mod recovering;
 
+pub use laws::one_recovery;
 pub use ready::Ready;
 pub use recovering::recover;
-
-#[cfg(test)]
-mod tests;

@@ -1,6 +1,7 @@
 //! The passes of recovery, each over the unfinished journeys by rising number.
 ghost use Rattle.std.specs.Prelude.{◌≡◌, ◌↔◌, IfOk, IfErr, IsTrue, IsErrOf};
 ghost use Rattle.ledger.specs.History.{is_running};
+ghost use Rattle.saga_core.specs.Books.{LeavesNoMore};
 ghost use Rattle.recovery.specs.Passes.{made_by, goes_on, MadeStops, MadeSomeStops, CarriedAll, CarriedSome, CarriedOne, CarriedOneSome};
 
 use crate::asking::{step, stop};
@@ -63,8 +64,11 @@ pub fn turn_back<B: Book>(book: &mut B) -> Result<Came, Fault>
     ensures ok { B.is_sound book.new →
         IfOk result (λ came. MadeStops (B.stands book.old) (B.stands book.new) came) }
     ensures fault { B.is_sound book.new →
-        IfErr result (MadeSomeStops (B.stands book.old) (B.leaves book.new)) }
+        IfErr result (MadeSomeStops (B.stands book.old) (B.stands book.new) (B.leaves book.new)) }
     ensures failed { IfErr result (λ f. f ≡ Fault.Store → IsTrue (B.has_failed book.new)) }
+    ensures stays_failed { IsTrue (B.has_failed book.old) → IsTrue (B.has_failed book.new) }
+    ensures stays_left { IsTrue (B.has_failed book.old) →
+        LeavesNoMore (B.leaves book.old) (B.leaves book.new) }
     ensures sound { B.is_sound book.new → B.is_sound book.old }
 {
     let mut after = 0;
@@ -92,8 +96,11 @@ fn carry_one<B: Book>(book: &mut B, pass: Pass, id: u64) -> Result<Came, Fault>
     ensures ok { B.is_sound book.new →
         IfOk result (λ came. CarriedOne (B.stands book.old) (B.stands book.new) pass id came) }
     ensures fault { B.is_sound book.new →
-        IfErr result (CarriedOneSome (B.stands book.old) (B.leaves book.new) pass id) }
+        IfErr result (CarriedOneSome (B.stands book.old) (B.stands book.new) (B.leaves book.new) pass id) }
     ensures failed { IfErr result (λ f. f ≡ Fault.Store → IsTrue (B.has_failed book.new)) }
+    ensures stays_failed { IsTrue (B.has_failed book.old) → IsTrue (B.has_failed book.new) }
+    ensures stays_left { IsTrue (B.has_failed book.old) →
+        LeavesNoMore (B.leaves book.old) (B.leaves book.new) }
     ensures sound { B.is_sound book.new → B.is_sound book.old }
 {
     for made in 0..u64::MAX {
@@ -115,8 +122,11 @@ pub fn carry<B: Book>(book: &mut B, pass: Pass) -> Result<Came, Fault>
     ensures ok { B.is_sound book.new →
         IfOk result (λ came. CarriedAll (B.stands book.old) (B.stands book.new) pass came) }
     ensures fault { B.is_sound book.new →
-        IfErr result (CarriedSome (B.stands book.old) (B.leaves book.new) pass) }
+        IfErr result (CarriedSome (B.stands book.old) (B.stands book.new) (B.leaves book.new) pass) }
     ensures failed { IfErr result (λ f. f ≡ Fault.Store → IsTrue (B.has_failed book.new)) }
+    ensures stays_failed { IsTrue (B.has_failed book.old) → IsTrue (B.has_failed book.new) }
+    ensures stays_left { IsTrue (B.has_failed book.old) →
+        LeavesNoMore (B.leaves book.old) (B.leaves book.new) }
     ensures sound { B.is_sound book.new → B.is_sound book.old }
 {
     let mut after = 0;

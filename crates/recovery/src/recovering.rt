@@ -1,5 +1,6 @@
 //! The whole of recovery.
 ghost use Rattle.std.specs.Prelude.{◌≡◌, IfOk, IfErr, IsTrue};
+ghost use Rattle.saga_core.specs.Books.{LeavesNoMore};
 ghost use Rattle.recovery.specs.Recovers.{Recovers, Finishes, RecoversSome, IsWithinBound};
 ghost use Rattle.recovery.specs.Worlds.{GoesOnRecovered, GoesOnRecovering};
 
@@ -13,8 +14,11 @@ fn recover_all<B: Book>(book: &mut B) -> Result<u64, Fault>
     ensures recovered { B.is_sound book.new →
         IfOk result (λ made. Recovers (B.stands book.old) (B.stands book.new) made) }
     ensures fault { B.is_sound book.new →
-        IfErr result (RecoversSome (B.stands book.old) (B.leaves book.new)) }
+        IfErr result (RecoversSome (B.stands book.old) (B.stands book.new) (B.leaves book.new)) }
     ensures failed { IfErr result (λ f. f ≡ Fault.Store → IsTrue (B.has_failed book.new)) }
+    ensures stays_failed { IsTrue (B.has_failed book.old) → IsTrue (B.has_failed book.new) }
+    ensures stays_left { IsTrue (B.has_failed book.old) →
+        LeavesNoMore (B.leaves book.old) (B.leaves book.new) }
     ensures sound { B.is_sound book.new → B.is_sound book.old }
 {
     let turned = match turn_back(book) {
@@ -44,13 +48,22 @@ pub fn recover<B: Book>(book: B) -> Result<(Ready<B>, u64), (B, Fault)>
         B.is_sound r.0 → IsWithinBound (B.stands book) r.1) }
 
     ensures fault { IfErr result (λ e.
-        B.is_sound e.0 → RecoversSome (B.stands book) (B.leaves e.0) e.1) }
+        B.is_sound e.0 → RecoversSome (B.stands book) (B.stands e.0) (B.leaves e.0) e.1) }
     ensures failed { IfErr result (λ e. e.1 ≡ Fault.Store → IsTrue (B.has_failed e.0)) }
 
     ensures world { IfOk result (λ r.
-        B.is_sound r.0 → GoesOnRecovered (B.stands book) (B.stands r.0)) }
+        B.is_sound r.0 → GoesOnRecovered (B.stands book) (B.stands r.0) (B.leaves r.0)) }
     ensures world_at_fault { IfErr result (λ e.
-        B.is_sound e.0 → GoesOnRecovering (B.stands book) (B.leaves e.0) e.1) }
+        B.is_sound e.0 → GoesOnRecovering (B.stands book) (B.stands e.0) (B.leaves e.0) e.1) }
+
+    ensures stays_failed { IfOk result (λ r.
+        IsTrue (B.has_failed book) → IsTrue (B.has_failed r.0)) }
+    ensures stays_failed_at_fault { IfErr result (λ e.
+        IsTrue (B.has_failed book) → IsTrue (B.has_failed e.0)) }
+    ensures stays_left { IfOk result (λ r.
+        IsTrue (B.has_failed book) → LeavesNoMore (B.leaves book) (B.leaves r.0)) }
+    ensures stays_left_at_fault { IfErr result (λ e.
+        IsTrue (B.has_failed book) → LeavesNoMore (B.leaves book) (B.leaves e.0)) }
 
     ensures sound { IfOk result (λ r. B.is_sound r.0 → B.is_sound book) }
     ensures sound_at_fault { IfErr result (λ e. B.is_sound e.0 → B.is_sound book) }

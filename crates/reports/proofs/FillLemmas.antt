@@ -1,4 +1,4 @@
--- What a format writes of a number or a text that it fills up with blanks. For the lines of reports.
+-- What a format writes of a number or a text that it pads with blanks. For the lines of reports.
 use Rattle.std.proofs.Common.{◌≡◌, ◌∙◌, ℕ, ◌^◌, ◌-◌, ◌≤◌, Bool, cond, List, [], ◌∷◌, true, false, refl, arith, length, zero, suc, replicate, append-nil, ap, lit<, lit≤, leb-true}
 use Rattle.std.specs.Prelude.{encode_utf8, ◌==◌, ◌||◌, nat_le, IsTrue}
 use Rattle.std.specs.Fmt.{padded_integral, padded, take_chars, char_count, format_spec, is_char_start}
@@ -18,7 +18,7 @@ blank_repeated : (n : ℕ) → repeat {A = ℕ} n (32 ∷ []) ≡ replicate {A =
 blank_repeated zero = refl
 blank_repeated (suc n) = ap (λ later. 32 ∷ later) (blank_repeated n)
 
--- the blank that fills so many times
+-- the padding blank, repeated so many times
 fill_repeated : (n : ℕ) → repeat n (encode_utf8 32) ≡ replicate n 32
 fill_repeated n = ap (repeat n) (encode_ascii 32 (lit< tt)) ∙ blank_repeated n
 
@@ -32,7 +32,7 @@ number_right width digits =
     let none : room - room ≡ 0 = omega arith in
     rw (same, none, fill_repeated room) (simp append-nil)
 
--- a text of bytes that each begin a character has as many characters as bytes
+-- a text whose bytes each begin a character has as many characters as bytes
 chars_are_bytes : (passes : ℕ → Bool) → ((b : ℕ) → passes b ≡ true → is_char_start b ≡ true)
     → (text : List ℕ) → list_all passes text ≡ true → char_count text ≡ length text
 unfolding char_count
@@ -41,7 +41,7 @@ chars_are_bytes passes starts (b ∷ text) all =
     let parts = and_parts (passes b) (list_all passes text) all in
     rw (starts b parts.0, chars_are_bytes passes starts text parts.1) (omega arith)
 
--- a text with fewer characters than a number counts is not cut at that many
+-- a text with at most so many characters is not cut at that many
 not_cut : (n : ℕ) (text : List ℕ) → length text ≤ n → take_chars n text ≡ text
 unfolding take_chars
 not_cut n [] short = refl

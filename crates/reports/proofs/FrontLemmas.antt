@@ -1,4 +1,4 @@
--- Beginnings of what was written. For reports in their parts.
+-- Prefixes of what was written. For reports in their parts.
 use Rattle.std.proofs.Common.{◌≡◌, ◌∙◌, append-nil, sym, subst, min, List, [], ◌++◌, ℕ, ◌+◌, length, take, arith}
 use Rattle.std.specs.Prelude.{Option, Some, None}
 use Rattle.std.proofs.lemmas.List.{take_min}
@@ -12,15 +12,15 @@ pub appends_none : (x : Option (List ℕ)) → Appends x x []
 appends_none None = tt
 appends_none (Some xs) = sym (append-nil xs)
 
--- nothing is a beginning
+-- the empty text is a prefix
 pub front_none : (x : Option (List ℕ)) (bytes : List ℕ) → WroteFront x x bytes
 front_none x bytes = (0, appends_none x)
 
--- the whole is a beginning
+-- the whole is a prefix
 pub front_whole : (x y : Option (List ℕ)) (bytes : List ℕ) → Appends x y bytes → WroteFront x y bytes
 front_whole x y bytes sent = (length bytes, subst (Appends x y) (sym (take-length bytes)) sent)
 
--- a beginning of the first bytes is one of all
+-- a prefix of the first bytes is a prefix of all
 pub front_before : (x y : Option (List ℕ)) (us bs : List ℕ)
     → WroteFront x y us
     → WroteFront x y (us ++ bs)
@@ -30,7 +30,7 @@ front_before x y us bs front =
     take-append-le part us bs (omega arith) ∙ take_min front.0 us in
     (part, subst (Appends x y) (sym same) front.1)
 
--- the first bytes, and a beginning of the others, are a beginning of all
+-- the first bytes, followed by a prefix of the others, are a prefix of all
 pub front_after : (x y z : Option (List ℕ)) (us bs : List ℕ)
     → Appends x y us
     → WroteFront y z bs

@@ -8,19 +8,19 @@ use Rattle.saga_core.specs.declared.records.Record.{Record}
 use Rattle.reports.specs.Layouts.{history_ending, history_heading, history_report}
 use Rattle.reports.specs.Parts.{history_head, history_tail, item_word}
 
--- a word and the items with one blank between each two: the word, and each item behind one blank
+-- a word and the items with one blank between each two are the word, and each item after one blank
 items_behind : (word : List ℕ) (items : List Item)
     → sentence (word ∷ map item_text items) ≡ word ++ flat_map item_word items
 items_behind word [] = sym (append-nil word)
 items_behind word (item ∷ items) =
     ap (λ later. word ++ 32 ∷ later) (items_behind (item_text item) items)
 
--- the line feed behind the items ends their line
+-- the line feed after the items ends their line
 line_fed : (front word items back : List ℕ)
     → front ++ word ++ items ++ (10 ∷ back) ≡ front ++ (word ++ items ++ 10 ∷ []) ++ back
 line_fed front word items back = simp append_assoc
 
--- its parts are the history
+-- the parts of a history make the history
 in_parts : (id : ℕ) (journey : Record) (items : List Item)
     → history_head id journey ++ flat_map item_word items ++ history_tail journey.cursor
     ≡ history_report id journey items
@@ -29,7 +29,7 @@ in_parts id journey items =
     ∙ ap (λ line. history_heading id journey ++ (line ++ 10 ∷ []) ++ history_ending journey.cursor)
     (sym (items_behind (codes "items") items))
 
--- a text with the bytes of its head, its items and a text with those of its ending are the history
+-- the text of the head, the items and the text of the ending make the history
 pub history_in_parts : (id : ℕ) (journey : Record) (items : List Item) (head tail : List ℕ)
     → head ≡ history_head id journey
     → tail ≡ history_tail journey.cursor

@@ -9,7 +9,7 @@ use Rattle.streams.specs.Written.{WroteFront}
 use Rattle.streams.proofs.ByteLemmas.{appends_more}
 use Rattle.reports.proofs.FrontLemmas.{appends_none, front_after, front_before, front_whole}
 
--- the first rows were written, so many, and the others are still to come
+-- the first so many rows were written, and the others are still to come
 pub record SoFar {T : Type 0} (shown : T → List ℕ) (rests : List T → Type 0)
     (held holds : Option (List ℕ)) (all : List T) (count : ℕ) : Type 0 where
   pub gone : List T
@@ -26,7 +26,7 @@ pub starts : {T : Type 0} (shown : T → List ℕ) (rests : List T → Type 0)
 starts shown rests held all rest =
     record { gone = []; later = all; cut = refl; rest = rest; sent = appends_none held; counted = refl }
 
--- a row was handed out: it is the first of those that were to come
+-- a row was returned: it is the first of those that were to come
 pub record Next {T : Type 0} (rests : List T → Type 0) (rows : List T) (row : T) : Type 0 where
   pub later : List T
   pub is : rows ≡ row ∷ later
@@ -91,7 +91,7 @@ ends shown rested rests held holds all count so_far hands = by so_far.later so_f
         }
     by (row ∷ later) cut rest = absurd (none_is_some row (hands (row ∷ later) rest).0)
 
--- what was written is a beginning
+-- what was written is a prefix
 pub front_of : {T : Type 0} (shown : T → List ℕ) (rests : List T → Type 0)
     (held holds : Option (List ℕ)) (all : List T) (count : ℕ)
     → SoFar shown rests held holds all count
@@ -103,7 +103,7 @@ front_of shown rests held holds all count so_far =
     (front_before held holds (flat_map shown so_far.gone) (flat_map shown so_far.later)
     (front_whole held holds (flat_map shown so_far.gone) so_far.sent))
 
--- so it is where the next row was written in part
+-- what was written stays a prefix where the next row was written in part
 pub front_with : {T : Type 0} (shown : T → List ℕ) (rested rests : List T → Type 0)
     (held holds now : Option (List ℕ)) (all : List T) (count : ℕ) (row : T) (text : List ℕ)
     → SoFar shown rested held holds all count → Hands rested rests (Some row)

@@ -3,18 +3,18 @@ use Rattle.std.specs.Prelude.{ℕ, ◌-◌, List, [], ◌∷◌, ◌++◌, lengt
 use Rattle.allotment.specs.Texts.{blank, line_feed}
 use Rattle.commands.specs.Texts.{sentence}
 
--- the blanks that a text leaves in a column of this width
+-- the blanks that pad a text to a column of this width
 abbrev pub blanks : ℕ → List ℕ → List ℕ
 blanks width text = replicate (width - length text) blank
 
--- a text in a left column: filled with blanks at the right
+-- a text in a left column: padded with blanks at the right
 abbrev pub left : ℕ → List ℕ → List ℕ
 left width text = text ++ blanks width text
 
--- a text in a right column: filled with blanks at the left
+-- a text in a right column: padded with blanks at the left
 abbrev pub right : ℕ → List ℕ → List ℕ
 right width text = blanks width text ++ text
 
--- a line: its words with one blank between each two, and a line feed behind them
+-- a line: its words with one blank between each two, followed by a line feed
 abbrev pub line : List (List ℕ) → List ℕ
 line words = sentence words ++ line_feed ∷ []

@@ -10,7 +10,7 @@ use Rattle.allotment.specs.declared.places.Held.{Held}
 use Rattle.commands.specs.declared.items.Cause.TheVariants as cause
 use Rattle.commands.specs.declared.items.Item.TheVariants.{Turn}
 use Rattle.commands.specs.declared.items.Phase.TheVariants.{Run, Undone}
-use Rattle.plan.specs.Planned.{Planned}
+use Rattle.plan.specs.PlanModel.{Planned}
 use Rattle.saga_core.specs.declared.records.Brief.{Brief}
 use Rattle.saga_core.specs.declared.records.Record.{Record}
 use Rattle.reports.specs.Layouts.{stock_heading, stock_line, stock_report, unfinished_report, history_report}

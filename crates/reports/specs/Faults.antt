@@ -1,10 +1,10 @@
--- Which fault of a report a fault of its source is.
+-- The fault of a report for a fault of its source.
 use Rattle.commands.specs.declared.faults.Fault.{Fault}
 use Rattle.commands.specs.declared.faults.Fault.TheVariants as fault
 use Rattle.reports.specs.declared.faults.ReportFault.{ReportFault}
 use Rattle.reports.specs.declared.faults.ReportFault.TheVariants.{Memory, Store}
 
--- a fault of the source, as one of the report
+-- a fault of the source as a fault of the report
 abbrev pub report_fault : Fault → ReportFault
 report_fault fault.Memory = Memory
 report_fault fault.Store = Store

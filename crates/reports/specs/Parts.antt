@@ -1,4 +1,4 @@
--- The parts in which a report is written: its head, what is shown of each row, and its ending.
+-- The parts in which a report is written: its head, the text of each row, and its ending.
 use Rattle.std.specs.Prelude.{ℕ, List, [], ◌∷◌, ◌++◌, length, codes}
 use Rattle.std.specs.List.{flat_map}
 use Rattle.allotment.specs.Nights.{night_text}
@@ -20,7 +20,7 @@ cell_columns cell =
     (left 8 (kind_word cell.kind) ∷ left 8 cell.supplier ∷ left 8 cell.product
     ∷ left 10 (night_text cell.night) ∷ [])
 
--- what is written of an item: its text behind one blank
+-- what is written of an item: its text after one blank
 abbrev pub item_word : Item → List ℕ
 item_word item = blank ∷ item_text item
 
@@ -28,11 +28,11 @@ item_word item = blank ∷ item_text item
 abbrev pub history_head : ℕ → Record → List ℕ
 history_head id journey = history_heading id journey ++ codes "items"
 
--- what is written behind them
+-- what is written after the items of a history
 abbrev pub history_tail : Cursor → List ℕ
 history_tail cursor = line_feed ∷ history_ending cursor
 
--- what an ending says behind so many rows
+-- the text of an ending after so many rows
 abbrev pub ending_text : Ending → ℕ → List ℕ
 ending_text (Count what) count = count_line what.now count
 ending_text (Text text) count = text.now

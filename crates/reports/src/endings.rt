@@ -1,10 +1,10 @@
-//! What stands behind the rows of a report.
+//! The ending of a report, after its rows.
 ghost use Rattle.std.specs.Prelude.{◌≡◌, IfOk, string_bytes};
 ghost use Rattle.reports.specs.Parts.{ending_text};
 
 use std::alloc::{AllocError, Global};
 
-/// What stands behind the rows of a report.
+/// The ending of a report, after its rows.
 #[derive(Clone, Copy)]
 pub(crate) enum Ending<'a> {
     /// This word and the number of rows.
@@ -14,7 +14,7 @@ pub(crate) enum Ending<'a> {
 }
 
 impl Ending<'_> {
-    /// Its text, behind so many rows.
+    /// The text of the ending after so many rows.
     pub(crate) fn text(&self, alloc: Global, count: u64) -> Result<String, AllocError>
         ensures text { IfOk result (λ text. string_bytes text ≡ ending_text self.now count) }
     {

@@ -7,14 +7,14 @@ use commands::Fault;
 use std::alloc::AllocError;
 use streams::WriteFailed;
 
-/// Why a report ended early.
+/// Why a report ended early. A prefix of it was written.
 #[derive(Clone, Copy, Debug, PartialEq, Eq)]
 pub enum ReportFault {
-    /// Memory ran out.
+    /// Out of memory.
     Memory,
-    /// The store failed to hand out a row.
+    /// The store failed to return a row.
     Store,
-    /// A write failed, or took nothing.
+    /// A write failed, or took no byte.
     Write,
 }
 

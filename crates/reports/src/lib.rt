@@ -1,11 +1,11 @@
 //! The reports: places by cell, unfinished journeys, and the history of a journey.
 //!
-//! A report is a text. It is the layout of the rows that a source hands out, one at a time: each line is made in memory
-//! and written at once, so that a report takes no more memory for more rows. Where a call fails, what it wrote is a
-//! beginning of the report. Flushing the writer is left to the caller.
+//! A report is a text: the layout of the rows that a source returns, one at a time. Each line is made in memory and
+//! written at once, so a report needs no more memory for more rows. After a fault, what was written is a prefix of the
+//! report. Flushing the writer is left to the caller.
 //!
-//! Words: a *column* is a text that blanks fill up to its width; the *head* of a report stands before its rows, and its
-//! *ending* behind them.
+//! Words: a *column* is a text that is padded with blanks up to its width; the *head* of a report stands before its
+//! rows, and its *ending* after them.
 #![tactic(auto)]
 
 mod endings;

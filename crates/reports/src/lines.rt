@@ -46,7 +46,7 @@ pub(crate) fn journey_line(alloc: Global, brief: &Brief) -> Result<String, Alloc
     format!(in alloc; "{id:>12} {agent:<16} {state}\n")
 }
 
-/// The word of an item, behind one blank.
+/// The text of an item after one blank.
 pub(crate) fn item_word(alloc: Global, item: &Item) -> Result<String, AllocError>
     ensures word { IfOk result (λ text. string_bytes text ≡ item_word item.now) }
 {
@@ -63,7 +63,7 @@ pub(crate) fn history_head(alloc: Global, id: u64, journey: &Record) -> Result<S
     format!(in alloc; "journey {id} agent {agent}\nplan {plan}\nitems")
 }
 
-/// What stands behind the items of a history: where the journey is.
+/// What is written after the items of a history: where the journey is.
 pub(crate) fn history_tail(alloc: Global, cursor: &Cursor) -> Result<String, AllocError>
     ensures line { IfOk result (λ text. string_bytes text ≡ history_tail cursor.now) }
 {

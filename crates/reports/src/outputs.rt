@@ -1,4 +1,4 @@
-//! Writing a text out.
+//! Writing a text to a writer.
 ghost use Rattle.std.specs.Prelude.{OnOk};
 ghost use Rattle.std.specs.Io.KnownBytes.{Appends};
 ghost use Rattle.streams.specs.Written.{WroteFront};
@@ -7,7 +7,7 @@ use crate::faults::ReportFault;
 use std::io::Write;
 use streams::send_all;
 
-/// Writes the text.
+/// Writes the whole text. After a fault a prefix of it was written.
 pub(crate) fn send<W: Write>(out: &mut W, text: &str) -> Result<(), ReportFault>
     ensures sent { OnOk result (Appends (W.contents out.old) (W.contents out.new) text.now) }
 

@@ -21,7 +21,7 @@ use saga_core::{Brief, Record, RowSource};
 use std::alloc::Global;
 use std::io::Write;
 
-/// Writes the stock report, and says how many cells it shows.
+/// Writes the stock report, and returns how many cells it shows.
 ///
 /// Its first line is a heading. Each cell has a line with its kind, supplier, product and night, its places that are
 /// allotted, held and free; the last line is `cells` and their number. The lines stand in the order of the rows.
@@ -47,7 +47,7 @@ pub fn stock_text<R: RowSource<(Cell, Held)>, W: Write>(
     send_report(alloc, heading(), rows, &Ending::Count("cells"), out)
 }
 
-/// Writes the report of unfinished journeys, and says how many there are.
+/// Writes the report of unfinished journeys, and returns how many there are.
 ///
 /// Each journey has a line with its number, its agent and where it is; the last line is `unfinished` and their number.
 /// The lines stand in the order of the rows.
@@ -73,7 +73,7 @@ pub fn unfinished_text<R: RowSource<Brief>, W: Write>(
     send_report(alloc, "", rows, &Ending::Count("unfinished"), out)
 }
 
-/// Writes the history of the journey of this number, and says how many items it has.
+/// Writes the history of the journey of this number, and returns how many items it has.
 ///
 /// Its lines are `journey` with the number and the agent, `plan` with the plan's line, `items` with each item, and
 /// `state` with where the journey is. The items stand in the order of the rows.
@@ -110,7 +110,7 @@ pub fn history_text<R: RowSource<Item>, W: Write>(
     )
 }
 
-/// Writes a report: its head, what is shown of each row, and its ending.
+/// Writes a report: its head, the text of each row, and its ending.
 fn send_report<T: Shown + Drop, R: RowSource<T>, W: Write>(
     alloc: Global,
     head: &str,

@@ -15,12 +15,12 @@ use saga_core::{Brief, RowSource};
 use std::alloc::{AllocError, Global};
 use std::io::Write;
 
-/// What is shown of a row.
+/// A row that has a text in a report.
 pub(crate) trait Shown {
-    /// The text that stands for it.
+    /// The text that represents the row.
     ghost shown: { Self → List ℕ };
 
-    /// That text.
+    /// That text. The only fault is out of memory.
     fn show(&self, alloc: Global) -> Result<String, AllocError>
         ensures text { IfOk result (λ text. string_bytes text ≡ shown self.now) };
 }
@@ -49,7 +49,7 @@ impl Shown for Item {
     }
 }
 
-/// Writes what is shown of each row, and says how many there were.
+/// Writes the text of each row, and returns how many there were.
 pub(crate) fn send_rows<T: Shown + Drop, R: RowSource<T>, W: Write>(
     alloc: Global,
     rows: &mut R,

@@ -1,4 +1,4 @@
-//! What no clause says: the texts, with values from outside, and what failing sources and writers leave.
+//! What no clause says: the texts, with values from outside, and what is written before a source or a writer fails.
 mod fakes;
 
 use crate::{ReportFault, history_text, stock_text, unfinished_text};
@@ -11,10 +11,10 @@ use savepoints::Marks;
 use std::alloc::{AllocError, Global};
 use std::process::Abort;
 
-/// What a report answers: how many rows it tells.
+/// What a report returns: how many rows it shows, or a fault.
 type Answer = Result<u64, ReportFault>;
 
-/// Stops the test where a report answered otherwise, or wrote something else.
+/// Stops the test where a report returned another value, or wrote something else.
 fn is_told(rt: &impl Abort, case: &str, answer: Answer, expected: Answer, out: &[u8], text: &[u8]) {
     assert!(rt; answer == expected && out == text, "{case}: {answer:?}");
 }
@@ -22,7 +22,7 @@ fn is_told(rt: &impl Abort, case: &str, answer: Answer, expected: Answer, out: &
 /// More than all that a test writes.
 const ROOM: usize = 1000;
 
-/// A writer that takes no more memory, so that none is wanting where a write would have to fail for it.
+/// A writer that allocates nothing more, so that no write is out of memory.
 fn with_room(rt: &impl Abort, alloc: Global) -> Vec<u8> {
     Vec::with_capacity(alloc, ROOM).expect(rt, "memory")
 }

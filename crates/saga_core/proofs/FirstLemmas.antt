@@ -10,7 +10,7 @@ use Rattle.commands.specs.declared.items.Phase.{Phase}
 use Rattle.ledger.specs.History.{phase, is_finished, is_open}
 use Rattle.ledger.specs.Ledger.{Event, Journey, journeys, journey_at, history, phase_of, is_in}
 use Rattle.ledger.proofs.Phases.{passing}
-use Rattle.saga_core.specs.Shown.{brief_of, brief_of_journey, first_unfinished, is_unfinished_above}
+use Rattle.saga_core.specs.Views.{brief_of, brief_of_journey, first_unfinished, is_unfinished_above}
 use Rattle.saga_core.specs.declared.records.Brief.{Brief}
 
 -- what a journey's brief tells: its number and its phase

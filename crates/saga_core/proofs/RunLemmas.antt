@@ -1,18 +1,19 @@
 -- What one more command does to a run. For run.
 use Rattle.std.proofs.Common.{◌≡◌, ℕ, ◌+◌, ◌<◌, List, [], ◌∷◌, ◌++◌, length, take, get_or, refl, ap, sym, ◌∙◌, subst, arith}
-use Rattle.std.proofs.lemmas.List.{take_more}
+use Rattle.std.proofs.lemmas.List.{take_more, get_or-map, length-map}
 use Rattle.std.specs.Prelude.{Option, Err}
-use Rattle.commands.specs.Asked.{Asked}
+use Rattle.commands.specs.Asks.{Asked}
 use Rattle.commands.specs.Orders.{request_of}
+use Rattle.commands.specs.Request.{Request}
 use Rattle.commands.specs.declared.faults.Fault.{Fault}
 use Rattle.commands.specs.declared.faults.Fault.TheVariants.{Memory, Store}
 use Rattle.commands.specs.declared.orders.Command.{Command}
 use Rattle.commands.specs.declared.replies.Reply.{Reply}
 use Rattle.ledger.specs.Answer.{State, Outcome, outcome}
 use Rattle.saga_core.specs.Books.{LeavesAtStore, KeepsAtMemory}
-use Rattle.saga_core.specs.Runs.{Asks, replies_to, state_after, outcome_of, StopsAmong}
+use Rattle.saga_core.specs.Runs.{Asks, asked_by, asks_of, replies_to, state_after, outcome_of, StopsAmong}
 
--- where some commands and then others lead is where the others lead from there
+-- where some asks and then others lead is where the others lead from there
 pub state_after-append : (s : State) (cs ds : Asks) → state_after s (cs ++ ds) ≡ state_after (state_after s cs) ds
 state_after-append s [] ds = refl
 state_after-append s (c ∷ cs) ds = state_after-append (outcome_of s c).state cs ds
@@ -24,47 +25,50 @@ replies_to-append s [] ds = refl
 replies_to-append s (c ∷ cs) ds =
     ap (λ rs. (outcome_of s c).reply ∷ rs) (replies_to-append (outcome_of s c).state cs ds)
 
--- a command stands at place i, and its ask was read as `ask`
-pub record IsAt (cs : Asks) (i : ℕ) (c : Command × Option Asked) (ask : Option Asked) : Type 0 where
+-- this is asked at place i
+pub record IsAt (cs : Asks) (i : ℕ) (c : Request × Option Asked) : Type 0 where
   pub within : i < length cs
   pub item : c ≡ get_or cs i c
-  pub asked : ask ≡ c.1
 
--- what the command at that place comes to, once those before it are carried out
-abbrev pub outcome_at : State → Asks → ℕ → Command × Option Asked → Option Asked → Outcome
-outcome_at s cs i c ask = outcome (state_after s (take i cs)) ask (request_of c.0)
+-- a command stands at place i, and its ask was read as `ask`
+pub is_at : (commands : List (Command × Option Asked)) (i : ℕ) (command : Command × Option Asked) (ask : Option Asked)
+    → i < length commands → command ≡ get_or commands i command → ask ≡ command.1
+    → IsAt (asks_of commands) i (request_of command.0, ask)
+is_at commands i command ask within item asked = record {
+  within = let longer = length-map commands asked_by in omega (arith, within, longer);
+  item = ap (λ a. (request_of command.0, a)) asked ∙ ap asked_by item
+      ∙ sym (get_or-map asked_by commands i command (request_of command.0, ask) within);
+}
 
--- the first i + 1 commands are the first i and that one
-took : {cs : Asks} {i : ℕ} {c : Command × Option Asked} {ask : Option Asked} → IsAt cs i c ask
-    → take (i + 1) cs ≡ take i cs ++ c ∷ []
+-- what is asked at that place comes to, once what is asked before it is carried out
+abbrev pub outcome_at : State → Asks → ℕ → Request × Option Asked → Outcome
+outcome_at s cs i c = outcome_of (state_after s (take i cs)) c
+
+-- the first i + 1 asks are the first i and that one
+pub took : {cs : Asks} {i : ℕ} {c : Request × Option Asked} → IsAt cs i c → take (i + 1) cs ≡ take i cs ++ c ∷ []
 took {cs} {i} {c} at = take_more cs i c at.within ∙ ap (λ x. take i cs ++ x ∷ []) (sym at.item)
 
 -- one more reply
-pub replies_to-more : {cs : Asks} {i : ℕ} {c : Command × Option Asked} {ask : Option Asked} (s : State)
-    → IsAt cs i c ask
-    → replies_to s (take (i + 1) cs) ≡ replies_to s (take i cs) ++ (outcome_at s cs i c ask).reply ∷ []
-replies_to-more {cs} {i} {c} {ask} s at =
-    ap (replies_to s) (took at) ∙ replies_to-append s (take i cs) (c ∷ [])
-    ∙ ap (λ a. replies_to s (take i cs) ++ (outcome_at s cs i c a).reply ∷ []) (sym at.asked)
+pub replies_to-more : {cs : Asks} {i : ℕ} {c : Request × Option Asked} (s : State) → IsAt cs i c
+    → replies_to s (take (i + 1) cs) ≡ replies_to s (take i cs) ++ (outcome_at s cs i c).reply ∷ []
+replies_to-more {cs} {i} {c} s at = ap (replies_to s) (took at) ∙ replies_to-append s (take i cs) (c ∷ [])
 
 -- one step further
-pub state_after-more : {cs : Asks} {i : ℕ} {c : Command × Option Asked} {ask : Option Asked} (s : State)
-    → IsAt cs i c ask → state_after s (take (i + 1) cs) ≡ (outcome_at s cs i c ask).state
-state_after-more {cs} {i} {c} {ask} s at =
-    ap (state_after s) (took at) ∙ state_after-append s (take i cs) (c ∷ [])
-    ∙ ap (λ a. (outcome_at s cs i c a).state) (sym at.asked)
+pub state_after-more : {cs : Asks} {i : ℕ} {c : Request × Option Asked} (s : State) → IsAt cs i c
+    → state_after s (take (i + 1) cs) ≡ (outcome_at s cs i c).state
+state_after-more {cs} {i} {c} s at = ap (state_after s) (took at) ∙ state_after-append s (take i cs) (c ∷ [])
 
--- the next command failed: at Memory the book stands where it stood, and at Store a stop leaves that or one step more
-pub stops : {cs : Asks} {i : ℕ} {c : Command × Option Asked} {ask : Option Asked}
+-- the next command failed: at Memory the book stands where it stood, and at Store a crash leaves that or one step more
+pub stops : {cs : Asks} {i : ℕ} {c : Request × Option Asked}
     (stood stands : State → Type 0) (leaves : State → State → Type 0)
-    (s : State) (replies : List Reply) (fault : Fault) → IsAt cs i c ask → replies ≡ replies_to s (take i cs)
+    (s : State) (replies : List Reply) (fault : Fault) → IsAt cs i c → replies ≡ replies_to s (take i cs)
     → stood (state_after s (take i cs))
     → KeepsAtMemory {T = Reply} stood stands (Err fault)
-    → LeavesAtStore stood leaves ask (request_of c.0) (Err fault)
+    → LeavesAtStore stood leaves c.1 c.0 (Err fault)
     → StopsAmong stands leaves s cs replies fault
-stops {cs} {i} {c} {ask} stood stands leaves s replies Memory at replied now memory store =
+stops {cs} {i} {c} stood stands leaves s replies Memory at replied now memory store =
     record { count = i; within = let h = at.within in omega arith; replied = replied; left = memory _ now }
-stops {cs} {i} {c} {ask} stood stands leaves s replies Store at replied now memory store =
+stops {cs} {i} {c} stood stands leaves s replies Store at replied now memory store =
     record {
       count = i;
       within = let h = at.within in omega arith;

@@ -1,20 +1,15 @@
--- How a world goes on with the commands of a run. For run, and for what else goes on: recovery, and the lines of an input.
-use Rattle.std.proofs.Common.{◌≡◌, ℕ, ◌+◌, true, false, List, [], ◌∷◌, ◌++◌, take, refl, ap, sym, ◌∙◌, subst, arith, IsTrue}
-use Rattle.std.proofs.lemmas.List.{take_more}
-use Rattle.std.proofs.lemmas.Option.{slice_get-get_or}
-use Rattle.std.specs.Prelude.{Option, Some, Err}
-use Rattle.commands.specs.Asked.{Asked}
-use Rattle.commands.specs.Orders.{request_of}
-use Rattle.commands.specs.declared.faults.Fault.{Fault}
-use Rattle.commands.specs.declared.faults.Fault.TheVariants.{Memory, Store}
-use Rattle.commands.specs.declared.orders.Command.{Command}
-use Rattle.commands.specs.declared.replies.Reply.{Reply}
+-- How a world goes on with asks. For run, and for what else goes on: recovery, lines and messages.
+use Rattle.std.proofs.Common.{◌≡◌, ℕ, ◌+◌, ◌≤◌, true, false, List, [], ◌∷◌, ◌++◌, length, take, drop, refl, ap, sym, ◌∙◌, subst, arith, append-nil, append_assoc, IsTrue}
+use Rattle.std.specs.Prelude.{Bool, Option, Err}
+use Rattle.commands.specs.Asks.{Asked}
+use Rattle.commands.specs.Request.{Request}
 use Rattle.ledger.specs.Answer.{State, start, outcome, is_request}
 use Rattle.ledger.specs.World.{Moment, Done, Cut, Reopened, after, GoesOn, IsWorld}
-use Rattle.saga_core.specs.Books.{LeavesAtStore, KeepsAtMemory}
-use Rattle.saga_core.specs.Runs.{Asks, replies_to, state_after, outcome_of}
-use Rattle.saga_core.specs.Worlds.{is_whole, dones, continued, cut_off, StandsAtEnd, EndsAmong, StoodAtEnd}
-use Rattle.saga_core.proofs.RunLemmas.{IsAt}
+use Rattle.saga_core.specs.Runs.{Asks, state_after, outcome_of}
+use Rattle.saga_core.specs.Worlds.{is_whole, dones, continued, cut_off, KeepLimits, Progress, StandsAtEnd, LeavesEnd, EndsWith, EndsAmong}
+use Rattle.saga_core.proofs.RunLemmas.{state_after-append}
+
+-- Moments.
 
 -- what comes after some moments and others comes after the others from there
 pub after-append : (s : State) (v w : List Moment) → after s (v ++ w) ≡ after (after s v) w
@@ -41,24 +36,36 @@ GoesOn-append s (Cut asked ask false ∷ Done a b r ∷ v) w goes whole then = l
 GoesOn-append s (Cut asked ask true ∷ Cut a b k ∷ v) w goes whole then = let e : false ≡ true = goes.1 in cc
 GoesOn-append s (Cut asked ask false ∷ Cut a b k ∷ v) w goes whole then = let e : false ≡ true = goes.1 in cc
 
--- each of the commands keeps the limits
-abbrev pub KeepLimits : Asks → Type 0
-KeepLimits [] = Unit {0}
-KeepLimits (c ∷ cs) = IsTrue (is_request (request_of c.0)) × KeepLimits cs
+-- whole moments and whole moments are whole
+pub is_whole-append : (v w : List Moment) → IsTrue (is_whole v) → IsTrue (is_whole w) → IsTrue (is_whole (v ++ w))
+is_whole-append [] w first second = second
+is_whole-append (Done asked ask reply ∷ v) w first second = is_whole-append v w first second
+is_whole-append (Reopened ∷ v) w first second = is_whole-append v w first second
+is_whole-append (Cut asked ask kept ∷ []) w first second = let e : false ≡ true = first in cc
+is_whole-append (Cut asked ask kept ∷ m ∷ v) w first second = is_whole-append (m ∷ v) w first second
 
-KeepLimits-append : (cs : Asks) (c : Command × Option Asked) → KeepLimits cs
-    → IsTrue (is_request (request_of c.0)) → KeepLimits (cs ++ c ∷ [])
-KeepLimits-append [] c all one = (one, tt)
-KeepLimits-append (d ∷ cs) c all one = (all.0, KeepLimits-append cs c all.1 one)
+-- what was answered is whole
+pub is_whole-dones : (s : State) (asks : Asks) → IsTrue (is_whole (dones s asks ++ []))
+is_whole-dones s [] = refl
+is_whole-dones s (c ∷ later) = is_whole-dones (outcome_of s c).state later
 
--- one more command that keeps them
-pub KeepLimits-more : {cs : Asks} {i : ℕ} {c : Command × Option Asked} {ask : Option Asked} → IsAt cs i c ask
-    → KeepLimits (take i cs) → IsTrue (is_request (request_of c.0)) → KeepLimits (take (i + 1) cs)
-KeepLimits-more {cs} {i} {c} at all one =
-    subst KeepLimits (sym (take_more cs i c at.within ∙ ap (λ x. take i cs ++ x ∷ []) (sym at.item)))
-    (KeepLimits-append (take i cs) c all one)
+-- Limits.
 
--- commands that are answered lead where they lead
+pub KeepLimits-append : (first second : Asks) → KeepLimits first → KeepLimits second → KeepLimits (first ++ second)
+KeepLimits-append [] second one two = two
+KeepLimits-append (c ∷ first) second one two = (one.0, KeepLimits-append first second one.1 two)
+
+pub KeepLimits-front : (answered later : Asks) → KeepLimits (answered ++ later) → KeepLimits answered
+KeepLimits-front [] later all = tt
+KeepLimits-front (c ∷ answered) later all = (all.0, KeepLimits-front answered later all.1)
+
+pub KeepLimits-rest : (answered later : Asks) → KeepLimits (answered ++ later) → KeepLimits later
+KeepLimits-rest [] later all = all
+KeepLimits-rest (c ∷ answered) later all = KeepLimits-rest answered later all.1
+
+-- Asks that are answered.
+
+-- they lead where they lead
 pub after-dones : (s : State) (cs : Asks) (last : List Moment)
     → after s (dones s cs ++ last) ≡ after (state_after s cs) last
 after-dones s [] last = refl
@@ -70,6 +77,27 @@ GoesOn-dones s [] last all then = then
 GoesOn-dones s (c ∷ cs) last all then =
     (λ made. all.0, refl, GoesOn-dones (outcome_of s c).state cs last all.1 then)
 
+-- The next one, if there is one, is cut off.
+
+-- it keeps the limits
+pub GoesOn-cut : (s : State) (next : Asks) (was_kept : Bool) → KeepLimits next → GoesOn s (cut_off next was_kept)
+GoesOn-cut s [] was_kept limits = tt
+GoesOn-cut s (c ∷ later) true limits = (λ made. limits.0, refl, tt)
+GoesOn-cut s (c ∷ later) false limits = (λ made. limits.0, refl, tt)
+
+-- nothing of it was kept
+after-lost : (s : State) (next : Asks) → after s (cut_off next false) ≡ s
+after-lost s [] = refl
+after-lost s (c ∷ later) = refl
+
+-- or all of it
+after-kept : (s : State) (next : Asks) → length next ≤ 1 → after s (cut_off next true) ≡ state_after s next
+after-kept s [] few = refl
+after-kept s (c ∷ []) few = refl
+after-kept s (c ∷ d ∷ later) few = absurd (omega arith)
+
+-- Worlds that go on.
+
 -- where the world that goes on ends
 pub after-continued : (w : List Moment) (cs : Asks) (last : List Moment)
     → after start (continued w cs last) ≡ after (state_after (after start w) cs) last
@@ -77,61 +105,105 @@ after-continued w cs last =
     after-append start w (dones (after start w) cs ++ last) ∙ after-dones (after start w) cs last
 
 -- it is a world
-IsWorld-continued : {stood : State → Type 0} (w : List Moment) (cs : Asks) (last : List Moment)
-    → StoodAtEnd stood w → KeepLimits cs → GoesOn (state_after (after start w) cs) last
-    → IsWorld (continued w cs last)
-IsWorld-continued w cs last here all then =
-    GoesOn-append start w (dones (after start w) cs ++ last) here.world here.whole
+pub IsWorld-continued : (w : List Moment) (cs : Asks) (last : List Moment) → IsWorld w → IsTrue (is_whole w)
+    → KeepLimits cs → GoesOn (state_after (after start w) cs) last → IsWorld (continued w cs last)
+IsWorld-continued w cs last world whole all then =
+    GoesOn-append start w (dones (after start w) cs ++ last) world whole
     (GoesOn-dones (after start w) cs last all then)
 
--- the book stands where the commands led
+-- the book stands where the asks led
 pub stands-continued : {stood : State → Type 0} (stands : State → Type 0) (w : List Moment) (cs : Asks)
-    → StoodAtEnd stood w → KeepLimits cs → stands (state_after (after start w) cs)
+    → StandsAtEnd stood w → KeepLimits cs → stands (state_after (after start w) cs)
     → StandsAtEnd stands (continued w cs [])
 stands-continued stands w cs here all now =
     record {
-      world = IsWorld-continued w cs [] here all tt;
+      world = IsWorld-continued w cs [] here.world here.whole all tt;
+      whole = is_whole-append w (dones (after start w) cs ++ []) here.whole (is_whole-dones (after start w) cs);
       stands_there = subst stands (sym (after-continued w cs [])) now;
     }
 
--- the next command failed
-pub ends-among : {cs : Asks} {i : ℕ} {c : Command × Option Asked} {ask : Option Asked} {stood : State → Type 0}
-    (stands : State → Type 0) (leaves : State → State → Type 0)
-    (before : State → Type 0) (w : List Moment) (replies : List Reply) (fault : Fault) → IsAt cs i c ask
-    → StoodAtEnd stood w → KeepLimits (take i cs) → IsTrue (is_request (request_of c.0))
-    → replies ≡ replies_to (after start w) (take i cs)
-    → before (state_after (after start w) (take i cs))
-    → KeepsAtMemory {T = Reply} before stands (Err fault)
-    → LeavesAtStore before leaves ask (request_of c.0) (Err fault)
-    → EndsAmong stands leaves w cs replies fault
-ends-among {cs} {i} {c} {ask} {stood} stands leaves before w replies Memory at here all one replied now memory store =
+-- a crash leaves where the answered asks led, or the next one too
+pub leaves-crashed : {stood : State → Type 0} (leaves : State → State → Type 0) (w : List Moment) (cs next : Asks)
+    → StandsAtEnd stood w → KeepLimits (cs ++ next) → length next ≤ 1
+    → leaves (state_after (after start w) cs) (state_after (after start w) (cs ++ next))
+    → LeavesEnd leaves (continued w cs (cut_off next false)) (continued w cs (cut_off next true))
+leaves-crashed leaves w cs next here all few left =
+    let s = after start w in
+    let t = state_after s cs in
+    let front = KeepLimits-front cs next all in
+    let rest = KeepLimits-rest cs next all in
+    let lost : after start (continued w cs (cut_off next false)) ≡ t =
+    after-continued w cs (cut_off next false) ∙ after-lost t next in
+    let kept : after start (continued w cs (cut_off next true)) ≡ state_after s (cs ++ next) =
+    after-continued w cs (cut_off next true) ∙ after-kept t next few ∙ sym (state_after-append s cs next) in
     record {
-      count = i;
-      within = let h = at.within in omega arith;
-      replied = replied;
-      ends = stands-continued stands w (take i cs) here all (memory _ now);
+      first = IsWorld-continued w cs (cut_off next false) here.world here.whole front (GoesOn-cut t next false rest);
+      second = IsWorld-continued w cs (cut_off next true) here.world here.whole front (GoesOn-cut t next true rest);
+      left = subst (λ u. leaves u (after start (continued w cs (cut_off next true)))) (sym lost)
+          (subst (leaves t) (sym kept) left);
     }
-ends-among {cs} {i} {c} {ask} {stood} stands leaves before w replies Store at here all one replied now memory store =
+
+-- How a run ends.
+
+-- a crash leaves just that
+pub leaves-just : {stood : State → Type 0} (stands : State → Type 0) (leaves : State → State → Type 0)
+    (w : List Moment) (asks : Asks) → ((u : State) → stands u → leaves u u)
+    → StandsAtEnd stood w → KeepLimits asks → stands (state_after (after start w) asks)
+    → LeavesEnd leaves (continued w asks []) (continued w asks [])
+leaves-just stands leaves w asks settled here limits now =
+    let ends = stands-continued stands w asks here limits now in
+    record { first = ends.world; second = ends.world; left = settled _ ends.stands_there }
+
+-- all asks were answered
+pub ends-with : {stood : State → Type 0} (stands : State → Type 0) (leaves : State → State → Type 0)
+    (w : List Moment) (asks : Asks) → ((u : State) → stands u → leaves u u)
+    → StandsAtEnd stood w → KeepLimits asks → stands (state_after (after start w) asks)
+    → EndsWith stands leaves w asks
+ends-with stands leaves w asks settled here limits now =
     record {
-      count = i;
-      within = let h = at.within in omega arith;
-      replied = replied;
-      ends = record {
-        next = c;
-        is_next = slice_get-get_or cs i c at.within ∙ ap Some (sym at.item);
-        ends = record {
-          first = IsWorld-continued w (take i cs) (cut_off c false) here all (λ made. one, refl, tt);
-          second = IsWorld-continued w (take i cs) (cut_off c true) here all (λ made. one, refl, tt);
-          left = cut-left leaves w (take i cs) c
-              (subst (λ (a : Option Asked). leaves (state_after (after start w) (take i cs)) (outcome (state_after (after start w) (take i cs)) a (request_of c.0)).state)
-              at.asked (store _ now));
-        };
+      limits = limits;
+      ends = stands-continued stands w asks here limits now;
+      left = leaves-just stands leaves w asks settled here limits now;
+    }
+
+-- a prefix of them was answered, and the book stands where it led
+abbrev pub ends-after : {stood : State → Type 0} (stands : State → Type 0) (leaves : State → State → Type 0)
+    (w : List Moment) (asks answered later : Asks) → ((u : State) → stands u → leaves u u)
+    → StandsAtEnd stood w → asks ≡ answered ++ later → KeepLimits answered
+    → stands (state_after (after start w) answered) → EndsAmong stands leaves w asks false
+ends-after stands leaves w asks answered later settled here front limits now =
+    record {
+      progress = record {
+        answered = answered;
+        under_way = [];
+        later = later;
+        in_order = front ∙ ap (λ l. l ++ later) (sym (append-nil answered));
+        at_most_one = omega arith;
+        limits = subst KeepLimits (sym (append-nil answered)) limits;
       };
+      few = omega arith;
+      ends = stands-continued stands w answered here limits now;
+      left = leaves-just stands leaves w answered settled here limits now;
     }
-  where
-    cut-left : (leaves : State → State → Type 0) (w : List Moment) (cs : Asks) (c : Command × Option Asked)
-        → leaves (state_after (after start w) cs) (outcome_of (state_after (after start w) cs) c).state
-        → leaves (after start (continued w cs (cut_off c false))) (after start (continued w cs (cut_off c true)))
-    cut-left leaves w cs c left =
-        subst (λ s. leaves s (after start (continued w cs (cut_off c true)))) (sym (after-continued w cs (cut_off c false)))
-        (subst (leaves (state_after (after start w) cs)) (sym (after-continued w cs (cut_off c true))) left)
+
+-- and the store failed at the next ones, which are at most one
+abbrev pub ends-cut : {stood : State → Type 0} (stands : State → Type 0) (leaves : State → State → Type 0)
+    (w : List Moment) (asks answered under_way later : Asks)
+    → StandsAtEnd stood w → asks ≡ answered ++ under_way ++ later → length under_way ≤ 1
+    → KeepLimits (answered ++ under_way)
+    → leaves (state_after (after start w) answered) (state_after (after start w) (answered ++ under_way))
+    → EndsAmong stands leaves w asks true
+ends-cut stands leaves w asks answered under_way later here front few limits left =
+    record {
+      progress = record {
+        answered = answered;
+        under_way = under_way;
+        later = later;
+        in_order = front;
+        at_most_one = few;
+        limits = limits;
+      };
+      few = few;
+      ends = tt;
+      left = leaves-crashed leaves w answered under_way here limits few left;
+    }

@@ -2,7 +2,7 @@
 -- `stood` and `stands` say for which states a book stood before a call, and for which it stands after it; `left` and
 -- `leaves` say of two states whether whatever a stop leaves stands for one of them.
 use Rattle.std.specs.Prelude.{◌≡◌, ⊤, Option, Result, Err, IfOk, OnOk}
-use Rattle.commands.specs.Asked.{Asked}
+use Rattle.commands.specs.Asks.{Asked}
 use Rattle.commands.specs.Request.{Request}
 use Rattle.commands.specs.declared.faults.Fault.{Fault}
 use Rattle.commands.specs.declared.faults.Fault.TheVariants.{Memory, Store}

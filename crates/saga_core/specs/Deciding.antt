@@ -2,15 +2,15 @@
 use Rattle.std.specs.Prelude.{◌≡◌, ℕ, ◌≤◌, ◌==◌, ◌&&◌, Bool, false, List, IsTrue}
 use Rattle.std.specs.FinSet as set
 use Rattle.std.specs.Ordering.{nat_cmp}
-use Rattle.plan.specs.Planned.{Planned, option_count}
+use Rattle.plan.specs.PlanModel.{Planned, option_count}
 use Rattle.commands.specs.declared.items.Cause.TheVariants.{Refused}
 use Rattle.commands.specs.declared.items.Cursor.{Cursor}
 use Rattle.commands.specs.declared.items.Item.{Item}
 use Rattle.commands.specs.declared.items.Item.TheVariants.{Transaction, Compensation, Turn}
 use Rattle.ledger.specs.History.{is_open, may_come}
 use Rattle.ledger.specs.Recovery.{is_forward}
-use Rattle.changes.specs.Cursors.{cursor_of, marks_of}
-use Rattle.changes.specs.Legal.{HasHistory}
+use Rattle.ledger_transitions.specs.Cursors.{cursor_of, marks_of}
+use Rattle.ledger_transitions.specs.Legal.{HasHistory}
 use Rattle.saga_core.specs.declared.deciding.Move.{Move}
 use Rattle.saga_core.specs.declared.deciding.Move.TheVariants as move
 

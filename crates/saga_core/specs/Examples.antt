@@ -3,7 +3,7 @@ use Rattle.std.specs.Prelude.{◌≡◌, ℕ, ◌+◌, List, [], ◌∷◌, ◌+
 use Rattle.std.specs.FinSet as set
 use Rattle.std.specs.FinSet.{contains-empty}
 use Rattle.std.specs.Ordering.{nat_cmp}
-use Rattle.plan.specs.Planned.{Planned}
+use Rattle.plan.specs.PlanModel.{Planned}
 use Rattle.savepoints.specs.declared.turns.Turn.TheVariants as turn
 use Rattle.commands.specs.Request.{Begin, Step}
 use Rattle.commands.specs.declared.items.Cause.TheVariants as cause
@@ -19,7 +19,7 @@ use Rattle.ledger.specs.Answer.{start}
 use Rattle.ledger.specs.Ledger.{Event}
 use Rattle.ledger.specs.Examples.{june, after_all, step, marked, untried, flight, load, row, row_after, nights_of}
 use Rattle.saga_core.specs.Rulings.{turn_said, save_said}
-use Rattle.saga_core.specs.Shown.{first_unfinished, places_shown}
+use Rattle.saga_core.specs.Views.{first_unfinished, places_shown}
 use Rattle.saga_core.specs.declared.records.Brief.{Brief}
 
 -- a journey at this position, in this phase, without refusals

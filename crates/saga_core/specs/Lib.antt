@@ -1,13 +1,10 @@
 pub mod Books
-pub mod Shown
+pub mod Views
 pub mod Runs
-pub mod MemoryStock
-pub mod MemoryAnswers
-pub mod MemoryJourneys
 pub mod RowSources
 pub mod Rulings
-pub mod MemoryNext
-pub mod Memory
 pub mod Worlds
+pub mod Chains
+pub mod ChainExamples
 pub mod Deciding
 pub mod Examples

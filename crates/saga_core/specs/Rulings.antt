@@ -2,7 +2,7 @@
 use Rattle.std.specs.Prelude.{◌&&◌, not, nat_lt, if◌then◌else◌, Result, Ok, Err}
 use Rattle.std.specs.FinSet as set
 use Rattle.std.specs.Ordering.{nat_cmp}
-use Rattle.plan.specs.Planned.{Planned}
+use Rattle.plan.specs.PlanModel.{Planned}
 use Rattle.savepoints.specs.Marks.{is_taken_in}
 use Rattle.savepoints.specs.Rules as rules
 use Rattle.savepoints.specs.Turns.{turn_target, may_be_made}
@@ -14,7 +14,7 @@ use Rattle.commands.specs.declared.items.Item.TheVariants as item
 use Rattle.commands.specs.declared.refusals.Refusal.{Refusal}
 use Rattle.commands.specs.declared.refusals.Refusal.TheVariants.{Finished, NoSavePoint, NoSave}
 use Rattle.ledger.specs.History.{is_running, is_finished}
-use Rattle.changes.specs.Changed.{target_of}
+use Rattle.ledger_transitions.specs.JourneyChanges.{target_of}
 
 -- a turn that may be made leads to its target
 abbrev pub turn_said : Planned → Cursor → set.FinSet nat_cmp → Turn → Cause → Result Item Refusal

@@ -1,14 +1,13 @@
--- What a run of commands leaves, as a world that goes on. A world may end at a stop, and goes on then after a reopening.
-use Rattle.std.specs.Prelude.{◌≡◌, ℕ, ◌≤◌, Bool, true, false, List, [], ◌∷◌, ◌++◌, take, length, slice_get, Option, Some, IsTrue}
-use Rattle.commands.specs.Asked.{Asked}
-use Rattle.commands.specs.Orders.{request_of}
-use Rattle.commands.specs.declared.orders.Command.{Command}
+-- Where a run of asks leaves a world. A world may end at a crash, and goes on then after a reopening.
+use Rattle.std.specs.Prelude.{◌≡◌, ⊤, ℕ, ◌≤◌, Bool, true, false, List, [], ◌∷◌, ◌++◌, length, IsTrue}
 use Rattle.commands.specs.declared.faults.Fault.{Fault}
 use Rattle.commands.specs.declared.faults.Fault.TheVariants.{Memory, Store}
 use Rattle.commands.specs.declared.replies.Reply.{Reply}
-use Rattle.ledger.specs.Answer.{State, start}
+use Rattle.ledger.specs.Answer.{State, start, is_request}
 use Rattle.ledger.specs.World.{Moment, Done, Cut, Reopened, after, IsWorld}
 use Rattle.saga_core.specs.Runs.{Asks, outcome_of, replies_to}
+
+-- Moments.
 
 -- the last of these, if any, is not cut off
 abbrev pub is_whole : List Moment → Bool
@@ -18,64 +17,104 @@ is_whole (Reopened ∷ later) = is_whole later
 is_whole (Cut asked ask was_kept ∷ []) = false
 is_whole (Cut asked ask was_kept ∷ m ∷ later) = is_whole (m ∷ later)
 
--- these commands, each answered as it should be
+-- these asks, each answered as it should be
 abbrev pub dones : State → Asks → List Moment
 dones s [] = []
-dones s (c ∷ cs) =
-    Done (request_of c.0) c.1 (outcome_of s c).reply ∷ dones (outcome_of s c).state cs
+dones s (c ∷ cs) = Done c.0 c.1 (outcome_of s c).reply ∷ dones (outcome_of s c).state cs
 
--- the world goes on with these commands, each answered, and then with these moments
+-- the world goes on with these asks, each answered, and then with these moments
 abbrev pub continued : List Moment → Asks → List Moment → List Moment
-continued w commands last = w ++ (dones (after start w) commands ++ last)
+continued w asks last = w ++ (dones (after start w) asks ++ last)
 
--- the command is cut off by a stop
-abbrev pub cut_off : Command × Option Asked → Bool → List Moment
-cut_off c was_kept = Cut (request_of c.0) c.1 was_kept ∷ []
+-- the first of these asks, if there is one, is cut off by a crash: nothing of it was kept, or all
+abbrev pub cut_off : Asks → Bool → List Moment
+cut_off [] was_kept = []
+cut_off (c ∷ later) was_kept = Cut c.0 c.1 was_kept ∷ []
 
--- this is a world, and the book stands for its end
+-- each of the asks keeps the limits
+abbrev pub KeepLimits : Asks → Type 0
+KeepLimits [] = Unit {0}
+KeepLimits (c ∷ cs) = IsTrue (is_request c.0) × KeepLimits cs
+
+-- How far a run has come.
+
+-- the asks, in order: those that were answered, at most one that is under way, and the later ones
+pub record Progress (asks : Asks) : Type 0 where
+  pub answered : Asks
+  pub under_way : Asks
+  pub later : Asks
+  pub in_order : asks ≡ answered ++ under_way ++ later
+  pub at_most_one : length under_way ≤ 1
+  -- those that were answered or are under way keep the limits
+  pub limits : KeepLimits (answered ++ under_way)
+
+-- the world goes on with what was answered, and then a crash cuts off what is under way
+abbrev pub crashed : {asks : Asks} → List Moment → Progress asks → Bool → List Moment
+crashed w progress was_kept = continued w progress.answered (cut_off progress.under_way was_kept)
+
+-- Where the book is then.
+
+-- this is a world whose last moment is not cut off, and the book stands for its end
 pub record StandsAtEnd (stands : State → Type 0) (w : List Moment) : Type 0 where
   pub world : IsWorld w
+  pub whole : IsTrue (is_whole w)
   pub stands_there : stands (after start w)
 
--- both of these are worlds, and whatever a stop leaves stands for the end of one of them
+-- both of these are worlds, and whatever a crash leaves stands for the end of one of them
 pub record LeavesEnd (leaves : State → State → Type 0) (v w : List Moment) : Type 0 where
   pub first : IsWorld v
   pub second : IsWorld w
   pub left : leaves (after start v) (after start w)
 
--- the store failed at the next command: nothing of it was kept, or all of it
-pub record CutsNext (leaves : State → State → Type 0) (w : List Moment) (commands : Asks) (count : ℕ) : Type 0 where
-  pub next : Command × Option Asked
-  pub is_next : slice_get commands count ≡ Some next
-  pub ends : LeavesEnd leaves (continued w (take count commands) (cut_off next false))
-      (continued w (take count commands) (cut_off next true))
+-- all of the asks were answered: the book stands for the end of the world that went on with them, and a crash leaves
+-- just that
+pub record EndsWith (stands : State → Type 0) (leaves : State → State → Type 0) (w : List Moment) (asks : Asks)
+    : Type 0 where
+  pub limits : KeepLimits asks
+  pub ends : StandsAtEnd stands (continued w asks [])
+  pub left : LeavesEnd leaves (continued w asks []) (continued w asks [])
 
--- where a world ends once so many commands were answered: there at Memory, and at Store with the next one cut off
-abbrev pub EndsAt : (State → Type 0) → (State → State → Type 0) → List Moment → Asks → ℕ → Fault → Type 0
-EndsAt stands leaves w commands count Memory =
-    StandsAtEnd stands (continued w (take count commands) [])
-EndsAt stands leaves w commands count Store = CutsNext leaves w commands count
+-- unless the store failed, the book stands for the end of the world
+abbrev pub StandsUnless : Bool → (State → Type 0) → List Moment → Type 0
+StandsUnless true stands w = ⊤
+StandsUnless false stands w = StandsAtEnd stands w
 
--- a front of the commands was answered, and the world ends with it, or with the next one cut off
-pub record EndsAmong (stands : State → Type 0) (leaves : State → State → Type 0) (w : List Moment) (commands : Asks) (replies : List Reply) (fault : Fault) : Type 0 where
-  pub count : ℕ
-  pub within : count ≤ length commands
-  pub replied : replies ≡ replies_to (after start w) (take count commands)
-  pub ends : EndsAt stands leaves w commands count fault
+-- how many asks may be under way when a run ends
+abbrev pub most_under_way : Bool → ℕ
+most_under_way true = 1
+most_under_way false = 0
 
--- the book stood for the end of a world, whose last moment is not cut off
-pub record StoodAtEnd (stood : State → Type 0) (w : List Moment) : Type 0 where
-  pub world : IsWorld w
-  pub whole : IsTrue (is_whole w)
-  pub stood_there : stood (after start w)
+-- A prefix of the asks was answered, and where the store failed the next one may be under way. Whatever a crash leaves
+-- stands for the end of the world that went on with that prefix, and with the next one cut off.
+pub record EndsAmong (stands : State → Type 0) (leaves : State → State → Type 0) (w : List Moment) (asks : Asks)
+    (store_failed : Bool) : Type 0 where
+  pub progress : Progress asks
+  pub few : length progress.under_way ≤ most_under_way store_failed
+  pub ends : StandsUnless store_failed stands (continued w progress.answered [])
+  pub left : LeavesEnd leaves (crashed w progress false) (crashed w progress true)
 
--- each world at whose end the book stood goes on with all the commands
-abbrev pub GoesOnWith : (State → Type 0) → (State → Type 0) → Asks → Type 0
-GoesOnWith stood stands commands =
-    (w : List Moment) → StoodAtEnd stood w → StandsAtEnd stands (continued w commands [])
+-- Runs.
 
--- each world at whose end the book stood goes on with a front of the commands
+-- each world at whose end the book stood goes on with all of the asks
+abbrev pub GoesOnWith : (State → Type 0) → (State → Type 0) → (State → State → Type 0) → Asks → Type 0
+GoesOnWith stood stands leaves asks =
+    (w : List Moment) → StandsAtEnd stood w → EndsWith stands leaves w asks
+
+-- the fault is one of the store
+abbrev pub is_store : Fault → Bool
+is_store Store = true
+is_store Memory = false
+
+-- a run ended among its asks: the replies are those to the asks that were answered, and where the store failed the next
+-- one was under way
+pub record RunEndsAmong (stands : State → Type 0) (leaves : State → State → Type 0) (w : List Moment) (asks : Asks)
+    (replies : List Reply) (fault : Fault) : Type 0 where
+  pub among : EndsAmong stands leaves w asks (is_store fault)
+  pub replied : replies ≡ replies_to (after start w) among.progress.answered
+  pub failed_at : length among.progress.under_way ≡ most_under_way (is_store fault)
+
+-- each world at whose end the book stood goes on with a prefix of the asks
 abbrev pub GoesOnAmong : (State → Type 0) → (State → Type 0) → (State → State → Type 0) → Asks
     → List Reply → Fault → Type 0
-GoesOnAmong stood stands leaves commands replies fault =
-    (w : List Moment) → StoodAtEnd stood w → EndsAmong stands leaves w commands replies fault
+GoesOnAmong stood stands leaves asks replies fault =
+    (w : List Moment) → StandsAtEnd stood w → RunEndsAmong stands leaves w asks replies fault

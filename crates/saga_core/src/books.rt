@@ -9,7 +9,7 @@ ghost use Rattle.commands.specs.Orders.{request_of};
 ghost use Rattle.ledger.specs.Ledger.{IsLegal, history};
 ghost use Rattle.ledger.specs.Answer.{State};
 ghost use Rattle.saga_core.specs.Books.{Replies, MovesOn, KeepsAtMemory, Keeps, Shows, LeavesJust, LeavesNoMore, LeavesAtStore};
-ghost use Rattle.saga_core.specs.Shown.{record_of, first_unfinished, ShowsCells, IsStock};
+ghost use Rattle.saga_core.specs.Views.{record_of, first_unfinished, ShowsCells, IsStock};
 
 use crate::records::{Brief, Record};
 use allotment::{Cell, Held, Night, Want};

@@ -3,7 +3,7 @@
 //! It is decided by where the journey is, the save-points that it took, and whether its next want fits. Nothing here
 //! allocates.
 ghost use Rattle.std.specs.Prelude.{◌≡◌, ℕ, ◌+◌, ◌<◌, ◌↔◌, IsTrue, IsFalse};
-ghost use Rattle.plan.specs.Planned.{step_count};
+ghost use Rattle.plan.specs.PlanModel.{step_count};
 ghost use Rattle.ledger.specs.History.{is_finished};
 ghost use Rattle.savepoints.specs.Marks.{is_taken_in};
 ghost use Rattle.savepoints.specs.Rules as rules;

@@ -6,13 +6,11 @@
 
 mod books;
 mod deciding;
-mod memory;
+mod laws;
 mod records;
 mod row_sources;
 mod rulings;
 mod runs;
-#[cfg(test)]
-mod tests;
 
 pub use books::Book;
 pub use commands::{
@@ -20,8 +18,8 @@ pub use commands::{
     Refusal, Reply,
 };
 pub use deciding::{Move, decide};
+pub use laws::{chains, session_that_crashes};
 pub use ledger;
-pub use memory::MemBook;
 pub use records::{Brief, Record};
 pub use row_sources::{Listed, RowSource};
 pub use rulings::{going, is_finished, is_running, saved, turned};

@@ -2,9 +2,9 @@
 //!
 //! It is ruled by where the journey is and by the save-points that it took. Nothing here allocates.
 ghost use Rattle.std.specs.Prelude.{◌≡◌, ℕ, ◌<◌, IsTrue};
-ghost use Rattle.plan.specs.Planned.{step_count};
+ghost use Rattle.plan.specs.PlanModel.{step_count};
 ghost use Rattle.ledger.specs.History as h;
-ghost use Rattle.changes.specs.Changed.{target_of};
+ghost use Rattle.ledger_transitions.specs.JourneyChanges.{target_of};
 ghost use Rattle.saga_core.specs.Rulings.{turn_said, save_said};
 
 use commands::{Cause, Cursor, Item, Phase, Refusal};

@@ -2,7 +2,8 @@
 ghost use Rattle.std.specs.Prelude.{◌≡◌, IfOk, OnOk, IfErr, IsTrue};
 ghost use Rattle.commands.specs.Orders.{request_of};
 ghost use Rattle.ledger.specs.Answer.{is_request};
-ghost use Rattle.saga_core.specs.Runs.{AreReplies, MovesOnBy, Stops};
+ghost use Rattle.saga_core.specs.Books.{LeavesNoMore};
+ghost use Rattle.saga_core.specs.Runs.{AreReplies, MovesOnBy, Stops, asks_of};
 ghost use Rattle.saga_core.specs.Worlds.{GoesOnWith, GoesOnAmong};
 
 use crate::books::Book;
@@ -31,19 +32,22 @@ pub fn run<B: Book>(
     commands: &[(Command, Option<Ask>)],
 ) -> Result<Vec<Reply>, (Vec<Reply>, Fault)>
     ensures replies { B.is_sound book.new →
-        IfOk result (λ replies. AreReplies (B.stands book.old) commands.now replies.items) }
+        IfOk result (λ replies. AreReplies (B.stands book.old) (asks_of commands.now) replies.items) }
     ensures after { B.is_sound book.new →
-        OnOk result (MovesOnBy (B.stands book.old) (B.stands book.new) commands.now) }
+        OnOk result (MovesOnBy (B.stands book.old) (B.stands book.new) (asks_of commands.now)) }
 
-    ensures fault { B.is_sound book.new → IfErr result (λ e.
-        Stops (B.stands book.old) (B.stands book.new) (B.leaves book.new) commands.now e.0.items e.1) }
+    ensures fault { B.is_sound book.new → IfErr result (λ e. Stops
+        (B.stands book.old) (B.stands book.new) (B.leaves book.new) (asks_of commands.now) e.0.items e.1) }
     ensures failed { IfErr result (λ e. e.1 ≡ Fault.Store → IsTrue (B.has_failed book.new)) }
 
-    ensures world { B.is_sound book.new →
-        OnOk result (GoesOnWith (B.stands book.old) (B.stands book.new) commands.now) }
-    ensures world_at_fault { B.is_sound book.new → IfErr result (λ e.
-        GoesOnAmong (B.stands book.old) (B.stands book.new) (B.leaves book.new) commands.now e.0.items e.1) }
+    ensures world { B.is_sound book.new → OnOk result
+        (GoesOnWith (B.stands book.old) (B.stands book.new) (B.leaves book.new) (asks_of commands.now)) }
+    ensures world_at_fault { B.is_sound book.new → IfErr result (λ e. GoesOnAmong
+        (B.stands book.old) (B.stands book.new) (B.leaves book.new) (asks_of commands.now) e.0.items e.1) }
 
+    ensures stays_failed { IsTrue (B.has_failed book.old) → IsTrue (B.has_failed book.new) }
+    ensures stays_left { IsTrue (B.has_failed book.old) →
+        LeavesNoMore (B.leaves book.old) (B.leaves book.new) }
     ensures sound { B.is_sound book.new → B.is_sound book.old }
 {
     let mut replies = match Vec::with_capacity(alloc, commands.len()) {

@@ -8,11 +8,11 @@ use Rattle.plan.specs.Limits.{most_steps}
 use Rattle.savepoints.specs.Marks.{is_taken_in, last_mark, AreInRange}
 use Rattle.savepoints.specs.Flags.{is_flagged, flagged, AreFlags, is_taken_in-flagged}
 
--- flags that are given false alike stand nowhere
+-- where all flags are false, none stands
 is_flagged-replicate : (p : ℕ) → is_flagged (replicate most_steps false) p ≡ false
 is_flagged-replicate p = grind (arith, get_or_past, get_or-replicate)
 
--- with no flag the set is empty
+-- where no flag stands, the set is empty
 pub is_taken_in-replicate : (p : ℕ) → is_taken_in (flagged (replicate most_steps false)) p ≡ false
 is_taken_in-replicate p =
     is_taken_in-flagged _ p (record { whole = refl; start = refl }) ∙ is_flagged-replicate p
@@ -55,7 +55,7 @@ in_range :
     → is_between 1 last_mark p ≡ true
 in_range flags p kept stands = grind (arith, nat_tests, get_or_past, kept.whole, kept.start)
 
--- so the set has positions from 1 to the last mark alone
+-- the set has only positions from 1 to the last mark
 pub AreInRange-flagged : (flags : List Bool) → AreFlags flags → AreInRange (flagged flags)
 AreInRange-flagged flags kept = λ p taken.
     in_range flags p kept (sym (is_taken_in-flagged flags p kept) ∙ taken)
@@ -90,7 +90,7 @@ IsCut-more old now pos i below cut = record {
   kept = λ q. flag_more old now pos i q (omega (arith, cut.whole)) (cut.kept i) (cut.kept q);
 }
 
--- what is cut keeps all its flags, and none at 0
+-- cutting keeps the number of flags, and none at 0
 pub AreFlags-cut :
     (old now : List Bool) (pos i : ℕ) → AreFlags old → IsCut old now pos i → AreFlags now
 AreFlags-cut old now pos i good cut = record {

@@ -1,16 +1,16 @@
--- The greatest of the numbers that pass: it passes too, unless it is 0, and none above it does. For last_save.
+-- The greatest of the numbers that pass: it passes or is 0, and none above it passes. For last_save.
 use Rattle.std.proofs.Common.{◌≡◌, ℕ, zero, suc, ◌+◌, ◌≤◌, ◌<◌, ◌==◌, ◌||◌, Bool, true, false, cond, List, [], ◌∷◌, max, IsTrue, refl, sym, subst, ap, ◌∙◌, inl, inr, arith}
 use Rattle.std.specs.List.{filter}
 use Rattle.std.specs.Ordering.{nat_cmp}
 use Rattle.std.specs.FinSet as set
 use Rattle.std.proofs.lemmas.Bool.{cases_lt, or_right}
 use Rattle.allotment.specs.Cells.{numbers_from}
-use Rattle.plan.specs.Planned.{Planned, step_count}
+use Rattle.plan.specs.PlanModel.{Planned, step_count}
 use Rattle.savepoints.specs.Marks.{is_taken_in}
 use Rattle.savepoints.specs.Rules.{greatest, is_save_point, last_save}
 use Rattle.savepoints.specs.Turns.{IsLanding, IsNoneAbove}
 
--- the greater of two numbers that land lands
+-- if two numbers are 0 or pass, so is the greater one
 max_lands :
     (passes : ℕ → Bool) (p q : ℕ)
     → passes p ≡ true
@@ -39,7 +39,7 @@ greatest_lands passes (p ∷ ps) =
       | false ↦ λ failed. greatest_lands passes ps
     ] refl
 
--- a number in front does not lower the greatest
+-- one more number does not lower the greatest
 le-greatest :
     (b : Bool) (p q : ℕ) (others : List ℕ)
     → q ≤ greatest others
@@ -47,7 +47,7 @@ le-greatest :
 le-greatest true p q others below = omega arith
 le-greatest false p q others below = below
 
--- and is no greater itself, where it passes
+-- a number that passes is at most the greatest
 first_le-greatest :
     (b : Bool) (p : ℕ) (others : List ℕ) → b ≡ true → p ≤ greatest (cond b (p ∷ others) others)
 first_le-greatest true p others passed = omega arith
@@ -71,7 +71,7 @@ passing_le-greatest passes first (suc more) p low high passed =
           omega (arith, first_le-greatest (passes first) first later (ap passes same ∙ passed))
     ]
 
--- so the last save-point is the start or stands
+-- the last save-point is the start, or a save-point stands there
 pub last_save-lands :
     (plan : Planned) (marks : set.FinSet nat_cmp) (pos p : ℕ)
     → p ≡ last_save plan (is_taken_in marks) pos
@@ -80,7 +80,7 @@ last_save-lands plan marks pos p is =
     subst (IsLanding plan marks pos) (sym is)
     (greatest_lands (is_save_point plan (is_taken_in marks) pos) _)
 
--- and none stands above it
+-- no save-point stands above the last save-point
 pub last_save-none_above :
     (plan : Planned) (marks : set.FinSet nat_cmp) (pos p : ℕ)
     → p ≡ last_save plan (is_taken_in marks) pos

@@ -3,7 +3,7 @@ use Rattle.std.proofs.Common.{◌≡◌, ℕ, zero, suc, ◌≤◌, ◌<◌, tru
 use Rattle.std.specs.Prelude.{slice_get, unwrap_or, option_map}
 use Rattle.std.specs.List.{list_all}
 use Rattle.std.proofs.lemmas.Bool.{and_parts, leb-true}
-use Rattle.plan.specs.Planned.{Planned, StepPlan, is_plan, is_step, step_count, option_count}
+use Rattle.plan.specs.PlanModel.{Planned, StepPlan, is_plan, is_step, step_count, option_count}
 
 -- each step of a list of good steps has an option
 has_option :

@@ -8,7 +8,7 @@ use Rattle.savepoints.specs.Rules.{greatest}
 unfoldable pub last_up_to : (ℕ → Bool) → ℕ → ℕ
 last_up_to passes n = greatest (filter passes (numbers_from 1 n))
 
--- the greatest of a list with one more number in front, if that passes
+-- the greatest of a list with one more number at its head, if that passes
 pub greatest-front :
     (b : Bool) (p : ℕ) (others : List ℕ)
     → greatest (cond b (p ∷ others) others) ≡ cond b (max p (greatest others)) (greatest others)

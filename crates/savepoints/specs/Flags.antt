@@ -1,5 +1,4 @@
--- A set of positions as it is kept: as many flags in a row as a plan may have steps, one for each
--- position from 0 on.
+-- A set of positions as it is stored: one flag for each position from 0 on, as many flags as a plan may have steps.
 use Rattle.std.specs.Prelude.{◌≡◌, ℕ, ◌+◌, ◌==◌, ◌&&◌, ◌||◌, zero, suc, Bool, true, false, cond, List, ◌∷◌, length, map, nat_le, nat_lt, slice_index_or, refl}
 use Rattle.std.specs.List.{range_with_len, list_any, filter}
 use Rattle.std.specs.Ordering.{nat_cmp}
@@ -35,7 +34,7 @@ none_between :
     → false ≡ (nat_le first p && nat_lt p (first + 0) && passes p)
 none_between passes first p = grind (arith, nat_tests)
 
--- the first number passes, so it is the first member
+-- where the first number passes, it is the first member
 first_passes :
     (passes : ℕ → Bool) (first more p : ℕ) (rest : Bool)
     → passes first ≡ true
@@ -43,7 +42,7 @@ first_passes :
     → ((first == p) || rest) ≡ (nat_le first p && nat_lt p (first + suc more) && passes p)
 first_passes passes first more p rest passed is = grind (arith, nat_tests)
 
--- the first number does not pass, so the members are among the others
+-- where the first number fails, the members are among the others
 first_fails :
     (passes : ℕ → Bool) (first more p : ℕ) (rest : Bool)
     → passes first ≡ false
@@ -51,7 +50,7 @@ first_fails :
     → rest ≡ (nat_le first p && nat_lt p (first + suc more) && passes p)
 first_fails passes first more p rest failed is = grind (arith, nat_tests)
 
--- of so many numbers in a row those that pass are the members, and no others
+-- of so many consecutive numbers those that pass are the members, and no others
 list_any-filter :
     (passes : ℕ → Bool) (first more p : ℕ)
     → list_any (λ q. q == p) (filter passes (range_with_len first more))
@@ -85,7 +84,7 @@ is_taken_in-flagged flags p kept =
     ∙ list_any-filter (is_flagged flags) 0 most_steps p
     ∙ below_last flags p kept.whole
 
--- the flags of the set of these flags are these
+-- the flags of the set that flags represent are these flags
 pub flags_of-flagged : (flags : List Bool) → AreFlags flags → flags_of (flagged flags) ≡ flags
 unfolding flags_of
 flags_of-flagged flags kept =

@@ -7,7 +7,7 @@ use Rattle.std.specs.FinSet.{same_set, nat_cmp-IsAntisymmetric}
 use Rattle.allotment.specs.Limits.{is_between}
 use Rattle.plan.specs.Limits.{most_steps}
 
--- the last position at which a save-point may be taken: there is none behind the last step
+-- the last position at which a save-point may be taken: none is taken after the last step
 abbrev pub last_mark : ℕ
 last_mark = most_steps - 1
 
@@ -19,7 +19,7 @@ is_taken_in marks p = set.contains marks p
 abbrev pub AreInRange : set.FinSet nat_cmp → Type 0
 AreInRange marks = (p : ℕ) → IsTrue (is_taken_in marks p) → IsTrue (is_between 1 last_mark p)
 
--- two sets with the same members are one
+-- two sets with the same members are equal
 pub same_marks :
     (marks others : set.FinSet nat_cmp)
     → ((p : ℕ) → is_taken_in marks p ≡ is_taken_in others p)

@@ -3,7 +3,7 @@
 use Rattle.std.specs.Prelude.{ℕ, ◌+◌, ◌==◌, ◌&&◌, ◌||◌, Bool, true, List, [], ◌∷◌, max, min, nat_lt, nat_le, if◌then◌else◌, filter, Option, Some, None}
 use Rattle.allotment.specs.Want.{Wanted}
 use Rattle.allotment.specs.Cells.{numbers_from}
-use Rattle.plan.specs.Planned.{Planned, is_marked_at, option_count, want_at, step_count}
+use Rattle.plan.specs.PlanModel.{Planned, is_marked_at, option_count, want_at, step_count}
 
 -- Save-points.
 
@@ -37,16 +37,16 @@ next_want plan pos used = want_at plan (pos + 1) (next_option plan pos used)
 
 -- Turns.
 
--- where a refused step leads: to the last save-point while there are tries left, else to the beginning
+-- where a refused step leads: to the last save-point while there are tries left, else to the start
 abbrev pub refused_target : Planned → (ℕ → Bool) → ℕ → ℕ → ℕ
 refused_target plan taken pos used = if nat_lt used plan.tries then last_save plan taken pos else 0
 
--- a journey that is going back to q may only be sent below q; one that is running, to any position
+-- a journey that is going back to q may only be sent below q; a running one, to any position
 abbrev pub is_below_going : Option ℕ → ℕ → Bool
 is_below_going None p = true
 is_below_going (Some q) p = nat_lt p q
 
--- one who asks may turn the journey back to p: to the beginning or a save-point, below where it is going
+-- a caller may turn the journey back to p: to the start or a save-point, below where it is going
 abbrev pub may_turn : Planned → (ℕ → Bool) → ℕ → Option ℕ → ℕ → Bool
 may_turn plan taken pos going p =
     ((p == 0) || is_save_point plan taken pos p) && is_below_going going p

@@ -2,7 +2,7 @@
 use Rattle.std.specs.Prelude.{◌≡◌, ℕ, ◌≤◌, ◌==◌, ◌||◌, Bool, true, false, IsTrue, IsFalse, Option, Some, None}
 use Rattle.std.specs.Ordering.{nat_cmp}
 use Rattle.std.specs.FinSet as set
-use Rattle.plan.specs.Planned.{Planned, step_count}
+use Rattle.plan.specs.PlanModel.{Planned, step_count}
 use Rattle.savepoints.specs.Marks.{is_taken_in}
 use Rattle.savepoints.specs.Rules.{is_save_point, last_save, refused_target, may_turn}
 use Rattle.savepoints.specs.declared.turns.Turn.{Turn}
@@ -14,7 +14,7 @@ turn_target plan taken pos used Stop = last_save plan taken pos
 turn_target plan taken pos used Refused = refused_target plan taken pos used
 turn_target plan taken pos used (Asked p) = p
 
--- a turn may be made: a stop and a refusal while the journey is not going back, an asked one to where it may turn
+-- a turn may be made: after a stop or a refusal if the journey is not going back, on request if it may turn there
 abbrev pub may_be_made : Planned → (ℕ → Bool) → ℕ → Option ℕ → Turn → Bool
 may_be_made plan taken pos going (Asked p) = may_turn plan taken pos going p
 may_be_made plan taken pos None turn = true

@@ -1,7 +1,7 @@
 //! Where a journey turns, and which option its next step takes.
 //!
-//! Each call answers just what the rules of journeys say, from the plan, the save-points that were taken, the position
-//! and how often a step was refused. Nothing here allocates, and each call answers under its conditions.
+//! Each call computes what the rules of journeys say, from the plan, the save-points that were taken, the position and
+//! how often a step was refused. Nothing here allocates, and no call can fail under its preconditions.
 //!
 //! Words: a *position* is how many steps stand; a *save-point* stands at a marked position that was reached, or where
 //! one was taken while the journey ran; a *turn* sends a journey back to its *target*.

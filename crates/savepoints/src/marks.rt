@@ -1,11 +1,11 @@
-//! Save-points that were taken while a journey ran, as one small value.
+//! Save-points that were taken while a journey ran, as one small value that is copied.
 ghost use Rattle.std.specs.Prelude.{◌≡◌, ℕ, ◌≤◌, ◌==◌, ◌&&◌, ◌||◌, false, nat_le};
 ghost use Rattle.savepoints.specs.Marks.{is_taken_in, last_mark, AreInRange};
 
 use plan::MOST_STEPS;
 use std::marker::Model;
 
-/// The last position at which a save-point may be taken: there is none behind the last step.
+/// The last position at which a save-point may be taken: none is taken after the last step.
 pub const LAST_MARK: usize = MOST_STEPS - 1;
 
 /// The positions from 1 to `LAST_MARK` at which save-points were taken while a journey ran. To a contract it is their set.
@@ -36,7 +36,7 @@ impl Model for Marks {
 }
 
 impl Marks {
-    /// No save-point was taken.
+    /// The empty set: no save-point was taken.
     pub fn none() -> Marks
         ensures empty { (p : ℕ) → is_taken_in result p ≡ false }
     {
@@ -53,7 +53,7 @@ impl Marks {
         self.taken.get(p).copied().unwrap_or(false)
     }
 
-    /// Takes a save-point at this position, 1 to `LAST_MARK`.
+    /// Takes a save-point at this position, 1 to `LAST_MARK`. Idempotent.
     pub fn add(&mut self, p: usize)
         requires from_one { 1 ≤ p }
         requires in_range { p ≤ last_mark }
@@ -63,7 +63,7 @@ impl Marks {
         self.taken[p] = true;
     }
 
-    /// Drops the save-points above this position.
+    /// Drops the save-points above this position, and keeps the others.
     pub fn cut(&mut self, pos: usize)
         ensures kept { (q : ℕ) → is_taken_in self.new q ≡ (nat_le q pos && is_taken_in self.old q) }
     {

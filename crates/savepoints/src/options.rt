@@ -1,6 +1,6 @@
 //! Which option a step takes.
 ghost use Rattle.std.specs.Prelude.{◌≡◌, ◌-◌, ◌≤◌};
-ghost use Rattle.plan.specs.Planned.{step_count, option_count};
+ghost use Rattle.plan.specs.PlanModel.{step_count, option_count};
 ghost use Rattle.savepoints.specs.Rules as rules;
 
 use plan::Plan;

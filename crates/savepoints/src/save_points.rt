@@ -1,6 +1,6 @@
-//! Where save-points stand.
+//! Positions of save-points.
 ghost use Rattle.std.specs.Prelude.{◌≡◌, ◌≤◌};
-ghost use Rattle.plan.specs.Planned.{step_count};
+ghost use Rattle.plan.specs.PlanModel.{step_count};
 ghost use Rattle.savepoints.specs.Marks.{is_taken_in};
 ghost use Rattle.savepoints.specs.Rules as rules;
 ghost use Rattle.savepoints.specs.Turns.{IsLanding, IsNoneAbove};

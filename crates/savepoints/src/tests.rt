@@ -1,4 +1,4 @@
-//! What the rules mean, by tables. Plans are told by their lines, of which the tries stand apart.
+//! What the rules mean, by tables. Plans are given by their lines, without the tries.
 ghost use Rattle.std.specs.Prelude.{◌≡◌, ◌<◌, IfSome, IsTrue};
 
 use crate::marks::Marks;
@@ -25,7 +25,7 @@ const EIGHT: &str = "F/AL/A1/2030-06-01/1/1|F/AL/A2/2030-06-01/1/1|F/AL/A3/2030-
     F/AL/A4/2030-06-01/1/1|F/AL/A5/2030-06-01/1/1|F/AL/A6/2030-06-01/1/1|\
     F/AL/A7/2030-06-01/1/1|F/AL/A8/2030-06-01/1/1";
 
-// stops the test where this is not so
+// stops the test where this is false
 fn holds(rt: &impl Abort, case: &str, is_so: bool)
     ensures { IsTrue is_so }
 {
@@ -197,7 +197,7 @@ const TURNS: [(&str, &str, usize, &[usize], Turn, Option<usize>, Option<usize>);
     ("to the start, past one that was taken",THREE, 2, &[1],    Turn::Asked(0), Some(1), Some(0)),
 ];
 
-// whether a journey at this position can be going there
+// whether a journey at this position can be going back there
 fn is_above(pos: usize, going: Option<usize>) -> bool
     ensures { IsTrue result → IfSome going (λ q. q < pos) }
 {

@@ -1,6 +1,6 @@
-//! Turns, and where they lead.
+//! Turns, and the positions to which they lead.
 ghost use Rattle.std.specs.Prelude.{◌≡◌, ◌<◌, ◌≤◌, ◌↔◌, IfOk, IsErr, IfSome};
-ghost use Rattle.plan.specs.Planned.{step_count};
+ghost use Rattle.plan.specs.PlanModel.{step_count};
 ghost use Rattle.savepoints.specs.Marks.{is_taken_in};
 ghost use Rattle.savepoints.specs.Rules as rules;
 ghost use Rattle.savepoints.specs.Turns.{LeadsTo, IsLanding, IsNoTurn};
@@ -16,16 +16,16 @@ pub enum Turn {
     Stop,
     /// The want of its next step does not fit.
     Refused,
-    /// Its agent asks for it, to this position.
+    /// A caller asks for it, to this position.
     Asked(usize),
 }
 
-/// There is no such turn: a stop or a refusal while the journey is going back, or a turn that was asked for to a
-/// position where no save-point stands, or not below the one to which the journey is going back.
+/// There is no such turn: a stop or a refusal while the journey is going back, or a request for a position without a
+/// save-point, or for one that is not below the target of a journey that is going back.
 #[derive(Clone, Copy, Debug, PartialEq, Eq)]
 pub struct NoSavePoint;
 
-/// Where a refused step leads.
+/// The position to which a refused step leads: the last save-point while there are tries left, else 0.
 fn refused_target(plan: &Plan, marks: &Marks, pos: usize, used: usize) -> usize
     requires { pos ≤ step_count plan.now }
 
@@ -39,7 +39,7 @@ fn refused_target(plan: &Plan, marks: &Marks, pos: usize, used: usize) -> usize
     }
 }
 
-/// Whether one who asks may turn a journey back to `p`.
+/// Whether a caller may turn a journey back to `p`.
 fn may_turn(plan: &Plan, marks: &Marks, pos: usize, going: Option<usize>, p: usize) -> bool
     requires { pos ≤ step_count plan.now }
 
@@ -52,8 +52,9 @@ fn may_turn(plan: &Plan, marks: &Marks, pos: usize, going: Option<usize>, p: usi
     is_below && (p == 0 || is_save_point(plan, marks, pos, p))
 }
 
-/// Where a turn of an unfinished journey at `pos` leads. `used` is how many of its steps were refused before this turn,
-/// and `going` the target of a journey that is going back.
+/// The position to which a turn of an unfinished journey at `pos` leads, 0 or a save-point. `used` is how many of its
+/// steps were refused before this turn, and `going` the target of a journey that is going back. Returns `NoSavePoint`
+/// if the turn may not be made.
 pub fn target(
     plan: &Plan,
     marks: &Marks,

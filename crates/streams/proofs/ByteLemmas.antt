@@ -1,11 +1,11 @@
--- Known bytes of readers and writers, over calls one after another.
+-- What readers and writers hold, over several calls.
 use Rattle.std.proofs.Common.{◌≡◌, ◌∙◌, ap, sym, List, [], ◌++◌, ℕ, append-nil, append_assoc, refl, ◌+◌, ◌-◌, ◌≤◌, length, take, drop, arith, length-drop}
 use Rattle.std.specs.Prelude.{Option, Some, None}
 use Rattle.std.proofs.lemmas.List.{take_rest}
 use Rattle.std.proofs.Math.Seq.{take-add}
 use Rattle.std.specs.Io.KnownBytes.{Appends, Consumes, Keeps}
 
--- what stays known, stays as it was
+-- what is known of the bytes stays as it was
 pub keeps_same : (x : Option (List ℕ)) → Keeps x x
 keeps_same None = tt
 keeps_same (Some xs) = refl
@@ -17,19 +17,19 @@ keeps_twice (Some xs) None z first second = absurd first
 keeps_twice (Some xs) (Some ys) None first second = absurd second
 keeps_twice (Some xs) (Some ys) (Some zs) first second = second ∙ first
 
--- no byte is written where bytes are kept
+-- where the bytes are kept, no byte was written
 pub appends_none : (x y : Option (List ℕ)) → Keeps x y → Appends x y []
 appends_none None y kept = tt
 appends_none (Some xs) None kept = absurd kept
 appends_none (Some xs) (Some ys) kept = kept ∙ sym (append-nil xs)
 
--- bytes are kept where none is written
+-- where no byte is written, the bytes are kept
 pub keeps_none : (x y : Option (List ℕ)) → Appends x y [] → Keeps x y
 keeps_none None y sent = tt
 keeps_none (Some xs) None sent = absurd sent
 keeps_none (Some xs) (Some ys) sent = sent ∙ append-nil xs
 
--- bytes that were written, and then more
+-- bytes that were written, and then more bytes
 pub appends_more : (x y z : Option (List ℕ)) (us bs : List ℕ)
     → Appends x y us
     → Appends y z bs
@@ -81,17 +81,17 @@ consumes_more (Some xs) (Some ys) None us bs first second = absurd second
 consumes_more (Some xs) (Some ys) (Some zs) us bs first second =
     first ∙ ap (λ rest. us ++ rest) second ∙ sym (append_assoc us bs zs)
 
--- the rest of the bytes, from a place on
+-- the suffix of the bytes from a place on
 abbrev pub rest_from : ℕ → List ℕ → List ℕ
 rest_from at bytes = take (length bytes - at) (drop at bytes)
 
--- a front of the bytes, and a front of the rest, are a front
+-- a prefix of the bytes and a prefix of their suffix make a longer prefix
 pub front_grows : (bytes : List ℕ) (at count : ℕ)
     → take at bytes ++ take count (rest_from at bytes) ≡ take (at + count) bytes
 front_grows bytes at count =
     ap (λ rest. take at bytes ++ take count rest) (take_rest bytes at) ∙ sym (take-add at count bytes)
 
--- a front of the rest ends within the bytes
+-- a prefix of the suffix ends within the bytes
 pub front_within : (bytes : List ℕ) (at count : ℕ)
     → at ≤ length bytes
     → count ≤ length (rest_from at bytes)

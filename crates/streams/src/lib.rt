@@ -1,7 +1,7 @@
-//! Readers and writers whose calls may do a part of what they are asked, or be interrupted.
+//! Readers and writers whose calls may transfer fewer bytes than asked, or be interrupted.
 //!
-//! A read or a write that was interrupted is tried again, and what was not written is written by further
-//! calls. What else may go wrong is one fault of reading, and one of writing.
+//! An interrupted read or write is retried, and bytes that a write left are written by further calls. Any other error
+//! is reported as one fault of reading, or as one of writing.
 #![tactic(auto)]
 
 mod faults;

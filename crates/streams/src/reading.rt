@@ -5,8 +5,9 @@ ghost use Rattle.std.specs.Io.KnownBytes.{Consumes, IsAtEnd, Keeps};
 use crate::faults::ReadFailed;
 use std::io::{ErrorKind, Read};
 
-/// Reads once, and again where a read was interrupted: how many bytes now stand at the front of the
-/// buffer. There are none at the end of the input, or where the buffer has no room.
+/// Reads some bytes into the buffer, and retries an interrupted read. Returns how many bytes now stand at the start of
+/// the buffer: 0 at the end of the input, or if the buffer is empty. `ReadFailed` reports any other error of the
+/// reader, and nothing was consumed.
 pub fn read_some<R: Read>(reader: &mut R, buffer: &mut [u8]) -> Result<usize, ReadFailed>
     ensures bound { IfOk result (λ count. count ≤ length buffer.new) }
     ensures bytes { IfOk result (λ count.

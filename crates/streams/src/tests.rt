@@ -3,7 +3,7 @@ use crate::{ReadFailed, WriteFailed, read_some, send, send_all};
 use std::alloc::{AllocError, Global};
 use std::io::{self, ErrorKind, Read, Write};
 
-/// Gives its bytes in pieces, each after an interruption. Behind the last byte is the end, or a failure.
+/// Gives its bytes in pieces, each after an interruption. After the last byte it reports the end, or fails.
 #[derive(Drop)]
 struct Pieces<'a> {
     left: &'a [u8],

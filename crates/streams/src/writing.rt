@@ -6,7 +6,7 @@ ghost use Rattle.streams.specs.Written.{WroteFront};
 use crate::faults::WriteFailed;
 use std::io::{ErrorKind, Write};
 
-/// Writes the bytes and flushes them. Where that fails, a beginning of them was written.
+/// Writes all bytes and flushes the writer. After `WriteFailed` a prefix of the bytes was written.
 pub fn send<W: Write>(writer: &mut W, bytes: &[u8]) -> Result<(), WriteFailed>
     ensures sent { OnOk result (Appends (W.contents writer.old) (W.contents writer.new) bytes.now) }
 
@@ -19,7 +19,7 @@ pub fn send<W: Write>(writer: &mut W, bytes: &[u8]) -> Result<(), WriteFailed>
     }
 }
 
-/// Writes the bytes. Where that fails, a beginning of them was written.
+/// Writes all bytes, and flushes nothing. After `WriteFailed` a prefix of the bytes was written.
 pub fn send_all<W: Write>(writer: &mut W, bytes: &[u8]) -> Result<(), WriteFailed>
     ensures sent { OnOk result (Appends (W.contents writer.old) (W.contents writer.new) bytes.now) }
 
@@ -33,7 +33,7 @@ pub fn send_all<W: Write>(writer: &mut W, bytes: &[u8]) -> Result<(), WriteFaile
     Ok(())
 }
 
-/// Writes once, at least one byte, and again where a write was interrupted.
+/// Writes a non-empty prefix by one call, and retries an interrupted write.
 fn write_some<W: Write>(writer: &mut W, bytes: &[u8]) -> Result<usize, WriteFailed>
     ensures bound { IfOk result (λ count. count ≤ length bytes.now) }
     ensures some { IfOk result (λ count. 0 < count) }

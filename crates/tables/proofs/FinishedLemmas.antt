@@ -5,7 +5,7 @@ use Rattle.std.specs.Prelude.{Bool, true, false, ◌==◌, ◌&&◌, not, nat_lt
 use Rattle.std.specs.List.{cons_option}
 use Rattle.commands.specs.declared.items.Item.{Item}
 use Rattle.commands.specs.declared.items.Phase.{Phase}
-use Rattle.commands.specs.Asked.{Asked}
+use Rattle.commands.specs.Asks.{Asked}
 use Rattle.commands.specs.Request.{Request}
 use Rattle.commands.specs.declared.replies.Reply.{Reply}
 use Rattle.ledger.specs.History.{phase, is_finished, is_open}
@@ -14,11 +14,11 @@ use Rattle.ledger.specs.Answer.{State, KeptReply, outcome, outcome_for, state_wi
 use Rattle.ledger.proofs.Phases.{passing}
 use Rattle.ledger.proofs.Deciding.{no_finished_goes_on}
 use Rattle.ledger.proofs.Recovering.{AreAllowedAfter-split}
-use Rattle.changes.proofs.Events.{journeys-loaded, journeys-did, journey_count-began, journey_at-loaded, journey_at-did, journey_at-began_other, history-loaded, history-began, history-did_other}
-use Rattle.saga_core.specs.Shown.{brief_of, first_unfinished, is_unfinished_above}
+use Rattle.ledger_transitions.proofs.Events.{journeys-loaded, journeys-did, journey_count-began, journey_at-loaded, journey_at-did, journey_at-began_other, history-loaded, history-began, history-did_other}
+use Rattle.saga_core.specs.Views.{brief_of, first_unfinished, is_unfinished_above}
 use Rattle.saga_core.specs.declared.records.Brief.{Brief}
 use Rattle.saga_core.proofs.FirstLemmas.{Tells, tells, IsFirst, first-found, first-none}
-use Rattle.tables.specs.Finished.{AreFinishedTo}
+use Rattle.tables.specs.FinishedJourneys.{AreFinishedTo}
 
 -- One more event.
 

@@ -1,15 +1,4 @@
-pub mod AnswerLemmas
-pub mod ChoiceLemmas
-pub mod ComingLemmas
-pub mod CommitLemmas
-pub mod DueLemmas
+pub mod ClosingLemmas
 pub mod FinishedLemmas
-pub mod LeadLemmas
-pub mod LoadComes
-pub mod LoadRows
-pub mod NextLemmas
-pub mod OkLemmas
+pub mod LookLemmas
 pub mod OpenKept
-pub mod SmallLemmas
-pub mod StepLemmas
-pub mod WritingLemmas

@@ -3,30 +3,35 @@ use Rattle.std.proofs.Common.{◌≡◌, ◌⊎◌, inl, inr, ◌↔◌, ℕ, Li
 use Rattle.std.specs.List.{AllByRecursion}
 use Rattle.sqlite.specs.Store.{Ghosts}
 use Rattle.sqlite.specs.Tree.{Trees}
-use Rattle.sqlite.specs.Effect.{Database}
+use Rattle.sqlite.specs.Effect.{Database, IsDatabase}
 use Rattle.sqlite_schema.specs.declared.schema.Schema.{Schema}
 use Rattle.sqlite.specs.Held.{Held, state}
-use Rattle.sqlite.specs.State.{State as Connected, HasCleanDisk, IsUnchanged, Shows as ShowsNow}
+use Rattle.sqlite.specs.Steps.{FailsToCommit}
+use Rattle.sqlite.specs.declared.error.Error.{Error}
+use Rattle.sqlite.specs.State.{State as Connected, HasCleanDisk, IsUnchanged, IsRolledBack, KeepsCommit, Survives, Shows as ShowsNow}
 use Rattle.desk_sql.specs.declared.versions.Version.{Version}
 use Rattle.desk_sql.specs.declared.versions.Version.TheVariants.{One, Two}
 use Rattle.desk_sql.specs.Versions.{number_of, AreOfVersion}
 use Rattle.desk_sql.specs.Calls.{Sees, MaySeeIn, MayBuild, Founds, WasOpen, LeavesNoMore}
 use Rattle.desk_sql.specs.Changes.{founded}
-use Rattle.desk_sql.specs.Found.{IsMeta, meta_of}
+use Rattle.desk_sql.specs.FoundRows.{IsMeta, meta_of}
 use Rattle.desk_sql.specs.Rows.{Tables, MetaRow, Shows, ShowsIn}
 use Rattle.desk_sql.specs.Schema.{no_schema, schema_of}
 use Rattle.desk_sql.specs.declared.meta.Meta.{Meta}
 use Rattle.commands.specs.declared.faults.Fault.{Fault}
 use Rattle.commands.specs.declared.faults.Fault.TheVariants as fault
 use Rattle.ledger.specs.Answer.{State, start}
-use Rattle.standing.specs.Called.{meta_in}
-use Rattle.standing.specs.Standing.{StandsFor}
-use Rattle.standing.proofs.Founding.{founded_stands}
+use Rattle.sql_model.specs.ExpectedRows.{meta_in}
+use Rattle.sql_model.specs.Keeping.{Sees as SeesFound, SeesNew}
+use Rattle.sql_model.specs.Standing.{StandsFor}
+use Rattle.sql_model.proofs.Founding.{founded_stands}
+use Rattle.sql_model.proofs.KeepLemmas.{is_database, quiet_keeps}
 use Rattle.tables.specs.declared.faults.OpenFault.{OpenFault}
 use Rattle.tables.specs.declared.faults.OpenFault.TheVariants.{Store, Memory}
+use Rattle.sql_model.specs.Keeping.{MeansIn}
 use Rattle.tables.specs.Keeping.{MeansOf, SeesOf, IsKept, IsKeptIn, IsFound}
 use Rattle.tables.specs.Opening.{Tells}
-use Rattle.tables.proofs.CommitLemmas.{KeepsOne}
+use Rattle.sql_writes.proofs.CommitLemmas.{KeepsOne}
 
 -- the desk's tables are some, in each version
 not_bare : (v : Version) → schema_of v ≡ no_schema → ⊥
@@ -51,6 +56,70 @@ was_desk Two c s found filled open_now = elim (found.sees open_now) [
   | inr fresh ↦ absurd (filled fresh.schema)
 ]
 
+-- What a failed opening leaves.
+
+-- A store without tables is seen as before, where its databases are the last commit.
+pub record HasGoneBack (a b : Connected) : Type 0 where
+  pub was_open : IsTrue a.is_open
+  pub now : b.now ≡ a.committed
+  pub committed : b.committed ≡ a.committed
+
+still_new : (a b : Connected) (s : State) → HasGoneBack a b → SeesNew a s → SeesNew b s
+still_new a b s back saw = record {
+  schema = ap (λ (d : Database). d.schema) (back.now ∙ sym saw.committed) ∙ saw.schema;
+  committed = back.now ∙ sym back.committed;
+  new = saw.new;
+}
+
+-- so it is where what a transaction wrote is undone
+pub gone_back : (a mid b : Connected) → KeepsCommit a mid → IsRolledBack mid b → IsTrue b.is_open → HasGoneBack a b
+gone_back a mid b kept back live =
+    let inside = back.was_open live in
+    let undone = back.undone live in
+    record {
+      was_open = kept.was_open inside;
+      now = undone.0 ∙ kept.committed inside;
+      committed = undone.1 ∙ kept.committed inside;
+    }
+
+-- a commit that fails in a transaction is undone
+pub rolled_back : (late end : Connected) (e : Error) → IsTrue late.in_transaction → FailsToCommit late end e → IsRolledBack late end
+rolled_back late end e inside (inl fails) = fails.3
+rolled_back late end e inside (inr over) = absurd (let no : true ≡ false = sym inside ∙ over.1 in cc)
+
+pub still_bare : (v : Version) (a b : Connected) (s : State) → IsFound v a s → a.now.schema ≡ no_schema
+    → HasGoneBack a b → SeesFound v b s
+still_bare One a b s found bare back = absurd (not_bare One (sym (found.sees back.was_open).schema ∙ bare))
+still_bare Two a b s found bare back = elim (found.sees back.was_open) [
+  | inl desk ↦ absurd (not_bare Two (sym desk.schema ∙ bare))
+  | inr fresh ↦ inr (still_new a b s back fresh)
+]
+
+-- A read that fails changes nothing, or was rolled back.
+module _ (a b : Connected) (s : State) (quiet : IsUnchanged a b ⊎ IsRolledBack a b) (less : Survives a b (λ _. ⊥))
+    (clean : HasCleanDisk b) where
+  was_live : IsTrue b.is_open → IsTrue a.is_open
+  was_live live = elim quiet [ inl same ↦ same.0.was_open | inr back ↦ back.was_open live ]
+
+  same_or_back : IsTrue b.is_open → a.now ≡ a.committed → HasGoneBack a b
+  same_or_back live settled = elim quiet [
+    | inl same ↦ record { was_open = same.0.was_open; now = same.0.now_is ∙ settled; committed = same.0.committed_is }
+    | inr back ↦ record { was_open = back.was_open live; now = (back.undone live).0; committed = (back.undone live).1 }
+  ]
+
+  -- so the connection stands for what it stood for
+  pub still_found : (v : Version) → IsFound v a s → IsFound v b s
+  still_found One found =
+      let kept = quiet_keeps a b s (record { sees = found.sees; leaves = found.leaves }) quiet less clean in
+      record { sees = kept.sees; leaves = kept.leaves }
+  still_found Two found = record {
+    sees = λ live. elim (found.sees (was_live live)) [
+      | inl desk ↦ inl ((quiet_keeps a b s (record { sees = λ _. desk; leaves = found.leaves }) quiet less clean).sees live)
+      | inr fresh ↦ inr (still_new a b s (same_or_back live fresh.committed) fresh)
+    ];
+    leaves = λ db may. elim (less.crash clean db may) [ inl before ↦ found.leaves db before | inr none ↦ absurd none ];
+  }
+
 module _ {S : Type 0} (g : Ghosts S) (old late : Held S) where
   -- where the tables were made the connection was open, and sees a new desk's rows
   pub has_founded : (state g old).now.schema ≡ no_schema → HasCleanDisk (state g late)
@@ -68,17 +137,15 @@ module _ {S : Type 0} (g : Ghosts S) (old late : Held S) where
   keeps_founded law end sees shown = record {
     sees = λ _. record {
       schema = ap (λ (d : Database). d.schema) shown.now_is ∙ sees.schema;
+      sound = subst IsDatabase (sym shown.now_is) sees.sound;
       committed = shown.now_is ∙ sym shown.committed_is;
       tables = founded;
       shown = subst (λ (d : Database). Shows d.trees founded) (sym shown.now_is) sees.rows;
       stands = founded_stands;
     };
-    leaves = λ db may. inl (record {
-      tables = founded;
-      shown = subst (λ (t : Trees). Shows t founded)
-          (sym (law end.store db shown.is_open may ∙ ap (λ (d : Database). d.trees) shown.committed_is)) sees.rows;
-      stands = founded_stands;
-    });
+    leaves = λ db may. inl (subst (λ (t : Trees). MeansIn Two t start)
+        (sym (law end.store db shown.is_open may ∙ ap (λ (d : Database). d.trees) shown.committed_is))
+        (record { of = is_database (state g late) founded sees; tables = founded; shown = sees.rows; stands = founded_stands }));
   }
 
   -- trees that were there before, or a new desk's, stand for a state for which the connection stood
@@ -86,11 +153,12 @@ module _ {S : Type 0} (g : Ghosts S) (old late : Held S) where
       → (db : Trees) → (state g old).may_leave db ⊎ (db ≡ (state g late).now.trees) → MeansOf v db s
   either_means v s found new sees db (inl may) = found.leaves db may
   either_means One s found new sees db (inr is) = absurd (let never = new.0 in cc)
-  either_means Two s found new sees db (inr is) = inl (record {
+  either_means Two s found new sees db (inr is) = inl (subst (λ (t : Trees). MeansIn Two t s) (sym is) (record {
+    of = is_database (state g late) founded sees;
     tables = founded;
-    shown = subst (λ (t : Trees). Shows t founded) (sym is) sees.rows;
+    shown = sees.rows;
     stands = subst (λ (x : State). StandsFor founded x) (sym new.1) founded_stands;
-  })
+  }))
 
 module _ {S : Type 0} (g : Ghosts S) (old new : Held S) where
   -- a fault of the store tells no version
@@ -119,7 +187,7 @@ module _ (old new : Connected) (m : Meta) (seen : (v : Version) (t : Tables) →
 
     -- what was read of it
     pub read : IsUnchanged old new × IsMeta desk.tables m
-    read = seen v desk.tables (λ _. record { schema = desk.schema; rows = desk.shown })
+    read = seen v desk.tables (λ _. record { schema = desk.schema; rows = desk.shown; sound = desk.sound })
 
     -- the rows of a desk have the number of their version
     pub has_number : m.version ≡ number_of v
@@ -134,6 +202,7 @@ module _ (old new : Connected) (m : Meta) (seen : (v : Version) (t : Tables) →
         record {
           sees = λ _. record {
             schema = ap (λ (d : Database). d.schema) is.now_is ∙ desk.schema;
+            sound = subst IsDatabase (sym is.now_is) desk.sound;
             committed = is.now_is ∙ desk.committed ∙ sym is.committed_is;
             tables = desk.tables;
             shown = subst (λ (d : Database). ShowsIn v d.trees desk.tables) (sym is.now_is) desk.shown;

@@ -3,9 +3,9 @@ use Rattle.std.specs.Prelude.{◌≡◌, ℕ, Bool, false}
 use Rattle.std.proofs.Common.{inl}
 use Rattle.sqlite.specs.State.{State as Connected}
 use Rattle.ledger.specs.Answer.{State}
-use Rattle.standing.specs.Standing.{IsDesk}
-use Rattle.tables.specs.Finished.{AreFinishedTo}
-pub use Rattle.standing.specs.Keeping.{MeansDesk, MeansNew, Means, MeansOf, Leaves, SeesDesk, SeesOf, SeesNew, IsKept, IsKeptIn, Keeps, KeepsIn, MayLeave, IsFound, StoodFor}
+use Rattle.sql_model.specs.Standing.{IsDesk}
+use Rattle.tables.specs.FinishedJourneys.{AreFinishedTo}
+pub use Rattle.sql_model.specs.Keeping.{MeansDesk, MeansNew, Means, MeansOf, Leaves, SeesDesk, SeesOf, SeesNew, IsKept, IsKeptIn, Keeps, KeepsIn, MayLeave, IsFound, StoodFor}
 
 -- a book that works, over a connection that keeps the state of a desk, and that knows so many journeys
 -- to have finished

@@ -1,10 +1,5 @@
-pub mod Answering
-pub mod Booked
-pub mod Choosing
-pub mod Finished
+pub mod BookTerms
+pub mod FinishedJourneys
 pub mod Keeping
-pub mod Loading
-pub mod Moving
+pub mod Lending
 pub mod Opening
-pub mod Placing
-pub mod Writing

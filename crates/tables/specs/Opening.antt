@@ -1,20 +1,15 @@
 -- What opening a store finds of it.
 use Rattle.std.specs.Prelude.{◌≢◌, ⊤}
 use Rattle.sqlite.specs.Store.{Ghosts}
-use Rattle.sqlite.specs.Tree.{Trees}
 use Rattle.sqlite.specs.Held.{Held, state}
-use Rattle.sqlite.specs.State.{State as Connected, HasCleanDisk}
+use Rattle.sqlite.specs.State.{HasCleanDisk}
 use Rattle.desk_sql.specs.declared.versions.Version.{Version}
 use Rattle.desk_sql.specs.Versions.{number_of, SawVersion}
 use Rattle.desk_sql.specs.Calls.{LeavesNoMore}
 use Rattle.ledger.specs.Answer.{State}
 use Rattle.tables.specs.declared.faults.OpenFault.{OpenFault}
 use Rattle.tables.specs.declared.faults.OpenFault.TheVariants.{UnknownSchema, Store, Memory}
-use Rattle.tables.specs.Keeping.{MeansOf, IsKeptIn, StoodFor}
-
--- whatever a stop may leave stands for this state, in tables of this version
-abbrev pub LeavesOnly : Version → Connected → State → Type 0
-LeavesOnly v c s = (db : Trees) → c.may_leave db → MeansOf v db s
+use Rattle.tables.specs.Keeping.{IsKeptIn, StoodFor}
 
 module _ {S : Type 0} (g : Ghosts S) (old new : Held S) where
   -- the connection keeps the state for which it stood, in tables of this version
@@ -23,11 +18,9 @@ module _ {S : Type 0} (g : Ghosts S) (old new : Held S) where
       HasCleanDisk (state g new) → (v : Version) (s : State) → StoodFor v (state g old) s
       → IsKeptIn now (state g new) s
 
-  -- a stop leaves the state for which the connection stood, and no other
-  abbrev pub LeavesIt : Type 0
-  LeavesIt =
-      HasCleanDisk (state g new) → (v : Version) (s : State) → StoodFor v (state g old) s
-      → LeavesOnly v (state g new) s
+  -- the connection stands for each state for which it stood
+  abbrev pub StandsOn : Type 0
+  StandsOn = (v : Version) (s : State) → StoodFor v (state g old) s → StoodFor v (state g new) s
 
   -- the connection stood for no state
   abbrev pub StoodForNone : Type 0

@@ -1,16 +1,15 @@
 //! The book over tables.
-ghost use Rattle.std.specs.Prelude.{◌≡◌, ◌↔◌, false, IfOk, IfErr, IsOk, IsErrAnd, IsErrOf, IsTrue};
+ghost use Rattle.std.specs.Prelude.{◌≡◌, ◌↔◌, false, None, IfOk, IfErr, IsOk, IsErrAnd, IsErrOf, IsTrue};
 ghost use Rattle.commands.specs.Orders.{request_of};
 
-use crate::answering::{answer, know_limits};
-use crate::counts::read_counts;
 use crate::faults::OpenFault;
-use crate::opening::Opened;
+use crate::opening::{Opened, without_limit};
 use allotment::{Cell, Held, Night, Want};
 use commands::{Ask, Command, Fault, Item, Reply};
 use desk_sql::Version;
-use reading::{read_cells, read_first_unfinished, read_history, read_journey, read_stock};
 use saga_core::{Book, Brief, Record};
+use sql_commands::{answer, know_limits, read_counts};
+use sql_reads::{read_cells, read_first_unfinished, read_history, read_journey, read_stock};
 use sqlite::{Alter, Connection};
 use std::alloc::Global;
 
@@ -26,9 +25,22 @@ pub struct TableBook<S: Alter> {
 }
 
 impl<S: Alter> TableBook<S> {
-    /// The connection, as it is.
+    ghost use Rattle.sqlite.specs.Held.{state};
+    ghost use Rattle.ledger.specs.Answer.{State};
+    ghost use Rattle.sql_reads.specs.Reading.{WasClean};
+    ghost use Rattle.tables.specs.BookTerms.{StandsBook, LeavesBook};
+    ghost use Rattle.tables.specs.Keeping.{MayLeave, StoodFor};
+
+    /// The connection, as it is, without a limit of steps. What the book stood for the next `open_from` finds.
     pub fn into_store(self) -> Connection<S>
-        ensures same { result ≡ self.conn }
+        ensures found { (s : State) → StandsBook S.Store self s
+            → StoodFor Version.Two (state S.Store result) s }
+        ensures left { (s t : State) → LeavesBook S.Store self s t
+            → MayLeave (state S.Store result) s t }
+        ensures outside { result.in_transaction ≡ false }
+        ensures unlimited { result.step_limit ≡ None }
+        ensures sound { WasClean S.Store self.conn result }
+        ensures same { result ≡ record self.conn { step_limit = None } }
     {
         let TableBook {
             conn,
@@ -36,15 +48,15 @@ impl<S: Alter> TableBook<S> {
             failed: _,
             finished: _,
         } = self;
-        conn
+        without_limit(conn)
     }
 }
 
 impl<S: Alter> TableBook<S> {
-    ghost use Rattle.reading.specs.Reading.{WasClean};
-    ghost use Rattle.tables.specs.Booked.{Answers, MovesOn, KeepsAtMemory, LeavesAtStore, LeavesNoMore};
-    ghost use Rattle.tables.specs.Booked.{ShowsFirst, KeepsKnowing};
-    ghost use Rattle.reading.specs.Reading.{LeavesAsBefore};
+    ghost use Rattle.sql_reads.specs.Reading.{WasClean};
+    ghost use Rattle.tables.specs.BookTerms.{Answers, MovesOn, KeepsAtMemory, LeavesAtStore, LeavesNoMore};
+    ghost use Rattle.tables.specs.BookTerms.{ShowsFirst, KeepsKnowing};
+    ghost use Rattle.sql_reads.specs.Reading.{LeavesAsBefore};
 
     /// The first journey that has not finished, and from then on those before it are known to have.
     fn look_on(&mut self) -> Result<Option<Brief>, Fault>
@@ -106,9 +118,16 @@ impl<S: Alter> TableBook<S> {
 }
 
 impl<S: Alter> Opened<S> {
+    ghost use Rattle.ledger.specs.Answer.{State};
+    ghost use Rattle.sql_model.specs.Standing.{IsDesk};
+    ghost use Rattle.tables.specs.BookTerms.{StandsBook};
+    ghost use Rattle.tables.specs.Lending.{OpenedKeeps};
+
     /// The book over what was opened, where its tables are of the newest version. Else, and where the connection is in a
     /// transaction, what was opened is handed back as it is.
     pub fn into_book(self, alloc: Global) -> Result<TableBook<S>, (Opened<S>, OpenFault)>
+        ensures stands { IfOk result (λ b. (s : State) → IsDesk s → OpenedKeeps S.Store self s
+            → StandsBook S.Store b s) }
         ensures book { IfOk result (λ b. b.conn ≡ self.conn) }
         ensures newest { IfOk result (λ b. self.version ≡ Version.Two) }
         ensures working { IfOk result (λ b. b.failed ≡ false) }
@@ -123,7 +142,7 @@ impl<S: Alter> Opened<S> {
         match self.version() {
             Version::One => Err((self, OpenFault::UnknownSchema(1))),
             Version::Two if self.is_outside() => {
-                let conn = self.into_store();
+                let Opened { conn, version: _ } = self;
                 Ok(TableBook {
                     conn,
                     alloc,

@@ -12,36 +12,50 @@ ghost use Rattle.sqlite.specs.Held.{state};
 ghost use Rattle.desk_sql.specs.Schema.{no_schema};
 ghost use Rattle.desk_sql.specs.Versions.{number_of, SawVersion};
 ghost use Rattle.desk_sql.specs.declared.versions.Version.{Version};
-ghost use Rattle.tables.specs.Opening.{KeepsIt, LeavesIt, Tells};
-ghost use Rattle.reading.specs.Reading.{WasClean};
+ghost use Rattle.ledger.specs.Answer.{State};
+ghost use Rattle.tables.specs.Opening.{KeepsIt, StandsOn, Tells};
+ghost use Rattle.sql_reads.specs.Reading.{WasClean};
 
 use crate::faults::OpenFault;
 use allotment::{Cell, Held};
-use commands::{Fault, Item};
+use commands::Fault;
 use desk_sql::{Version, has_no_tables, make_tables, read_meta};
-use reading::{
-    ItemRows, StockRows, UnfinishedRows, fault_of, item_rows, read_journey, stock_rows,
-    unfinished_rows,
-};
 use saga_core::{Brief, Record, RowSource};
+use sql_reads::{StockRows, UnfinishedRows, fault_of, read_journey, stock_rows, unfinished_rows};
 use sqlite::{Alter, Connection};
 use std::alloc::Global;
 
 /// A connection that was found to have the desk's tables.
 #[derive(Drop)]
 pub struct Opened<S: Alter> {
-    conn: Connection<S>,
+    pub(crate) conn: Connection<S>,
     /// The version of its tables.
-    version: Version,
+    pub(crate) version: Version,
+}
+
+/// The connection, as it is, without a limit of steps.
+pub(crate) fn without_limit<S: Alter>(mut conn: Connection<S>) -> Connection<S>
+    ensures same { result ≡ record conn { step_limit = None } }
+{
+    conn.set_step_limit(None);
+    conn
 }
 
 impl<S: Alter> Opened<S> {
-    /// Its connection, as it is.
+    ghost use Rattle.tables.specs.Keeping.{StoodFor};
+    ghost use Rattle.tables.specs.Lending.{OpenedKeeps};
+
+    /// Its connection, as it is, without a limit of steps. What was kept the next `open_from` finds.
     pub fn into_store(self) -> Connection<S>
-        ensures same { result ≡ self.conn }
+        ensures found { (s : State) → OpenedKeeps S.Store self s
+            → StoodFor self.version (state S.Store result) s }
+        ensures outside { self.conn.in_transaction ≡ false → result.in_transaction ≡ false }
+        ensures unlimited { result.step_limit ≡ None }
+        ensures sound { WasClean S.Store self.conn result }
+        ensures same { result ≡ record self.conn { step_limit = None } }
     {
         let Opened { conn, version: _ } = self;
-        conn
+        without_limit(conn)
     }
 
     /// The version of its tables.
@@ -60,11 +74,10 @@ impl<S: Alter> Opened<S> {
 }
 
 impl<S: Alter> Opened<S> {
-    ghost use Rattle.ledger.specs.Ledger.{history};
-    ghost use Rattle.saga_core.specs.Shown.{IsStock};
-    ghost use Rattle.reading.specs.Handing.{BeginsKept, IsLeftAsItWas};
-    ghost use Rattle.saga_core.specs.Shown.{unfinished_of};
-    ghost use Rattle.reading.specs.Reading.{IsRecordAt, KeepsEach, LeavesAsBefore, ShowsKeptIn};
+    ghost use Rattle.saga_core.specs.Views.{IsStock};
+    ghost use Rattle.sql_reads.specs.RemainingRows.{BeginsKept, IsLeftAsItWas};
+    ghost use Rattle.saga_core.specs.Views.{unfinished_of};
+    ghost use Rattle.sql_reads.specs.Reading.{IsRecordAt, KeepsEach, LeavesAsBefore, ShowsKeptIn};
 
     /// The journey of that number, if there is one. A fault changes nothing, and a later call asks the store again.
     pub fn journey_of(&mut self, alloc: Global, id: u64) -> Result<Option<Record>, Fault>
@@ -72,6 +85,8 @@ impl<S: Alter> Opened<S> {
             (IsRecordAt id) }
         ensures same { KeepsEach S.Store self.old.conn self.new.conn }
         ensures version { self.new.version ≡ self.old.version }
+        ensures outside { self.old.conn.in_transaction ≡ false
+            → self.new.conn.in_transaction ≡ false }
         ensures stop { LeavesAsBefore S.Store self.old.conn self.new.conn }
         ensures sound { WasClean S.Store self.old.conn self.new.conn }
     {
@@ -107,22 +122,6 @@ impl<S: Alter> Opened<S> {
     {
         unfinished_rows(&mut self.conn)
     }
-
-    /// The items of the journey of that number, oldest first; none where it is absent. Each is asked for by itself, and the
-    /// store looks from the beginning of the journey to its last item, or to the end where it is not finished.
-    pub fn item_rows<'c>(&'c mut self, id: u64) -> Result<ItemRows<'c, S>, Fault>
-        ensures rows { IfOk result (λ it. BeginsKept S.Store self.old.conn it.conn.now self.old.version
-            (λ s items. items ≡ history s.ledger id)
-            (⟦<ItemRows<'c, S> as RowSource<Item>>⟧.rests it)) }
-        ensures none { IfOk result (λ it. ⟦<ItemRows<'c, S> as RowSource<Item>>⟧.given it ≡ 0) }
-        ensures kept { IfOk result (λ it.
-            IsLeftAsItWas S.Store self.old.conn it.conn.now) }
-    {
-        if !self.is_outside() {
-            return Err(Fault::Store);
-        }
-        item_rows(&mut self.conn, self.version, id)
-    }
 }
 
 /// The fault of opening that a fault of the store is.
@@ -145,7 +144,7 @@ fn found_tables<S: Alter>(conn: &mut Connection<S>) -> Result<(), OpenFault>
     ensures limit { conn.new.step_limit ≡ conn.old.step_limit }
     ensures sound { WasClean S.Store conn.old conn.new }
     ensures finds { OnOk result (KeepsIt S.Store conn.old conn.new Version.Two) }
-    ensures left { OnErr result (LeavesIt S.Store conn.old conn.new) }
+    ensures stands { OnErr result (StandsOn S.Store conn.old conn.new) }
     ensures version { OnOk result (SawVersion S.Store conn.old conn.new 2) }
     ensures told { IfErr result (Tells S.Store conn.old conn.new) }
 {
@@ -169,7 +168,7 @@ fn read_version<S: Alter>(conn: &mut Connection<S>) -> Result<Version, OpenFault
     ensures limit { conn.new.step_limit ≡ conn.old.step_limit }
     ensures sound { WasClean S.Store conn.old conn.new }
     ensures finds { IfOk result (KeepsIt S.Store conn.old conn.new) }
-    ensures left { OnErr result (LeavesIt S.Store conn.old conn.new) }
+    ensures stands { OnErr result (StandsOn S.Store conn.old conn.new) }
     ensures version { IfOk result (λ v. SawVersion S.Store conn.old conn.new (number_of v)) }
     ensures told { IfErr result (Tells S.Store conn.old conn.new) }
 {
@@ -194,7 +193,7 @@ pub fn open_from<S: Alter>(mut conn: Connection<S>) -> Result<Opened<S>, (Connec
     ensures unlimited { IfOk result (λ o. o.conn.step_limit ≡ None) }
     ensures sound { IfOk result (λ o. WasClean S.Store conn o.conn) }
     ensures outside { IfErr result (λ e. e.0.in_transaction ≡ false) }
-    ensures left { IfErr result (λ e. LeavesIt S.Store conn e.0) }
+    ensures stands { IfErr result (λ e. StandsOn S.Store conn e.0) }
     ensures told { IfErr result (λ e. Tells S.Store conn e.0 e.1) }
     ensures unharmed { IfErr result (λ e. WasClean S.Store conn e.0) }
     ensures limit { IfErr result (λ e. e.0.step_limit ≡ None) }

@@ -30,7 +30,7 @@ fn a_want_is_written_as_its_parts(rt: HostRuntime) {
     }
 }
 
-// the parts of no want, and the first fault
+// parts that make no want, and the first fault
 #[rattlefmt::skip]
 const NO_WANTS: [(&str, Kind, &str, &str, &str, u64, u64, Bad); 26] = [
     ("no supplier",           Kind::Flight,   "",          "A1",        "2030-06-01", 1,  1,  Bad::Code),
@@ -80,7 +80,7 @@ const RUNS: [(&str, u64, &str); 6] = [
     ("2099-12-30", 2, "2099-12-30 2099-12-31 "),
 ];
 
-// the nights of the cells of a want, each with a blank behind it
+// the nights of the cells of a want, each followed by a blank
 fn nights_of(alloc: Global, want: &Want) -> Result<String, AllocError> {
     let mut told = String::new(alloc);
     for cell in want.cells() {

@@ -5,7 +5,7 @@ ghost use Rattle.sqlite.specs.Held.{state};
 ghost use Rattle.sqlite.specs.State.{HasCleanDisk};
 ghost use Rattle.desk_sql.specs.Calls.{ChangesNothing, LeavesNoMore};
 ghost use Rattle.desk_sql.specs.Stock.{stock_of};
-ghost use Rattle.desk_sql.specs.Handing.{Hands, CellsRest, IsStockInOrder, Begins, StaysAsItIs};
+ghost use Rattle.desk_sql.specs.RemainingRows.{Hands, CellsRest, IsStockInOrder, Begins, StaysAsItIs};
 
 use crate::stock::{CellFound, read_cell};
 use sqlite::{Alter, Connection, Error, Rows};

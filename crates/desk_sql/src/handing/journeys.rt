@@ -4,8 +4,8 @@ ghost use Rattle.std.specs.Prelude.{◌≡◌, ◌<◌, ◌^◌, false, IfOk, op
 ghost use Rattle.sqlite.specs.Held.{state};
 ghost use Rattle.sqlite.specs.State.{HasCleanDisk};
 ghost use Rattle.desk_sql.specs.Calls.{ChangesNothing, LeavesNoMore};
-ghost use Rattle.desk_sql.specs.Found.{journey_of};
-ghost use Rattle.desk_sql.specs.Handing.{Hands, JourneysRest, ListsUnfinished, Begins, StaysAsItIs};
+ghost use Rattle.desk_sql.specs.FoundRows.{journey_of};
+ghost use Rattle.desk_sql.specs.RemainingRows.{Hands, JourneysRest, ListsUnfinished, Begins, StaysAsItIs};
 
 use crate::journeys::{JourneyFound, read_journey};
 use sqlite::types::ValueRef;

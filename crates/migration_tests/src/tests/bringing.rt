@@ -1,4 +1,4 @@
-//! Files with thousands of items, and without one, are brought over: every row is there as before, once.
+//! Files with thousands of items, and without one, are migrated: every row is there as before, once.
 use crate::tests::helping::{Session, bring_over, holds, open_for};
 use crate::tests::old_files::{OldFile, old_file};
 use crate::tests::rows::{Held, Schema, held_in};
@@ -8,7 +8,7 @@ use std::alloc::Global;
 use std::process::Abort;
 use std::test::Fail;
 
-/// An old file holds this, and is brought over with so many events.
+/// An old file holds this, and is migrated with so many events.
 #[derive(Drop)]
 struct BroughtOver<'a> {
     held: &'a Held<'a>,
@@ -33,7 +33,7 @@ impl Session for BroughtOver<'_> {
     }
 }
 
-/// A new file holds this, and is not brought over again.
+/// A new file holds this, and is not migrated again.
 #[derive(Drop)]
 struct StaysNew<'a> {
     held: &'a Held<'a>,
@@ -54,7 +54,7 @@ impl Session for StaysNew<'_> {
     }
 }
 
-/// The file is brought over with so many events, and not again.
+/// The file is migrated with so many events, and not again.
 fn is_brought_over(
     rt: &impl Abort,
     alloc: Global,

@@ -1,5 +1,5 @@
-//! Stores that fail from some call on while they are migrated: the file that is found then is the old one or the new one,
-//! and the next migration completes it.
+//! Stores that fail from some call on while they are migrated: the file that is found after the crash is the old one or
+//! the new one, and the next migration completes it.
 use crate::tests::helping::{Session, bring_over, disk_of, holds, open_failing, open_for};
 use crate::tests::old_files::{OldFile, old_file};
 use crate::tests::reporting::{desk_over, handed_back, shown};
@@ -15,7 +15,7 @@ use std::test::Fail;
 // more calls than any run here makes of one disk
 const MOST_CALLS: u64 = 10_000;
 
-/// What migration answered, where the file was opened at all.
+/// The result of migration, if the file was opened at all.
 type Answer = Option<Result<Migrated, MigrateFault>>;
 
 /// Where a disk fails from some call on, and whether the machine or the program ends then.
@@ -26,7 +26,7 @@ struct Stop {
     calls: u64,
 }
 
-/// What a stop left: the answer before it, the files, and whether a call failed.
+/// What is left after a crash: the answer before it, the files, and whether a call failed.
 #[derive(Drop)]
 struct Left {
     answer: Answer,
@@ -52,7 +52,7 @@ fn has_blown<D: Disk>(disk: &mut D) -> bool {
     !disk.may_be_used() || disk.len().is_err()
 }
 
-/// A file is migrated; what was answered then.
+/// A file is migrated; the result of that.
 #[derive(Drop)]
 struct Migration {
     answer: Answer,
@@ -105,7 +105,7 @@ struct Trial<'a> {
 }
 
 impl Trial<'_> {
-    /// The answer is one that may come, and where none failed the one that has to.
+    /// The result is one that may come, and without a failed call the one that has to come.
     fn may_answer(&self, left: &Left) -> bool {
         let sound = match self.before {
             Schema::Old => Ok(Migrated {
@@ -119,7 +119,7 @@ impl Trial<'_> {
         }
     }
 
-    /// What was found after a stop is what the answer says of it.
+    /// What is found after a crash is what the result says of it.
     fn may_be_found(&self, rt: &impl Abort, left: &Left, found: Schema) {
         holds(rt, "the answer", self.may_answer(left));
         if self.before == Schema::New || matches!(left.answer, Some(Ok(_))) {
@@ -139,7 +139,7 @@ impl Trial<'_> {
         }
     }
 
-    /// What was found after a stop: a file that is wholly old or wholly new, and that the next migration completes.
+    /// What is found after a crash: a file that is wholly old or wholly new, and that the next migration completes.
     fn check_left(&self, rt: &impl Abort, alloc: Global, left: &Left) -> Result<Schema, Fail> {
         let mut completion = Completion {
             trial: self,
@@ -151,7 +151,7 @@ impl Trial<'_> {
     }
 }
 
-/// What a stop left is completed; which schema was found before.
+/// What is left after a crash is completed; which schema was found before.
 #[derive(Drop)]
 struct Completion<'a> {
     trial: &'a Trial<'a>,
@@ -319,7 +319,7 @@ fn without_commit(rt: &impl Abort, alloc: Global, bytes: &[u8]) -> Result<Left, 
     Ok(last.ok_or("no call fails")?)
 }
 
-/// An old file of one round is shown, brought over, shown again, and used.
+/// An old file of one round is shown, migrated, shown again, and used.
 #[derive(Drop)]
 struct Shown;
 

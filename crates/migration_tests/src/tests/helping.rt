@@ -1,6 +1,6 @@
-//! What the tests share: files in memory, which are opened, used and closed, and short ways to ask and to judge. The store
-//! over files is named here alone: the proof of each function that hands it on opens its whole layout, and takes a minute or
-//! more. What tests do with it is a `Session`, which is proved once, for any store.
+//! What the tests share: files in memory, which are opened, used and closed, and short ways to ask and to judge. The
+//! store over files is named here alone: the proof of each function that passes it on opens its whole layout, and takes
+//! a minute or more. What tests do with it is a `Session`, which is proved once, for any store.
 ghost use Rattle.std.specs.Prelude.{◌≡◌, false, None, IsTrue, IfOk};
 ghost use Rattle.sqlite_disk.specs.Memory.{memory_is_usable};
 
@@ -15,7 +15,7 @@ use tables::{Opened, TableBook, open_from};
 
 /// What a test does between the opening of a database and its closing.
 pub trait Session {
-    /// Uses the connection, and hands it back.
+    /// Uses the connection, and returns it.
     fn run<S: Alter + Drop, R: Abort>(
         &mut self,
         rt: &R,
@@ -24,7 +24,7 @@ pub trait Session {
     ) -> Result<Connection<S>, Fail>;
 }
 
-/// Stops the test where this is not so.
+/// Stops the test where this is false.
 pub fn holds(rt: &impl Abort, case: &str, is_so: bool)
     ensures { IsTrue is_so }
 {
@@ -60,7 +60,7 @@ fn close(conn: Connection<FileStore<Memory>>) -> Result<Memory, Error> {
     }
 }
 
-/// Opens files with these bytes for a session. The database file, which is closed then.
+/// Opens files with these bytes for a session, and closes them. Returns the database file.
 pub fn open_for<T: Session>(
     rt: &impl Abort,
     alloc: Global,
@@ -74,7 +74,7 @@ pub fn open_for<T: Session>(
     Ok(close(session.run(rt, alloc, conn)?)?)
 }
 
-/// Opens files that may fail for a session, if that can be done, and closes them. The files as they were left.
+/// Opens files that may fail for a session, if they open, and closes them. Returns the files as they were left.
 pub fn open_failing<T: Session>(
     rt: &impl Abort,
     alloc: Global,

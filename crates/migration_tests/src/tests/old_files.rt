@@ -30,7 +30,7 @@ pub struct Written {
 }
 
 impl Written {
-    /// Counts one more event; its number.
+    /// Counts one more event, and returns its number.
     fn next_event(&mut self) -> i64 {
         self.events = self.events.saturating_add(1);
         self.events
@@ -62,7 +62,7 @@ pub fn old_file(rt: &impl Abort, alloc: Global, rounds: u32) -> Result<OldFile, 
     Ok(OldFile { db, written })
 }
 
-/// The desk of so many rounds is written; what was written then.
+/// The desk of so many rounds is written; returns what was written.
 #[derive(Drop)]
 struct Writing {
     rounds: u32,

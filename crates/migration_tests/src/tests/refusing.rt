@@ -1,4 +1,4 @@
-//! Stores that are not migrated: what each answers, and that nothing of it changes.
+//! Stores that are not migrated: what each reports, and that nothing of it changes.
 use crate::tests::helping::{Session, bring_over, holds, open_for, run};
 use crate::tests::old_files::old_file;
 use migrate::MigrateFault;
@@ -8,7 +8,7 @@ use std::alloc::Global;
 use std::process::Abort;
 use std::test::Fail;
 
-/// A store is refused so, whether it is asked once or twice.
+/// A store is refused with this fault, whether migration is asked for once or twice.
 #[derive(Drop)]
 struct Refused<'a> {
     case: &'a str,
@@ -31,7 +31,7 @@ impl Session for Refused<'_> {
     }
 }
 
-/// The store of these bytes is refused so, and not a byte of it changes.
+/// The store of these bytes is refused with this fault, and not a byte of it changes.
 fn is_refused(
     rt: &impl Abort,
     alloc: Global,
@@ -72,7 +72,7 @@ fn changed(
     open_for(rt, alloc, &[], bytes, &mut Change { statements })
 }
 
-// what becomes of an old file, and what is answered then
+// what becomes of an old file, and what is reported then
 #[rattlefmt::skip]
 static CHANGES: [(&str, &[&str], MigrateFault); 8] = [
     ("version 2",         &["UPDATE meta SET version = 2"], MigrateFault::AlreadyNew),
@@ -96,7 +96,7 @@ fn another_version_or_none_is_refused(rt: HostRuntime) -> Result<(), Fail> {
     Ok(())
 }
 
-// what makes a store that is no desk's, and what is answered
+// what makes a store that is no desk's, and what is reported
 #[rattlefmt::skip]
 static FOREIGN: [(&str, &[&str], MigrateFault); 5] = [
     ("no tables",            &[], MigrateFault::UnknownSchema(0)),

@@ -1,5 +1,5 @@
-//! What is shown of an old file is what was written into it, and the same once the file is brought over. No desk is opened
-//! over an old file.
+//! What is shown of an old file is what was written into it, and the same after the file was migrated. No desk is
+//! opened over an old file.
 use crate::tests::helping::{Session, bring_over, holds, open, open_for};
 use crate::tests::old_desks::{IN_A_ROUND, OldJourney, cells, is_unfinished, journeys};
 use crate::tests::old_files::old_file;
@@ -75,7 +75,7 @@ pub fn journey_of<S: Alter>(
     )?)
 }
 
-/// The same of a journey as it was written.
+/// The report of a journey as it was written.
 fn expected_journey(alloc: Global, journey: &OldJourney) -> Result<String, AllocError> {
     let OldJourney {
         agent,
@@ -172,7 +172,7 @@ pub fn shown<S: Alter + Drop>(
     Ok(opened)
 }
 
-/// No desk is opened over what was found, which is handed back.
+/// No desk is opened over what was found, which is returned.
 pub fn handed_back<S: Alter + Drop>(
     rt: &impl Abort,
     alloc: Global,
@@ -195,7 +195,7 @@ pub fn desk_over<S: Alter + Drop>(alloc: Global, opened: Opened<S>) -> Result<Ta
     }
 }
 
-/// An old file is shown before and after no desk is opened over it, and once it is brought over.
+/// An old file is shown before and after a refused opening of its desk, and after it was migrated.
 #[derive(Drop)]
 struct ShownAlike {
     rounds: u64,

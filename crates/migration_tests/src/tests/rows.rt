@@ -8,7 +8,7 @@ use std::process::Abort;
 use std::str;
 use std::test::Fail;
 
-// the tables that migration leaves as they are, each in the order of its key
+// the tables that migration does not change, each in the order of its key
 static SAME: [&str; 5] = [
     "SELECT * FROM stock ORDER BY kind, supplier, product, night",
     "SELECT * FROM batch ORDER BY name",
@@ -51,7 +51,7 @@ fn push_row(text: &mut String, row: &Row) -> Result<(), Fail> {
     Ok(())
 }
 
-/// The rows of the tables that migration leaves as they are.
+/// The rows of the tables that migration does not change.
 pub fn same_rows<S: Alter>(alloc: Global, conn: &mut Connection<S>) -> Result<String, Fail> {
     let mut text = String::new(alloc);
     for statement in &SAME {
@@ -71,12 +71,12 @@ pub enum Schema {
 #[derive(Drop)]
 pub struct Held<'a> {
     pub written: &'a Written,
-    /// The rows of the tables that migration leaves as they are.
+    /// The rows of the tables that migration does not change.
     pub same: String,
 }
 
 impl Held<'_> {
-    /// The file holds all this under one of the schemas, and nothing else. Which one that is.
+    /// The file holds all this under one of the schemas, and nothing else. Returns which one that is.
     pub fn is_found<S: Alter>(
         &self,
         rt: &impl Abort,
@@ -126,7 +126,7 @@ impl Held<'_> {
     }
 }
 
-/// The rows of the tables that migration leaves as they are, once they are read.
+/// The rows of the tables that migration does not change, once they are read.
 #[derive(Drop)]
 struct SameRows {
     same: String,

@@ -1,4 +1,4 @@
-//! A file that was brought over is used: its keys give their replies, recovery brings every journey to its end, and a
+//! A file that was migrated is used: its keys give their replies, recovery brings every journey to its end, and a
 //! journey takes a save-point while it runs.
 use crate::tests::helping::{Session, book_over, bring_over, holds, open_for, run};
 use crate::tests::old_desks::{journeys, last_item};
@@ -28,7 +28,7 @@ fn open_old<T: Session>(
     Ok(())
 }
 
-/// The desk over a store that is brought over now.
+/// The desk over a store that is migrated now.
 fn brought_over<S: Alter + Drop>(
     rt: &impl Abort,
     alloc: Global,
@@ -187,7 +187,7 @@ fn have_ended<B: Book>(
     Ok(())
 }
 
-/// A file is brought over and recovered.
+/// A file is migrated and recovered.
 #[derive(Drop)]
 struct Recovered {
     rounds: u8,
@@ -218,7 +218,7 @@ fn recovery_brings_every_journey_to_its_end(rt: HostRuntime) -> Result<(), Fail>
     Ok(())
 }
 
-/// A file of one round is brought over, and its old items are deleted.
+/// A file of one round is migrated, and its old items are deleted.
 #[derive(Drop)]
 struct WithoutOld;
 
@@ -288,7 +288,7 @@ fn command_of(alloc: Global, asked: Asked) -> Result<Command, Fail> {
     })
 }
 
-/// The ninth journey is answered so.
+/// The ninth journey gets these answers.
 fn is_answered<B: Book>(rt: &impl Abort, alloc: Global, book: &mut B) -> Result<(), Fail> {
     for &(asked, expected) in &NEW_JOURNEY {
         let reply = book.act(&command_of(alloc, asked)?, None)?;
@@ -309,7 +309,7 @@ fn has_rows<S: Alter>(
     Ok(())
 }
 
-/// The ninth journey, in a file of one round that is brought over.
+/// The ninth journey, in a file of one round that is migrated.
 #[derive(Drop)]
 struct NewJourney;
 
@@ -344,7 +344,7 @@ fn batch(alloc: Global, name: &str, cells: &[(&str, u32)]) -> Result<Command, Fa
     Ok(Command::Load(Batch::new(alloc, name, rows)?))
 }
 
-// a batch, and what is answered: one that the old file has, with the same row and with another, and below what is held
+// a batch, and its answer: one that the old file has, with the same row and with another, and below what is held
 #[rattlefmt::skip]
 static BATCHES: [(&str, &[(&str, u32)], &str); 4] = [
     ("one", &[("F/AL/A1/2030-06-01", 100_000)], "loaded one 1"),
@@ -353,7 +353,7 @@ static BATCHES: [(&str, &[(&str, u32)], &str); 4] = [
     ("two", &[("F/AL/A6/2030-06-01", 0), ("F/AL/A1/2030-06-01", 5)], "loaded two 2"),
 ];
 
-/// The batches are answered so.
+/// The batches get these answers.
 fn are_loaded<B: Book>(rt: &impl Abort, alloc: Global, book: &mut B) -> Result<(), Fail> {
     for &(name, cells, expected) in &BATCHES {
         let reply = book.act(&batch(alloc, name, cells)?, None)?;
@@ -362,7 +362,7 @@ fn are_loaded<B: Book>(rt: &impl Abort, alloc: Global, book: &mut B) -> Result<(
     Ok(())
 }
 
-/// The batches, loaded into a file of one round that is brought over.
+/// The batches, loaded into a file of one round that is migrated.
 #[derive(Drop)]
 struct Loads;
 

@@ -6,7 +6,7 @@ use saga_core::RowSource;
 use std::alloc::{AllocError, Global};
 use std::io::{self, ErrorKind, Write};
 
-/// Hands out its rows, and then fails. It promises nothing of what it hands out.
+/// Returns its rows, and then fails. It promises nothing of what it returns.
 #[derive(Drop)]
 pub(super) struct Failing<'a, T> {
     rows: &'a [T],
@@ -49,7 +49,7 @@ impl<T: Copy> RowSource<T> for Failing<'_, T> {
     }
 }
 
-/// Takes bytes in pieces, each after an interruption, and fails at a byte for which it has no room.
+/// Takes bytes in pieces, each after an interruption, and fails at the first byte for which it has no room.
 #[derive(Drop)]
 pub(super) struct Sink {
     taken: Vec<u8>,
@@ -60,7 +60,7 @@ pub(super) struct Sink {
 }
 
 impl Sink {
-    /// Takes so many bytes and no more. It takes no more memory.
+    /// Takes so many bytes and no more. It allocates nothing later.
     pub(super) fn new(alloc: Global, step: usize, room: usize) -> Result<Sink, AllocError> {
         Ok(Sink {
             taken: Vec::with_capacity(alloc, room)?,

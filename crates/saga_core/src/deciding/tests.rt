@@ -1,5 +1,6 @@
 // What the rules let a journey do next, by a table. Its plan stands apart from the tries.
-use crate::tests::holds;
+ghost use Rattle.std.specs.Prelude.{IsTrue};
+
 use crate::{Cursor, Move, Phase, decide};
 use plan::Plan;
 use savepoints::Marks;
@@ -32,6 +33,13 @@ const MOVES: [(&str, u8, &[usize], usize, Phase, usize, bool, Move); 15] = [
     ("at the end it does nothing",             2, &[1, 2], 3, Phase::Ended,   1, true,  Move::Nothing),
     ("nor once it is undone",                  2, &[],     0, Phase::Undone,  1, true,  Move::Nothing),
 ];
+
+/// Stops the test where this is not so.
+fn holds(rt: &impl Abort, case: &str, is_so: bool)
+    ensures { IsTrue is_so }
+{
+    assert!(rt; is_so, "{case}");
+}
 
 /// Save-points at these positions.
 fn marks_at(rt: &impl Abort, positions: &[usize]) -> Marks {

@@ -12,11 +12,11 @@ use Rattle.allotment.proofs.laws.values_have_one_text.Goals as goal
 pub returns-clause-numbers : goal.returns-clause-numbers
 returns-clause-numbers c = λ n k. (λ e. (refl, number_read n k e), λ h. ap kind_of_number h.1 ∙ number_again k)
 
--- so it is with letters
+-- the first kind with a letter is the one that has it
 pub returns-clause-letters : goal.returns-clause-letters
 returns-clause-letters c = λ t k. (λ e. (refl, letter_read t k e), λ h. ap kind_of_letter h.1 ∙ letter_again k)
 
--- and with words
+-- the first kind with a word is the one that has it
 pub returns-clause-words : goal.returns-clause-words
 returns-clause-words c = λ t k. (λ e. (refl, word_read t k e), λ h. ap kind_of_word h.1 ∙ word_again k)
 

@@ -19,7 +19,7 @@ use Rattle.allotment.proofs.nights.day_of.Goals.{then-day-lt-FIRST-via-then-day-
 signed_year : (y : ℕ) → y < 10000 → to_z w16 y ≡ pos y
 signed_year y small = omega (arith, ints)
 
--- so is a number of two digits
+-- a number of two digits is the same number with a sign
 signed_pair : (n : ℕ) → n < 100 → to_z w8 n ≡ pos n
 signed_pair n small = omega (arith, ints)
 

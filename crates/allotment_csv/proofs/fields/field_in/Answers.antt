@@ -10,7 +10,7 @@ pub from_utf8_unchecked-requires : goal.from_utf8_unchecked-requires
 from_utf8_unchecked-requires c =
     text_of_ascii c.args.record.now c.args.place c.in_ok-field.field.now (c.requires c.if-ascii.true) c.in_ok-field.ensures.value
 
--- and it is there
+-- a field of a record of ASCII is there, and is text
 pub returns-then-ascii : goal.returns-then-ascii
 returns-then-ascii c =
     let text = text_of_ascii c.args.record.now c.args.place c.in_ok-field.field.now (c.requires c.if-ascii.true) c.in_ok-field.ensures.value in

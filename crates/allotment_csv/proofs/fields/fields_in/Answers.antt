@@ -40,7 +40,7 @@ returns-in_err-places c =
     ∙ sym (no_shape_at (fields_of c.args.record.now) 4 (omega arith) (sym c.len.ensures ∙ c.if-len-ne5.false)
     (sym c.in_err-places.ensures))
 
--- all five are
+-- all five fields are text
 pub returns : goal.returns
 returns c =
     sym (has_texts (fields_of c.args.record.now) c.in_ok-kind.kind.now c.in_ok-supplier.supplier.now

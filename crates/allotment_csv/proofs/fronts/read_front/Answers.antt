@@ -5,7 +5,7 @@ use Rattle.allotment_csv.proofs.FrontLemmas.{IsReadTo, read_to_more, read_to_end
 use Rattle.allotment_csv.proofs.fronts.read_front.Goals as goal
 use Rattle.allotment_csv.proofs.fronts.read_front.Goals.{then-branch, else-branch}
 
--- the record at hand is one more row
+-- the current record is one more row
 pub loop-reader-preserved : goal.loop-reader-preserved
 loop-reader-preserved c =
     let inv = c.loop-reader.invariant in
@@ -22,7 +22,7 @@ loop-reader-preserved c =
       omega (arith, len, c.loop-reader-test.true, c.len.ensures),
     )
 
--- the record at hand is no row
+-- the current record is no row
 pub returns-in-Err-clause-front : goal.returns-in-Err-clause-front
 returns-in-Err-clause-front c =
     let inv = c.loop-reader.invariant in

@@ -10,6 +10,6 @@ invariant-loop-reader l =
     IsReading l.reader × IsReadTo (records_left l.fn.reader) (records_left l.reader) l.rows.items
     × (length l.rows.items ≡ vec_len l.rows) × (vec_len l.rows ≤ most_rows)
 
--- there may be so many rows more
+-- so many more rows may be read
 abbrev pub decreases-loop-reader : goal.decreases-loop-reader
 decreases-loop-reader l = most_rows - vec_len l.rows

@@ -4,11 +4,11 @@ use Rattle.allotment.specs.Making.{first_fault}
 use Rattle.commands.specs.Batches.{repeat_among}
 use Rattle.allotment_csv.specs.Files.{in_csv, rows_of, rows_faults}
 use Rattle.allotment_csv.specs.Fronts.{IsFront}
-use Rattle.allotment_csv.specs.Told.{IsTold}
+use Rattle.allotment_csv.specs.Results.{IsTold}
 use Rattle.allotment_csv.proofs.FrontLemmas.{whole_again, whole_stopped, whole_empty, whole_good, whole_of_batch, none_if_empty, some_if_not, none_if_not}
 use Rattle.allotment_csv.proofs.fronts.whole.Goals as goal
 
--- a cell comes again
+-- a cell is repeated
 pub returns-in-Some-clause-whole : goal.returns-in-Some-clause-whole
 returns-in-Some-clause-whole c all is =
     let rows = c.args.front.rows.items in
@@ -52,7 +52,7 @@ returns-in-None-2-clause-whole c all is =
     whole_good all rows (subst (IsFront all rows) c.in-None-2.is is) once
     (some_if_not c.args.front.rows.len (length rows) count (sym c.is_empty.ensures ∙ c.if-is_empty.false))
 
--- and the rows are those of a batch
+-- the rows make a batch
 pub returns-in-None-2-clause-good : goal.returns-in-None-2-clause-good
 returns-in-None-2-clause-good c all is =
     let rows = c.args.front.rows.items in

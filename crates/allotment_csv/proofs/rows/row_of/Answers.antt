@@ -4,7 +4,7 @@ use Rattle.allotment.specs.Nights.{night_in}
 use Rattle.allotment.specs.declared.faults.Bad.TheVariants as bad
 use Rattle.allotment_csv.proofs.rows.row_of.Goals as goal
 
--- the kind is none
+-- the first text is no kind
 pub returns-in_default : goal.returns-in_default
 returns-in_default c =
     no_kind c.args.fields.now.kind.now c.args.fields.now.supplier.now c.args.fields.now.product.now c.args.fields.now.night.now c.args.fields.now.places.now (sym c.in_default.ensures)
@@ -21,7 +21,7 @@ returns-in_default-parse-2 c =
     no_product c.args.fields.now.kind.now c.args.fields.now.supplier.now c.args.fields.now.product.now c.args.fields.now.night.now c.args.fields.now.places.now
     c.in-Some.kind (sym c.in-Some.ensures) (sym c.in_default-parse-2.ensures)
 
--- the night is none
+-- the text is no night
 pub returns-in_default-parse-3 : goal.returns-in_default-parse-3
 returns-in_default-parse-3 c =
     no_night c.args.fields.now.kind.now c.args.fields.now.supplier.now c.args.fields.now.product.now c.args.fields.now.night.now c.args.fields.now.places.now
@@ -30,7 +30,7 @@ returns-in_default-parse-3 c =
     (found_nothing (night_in c.args.fields.now.night.now) bad.Night c.in_default-parse-3.field-0
     (sym c.in_default-parse-3.is ∙ c.parse-3.ensures))
 
--- the places are none
+-- the text is no number of places
 pub returns-in_default-places_of : goal.returns-in_default-places_of
 returns-in_default-places_of c =
     no_places c.args.fields.now.kind.now c.args.fields.now.supplier.now c.args.fields.now.product.now c.args.fields.now.night.now c.args.fields.now.places.now

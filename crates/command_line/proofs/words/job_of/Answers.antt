@@ -1,6 +1,6 @@
 -- The values of a job are those of the matches.
 use Rattle.std.proofs.Common.{◌∙◌, ap, map, codes, refl, subst, sym}
-use Rattle.std.specs.Prelude.{Err}
+use Rattle.std.specs.Prelude.{Err, Some}
 use Rattle.std.proofs.lemmas.Result.{err_from_is_err_and}
 use Rattle.std.specs.String.{string_bytes}
 use Rattle.command_line.specs.Jobs.{number_named, most_port, most_connections, IsUsage}
@@ -13,7 +13,7 @@ pub returns-in-Run-clause-job : goal.returns-in-Run-clause-job
 returns-in-Run-clause-job c =
     let read = value_read (app_for c.args.subcommand) (map string_bytes c.args.words.now) c.in_ok-matches.matches in
     record {
-      subcommand = sym c.in-Run.is;
+      subcommand = ap Some (sym c.in-Run.is);
       values = read (codes "FILE") _ c.in_ok-matches.ensures.rows c.in_ok-file.ensures.value;
     }
 
@@ -25,7 +25,7 @@ returns-in-Serve-clause-job c =
     let m = c.in_ok-matches.matches in
     let rows = c.in_ok-matches.ensures.rows in
     record {
-      subcommand = sym c.in-Serve.is;
+      subcommand = ap Some (sym c.in-Serve.is);
       values = (
         value_read app words m (codes "FILE") _ rows c.in_ok-file.ensures.value,
         ap (number_named most_port) (value_in-matches app words m (codes "PORT") rows) ∙ c.in_ok-port-in-Serve.ensures.number,
@@ -70,7 +70,7 @@ pub returns-in-Recover-clause-job : goal.returns-in-Recover-clause-job
 returns-in-Recover-clause-job c =
     let read = value_read (app_for c.args.subcommand) (map string_bytes c.args.words.now) c.in_ok-matches.matches in
     record {
-      subcommand = sym c.in-Recover.is;
+      subcommand = ap Some (sym c.in-Recover.is);
       values = read (codes "FILE") _ c.in_ok-matches.ensures.rows c.in_ok-file.ensures.value;
     }
 
@@ -78,7 +78,7 @@ pub returns-in-Stock-clause-job : goal.returns-in-Stock-clause-job
 returns-in-Stock-clause-job c =
     let read = value_read (app_for c.args.subcommand) (map string_bytes c.args.words.now) c.in_ok-matches.matches in
     record {
-      subcommand = sym c.in-Stock.is;
+      subcommand = ap Some (sym c.in-Stock.is);
       values = read (codes "FILE") _ c.in_ok-matches.ensures.rows c.in_ok-file.ensures.value;
     }
 
@@ -86,7 +86,7 @@ pub returns-in-Unfinished-clause-job : goal.returns-in-Unfinished-clause-job
 returns-in-Unfinished-clause-job c =
     let read = value_read (app_for c.args.subcommand) (map string_bytes c.args.words.now) c.in_ok-matches.matches in
     record {
-      subcommand = sym c.in-Unfinished.is;
+      subcommand = ap Some (sym c.in-Unfinished.is);
       values = read (codes "FILE") _ c.in_ok-matches.ensures.rows c.in_ok-file.ensures.value;
     }
 
@@ -94,7 +94,7 @@ pub returns-in-Load-clause-job : goal.returns-in-Load-clause-job
 returns-in-Load-clause-job c =
     let read = value_read (app_for c.args.subcommand) (map string_bytes c.args.words.now) c.in_ok-matches.matches in
     record {
-      subcommand = sym c.in-Load.is;
+      subcommand = ap Some (sym c.in-Load.is);
       values = (
         read (codes "FILE") _ c.in_ok-matches.ensures.rows c.in_ok-file.ensures.value,
         read (codes "CSV") _ c.in_ok-matches.ensures.rows c.in_ok-csv-in-Load.ensures.value,
@@ -106,7 +106,7 @@ pub returns-in-History-clause-job : goal.returns-in-History-clause-job
 returns-in-History-clause-job c =
     let read = value_read (app_for c.args.subcommand) (map string_bytes c.args.words.now) c.in_ok-matches.matches in
     record {
-      subcommand = sym c.in-History.is;
+      subcommand = ap Some (sym c.in-History.is);
       values = (
         read (codes "FILE") _ c.in_ok-matches.ensures.rows c.in_ok-file.ensures.value,
         read (codes "ID") _ c.in_ok-matches.ensures.rows c.in_ok-id-in-History.ensures.value,
@@ -117,6 +117,6 @@ pub returns-clause-job : goal.returns-clause-job
 returns-clause-job c =
     let read = value_read (app_for c.args.subcommand) (map string_bytes c.args.words.now) c.in_ok-matches.matches in
     record {
-      subcommand = sym c.in-Migrate.is;
+      subcommand = ap Some (sym c.in-Migrate.is);
       values = read (codes "FILE") _ c.in_ok-matches.ensures.rows c.in_ok-file.ensures.value;
     }

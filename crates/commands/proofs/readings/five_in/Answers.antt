@@ -1,4 +1,4 @@
--- Five words are told by the first.
+-- A reply of five words is recognized by the first.
 use Rattle.commands.proofs.WordLemmas.{are_standing}
 use Rattle.commands.proofs.readings.five_in.Goals as goal
 

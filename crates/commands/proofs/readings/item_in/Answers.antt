@@ -1,10 +1,10 @@
--- The first letter tells which item the text can be of.
+-- The first letter decides which item the text can be of.
 use Rattle.std.proofs.Common.{arith}
 use Rattle.std.proofs.lemmas.Str.Pattern.{strip_prefix_char}
 use Rattle.commands.proofs.ItemLemmas.{no_transaction, no_compensation, no_turn, no_letter}
 use Rattle.commands.proofs.readings.item_in.Goals as goal
 
--- behind a T stand no step and option
+-- the text after a T is no step and option
 pub returns-in_err-step : goal.returns-in_err-step
 returns-in_err-step c =
     let text = c.args.text.now in
@@ -14,7 +14,7 @@ returns-in_err-step c =
       found = no_transaction text c.in-Some.rest.now first c.in_err-step.ensures.found;
     })
 
--- behind a C stand no step and option
+-- the text after a C is no step and option
 pub returns-in_err-step-2 : goal.returns-in_err-step-2
 returns-in_err-step-2 c =
     let text = c.args.text.now in
@@ -25,7 +25,7 @@ returns-in_err-step-2 c =
       found = no_compensation text rest first c.in_err-step-2.ensures.found;
     })
 
--- behind a B stand no target and cause
+-- the text after a B is no target and cause
 pub returns-in_err-target : goal.returns-in_err-target
 returns-in_err-target c =
     let text = c.args.text.now in
@@ -36,7 +36,7 @@ returns-in_err-target c =
       found = no_turn text rest first c.in_err-target.ensures.found;
     })
 
--- no letter of an item stands in front
+-- the text begins with no letter of an item
 pub returns-in_err-rest : goal.returns-in_err-rest
 returns-in_err-rest c =
     let text = c.args.text.now in

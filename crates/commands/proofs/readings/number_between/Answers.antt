@@ -13,7 +13,7 @@ found_low : (low high : ℕ) (text : List ℕ) (found : Option ℕ)
 found_low low high text None none = tt
 found_low low high text (Some n) is = (between_parts low high n is.0).1
 
--- both follow from what the reader finds
+-- both clauses follow from what the reader finds
 pub returns : goal.returns
 returns c =
     let word = c.args.word.now in

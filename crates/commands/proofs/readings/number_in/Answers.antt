@@ -1,11 +1,10 @@
--- A text that is written of a number within the limits begins as numbers do, and is read as it. So
--- each way out tells the truth.
+-- The text of a number within the limits begins as numbers do, and is read as it. So the result is right on each path.
 use Rattle.std.specs.Prelude.{◌≡◌}
 use Rattle.std.proofs.Common.{sym, arith}
 use Rattle.commands.proofs.NumberLemmas.{between_parts, between_from, plain_parsed, spelled_plain, spelled_parsed}
 use Rattle.commands.proofs.readings.number_in.Goals as goal
 
--- a text with another beginning is written of no number
+-- a text that begins otherwise is the text of no number
 pub returns-then-not-begins_plain : goal.returns-then-not-begins_plain
 returns-then-not-begins_plain c = record {
   found = λ x within spelled.
@@ -14,7 +13,7 @@ returns-then-not-begins_plain c = record {
       let other = c.if-not-begins_plain.ensures.first in cc;
 }
 
--- a text that is written of a number would be read
+-- the text of a number would be read
 pub returns-in_default : goal.returns-in_default
 returns-in_default c = record {
   found = λ x within spelled.
@@ -24,7 +23,7 @@ returns-in_default c = record {
       c.in_default.not-Ok x (read x within spelled);
 }
 
--- a number out of the limits is no other within them
+-- a number out of the limits is none within them
 pub returns-then-number-low : goal.returns-then-number-low
 returns-then-number-low c = record {
   found = λ x within spelled.

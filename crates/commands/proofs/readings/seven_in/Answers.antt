@@ -1,4 +1,4 @@
--- Seven words are told by the first, the fourth and the sixth.
+-- A reply of seven words is recognized by the first, the fourth and the sixth.
 use Rattle.commands.proofs.WordLemmas.{are_back, no_seven, unlike}
 use Rattle.commands.proofs.readings.seven_in.Goals as goal
 use Rattle.commands.proofs.readings.seven_in.Goals.{then-ne-via-then-ne, then-ne-via-else-ne+then-ne-2, then-ne-via-else-ne+else-ne-2+then-ne-3}

@@ -1,5 +1,5 @@
--- The text of a step and its option is cut at its first dot. So where there is no dot, or a part is
--- no such number, the text is of none.
+-- The text of a step and its option is cut at its first dot. So a text without a dot, or with a part that is no such
+-- number, is the text of none.
 use Rattle.commands.proofs.StepLemmas.{step_limits, step_cut}
 use Rattle.commands.proofs.readings.step_in.Goals as goal
 
@@ -20,7 +20,7 @@ returns-in_err-step-2 c = rw c.from_residual-in_err-step-2.ensures (record {
       c.in_err-step-2.ensures.found pair.0 (step_limits pair good).0 parts.0;
 })
 
--- what stands behind the dot is no option
+-- what stands after the dot is no option
 pub returns-in_err-option : goal.returns-in_err-option
 returns-in_err-option c = rw c.from_residual-in_err-option.ensures (record {
   found = λ pair good spelled.

@@ -1,8 +1,8 @@
--- Words whose last two tell no state are of no reply.
+-- Words whose last two are no state are of no reply.
 use Rattle.commands.proofs.ReplyLemmas.{no_state}
 use Rattle.commands.proofs.readings.stood_in.Goals as goal
 
--- the last two words tell no state
+-- the last two words are no state
 pub returns-in_err-pos : goal.returns-in_err-pos
 returns-in_err-pos c =
     let none = c.in_err-pos.ensures.found in

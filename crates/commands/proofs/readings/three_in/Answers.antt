@@ -1,4 +1,4 @@
--- Three words are told by the first, or by the first and the last.
+-- A reply of three words is recognized by the first, or by the first and the last.
 use Rattle.commands.proofs.WordLemmas.{are_loaded, are_begun}
 use Rattle.commands.proofs.readings.three_in.Goals as goal
 

@@ -4,7 +4,7 @@ use Rattle.commands.specs.CellKeys.{row_key, is_above, rises_above}
 use Rattle.commands.proofs.RepeatLemmas.{rises_at}
 use Rattle.commands.proofs.repeats.are_rising.Goals as goal
 
--- the row at hand is above the last one, and those behind it are to rise above it
+-- the current row is above the last one, and the later ones have to rise above it
 pub loop-row-preserved : goal.loop-row-preserved
 loop-row-preserved c =
     let rows = c.args.rows.now in

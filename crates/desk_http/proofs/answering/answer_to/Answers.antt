@@ -1,7 +1,7 @@
 -- A message gets the page of what comes of it.
 use Rattle.std.proofs.Common.{subst}
 use Rattle.std.proofs.lemmas.Result.{err_from_is_err_and}
-use Rattle.messages.specs.Asked.{IsTaken}
+use Rattle.http_messages.specs.Requests.{IsTaken}
 use Rattle.desk_http.proofs.AnswerLemmas.{no_head_answered, request_answered, request_failed}
 use Rattle.desk_http.proofs.answering.answer_to.Goals as goal
 

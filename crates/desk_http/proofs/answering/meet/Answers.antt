@@ -1,7 +1,7 @@
 -- What is shown changes nothing.
 use Rattle.std.proofs.Common.{subst, sym}
 use Rattle.desk_http.specs.Answering.{Meets}
-use Rattle.desk_http.specs.Told.{demand_said}
+use Rattle.desk_http.specs.DemandValues.{demand_said}
 use Rattle.desk_http.proofs.answering.meet.Goals as goal
 
 pub returns-in-SeeJourney-clause-page : goal.returns-in-SeeJourney-clause-page

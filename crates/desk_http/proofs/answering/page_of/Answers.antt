@@ -2,7 +2,7 @@
 use Rattle.std.proofs.Common.{◌∙◌, sym, subst}
 use Rattle.std.specs.Prelude.{Err}
 use Rattle.desk_http.specs.Demands.{demand_of}
-use Rattle.desk_http.specs.Told.{Demands}
+use Rattle.desk_http.specs.DemandValues.{Demands}
 use Rattle.desk_http.proofs.AnswerLemmas.{denied_says}
 use Rattle.desk_http.proofs.answering.page_of.Goals as goal
 

@@ -1,7 +1,7 @@
 -- A body that is no text is no value.
 use Rattle.std.proofs.Common.{refl, sym}
 use Rattle.std.proofs.lemmas.Str.{is_utf8-from_IsUtf8}
-use Rattle.pages.proofs.TextLemmas.{not_utf8}
+use Rattle.http_pages.proofs.TextLemmas.{not_utf8}
 use Rattle.desk_http.proofs.bodies.value_of.Goals as goal
 
 pub returns-in_default : goal.returns-in_default

@@ -11,9 +11,10 @@ returns-clause-world g c = λ sound.
     messages_go_on {stood = book.stands c.args.book.now}
     (scene (contents c.args.writer.now) (contents c.serve_book.new.writer)
     (book.stands c.serve_book.new.book) (book.leaves c.serve_book.new.book))
-    (g.R.Read.remaining c.args.reader.now) _ (c.serve_book.ensures.all sound)
+    (g.R.Read.remaining c.args.reader.now) _ (g.met.B.Book.settled c.serve_book.new.book)
+    (c.serve_book.ensures.all sound)
 
--- or with a front of them
+-- or with a prefix of them
 pub returns-clause-world_at_fault : goal.returns-clause-world_at_fault
 returns-clause-world_at_fault g c = λ sound.
     let book = g.B.Book in
@@ -21,4 +22,5 @@ returns-clause-world_at_fault g c = λ sound.
     messages_stop {stood = book.stands c.args.book.now}
     (scene (contents c.args.writer.now) (contents c.serve_book.new.writer)
     (book.stands c.serve_book.new.book) (book.leaves c.serve_book.new.book))
-    (g.R.Read.remaining c.args.reader.now) _ (c.serve_book.ensures.some sound)
+    (g.R.Read.remaining c.args.reader.now) _ (g.met.B.Book.settled c.serve_book.new.book)
+    (c.serve_book.ensures.some sound)

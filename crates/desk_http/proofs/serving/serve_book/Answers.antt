@@ -2,7 +2,7 @@
 use Rattle.std.proofs.Common.{subst, sym}
 use Rattle.std.specs.Io.KnownBytes.{Appends}
 use Rattle.std.proofs.lemmas.Result.{err_from_is_err_and}
-use Rattle.messages.specs.Reading.{IsNext, to_come}
+use Rattle.http_messages.specs.Reading.{IsNext, to_come}
 use Rattle.streams.specs.Written.{WroteFront}
 use Rattle.protocols.specs.Faults.{IsOfReading}
 use Rattle.protocols.specs.Scenes.{scene}

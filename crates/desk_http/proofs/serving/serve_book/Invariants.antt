@@ -1,7 +1,7 @@
 use Rattle.std.proofs.Common.{◌≡◌, List, ℕ}
 use Rattle.std.specs.Prelude.{IsTrue, Some}
 use Rattle.ledger.specs.Answer.{State}
-use Rattle.messages.specs.Reading.{to_come}
+use Rattle.http_messages.specs.Reading.{to_come}
 use Rattle.saga_core.specs.Books.{LeavesNoMore}
 use Rattle.protocols.specs.Scenes.{scene}
 use Rattle.desk_http.proofs.ServeLemmas.{SoFar}

@@ -1,7 +1,7 @@
 -- The agent's own journeys are found one after another.
 use Rattle.std.proofs.Common.{◌∙◌, ◌≡◌, ◌++◌, sym, ap, append-nil}
 use Rattle.std.specs.Prelude.{Some, None}
-use Rattle.saga_core.specs.Shown.{first_unfinished}
+use Rattle.saga_core.specs.Views.{first_unfinished}
 use Rattle.desk_http.proofs.UnfinishedLemmas.{own_above, own_at_first, own_at_last, own_grows, own_stays}
 use Rattle.desk_http.proofs.showing.own_unfinished.Goals as goal
 use Rattle.desk_http.proofs.showing.own_unfinished.Goals.{then-eq+in_ok-push, else-eq}

@@ -1,6 +1,6 @@
 -- The text of the report is what a writer that held nothing holds.
 use Rattle.std.proofs.Common.{◌∙◌, ◌++◌, ap, sym}
-use Rattle.pages.specs.Pages.{report_page}
+use Rattle.http_pages.specs.Pages.{report_page}
 use Rattle.reports.specs.Layouts.{stock_report}
 use Rattle.desk_http.proofs.showing.see_stock.Goals as goal
 

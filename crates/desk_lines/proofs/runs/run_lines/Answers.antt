@@ -11,9 +11,10 @@ returns-clause-world g c = λ sound.
     lines_go_on {stood = book.stands c.args.book.now}
     (scene (contents c.args.writer.now) (contents c.answer_input.new.writer)
     (book.stands c.answer_input.new.book) (book.leaves c.answer_input.new.book))
-    (g.R.Read.remaining c.args.reader.now) _ (c.answer_input.ensures.all sound)
+    (g.R.Read.remaining c.args.reader.now) _ (g.met.B.Book.settled c.answer_input.new.book)
+    (c.answer_input.ensures.all sound)
 
--- or with a front of them
+-- or with a prefix of them
 pub returns-clause-world_at_fault : goal.returns-clause-world_at_fault
 returns-clause-world_at_fault g c = λ sound.
     let book = g.B.Book in
@@ -21,4 +22,5 @@ returns-clause-world_at_fault g c = λ sound.
     lines_stop {stood = book.stands c.args.book.now}
     (scene (contents c.args.writer.now) (contents c.answer_input.new.writer)
     (book.stands c.answer_input.new.book) (book.leaves c.answer_input.new.book))
-    (g.R.Read.remaining c.args.reader.now) _ (c.answer_input.ensures.some sound)
+    (g.R.Read.remaining c.args.reader.now) _ (g.met.B.Book.settled c.answer_input.new.book)
+    (c.answer_input.ensures.some sound)

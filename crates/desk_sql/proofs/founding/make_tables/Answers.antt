@@ -20,7 +20,7 @@ returns-clause-made g c clean start =
     let two = c.in_ok-make_next.ensures.made at_d (then_build a b first_schema one) in
     let three = c.in_ok-make_last.ensures.made at_e (then_build b d seven_schema two) in
     let four = c.in_ok-insert_meta.ensures.made clean no_rows
-    (record { inside = three.inside; sees = λ _. sees_none e three.made }) refl in
+    (record { inside = three.inside; sees = λ _. sees_none e three.made three.sound }) refl in
     record {
       was_open = one.was_open;
       is_open = four.is_open;

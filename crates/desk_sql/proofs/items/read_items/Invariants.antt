@@ -1,6 +1,6 @@
 -- What was read so far is what stands in the rows so far.
 use Rattle.std.proofs.Common.{◌≡◌, map, take}
-use Rattle.desk_sql.specs.Found.{shows_item, four_of}
+use Rattle.desk_sql.specs.FoundRows.{shows_item, four_of}
 use Rattle.desk_sql.proofs.items.read_items.Given as goal
 
 abbrev pub invariant-loop-row : goal.invariant-loop-row

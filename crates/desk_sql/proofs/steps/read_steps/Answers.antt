@@ -1,6 +1,6 @@
 -- The option that was read is that of the row after those so far.
 use Rattle.std.proofs.Common.{ap, ◌∙◌, map}
-use Rattle.desk_sql.specs.Found.{shows_step, ten_of}
+use Rattle.desk_sql.specs.FoundRows.{shows_step, ten_of}
 use Rattle.desk_sql.proofs.OneMore.{one_more}
 use Rattle.desk_sql.proofs.steps.read_steps.Goals as goal
 

@@ -1,6 +1,6 @@
 -- What was read so far is what stands in the rows so far.
 use Rattle.std.proofs.Common.{◌≡◌, map, take}
-use Rattle.desk_sql.specs.Found.{six_of}
+use Rattle.desk_sql.specs.FoundRows.{six_of}
 use Rattle.desk_sql.specs.Stock.{shows_cell}
 use Rattle.desk_sql.proofs.stock.read_cells.Given as goal
 

@@ -1,6 +1,6 @@
 -- What was read so far is what stands in the rows so far.
 use Rattle.std.proofs.Common.{◌≡◌, map, take}
-use Rattle.desk_sql.specs.Found.{three_of}
+use Rattle.desk_sql.specs.FoundRows.{three_of}
 use Rattle.desk_sql.specs.Stock.{shows_night}
 use Rattle.desk_sql.proofs.stock.read_nights.Given as goal
 

@@ -1,5 +1,5 @@
--- Two recovered ledgers have the same turns, the same compensations and the same steps; and one is
--- found, journey by journey, since each step leaves fewer.
+-- Two recovered ledgers have the same turns, the same compensations and the same steps. One exists, journey by journey,
+-- since each step leaves fewer.
 use Rattle.ledger.proofs.Recoverable.{recovered-exists}
 use Rattle.ledger.proofs.Recovering.{recovered-unique}
 use Rattle.ledger.proofs.UnderWay.{recovery-goes_on}

@@ -1,8 +1,10 @@
 -- What a crash leaves where the migration did not come to its end, and what the connection shows.
 use Rattle.std.proofs.Common.{◌≡◌, Ok, Err, sym, ◌∙◌, rules}
+use Rattle.desk_sql.specs.declared.versions.Version.TheVariants.{One}
 use Rattle.migrate.specs.Migrating.{LeavesEither, ShowsAsBefore}
 use Rattle.migrate.specs.declared.faults.MigrateFault.TheVariants.{UnknownSchema}
-use Rattle.migrate.proofs.Reading.{on_err}
+use Rattle.sqlite.specs.Held.{state}
+use Rattle.migrate.proofs.Reading.{on_err, found_keeps}
 use Rattle.migrate.proofs.Stopping.{left_as_before, shows_as_before, refuses_others, left_either, shows_either}
 use Rattle.migrate.proofs.migrating.migrate.Goals as goal
 
@@ -36,3 +38,21 @@ returns-in_err-bring_over-clause-shows g c =
     on_err (ShowsAsBefore g.S.Store c.args.conn.now c.bring_over.new.conn) c.from_residual-in_err-bring_over.result
     (shows_either g.S.Store c.args.conn.now c.read_old.new.conn c.bring_over.new.conn c.in_ok-meta.meta c.read_old.ensures.same
     c.in_ok-meta.ensures.version (λ none. absurd (let never : Ok c.in_ok-meta.meta ≡ Err (UnknownSchema 0) = sym c.in_ok-meta.was ∙ c.read_old.ensures.bare none in cc)) c.bring_over.ensures.sound c.in_err-bring_over.ensures.shows)
+
+-- the connection kept the state when the transaction began; so the same state is in the new tables
+pub returns-clause-same_state : goal.returns-clause-same_state
+returns-clause-same_state g c clean s stood =
+    let at_mid = c.bring_over.ensures.sound clean in
+    c.in_ok-bring_over.ensures.done s (c.in_ok-meta.ensures.numbers at_mid s stood)
+    (λ still. found_keeps (state g.S.Store c.read_old.new.conn) s (c.read_old.ensures.same.stands One s stood still)) clean
+
+-- the version was read before the transaction began
+pub returns-clause-version : goal.returns-clause-version
+returns-clause-version g c clean v t sees = c.in_ok-meta.ensures.version (c.bring_over.ensures.sound clean) v t sees
+
+-- and a crash leaves just the new tables
+pub returns-clause-left : goal.returns-clause-left
+returns-clause-left g c clean s stood db may =
+    let at_mid = c.bring_over.ensures.sound clean in
+    c.in_ok-bring_over.ensures.left clean s (c.in_ok-meta.ensures.numbers at_mid s stood)
+    (λ still. found_keeps (state g.S.Store c.read_old.new.conn) s (c.read_old.ensures.same.stands One s stood still)) db may

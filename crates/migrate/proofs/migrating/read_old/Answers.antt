@@ -1,11 +1,14 @@
 -- The version that was read is that of the tables; a read changes nothing.
-use Rattle.std.proofs.Common.{◌≡◌, arith}
+use Rattle.std.proofs.Common.{◌≡◌, sym, ap, subst, ◌∙◌, arith}
 use Rattle.sqlite.specs.State.{HasCleanDisk}
 use Rattle.sqlite.specs.Held.{state}
 use Rattle.desk_sql.proofs.Selecting.{ok_then}
-use Rattle.migrate.specs.Migrating.{NumbersOld}
+use Rattle.desk_sql.specs.Versions.{SawVersion}
+use Rattle.desk_sql.specs.declared.meta.Meta.{Meta}
+use Rattle.migrate.specs.Migrating.{IsAsBefore, NumbersOld, RefusesNumbers, Tells}
 use Rattle.migrate.proofs.Quiet.{as_before, quiet_same}
 use Rattle.migrate.proofs.Reading.{numbers_read}
+use Rattle.migrate.proofs.Telling.{on_ok, on_errors, saw_read, tells_numbers, tells_fault}
 use Rattle.migrate.proofs.migrating.read_old.Goals as goal
 
 pub returns-in-Ok-clause-numbers : goal.returns-in-Ok-clause-numbers
@@ -27,3 +30,33 @@ returns-in-Ok-clause-same g c =
 pub returns-in-Err-clause-same : goal.returns-in-Err-clause-same
 returns-in-Err-clause-same g c =
     as_before g.S.Store c.args.conn.now c.read_meta.new.conn c.read_meta.ensures.survives (λ clean. quiet_same _ _ (c.read_meta.ensures.quiet clean))
+
+pub returns-in-Ok-clause-version : goal.returns-in-Ok-clause-version
+returns-in-Ok-clause-version g c =
+    let old = c.args.conn.now in
+    let new = c.read_meta.new.conn in
+    let meta = c.in-Ok.meta in
+    let saw : SawVersion g.S.Store old new meta.version = saw_read g.S.Store old new meta c.in-Ok.ensures.found in
+    on_ok (SawVersion g.S.Store old new 1) _ c.old_only.result
+    (λ m is. subst (SawVersion g.S.Store old new) (ap (λ (n : Meta). n.version) (sym is.0) ∙ is.1) saw)
+    c.old_only.ensures.ok
+
+-- numbers that are refused changed nothing, and neither did a fault
+pub returns-in-Ok-clause-told : goal.returns-in-Ok-clause-told
+returns-in-Ok-clause-told g c =
+    let old = c.args.conn.now in
+    let new = c.read_meta.new.conn in
+    let meta = c.in-Ok.meta in
+    let same : IsAsBefore g.S.Store old new = as_before g.S.Store old new c.read_meta.ensures.survives
+    (λ clean. quiet_same _ _ (c.read_meta.ensures.quiet clean)) in
+    on_errors (RefusesNumbers meta) (Tells g.S.Store old new) c.old_only.result
+    (λ why is. tells_numbers g.S.Store old new meta why (saw_read g.S.Store old new meta c.in-Ok.ensures.found) same is)
+    c.old_only.ensures.refused
+
+pub returns-in-Err-clause-told : goal.returns-in-Err-clause-told
+returns-in-Err-clause-told g c =
+    let old = c.args.conn.now in
+    let new = c.read_meta.new.conn in
+    let same : IsAsBefore g.S.Store old new = as_before g.S.Store old new c.read_meta.ensures.survives
+    (λ clean. quiet_same _ _ (c.read_meta.ensures.quiet clean)) in
+    tells_fault g.S.Store old new c.fault_of.result _ c.fault_of.ensures.memory c.fault_of.ensures.store same

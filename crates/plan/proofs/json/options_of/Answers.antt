@@ -24,7 +24,7 @@ returns-in_err-want-clause-refused c =
     (each_fails (value_want i) k k vs v c.loop-value.options.items _ (wants_of_json i (views vs)) within c.value-item.is
     (value_want-is i k v ∙ sym c.in_err-want.ensures.want) c.loop-value.invariant)
 
--- one option more was read
+-- one more option was read
 pub loop-value-preserved : goal.loop-value-preserved
 loop-value-preserved c =
     let i = c.args.step in

@@ -4,7 +4,7 @@ use Rattle.plan.proofs.EachLemmas.{each, behind}
 use Rattle.plan.proofs.JsonEachLemmas.{value_want}
 use Rattle.plan.proofs.json.options_of.Given as goal
 
--- what was read, and what is read of the rest, is what is read of all
+-- the values so far, and what is read of the remaining ones, are what is read of all
 abbrev pub invariant-loop-value : goal.invariant-loop-value
 invariant-loop-value l =
     behind l.options.items (each (value_want l.step) l.value-index (drop l.value-index l.values))

@@ -1,7 +1,7 @@
 use Rattle.std.proofs.Common.{◌≡◌, ◌+◌, ◌<◌, ◌∷◌, [], map, length, drop, ap, ◌∙◌, arith, refl}
 use Rattle.std.proofs.lemmas.List.{map-append}
 use Rattle.std.proofs.lemmas.Result.{err_from_is_err_and}
-use Rattle.plan.specs.Planned.{step_said}
+use Rattle.plan.specs.PlanModel.{step_said}
 use Rattle.plan.specs.JsonLevels.{steps_of_json, views}
 use Rattle.plan.proofs.EachLemmas.{each, behind, each_more, each_fails, each_ends}
 use Rattle.plan.proofs.LevelLemmas.{IfBad-weaker}
@@ -33,7 +33,7 @@ returns-in_err-read-clause-refused c =
     within c.value-item.is (value_step-is n i v ∙ same) c.loop-value.invariant.whole)
     c.in_err-read.ensures.refused)
 
--- one step more was read
+-- one more step was read
 pub loop-value-preserved : goal.loop-value-preserved
 loop-value-preserved c =
     let vs = c.args.values.now in

@@ -1,11 +1,11 @@
 use Rattle.std.proofs.Common.{◌≡◌, ◌+◌, map, length, drop}
-use Rattle.plan.specs.Planned.{step_said}
+use Rattle.plan.specs.PlanModel.{step_said}
 use Rattle.plan.specs.JsonLevels.{steps_of_json, views}
 use Rattle.plan.proofs.EachLemmas.{each, behind}
 use Rattle.plan.proofs.JsonEachLemmas.{value_step}
 use Rattle.plan.proofs.json.steps_of.Given as goal
 
--- steps are numbered from 1; and what was read, and what is read of the rest, is what is read of all
+-- steps are numbered from 1; the steps so far, and what is read of the remaining ones, are what is read of all
 abbrev pub invariant-loop-value : goal.invariant-loop-value
 invariant-loop-value l = record {
   number : l.number ≡ l.value-index + 1;

@@ -2,6 +2,6 @@ use Rattle.plan.proofs.ReadLemmas.{read_is_spelled}
 use Rattle.plan.proofs.SpellLemmas.{spelled_is_read}
 use Rattle.plan.proofs.laws.one_spelling.Goals as goal
 
--- what is read is spelled so, and what is spelled so is read
+-- a text that is read as a plan is its line, and the line of a plan is read as it
 pub returns : goal.returns
 returns c = record { one_spelling = λ text p. (read_is_spelled text p, spelled_is_read text p) }

@@ -4,7 +4,7 @@ use Rattle.std.specs.List.{list_all}
 use Rattle.allotment.proofs.TestLemmas.{and_make}
 use Rattle.allotment.specs.Limits.{is_between, is_want}
 use Rattle.plan.specs.Limits.{most_options}
-use Rattle.plan.specs.Planned.{step_said}
+use Rattle.plan.specs.PlanModel.{step_said}
 use Rattle.plan.specs.Levels.{step_limits}
 use Rattle.plan.proofs.LevelLemmas.{limits_count}
 use Rattle.plan.proofs.KeptLemmas.{kept_refused, kept_within}
@@ -32,7 +32,7 @@ returns-clause-kept c =
     kept_within c.args.last c.args.number s good
     (c.in_ok-check_limits.ensures.limits ∙ ap (step_limits c.args.last c.args.number s.is_marked) many)
 
--- and each want keeps its own
+-- each want keeps its own limits
 pub returns-clause-limits : goal.returns-clause-limits
 returns-clause-limits c =
     let s = step_said c.args.step.now in

@@ -1,14 +1,14 @@
 use Rattle.std.proofs.Common.{◌+◌, ◌<◌, map, length, take, drop, ap, ◌∙◌, arith, refl}
 use Rattle.std.proofs.lemmas.List.{length-map}
 use Rattle.std.proofs.lemmas.Result.{err_from_is_err_and}
-use Rattle.plan.specs.Planned.{step_said}
+use Rattle.plan.specs.PlanModel.{step_said}
 use Rattle.plan.specs.Levels.{step_kept, steps_kept}
 use Rattle.plan.proofs.EachLemmas.{each, behind, each_more, each_fails}
 use Rattle.plan.proofs.KeptLemmas.{kept_whole}
 use Rattle.plan.proofs.MadeLemmas.{said_at, said_more, limits_more}
 use Rattle.plan.proofs.limits.check_steps.Goals as goal
 
--- no step was looked at yet
+-- no step was checked yet
 pub loop-step-init : goal.loop-step-init
 loop-step-init c = record {
   number = omega arith;
@@ -30,7 +30,7 @@ returns-in_err-check_step-clause-refused c =
     (map step_said (take k items)) c.in_err-check_step.field-0.0 (steps_kept (length items) (map step_said items))
     said (said_at items k x within c.step-item.is) c.in_err-check_step.ensures.refused c.loop-step.invariant.whole)
 
--- one step more keeps the limits
+-- one more step keeps the limits
 pub loop-step-preserved : goal.loop-step-preserved
 loop-step-preserved c =
     let items = c.args.steps.now in

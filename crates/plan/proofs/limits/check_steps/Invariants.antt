@@ -1,12 +1,13 @@
 use Rattle.std.proofs.Common.{◌≡◌, ◌+◌, map, length, take, drop}
 use Rattle.std.specs.Prelude.{IsTrue}
 use Rattle.std.specs.List.{list_all}
-use Rattle.plan.specs.Planned.{step_said, is_step}
+use Rattle.plan.specs.PlanModel.{step_said, is_step}
 use Rattle.plan.specs.Levels.{step_kept, steps_kept}
 use Rattle.plan.proofs.EachLemmas.{each, behind}
 use Rattle.plan.proofs.limits.check_steps.Given as goal
 
--- steps are numbered from 1; the steps so far keep the limits; and what is told of the rest is told of all
+-- steps are numbered from 1; the steps so far keep the limits; and the result of the remaining ones is the result of
+-- all
 abbrev pub invariant-loop-step : goal.invariant-loop-step
 invariant-loop-step l = record {
   number : l.number ≡ l.step-index + 1;

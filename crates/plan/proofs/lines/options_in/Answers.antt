@@ -28,7 +28,7 @@ returns-in_err-want-clause-refused c =
     (option_at-is c.args.step (length c.loop-part.yielded) c.in-Some.part.now ∙ sym c.in_err-want.ensures.want)
     c.loop-part.invariant)
 
--- one option more was read
+-- one more option was read
 pub loop-part-preserved : goal.loop-part-preserved
 loop-part-preserved c =
     let road = YieldsList-at c.into_iter-part-iterator.ensures.into_iter_gives

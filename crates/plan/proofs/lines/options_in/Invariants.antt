@@ -4,7 +4,7 @@ use Rattle.plan.specs.Levels.{options_in}
 use Rattle.plan.proofs.EachLemmas.{each, behind, option_at}
 use Rattle.plan.proofs.lines.options_in.Given as goal
 
--- what was read, and what is read of the rest, is what is read of the whole text
+-- the options so far, and what is read of the remaining text, are what is read of the whole text
 abbrev pub invariant-loop-part : goal.invariant-loop-part
 invariant-loop-part l =
     behind l.options.items (each (option_at l.step) (length l.yielded) (drop (length l.yielded) (parts bar l.text)))

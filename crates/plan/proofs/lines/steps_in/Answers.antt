@@ -4,7 +4,7 @@ use Rattle.std.proofs.lemmas.Iterator.Splits.{YieldsList-from_str_split}
 use Rattle.std.proofs.lemmas.List.{length_push, map-append}
 use Rattle.std.proofs.lemmas.Result.{err_from_is_err_and}
 use Rattle.allotment.specs.Texts.{parts, semicolon}
-use Rattle.plan.specs.Planned.{step_said}
+use Rattle.plan.specs.PlanModel.{step_said}
 use Rattle.plan.specs.Levels.{step_in, steps_in}
 use Rattle.plan.proofs.EachLemmas.{each, behind, steps_whole, each_more, each_fails, each_ends}
 use Rattle.plan.proofs.LevelLemmas.{IfBad-weaker}
@@ -33,7 +33,7 @@ returns-in_err-read-clause-refused c =
     turn.0 turn.1 same c.loop-part.invariant.whole)
     c.in_err-read.ensures.refused)
 
--- one step more was read
+-- one more step was read
 pub loop-part-preserved : goal.loop-part-preserved
 loop-part-preserved c =
     let road = YieldsList-at c.into_iter-part-iterator.ensures.into_iter_gives

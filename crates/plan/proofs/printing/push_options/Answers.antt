@@ -5,7 +5,7 @@ use Rattle.plan.proofs.PrintLemmas.{printed_more, texts_more, texts_many}
 use Rattle.plan.proofs.printing.push_options.Goals as goal
 use Rattle.plan.proofs.printing.push_options.Goals.{then-i-gt0+in_ok-push_str, else-i-gt0}
 
--- one option more stands behind those before it
+-- one more option is appended to those before it
 pub loop-i-preserved : goal.loop-i-preserved
 loop-i-preserved c =
     let xs = c.args.options.now in

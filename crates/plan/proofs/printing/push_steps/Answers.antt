@@ -2,14 +2,14 @@ use Rattle.std.proofs.Common.{◌≡◌, ◌<◌, ◌≤◌, ◌⊎◌, inl, inr
 use Rattle.std.specs.Prelude.{string_bytes}
 use Rattle.std.proofs.lemmas.List.{length-map, map-append}
 use Rattle.allotment.specs.Texts.{joined, semicolon}
-use Rattle.plan.specs.Planned.{step_said}
+use Rattle.plan.specs.PlanModel.{step_said}
 use Rattle.plan.specs.PlanLine.{step_text}
 use Rattle.plan.proofs.MadeLemmas.{said_more}
 use Rattle.plan.proofs.PrintLemmas.{printed_more}
 use Rattle.plan.proofs.printing.push_steps.Goals as goal
 use Rattle.plan.proofs.printing.push_steps.Goals.{then-i-gt0+in_ok-push_str, else-i-gt0}
 
--- one step more stands behind those before it
+-- one more step is appended to those before it
 pub loop-i-preserved : goal.loop-i-preserved
 loop-i-preserved c =
     let xs = c.args.steps.now in

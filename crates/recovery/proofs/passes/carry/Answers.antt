@@ -1,8 +1,8 @@
 use Rattle.std.proofs.Common.{◌≡◌, ◌++◌, ◌+◌, ◌<◌, ◌^◌, ap, sym, ◌∙◌, arith, subst}
 use Rattle.std.specs.Prelude.{true, false}
-use Rattle.recovery.specs.Growing.{with_events}
+use Rattle.recovery.specs.Growing.{with_events, LeavesAt}
 use Rattle.recovery.specs.Passes.{goes_on, CarriedOne}
-use Rattle.recovery.proofs.PassLemmas.{sum-fits}
+use Rattle.recovery.proofs.PassLemmas.{sum-fits, looked}
 use Rattle.recovery.proofs.CarriedLemmas.{carried-further, goes-first, carried-more, carried-cut, carried-look, carried-fault, carried-all}
 use Rattle.recovery.proofs.passes.carry.Goals as goal
 use Rattle.recovery.proofs.passes.carry.Goals.{then-goes_on+in-Ok-Through, else-goes_on}
@@ -49,11 +49,14 @@ pub returns-in-Err-clause-fault : goal.returns-in-Err-clause-fault
 returns-in-Err-clause-fault g c =
     λ sound s st.
     let was = c.first_unfinished.ensures.sound sound in
-    carried-look c.args.pass (g.B.Book.stands c.loop-round.book)
-    (g.B.Book.leaves c.first_unfinished.new.self) s c.loop-round.after c.loop-round.made
-    c.loop-round._round c.in-Err.fault (c.loop-round.invariant.carried was s st)
-    (λ u here. c.first_unfinished.ensures.stop sound u u
-    (g.met.B.Book.settled c.loop-round.book u here))
+    let book = g.B.Book in
+    carried-look c.args.pass (book.stands c.loop-round.book)
+    (LeavesAt c.in-Err.fault (book.stands c.first_unfinished.new.self) (book.leaves c.first_unfinished.new.self)) s
+    c.loop-round.after c.loop-round.made c.loop-round._round c.in-Err.fault
+    (c.loop-round.invariant.carried was s st)
+    (looked (book.stands c.loop-round.book) (book.stands c.first_unfinished.new.self) (book.leaves c.loop-round.book)
+    (book.leaves c.first_unfinished.new.self) c.in-Err.fault (c.in-Err.ensures.same sound)
+    (c.first_unfinished.ensures.stop sound) (g.met.B.Book.settled c.loop-round.book))
 
 -- a fault came within a journey
 pub returns-in-Err-carry_one-clause-fault : goal.returns-in-Err-carry_one-clause-fault
@@ -69,7 +72,8 @@ returns-in-Err-carry_one-clause-fault g c =
     let goes : goes_on c.args.pass b.cursor.phase ≡ true =
     sym c.goes_on.ensures ∙ c.if-goes_on.true in
     carried-fault c.args.pass (g.B.Book.stands c.loop-round.book)
-    (g.B.Book.leaves c.carry_one.new.book) s c.loop-round.after c.loop-round.made
+    (LeavesAt c.in-Err-carry_one.fault (g.B.Book.stands c.carry_one.new.book) (g.B.Book.leaves c.carry_one.new.book))
+    s c.loop-round.after c.loop-round.made
     c.loop-round._round b c.in-Err-carry_one.fault t first
     (c.in-Err-carry_one.ensures.fault sound (with_events s t.events) here
     (goes-first c.args.pass (s.ledger ++ t.events) c.loop-round.after b first goes))
@@ -82,6 +86,12 @@ loop-round-preserved g c =
         sound = λ h.
             c.loop-round.invariant.sound
             (c.first_unfinished.ensures.sound (w.carry_one.ensures.sound h));
+        stays_failed = λ failed. w.carry_one.ensures.stays_failed
+            (c.first_unfinished.ensures.stays_failed (c.loop-round.invariant.stays_failed failed));
+        stays_left = λ failed s t left.
+            let was = c.loop-round.invariant.stays_failed failed in
+            w.carry_one.ensures.stays_left (c.first_unfinished.ensures.stays_failed was) s t
+            (c.first_unfinished.ensures.stays_left was s t (c.loop-round.invariant.stays_left failed s t left));
         carried = λ sound s st.
             let looked = w.carry_one.ensures.sound sound in
             let was = c.first_unfinished.ensures.sound looked in
@@ -105,6 +115,11 @@ loop-round-preserved g c =
       })
       | else-goes_on w ↦ rw (w.book-is, w.made-is) (record {
         sound = λ h. c.loop-round.invariant.sound (c.first_unfinished.ensures.sound h);
+        stays_failed = λ failed.
+            c.first_unfinished.ensures.stays_failed (c.loop-round.invariant.stays_failed failed);
+        stays_left = λ failed s t left.
+            c.first_unfinished.ensures.stays_left (c.loop-round.invariant.stays_failed failed) s t
+            (c.loop-round.invariant.stays_left failed s t left);
         carried = λ sound s st.
             let was = c.first_unfinished.ensures.sound sound in
             let t = c.loop-round.invariant.carried was s st in

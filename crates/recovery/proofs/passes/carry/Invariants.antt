@@ -1,6 +1,7 @@
 -- The pass is done with the journeys up to the last one that was treated.
-use Rattle.std.proofs.Common.{◌≤◌}
+use Rattle.std.specs.Prelude.{IsTrue}
 use Rattle.ledger.specs.Answer.{State}
+use Rattle.saga_core.specs.Books.{LeavesNoMore}
 use Rattle.recovery.proofs.CarriedLemmas.{CarriedSoFar}
 use Rattle.recovery.proofs.passes.carry.Given as goal
 
@@ -9,6 +10,8 @@ invariant-loop-round g l =
     let book = g.B.Book in
     record {
       sound : book.is_sound l.book → book.is_sound l.fn.book;
+      stays_failed : IsTrue (book.has_failed l.fn.book) → IsTrue (book.has_failed l.book);
+      stays_left : IsTrue (book.has_failed l.fn.book) → LeavesNoMore (book.leaves l.fn.book) (book.leaves l.book);
       carried : book.is_sound l.book → (s : State) → book.stands l.fn.book s
           → CarriedSoFar l.pass (book.stands l.book) s l.after l.made l._round;
     }

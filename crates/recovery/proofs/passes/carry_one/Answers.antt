@@ -24,7 +24,8 @@ pub returns-in-Err-clause-fault : goal.returns-in-Err-clause-fault
 returns-in-Err-clause-fault g c =
     λ sound s st on.
     let t = c.loop-made.invariant.carried (c.step.ensures.sound sound) s st on in
-    one-fault c.args.pass (g.B.Book.stands c.loop-made.book) (g.B.Book.leaves c.step.new.book) s
+    one-fault c.args.pass (g.B.Book.stands c.loop-made.book) (g.B.Book.stands c.step.new.book)
+    (g.B.Book.leaves c.step.new.book) s
     c.args.id c.loop-made.made c.in-Err.fault t
     (g.met.B.Book.legal c.loop-made.book (with_events s t.events) t.stands_there)
     (c.in-Err.ensures.fault sound)
@@ -33,6 +34,9 @@ returns-in-Err-clause-fault g c =
 pub loop-made-preserved : goal.loop-made-preserved
 loop-made-preserved g c = record {
   sound = λ h. c.loop-made.invariant.sound (c.step.ensures.sound h);
+  stays_failed = λ failed. c.step.ensures.stays_failed (c.loop-made.invariant.stays_failed failed);
+  stays_left = λ failed s t left. c.step.ensures.stays_left (c.loop-made.invariant.stays_failed failed) s t
+      (c.loop-made.invariant.stays_left failed s t left);
   carried = λ sound s st on.
       let t = c.loop-made.invariant.carried (c.step.ensures.sound sound) s st on in
       let goes : goes_on c.args.pass c.in-Ok-Some.phase ≡ true =

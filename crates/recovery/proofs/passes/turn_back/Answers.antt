@@ -1,7 +1,8 @@
 use Rattle.std.proofs.Common.{◌≡◌, ap, sym, ◌∙◌, arith, subst, ◌+◌, ◌≤◌}
 use Rattle.std.specs.Prelude.{true, false}
 use Rattle.ledger.specs.History.{is_running}
-use Rattle.recovery.specs.Growing.{with_events}
+use Rattle.recovery.specs.Growing.{with_events, LeavesAt}
+use Rattle.recovery.proofs.PassLemmas.{looked}
 use Rattle.recovery.proofs.TurnedLemmas.{turned-more, turned-further, turned-all, turned-refused, turned-look, turned-fault, turned-over, turned-now}
 use Rattle.recovery.specs.Asking.{Stops}
 use Rattle.recovery.proofs.passes.turn_back.Goals as goal
@@ -53,11 +54,14 @@ pub returns-in-Err-clause-fault : goal.returns-in-Err-clause-fault
 returns-in-Err-clause-fault g c =
     λ sound s st.
     let was = c.first_unfinished.ensures.sound sound in
-    turned-look (g.B.Book.stands c.loop-round.book) (g.B.Book.leaves c.first_unfinished.new.self) s
+    let book = g.B.Book in
+    turned-look (book.stands c.loop-round.book)
+    (LeavesAt c.in-Err.fault (book.stands c.first_unfinished.new.self) (book.leaves c.first_unfinished.new.self)) s
     c.loop-round.after c.loop-round.made c.loop-round._round c.in-Err.fault
     (c.loop-round.invariant.turned was s st)
-    (λ u here. c.first_unfinished.ensures.stop sound u u
-    (g.met.B.Book.settled c.loop-round.book u here))
+    (looked (book.stands c.loop-round.book) (book.stands c.first_unfinished.new.self) (book.leaves c.loop-round.book)
+    (book.leaves c.first_unfinished.new.self) c.in-Err.fault (c.in-Err.ensures.same sound)
+    (c.first_unfinished.ensures.stop sound) (g.met.B.Book.settled c.loop-round.book))
 
 -- the turns so far, and perhaps the one that met the fault
 pub returns-in-Err-stop-clause-fault : goal.returns-in-Err-stop-clause-fault
@@ -68,7 +72,8 @@ returns-in-Err-stop-clause-fault g c =
     let t = c.loop-round.invariant.turned was s st in
     let b = c.in-Ok-Some.brief in
     let here = c.in-Ok-Some.ensures.same looked (with_events s t.events) t.stands_there in
-    turned-fault (g.B.Book.stands c.first_unfinished.new.self) (g.B.Book.leaves c.stop.new.book) s
+    turned-fault (g.B.Book.stands c.first_unfinished.new.self) (g.B.Book.stands c.stop.new.book)
+    (g.B.Book.leaves c.stop.new.book) s
     c.loop-round.after c.loop-round.made c.loop-round._round b c.in-Err-stop.fault
     (turned-now (g.B.Book.stands c.loop-round.book)
     (g.B.Book.stands c.first_unfinished.new.self) s c.loop-round.after c.loop-round.made
@@ -86,6 +91,12 @@ loop-round-preserved g c =
         sound = λ h.
             c.loop-round.invariant.sound
             (c.first_unfinished.ensures.sound (w.stop.ensures.sound h));
+        stays_failed = λ failed. w.stop.ensures.stays_failed
+            (c.first_unfinished.ensures.stays_failed (c.loop-round.invariant.stays_failed failed));
+        stays_left = λ failed s t left.
+            let was = c.loop-round.invariant.stays_failed failed in
+            w.stop.ensures.stays_left (c.first_unfinished.ensures.stays_failed was) s t
+            (c.first_unfinished.ensures.stays_left was s t (c.loop-round.invariant.stays_left failed s t left));
         turned = λ sound s st.
             let looked = w.stop.ensures.sound sound in
             let was = c.first_unfinished.ensures.sound looked in
@@ -107,6 +118,11 @@ loop-round-preserved g c =
       | else-is_running w ↦ rw (w.book-is, w.made-is) (record {
         each_once = let fewer = c.loop-round.invariant.each_once in omega arith;
         sound = λ h. c.loop-round.invariant.sound (c.first_unfinished.ensures.sound h);
+        stays_failed = λ failed.
+            c.first_unfinished.ensures.stays_failed (c.loop-round.invariant.stays_failed failed);
+        stays_left = λ failed s t left.
+            c.first_unfinished.ensures.stays_left (c.loop-round.invariant.stays_failed failed) s t
+            (c.loop-round.invariant.stays_left failed s t left);
         turned = λ sound s st.
             let was = c.first_unfinished.ensures.sound sound in
             let t = c.loop-round.invariant.turned was s st in

@@ -1,6 +1,8 @@
 -- The running journeys up to the last one that was treated have turned.
 use Rattle.std.proofs.Common.{◌≤◌}
+use Rattle.std.specs.Prelude.{IsTrue}
 use Rattle.ledger.specs.Answer.{State}
+use Rattle.saga_core.specs.Books.{LeavesNoMore}
 use Rattle.recovery.proofs.TurnedLemmas.{TurnedSoFar}
 use Rattle.recovery.proofs.passes.turn_back.Given as goal
 
@@ -10,6 +12,8 @@ invariant-loop-round g l =
     record {
       each_once : l.made ≤ l._round;
       sound : book.is_sound l.book → book.is_sound l.fn.book;
+      stays_failed : IsTrue (book.has_failed l.fn.book) → IsTrue (book.has_failed l.book);
+      stays_left : IsTrue (book.has_failed l.fn.book) → LeavesNoMore (book.leaves l.fn.book) (book.leaves l.book);
       turned : book.is_sound l.book → (s : State) → book.stands l.fn.book s
           → TurnedSoFar (book.stands l.book) s l.after l.made l._round;
     }

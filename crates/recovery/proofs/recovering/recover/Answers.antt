@@ -32,23 +32,24 @@ returns-in-Ok-clause-bound g c =
     in
     omega arith
 
--- a world goes on with the commands of recovery
+-- a world goes on with the requests of recovery
 pub returns-in-Ok-clause-world : goal.returns-in-Ok-clause-world
 returns-in-Ok-clause-world g c =
     λ sound w here.
-    let stands = g.B.Book.stands in
+    let book = g.B.Book in
     let s = after start w in
-    let legal = g.met.B.Book.legal c.args.book s here.stood_there in
-    let moved = subst g.B.Book.is_sound c.new.ensures.same sound in
-    subst (λ b. EndsRecovered (stands b) w) (sym c.new.ensures.same)
-    (world-recovered (stands c.args.book) (stands c.recover_all.new.book) w c.in-Ok.made here legal
-    (c.in-Ok.ensures.recovered moved s here.stood_there))
+    let legal = g.met.B.Book.legal c.args.book s here.stands_there in
+    let moved = subst book.is_sound c.new.ensures.same sound in
+    subst (λ b. EndsRecovered (book.stands b) (book.leaves b) w) (sym c.new.ensures.same)
+    (world-recovered (book.stands c.recover_all.new.book) (book.leaves c.recover_all.new.book) w c.in-Ok.made
+    (g.met.B.Book.settled c.recover_all.new.book) here legal
+    (c.in-Ok.ensures.recovered moved s here.stands_there))
 
--- and at a fault with a front of them
+-- and at a fault with a prefix of them
 pub returns-in-Err-clause-world_at_fault : goal.returns-in-Err-clause-world_at_fault
 returns-in-Err-clause-world_at_fault g c =
     λ sound w here.
     let s = after start w in
-    world-cut (g.B.Book.stands c.args.book) (g.B.Book.leaves c.recover_all.new.book) w
-    c.in-Err.fault here (g.met.B.Book.legal c.args.book s here.stood_there)
-    (c.in-Err.ensures.fault sound s here.stood_there)
+    world-cut (g.B.Book.stands c.recover_all.new.book) (g.B.Book.leaves c.recover_all.new.book) w
+    c.in-Err.fault here (g.met.B.Book.legal c.args.book s here.stands_there)
+    (c.in-Err.ensures.fault sound s here.stands_there)

@@ -1,5 +1,5 @@
 use Rattle.std.proofs.Common.{◌++◌, subst, arith}
-use Rattle.recovery.specs.Growing.{with_events}
+use Rattle.recovery.specs.Growing.{with_events, LeavesAt}
 use Rattle.recovery.specs.Passes.{MadeStops, CarriedAll, IsUnderWay, IsThrough, made_by}
 use Rattle.recovery.specs.declared.passes.Pass.TheVariants.{Back, On}
 use Rattle.recovery.proofs.PassLemmas.{sum-fits, sums-fit}
@@ -59,7 +59,9 @@ returns-in-Ok-clause-recovered g c =
 pub returns-in-Err-clause-fault : goal.returns-in-Err-clause-fault
 returns-in-Err-clause-fault g c =
     λ sound s st.
-    turns-fault (g.B.Book.leaves c.turn_back.new.book) s c.in-Err.fault
+    turns-fault
+    (LeavesAt c.in-Err.fault (g.B.Book.stands c.turn_back.new.book) (g.B.Book.leaves c.turn_back.new.book))
+    s c.in-Err.fault
     (g.met.B.Book.legal c.args.book.now s st)
     (c.in-Err.ensures.fault sound s st)
 
@@ -71,7 +73,8 @@ returns-in-Err-carry-clause-fault g c =
     let t = subst (MadeStops (g.B.Book.stands c.args.book.now)
     (g.B.Book.stands c.turn_back.new.book)) c.in-Ok-Through.field-0-is
     (c.in-Ok-Through.ensures.ok was) s st in
-    back-fault (g.B.Book.stands c.turn_back.new.book) (g.B.Book.leaves c.carry.new.book) s
+    back-fault (g.B.Book.stands c.turn_back.new.book)
+    (LeavesAt c.in-Err-carry.fault (g.B.Book.stands c.carry.new.book) (g.B.Book.leaves c.carry.new.book)) s
     c.in-Ok-Through.made c.in-Err-carry.fault (g.met.B.Book.legal c.args.book.now s st) t
     (c.in-Err-carry.ensures.fault sound (with_events s t.events) t.stands_there)
 
@@ -88,7 +91,8 @@ returns-in-Err-carry-2-clause-fault g c =
     c.in-Ok-Through-carry.field-0-is (c.in-Ok-Through-carry.ensures.ok on_way)
     (with_events s t.events) t.stands_there in
     on-fault (stands c.turn_back.new.book) (stands c.carry.new.book)
-    (g.B.Book.leaves c.carry-2.new.book) s c.in-Ok-Through.made c.in-Ok-Through-carry.made
+    (LeavesAt c.in-Err-carry-2.fault (stands c.carry-2.new.book) (g.B.Book.leaves c.carry-2.new.book))
+    s c.in-Ok-Through.made c.in-Ok-Through-carry.made
     c.in-Err-carry-2.fault (g.met.B.Book.legal c.args.book.now s st) t b
     (c.in-Err-carry-2.ensures.fault sound (with_events (with_events s t.events) b.events)
     b.stands_there)

@@ -16,7 +16,7 @@ returns-clause-written g c = λ sound all rest.
     subst (λ (bytes : List ℕ). OnOk c.send_report.result (Appends (contents c.args.out.now) (contents c.send_report.new.out) bytes)) whole
     (c.send_report.ensures.written sound all rest)
 
--- a beginning was written
+-- a prefix was written
 pub returns-clause-front : goal.returns-clause-front
 returns-clause-front g c = λ sound all rest.
     let contents = g.W.Write.contents in

@@ -23,7 +23,7 @@ returns-in_err-count-clause-front g c = λ sound all rest.
     c.args.head.now (flat_map g.T.Shown.shown all) (ending_text c.args.ending.now (length all))
     c.in_ok-send.ensures.sent (c.send_rows.ensures.front sound all rest)
 
--- there was no memory for the ending
+-- out of memory for the ending
 pub returns-in_err-text-clause-front : goal.returns-in_err-text-clause-front
 returns-in_err-text-clause-front g c = λ sound all rest.
     let contents = g.W.Write.contents in
@@ -55,7 +55,7 @@ returns-clause-written g c = λ sound all rest.
     c.in_ok-send.ensures.sent (c.in_ok-count.ensures.written sound all rest)
     (subst (Appends (contents c.send_rows.new.out) (contents c.send-2.new.out)) is c.in_ok-send-2.ensures.sent)
 
--- so the whole is a beginning
+-- the whole report is a prefix of itself
 pub returns-clause-front : goal.returns-clause-front
 returns-clause-front g c = λ sound all rest.
     let contents = g.W.Write.contents in

@@ -7,7 +7,7 @@ use Rattle.streams.specs.Written.{WroteFront}
 use Rattle.reports.proofs.RowLemmas.{front_of, front_with, goes_on}
 use Rattle.reports.proofs.rows.send_rows.Goals as goal
 
--- one more row was handed out and written
+-- one more row was returned and written
 pub loop-row-preserved : goal.loop-row-preserved
 loop-row-preserved g c =
     let source = g.R.RowSource in
@@ -36,14 +36,14 @@ returns-in_err-row-clause-front g c = λ sound all rest.
     front_of g.T.Shown.shown (g.R.RowSource.rests at.rows) (g.W.Write.contents c.args.out.now) (g.W.Write.contents at.out) all at.count
     (at.invariant.so_far (c.next_row.ensures.sound sound) all rest)
 
--- there was no memory for what is shown of a row
+-- out of memory for the text of a row
 pub returns-in_err-text-clause-front : goal.returns-in_err-text-clause-front
 returns-in_err-text-clause-front g c = λ sound all rest.
     let at = c.loop-row in
     front_of g.T.Shown.shown (g.R.RowSource.rests at.rows) (g.W.Write.contents c.args.out.now) (g.W.Write.contents at.out) all at.count
     (at.invariant.so_far (c.next_row.ensures.sound sound) all rest)
 
--- what is shown of a row was written in part
+-- the text of a row was written in part
 pub returns-in_err-send-clause-front : goal.returns-in_err-send-clause-front
 returns-in_err-send-clause-front g c = λ sound all rest.
     let source = g.R.RowSource in

@@ -15,6 +15,6 @@ invariant-loop-row g l =
           → SoFar g.T.Shown.shown (source.rests l.rows) (contents l.fn.out) (contents l.out) all l.count;
     }
 
--- fewer rows than the numbers that count them are handed out
+-- fewer rows are returned than the counter can count
 abbrev pub decreases-loop-row : goal.decreases-loop-row
 decreases-loop-row g l = 2 ^ 64 - l.count

@@ -1,12 +1,13 @@
-use Rattle.std.proofs.Common.{◌≡◌, ◌+◌, [], ◌∷◌, ◌++◌, take, ap, sym, ◌∙◌, subst, arith}
+use Rattle.std.proofs.Common.{◌≡◌, ◌+◌, [], ◌∷◌, ◌++◌, length, take, ap, sym, ◌∙◌, subst, arith}
+use Rattle.std.proofs.lemmas.List.{take_all, length-map}
 use Rattle.std.specs.Option.{option_copied}
-use Rattle.saga_core.specs.Runs.{replies_to}
-use Rattle.saga_core.proofs.RunLemmas.{IsAt, stops, replies_to-more, state_after-more}
 use Rattle.ledger.specs.Answer.{start}
 use Rattle.ledger.specs.World.{after}
-use Rattle.saga_core.proofs.WorldLemmas.{KeepLimits-more, stands-continued, ends-among}
-use Rattle.saga_core.specs.Worlds.{continued, StandsAtEnd}
-use Rattle.std.proofs.lemmas.List.{take_all}
+use Rattle.saga_core.specs.Runs.{asked_by, asks_of, replies_to, state_after}
+use Rattle.saga_core.specs.Worlds.{KeepLimits}
+use Rattle.saga_core.proofs.RunLemmas.{IsAt, is_at, stops, replies_to-more, state_after-more}
+use Rattle.saga_core.proofs.RunEndLemmas.{KeepLimits-more, none-ran, run-ends}
+use Rattle.saga_core.proofs.WorldLemmas.{ends-with}
 use Rattle.saga_core.proofs.runs.run.Goals as goal
 
 -- the command that failed is the next one, and those before it were carried out
@@ -16,56 +17,72 @@ returns-in-Err-act-clause-fault g c =
     let was = c.act.ensures.sound sound in
     let i = c.loop-command.command-index in
     let now = c.loop-command.invariant.stands was s st in
-    let at : IsAt c.args.commands.now i c.loop-command-item.result (option_copied c.as_ref.result) =
-    record { within = c.loop-command-test.true; item = c.loop-command-item.is; asked = c.as_ref.ensures.value } in
+    let at = is_at c.args.commands.now i c.loop-command-item.result (option_copied c.as_ref.result)
+    c.loop-command-test.true c.loop-command-item.is c.as_ref.ensures.value in
     stops (g.B.Book.stands c.loop-command.book) (g.B.Book.stands c.act.new.self) (g.B.Book.leaves c.act.new.self) s
     c.loop-command.replies.items c.in-Err-act.fault at (c.loop-command.invariant.replied was s st) now
     (c.in-Err-act.ensures.memory sound) (c.in-Err-act.ensures.store sound)
 
--- the world goes on with the commands before it, and at Store with the next one cut off
+-- the world goes on with what was asked before it, and at Store the next one is under way
 pub returns-in-Err-act-clause-world_at_fault : goal.returns-in-Err-act-clause-world_at_fault
 returns-in-Err-act-clause-world_at_fault g c =
     λ sound w here.
+    let book = g.B.Book in
     let was = c.act.ensures.sound sound in
     let i = c.loop-command.command-index in
-    let s = after start w in
-    let now = c.loop-command.invariant.stands was s here.stood_there in
-    let at : IsAt c.args.commands.now i c.loop-command-item.result (option_copied c.as_ref.result) =
-    record { within = c.loop-command-test.true; item = c.loop-command-item.is; asked = c.as_ref.ensures.value } in
-    ends-among (g.B.Book.stands c.act.new.self) (g.B.Book.leaves c.act.new.self) (g.B.Book.stands c.loop-command.book)
-    w c.loop-command.replies.items c.in-Err-act.fault at here c.loop-command.invariant.limits
-    c.keep_limits.ensures.limits (c.loop-command.invariant.replied was s here.stood_there) now
+    let now = c.loop-command.invariant.stands was (after start w) here.stands_there in
+    let at = is_at c.args.commands.now i c.loop-command-item.result (option_copied c.as_ref.result)
+    c.loop-command-test.true c.loop-command-item.is c.as_ref.ensures.value in
+    run-ends (book.stands c.loop-command.book) (book.stands c.act.new.self) (book.leaves c.act.new.self)
+    w c.loop-command.replies.items c.in-Err-act.fault at (g.met.B.Book.settled c.act.new.self) here
+    c.loop-command.invariant.limits c.keep_limits.ensures.limits
+    (c.loop-command.invariant.replied was (after start w) here.stands_there) now
     (c.in-Err-act.ensures.memory sound) (c.in-Err-act.ensures.store sound)
+
+-- memory ran out before the first command
+pub returns-in-Err-clause-world_at_fault : goal.returns-in-Err-clause-world_at_fault
+returns-in-Err-clause-world_at_fault g c =
+    λ sound w here.
+    let book = g.B.Book in
+    none-ran (book.stands c.args.book.now) (book.leaves c.args.book.now) w (asks_of c.args.commands.now)
+    _ c.new.ensures.items (g.met.B.Book.settled c.args.book.now) here
 
 -- at the end that is all of them
 pub returns-clause-world : goal.returns-clause-world
 returns-clause-world g c =
     λ sound w here.
-    let cs = c.args.commands.now in
+    let book = g.B.Book in
+    let asks = asks_of c.args.commands.now in
     let i = c.loop-command.command-index in
     let past = c.loop-command-test.false in
-    let all : take i cs ≡ cs = take_all i cs (omega (arith, past)) in
-    subst (λ ds. StandsAtEnd (g.B.Book.stands c.loop-command.book) (continued w ds [])) all
-    (stands-continued (g.B.Book.stands c.loop-command.book) w (take i cs) here c.loop-command.invariant.limits
-    (c.loop-command.invariant.stands sound (after start w) here.stood_there))
+    let longer = length-map c.args.commands.now asked_by in
+    let all : take i asks ≡ asks = take_all i asks (omega (arith, past, longer)) in
+    ends-with (book.stands c.loop-command.book) (book.leaves c.loop-command.book) w asks
+    (g.met.B.Book.settled c.loop-command.book) here (subst KeepLimits all c.loop-command.invariant.limits)
+    (subst (λ cs. book.stands c.loop-command.book (state_after (after start w) cs)) all
+    (c.loop-command.invariant.stands sound (after start w) here.stands_there))
 
 -- one more command was answered and carried out
 pub loop-command-preserved : goal.loop-command-preserved
 loop-command-preserved g c =
     let i = c.loop-command.command-index in
-    let at : IsAt c.args.commands.now i c.loop-command-item.result (option_copied c.as_ref.result) =
-    record { within = c.loop-command-test.true; item = c.loop-command-item.is; asked = c.as_ref.ensures.value } in
+    let asks = asks_of c.args.commands.now in
+    let at = is_at c.args.commands.now i c.loop-command-item.result (option_copied c.as_ref.result)
+    c.loop-command-test.true c.loop-command-item.is c.as_ref.ensures.value in
     record {
       room = c.push_reserved.ensures.capacity ∙ c.loop-command.invariant.room;
       count = c.push_reserved.ensures.len ∙ ap (λ n. n + 1) c.loop-command.invariant.count;
       limits = KeepLimits-more at c.loop-command.invariant.limits c.keep_limits.ensures.limits;
       sound = λ h. c.loop-command.invariant.sound (c.act.ensures.sound h);
+      stays_failed = λ failed. c.act.ensures.stays_failed (c.loop-command.invariant.stays_failed failed);
+      stays_left = λ failed s t leaves. c.act.ensures.stays_left (c.loop-command.invariant.stays_failed failed) s t
+          (c.loop-command.invariant.stays_left failed s t leaves);
       replied = λ sound s st.
           let was = c.act.ensures.sound sound in
           let now = c.loop-command.invariant.stands was s st in
           let told = c.in-Ok-act.ensures.reply sound _ now in
           c.push_reserved.ensures.items ∙ ap (λ rs. rs ++ c.in-Ok-act.reply ∷ []) (c.loop-command.invariant.replied was s st)
-          ∙ ap (λ r. replies_to s (take i c.args.commands.now) ++ r ∷ []) told ∙ sym (replies_to-more s at);
+          ∙ ap (λ r. replies_to s (take i asks) ++ r ∷ []) told ∙ sym (replies_to-more s at);
       stands = λ sound s st.
           let was = c.act.ensures.sound sound in
           let now = c.loop-command.invariant.stands was s st in

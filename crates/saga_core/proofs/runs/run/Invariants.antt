@@ -1,9 +1,10 @@
 -- The replies so far, and where the book stands, are those of the commands so far.
 use Rattle.std.proofs.Common.{◌≡◌, length, take}
-use Rattle.std.specs.Prelude.{vec_len, vec_capacity}
+use Rattle.std.specs.Prelude.{vec_len, vec_capacity, IsTrue}
 use Rattle.ledger.specs.Answer.{State}
-use Rattle.saga_core.specs.Runs.{replies_to, state_after}
-use Rattle.saga_core.proofs.WorldLemmas.{KeepLimits}
+use Rattle.saga_core.specs.Books.{LeavesNoMore}
+use Rattle.saga_core.specs.Runs.{asks_of, replies_to, state_after}
+use Rattle.saga_core.specs.Worlds.{KeepLimits}
 use Rattle.saga_core.proofs.runs.run.Given as goal
 
 abbrev pub invariant-loop-command : goal.invariant-loop-command
@@ -12,10 +13,12 @@ invariant-loop-command g l =
     record {
       room : vec_capacity l.replies ≡ length l.commands;
       count : vec_len l.replies ≡ l.command-index;
-      limits : KeepLimits (take l.command-index l.commands);
+      limits : KeepLimits (take l.command-index (asks_of l.commands));
       sound : book.is_sound l.book → book.is_sound l.fn.book;
+      stays_failed : IsTrue (book.has_failed l.fn.book) → IsTrue (book.has_failed l.book);
+      stays_left : IsTrue (book.has_failed l.fn.book) → LeavesNoMore (book.leaves l.fn.book) (book.leaves l.book);
       replied : book.is_sound l.book → (s : State) → book.stands l.fn.book s
-          → l.replies.items ≡ replies_to s (take l.command-index l.commands);
+          → l.replies.items ≡ replies_to s (take l.command-index (asks_of l.commands));
       stands : book.is_sound l.book → (s : State) → book.stands l.fn.book s
-          → book.stands l.book (state_after s (take l.command-index l.commands));
+          → book.stands l.book (state_after s (take l.command-index (asks_of l.commands)));
     }

@@ -1,7 +1,7 @@
 -- Each position that the loop passes is the last save-point so far, if one stands there.
 use Rattle.std.proofs.Common.{◌≡◌, ◌∙◌, cond, sym, arith}
 use Rattle.std.proofs.lemmas.Bool.{cond-true, cond-false}
-use Rattle.plan.specs.Planned.{step_count}
+use Rattle.plan.specs.PlanModel.{step_count}
 use Rattle.savepoints.specs.Marks.{is_taken_in}
 use Rattle.savepoints.specs.Rules.{last_save}
 use Rattle.savepoints.proofs.LandingLemmas.{last_save-lands, last_save-none_above}

@@ -1,4 +1,4 @@
--- What was written stays the front of the bytes.
+-- What was written stays a prefix of the bytes.
 use Rattle.std.proofs.Common.{subst, take}
 use Rattle.std.specs.Io.KnownBytes.{Appends}
 use Rattle.streams.proofs.ByteLemmas.{appends_more, front_grows, front_within, rest_from}

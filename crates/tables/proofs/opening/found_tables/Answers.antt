@@ -1,13 +1,13 @@
 -- The tables of a new desk are committed at once; before the commit nothing is left that was not there.
-use Rattle.std.proofs.Common.{◌≡◌, ◌⊎◌, inl, inr, true, sym, subst, arith, rules}
-use Rattle.sqlite.specs.State.{HasCleanDisk}
+use Rattle.std.proofs.Common.{◌≡◌, ◌⊎◌, inl, inr, true, IsTrue, refl, sym, subst, arith, rules}
+use Rattle.sqlite.specs.State.{HasCleanDisk, IsRolledBack, KeepsCommit}
 use Rattle.sqlite.specs.Held.{state}
 use Rattle.sqlite.proofs.StateLemmas.{survives_then}
 use Rattle.sqlite.proofs.Callers.{survives_begin}
 use Rattle.desk_sql.specs.Calls.{LeavesNoMore}
 use Rattle.ledger.specs.Answer.{State}
 use Rattle.tables.specs.Keeping.{IsKept, IsFound}
-use Rattle.tables.proofs.OpenKept.{was_new, has_founded, keeps_founded, either_means, tells_fault}
+use Rattle.tables.proofs.OpenKept.{HasGoneBack, gone_back, rolled_back, still_bare, was_new, has_founded, keeps_founded, either_means, tells_fault}
 use Rattle.tables.proofs.opening.found_tables.Goals as goal
 
 pub returns-in-Ok-clause-finds : goal.returns-in-Ok-clause-finds
@@ -37,8 +37,35 @@ returns-in-Err-clause-told g c =
     let less : LeavesNoMore g.S.Store c.args.conn.now end = survives_begin g.S.Store c.args.conn.now (state g.S.Store end) (λ _. ⊥) (survives_then _ _ _ (λ _. ⊥) (λ _. ⊥) (λ _. ⊥) (λ _ db h. h) (λ _ db h. h) made c.rollback.ensures.survives) in
     rw (← same) (tells_fault g.S.Store c.args.conn.now end c.fault_of.result c.opening_fault.result c.opening_fault.ensures.memory c.opening_fault.ensures.store less)
 
-pub returns-in-Err-commit-clause-left : goal.returns-in-Err-commit-clause-left
-returns-in-Err-commit-clause-left g c clean v s stood =
+-- what was written is undone, so the store has no tables, as before
+pub returns-in-Err-clause-stands : goal.returns-in-Err-clause-stands
+returns-in-Err-clause-stands g c v s stood clean =
+    let old = c.args.conn.now in
+    let begun = c.transaction-tx.result.conn.now in
+    let late = c.make_tables.new.tx.conn.now in
+    let end = c.rollback.new.self.0 in
+    let same : end ≡ c.conn-1.given.0 = search rules in
+    let at_end : HasCleanDisk (state g.S.Store end) = search rules in
+    let at_late : HasCleanDisk (state g.S.Store late) = omega (arith, c.rollback.ensures.survives.clean) in
+    let at_begun : HasCleanDisk (state g.S.Store begun) = omega (arith, c.in-Err.ensures.survives.clean) in
+    let from : begun ≡ record old { in_transaction = true } = c.transaction-tx.ensures.begun in
+    let inside : IsTrue (state g.S.Store begun).in_transaction = rw from refl in
+    let at_old : HasCleanDisk (state g.S.Store old) = rw from at at_begun in
+    let found : IsFound v (state g.S.Store old) s = stood at_old in
+    let kept : KeepsCommit (state g.S.Store (record old { in_transaction = true })) (state g.S.Store late) = rw from at (c.in-Err.ensures.commit at_late inside) in
+    let back : IsTrue (state g.S.Store end).is_open → HasGoneBack (state g.S.Store (record old { in_transaction = true })) (state g.S.Store end)
+    = gone_back _ (state g.S.Store late) (state g.S.Store end) kept (c.rollback.ensures.undone at_end) in
+    let made : LeavesNoMore g.S.Store (record old { in_transaction = true }) late = rw from at c.in-Err.ensures.survives in
+    let less : LeavesNoMore g.S.Store old end = survives_begin g.S.Store old (state g.S.Store end) (λ _. ⊥) (survives_then _ _ _ (λ _. ⊥) (λ _. ⊥) (λ _. ⊥) (λ _ db h. h) (λ _ db h. h) made c.rollback.ensures.survives) in
+    rw (← same) (record {
+      sees = λ live. (let gone = back live in still_bare v (state g.S.Store old) (state g.S.Store end) s found c.requires.bare
+          (record { was_open = gone.was_open; now = gone.now; committed = gone.committed }));
+      leaves = λ db may. elim (less.crash at_end db may) [ inl before ↦ found.leaves db before | inr none ↦ absurd none ];
+    })
+
+-- where the commit failed it is undone too, and a crash leaves the old trees or the new ones
+pub returns-in-Err-commit-clause-stands : goal.returns-in-Err-commit-clause-stands
+returns-in-Err-commit-clause-stands g c v s stood clean =
     let old = c.args.conn.now in
     let begun = c.transaction-tx.result.conn.now in
     let late = c.make_tables.new.tx.conn.now in
@@ -48,13 +75,22 @@ returns-in-Err-commit-clause-left g c clean v s stood =
     let at_late : HasCleanDisk (state g.S.Store late) = omega (arith, c.commit.ensures.survives.clean) in
     let at_begun : HasCleanDisk (state g.S.Store begun) = omega (arith, c.make_tables.ensures.survives.clean) in
     let from : begun ≡ record old { in_transaction = true } = c.transaction-tx.ensures.begun in
+    let inside : IsTrue (state g.S.Store begun).in_transaction = rw from refl in
     let at_old : HasCleanDisk (state g.S.Store old) = rw from at at_begun in
     let found : IsFound v (state g.S.Store old) s = stood at_old in
     let has = has_founded g.S.Store old late c.requires.bare at_late (rw from at c.in_default.ensures.made) (rw from at c.in_default.ensures.live) in
     let new = was_new v (state g.S.Store old) s found c.requires.bare has.0 in
-    rw (← same) (λ db left.
-    let came : g.S.Store.recovers old.store db ⊎ (db ≡ (g.S.Store.view late.store).trees) = elim (c.commit.ensures.survives.crash at_end db left) [
-      | inl before ↦ elim (c.make_tables.ensures.survives.crash at_late db before) [ inl first ↦ inl (rw from at first) | inr none ↦ absurd none ]
-      | inr is ↦ inr is
-    ] in
-    either_means g.S.Store old late v s found new has.1 db came)
+    let kept : KeepsCommit (state g.S.Store (record old { in_transaction = true })) (state g.S.Store late) = rw from at (c.in_default.ensures.commit at_late inside) in
+    let goes_on : IsTrue (state g.S.Store late).in_transaction = c.in_default.ensures.inside at_late inside in
+    let undone : IsRolledBack (state g.S.Store late) (state g.S.Store end) = rolled_back (state g.S.Store late) (state g.S.Store end) _ goes_on (c.in-Err-commit.ensures.err at_end) in
+    let back : IsTrue (state g.S.Store end).is_open → HasGoneBack (state g.S.Store (record old { in_transaction = true })) (state g.S.Store end)
+    = gone_back _ (state g.S.Store late) (state g.S.Store end) kept undone in
+    rw (← same) (record {
+      sees = λ live. (let gone = back live in still_bare v (state g.S.Store old) (state g.S.Store end) s found c.requires.bare
+          (record { was_open = gone.was_open; now = gone.now; committed = gone.committed }));
+      leaves = λ db left. (let came : g.S.Store.recovers old.store db ⊎ (db ≡ (g.S.Store.view late.store).trees) = elim (c.commit.ensures.survives.crash at_end db left) [
+        | inl before ↦ elim (c.make_tables.ensures.survives.crash at_late db before) [ inl first ↦ inl (rw from at first) | inr none ↦ absurd none ]
+        | inr is ↦ inr is
+      ] in
+          either_means g.S.Store old late v s found new has.1 db came);
+    })

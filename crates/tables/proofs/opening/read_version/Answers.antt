@@ -1,11 +1,11 @@
 -- A version that was read is that of the tables, and a desk's tables have the number of their version.
-use Rattle.std.proofs.Common.{◌≡◌, inl, inr, sym, subst, ◌∙◌, arith}
+use Rattle.std.proofs.Common.{◌≡◌, inl, inr, refl, sym, subst, ◌∙◌, arith}
 use Rattle.std.specs.Prelude.{Some, None, Option, ◌↔◌}
 use Rattle.sqlite.specs.State.{HasCleanDisk}
 use Rattle.sqlite.specs.Held.{state}
 use Rattle.desk_sql.specs.declared.versions.Version.{Version}
 use Rattle.desk_sql.specs.Versions.{number_of, AreOfVersion}
-use Rattle.tables.proofs.OpenKept.{has_version, has_number, keeps_named}
+use Rattle.tables.proofs.OpenKept.{has_version, has_number, keeps_named, still_found}
 use Rattle.tables.proofs.opening.read_version.Goals as goal
 
 pub returns-in-Some-clause-finds : goal.returns-in-Some-clause-finds
@@ -18,6 +18,13 @@ returns-in-Some-clause-finds g c clean v s stood =
     = subst (λ (o : Option Version). (w : Version) → o ≡ Some w ↔ m.version ≡ number_of w) c.in-Some.is c.from_number.ensures in
     keeps_named old new m (λ w t sees. c.in-Ok.ensures.found w clean t sees) v s (stood at_old) c.requires.filled c.in-Some.version named
     (λ db may. elim (c.read_meta.ensures.survives.crash clean db may) [ inl before ↦ before | inr none ↦ absurd none ])
+
+pub returns-in-Some-clause-version : goal.returns-in-Some-clause-version
+returns-in-Some-clause-version g c clean v t sees =
+    let m = c.in-Ok.meta in
+    let named : (w : Version) → Some c.in-Some.version ≡ Some w ↔ m.version ≡ number_of w
+    = subst (λ (o : Option Version). (w : Version) → o ≡ Some w ↔ m.version ≡ number_of w) c.in-Some.is c.from_number.ensures in
+    subst (λ n. AreOfVersion n t) ((named c.in-Some.version).0 refl) (has_version t m (c.in-Ok.ensures.found v clean t sees).1)
 
 pub returns-in-None-clause-told : goal.returns-in-None-clause-told
 returns-in-None-clause-told g c =
@@ -34,3 +41,20 @@ returns-in-None-clause-told g c =
           let at_old : HasCleanDisk old = omega (arith, c.read_meta.ensures.survives.clean) in
           other v (has_number old new m (λ w t sees. c.in-Ok.ensures.found w clean t sees) v s (stood at_old) c.requires.filled),
     )
+
+-- whether a version was read or not, nothing has changed
+pub returns-in-None-clause-stands : goal.returns-in-None-clause-stands
+returns-in-None-clause-stands g c v s stood clean =
+    let old = state g.S.Store c.args.conn.now in
+    let new = state g.S.Store c.read_meta.new.conn in
+    let told = c.read_meta.ensures in
+    let at_old : HasCleanDisk old = omega (arith, told.survives.clean) in
+    still_found old new s (told.quiet clean) told.survives clean v (stood at_old)
+
+pub returns-in-Err-clause-stands : goal.returns-in-Err-clause-stands
+returns-in-Err-clause-stands g c v s stood clean =
+    let old = state g.S.Store c.args.conn.now in
+    let new = state g.S.Store c.read_meta.new.conn in
+    let told = c.read_meta.ensures in
+    let at_old : HasCleanDisk old = omega (arith, told.survives.clean) in
+    still_found old new s (told.quiet clean) told.survives clean v (stood at_old)

@@ -15,7 +15,7 @@ invariant_of-result c =
     let good = all_from_yields_List is_code_byte _ _ _ c.all.ensures.ran (YieldsList-from_slice c.args.text.now cc) (λ x b q k. grind (arith, nat_tests)) in
     (kept_code c.args.text.now c.in_ok-kept.kept c.in_ok-kept.ensures (sym c.is_empty.ensures ∙ c.if-not-is_empty.true) (sym good ∙ c.if-all.true)).1
 
--- so it is what is kept of the text
+-- such a text is what is kept of it
 pub returns-then-all : goal.returns-then-all
 returns-then-all c =
     let good = all_from_yields_List is_code_byte _ _ _ c.all.ensures.ran (YieldsList-from_slice c.args.text.now cc) (λ x b q k. grind (arith, nat_tests)) in

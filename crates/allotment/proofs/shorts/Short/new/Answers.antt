@@ -13,7 +13,7 @@ invariant_of-result g c =
     let ascii = when_true _ _ c.if-not-is_ascii.false c.is_ascii.ensures.cases in
     is_padded g.row.N text c.copy_from_slice.new.self c.copy_from_slice.ensures.after within ascii
 
--- the text is short, since neither test sent it away
+-- the text is short, since neither test refused it
 pub returns : goal.returns
 returns g c =
     let text = c.as_bytes-given.result.now in

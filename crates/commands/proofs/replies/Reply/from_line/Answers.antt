@@ -1,4 +1,4 @@
--- The words are the line cut at its blanks, so what they tell the line tells.
+-- The words are the line cut at its blanks, so a reply that is found by the words is found by the line.
 use Rattle.std.specs.Prelude.{◌≡◌}
 use Rattle.std.proofs.Common.{arith}
 use Rattle.std.proofs.lemmas.Iterator.Consumers.{map_from_collect}

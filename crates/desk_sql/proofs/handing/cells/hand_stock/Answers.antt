@@ -2,7 +2,7 @@
 use Rattle.std.proofs.Common.{inl, [], map}
 use Rattle.sqlite.specs.Held.{state}
 use Rattle.desk_sql.specs.declared.versions.Version.TheVariants.{Two}
-use Rattle.desk_sql.specs.Handing.{stock_shown}
+use Rattle.desk_sql.specs.RemainingRows.{stock_shown}
 use Rattle.desk_sql.specs.Texts.{find_stock_text}
 use Rattle.desk_sql.specs.Meanings.{find_stock_query, find_stock_names}
 use Rattle.desk_sql.proofs.Meaning.{find_stock_means}

@@ -3,7 +3,7 @@ use Rattle.std.proofs.Common.{inl, [], ◌∷◌, map}
 use Rattle.sqlite.specs.Held.{state}
 use Rattle.desk_sql.specs.declared.versions.Version.TheVariants.{Two}
 use Rattle.desk_sql.specs.Rows.{whole}
-use Rattle.desk_sql.specs.Handing.{journey_shown}
+use Rattle.desk_sql.specs.RemainingRows.{journey_shown}
 use Rattle.desk_sql.specs.Texts.{first_unfinished_text}
 use Rattle.desk_sql.specs.Meanings.{first_unfinished_query, journey_names}
 use Rattle.desk_sql.proofs.Writing.{pos_is}

@@ -1,5 +1,5 @@
 use Rattle.std.proofs.Common.{◌≡◌, map, take}
-use Rattle.plan.specs.Planned.{step_said}
+use Rattle.plan.specs.PlanModel.{step_said}
 use Rattle.plan.proofs.plans.Plan.clone.Given as goal
 
 -- the copies say what the steps so far say

@@ -2,7 +2,7 @@ use Rattle.std.proofs.Common.{◌≡◌, ◌<◌, ◌⊎◌, inl, inr, length, s
 use Rattle.std.proofs.lemmas.Result.{err_from_is_err_and}
 use Rattle.serde_json.specs.View.{view}
 use Rattle.plan.specs.Limits.{most_steps}
-use Rattle.plan.specs.Planned.{plan_said}
+use Rattle.plan.specs.PlanModel.{plan_said}
 use Rattle.plan.specs.PlanJson.{plan_in_json}
 use Rattle.plan.proofs.LevelLemmas.{IfBad-weaker}
 use Rattle.plan.proofs.JsonPlanLemmas.{plan_unshaped, plan_no_tries, plan_miscounted, plan_by_steps, json_fault_step}
@@ -44,7 +44,7 @@ returns-in_err-steps-clause-refused c =
     (omega (arith, c.if-last-eq0.false)) (omega (arith, c.if-last-gt-MOST_STEPS.false)) same)
     c.in_err-steps.ensures.refused)
 
--- which is at a step up to the last
+-- the fault of a step names a step up to the last
 pub returns-in_err-steps-clause-step : goal.returns-in_err-steps-clause-step
 returns-in_err-steps-clause-step c =
     let p = err_from_is_err_and c.from_residual.result c.from_residual.ensures.1 in

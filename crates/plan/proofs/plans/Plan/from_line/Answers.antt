@@ -1,6 +1,6 @@
 use Rattle.std.proofs.Common.{◌≡◌, sym, ap, ◌∙◌, Ok, Err}
 use Rattle.std.proofs.lemmas.Result.{err_from_is_err_and}
-use Rattle.plan.specs.Planned.{plan_said}
+use Rattle.plan.specs.PlanModel.{plan_said}
 use Rattle.plan.specs.PlanLine.{plan_in}
 use Rattle.plan.proofs.ReadLemmas.{read_is_spelled}
 use Rattle.plan.proofs.LevelLemmas.{IfBad-weaker}
@@ -30,7 +30,7 @@ returns-in_err-steps-clause-refused c =
     c.in-Some.ensures.rest c.in-Some.ensures.tries c.count_steps-count.ensures.count c.if-count-gt-MOST_STEPS.false same)
     c.in_err-steps.ensures.refused)
 
--- which is at a step up to the last
+-- the fault of a step names a step up to the last
 pub returns-in_err-steps-clause-step : goal.returns-in_err-steps-clause-step
 returns-in_err-steps-clause-step c =
     let p = err_from_is_err_and c.from_residual.result c.from_residual.ensures.1 in
@@ -57,7 +57,7 @@ returns-clause-read c =
     c.in-Some.ensures.rest c.in-Some.ensures.tries c.count_steps-count.ensures.count c.if-count-gt-MOST_STEPS.false
     c.in_ok-steps.ensures.read
 
--- and what is read is the line of the plan
+-- the text that is read is the line of the plan
 pub returns-clause-spelled : goal.returns-clause-spelled
 returns-clause-spelled c =
     let read : plan_in c.args.text.now ≡ Ok (plan_said c.in_ok-steps.steps.items c.in-Some.tries) =

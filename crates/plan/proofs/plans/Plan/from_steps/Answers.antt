@@ -4,7 +4,7 @@ use Rattle.std.proofs.lemmas.List.{length-map}
 use Rattle.std.proofs.lemmas.Result.{err_from_is_err_and}
 use Rattle.plan.specs.Limits.{most_steps}
 use Rattle.plan.specs.declared.steps.PlanStep.{PlanStep}
-use Rattle.plan.specs.Planned.{step_said, plan_said, is_step}
+use Rattle.plan.specs.PlanModel.{step_said, plan_said, is_step}
 use Rattle.plan.specs.Levels.{steps_kept}
 use Rattle.plan.proofs.MadeLemmas.{made_tries, made_miscounted, made_by_steps, made_keeps}
 use Rattle.plan.proofs.plans.Plan.from_steps.Goals as goal

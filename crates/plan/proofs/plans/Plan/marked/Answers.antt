@@ -1,6 +1,6 @@
 use Rattle.std.proofs.Common.{ap, sym}
 use Rattle.std.specs.Prelude.{option_map, unwrap_or, false}
-use Rattle.plan.specs.Planned.{StepPlan}
+use Rattle.plan.specs.PlanModel.{StepPlan}
 use Rattle.plan.proofs.StepLemmas.{step_read}
 use Rattle.plan.proofs.plans.Plan.marked.Goals as goal
 

@@ -1,6 +1,6 @@
 use Rattle.std.specs.Option.{option_copied}
 use Rattle.commands.specs.Orders.{request_of}
-use Rattle.standing.proofs.Accepting.{outcome_keeps}
+use Rattle.sql_model.proofs.Accepting.{outcome_keeps}
 use Rattle.tables.proofs.FinishedLemmas.{finished-kept}
 use Rattle.tables.proofs.books.TableBook.carry_out.Goals as goal
 

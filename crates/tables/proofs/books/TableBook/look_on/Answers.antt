@@ -1,9 +1,11 @@
-use Rattle.std.proofs.Common.{sym, ap, subst, ◌∙◌}
+use Rattle.std.proofs.Common.{sym, ap, subst, ◌∙◌, rules}
+use Rattle.std.specs.Prelude.{Err}
 use Rattle.sqlite.specs.Held.{state}
 use Rattle.sqlite.specs.State.{HasCleanDisk}
-use Rattle.standing.specs.Keeping.{Keeps}
-use Rattle.tables.specs.Finished.{AreFinishedTo}
+use Rattle.sql_model.specs.Keeping.{Keeps}
+use Rattle.tables.specs.FinishedJourneys.{AreFinishedTo}
 use Rattle.tables.proofs.FinishedLemmas.{finished-found, finished-all}
+use Rattle.tables.proofs.LookLemmas.{uncounted}
 use Rattle.tables.proofs.books.TableBook.look_on.Goals as goal
 use Rattle.tables.proofs.books.TableBook.look_on.Goals.{in-Some, in-None+in_ok-self-in-None}
 
@@ -42,3 +44,15 @@ returns-clause-same g c clean s here = elim c.match-found.branch [
             (w.in_ok-self-in-None.ensures.same s kept);
       }
 ]
+
+-- the first look changed nothing, nor did the counts where memory ran out
+pub returns-in_err-self-in-None-clause-same : goal.returns-in_err-self-in-None-clause-same
+returns-in_err-self-in-None-clause-same g c clean =
+    let f = c.in_err-self-in-None.field-0.0 in
+    let old = state g.S.Store c.args.self.now.conn in
+    let first = state g.S.Store c.read_first_unfinished.new.conn in
+    let end = state g.S.Store c.read_counts.new.conn in
+    uncounted c.args.self.now.failed c.args.self.now.finished old first end f
+    (λ s keeps. c.in_ok-found.ensures.same s keeps)
+    (λ s keeps is. c.in_err-self-in-None.ensures.memory s keeps (ap Err is))
+    _ (search rules)

@@ -2,7 +2,7 @@
 use Rattle.std.proofs.Common.{◌≡◌, Some, None, rules}
 use Rattle.sqlite.specs.Given.{row_if}
 use Rattle.desk_sql.specs.Stock.{stock_of}
-use Rattle.desk_sql.specs.Handing.{stock_shown}
+use Rattle.desk_sql.specs.RemainingRows.{stock_shown}
 use Rattle.desk_sql.specs.Texts.{find_stock_text}
 use Rattle.desk_sql.specs.Meanings.{find_stock_query, find_stock_names}
 use Rattle.desk_sql.proofs.Meaning.{find_stock_means}

@@ -1,8 +1,8 @@
 -- The row at which the query stands is the first of those to come.
 use Rattle.std.proofs.Common.{◌≡◌, Some, None, rules}
 use Rattle.sqlite.specs.Given.{row_if}
-use Rattle.desk_sql.specs.Found.{journey_of}
-use Rattle.desk_sql.specs.Handing.{journey_shown}
+use Rattle.desk_sql.specs.FoundRows.{journey_of}
+use Rattle.desk_sql.specs.RemainingRows.{journey_shown}
 use Rattle.desk_sql.specs.Texts.{first_unfinished_text}
 use Rattle.desk_sql.specs.Meanings.{first_unfinished_query, journey_names}
 use Rattle.desk_sql.proofs.Meaning.{first_unfinished_means}

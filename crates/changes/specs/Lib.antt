@@ -1,5 +1,0 @@
-pub mod Cursors
-pub mod Changed
-pub mod Legal
-pub mod Answered
-pub mod Examples

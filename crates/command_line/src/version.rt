@@ -1,0 +1,17 @@
+//! Which version of the program this is.
+ghost use Rattle.std.specs.Prelude.{◌≡◌};
+ghost use Rattle.command_line.specs.Version.{version_text, version_line as line_of_version};
+
+/// The version of the program, of three numbers.
+pub fn program_version<'a>() -> &'a str
+    ensures version { result.now ≡ version_text }
+{
+    "0.2.0"
+}
+
+/// The line that says which version of the program this is, with its end.
+pub fn version_line<'a>() -> &'a str
+    ensures line { result.now ≡ line_of_version }
+{
+    "desk 0.2.0\n"
+}

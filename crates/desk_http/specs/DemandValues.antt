@@ -1,0 +1,49 @@
+-- What values of the program say of demands.
+use Rattle.std.specs.Prelude.{◌≡◌, ⊤, Option, option_map, Result, Ok, Err}
+use Rattle.serde_json.specs.Data.{Data}
+use Rattle.serde_json.specs.View.{view}
+use Rattle.serde_json.specs.declared.value.Value.{Value}
+use Rattle.commands.specs.Orders.{request_of}
+use Rattle.commands.specs.Request.{Request}
+use Rattle.commands.specs.declared.orders.Command.{Command}
+use Rattle.commands.specs.declared.refusals.Refusal.{Refusal}
+use Rattle.http_pages.specs.declared.admitting.Denied.{Denied}
+use Rattle.desk_http.specs.Demands as sent
+pub use Rattle.desk_http.specs.Demands.{denied_by}
+use Rattle.desk_http.specs.declared.demands.Demand.{Demand}
+use Rattle.desk_http.specs.declared.demands.Demand.TheVariants.{Carry, SeeJourney, SeeUnfinished, SeeStock}
+use Rattle.desk_http.specs.declared.demands.Unmet.{Unmet}
+use Rattle.desk_http.specs.declared.demands.Unmet.TheVariants.{Refused, Memory}
+use Rattle.desk_http.specs.declared.senders.Sender.{Sender}
+
+-- the value that was found is this one
+abbrev pub ReadsAs : Option Data → Option Value → Type 0
+ReadsAs value found = option_map view found ≡ value
+
+-- who sent a request, and with what
+abbrev pub sender_said : Sender → sent.Sender
+sender_said sender = record {
+  agent = sender.agent;
+  key = sender.key;
+  target = sender.target.now;
+  body = sender.body.now;
+}
+
+-- what is demanded
+abbrev pub demand_said : Demand → sent.Demand
+demand_said (Carry command ask) = sent.Carry (request_of command) ask
+demand_said (SeeJourney agent id) = sent.SeeJourney agent id
+demand_said (SeeUnfinished agent) = sent.SeeUnfinished agent
+demand_said SeeStock = sent.SeeStock
+
+-- it asks for this command, or is refused for this, unless memory ran out
+abbrev pub AsksFor : Result Request Refusal → Result Command Unmet → Type 0
+AsksFor said (Ok command) = said ≡ Ok (request_of command)
+AsksFor said (Err (Refused denied)) = denied_by said ≡ Err denied
+AsksFor said (Err Memory) = ⊤
+
+-- it demands this, or is denied for this, unless memory ran out
+abbrev pub Demands : Result sent.Demand Denied → Result Demand Unmet → Type 0
+Demands said (Ok demand) = said ≡ Ok (demand_said demand)
+Demands said (Err (Refused denied)) = said ≡ Err denied
+Demands said (Err Memory) = ⊤

@@ -1,0 +1,108 @@
+-- The walk through a stream finds the shortest decided prefix. For look and go_on.
+use Rattle.std.proofs.Common.{◌≡◌, ◌∙◌, ap, sym, subst, refl, ℕ, ◌+◌, ◌-◌, ◌<◌, ◌≤◌, Bool, true, false, ◌||◌, List, [], ◌∷◌, ◌++◌, length, take, drop, get_or, take-append-drop, arith, length-append, inl, inr}
+use Rattle.std.specs.Prelude.{◌==◌}
+use Rattle.std.proofs.lemmas.Bool.{cases_lt}
+use Rattle.std.proofs.lemmas.List.{take_more, take_all, length-take-le, take-append-le, get_or-drop, take_rest}
+use Rattle.http_messages.specs.Heads.{most_head_bytes}
+use Rattle.http_messages.specs.Messages.{ends_in_empty_line, is_told}
+use Rattle.http_messages.specs.Places.{IsToldAt, LooksAt, WentThrough, WhereTold, is_told_place, next_place, walk}
+use Rattle.http_messages.specs.declared.places.Place.{Place}
+use Rattle.http_messages.specs.declared.places.Place.TheVariants.{Before, Within, AfterLf, AfterCr, Told}
+use Rattle.http_messages.specs.declared.places.Search.{Search}
+use Rattle.http_messages.proofs.ToldLemmas.{not_empty_line, or_false, or_left, or_right, told_at_end, walk_append}
+
+-- only one place is that of a decided prefix
+told_place : (place : Place) → is_told_place place ≡ true → place ≡ Told
+told_place Before is = cc
+told_place Within is = cc
+told_place AfterLf is = cc
+told_place AfterCr is = cc
+told_place Told is = refl
+
+-- the bytes are decided where the walk ends there, or where they are as many as a head may have
+told_here : (bytes : List ℕ) → (is_told_place (walk Before bytes) || length bytes == most_head_bytes) ≡ true
+    → is_told bytes ≡ true
+told_here bytes is = told_by (is_told_place (walk Before bytes)) refl is
+  where
+    told_by : (b : Bool) → is_told_place (walk Before bytes) ≡ b → (b || length bytes == most_head_bytes) ≡ true → is_told bytes ≡ true
+    told_by true at is = or_left (ends_in_empty_line bytes) _ (told_at_end bytes (told_place (walk Before bytes) at))
+    told_by false at is = or_right (ends_in_empty_line bytes) _ is
+
+-- the bytes are decided nowhere else
+not_told : (bytes : List ℕ) → (is_told_place (walk Before bytes) || length bytes == most_head_bytes) ≡ false
+    → is_told bytes ≡ false
+not_told bytes is = not_told_by (is_told_place (walk Before bytes)) refl is
+  where
+    not_told_by : (b : Bool) → is_told_place (walk Before bytes) ≡ b → (b || length bytes == most_head_bytes) ≡ false → is_told bytes ≡ false
+    not_told_by true at is = cc
+    not_told_by false at is = or_false (ends_in_empty_line bytes) _ (not_empty_line bytes _ refl at) is
+
+-- bytes without a decided prefix stay so with one more byte that decides nothing
+calm_more : (seen : List ℕ) (byte : ℕ)
+    → ((k : ℕ) → k ≤ length seen → is_told (take k seen) ≡ false)
+    → is_told (seen ++ byte ∷ []) ≡ false
+    → (k : ℕ) → k ≤ length (seen ++ byte ∷ []) → is_told (take k (seen ++ byte ∷ [])) ≡ false
+calm_more seen byte calm last k within = elim (cases_lt (length seen) k) [
+  | inl past ↦ ap is_told (take_all k (seen ++ byte ∷ []) (omega (arith, length-append seen (byte ∷ [])))) ∙ last
+  | inr inside ↦ ap is_told (take-append-le k seen (byte ∷ []) inside) ∙ calm k inside
+]
+
+-- one more byte was examined
+pub looks_more : (told : Bool) (old new : Search) (byte : ℕ)
+    → new.looked ≡ old.looked + 1
+    → new.place ≡ next_place old.place byte
+    → told ≡ (is_told_place new.place || new.looked == most_head_bytes)
+    → LooksAt told old new byte
+looks_more told old new byte far led is seen went =
+    let place : new.place ≡ walk Before (seen ++ byte ∷ []) =
+    led ∙ ap (λ p. next_place p byte) went.place ∙ sym (walk_append Before seen (byte ∷ [])) in
+    let count : new.looked ≡ length (seen ++ byte ∷ []) = omega (arith, far, went.far, length-append seen (byte ∷ [])) in
+    let test : told ≡ (is_told_place (walk Before (seen ++ byte ∷ [])) || length (seen ++ byte ∷ []) == most_head_bytes) =
+    is ∙ ap (λ p. is_told_place p || new.looked == most_head_bytes) place
+    ∙ ap (λ n. is_told_place (walk Before (seen ++ byte ∷ [])) || n == most_head_bytes) count in
+    by_answer told (sym test) count place
+  where
+    by_answer : (b : Bool) → (is_told_place (walk Before (seen ++ byte ∷ [])) || length (seen ++ byte ∷ []) == most_head_bytes) ≡ b
+        → new.looked ≡ length (seen ++ byte ∷ [])
+        → new.place ≡ walk Before (seen ++ byte ∷ [])
+        → WhereTold b new (seen ++ byte ∷ [])
+    by_answer true test count place = told_here (seen ++ byte ∷ []) test
+    by_answer false test count place = record {
+      far = count;
+      place = place;
+      calm = calm_more seen byte went.calm (not_told (seen ++ byte ∷ []) test);
+    }
+
+-- a shorter prefix of a prefix is a prefix
+take_shorter : (k n : ℕ) (bytes : List ℕ) → k ≤ n → n ≤ length bytes → take k (take n bytes) ≡ take k bytes
+take_shorter k n bytes less inside =
+    sym (take-append-le k (take n bytes) (drop n bytes) (omega (arith, length-take-le n bytes inside)))
+    ∙ ap (take k) (take-append-drop n bytes)
+
+module _ (bytes : List ℕ) (n : ℕ) (byte : ℕ) (inside : n < length bytes) (here : byte ≡ get_or bytes n 0) where
+  -- the bytes up to here and this one
+  one_more : take n bytes ++ byte ∷ [] ≡ take (n + 1) bytes
+  one_more = ap (λ b. take n bytes ++ b ∷ []) here ∙ sym (take_more bytes n 0 inside)
+
+  -- the search went one byte on
+  pub went_on : (new : Search) → WentThrough new (take n bytes ++ byte ∷ []) → WentThrough new (take (n + 1) bytes)
+  went_on new went = subst (WentThrough new) one_more went
+
+  -- here a prefix is decided, and no shorter one is
+  pub told_first : (old : Search)
+      → WentThrough old (take n bytes)
+      → is_told (take n bytes ++ byte ∷ []) ≡ true
+      → IsToldAt bytes (n + 1)
+  told_first old went told =
+      let full : length (take n bytes) ≡ n = length-take-le n bytes (omega arith) in
+      record {
+        within = omega arith;
+        told = ap is_told (sym one_more) ∙ told;
+        first = λ k less.
+            ap is_told (sym (take_shorter k n bytes (omega arith) (omega arith))) ∙ went.calm k (omega arith);
+      }
+
+-- a byte of the suffix, by its place in the whole
+pub rest_at : (bytes : List ℕ) (from i : ℕ)
+    → get_or (take (length bytes - from) (drop from bytes)) i 0 ≡ get_or bytes (from + i) 0
+rest_at bytes from i = ap (λ rest. get_or rest i 0) (take_rest bytes from) ∙ get_or-drop from bytes i 0

@@ -1,0 +1,26 @@
+//! The messages of a stream of bytes: heads of requests with their bodies, and prefixes that are no head.
+//!
+//! A message is returned as soon as its bytes are there, however they arrive. A message that the end of the input cuts
+//! off is none. A head is what httparse reads, with limits. What the desk refuses it for is reported with it, and a
+//! refused head has no body.
+//!
+//! Words: a *front* is a prefix of the stream. It is *decided* (in names: told) where it ends with an empty line or has
+//! as many bytes as a head may have: there it is known whether it is a head.
+#![tactic(auto)]
+
+mod faults;
+mod fields;
+mod heads;
+mod incoming;
+mod laws;
+mod lengths;
+mod places;
+mod requests;
+#[cfg(test)]
+mod tests;
+mod words;
+
+pub use faults::ReadFault;
+pub use incoming::Incoming;
+pub use laws::{heads_are_told, one_reading};
+pub use requests::{Message, Request};

@@ -1,0 +1,70 @@
+//! The text of messages in a test.
+use crate::{Incoming, Message, ReadFault, Request};
+use commands::Refusal;
+use std::alloc::{AllocError, Global};
+use std::io::Read;
+use std::str;
+
+/// The messages up to the end or a fault, each with a semicolon, and the fault.
+pub(super) fn told<R: Read>(
+    alloc: Global,
+    incoming: &mut Incoming,
+    reader: &mut R,
+) -> Result<String, AllocError> {
+    let mut text = String::new(alloc);
+    for _ in 0..100u8 {
+        match incoming.next_message(reader) {
+            Ok(Some(message)) => tell(alloc, &mut text, &message)?,
+            Ok(None) => return Ok(text),
+            Err(ReadFault::Read) => {
+                text.push_str("Read")?;
+                return Ok(text);
+            }
+            Err(ReadFault::Memory) => {
+                text.push_str("Memory")?;
+                return Ok(text);
+            }
+        }
+    }
+    Ok(text)
+}
+
+/// `none;`, or `GET /stock ann k1 0 open;`: method, target, agent, key, the bytes of the body, what it asks for.
+fn tell(alloc: Global, text: &mut String, message: &Message) -> Result<(), AllocError> {
+    match message {
+        Message::NoHead => text.push_str("none;"),
+        Message::Asks(request) => tell_request(alloc, text, request),
+    }
+}
+
+fn tell_request(alloc: Global, text: &mut String, request: &Request) -> Result<(), AllocError> {
+    let method = text_of(&request.method);
+    let target = text_of(&request.target);
+    let agent = request.agent.as_ref().map_or("-", |agent| agent.as_str());
+    let key = request.key.as_ref().map_or("-", |key| key.as_str());
+    let body = text_of(&request.body);
+    let closes = if request.closes { "close" } else { "open" };
+    let head = if request.is_head { " head" } else { "" };
+    let refusal = refusal(request.complaint);
+    let line = format!(in alloc; "{method} {target} {agent} {key} {body} {closes}{head}{refusal}")?;
+    text.push_str(&line)
+}
+
+/// The number of a refusal, and what ends the text of a message.
+fn refusal(complaint: Option<Refusal>) -> &'static str {
+    match complaint {
+        None => ";",
+        Some(Refusal::BadHead) => " 1;",
+        Some(Refusal::TooLarge) => " 15;",
+        Some(Refusal::NoLength) => " 19;",
+        Some(_) => " another;",
+    }
+}
+
+/// The text of these bytes.
+fn text_of(bytes: &[u8]) -> &str {
+    match str::from_utf8(bytes) {
+        Ok(text) => text,
+        Err(_) => "no text",
+    }
+}

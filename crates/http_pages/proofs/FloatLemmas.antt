@@ -1,0 +1,37 @@
+-- Bodies contain no floats, so their compact texts are known. For the bodies with lists.
+use Rattle.std.specs.Prelude.{◌≡◌, ℕ, false, List, [], ◌∷◌, map, codes}
+use Rattle.std.proofs.Common.{refl}
+use Rattle.serde_json.specs.View.{items_of}
+use Rattle.serde_json.specs.Written.{has_float, items_have_float, members_have_float}
+use Rattle.commands.specs.declared.items.Item.{Item}
+use Rattle.commands.specs.declared.items.Phase.{Phase}
+use Rattle.commands.specs.declared.items.Phase.TheVariants.{Run, Back, Ended, Undone}
+use Rattle.saga_core.specs.declared.records.Brief.{Brief}
+use Rattle.http_pages.specs.Bodies.{members, list, item_data, brief_data, unfinished_data, standing_members, json}
+
+-- where a journey is contains no float
+no_float-standing : (id pos : ℕ) (phase : Phase) → members_have_float (members (standing_members id pos phase)) ≡ false
+no_float-standing id pos Run = refl
+no_float-standing id pos (Back target) = refl
+no_float-standing id pos Ended = refl
+no_float-standing id pos Undone = refl
+
+-- a list of texts contains no float
+no_float-items : (history : List Item) → items_have_float (items_of (map item_data history)) ≡ false
+no_float-items [] = refl
+no_float-items (item ∷ later) = no_float-items later
+
+-- a list of journeys contains no float
+no_float-briefs : (briefs : List Brief) → items_have_float (items_of (map brief_data briefs)) ≡ false
+no_float-briefs [] = refl
+no_float-briefs (brief ∷ later) =
+    rw (no_float-standing brief.id brief.cursor.pos brief.cursor.phase) (no_float-briefs later)
+
+-- a journey with its history contains no float
+pub no_float-journey : (id pos : ℕ) (phase : Phase) (history : List Item)
+    → has_float (json ((codes "history", list (map item_data history)) ∷ standing_members id pos phase)) ≡ false
+no_float-journey id pos phase history = rw (no_float-items history) (no_float-standing id pos phase)
+
+-- journeys that are not finished contain no float
+pub no_float-unfinished : (briefs : List Brief) → has_float (unfinished_data briefs) ≡ false
+no_float-unfinished briefs = rw (no_float-briefs briefs) refl

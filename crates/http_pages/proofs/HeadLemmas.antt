@@ -1,0 +1,22 @@
+-- The lines of a head, one after another. For the head of a page.
+use Rattle.std.specs.Prelude.{◌≡◌, ℕ, List, [], ◌∷◌, ◌++◌, codes}
+use Rattle.std.proofs.Common.{append_assoc}
+use Rattle.http_pages.specs.Pages.{line}
+
+-- texts in one piece are these texts in lines, each with the same end
+pieces_in_lines : (http code blank phrase before length type media allow close end : List ℕ)
+    → http ++ (code ++ (blank ++ (phrase ++ (end ++ (before ++ (length ++ (end ++ (type ++ (media ++ (end
+    ++ (allow ++ (close ++ end))))))))))))
+    ≡ (http ++ code ++ blank ++ phrase) ++ end ++ ((before ++ length) ++ end) ++ ((type ++ media) ++ end)
+    ++ allow ++ close ++ end
+pieces_in_lines http code blank phrase before length type media allow close end = simp append_assoc
+
+-- the head in one piece is its lines
+pub head_lines : (code phrase length media allow close : List ℕ)
+    → codes "HTTP/1.1 " ++ (code ++ (codes " " ++ (phrase ++ (codes "\r\nContent-Length: " ++ (length
+    ++ (codes "\r\nContent-Type: " ++ (media ++ (codes "\r\n" ++ (allow ++ (close ++ codes "\r\n"))))))))))
+    ≡ line (codes "HTTP/1.1 " ++ code ++ codes " " ++ phrase) ++ line (codes "Content-Length: " ++ length)
+    ++ line (codes "Content-Type: " ++ media) ++ allow ++ close ++ line []
+head_lines code phrase length media allow close =
+    pieces_in_lines (codes "HTTP/1.1 ") code (codes " ") phrase (codes "Content-Length: ") length
+    (codes "Content-Type: ") media allow close (13 ∷ 10 ∷ [])

@@ -1,0 +1,103 @@
+-- The bodies of pages as JSON values. The members of an object stand in the order of their names.
+use Rattle.std.specs.Prelude.{ℕ, List, [], ◌∷◌, ◌++◌, map, codes, Option, option_map, option_to_list}
+use Rattle.serde_json.specs.Data.{Data, number, unsigned, string, array, object, Members, no_members, member}
+use Rattle.serde_json.specs.View.{items_of}
+use Rattle.commands.specs.Texts.{item_text, phase_word, told}
+use Rattle.commands.specs.declared.items.Cursor.{Cursor}
+use Rattle.commands.specs.declared.items.Item.{Item}
+use Rattle.commands.specs.declared.items.Phase.{Phase}
+use Rattle.commands.specs.declared.items.Phase.TheVariants.{Run, Back, Ended, Undone}
+use Rattle.commands.specs.declared.refusals.Refusal.{Refusal}
+use Rattle.commands.specs.declared.replies.Reply.{Reply}
+use Rattle.commands.specs.declared.replies.Reply.TheVariants.{Loaded, Begun, Moved, Refused}
+use Rattle.saga_core.specs.declared.records.Brief.{Brief}
+
+-- Values.
+
+-- a member of an object: its name and its value
+abbrev pub Named : Type 0
+Named = List ℕ × Data
+
+-- these members
+abbrev pub members : List Named → Members
+members [] = no_members
+members (m ∷ later) = member m.0 m.1 (members later)
+
+-- the object with these members
+abbrev pub json : List Named → Data
+json ms = object (members ms)
+
+-- the list of these values
+abbrev pub list : List Data → Data
+list ds = array (items_of ds)
+
+-- a whole number from 0 on
+abbrev pub whole : ℕ → Data
+whole n = number (unsigned n)
+
+-- a member, if it has a value
+abbrev pub maybe : List ℕ → Option Data → List Named
+maybe name value = option_to_list (option_map (λ d. (name, d)) value)
+
+-- Journeys.
+
+-- the position to which a journey goes back, if it does
+abbrev pub target_member : Phase → List Named
+target_member Run = []
+target_member (Back target) = (codes "target", whole target) ∷ []
+target_member Ended = []
+target_member Undone = []
+
+-- where a journey is: its number, its position, what it is doing, and its target if it goes back
+abbrev pub standing_members : ℕ → ℕ → Phase → List Named
+standing_members id pos phase =
+    (codes "journey", whole id) ∷ (codes "pos", whole pos)
+    ∷ (codes "state", string (phase_word phase)) ∷ target_member phase
+
+-- an item
+abbrev pub item_data : Item → Data
+item_data item = string (item_text item)
+
+-- a journey with its history
+abbrev pub journey_data : ℕ → Cursor → List Item → Data
+journey_data id cursor history =
+    json ((codes "history", list (map item_data history))
+    ∷ standing_members id cursor.pos cursor.phase)
+
+-- a journey without its history
+abbrev pub brief_data : Brief → Data
+brief_data brief = json (standing_members brief.id brief.cursor.pos brief.cursor.phase)
+
+-- journeys that are not finished
+abbrev pub unfinished_data : List Brief → Data
+unfinished_data briefs = json ((codes "unfinished", list (map brief_data briefs)) ∷ [])
+
+-- Answers to commands.
+
+-- a refusal: its name and number, and its cause, row and step if it has them
+abbrev pub refusal_data : Refusal → Data
+refusal_data refusal =
+    let t = told refusal in
+    json (maybe (codes "cause") (option_map string t.cause)
+    ++ ((codes "name", string t.name) ∷ (codes "refused", whole t.number)
+    ∷ (maybe (codes "row") (option_map whole t.row)
+    ++ maybe (codes "step") (option_map whole t.step))))
+
+-- a batch that was loaded
+abbrev pub loaded_data : List ℕ → ℕ → Data
+loaded_data name rows = json ((codes "batch", string name) ∷ (codes "rows", whole rows) ∷ [])
+
+-- a journey that is begun
+abbrev pub begun_data : ℕ → Data
+begun_data id = json ((codes "journey", whole id) ∷ [])
+
+-- a journey that made an item, and where it is now
+abbrev pub moved_data : ℕ → Item → ℕ → Phase → Data
+moved_data id item pos phase = json ((codes "item", item_data item) ∷ standing_members id pos phase)
+
+-- a reply
+abbrev pub reply_data : Reply → Data
+reply_data (Loaded name rows) = loaded_data name rows
+reply_data (Begun id) = begun_data id
+reply_data (Moved id item pos phase) = moved_data id item pos phase
+reply_data (Refused refusal) = refusal_data refusal

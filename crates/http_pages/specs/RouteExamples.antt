@@ -1,0 +1,92 @@
+-- Worked examples of routes.
+use Rattle.std.specs.Prelude.{◌≡◌, true, false, codes, Ok, Err, refl}
+use Rattle.std.specs.Fmt.{digits}
+use Rattle.std.specs.Str.{is_utf8, chars}
+use lib.Utf8.{encode}
+use Rattle.matchit.proofs.OnLiterals.{matchit_on_literals}
+use Rattle.commands.specs.declared.refusals.Refusal.TheVariants as refusal
+use Rattle.http_pages.specs.Admitting.{admitted, plain}
+use Rattle.http_pages.specs.Routes.{routes, route_of}
+use Rattle.http_pages.specs.declared.routes.Route.TheVariants.{LoadBatch, Step, Abort, Save, ShowJourney, ShowStock}
+use Rattle.http_pages.specs.declared.routes.Unrouted.TheVariants.{UnknownPath, WrongMethod, BadPart}
+use Rattle.http_pages.specs.declared.verbs.Verb.TheVariants.{Get}
+
+-- Targets with a route.
+
+-- the next step of journey 17
+pub step_is_found : route_of (codes "POST") (codes "/journeys/17/step") ≡ Ok (Step 17)
+unfolding routes digits is_utf8 chars encode matchit_on_literals
+step_is_found = refl
+
+-- the turn of journey 1 to position 0
+pub abort_is_found : route_of (codes "POST") (codes "/journeys/1/abort/0") ≡ Ok (Abort 1 0)
+unfolding routes digits is_utf8 chars encode matchit_on_literals
+abort_is_found = refl
+
+-- a save-point of journey 1
+pub save_is_found : route_of (codes "POST") (codes "/journeys/1/save") ≡ Ok (Save 1)
+unfolding routes digits is_utf8 chars encode matchit_on_literals
+save_is_found = refl
+
+-- a batch, by its name
+pub batch_is_found : route_of (codes "POST") (codes "/batches/b1") ≡ Ok (LoadBatch (codes "b1"))
+unfolding routes digits is_utf8 chars encode matchit_on_literals
+batch_is_found = refl
+
+-- a journey, whose path is a prefix of others
+pub journey_is_found : route_of (codes "GET") (codes "/journeys/1") ≡ Ok (ShowJourney 1)
+unfolding routes digits is_utf8 chars encode matchit_on_literals
+journey_is_found = refl
+
+-- Targets without one.
+
+-- a number of a journey has no leading zero
+pub leading_zero_is_bad : route_of (codes "POST") (codes "/journeys/01/step") ≡ Err BadPart
+unfolding routes digits is_utf8 chars encode matchit_on_literals
+leading_zero_is_bad = refl
+
+-- the method is checked before the number: this path has the method GET
+pub method_comes_before_the_number :
+    route_of (codes "POST") (codes "/journeys/x") ≡ Err (WrongMethod Get)
+unfolding routes digits is_utf8 chars encode matchit_on_literals
+method_comes_before_the_number = refl
+
+-- an empty part is no part
+pub empty_part_has_no_path : route_of (codes "GET") (codes "/journeys/") ≡ Err UnknownPath
+unfolding routes digits is_utf8 chars encode matchit_on_literals
+empty_part_has_no_path = refl
+
+-- one more slash makes another path
+pub slash_behind_has_no_path : route_of (codes "POST") (codes "/journeys/1/step/") ≡ Err UnknownPath
+unfolding routes digits is_utf8 chars encode matchit_on_literals
+slash_behind_has_no_path = refl
+
+-- a query is a part of the path
+pub query_has_no_path : route_of (codes "GET") (codes "/stock?x") ≡ Err UnknownPath
+unfolding routes digits is_utf8 chars encode matchit_on_literals
+query_has_no_path = refl
+
+-- no path has the method HEAD
+pub head_is_another_method : route_of (codes "HEAD") (codes "/stock") ≡ Err (WrongMethod Get)
+unfolding routes digits is_utf8 chars encode matchit_on_literals
+head_is_another_method = refl
+
+-- The order of what is wrong.
+
+-- a POST with a bad number, without agent and key: the agent is reported first
+pub agent_comes_before_the_key :
+    admitted (Err BadPart) false false true ≡ Err (plain refusal.NoAgent)
+agent_comes_before_the_key = refl
+
+-- the missing key is reported next
+pub key_comes_before_the_number : admitted (Err BadPart) true false true ≡ Err (plain refusal.NoKey)
+key_comes_before_the_number = refl
+
+-- a GET needs no key
+pub get_needs_no_key : admitted (Ok ShowStock) true false false ≡ Ok ShowStock
+get_needs_no_key = refl
+
+-- an unknown path is reported before all else
+pub path_comes_before_all :
+    admitted (Err UnknownPath) false false true ≡ Err (plain refusal.UnknownPath)
+path_comes_before_all = refl

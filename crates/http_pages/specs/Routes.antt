@@ -1,0 +1,135 @@
+-- The routes of the desk: one table of paths, and what a method and a target ask for.
+use Rattle.std.specs.Prelude.{ℕ, List, [], ◌∷◌, bytes_eq, slice_get, codes, if◌then◌else◌, Option, Some, None, option_map, option_and_then, Result, Ok, Err}
+use Rattle.std.specs.Str.{is_utf8}
+use Rattle.matchit.specs.Order.{placed}
+use Rattle.matchit.specs.Route.{Scan, parse_route}
+use Rattle.matchit.specs.Router.{RouteOf, route_from}
+use Rattle.matchit.specs.Rows.{RowsOf}
+use Rattle.matchit.specs.Seek.{first}
+use Rattle.matchit.specs.declared.error.InsertError.{InsertError}
+use Rattle.allotment.specs.Texts.{parts, slash, keep_if, number_from}
+use Rattle.commands.specs.Limits.{most_events, most_named_position}
+use Rattle.commands.specs.Names.{is_batch_name}
+use Rattle.http_pages.specs.Verbs.{verb_text}
+use Rattle.http_pages.specs.declared.places.Entry.{Entry}
+use Rattle.http_pages.specs.declared.places.Place.{Place}
+use Rattle.http_pages.specs.declared.places.Place.TheVariants as place
+use Rattle.http_pages.specs.declared.routes.Route.{Route}
+use Rattle.http_pages.specs.declared.routes.Route.TheVariants.{LoadBatch, Begin, Step, Abort, Save, ShowJourney, ShowUnfinished, ShowStock}
+use Rattle.http_pages.specs.declared.routes.Unrouted.{Unrouted}
+use Rattle.http_pages.specs.declared.routes.Unrouted.TheVariants.{UnknownPath, WrongMethod, BadPart}
+use Rattle.http_pages.specs.declared.verbs.Verb.TheVariants.{Get, Post}
+
+-- The table.
+
+-- a path, the one method that it has, and what stands there
+abbrev pub Line : Type 0
+Line = List ℕ × Entry
+
+-- a path with the method GET
+abbrev pub get : List ℕ → Place → Line
+get path place = (path, record { verb = Get; place = place })
+
+-- a path with the method POST
+abbrev pub post : List ℕ → Place → Line
+post path place = (path, record { verb = Post; place = place })
+
+-- the paths of the desk. What stands in braces matches one piece between slashes
+abbrev pub table : List Line
+table =
+    post (codes "/batches/{name}") place.Batch
+    ∷ post (codes "/journeys") place.Journeys
+    ∷ post (codes "/journeys/{id}/step") place.Step
+    ∷ post (codes "/journeys/{id}/abort/{p}") place.Abort
+    ∷ post (codes "/journeys/{id}/save") place.Save
+    ∷ get (codes "/journeys/{id}") place.Journey
+    ∷ get (codes "/unfinished") place.Unfinished
+    ∷ get (codes "/stock") place.Stock
+    ∷ []
+
+-- the paths in which `matchit` looks up a target
+abbrev pub Known : Type 0
+Known = RowsOf (RouteOf Entry)
+
+-- these paths with one more, if it was read
+abbrev pub with_read : Result Scan InsertError → Entry → Known → Known
+with_read (Ok read) entry known = placed (read.pattern, route_from read entry) known
+with_read (Err fault) entry known = known
+
+-- these paths with one more
+abbrev pub with_line : Line → Known → Known
+with_line line known = with_read (parse_route line.0) line.1 known
+
+-- these paths with more
+abbrev pub with_lines : Known → List Line → Known
+with_lines known [] = known
+with_lines known (line ∷ later) = with_lines (with_line line known) later
+
+-- all paths of the table
+unfoldable pub routes : Known
+routes = with_lines [] table
+
+-- The parts of a target.
+
+-- the piece of a target between two slashes, counted from 0. A target begins with a slash, so the first piece is empty
+abbrev pub piece : List ℕ → ℕ → Option (List ℕ)
+piece target place = slice_get (parts slash target) place
+
+-- the journey whose number a text is
+abbrev pub journey_in : List ℕ → Option ℕ
+journey_in text = number_from 1 most_events text
+
+-- the position that a text is
+abbrev pub position_in : List ℕ → Option ℕ
+position_in text = number_from 0 most_named_position text
+
+-- the name of a batch that a target has after `/batches/`
+abbrev pub name_at : List ℕ → Option (List ℕ)
+name_at target = option_and_then (keep_if is_batch_name) (piece target 2)
+
+-- the journey that a target has after `/journeys/`
+abbrev pub journey_at : List ℕ → Option ℕ
+journey_at target = option_and_then journey_in (piece target 2)
+
+-- the position that a target has after `/abort/`
+abbrev pub position_at : List ℕ → Option ℕ
+position_at target = option_and_then position_in (piece target 4)
+
+-- the turn of a journey to a position
+abbrev pub abort_of : Option ℕ → Option ℕ → Option Route
+abort_of (Some id) (Some position) = Some (Abort id position)
+abort_of _ _ = None
+
+-- What is asked for.
+
+-- what is asked for at a place, if the parts of the target are well formed
+abbrev pub asked : Place → List ℕ → Option Route
+asked place.Batch target = option_map LoadBatch (name_at target)
+asked place.Journeys target = Some Begin
+asked place.Step target = option_map Step (journey_at target)
+asked place.Abort target = abort_of (journey_at target) (position_at target)
+asked place.Save target = option_map Save (journey_at target)
+asked place.Journey target = option_map ShowJourney (journey_at target)
+asked place.Unfinished target = Some ShowUnfinished
+asked place.Stock target = Some ShowStock
+
+-- what was asked for, or that a part is malformed
+abbrev pub good_parts : Option Route → Result Route Unrouted
+good_parts (Some route) = Ok route
+good_parts None = Err BadPart
+
+-- what a method asks for at a path that was found: the path's own method first, then the parts
+abbrev pub asked_by : List ℕ → List ℕ → Entry → Result Route Unrouted
+asked_by method target entry =
+    if bytes_eq method (verb_text entry.verb) then good_parts (asked entry.place target)
+    else Err (WrongMethod entry.verb)
+
+-- what a method asks for at the path that was found, if one was
+abbrev pub found_route : List ℕ → List ℕ → Option (RouteOf Entry) → Result Route Unrouted
+found_route method target (Some found) = asked_by method target found.value
+found_route method target None = Err UnknownPath
+
+-- what a method and a target ask for. A target that is not UTF-8 has no path
+abbrev pub route_of : List ℕ → List ℕ → Result Route Unrouted
+route_of method target =
+    if is_utf8 target then found_route method target (first routes target) else Err UnknownPath

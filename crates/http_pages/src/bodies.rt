@@ -1,0 +1,51 @@
+//! The JSON bodies of pages, in their compact text.
+ghost use Rattle.std.specs.Prelude.{◌≡◌, IfOk};
+ghost use Rattle.std.specs.String.{string_bytes};
+ghost use Rattle.serde_json.specs.Written.{compact_text};
+ghost use Rattle.http_pages.specs.Bodies.{refusal_data, reply_data, journey_data, unfinished_data};
+
+use crate::values::{journey_value, refusal_value, reply_value, unfinished_value};
+use commands::{Cursor, Item, Refusal, Reply};
+use saga_core::Brief;
+use std::alloc::{AllocError, Global};
+
+/// The body that answers a command, as `{"journey":1}`. The only fault is out of memory.
+pub fn reply_body(alloc: Global, reply: &Reply) -> Result<String, AllocError>
+    ensures body { IfOk result (λ body. string_bytes body ≡ compact_text (reply_data reply.now)) }
+{
+    let value = reply_value(alloc, reply)?;
+    value.to_string(alloc)
+}
+
+/// The body that reports a refusal, as `{"name":"NoKey","refused":3}`. The only fault is out of memory.
+pub fn refusal_body(alloc: Global, refusal: &Refusal) -> Result<String, AllocError>
+    ensures body { IfOk result
+        (λ body. string_bytes body ≡ compact_text (refusal_data refusal.now)) }
+{
+    let value = refusal_value(alloc, refusal)?;
+    value.to_string(alloc)
+}
+
+/// The body that shows a journey with its history, oldest item first. The only fault is out of memory.
+pub fn journey_body(
+    alloc: Global,
+    id: u64,
+    cursor: Cursor,
+    history: &[Item],
+) -> Result<String, AllocError>
+    ensures body { IfOk result
+        (λ body. string_bytes body ≡ compact_text (journey_data id cursor history.now)) }
+{
+    let value = journey_value(alloc, id, cursor, history)?;
+    value.to_string(alloc)
+}
+
+/// The body that shows journeys that are not finished, in the order in which they are given. The only fault is out of
+/// memory.
+pub fn unfinished_body(alloc: Global, briefs: &[Brief]) -> Result<String, AllocError>
+    ensures body { IfOk result
+        (λ body. string_bytes body ≡ compact_text (unfinished_data briefs.now)) }
+{
+    let value = unfinished_value(alloc, briefs)?;
+    value.to_string(alloc)
+}

@@ -1,0 +1,32 @@
+//! Routes and pages of the desk over HTTP, apart from streams and books.
+//!
+//! A *route* is what a method and a target ask for. `Paths::route` finds it in one table of paths, and `admit` reports
+//! the first thing that is wrong with a request before its body is read. A *page* is a status and a body; `page_bytes`
+//! returns its bytes. Bodies are JSON in its compact text, with the members of each object in the order of their names,
+//! or the text of a report.
+//!
+//! Words: a *verb* is a method that some path has, a *place* what stands at a path.
+#![tactic(auto)]
+
+mod admitting;
+mod answers;
+mod bodies;
+mod finding;
+mod heads;
+mod places;
+mod routes;
+mod statuses;
+mod targets;
+#[cfg(test)]
+mod tests;
+mod values;
+mod verbs;
+
+pub use admitting::{Denied, admit};
+pub use answers::{Body, Page, denied_page, refused_page, reply_page, shown_page};
+pub use bodies::{journey_body, refusal_body, reply_body, unfinished_body};
+pub use finding::Paths;
+pub use heads::page_bytes;
+pub use routes::{Route, Unrouted};
+pub use statuses::Status;
+pub use verbs::Verb;

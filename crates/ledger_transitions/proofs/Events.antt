@@ -1,0 +1,190 @@
+-- What one more event changes of the ledger itself: its length, its journeys and their numbers, their histories, and
+-- the batches of a name.
+use Rattle.std.proofs.Common.{◌≡◌, ℕ, zero, suc, ◌+◌, List, [], ◌∷◌, ◌++◌, length, refl, ap, ◌∙◌, arith, append-nil, length-append, eq-eqb}
+use Rattle.std.proofs.lemmas.Bool.{ne_eqb}
+use Rattle.std.proofs.lemmas.List.Elements.{filter_map-append}
+use Rattle.std.specs.Prelude.{Bool, true, false, Some, None, if◌then◌else◌, bytes_eq}
+use Rattle.std.specs.List.{cons_option}
+use Rattle.allotment.specs.Cells.{numbers_from}
+use Rattle.allotment.specs.declared.cells.Row.{Row}
+use Rattle.plan.specs.PlanModel.{Planned, numbered}
+use Rattle.commands.specs.declared.items.Item.{Item}
+use Rattle.ledger.specs.Ledger.{Event, Loaded, Began, Did, Journey, journeys, journey_at, numbers, history, batches_named, rows_if_named, IsLegal}
+use Rattle.ledger.proofs.Growing as growing
+use Rattle.ledger.proofs.Ledgers.{all_go}
+use Rattle.ledger.proofs.Lists.{numbered-some, numbered-past}
+use Rattle.ledger.proofs.Numbers.{numbers_from-append}
+
+-- The length.
+
+-- an event makes the ledger longer by one
+pub length-more : (l : List Event) (e : Event) → length (l ++ e ∷ []) ≡ length l + 1
+length-more l e = length-append l (e ∷ [])
+
+-- Journeys.
+
+-- the journey that a begin makes
+abbrev pub begun : List ℕ → Planned → Journey
+begun agent plan = record { agent = agent; plan = plan }
+
+-- a batch begins no journey
+pub journeys-loaded : (l : List Event) (name : List ℕ) (rows : List Row)
+    → journeys (l ++ Loaded name rows ∷ []) ≡ journeys l
+journeys-loaded l name rows = growing.journeys-loaded l name rows
+
+-- a journey that is begun is the last one
+pub journeys-began : (l : List Event) (agent : List ℕ) (plan : Planned)
+    → journeys (l ++ Began agent plan ∷ []) ≡ journeys l ++ begun agent plan ∷ []
+journeys-began l agent plan = growing.journeys-began l agent plan
+
+-- an item begins no journey
+pub journeys-did : (l : List Event) (k : ℕ) (item : Item)
+    → journeys (l ++ Did k item ∷ []) ≡ journeys l
+journeys-did l k item = growing.journeys-did l k item
+
+-- a begin adds one journey
+pub journey_count-began : (l : List Event) (agent : List ℕ) (plan : Planned)
+    → length (journeys (l ++ Began agent plan ∷ [])) ≡ length (journeys l) + 1
+journey_count-began l agent plan =
+    ap length (journeys-began l agent plan) ∙ length-append (journeys l) (begun agent plan ∷ [])
+
+-- a batch leaves each journey
+pub journey_at-loaded : (l : List Event) (name : List ℕ) (rows : List Row) (j : ℕ)
+    → journey_at (l ++ Loaded name rows ∷ []) j ≡ journey_at l j
+journey_at-loaded l name rows j = ap (λ js. numbered js j) (journeys-loaded l name rows)
+
+-- an item leaves each journey
+pub journey_at-did : (l : List Event) (k : ℕ) (item : Item) (j : ℕ)
+    → journey_at (l ++ Did k item ∷ []) j ≡ journey_at l j
+journey_at-did l k item j = ap (λ js. numbered js j) (journeys-did l k item)
+
+-- a begin leaves the journeys that were there
+pub journey_at-began_old : (l : List Event) (agent : List ℕ) (plan : Planned) (j : ℕ) (a : Journey)
+    → journey_at l j ≡ Some a → journey_at (l ++ Began agent plan ∷ []) j ≡ Some a
+journey_at-began_old l agent plan j a at =
+    ap (λ js. numbered js j) (journeys-began l agent plan)
+    ∙ numbered-some (journeys l) (begun agent plan) j a at
+
+-- the last of a list has the list's length as its number
+numbered-last : {X : Type 0} (xs : List X) (x : X)
+    → numbered (xs ++ x ∷ []) (suc (length xs)) ≡ Some x
+numbered-last [] x = refl
+numbered-last (y ∷ ys) x = numbered-last ys x
+
+-- the journey that is begun has the next number
+pub journey_at-began_new : (l : List Event) (agent : List ℕ) (plan : Planned)
+    → journey_at (l ++ Began agent plan ∷ []) (length (journeys l) + 1) ≡ Some (begun agent plan)
+journey_at-began_new l agent plan =
+    ap (journey_at (l ++ Began agent plan ∷ []))
+    (let e : length (journeys l) + 1 ≡ suc (length (journeys l)) = omega arith in e)
+    ∙ ap (λ js. numbered js (suc (length (journeys l)))) (journeys-began l agent plan)
+    ∙ numbered-last (journeys l) (begun agent plan)
+
+-- at a number that is not the last of a list, an appended element changes nothing
+numbered-other : {X : Type 0} (xs : List X) (x : X) (j : ℕ) → (j ≡ suc (length xs) → ⊥)
+    → numbered (xs ++ x ∷ []) j ≡ numbered xs j
+numbered-other xs x zero other = refl
+numbered-other [] x (suc zero) other = absurd (other refl)
+numbered-other [] x (suc (suc j)) other = refl
+numbered-other (y ∷ ys) x (suc zero) other = refl
+numbered-other (y ∷ ys) x (suc (suc j)) other =
+    numbered-other ys x (suc j)
+    (λ e. other (let k : suc (suc j) ≡ suc (suc (length ys)) = omega arith in k))
+
+-- at each other number a begin changes nothing
+pub journey_at-began_other : (l : List Event) (agent : List ℕ) (plan : Planned) (j : ℕ)
+    → (j ≡ length (journeys l) + 1 → ⊥)
+    → journey_at (l ++ Began agent plan ∷ []) j ≡ journey_at l j
+journey_at-began_other l agent plan j other =
+    ap (λ js. numbered js j) (journeys-began l agent plan)
+    ∙ numbered-other (journeys l) (begun agent plan) j
+    (λ e. other (let k : j ≡ length (journeys l) + 1 = omega arith in k))
+
+-- before a begin no journey has the next number
+pub journey_at-next : (l : List Event) → journey_at l (length (journeys l) + 1) ≡ None
+journey_at-next l =
+    ap (journey_at l)
+    (let e : length (journeys l) + 1 ≡ suc (length (journeys l)) = omega arith in e)
+    ∙ numbered-past (journeys l)
+
+-- Numbers.
+
+-- a batch leaves the numbers of the journeys
+pub numbers-loaded : (l : List Event) (name : List ℕ) (rows : List Row)
+    → numbers (l ++ Loaded name rows ∷ []) ≡ numbers l
+numbers-loaded l name rows = ap (λ js. numbers_from 1 (length js)) (journeys-loaded l name rows)
+
+-- an item leaves the numbers of the journeys
+pub numbers-did : (l : List Event) (k : ℕ) (item : Item)
+    → numbers (l ++ Did k item ∷ []) ≡ numbers l
+numbers-did l k item = ap (λ js. numbers_from 1 (length js)) (journeys-did l k item)
+
+-- a begin adds the next number
+pub numbers-began : (l : List Event) (agent : List ℕ) (plan : Planned)
+    → numbers (l ++ Began agent plan ∷ []) ≡ numbers l ++ (length (journeys l) + 1) ∷ []
+numbers-began l agent plan =
+    ap (numbers_from 1) (journey_count-began l agent plan)
+    ∙ numbers_from-append 1 (length (journeys l)) 1
+    ∙ ap (λ n. numbers l ++ n ∷ [])
+    (let e : 1 + length (journeys l) ≡ length (journeys l) + 1 = omega arith in e)
+
+-- Histories.
+
+-- a batch leaves each history
+pub history-loaded : (l : List Event) (name : List ℕ) (rows : List Row) (j : ℕ)
+    → history (l ++ Loaded name rows ∷ []) j ≡ history l j
+history-loaded l name rows j = growing.history-loaded l name rows j
+
+-- a begin leaves each history
+pub history-began : (l : List Event) (agent : List ℕ) (plan : Planned) (j : ℕ)
+    → history (l ++ Began agent plan ∷ []) j ≡ history l j
+history-began l agent plan j = growing.history-began l agent plan j
+
+-- an item is appended to its journey's history
+pub history-did_same : (l : List Event) (j : ℕ) (item : Item)
+    → history (l ++ Did j item ∷ []) j ≡ history l j ++ item ∷ []
+history-did_same l j item = growing.history-did_same l j item j (eq-eqb j j refl)
+
+-- an item leaves each other history
+pub history-did_other : (l : List Event) (k : ℕ) (item : Item) (j : ℕ) → (j ≡ k → ⊥)
+    → history (l ++ Did k item ∷ []) j ≡ history l j
+history-did_other l k item j other = growing.history-did_other l k item j (ne_eqb j k other)
+
+-- a number without a journey has no history
+pub history-none : (l : List Event) (j : ℕ) → IsLegal l → journey_at l j ≡ None → history l j ≡ []
+history-none l j legal absent = (all_go l legal).none j absent
+
+-- a journey that is begun has no history yet
+pub history-began_new : (l : List Event) (agent : List ℕ) (plan : Planned) → IsLegal l
+    → history (l ++ Began agent plan ∷ []) (length (journeys l) + 1) ≡ []
+history-began_new l agent plan legal =
+    history-began l agent plan (length (journeys l) + 1)
+    ∙ history-none l (length (journeys l) + 1) legal (journey_at-next l)
+
+-- Batches.
+
+-- a batch is appended to those of its name
+pub batches_named-loaded : (l : List Event) (other : List ℕ) (rows : List Row) (name : List ℕ)
+    → batches_named (l ++ Loaded other rows ∷ []) name
+    ≡ batches_named l name ++ (if bytes_eq name other then rows ∷ [] else [])
+batches_named-loaded l other rows name =
+    filter_map-append (rows_if_named name) l (Loaded other rows ∷ []) ∙ go (bytes_eq name other)
+  where
+    go : (v : Bool)
+        → batches_named l name ++ cons_option (if v then Some rows else None) []
+        ≡ batches_named l name ++ (if v then rows ∷ [] else [])
+    go true = refl
+    go false = refl
+
+-- a begin is no batch
+pub batches_named-began : (l : List Event) (agent : List ℕ) (plan : Planned) (name : List ℕ)
+    → batches_named (l ++ Began agent plan ∷ []) name ≡ batches_named l name
+batches_named-began l agent plan name =
+    filter_map-append (rows_if_named name) l (Began agent plan ∷ [])
+    ∙ append-nil (batches_named l name)
+
+-- an item is no batch
+pub batches_named-did : (l : List Event) (k : ℕ) (item : Item) (name : List ℕ)
+    → batches_named (l ++ Did k item ∷ []) name ≡ batches_named l name
+batches_named-did l k item name =
+    filter_map-append (rows_if_named name) l (Did k item ∷ []) ∙ append-nil (batches_named l name)

@@ -1,0 +1,232 @@
+-- Invariants of the history of each journey of a legal ledger: it follows the rules. For what an item changes, and for
+-- answers.
+use Rattle.std.proofs.Common.{◌≡◌, ℕ, ◌+◌, ◌<◌, ◌≤◌, List, [], ◌∷◌, ◌++◌, map, refl, ap, sym, ◌∙◌, arith, subst, eqb-true, inl, inr}
+use Rattle.std.proofs.lemmas.Bool.{and_parts, or_cases, and_from, eqb-false, ltb-true, le-leb, not-true}
+use Rattle.std.specs.Prelude.{Bool, true, false, not, ◌==◌, ◌||◌, ◌&&◌, nat_lt, filter, cond, Some, IsTrue}
+use Rattle.std.specs.List.{list_all}
+use Rattle.plan.specs.Limits.{most_steps}
+use Rattle.plan.proofs.LimitLemmas.{few_steps}
+use Rattle.allotment.specs.Cells.{numbers_from}
+use Rattle.allotment.specs.Limits.{is_between}
+use Rattle.plan.specs.PlanModel.{Planned, is_plan, step_count, option_count}
+use Rattle.savepoints.proofs.OptionLemmas.{one_le-option_count}
+use Rattle.commands.specs.declared.items.Item.{Item}
+use Rattle.commands.specs.declared.items.Item.TheVariants.{Transaction, Compensation, Turn, Save}
+use Rattle.ledger.specs.History.{net, position_of, is_taken, is_save_point, phase, is_running, next_option, may_come}
+use Rattle.ledger.specs.Ledger.{Event, Journey, journey_at, history, IsLegal}
+use Rattle.ledger.proofs.Coming.{step-comes, compensation-comes}
+use Rattle.ledger.proofs.Journeys.{goes-begin, goes-more}
+use Rattle.ledger.proofs.Modes.{Goes, Mode, rises, falls, fell, running-rises}
+use Rattle.ledger.proofs.Standing.{compensates, net-transaction, net-compensation, net-turn, net-save, position_of-transaction, position_of-turn, position_of-save}
+use Rattle.ledger_transitions.specs.Legal.{HasHistory}
+use Rattle.ledger_transitions.proofs.Taking.{is_taken-more}
+use Rattle.ledger_transitions.proofs.Inductions.{AtBegin, AtItem, each_history}
+pub use Rattle.ledger_transitions.proofs.Inductions.{may_come-allowed}
+
+-- the plan has this option of this step
+abbrev pub is_option_of : Planned → ℕ × ℕ → Bool
+is_option_of plan t = is_between 1 (option_count plan t.0) t.1
+
+-- a save-point that was taken at p stands between the first step and the position, and below the last step
+pub record IsWithin (plan : Planned) (h : List Item) (p : ℕ) : Type 0 where
+  pub from_one : 1 ≤ p
+  pub reached : p ≤ position_of h
+  pub short : p < step_count plan
+
+-- each save-point that was taken stands within these bounds
+abbrev TakenWithin : Planned → List Item → Type 0
+TakenWithin plan h = (p : ℕ) → IsTrue (is_taken h p) → IsWithin plan h p
+
+-- the history follows the rules: it is one that a journey of a legal ledger may have
+pub record Follows (plan : Planned) (h : List Item) : Type 0 where
+  pub good : IsTrue (is_plan plan)
+  pub few : step_count plan ≤ most_steps
+  pub goes : Goes plan h
+  pub within : position_of h ≤ step_count plan
+  -- the steps that stand are those up to the position, in order
+  pub stands : map (λ t. t.0) (net h) ≡ numbers_from 1 (position_of h)
+  -- each with one of its options
+  pub options : list_all (is_option_of plan) (net h) ≡ true
+  pub taken : (p : ℕ) → IsTrue (is_taken h p) → IsWithin plan h p
+
+-- Positions.
+
+-- on its way a journey is at no position after its last step
+within-mode : (plan : Planned) (h : List Item) → Mode plan h → position_of h ≤ step_count plan
+within-mode plan h (rises r) = r.within
+within-mode plan h (falls f) = let a = f.falls in let b = f.short in omega arith
+within-mode plan h (fell f) = let a = f.low in omega arith
+
+-- Save-points.
+
+-- one more item leaves a save-point within, if the position is not below it
+still : (plan : Planned) (h : List Item) (x : Item) (p : ℕ) → TakenWithin plan h
+    → IsTrue (is_taken h p) → p ≤ position_of (h ++ x ∷ []) → IsWithin plan (h ++ x ∷ []) p
+still plan h x p all before here =
+    let w = all p before in record { from_one = w.from_one; reached = here; short = w.short }
+
+-- a save-point is taken where the journey runs, above the start
+taken-save : (plan : Planned) (h : List Item) (may_fit : Bool) (q p : ℕ) → Goes plan h
+    → IsTrue (may_come plan h may_fit (Save q)) → TakenWithin plan h
+    → IsTrue ((p == q) || is_taken h p) → IsWithin plan (h ++ Save q ∷ []) p
+taken-save plan h may_fit q p g may all e =
+    let same = position_of-save h q in
+    elim (or_cases (p == q) (is_taken h p) e) [
+      | inr before ↦ still plan h (Save q) p all before
+          (let w = (all p before).reached in omega arith)
+      | inl now ↦ (let is = eqb-true _ _ now in
+          let tests = and_parts (is_running (phase plan h) && (q == position_of h) && nat_lt 0 q)
+          (not (is_save_point plan h q)) may in
+          let first = and_parts (is_running (phase plan h) && (q == position_of h))
+          (nat_lt 0 q) tests.0 in
+          let two = and_parts (is_running (phase plan h)) (q == position_of h) first.0 in
+          let here = eqb-true _ _ two.1 in
+          let above = ltb-true _ _ first.1 in
+          let below = (running-rises plan h g.mode two.0).1 in
+          record { from_one = omega arith; reached = omega arith; short = omega arith })
+    ]
+
+-- a compensation drops the save-point of its step, so the others are below
+taken-compensation : (plan : Planned) (h : List Item) (may_fit : Bool) (i c p : ℕ) → Goes plan h
+    → IsTrue (may_come plan h may_fit (Compensation i c)) → TakenWithin plan h
+    → IsTrue (not (p == i) && is_taken h p) → IsWithin plan (h ++ Compensation i c ∷ []) p
+taken-compensation plan h may_fit i c p g may all e =
+    let both = and_parts (not (p == i)) (is_taken h p) e in
+    let k = compensates h i c g.stands (compensation-comes plan h may_fit i c may).last in
+    let last = k.is_last in
+    let lower = k.lower in
+    let other = eqb-false _ _ (not-true _ both.0) in
+    let w = (all p both.1).reached in
+    let apart : p ≡ position_of h → ⊥ = λ e. other (omega arith) in
+    still plan h (Compensation i c) p all both.1 (omega arith)
+
+-- each item that may come leaves the save-points within
+taken-more : AtItem TakenWithin
+taken-more plan h may_fit (Transaction i c) g may all p e =
+    let before = sym (is_taken-more h (Transaction i c) p) ∙ e in
+    still plan h (Transaction i c) p all before
+    (let w = (all p before).reached in let k = position_of-transaction h i c in omega arith)
+taken-more plan h may_fit (Compensation i c) g may all p e =
+    taken-compensation plan h may_fit i c p g may all
+    (sym (is_taken-more h (Compensation i c) p) ∙ e)
+taken-more plan h may_fit (Turn q cause) g may all p e =
+    let before = sym (is_taken-more h (Turn q cause) p) ∙ e in
+    still plan h (Turn q cause) p all before
+    (let w = (all p before).reached in let k = position_of-turn h q cause in omega arith)
+taken-more plan h may_fit (Save q) g may all p e =
+    taken-save plan h may_fit q p g may all (sym (is_taken-more h (Save q) p) ∙ e)
+
+-- Options.
+
+-- the plan is good, and each standing transaction has an option of its step
+record Chosen (plan : Planned) (h : List Item) : Type 0 where
+  good : IsTrue (is_plan plan)
+  options : list_all (is_option_of plan) (net h) ≡ true
+
+-- if all elements of a list pass, so do those of a filtered list
+filter-passing : {X : Type 0} (p keeps : X → Bool) (xs : List X) → list_all p xs ≡ true
+    → list_all p (filter keeps xs) ≡ true
+filter-passing p keeps [] all = refl
+filter-passing p keeps (x ∷ xs) all =
+    let both = and_parts (p x) (list_all p xs) all in
+    go (keeps x) both.0 (filter-passing p keeps xs both.1)
+  where
+    go : (v : Bool) → p x ≡ true → list_all p (filter keeps xs) ≡ true
+        → list_all p (cond v (x ∷ filter keeps xs) (filter keeps xs)) ≡ true
+    go true here later = and_from _ _ here later
+    go false here later = later
+
+-- the option that the next step takes is one of its own
+next_option-within : (plan : Planned) (h : List Item) (i c : ℕ) → IsTrue (is_plan plan)
+    → position_of h < step_count plan → i ≡ position_of h + 1 → c ≡ next_option plan h
+    → is_option_of plan (i, c) ≡ true
+next_option-within plan h i c good below is option_is =
+    let some = one_le-option_count plan (position_of h + 1) good (omega arith) (omega arith) in
+    let same : option_count plan i ≡ option_count plan (position_of h + 1) =
+    ap (option_count plan) is in
+    and_from _ _ (le-leb 1 c (omega arith)) (le-leb c (option_count plan i) (omega arith))
+
+-- all of a list and one more pass
+list_all-snoc : {X : Type 0} (p : X → Bool) (xs : List X) (x : X) → list_all p xs ≡ true
+    → p x ≡ true
+    → list_all p (xs ++ x ∷ []) ≡ true
+list_all-snoc p [] x all here = and_from _ _ here refl
+list_all-snoc p (y ∷ ys) x all here =
+    let both = and_parts (p y) (list_all p ys) all in
+    and_from _ _ both.0 (list_all-snoc p ys x both.1 here)
+
+-- each item that may come leaves each transaction with an option of its step
+chosen-more : AtItem Chosen
+chosen-more plan h may_fit (Transaction i c) g may all =
+    let comes = step-comes plan h may_fit i c may in
+    let below = (running-rises plan h g.mode comes.running).1 in
+    record {
+      good = all.good;
+      options =
+          ap (list_all (is_option_of plan)) (net-transaction h i c)
+          ∙ list_all-snoc (is_option_of plan) (net h) (i, c) all.options
+          (next_option-within plan h i c all.good below comes.step comes.option);
+    }
+chosen-more plan h may_fit (Compensation i c) g may all = record {
+  good = all.good;
+  options =
+      ap (list_all (is_option_of plan)) (net-compensation h i c)
+      ∙ filter-passing (is_option_of plan) (λ t. not (t.0 == i)) (net h) all.options;
+}
+chosen-more plan h may_fit (Turn p cause) g may all = record {
+  good = all.good;
+  options = ap (list_all (is_option_of plan)) (net-turn h p cause) ∙ all.options;
+}
+chosen-more plan h may_fit (Save p) g may all = record {
+  good = all.good;
+  options = ap (list_all (is_option_of plan)) (net-save h p) ∙ all.options;
+}
+
+-- Legal ledgers.
+
+-- a journey that is just begun follows the rules
+pub follows-begin : AtBegin Follows
+follows-begin plan good =
+    record {
+      good = good;
+      few = few_steps plan good;
+      goes = goes-begin plan;
+      within = omega arith;
+      stands = refl;
+      options = refl;
+      taken = λ p e. never p e;
+    }
+  where
+    never : (p : ℕ) → false ≡ true → IsWithin plan [] p
+    never p e = cc
+
+-- a journey follows the rules with each item that may come
+pub follows-more : (plan : Planned) (h : List Item) (may_fit : Bool) (x : Item) → Follows plan h
+    → IsTrue (may_come plan h may_fit x) → Follows plan (h ++ x ∷ [])
+follows-more plan h may_fit x f may =
+    let g = goes-more plan h may_fit x f.goes may in
+    let chosen = chosen-more plan h may_fit x f.goes may
+    (record { good = f.good; options = f.options }) in
+    record {
+      good = f.good;
+      few = f.few;
+      goes = g;
+      within = within-mode plan (h ++ x ∷ []) g.mode;
+      stands = g.stands;
+      options = chosen.options;
+      taken = taken-more plan h may_fit x f.goes may f.taken;
+    }
+
+-- the history of each journey of a legal ledger follows the rules
+pub follows : (l : List Event) → IsLegal l → (j : ℕ) (a : Journey) → journey_at l j ≡ Some a
+    → Follows a.plan (history l j)
+follows =
+    each_history Follows follows-begin
+    (λ plan h may_fit x g may f. follows-more plan h may_fit x f may)
+
+-- each history that a journey of some legal ledger has follows the rules
+pub follows-of : (plan : Planned) (h : List Item) → HasHistory plan h → Follows plan h
+follows-of plan h has =
+    subst (Follows plan) has.past
+    (subst (λ p. Follows p (history has.ledger has.number)) has.planned
+    (follows has.ledger has.legal has.number has.journey has.at))

@@ -1,0 +1,69 @@
+-- The position and the last standing step of a journey, by its phase. For each desk that stores a cursor.
+use Rattle.std.proofs.Common.{◌≡◌, ℕ, ◌<◌, List, [], ◌∷◌, length, refl, ap, sym, ◌∙◌, arith}
+use Rattle.std.specs.Prelude.{Some}
+use Rattle.plan.specs.PlanModel.{Planned, step_count}
+use Rattle.commands.specs.declared.items.Item.{Item}
+use Rattle.commands.specs.declared.items.Phase.TheVariants.{Run, Back, Ended, Undone}
+use Rattle.ledger.specs.History.{net, position_of, phase, is_running, is_going_back, last_of}
+use Rattle.ledger.proofs.Modes.{Mode, rises, falls, fell, upward, runs, ended, phase-falling, phase-fallen, running-rises, going_back-falls}
+use Rattle.ledger.proofs.Standing.{compensates}
+use Rattle.ledger_transitions.proofs.Histories.{Follows}
+
+-- a running journey is below its last step
+pub running_below : (plan : Planned) (h : List Item) → Follows plan h → phase plan h ≡ Run
+    → position_of h < step_count plan
+running_below plan h f run = (running-rises plan h f.goes.mode (ap is_running run)).1
+
+-- a journey that goes back is above its target, and below its last step
+pub back_above : (plan : Planned) (h : List Item) (p : ℕ) → Follows plan h → phase plan h ≡ Back p
+    → (p < position_of h) × (position_of h < step_count plan)
+back_above plan h p f back =
+    let way = going_back-falls plan h f.goes.mode (ap is_going_back back) in
+    let same : Back way.target ≡ Back p = sym (phase-falling plan h way) ∙ back in
+    let is : way.target ≡ p = cc in
+    let above = way.above in
+    let falls_to = way.falls in
+    let short = way.short in
+    (omega arith, omega arith)
+
+-- a journey that has ended stands at its last step
+pub ended_at : (plan : Planned) (h : List Item) → Follows plan h → phase plan h ≡ Ended
+    → position_of h ≡ step_count plan
+ended_at plan h f e = by_mode f.goes.mode
+  where
+    by_mode : Mode plan h → position_of h ≡ step_count plan
+    by_mode (rises r) = elim (upward plan h r) [
+      | runs below run ↦ (let bad : Run ≡ Ended = sym run ∙ e in cc)
+      | ended at same ↦ at
+    ]
+    by_mode (falls way) =
+        let bad : Back way.target ≡ Ended = sym (phase-falling plan h way) ∙ e in cc
+    by_mode (fell way) = let bad : Undone ≡ Ended = sym (phase-fallen plan h way) ∙ e in cc
+
+-- a journey that is undone stands at the start
+pub undone_at : (plan : Planned) (h : List Item) → Follows plan h → phase plan h ≡ Undone
+    → position_of h ≡ 0
+undone_at plan h f e = by_mode f.goes.mode
+  where
+    by_mode : Mode plan h → position_of h ≡ 0
+    by_mode (rises r) = elim (upward plan h r) [
+      | runs below run ↦ (let bad : Run ≡ Undone = sym run ∙ e in cc)
+      | ended at same ↦ (let bad : Ended ≡ Undone = sym same ∙ e in cc)
+    ]
+    by_mode (falls way) =
+        let bad : Back way.target ≡ Undone = sym (phase-falling plan h way) ∙ e in cc
+    by_mode (fell way) = way.low
+
+-- a list that is not empty has a last element
+last_of-some : {X : Type 0} (xs : List X) → 0 < length xs → (t : X) × (last_of xs ≡ Some t)
+last_of-some [] e = absurd (omega arith)
+last_of-some (x ∷ []) e = (x, refl)
+last_of-some (x ∷ y ∷ ys) e = last_of-some (y ∷ ys) (omega arith)
+
+-- above the start the last transaction that stands is that of the position
+pub last_standing : (plan : Planned) (h : List Item) → Follows plan h → 0 < position_of h
+    → (c : ℕ) × (last_of (net h) ≡ Some (position_of h, c))
+last_standing plan h f above =
+    let last = last_of-some (net h) above in
+    let step = (compensates h last.0.0 last.0.1 f.stands last.1).is_last in
+    (last.0.1, last.1 ∙ ap (λ n. Some (n, last.0.1)) step)

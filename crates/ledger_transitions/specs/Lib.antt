@@ -1,0 +1,5 @@
+pub mod Cursors
+pub mod JourneyChanges
+pub mod Legal
+pub mod Answers
+pub mod Examples

@@ -1,0 +1,165 @@
+//! What the words of the command line ask for.
+use crate::tests::desks::{holds, reads};
+use command_line::{Job, JobFault, job};
+use std::alloc::{AllocError, Global};
+use std::test::Fail;
+
+/// The words of a table, as the program gets them.
+fn words_of(alloc: Global, text: &str) -> Result<Vec<String>, AllocError> {
+    let mut words = Vec::new(alloc);
+    for word in text.split('|') {
+        words.push(String::from_str(alloc, word)?)?;
+    }
+    Ok(words)
+}
+
+/// What words ask for, in words of the table: the job with its values, or the usage alone.
+fn asked(alloc: Global, words: Vec<String>) -> Result<String, AllocError> {
+    match job(alloc, words) {
+        Ok(Job::Run { file }) => format!(in alloc; "run|{file}"),
+        Ok(
+            Job::Serve {
+                file,
+                port,
+                connections,
+            },
+        ) => format!(in alloc; "serve|{file}|{port}|{connections}"),
+        Ok(Job::Recover { file }) => format!(in alloc; "recover|{file}"),
+        Ok(Job::Load { file, csv, batch }) => format!(in alloc; "load|{file}|{csv}|{batch}"),
+        Ok(Job::Stock { file }) => format!(in alloc; "stock|{file}"),
+        Ok(Job::Unfinished { file }) => format!(in alloc; "unfinished|{file}"),
+        Ok(Job::History { file, id }) => format!(in alloc; "history|{file}|{id}"),
+        Ok(Job::Migrate { file }) => format!(in alloc; "migrate|{file}"),
+        Ok(Job::Version) => String::from_str(alloc, "version"),
+        Err(JobFault::Usage(usage)) => Ok(usage),
+        Err(JobFault::Memory) => Err(AllocError),
+    }
+}
+
+// the words, with a bar between each two, and the job with its values; a bad number of a journey is no usage
+#[rattlefmt::skip]
+const JOBS: [(&str, &str); 34] = [
+    ("run|x.db",                    "run|x.db"),
+    ("run|a b/x.db",                "run|a b/x.db"),
+    ("run|--|-x.db",                "run|-x.db"),
+    ("run|-",                       "run|-"),
+    ("serve|x.db|--port|8099|--connections|2",        "serve|x.db|8099|2"),
+    ("serve|--connections|2|x.db|--port|8099",        "serve|x.db|8099|2"),
+    ("serve|--port=8099|--connections=2|a b/x.db",    "serve|a b/x.db|8099|2"),
+    ("serve|--port|1|--connections|1|--|-x.db",       "serve|-x.db|1|1"),
+    ("serve|x.db|--port|65535|--connections|1000",    "serve|x.db|65535|1000"),
+    ("serve|x.db|--port|65534|--connections|999",     "serve|x.db|65534|999"),
+    ("serve|-|--port|10|--connections|100",           "serve|-|10|100"),
+    ("recover|x.db",                "recover|x.db"),
+    ("recover|a b/x.db",            "recover|a b/x.db"),
+    ("recover|--|-x.db",            "recover|-x.db"),
+    ("recover|-",                   "recover|-"),
+    ("stock|x.db",                  "stock|x.db"),
+    ("stock|a b/x.db",              "stock|a b/x.db"),
+    ("stock|--|-x.db",              "stock|-x.db"),
+    ("stock|-",                     "stock|-"),
+    ("unfinished|x.db",             "unfinished|x.db"),
+    ("unfinished|a b/x.db",         "unfinished|a b/x.db"),
+    ("unfinished|--|-x.db",         "unfinished|-x.db"),
+    ("unfinished|-",                "unfinished|-"),
+    ("load|x.db|a.csv|--batch|b1",  "load|x.db|a.csv|b1"),
+    ("load|--batch|b1|x.db|a.csv",  "load|x.db|a.csv|b1"),
+    ("load|x.db|--batch=b-1|a.csv", "load|x.db|a.csv|b-1"),
+    ("load|a.csv|x.db|--batch|B 1", "load|a.csv|x.db|B 1"),
+    ("history|x.db|12",             "history|x.db|12"),
+    ("history|x.db|012",            "history|x.db|012"),
+    ("history|x.db|one",            "history|x.db|one"),
+    ("migrate|x.db",                "migrate|x.db"),
+    ("--version",                   "version"),
+    ("-V",                          "version"),
+    ("--version|run|x.db",          "version"),
+];
+
+#[test]
+fn words_name_a_job_with_its_values(rt: HostRuntime) -> Result<(), Fail> {
+    for &(words, expected) in &JOBS {
+        let found = asked(rt.alloc(), words_of(rt.alloc(), words)?)?;
+        reads(&rt, words, found.as_bytes(), expected);
+    }
+    Ok(())
+}
+
+// the words, and how the usage begins
+#[rattlefmt::skip]
+const REFUSED: [(&str, &str, &str); 58] = [
+    ("another subcommand",       "fly|x.db",       "error: unrecognized subcommand 'fly'"),
+    ("a subcommand in capitals", "RUN|x.db",       "error: unrecognized subcommand 'RUN'"),
+    ("a part of a subcommand",   "ru|x.db",        "error: unrecognized subcommand 'ru'"),
+    ("an empty word",            "",               "error: unrecognized subcommand ''"),
+    ("an unknown flag",          "--fast|run|x",   "error: unexpected argument '--fast' found"),
+    ("help",                     "--help",         "A booking desk for travel agencies"),
+    ("help in short",            "-h",             "A booking desk for travel agencies"),
+    ("help as a word",           "help",           "A booking desk for travel agencies"),
+    ("no file",                  "run",            "error: the following required arguments were not provided:\n  <FILE>\n\nUsage: desk run <FILE>\n"),
+    ("two files",                "run|x.db|y.db",  "error: unexpected argument 'y.db' found\n\nUsage: desk run <FILE>\n"),
+    ("a flag that run has not",  "run|--fast|x",   "error: unexpected argument '--fast' found"),
+    ("no file to recover",       "recover",        "error: the following required arguments were not provided:\n  <FILE>\n\nUsage: desk recover <FILE>\n"),
+    ("two files to recover",     "recover|x|y",    "error: unexpected argument 'y' found\n\nUsage: desk recover <FILE>\n"),
+    ("help of recover",          "recover|--help", "Finish or undo every journey under way, as after a crash\n\nOpens the database FILE, or makes it."),
+    ("recover, in short",        "recover|-h",     "Finish or undo every journey under way, as after a crash\n\nUsage: desk recover <FILE>\n"),
+    ("help of run",              "run|--help",     "Answer the lines of standard input, one by one\n\nOpens the database FILE, or makes it."),
+    ("run, in short",            "run|-h",         "Answer the lines of standard input, one by one\n\nUsage: desk run <FILE>\n"),
+    ("help, then run",           "help|run",       "Answer the lines of standard input, one by one\n\nOpens the database FILE, or makes it."),
+    ("help of run, as it is called", "help|run|now", "error: unrecognized subcommand 'now'"),
+    ("a version of run",         "run|--version",  "error: unexpected argument '--version' found"),
+    ("a version in one letter",  "-v",             "error: unexpected argument '-v' found"),
+    ("a version as a word",      "version",        "error: unrecognized subcommand 'version'"),
+    ("a part of it",             "--vers",         "error: unexpected argument '--vers' found"),
+    ("port 0",                   "serve|x|--port|0|--connections|1", "error: invalid value '0' for '--port <PORT>': not a number from 1 to 65535\n"),
+    ("port 65536",               "serve|x|--port|65536|--connections|1", "error: invalid value '65536' for '--port <PORT>': not a number from 1 to 65535\n"),
+    ("a port past every number", "serve|x|--port|18446744073709551617|--connections|1", "error: invalid value '18446744073709551617' for '--port <PORT>'"),
+    ("a port with a sign",       "serve|x|--port|+80|--connections|1", "error: invalid value '+80' for '--port <PORT>'"),
+    ("a port below zero",        "serve|x|--port=-80|--connections|1", "error: invalid value '-80' for '--port <PORT>'"),
+    ("a port with a zero",       "serve|x|--port|080|--connections|1", "error: invalid value '080' for '--port <PORT>'"),
+    ("a port with a blank",      "serve|x|--port|80 |--connections|1", "error: invalid value '80 ' for '--port <PORT>'"),
+    ("a port by its name",       "serve|x|--port|http|--connections|1", "error: invalid value 'http' for '--port <PORT>'"),
+    ("an empty port",            "serve|x|--port=|--connections|1", "error: "),
+    ("connections 0",            "serve|x|--port|80|--connections|0", "error: invalid value '0' for '--connections <N>': not a number from 1 to 1000\n"),
+    ("connections 1001",         "serve|x|--port|80|--connections|1001", "error: invalid value '1001' for '--connections <N>': not a number from 1 to 1000\n"),
+    ("both out of range",        "serve|x|--port|0|--connections|0", "error: invalid value '0' for '--port <PORT>'"),
+    ("no port",                  "serve|x|--connections|1", "error: the following required arguments were not provided:\n  --port <PORT>\n"),
+    ("no connections",           "serve|x|--port|80", "error: the following required arguments were not provided:\n  --connections <N>\n"),
+    ("no file to serve",         "serve|--port|80|--connections|1", "error: the following required arguments were not provided:\n  <FILE>\n"),
+    ("two files to serve",       "serve|x|y|--port|80|--connections|1", "error: unexpected argument 'y' found\n"),
+    ("a flag without a port",    "serve|x|--connections|1|--port", "error: a value is required for '--port <PORT>' but none was supplied\n"),
+    ("two ports",                "serve|x|--port|80|--port|81|--connections|1", "error: the argument '--port <PORT>' cannot be used multiple times\n"),
+    ("a part of a flag",         "serve|x|--por|80|--connections|1", "error: unexpected argument '--por' found\n"),
+    ("help of serve",            "serve|--help", "Answer requests over HTTP, one connection after another\n\nOpens the database FILE, or makes it."),
+    ("serve, in short",          "serve|-h", "Answer requests over HTTP, one connection after another\n\nUsage: desk serve --port <PORT> --connections <N> <FILE>\n"),
+    ("no file for stock",        "stock",          "error: the following required arguments were not provided:\n  <FILE>\n\nUsage: desk stock <FILE>\n"),
+    ("two files for stock",      "stock|x|y",      "error: unexpected argument 'y' found\n\nUsage: desk stock <FILE>\n"),
+    ("two for unfinished",       "unfinished|x|y", "error: unexpected argument 'y' found\n\nUsage: desk unfinished <FILE>\n"),
+    ("no number",                "history|x.db",   "error: the following required arguments were not provided:\n  <ID>\n\nUsage: desk history <FILE> <ID>\n"),
+    ("two numbers",              "history|x|1|2",  "error: unexpected argument '2' found\n\nUsage: desk history <FILE> <ID>\n"),
+    ("a number below zero",      "history|x|-1",   "error: unexpected argument '-1' found\n"),
+    ("no name of the batch",     "load|x|y",       "error: the following required arguments were not provided:\n  --batch <NAME>\n\nUsage: desk load --batch <NAME> <FILE> <CSV>\n"),
+    ("a flag without a name",    "load|x|y|--batch", "error: a value is required for '--batch <NAME>' but none was supplied\n"),
+    ("two names",                "load|x|y|--batch|a|--batch|b", "error: the argument '--batch <NAME>' cannot be used multiple times\n\nUsage: desk load --batch <NAME> <FILE> <CSV>\n"),
+    ("no allotment file",        "load|x|--batch|a", "error: the following required arguments were not provided:\n  <CSV>\n\nUsage: desk load --batch <NAME> <FILE> <CSV>\n"),
+    ("two allotment files",      "load|x|y|z|--batch|a", "error: unexpected argument 'z' found\n\nUsage: desk load --batch <NAME> <FILE> <CSV>\n"),
+    ("two files to migrate",     "migrate|x|y",    "error: unexpected argument 'y' found\n\nUsage: desk migrate <FILE>\n"),
+    ("help of load",             "load|--help",    "Load the allotments of a file, as one batch\n\nOpens the database FILE, or makes it."),
+    ("load, in short",           "load|-h",        "Load the allotments of a file, as one batch\n\nUsage: desk load --batch <NAME> <FILE> <CSV>\n"),
+];
+
+#[test]
+fn other_words_get_the_usage(rt: HostRuntime) -> Result<(), Fail> {
+    for &(case, words, expected) in &REFUSED {
+        let found = asked(rt.alloc(), words_of(rt.alloc(), words)?)?;
+        holds(&rt, case, found.as_str().starts_with(expected));
+    }
+    Ok(())
+}
+
+#[test]
+fn no_word_gets_the_usage(rt: HostRuntime) -> Result<(), Fail> {
+    let found = asked(rt.alloc(), Vec::new(rt.alloc()))?;
+    let expected = "A booking desk for travel agencies";
+    holds(&rt, "no word", found.as_str().starts_with(expected));
+    Ok(())
+}

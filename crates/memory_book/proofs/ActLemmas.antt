@@ -1,0 +1,43 @@
+-- What a request with or without a known key comes to. For `act` of a book in memory.
+use Rattle.std.proofs.Common.{◌≡◌, refl, ap, sym, ◌∙◌, subst}
+use Rattle.std.specs.Prelude.{Option, Some, None, option_map}
+use Rattle.commands.specs.Asks.{Asked}
+use Rattle.commands.specs.Request.{Request}
+use Rattle.commands.specs.declared.replies.Reply.{Reply}
+use Rattle.ledger.specs.Answer.{State, KeptReply, Outcome, outcome, outcome_for, kept_for, answered_again, text_of, carried_out, answer, asker}
+use Rattle.memory_book.specs.Memory.{StandsFor, IsCarriedOut}
+use Rattle.memory_book.specs.MemoryAnswers.{kept_in, found_for}
+use Rattle.memory_book.specs.declared.mem_book.MemBook.{MemBook}
+
+-- what the book keeps for an ask is what is kept for it
+pub found_for-kept : (m : MemBook) (s : State) → StandsFor m s → (ask : Option Asked)
+    → found_for (kept_in m.answers) ask ≡ kept_for s ask
+found_for-kept m s here None = refl
+found_for-kept m s here (Some a) = here.kept a.agent a.key
+
+-- the reply is what the request comes to, and nothing changes
+pub record IsAgain (s : State) (ask : Option Asked) (asked : Request) (r : Reply) : Type 0 where
+  pub replied : r ≡ (outcome s ask asked).reply
+  pub same : (outcome s ask asked).state ≡ s
+
+-- so it is where the key is known
+pub again-known : (s : State) (ask : Option Asked) (asked : Request) (r : Reply)
+    (o : Option KeptReply) → kept_for s ask ≡ o
+    → Some r ≡ option_map (λ k. (answered_again s (text_of ask) k).reply) o → IsAgain s ask asked r
+again-known s ask asked r None known is = cc
+again-known s ask asked r (Some k) known is =
+    let told : outcome s ask asked ≡ answered_again s (text_of ask) k =
+    ap (outcome_for s ask asked) known in
+    let same : r ≡ (answered_again s (text_of ask) k).reply = cc in
+    record {
+      replied = same ∙ ap (λ (t : Outcome). t.reply) (sym told);
+      same = ap (λ (t : Outcome). t.state) told;
+    }
+
+-- where no reply is kept, the request is carried out
+pub outcome-new : (s : State) (ask : Option Asked) (asked : Request) (o : Option KeptReply)
+    → kept_for s ask ≡ o
+    → None ≡ option_map (λ k. (answered_again s (text_of ask) k).reply) o
+    → outcome s ask asked ≡ carried_out s ask (answer s.ledger (asker ask) asked)
+outcome-new s ask asked None known is = ap (outcome_for s ask asked) known
+outcome-new s ask asked (Some k) known is = cc

@@ -1,0 +1,186 @@
+-- Cells as keys, and places of cells that change one by one. For the stock of a book in memory.
+use Rattle.std.proofs.Common.{◌≡◌, ℕ, zero, suc, ◌+◌, ◌-◌, ◌<◌, Bool, true, false, cond, List, [], ◌∷◌, refl, ap, sym, ◌∙◌, map, arith}
+use Rattle.std.specs.Prelude.{◌==◌, ◌&&◌, ◌||◌, not, bytes_eq, if◌then◌else◌, Option, Some, None, option_map, unwrap_or, nat_le, IsTrue}
+use Rattle.std.specs.List.{list_any, list_all}
+use Rattle.std.specs.Ordering.{is_eq, nat_cmp, ordering_then}
+use Rattle.std.specs.declared.cmp.Ordering.{Ordering}
+use Rattle.std.specs.declared.cmp.Ordering.TheVariants.{Less, Equal, Greater}
+use Rattle.std.specs.Cmp.{unsigned_ties, nat_eq_equiv}
+use Rattle.std.specs.Cmp.Lexicographic.{slice_cmp, texts_ties, nat_list_eq_equiv}
+use Rattle.std.specs.BTreeMap as tree
+use Rattle.std.proofs.lemmas.Bool.{and_parts, le-leb, ne_eqb}
+use Rattle.allotment.specs.Want.{Wanted}
+use Rattle.allotment.specs.Cells.{is_cell, kind_number, cell_at, cells_of, numbers_from}
+use Rattle.allotment.specs.declared.cells.Cell.{Cell}
+use Rattle.allotment.specs.declared.places.Held.{Held}
+pub use Rattle.commands.proofs.CellKeyLemmas.{key_of, is_eq-then, is_eq-texts, is_eq-cells, is_cell-swap}
+use Rattle.ledger.proofs.Cells.{is_cell-same}
+use Rattle.saga_core.specs.Views.{Places, places_said}
+use Rattle.memory_book.specs.MemoryStock.{cell_key_cmp, stock_at, with_less, with_back}
+use Rattle.memory_book.specs.declared.stock.Stock.{Stock}
+
+-- Places of cells.
+
+-- what is written at a key is found there, and elsewhere what was there
+pub stock_at-put : (old new : Stock) (k : Cell) (held : Held)
+    → tree.Updates cell_key_cmp old.places new.places (key_of k) (Some held)
+    → (x : Cell)
+    → stock_at new x ≡ (if is_cell x k then Some (places_said held) else stock_at old x)
+stock_at-put old new k held updates x =
+    ap (option_map places_said) (updates.0 (key_of x))
+    ∙ ap (λ b. option_map places_said
+    (cond b (Some held) (tree.get cell_key_cmp old.places (key_of x))))
+    (is_eq-cells k x ∙ is_cell-swap k x)
+    ∙ mapped (is_cell x k)
+  where
+    mapped : (b : Bool)
+        → option_map places_said (cond b (Some held) (tree.get cell_key_cmp old.places (key_of x)))
+        ≡ (if b then Some (places_said held) else stock_at old x)
+    mapped true = refl
+    mapped false = refl
+
+-- Cells that change one by one.
+
+-- no cell comes twice
+abbrev pub are_apart : List Cell → Bool
+are_apart [] = true
+are_apart (x ∷ xs) = not (list_any (is_cell x) xs) && are_apart xs
+
+-- what the places of a cell come to once those of these cells have changed by n
+abbrev pub changed : (ℕ → Places → Places) → ℕ → List Cell → (Cell → Option Places) → Cell
+    → Option Places
+changed change n cells places x =
+    option_map (change (if list_any (is_cell x) cells then n else 0)) (places x)
+
+-- not true is false
+not_true : (b : Bool) → not b ≡ true → b ≡ false
+not_true true e = sym e
+not_true false e = refl
+
+-- the first cell is none of the others
+pub apart-first : (k : Cell) (cells : List Cell) → are_apart (k ∷ cells) ≡ true
+    → list_any (is_cell k) cells ≡ false
+apart-first k cells apart =
+    not_true _ (and_parts (not (list_any (is_cell k) cells)) (are_apart cells) apart).0
+
+-- nor do the others come twice
+pub apart-rest : (k : Cell) (cells : List Cell) → are_apart (k ∷ cells) ≡ true
+    → are_apart cells ≡ true
+apart-rest k cells apart =
+    (and_parts (not (list_any (is_cell k) cells)) (are_apart cells) apart).1
+
+-- once the first cell has changed, the others are still to change: at the first cell nothing more
+-- comes, and elsewhere it changed nothing
+pub changed-step : (change : ℕ → Places → Places) → ((p : Places) → change 0 p ≡ p)
+    → (n : ℕ) (k : Cell) (cells : List Cell) (old new : Cell → Option Places)
+    → are_apart (k ∷ cells) ≡ true
+    → ((x : Cell) → new x ≡ (if is_cell x k then option_map (change n) (old k) else old x))
+    → (x : Cell) → changed change n cells new x ≡ changed change n (k ∷ cells) old x
+changed-step change none n k cells old new apart one x = go (is_cell x k) refl
+  where
+    same : (o : Option Places) → option_map (change 0) o ≡ o
+    same None = refl
+    same (Some p) = ap (λ q. Some q) (none p)
+
+    go : (b : Bool) → is_cell x k ≡ b
+        → changed change n cells new x ≡ changed change n (k ∷ cells) old x
+    go true e =
+        let is : x ≡ k = is_cell-same x k e in
+        let later : list_any (is_cell x) cells ≡ false =
+        ap (λ y. list_any (is_cell y) cells) is ∙ apart-first k cells apart in
+        ap (λ b. option_map (change (if b then n else 0)) (new x)) later
+        ∙ same (new x) ∙ one x
+        ∙ ap (λ b. if b then option_map (change n) (old k) else old x) e
+        ∙ ap (λ y. option_map (change n) (old y)) (sym is)
+        ∙ ap (λ b. option_map (change (if b || list_any (is_cell x) cells then n else 0)) (old x))
+        (sym e)
+    go false e =
+        ap (option_map (change (if list_any (is_cell x) cells then n else 0)))
+        (one x ∙ ap (λ b. if b then option_map (change n) (old k) else old x) e)
+        ∙ ap (λ b. option_map (change (if b || list_any (is_cell x) cells then n else 0)) (old x))
+        (sym e)
+
+-- once no cell is left, nothing more changes
+pub changed-none : (change : ℕ → Places → Places) → ((p : Places) → change 0 p ≡ p)
+    → (n : ℕ) (places : Cell → Option Places) (x : Cell) → changed change n [] places x ≡ places x
+changed-none change none n places x = same (places x)
+  where
+    same : (o : Option Places) → option_map (change 0) o ≡ o
+    same None = refl
+    same (Some p) = ap (λ q. Some q) (none p)
+
+-- so many places of a cell are free
+abbrev pub has_free_at : (Cell → Option Places) → ℕ → Cell → Bool
+has_free_at places n x =
+    unwrap_or (option_map (λ (p : Places). nat_le n p.free) (places x)) false
+
+-- what another cell's places change does not touch what these have free
+pub free-step : (change : Places → Places) (n : ℕ) (k : Cell) (cells : List Cell)
+    (old new : Cell → Option Places)
+    → ((x : Cell) → new x ≡ (if is_cell x k then option_map change (old k) else old x))
+    → list_any (is_cell k) cells ≡ false
+    → list_all (has_free_at old n) cells ≡ true → list_all (has_free_at new n) cells ≡ true
+free-step change n k [] old new one apart free = refl
+free-step change n k (x ∷ cells) old new one apart free =
+    let both = and_parts (has_free_at old n x) (list_all (has_free_at old n) cells) free in
+    let first : is_cell k x ≡ false = or_first (is_cell k x) _ apart in
+    let rest : list_any (is_cell k) cells ≡ false = or_rest (is_cell k x) _ apart in
+    let kept : new x ≡ old x =
+    one x ∙ ap (λ b. if b then option_map change (old k) else old x) (is_cell-swap x k ∙ first) in
+    ap (λ (o : Option Places). unwrap_or (option_map (λ (p : Places). nat_le n p.free) o) false
+    && list_all (has_free_at new n) cells) kept
+    ∙ ap (λ b. b && list_all (has_free_at new n) cells) both.0
+    ∙ free-step change n k cells old new one rest both.1
+  where
+    or_first : (a b : Bool) → (a || b) ≡ false → a ≡ false
+    or_first true b e = e
+    or_first false b e = refl
+
+    or_rest : (a b : Bool) → (a || b) ≡ false → b ≡ false
+    or_rest true b e = cc
+    or_rest false b e = e
+
+-- The cells of a want.
+
+-- a test that fails makes the whole fail
+and_false : (a b : Bool) → b ≡ false → (a && b) ≡ false
+and_false true b e = e
+and_false false b e = refl
+
+-- the cell of a night is none of those of later nights
+later_nights : (want : Wanted) (a b n : ℕ) → a < b
+    → list_any (is_cell (cell_at want a)) (map (cell_at want) (numbers_from b n)) ≡ false
+later_nights want a b zero less = refl
+later_nights want a b (suc n) less =
+    let other : (a == b) ≡ false = ne_eqb a b (λ e. omega arith) in
+    ap (λ t. t || list_any (is_cell (cell_at want a)) (map (cell_at want) (numbers_from (suc b) n)))
+    (and_false _ (a == b) other)
+    ∙ later_nights want a (suc b) n (omega arith)
+
+-- the cells of so many nights are apart
+nights_apart : (want : Wanted) (first n : ℕ)
+    → are_apart (map (cell_at want) (numbers_from first n)) ≡ true
+nights_apart want first zero = refl
+nights_apart want first (suc n) =
+    ap (λ t. not t && are_apart (map (cell_at want) (numbers_from (suc first) n)))
+    (later_nights want first (suc first) n (omega arith))
+    ∙ nights_apart want (suc first) n
+
+-- no cell of a want comes twice
+pub cells_of-apart : (want : Wanted) → are_apart (cells_of want) ≡ true
+cells_of-apart want = nights_apart want want.first want.nights
+
+-- Nothing taken and nothing given back.
+
+-- none fewer are as many
+pub none_less : (p : Places) → with_less 0 p ≡ p
+none_less p =
+    let e : p.free - 0 ≡ p.free = omega arith in ap (λ f. record { allot = p.allot; free = f }) e
+
+-- none more are as many
+pub none_back : (p : Places) → with_back 0 p ≡ p
+none_back p =
+    let low : nat_le 0 (p.allot - p.free) ≡ true = le-leb 0 (p.allot - p.free) (omega arith) in
+    let e : p.free + 0 ≡ p.free = omega arith in
+    ap (λ b. if b then record { allot = p.allot; free = p.free + 0 } else p) low
+    ∙ ap (λ f. record { allot = p.allot; free = f }) e

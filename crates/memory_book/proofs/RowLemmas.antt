@@ -1,0 +1,194 @@
+-- Rows of batches, and the list of all cells. For the stock of a book in memory.
+use Rattle.std.proofs.Common.{◌≡◌, ℕ, Bool, true, false, cond, List, [], ◌∷◌, ◌++◌, map, refl, ap, sym, ◌∙◌, append_assoc, append-nil}
+use Rattle.std.specs.Prelude.{◌==◌, ◌&&◌, if◌then◌else◌, find, filter_map, filter, Option, Some, None, option_map, unwrap_or, IsTrue}
+use Rattle.std.specs.List.{list_all, cons_option, AllByRecursion}
+use Rattle.std.specs.List.Sorted.{IsStrictlySortedBy}
+use Rattle.std.specs.Map.{lookup, keys_of}
+use Rattle.std.specs.BTreeMap as tree
+use Rattle.std.specs.BTreeMap.{is_at}
+use Rattle.std.specs.Cmp.Lexicographic.{pointwise}
+use Rattle.std.specs.Ordering.{is_lt, is_eq}
+use Rattle.std.specs.declared.cmp.Ordering.{Ordering}
+use Rattle.std.specs.declared.cmp.Ordering.TheVariants.{Less}
+use Rattle.std.proofs.lemmas.List.{map-append}
+use Rattle.std.proofs.lemmas.List.Elements.{filter-append}
+use Rattle.ledger.specs.History.{last_of}
+use Rattle.ledger.proofs.Cells.{is_cell-same}
+use Rattle.allotment.specs.Want.{Wanted}
+use Rattle.allotment.specs.Cells.{is_cell, cells_of}
+use Rattle.allotment.specs.declared.cells.Cell.{Cell}
+use Rattle.allotment.specs.declared.cells.Row.{Row}
+use Rattle.allotment.specs.declared.places.Held.{Held}
+use Rattle.ledger.specs.Ledger.{Event}
+use Rattle.ledger.specs.Replies.{are_same_rows}
+use Rattle.saga_core.specs.Views.{Places, places_said, places_of, places_at, places_shown, at_night, night_said, cell_cmp, are_in_order, IsStock}
+use Rattle.memory_book.specs.MemoryStock.{cell_key_cmp, stock_at, set_to, last_row}
+use Rattle.commands.specs.declared.cell_keys.CellKey.{CellKey}
+use Rattle.memory_book.specs.declared.stock.Stock.{Stock}
+use Rattle.memory_book.proofs.CellLemmas.{key_of, is_eq-cells}
+
+-- Rows.
+
+-- two lists of rows are the same where row by row cell and places are
+pub same_rows : (test : Row → Row → Bool)
+    → ((r s : Row) → test r s ≡ (is_cell r.cell s.cell && (r.places == s.places)))
+    → (rs ss : List Row) → pointwise test rs ss ≡ are_same_rows rs ss
+same_rows test each [] [] = refl
+same_rows test each [] (s ∷ ss) = refl
+same_rows test each (r ∷ rs) [] = refl
+same_rows test each (r ∷ rs) (s ∷ ss) =
+    ap (λ b. b && pointwise test rs ss) (each r s)
+    ∙ ap (λ b. (is_cell r.cell s.cell && (r.places == s.places)) && b) (same_rows test each rs ss)
+
+-- Nights.
+
+-- what is shown of a night
+abbrev pub shown_at : (Cell → Option Places) → Cell → Option (ℕ × Places)
+shown_at places x = option_map (at_night x) (places x)
+
+-- a night more was found
+pub nights-some : (places : Cell → Option Places) (nights : List (ℕ × Held)) (x : Cell)
+    (held : Held) (rest : List Cell) → Some (places_said held) ≡ places x
+    → map night_said (nights ++ (x.night, held) ∷ []) ++ filter_map (shown_at places) rest
+    ≡ map night_said nights ++ filter_map (shown_at places) (x ∷ rest)
+nights-some places nights x held rest found =
+    ap (λ ns. ns ++ filter_map (shown_at places) rest)
+    (map-append night_said nights ((x.night, held) ∷ []))
+    ∙ append_assoc (map night_said nights) (night_said (x.night, held) ∷ [])
+    (filter_map (shown_at places) rest)
+    ∙ ap (λ o. map night_said nights
+    ++ cons_option (option_map (at_night x) o) (filter_map (shown_at places) rest)) found
+
+-- a night that was never loaded is passed over
+pub nights-none : (places : Cell → Option Places) (nights : List (ℕ × Held)) (x : Cell)
+    (rest : List Cell) → None ≡ places x
+    → map night_said nights ++ filter_map (shown_at places) rest
+    ≡ map night_said nights ++ filter_map (shown_at places) (x ∷ rest)
+nights-none places nights x rest none =
+    ap (λ o. map night_said nights
+    ++ cons_option (option_map (at_night x) o) (filter_map (shown_at places) rest)) none
+
+-- what is shown hangs on the places alone
+filter_map-same : {X Y : Type 0} (f g : X → Option Y) → ((x : X) → f x ≡ g x) → (xs : List X)
+    → filter_map f xs ≡ filter_map g xs
+filter_map-same f g same [] = refl
+filter_map-same f g same (x ∷ xs) =
+    ap (λ o. cons_option o (filter_map f xs)) (same x)
+    ∙ ap (cons_option (g x)) (filter_map-same f g same xs)
+
+-- a stock that has the places of a ledger shows its nights
+pub places_shown-stock : (l : List Event) (stock : Stock) (w : Wanted)
+    → ((x : Cell) → stock_at stock x ≡ places_of l x)
+    → filter_map (shown_at (stock_at stock)) (cells_of w) ≡ places_shown l w
+places_shown-stock l stock w here =
+    filter_map-same (shown_at (stock_at stock)) (λ x. option_map (at_night x) (places_of l x))
+    (λ x. ap (option_map (at_night x)) (here x)) (cells_of w)
+
+-- All cells.
+
+-- an entry as a row
+abbrev pub row_of : CellKey × Held → Cell × Held
+row_of e = (e.0.cell, e.1)
+
+-- the list has of a cell what the look-up finds
+places_at-rows : (es : List (CellKey × Held)) (x : Cell)
+    → places_at (map row_of es) x
+    ≡ option_map places_said (lookup (is_at (cell_key_cmp (key_of x))) es)
+places_at-rows [] x = refl
+places_at-rows (e ∷ es) x =
+    go (is_cell x e.0.cell) (is_cell x e.0.cell) refl (places_at-rows es x)
+    ∙ ap (λ b. option_map places_said
+    (cond b (Some e.1) (lookup (is_at (cell_key_cmp (key_of x))) es)))
+    (sym (is_eq-cells x e.0.cell))
+  where
+    go : (b c : Bool) → b ≡ c
+        → places_at (map row_of es) x
+        ≡ option_map places_said (lookup (is_at (cell_key_cmp (key_of x))) es)
+        → option_map (λ (r : Cell × Held). places_said r.1)
+        (cond b (Some (row_of e)) (find (λ (r : Cell × Held). is_cell x r.0) (map row_of es)))
+        ≡ option_map places_said
+        (cond c (Some e.1) (lookup (is_at (cell_key_cmp (key_of x))) es))
+    go true true same rest = refl
+    go false false same rest = rest
+    go true false same rest = cc
+    go false true same rest = cc
+
+-- a key below all these keys is a cell before all their cells
+before_all : (k : CellKey) (es : List (CellKey × Held))
+    → AllByRecursion (λ y. cell_key_cmp k y ≡ Less) (keys_of es)
+    → list_all (λ (s : Cell × Held). is_lt (cell_cmp k.cell s.0)) (map row_of es) ≡ true
+before_all k [] all = refl
+before_all k (e ∷ es) all =
+    ap (λ o. is_lt o && list_all (λ (s : Cell × Held). is_lt (cell_cmp k.cell s.0)) (map row_of es))
+    all.0
+    ∙ before_all k es all.1
+
+-- keys in order are cells in order
+in_order-rows : (es : List (CellKey × Held)) → IsStrictlySortedBy cell_key_cmp (keys_of es)
+    → are_in_order (map row_of es) ≡ true
+unfolding IsStrictlySortedBy
+in_order-rows [] sorted = refl
+in_order-rows (e ∷ es) sorted =
+    ap (λ b. b && are_in_order (map row_of es)) (before_all e.0 es sorted.0)
+    ∙ in_order-rows es sorted.1
+
+-- all cells with their places are the stock of the ledger
+pub IsStock-rows : (l : List Event) (stock : Stock)
+    → ((x : Cell) → stock_at stock x ≡ places_of l x)
+    → tree.IsOrdered cell_key_cmp stock.places
+    → IsStock l (map row_of stock.places.entries)
+IsStock-rows l stock here ordered = record {
+  each = λ x. places_at-rows stock.places.entries x ∙ here x;
+  in_order = in_order-rows stock.places.entries ordered;
+}
+
+-- Loads.
+
+-- of a list with one more at its end, the last is that one
+last_of-push : (rs : List Row) (r : Row) → last_of (rs ++ r ∷ []) ≡ Some r
+last_of-push [] r = refl
+last_of-push (q ∷ []) r = refl
+last_of-push (q ∷ p ∷ rs) r = last_of-push (p ∷ rs) r
+
+-- of rows with one more at their end, the last of a cell is that one, if it is of the cell
+last_row-push : (rs : List Row) (r : Row) (x : Cell)
+    → last_row (rs ++ r ∷ []) x ≡ (if is_cell x r.cell then Some r else last_row rs x)
+last_row-push rs r x =
+    ap last_of (filter-append (λ (q : Row). is_cell x q.cell) rs (r ∷ []))
+    ∙ go (is_cell x r.cell)
+  where
+    go : (b : Bool)
+        → last_of (filter (λ (q : Row). is_cell x q.cell) rs ++ cond b (r ∷ []) [])
+        ≡ (if b then Some r else last_row rs x)
+    go true = last_of-push (filter (λ (q : Row). is_cell x q.cell) rs) r
+    go false = ap last_of (append-nil (filter (λ (q : Row). is_cell x q.cell) rs))
+
+-- what a cell has once these rows are loaded
+abbrev pub loaded_at : Stock → List Row → Cell → Option Places
+loaded_at stock rows x =
+    unwrap_or (option_map (λ (r : Row). Some (set_to stock x r.places)) (last_row rows x))
+    (stock_at stock x)
+
+-- once one more row is loaded, its cell has its places
+pub loaded_at-push : (stock : Stock) (rs : List Row) (r : Row) (x : Cell) (p : Places)
+    → p ≡ set_to stock r.cell r.places
+    → (if is_cell x r.cell then Some p else loaded_at stock rs x)
+    ≡ loaded_at stock (rs ++ r ∷ []) x
+loaded_at-push stock rs r x p is =
+    go (is_cell x r.cell) refl
+    ∙ ap (λ o. unwrap_or (option_map (λ (q : Row). Some (set_to stock x q.places)) o)
+    (stock_at stock x)) (sym (last_row-push rs r x))
+  where
+    go : (b : Bool) → is_cell x r.cell ≡ b
+        → (if is_cell x r.cell then Some p else loaded_at stock rs x)
+        ≡ unwrap_or (option_map (λ (q : Row). Some (set_to stock x q.places))
+        (if is_cell x r.cell then Some r else last_row rs x)) (stock_at stock x)
+    go true e =
+        ap (λ b. if b then Some p else loaded_at stock rs x) e
+        ∙ ap (λ q. Some q) (is ∙ ap (λ y. set_to stock y r.places) (sym (is_cell-same x r.cell e)))
+        ∙ ap (λ b. unwrap_or (option_map (λ (q : Row). Some (set_to stock x q.places))
+        (if b then Some r else last_row rs x)) (stock_at stock x)) (sym e)
+    go false e =
+        ap (λ b. if b then Some p else loaded_at stock rs x) e
+        ∙ ap (λ b. unwrap_or (option_map (λ (q : Row). Some (set_to stock x q.places))
+        (if b then Some r else last_row rs x)) (stock_at stock x)) (sym e)

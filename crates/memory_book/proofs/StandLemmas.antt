@@ -1,0 +1,76 @@
+-- What a book in memory shows, by what it stands for. For the readings of the book.
+use Rattle.std.proofs.Common.{◌≡◌, ℕ, zero, suc, ◌<◌, ◌≤◌, ◌⊎◌, inl, inr, List, [], length, map, refl, ap, sym, ◌∙◌, arith}
+use Rattle.std.specs.Prelude.{slice_get, option_map, Option, Some, None}
+use Rattle.std.specs.FinSet as set
+use Rattle.std.specs.Ordering.{nat_cmp}
+use Rattle.std.proofs.lemmas.Option.{slice_get-map, slice_get_past}
+use Rattle.plan.specs.PlanModel.{Planned}
+use Rattle.commands.specs.declared.items.Cursor.{Cursor}
+use Rattle.ledger.specs.Answer.{State}
+use Rattle.ledger.specs.Ledger as l
+use Rattle.ledger.specs.Ledger.{journey_at, history}
+use Rattle.ledger_transitions.proofs.Events.{history-none}
+use Rattle.saga_core.specs.Views.{cursor_of, record_of, record_of_journey}
+use Rattle.memory_book.specs.Memory.{begun_as, Tells, StandsFor}
+use Rattle.saga_core.specs.declared.records.Record.{Record}
+use Rattle.memory_book.specs.declared.journeys.Journey.{Journey}
+use Rattle.memory_book.specs.declared.mem_book.MemBook.{MemBook}
+
+-- the journey at a place is that of the next number
+pub journey_at-kept : (m : MemBook) (s : State) → StandsFor m s → (place : ℕ) (k : Journey)
+    → slice_get m.journeys.items place ≡ Some k
+    → journey_at s.ledger (suc place) ≡ Some (begun_as k)
+journey_at-kept m s here place k at =
+    ap (λ js. slice_get js place) (sym here.begun)
+    ∙ slice_get-map begun_as m.journeys.items place ∙ ap (option_map begun_as) at
+
+-- there is none of number 0, and none above the last
+pub journey_at-past : (m : MemBook) (s : State) → StandsFor m s → (id : ℕ)
+    → (id ≡ 0) ⊎ (length m.journeys.items < id) → journey_at s.ledger id ≡ None
+journey_at-past m s here zero past = refl
+journey_at-past m s here (suc i) (inl is) = absurd (omega arith)
+journey_at-past m s here (suc i) (inr past) =
+    ap (λ js. slice_get js i) (sym here.begun) ∙ slice_get-map begun_as m.journeys.items i
+    ∙ ap (option_map begun_as) (slice_get_past m.journeys.items i (omega arith))
+
+-- where there is no journey there are no items
+pub history-past : (m : MemBook) (s : State) → StandsFor m s → (id : ℕ)
+    → (id ≡ 0) ⊎ (length m.journeys.items < id) → history s.ledger id ≡ []
+history-past m s here id past =
+    history-none s.ledger id here.legal (journey_at-past m s here id past)
+
+-- the items that are kept are the history
+pub history-kept : (m : MemBook) (s : State) → StandsFor m s → (id place : ℕ) (k : Journey)
+    → slice_get m.journeys.items place ≡ Some k → id ≡ suc place
+    → k.items.items ≡ history s.ledger id
+history-kept m s here id place k at is =
+    (here.told place k at).items ∙ ap (history s.ledger) (sym is)
+
+-- a record of these parts
+abbrev pub record_made : List ℕ → Planned → Cursor → set.FinSet nat_cmp → Record
+record_made agent plan cursor marks =
+    record { agent = agent; plan = plan; cursor = cursor; marks = marks }
+
+-- what is kept of a journey is what the ledger shows of it
+pub record_of-kept : (m : MemBook) (s : State) → StandsFor m s → (id place : ℕ) (k : Journey)
+    → slice_get m.journeys.items place ≡ Some k → id ≡ suc place
+    → (r : Record) → r.agent ≡ k.agent → r.plan ≡ k.plan → r.cursor ≡ k.cursor → r.marks ≡ k.marks
+    → Some r ≡ record_of s.ledger id
+record_of-kept m s here id place k at is r agent plan cursor marks =
+    let told = here.told place k at in
+    let made : r ≡ record_of_journey (history s.ledger (suc place)) (begun_as k) =
+    ap (λ a. record_made a r.plan r.cursor r.marks) agent
+    ∙ ap (λ p. record_made k.agent p r.cursor r.marks) plan
+    ∙ ap (λ c. record_made k.agent k.plan c r.marks) (cursor ∙ told.cursor)
+    ∙ ap (record_made k.agent k.plan (cursor_of k.plan (history s.ledger (suc place)))) (marks ∙ told.marks) in
+    ap Some made
+    ∙ ap (option_map (record_of_journey (history s.ledger (suc place))))
+    (sym (journey_at-kept m s here place k at))
+    ∙ ap (record_of s.ledger) (sym is)
+
+-- no journey is shown where there is none
+pub record_of-past : (m : MemBook) (s : State) → StandsFor m s → (id : ℕ)
+    → (id ≡ 0) ⊎ (length m.journeys.items < id) → None ≡ record_of s.ledger id
+record_of-past m s here id past =
+    ap (option_map (record_of_journey (history s.ledger id)))
+    (sym (journey_at-past m s here id past))

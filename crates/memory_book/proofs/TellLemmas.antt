@@ -1,0 +1,99 @@
+-- What is kept of a journey tells its history after one more item. For the moves of a book in memory.
+use Rattle.std.proofs.Common.{◌≡◌, ℕ, zero, suc, ◌+◌, ◌-◌, Bool, true, false, List, [], ◌∷◌, ◌++◌, length, map, take, refl, ap, sym, ◌∙◌, arith}
+use Rattle.std.specs.Prelude.{◌==◌, ◌&&◌, ◌||◌, nat_le, IsTrue}
+use Rattle.std.specs.FinSet as set
+use Rattle.std.specs.Ordering.{nat_cmp}
+use Rattle.std.proofs.lemmas.List.{map-append}
+use Rattle.plan.specs.PlanModel.{Planned}
+use Rattle.savepoints.specs.Marks.{is_taken_in, same_marks}
+use Rattle.commands.specs.declared.items.Cursor.{Cursor}
+use Rattle.commands.specs.declared.items.Item.{Item}
+use Rattle.commands.specs.declared.items.Item.TheVariants.{Transaction, Compensation, Turn, Save}
+use Rattle.ledger.specs.History.{net, position_of, may_come}
+use Rattle.ledger.specs.Ledger as l
+use Rattle.ledger.proofs.Standing.{net-transaction, net-turn, net-save}
+use Rattle.ledger_transitions.specs.JourneyChanges.{cursor_after}
+use Rattle.ledger_transitions.specs.Cursors.{cursor_of, marks_of}
+use Rattle.ledger_transitions.proofs.Histories.{Follows}
+use Rattle.ledger_transitions.proofs.Items.{cursor_of-more, net-compensation}
+use Rattle.ledger_transitions.proofs.Taken.{marks_of-save, marks_of-compensation, marks_of-transaction, marks_of-turn}
+use Rattle.memory_book.specs.MemoryJourneys.{taken_after, stands_after}
+use Rattle.memory_book.specs.Memory.{begun_as, Tells}
+use Rattle.memory_book.specs.declared.journeys.Journey.{Journey}
+
+-- the option of a step that stands
+abbrev option_of : ℕ × ℕ → ℕ
+option_of t = t.1
+
+-- without its last a list with one more at its end is the list
+take-push : (xs : List ℕ) (x : ℕ) → take (length (xs ++ x ∷ []) - 1) (xs ++ x ∷ []) ≡ xs
+take-push [] x = refl
+take-push (y ∷ []) x = refl
+take-push (y ∷ z ∷ xs) x =
+    let n : length (y ∷ z ∷ xs ++ x ∷ []) - 1 ≡ suc (length (z ∷ xs ++ x ∷ []) - 1) = omega arith in
+    ap (λ k. take k (y ∷ z ∷ xs ++ x ∷ [])) n ∙ ap (λ k. y ∷ k) (take-push (z ∷ xs) x)
+
+-- the options of the steps that stand, after one more item
+pub taken-more : (plan : Planned) (h : List Item) (may_fit : Bool) (x : Item) (taken : List ℕ)
+    → Follows plan h → IsTrue (may_come plan h may_fit x) → taken ≡ map option_of (net h)
+    → taken_after x taken ≡ map option_of (net (h ++ x ∷ []))
+taken-more plan h may_fit (Transaction i c) taken f may is =
+    ap (λ k. k ++ c ∷ []) is ∙ sym (map-append option_of (net h) ((i, c) ∷ []))
+    ∙ ap (map option_of) (sym (net-transaction h i c))
+taken-more plan h may_fit (Compensation i c) taken f may is =
+    let left = map option_of (net (h ++ Compensation i c ∷ [])) in
+    let whole : taken ≡ left ++ c ∷ [] =
+    is ∙ ap (map option_of) (net-compensation plan h may_fit i c f may)
+    ∙ map-append option_of (net (h ++ Compensation i c ∷ [])) ((i, c) ∷ []) in
+    ap (λ k. take (length k - 1) k) whole ∙ take-push left c
+taken-more plan h may_fit (Turn p cause) taken f may is =
+    is ∙ ap (map option_of) (sym (net-turn h p cause))
+taken-more plan h may_fit (Save p) taken f may is =
+    is ∙ ap (map option_of) (sym (net-save h p))
+
+-- the save-points that stand, after one more item
+pub marks-more : (plan : Planned) (h : List Item) (may_fit : Bool) (x : Item)
+    (old new : set.FinSet nat_cmp) (pos : ℕ)
+    → Follows plan h → IsTrue (may_come plan h may_fit x) → old ≡ marks_of h
+    → pos ≡ (cursor_after plan (cursor_of plan h) x).pos
+    → ((q : ℕ) → is_taken_in new q ≡ stands_after x pos (is_taken_in old) q)
+    → new ≡ marks_of (h ++ x ∷ [])
+marks-more plan h may_fit (Transaction i c) old new pos f may is at each =
+    same_marks new old each ∙ is ∙ sym (marks_of-transaction h i c)
+marks-more plan h may_fit (Compensation i c) old new pos f may is at each =
+    marks_of-compensation plan h may_fit i c new f may
+    (λ q. each q
+    ∙ ap (λ n. nat_le q n && is_taken_in old q) at
+    ∙ ap (λ ms. nat_le q (position_of h - 1) && is_taken_in ms q) is)
+marks-more plan h may_fit (Turn p cause) old new pos f may is at each =
+    same_marks new old each ∙ is ∙ sym (marks_of-turn h p cause)
+marks-more plan h may_fit (Save p) old new pos f may is at each =
+    marks_of-save plan h may_fit p new f may
+    (λ q. each q ∙ ap (λ ms. (q == p) || is_taken_in ms q) is)
+
+-- one more item was made in a journey
+pub record MakesOne (old new : Journey) (x : Item) : Type 0 where
+  pub begun : begun_as new ≡ begun_as old
+  pub items : new.items.items ≡ old.items.items ++ x ∷ []
+  pub cursor : new.cursor ≡ cursor_after old.plan old.cursor x
+  pub taken : new.taken.items ≡ taken_after x old.taken.items
+  pub marks : (q : ℕ)
+      → is_taken_in new.marks q ≡ stands_after x new.cursor.pos (is_taken_in old.marks) q
+
+-- what is then kept tells the history with that item
+pub tells-more : (old new : Journey) (x : Item) (h : List Item) (may_fit : Bool)
+    → Tells old h → MakesOne old new x → Follows old.plan h
+    → IsTrue (may_come old.plan h may_fit x) → Tells new (h ++ x ∷ [])
+tells-more old new x h may_fit told made f may =
+    let cursor : new.cursor ≡ cursor_after old.plan (cursor_of old.plan h) x =
+    made.cursor ∙ ap (λ c. cursor_after old.plan c x) told.cursor in
+    record {
+      items = made.items ∙ ap (λ k. k ++ x ∷ []) told.items;
+      cursor =
+          cursor ∙ sym (cursor_of-more old.plan h may_fit x f may)
+          ∙ ap (λ (b : l.Journey). cursor_of b.plan (h ++ x ∷ [])) (sym made.begun);
+      marks =
+          marks-more old.plan h may_fit x old.marks new.marks new.cursor.pos f may told.marks
+          (ap (λ (c : Cursor). c.pos) cursor) made.marks;
+      taken = made.taken ∙ taken-more old.plan h may_fit x old.taken.items f may told.taken;
+    }

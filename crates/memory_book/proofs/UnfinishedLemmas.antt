@@ -1,0 +1,82 @@
+-- The first journey that is not finished, by what is kept of each. For `MemBook::first_unfinished`.
+use Rattle.std.proofs.Common.{◌≡◌, ℕ, suc, ◌+◌, ◌<◌, Bool, cond, List, [], ◌∷◌, length, get_or, drop, refl, ap, sym, ◌∙◌, arith}
+use Rattle.std.proofs.lemmas.List.{at_drop_more}
+use Rattle.std.specs.Prelude.{slice_get, filter_map, find, Option, Some, option_map}
+use Rattle.std.specs.List.{cons_option}
+use Rattle.allotment.specs.Cells.{numbers_from}
+use Rattle.ledger.specs.Answer.{State}
+use Rattle.ledger.specs.Ledger.{Event, history, journey_at, journeys}
+use Rattle.saga_core.specs.Views.{brief_of, brief_of_journey, first_unfinished, is_unfinished_above}
+use Rattle.memory_book.specs.Memory.{begun_as, StandsFor}
+use Rattle.saga_core.specs.declared.records.Brief.{Brief}
+use Rattle.memory_book.specs.declared.journeys.Journey.{Journey}
+use Rattle.memory_book.specs.declared.mem_book.MemBook.{MemBook}
+use Rattle.memory_book.proofs.BeginLemmas.{length-begun}
+use Rattle.memory_book.proofs.StandLemmas.{journey_at-kept}
+
+-- what is shown of a journey in short, under this number
+abbrev pub brief_at : ℕ → Journey → Brief
+brief_at j k = record { id = j; agent = k.agent; cursor = k.cursor }
+
+-- the same of each journey, from this number on
+abbrev pub briefs_from : ℕ → List Journey → List Brief
+briefs_from j [] = []
+briefs_from j (k ∷ ks) = brief_at j k ∷ briefs_from (suc j) ks
+
+-- the journeys of these numbers are shown so, where each is
+briefs-each : (l : List Event) (ks : List Journey) (first : ℕ)
+    → ((i : ℕ) (k : Journey) → slice_get ks i ≡ Some k → (j : ℕ) → j ≡ first + i
+    → brief_of l j ≡ Some (brief_at j k))
+    → filter_map (brief_of l) (numbers_from first (length ks)) ≡ briefs_from first ks
+briefs-each l [] first each = refl
+briefs-each l (k ∷ ks) first each =
+    ap (λ o. cons_option o (filter_map (brief_of l) (numbers_from (suc first) (length ks))))
+    (each 0 k refl first (omega arith))
+    ∙ ap (λ bs. brief_at first k ∷ bs)
+    (briefs-each l ks (suc first) (λ i x at j e. each (suc i) x at j (omega arith)))
+
+-- what is kept of a journey is what the ledger shows of it in short
+brief_of-kept : (m : MemBook) (s : State) → StandsFor m s → (i : ℕ) (k : Journey)
+    → slice_get m.journeys.items i ≡ Some k → (j : ℕ) → j ≡ 1 + i
+    → brief_of s.ledger j ≡ Some (brief_at j k)
+brief_of-kept m s here i k at j is =
+    let next : j ≡ suc i = omega arith in
+    ap (brief_of s.ledger) next
+    ∙ ap (option_map (brief_of_journey (suc i) (history s.ledger (suc i))))
+    (journey_at-kept m s here i k at)
+    ∙ ap (λ c. Some (record { id = suc i; agent = k.agent; cursor = c }))
+    (sym (here.told i k at).cursor)
+    ∙ ap (λ n. Some (brief_at n k)) (sym next)
+
+-- so the first that is not finished is the first among those that are kept
+pub first_unfinished-kept : (m : MemBook) (s : State) (after : ℕ) → StandsFor m s
+    → find (is_unfinished_above after) (briefs_from 1 m.journeys.items)
+    ≡ first_unfinished s.ledger after
+first_unfinished-kept m s after here =
+    ap (find (is_unfinished_above after))
+    (sym (briefs-each s.ledger m.journeys.items 1 (brief_of-kept m s here)))
+    ∙ ap (λ n. find (is_unfinished_above after) (filter_map (brief_of s.ledger) (numbers_from 1 n)))
+    (length-begun m s here)
+
+-- One journey after another.
+
+-- what is shown of a journey in short is told by its parts
+pub brief_is : (b : Brief) (j : ℕ) (k : Journey) → b.id ≡ j → b.agent ≡ k.agent
+    → b.cursor ≡ k.cursor → b ≡ brief_at j k
+brief_is b j k number agent cursor =
+    ap (λ n. record { id = n; agent = b.agent; cursor = b.cursor }) number
+    ∙ ap (λ a. record { id = j; agent = a; cursor = b.cursor }) agent
+    ∙ ap (λ c. record { id = j; agent = k.agent; cursor = c }) cursor
+
+-- from a place on, the first that passes is the journey there or the first behind it
+pub found_from : (test : Brief → Bool) (ks : List Journey) (place : ℕ) (k : Journey)
+    → place < length ks → k ≡ get_or ks place k
+    → find test (briefs_from (suc place) (drop place ks))
+    ≡ cond (test (brief_at (suc place) k)) (Some (brief_at (suc place) k))
+    (find test (briefs_from (suc (place + 1)) (drop (place + 1) ks)))
+found_from test ks place k within is =
+    let next : suc place ≡ place + 1 = omega arith in
+    at_drop_more (λ js. find test (briefs_from (suc place) js)) ks place k within
+    ∙ ap (λ j. find test (briefs_from (suc place) (j ∷ drop (place + 1) ks))) (sym is)
+    ∙ ap (λ n. cond (test (brief_at (suc place) k)) (Some (brief_at (suc place) k))
+    (find test (briefs_from (suc n) (drop (place + 1) ks)))) next

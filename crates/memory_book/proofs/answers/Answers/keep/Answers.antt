@@ -1,0 +1,26 @@
+use Rattle.std.proofs.Common.{◌≡◌, ap, sym, ◌∙◌}
+use Rattle.std.specs.Prelude.{◌&&◌, bytes_eq, if◌then◌else◌, Some}
+use Rattle.std.specs.Option.{option_copied}
+use Rattle.ledger.specs.Answer.{kept_after}
+use Rattle.memory_book.specs.MemoryAnswers.{kept_in}
+use Rattle.memory_book.proofs.KeptLemmas.{kept_in-insert}
+use Rattle.memory_book.proofs.answers.Answers.keep.Goals as goal
+
+-- the reply is kept under the agent and the key of the ask, with its text
+pub returns-clause-kept : goal.returns-clause-kept
+returns-clause-kept c agent key =
+    let old = c.args.self.now in
+    let ask = c.in-Some.ask.now in
+    kept_in-insert old (record { kept = c.insert.new.self }) c.of.result
+    (record { text = c.in_ok-text.text; reply = c.args.reply }) c.in_ok-insert.ensures.updates agent key
+    ∙ ap (λ a. if bytes_eq agent a && bytes_eq key c.of.result.key
+    then Some (record { text = c.in_ok-text.text.items; reply = c.args.reply })
+    else kept_in old agent key) c.of.ensures.agent
+    ∙ ap (λ k. if bytes_eq agent ask.agent && bytes_eq key k
+    then Some (record { text = c.in_ok-text.text.items; reply = c.args.reply })
+    else kept_in old agent key) c.of.ensures.key
+    ∙ ap (λ t. if bytes_eq agent ask.agent && bytes_eq key ask.key
+    then Some (record { text = t; reply = c.args.reply })
+    else kept_in old agent key) (c.in_ok-text.ensures.items ∙ c.text.ensures.text)
+    ∙ ap (λ o. kept_after (kept_in old) (option_copied o) c.args.reply agent key)
+    (sym c.in-Some.is)

@@ -1,0 +1,15 @@
+use Rattle.std.proofs.Common.{◌≡◌, ap, sym}
+use Rattle.ledger_transitions.proofs.Taken.{marks_of-begin}
+use Rattle.memory_book.proofs.JourneyLemmas.{phase-begun}
+use Rattle.memory_book.proofs.journeys.Journey.new.Goals as goal
+
+-- nothing was done yet
+pub returns-clause-told : goal.returns-clause-told
+returns-clause-told c = record {
+  items = c.new-2.ensures.items;
+  cursor =
+      ap (λ ph. record { pos = 0; phase = ph; used = 0 })
+      (sym (phase-begun c.args.plan c.steps-steps.ensures.limits));
+  marks = marks_of-begin c.none.result c.none.ensures.empty;
+  taken = c.new.ensures.items;
+}

@@ -1,0 +1,72 @@
+use Rattle.std.proofs.Common.{◌≡◌, ◌<◌, ◌≤◌, true, refl, length, ap, sym, subst, ◌∙◌, arith}
+use Rattle.std.specs.Prelude.{suc, is_some, IfOk, MatchResult}
+use Rattle.std.specs.Option.{option_copied}
+use Rattle.commands.specs.declared.refusals.Refusal.TheVariants.{Limit}
+use Rattle.ledger.specs.Answer.{asker, answer, answer_within, limited, most_events}
+use Rattle.ledger.specs.Replies.{Answer, refused}
+use Rattle.ledger.proofs.Answers.{IsAllowedEvent, answer-allowed}
+use Rattle.ledger_transitions.specs.Answers.{moves}
+use Rattle.memory_book.specs.Memory.{IsReady, IsCarriedOut}
+use Rattle.memory_book.proofs.GrowthLemmas.{limited-room, limited-full, carried_out-refused, room_left, no_room}
+use Rattle.memory_book.proofs.ReadyLemmas.{a_journey}
+use Rattle.memory_book.proofs.mem_book.MemBook.carry_out.Goals as goal
+
+-- there is no item
+pub returns-in-Err-clause-answer : goal.returns-in-Err-clause-answer
+returns-in-Err-clause-answer c s here asked good move =
+    let m = c.args.self.now in
+    let who = asker (option_copied c.args.ask) in
+    let k = a_journey m.journeys.items c.args.place c.requires.within in
+    let told : answer_within s.ledger who asked ≡ refused c.in-Err.refusal =
+    subst (λ n. MatchResult n
+    (λ x. answer_within s.ledger who asked ≡ moves (suc c.args.place) k.0.plan k.0.cursor x)
+    (λ why. answer_within s.ledger who asked ≡ refused why)) c.in-Err.is (move k.0 k.1) in
+    carried_out-refused m s (option_copied c.args.ask) (answer s.ledger who asked) c.in-Err.refusal here
+    (ap (limited s.ledger) told) _ refl
+
+-- the ledger is full
+pub returns-then-is_full-clause-answer : goal.returns-then-is_full-clause-answer
+returns-then-is_full-clause-answer c s here asked good move =
+    let m = c.args.self.now in
+    let who = asker (option_copied c.args.ask) in
+    let k = a_journey m.journeys.items c.args.place c.requires.within in
+    let told : answer_within s.ledger who asked
+    ≡ moves (suc c.args.place) k.0.plan k.0.cursor c.in-Ok.item =
+    subst (λ n. MatchResult n
+    (λ x. answer_within s.ledger who asked ≡ moves (suc c.args.place) k.0.plan k.0.cursor x)
+    (λ why. answer_within s.ledger who asked ≡ refused why)) c.in-Ok.is (move k.0 k.1) in
+    let most : most_events ≤ m.events =
+    no_room c.is_full.result _ m.events c.is_full.ensures.full c.if-is_full.true in
+    let full : most_events ≤ length s.ledger = omega (arith, here.events) in
+    carried_out-refused m s (option_copied c.args.ask) (answer s.ledger who asked) Limit here
+    (limited-full s.ledger (answer_within s.ledger who asked)
+    (ap (λ (a : Answer). is_some a.event) told) full)
+    _ refl
+
+-- the journey may make the item
+pub make-requires-clause-next : goal.make-requires-clause-next
+make-requires-clause-next c k at =
+    subst (λ n. IfOk n (IsReady c.args.self.now k)) c.in-Ok.is (c.requires.next k at)
+
+-- the item is made
+pub returns-else-is_full-clause-answer : goal.returns-else-is_full-clause-answer
+returns-else-is_full-clause-answer c s here asked good move =
+    let m = c.args.self.now in
+    let ask = option_copied c.args.ask in
+    let who = asker (option_copied c.args.ask) in
+    let k = a_journey m.journeys.items c.args.place c.requires.within in
+    let moved : answer_within s.ledger who asked
+    ≡ moves (suc c.args.place) k.0.plan k.0.cursor c.in-Ok.item =
+    subst (λ n. MatchResult n
+    (λ x. answer_within s.ledger who asked ≡ moves (suc c.args.place) k.0.plan k.0.cursor x)
+    (λ why. answer_within s.ledger who asked ≡ refused why)) c.in-Ok.is (move k.0 k.1) in
+    let left : m.events < most_events =
+    room_left c.is_full.result _ m.events c.is_full.ensures.full c.if-is_full.false in
+    let room : length s.ledger < most_events = omega (arith, here.events) in
+    let told : answer s.ledger who asked
+    ≡ moves (suc c.args.place) k.0.plan k.0.cursor c.in-Ok.item =
+    limited-room s.ledger (answer_within s.ledger who asked) room ∙ moved in
+    let may = subst (λ (a : Answer). IsAllowedEvent s.ledger a.event) told
+    (answer-allowed s.ledger who asked good) in
+    subst (λ (a : Answer). IfOk c.make.result (IsCarriedOut c.make.new.self s ask a)) (sym told)
+    (c.make.ensures.answer s here k.0 k.1 may)

@@ -1,0 +1,20 @@
+use Rattle.std.proofs.Common.{◌≡◌, ap, sym, ◌∙◌}
+use Rattle.std.specs.Prelude.{Some}
+use Rattle.std.proofs.lemmas.Option.{slice_get-get_or}
+use Rattle.memory_book.proofs.StandLemmas.{history-past, history-kept}
+use Rattle.memory_book.proofs.mem_book.MemBookBook.history.Goals as goal
+
+-- there is no such journey
+pub returns-in-None-clause-items : goal.returns-in-None-clause-items
+returns-in-None-clause-items c _ s here =
+    c.new.ensures.items
+    ∙ sym (history-past c.args.self.now s here c.args.id c.in-None.ensures.none)
+
+-- the items are copied
+pub returns-in-Ok-clause-items : goal.returns-in-Ok-clause-items
+returns-in-Ok-clause-items c _ s here =
+    let m = c.args.self.now in
+    let at = slice_get-get_or m.journeys.items c.in-Some.place c.index.result.now
+    c.in-Some.ensures.within ∙ ap Some (sym c.index.ensures) in
+    c.in-Ok.ensures.items ∙ c.deref.ensures.value
+    ∙ history-kept m s here c.args.id c.in-Some.place c.index.result.now at c.in-Some.ensures.number

@@ -1,0 +1,5 @@
+pub mod MemoryStock
+pub mod MemoryAnswers
+pub mod MemoryJourneys
+pub mod MemoryNext
+pub mod Memory

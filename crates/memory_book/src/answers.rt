@@ -1,0 +1,92 @@
+//! Replies that are kept, by who asked and under which key.
+use crate::keys::AskKey;
+use commands::{Ask, Refusal, Reply};
+use std::alloc::{AllocError, Global};
+use std::collections::BTreeMap;
+
+/// A reply that is kept, with the text that was asked.
+#[derive(Drop)]
+pub struct KeptAnswer {
+    text: Vec<u8>,
+    reply: Reply,
+}
+
+impl KeptAnswer {
+    ghost use Rattle.std.specs.Prelude.{◌≡◌};
+    ghost use Rattle.ledger.specs.Answer.{State, answered_again};
+    ghost use Rattle.memory_book.specs.MemoryAnswers.{kept_said};
+
+    /// What is answered to this text under a known key: the kept reply, where it is the same text.
+    fn again(&self, text: &[u8]) -> Reply
+        ensures reply { (s : State) → result
+            ≡ (answered_again s text.now (kept_said self.now)).reply }
+    {
+        if self.text.as_slice() == text {
+            self.reply
+        } else {
+            Reply::Refused(Refusal::KeyReused)
+        }
+    }
+}
+
+/// The kept replies.
+#[derive(Drop)]
+pub struct Answers {
+    kept: BTreeMap<AskKey, KeptAnswer>,
+}
+
+impl Answers {
+    ghost use Rattle.std.specs.Prelude.{◌≡◌, OnOk, OnErr, option_map};
+    ghost use Rattle.std.specs.Option.{option_copied};
+    ghost use Rattle.ledger.specs.Answer.{State, nothing_kept, kept_after, answered_again, text_of};
+    ghost use Rattle.memory_book.specs.MemoryAnswers.{kept_in, found_for, AreKeptAlike};
+
+    /// No reply is kept.
+    pub fn new(alloc: Global) -> Answers
+        ensures nothing { AreKeptAlike (kept_in result) nothing_kept }
+    {
+        Answers {
+            kept: BTreeMap::new(alloc),
+        }
+    }
+
+    /// What is answered to an ask whose key is known.
+    pub fn again(&self, ask: Option<&Ask>) -> Option<Reply>
+        ensures known { (s : State) → result
+            ≡ option_map (λ k. (answered_again s (text_of (option_copied ask.entry)) k).reply)
+            (found_for (kept_in self.now) (option_copied ask.entry)) }
+    {
+        match ask {
+            Some(ask) => self.again_to(ask),
+            None => None,
+        }
+    }
+
+    /// The same to this ask.
+    fn again_to(&self, ask: &Ask) -> Option<Reply>
+        ensures known { (s : State) → result
+            ≡ option_map (λ k. (answered_again s ask.now.text k).reply)
+            (kept_in self.now ask.now.agent ask.now.key) }
+    {
+        match self.kept.get(&AskKey::of(ask)) {
+            Some(kept) => Some(kept.again(ask.text())),
+            None => None,
+        }
+    }
+
+    /// Keeps the reply to an ask, where there is one.
+    pub fn keep(&mut self, alloc: Global, ask: Option<&Ask>, reply: Reply) -> Result<(), AllocError>
+        ensures kept { OnOk result (AreKeptAlike (kept_in self.new)
+            (kept_after (kept_in self.old) (option_copied ask.entry) reply)) }
+
+        ensures memory { OnErr result (AreKeptAlike (kept_in self.new) (kept_in self.old)) }
+    {
+        let Some(ask) = ask else {
+            return Ok(());
+        };
+        let text = Vec::from_slice(alloc, ask.text())?;
+        self.kept
+            .insert(AskKey::of(ask), KeptAnswer { text, reply })?;
+        Ok(())
+    }
+}

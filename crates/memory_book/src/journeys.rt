@@ -1,0 +1,226 @@
+//! One journey, with all that its next move needs beside its items.
+ghost use Rattle.std.specs.Prelude.{◌≡◌, ℕ, ◌<◌, ◌≤◌, ◌^◌, length};
+ghost use Rattle.memory_book.specs.MemoryJourneys.{IsPlaced, IsNext};
+ghost use Rattle.ledger_transitions.specs.JourneyChanges.{phase_down as phase_down_rule, cursor_after as after_rule};
+ghost use Rattle.plan.specs.PlanModel.{step_count};
+
+use allotment::Want;
+use commands::{Agent, Ask, Cause, Cursor, Item, Phase};
+use plan::Plan;
+use saga_core::{Brief, Record};
+use savepoints::{Marks, option_at};
+use std::alloc::{AllocError, Global};
+
+/// Where a journey begins.
+const AT_START: Cursor = Cursor {
+    pos: 0,
+    phase: Phase::Run,
+    used: 0,
+};
+
+/// A journey: who began it, its plan, its items in order, and what they have come to.
+#[derive(Drop)]
+pub struct Journey {
+    pub agent: Agent,
+    pub plan: Plan,
+    pub cursor: Cursor,
+    pub marks: Marks,
+    /// The options that the steps which stand have taken, in order.
+    pub taken: Vec<usize>,
+    pub items: Vec<Item>,
+    ghost placed: { IsPlaced plan cursor taken.items },
+    ghost refused: { cursor.used ≤ length items.items },
+}
+
+impl Journey {
+    ghost use Rattle.std.specs.Prelude.{◌≡◌, ◌+◌, ◌-◌, ◌<◌, ◌≤◌, [], ◌∷◌, ◌++◌, length, slice_index, OnOk, IfOk, IsTrue, Some, ℕ};
+    ghost use Rattle.std.specs.Option.{option_copied};
+    ghost use Rattle.plan.specs.PlanModel.{is_plan, want_at};
+    ghost use Rattle.savepoints.specs.Rules as rules;
+    ghost use Rattle.savepoints.specs.Marks.{is_taken_in};
+    ghost use Rattle.commands.specs.declared.items.Phase.{Phase};
+    ghost use Rattle.ledger.specs.History.{is_going_back};
+    ghost use Rattle.ledger.specs.Answer.{asker};
+    ghost use Rattle.ledger.specs.Replies.{sees};
+    ghost use Rattle.ledger_transitions.specs.JourneyChanges.{cursor_after};
+    ghost use Rattle.memory_book.specs.Memory.{begun_as, Tells};
+    ghost use Rattle.memory_book.specs.MemoryJourneys.{IsOptionAt, taken_after, stands_after, IsNext};
+    ghost use Rattle.memory_book.specs.Memory.{HasRoom, IsSameJourney};
+
+    /// A journey that is just begun.
+    pub fn new(alloc: Global, agent: Agent, plan: Plan) -> Journey
+        ensures agent { result.agent ≡ agent }
+        ensures plan { result.plan ≡ plan }
+        ensures limits { IsTrue (is_plan plan) }
+        ensures told { Tells result [] }
+    {
+        let _steps = plan.steps();
+        Journey {
+            agent,
+            plan,
+            cursor: AT_START,
+            marks: Marks::none(),
+            taken: Vec::new(alloc),
+            items: Vec::new(alloc),
+        }
+    }
+
+    /// Whether who asks sees it: his own alone, and the house sees each.
+    pub fn is_seen_by(&self, ask: Option<&Ask>) -> bool
+        ensures seen { result ≡ sees (asker (option_copied ask.entry)) (begun_as self.now) }
+    {
+        match ask {
+            None => true,
+            Some(ask) => ask.agent() == self.agent,
+        }
+    }
+
+    /// What a book shows of it.
+    pub fn record(&self, alloc: Global) -> Result<Record, AllocError>
+        ensures agent { IfOk result (λ r. r.agent ≡ self.now.agent) }
+        ensures plan { IfOk result (λ r. r.plan ≡ self.now.plan) }
+        ensures cursor { IfOk result (λ r. r.cursor ≡ self.now.cursor) }
+        ensures marks { IfOk result (λ r. r.marks ≡ self.now.marks) }
+    {
+        Ok(Record {
+            agent: self.agent,
+            plan: self.plan.clone(alloc)?,
+            cursor: self.cursor,
+            marks: self.marks,
+        })
+    }
+
+    /// The same in short, under its number.
+    pub fn brief(&self, id: u64) -> Brief
+        ensures number { result.id ≡ id }
+        ensures agent { result.agent ≡ self.now.agent }
+        ensures cursor { result.cursor ≡ self.now.cursor }
+    {
+        Brief {
+            id,
+            agent: self.agent,
+            cursor: self.cursor,
+        }
+    }
+
+    /// The option that its next step takes, while it runs.
+    pub fn next_option(&self) -> usize
+        requires running { self.now.cursor.phase ≡ Phase.Run }
+
+        ensures option { result
+            ≡ rules.next_option self.now.plan self.now.cursor.pos self.now.cursor.used }
+        ensures in_step { IsOptionAt self.now.plan self.now.cursor.pos result }
+    {
+        option_at(&self.plan, self.cursor.pos + 1, self.cursor.used)
+    }
+
+    /// The want that its next step takes, while it runs.
+    pub fn next_want(&self) -> Want
+        requires running { self.now.cursor.phase ≡ Phase.Run }
+
+        ensures want { rules.next_want self.now.plan self.now.cursor.pos self.now.cursor.used
+            ≡ Some result }
+    {
+        self.plan.want(self.cursor.pos + 1, self.next_option())
+    }
+
+    /// The option that its last standing step took, while it goes back.
+    pub fn last_option(&self) -> usize
+        requires back { IsTrue (is_going_back self.now.cursor.phase) }
+
+        ensures option { result ≡ slice_index self.now.taken.items (self.now.cursor.pos - 1) }
+        ensures in_step { IsOptionAt self.now.plan (self.now.cursor.pos - 1) result }
+    {
+        self.taken[self.cursor.pos - 1]
+    }
+
+    /// Makes room for one more item.
+    pub fn reserve(&mut self) -> Result<(), AllocError>
+        ensures room { OnOk result (HasRoom self.new) }
+
+        ensures same { IsSameJourney self.old self.new }
+    {
+        self.items.reserve(1)?;
+        self.taken.reserve(1)?;
+        Ok(())
+    }
+
+    /// Makes one more item, for which there is room.
+    pub fn make(&mut self, item: Item)
+        requires room { HasRoom self.old }
+        requires next { IsNext self.old.plan self.old.cursor item }
+
+        ensures items { self.new.items.items ≡ self.old.items.items ++ item ∷ [] }
+        ensures cursor { self.new.cursor ≡ cursor_after self.old.plan self.old.cursor item }
+        ensures taken { self.new.taken.items ≡ taken_after item self.old.taken.items }
+        ensures marks { (q : ℕ) → is_taken_in self.new.marks q
+            ≡ stands_after item self.new.cursor.pos (is_taken_in self.old.marks) q }
+        ensures begun { begun_as self.new ≡ begun_as self.old }
+    {
+        self.cursor = cursor_after(&self.plan, self.cursor, item);
+        match item {
+            Item::Transaction { option, .. } => self.taken.push_reserved(option),
+            Item::Compensation { .. } => {
+                self.taken.pop();
+                self.marks.cut(self.cursor.pos);
+            }
+            Item::Turn { .. } => {}
+            Item::Save { position } => self.marks.add(position),
+        }
+        self.items.push_reserved(item);
+    }
+}
+
+/// Where a journey is after a way back has brought it to this position.
+fn phase_down(target: usize, pos: usize) -> Phase
+    ensures down { result ≡ phase_down_rule target pos }
+{
+    if target < pos {
+        Phase::Back(target)
+    } else if target == 0 {
+        Phase::Undone
+    } else {
+        Phase::Run
+    }
+}
+
+/// Where a journey with this plan is after one more item.
+pub fn cursor_after(plan: &Plan, cursor: Cursor, item: Item) -> Cursor
+    requires counted { cursor.used < 2 ^ 63 }
+    requires within { cursor.pos ≤ step_count plan.now }
+    requires next { IsNext plan.now cursor item }
+    requires above { (p : ℕ) → cursor.phase ≡ Phase.Back p → p < cursor.pos }
+
+    ensures after { result ≡ after_rule plan.now cursor item }
+{
+    let Cursor { pos, phase, used } = cursor;
+    match item {
+        Item::Transaction { .. } => Cursor {
+            pos: pos + 1,
+            phase: if pos + 1 == plan.steps() {
+                Phase::Ended
+            } else {
+                Phase::Run
+            },
+            used,
+        },
+        Item::Compensation { .. } => Cursor {
+            pos: pos - 1,
+            phase: match phase {
+                Phase::Back(target) => phase_down(target, pos - 1),
+                other => other,
+            },
+            used,
+        },
+        Item::Turn { target, cause } => Cursor {
+            pos,
+            phase: phase_down(target, pos),
+            used: if cause == Cause::Refused {
+                used + 1
+            } else {
+                used
+            },
+        },
+        Item::Save { .. } => cursor,
+    }
+}

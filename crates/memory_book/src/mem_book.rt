@@ -1,0 +1,181 @@
+//! The book in memory: its parts, and the commands that it answers.
+mod loading;
+mod moving;
+
+use crate::answers::Answers;
+use crate::journeys::Journey;
+use crate::next::is_unfinished_above;
+use crate::stock::Stock;
+use allotment::{Cell, Held, Night, Want};
+use commands::{Agent, Ask, Batch, Command, Fault, Item, MOST_EVENTS, Refusal, Reply};
+use plan::Plan;
+use saga_core::{Book, Brief, Record};
+use std::alloc::{AllocError, Global};
+
+/// The desk in memory.
+#[derive(Drop)]
+pub struct MemBook {
+    /// In the order of their numbers, which count from 1.
+    journeys: Vec<Journey>,
+    stock: Stock,
+    /// In the order in which they were loaded.
+    batches: Vec<Batch>,
+    answers: Answers,
+    /// How many events the ledger has.
+    events: u64,
+    alloc: Global,
+}
+
+impl MemBook {
+    ghost use Rattle.std.specs.Prelude.{◌≡◌, ◌≤◌, ◌<◌, ◌⊎◌, ◌↔◌, suc, length, IfSome, IfNone, IsTrue};
+    ghost use Rattle.std.specs.Option.{option_copied};
+    ghost use Rattle.commands.specs.Orders.{request_of};
+    ghost use Rattle.commands.specs.Request as request;
+    ghost use Rattle.ledger.specs.Answer.{start};
+    ghost use Rattle.memory_book.specs.Memory.{StandsFor, CarriesOut, KeepsBook};
+
+    /// A new desk: no event, and no reply kept. It takes no memory.
+    pub fn new(alloc: Global) -> MemBook
+        ensures start { StandsFor result start }
+    {
+        MemBook {
+            journeys: Vec::new(alloc),
+            stock: Stock::new(alloc),
+            batches: Vec::new(alloc),
+            answers: Answers::new(alloc),
+            events: 0,
+            alloc,
+        }
+    }
+
+    /// Whether the ledger has as many events as it may have.
+    fn is_full(&self) -> bool
+        ensures full { IsTrue result ↔ (MOST_EVENTS ≤ self.now.events) }
+    {
+        self.events >= MOST_EVENTS
+    }
+
+    /// The place of the journey with this number, if there is one.
+    fn place_of(&self, id: u64) -> Option<usize>
+        ensures within { IfSome result (λ place. place < length self.now.journeys.items) }
+        ensures number { IfSome result (λ place. id ≡ suc place) }
+
+        ensures none { IfNone result ((id ≡ 0) ⊎ (length self.now.journeys.items < id)) }
+    {
+        if id == 0 || id > self.journeys.len() as u64 {
+            return None;
+        }
+        Some(id as usize - 1)
+    }
+
+    /// Begins a journey of who asks, or of the house.
+    fn begin(&mut self, plan: &Plan, ask: Option<&Ask>) -> Result<Reply, AllocError>
+        ensures answer { CarriesOut self.old self.new (option_copied ask.entry)
+            (request.Begin plan.now) result }
+        ensures memory { KeepsBook self.old self.new result }
+    {
+        if self.is_full() {
+            return Ok(Reply::Refused(Refusal::Limit));
+        }
+        let agent = match ask {
+            Some(ask) => ask.agent(),
+            None => Agent::house(),
+        };
+        let plan = plan.clone(self.alloc)?;
+        let id = self.journeys.len() as u64 + 1;
+        self.journeys.reserve(1)?;
+        self.answers.keep(self.alloc, ask, Reply::Begun { id })?;
+        let journey = Journey::new(self.alloc, agent, plan);
+        self.journeys.push_reserved(journey);
+        self.events += 1;
+        Ok(Reply::Begun { id })
+    }
+
+    /// Answers a command whose key is not known.
+    fn answer(&mut self, command: &Command, ask: Option<&Ask>) -> Result<Reply, AllocError>
+        ensures answer { CarriesOut self.old self.new (option_copied ask.entry)
+            (request_of command.now) result }
+        ensures memory { KeepsBook self.old self.new result }
+    {
+        match command {
+            Command::Load(batch) => self.load(batch, ask),
+            Command::Begin(plan) => self.begin(plan, ask),
+            Command::Step(id) => self.step(*id, ask),
+            Command::Abort(id, p) => self.abort(*id, *p, ask),
+            Command::Stop(id) => self.stop(*id, ask),
+            Command::Save(id) => self.save(*id, ask),
+        }
+    }
+}
+
+impl Book for MemBook {
+    ghost use Rattle.std.specs.Prelude.{◌⊎◌, false, ⊤};
+    ghost use Rattle.std.proofs.Common.{inl};
+    ghost use Rattle.memory_book.specs.Memory.{StandsFor};
+
+    ghost is_sound = { λ _. ⊤ };
+
+    ghost stands = { λ m s. StandsFor m s };
+
+    ghost leaves = { λ m s t. StandsFor m s ⊎ StandsFor m t };
+
+    ghost has_failed = { λ _. false };
+
+    ghost legal = { λ m s h. h.legal };
+
+    ghost settled = { λ m s h. inl h };
+
+    fn act(&mut self, command: &Command, ask: Option<&Ask>) -> Result<Reply, Fault> {
+        match self.answers.again(ask) {
+            Some(reply) => Ok(reply),
+            None => match self.answer(command, ask) {
+                Ok(reply) => Ok(reply),
+                Err(_) => Err(Fault::Memory),
+            },
+        }
+    }
+
+    fn journey(&mut self, id: u64) -> Result<Option<Record>, Fault> {
+        match self.place_of(id) {
+            None => Ok(None),
+            Some(place) => match self.journeys[place].record(self.alloc) {
+                Ok(record) => Ok(Some(record)),
+                Err(_) => Err(Fault::Memory),
+            },
+        }
+    }
+
+    fn history(&mut self, id: u64) -> Result<Vec<Item>, Fault> {
+        match self.place_of(id) {
+            None => Ok(Vec::new(self.alloc)),
+            Some(place) => match Vec::from_slice(self.alloc, &self.journeys[place].items) {
+                Ok(items) => Ok(items),
+                Err(_) => Err(Fault::Memory),
+            },
+        }
+    }
+
+    fn first_unfinished(&mut self, after: u64) -> Result<Option<Brief>, Fault> {
+        for place in 0..self.journeys.len() {
+            let brief = self.journeys[place].brief(place as u64 + 1);
+            if is_unfinished_above(&brief, after) {
+                return Ok(Some(brief));
+            }
+        }
+        Ok(None)
+    }
+
+    fn cells(&mut self, want: &Want) -> Result<Vec<(Night, Held)>, Fault> {
+        match self.stock.nights_of(self.alloc, want) {
+            Ok(nights) => Ok(nights),
+            Err(_) => Err(Fault::Memory),
+        }
+    }
+
+    fn stock(&mut self) -> Result<Vec<(Cell, Held)>, Fault> {
+        match self.stock.rows(self.alloc) {
+            Ok(rows) => Ok(rows),
+            Err(_) => Err(Fault::Memory),
+        }
+    }
+}

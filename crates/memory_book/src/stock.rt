@@ -1,0 +1,193 @@
+//! The places of all cells, kept by cell.
+use allotment::{Cell, Held, Night, Row, Want, give, set, take};
+use commands::CellKey;
+use std::alloc::{AllocError, Global};
+use std::collections::BTreeMap;
+
+/// The places of each cell that was ever loaded.
+#[derive(Drop)]
+pub struct Stock {
+    places: BTreeMap<CellKey, Held>,
+}
+
+impl Stock {
+    ghost use Rattle.std.specs.Prelude.{◌≡◌, ◌≤◌, not, None, IfOk, option_map, position, map, filter_map, IsSome, IsTrue, if◌then◌else◌, Some};
+    ghost use Rattle.std.specs.List.{list_all};
+    ghost use Rattle.std.specs.BTreeMap.{IsOrdered};
+    ghost use Rattle.allotment.specs.Cells.{is_cell, cells_of};
+    ghost use Rattle.allotment.specs.declared.cells.Cell.{Cell};
+    ghost use Rattle.saga_core.specs.Views.{places_said, night_said, at_night};
+    ghost use Rattle.memory_book.specs.MemoryStock.{cell_key_cmp, stock_at, has_free_in, fits_in_stock};
+    ghost use Rattle.memory_book.specs.MemoryStock.{with_less, with_back, ChangesOne, ChangesEach};
+    ghost use Rattle.memory_book.specs.MemoryStock.{is_below_in, set_to, LoadsRows};
+
+    /// Nothing was loaded.
+    pub fn new(alloc: Global) -> Stock
+        ensures none { (x : Cell) → stock_at result x ≡ None }
+    {
+        Stock {
+            places: BTreeMap::new(alloc),
+        }
+    }
+
+    /// The places of a cell, if it was ever loaded.
+    pub fn get(&self, cell: &Cell) -> Option<Held>
+        ensures places { option_map places_said result ≡ stock_at self.now cell.now }
+    {
+        self.places.get(&CellKey { cell: *cell }).copied()
+    }
+
+    /// Whether so many places of a cell are free.
+    fn has_free(&self, cell: &Cell, count: u32) -> bool
+        ensures free { result ≡ has_free_in self.now count cell.now }
+    {
+        match self.get(cell) {
+            Some(held) => count <= held.free,
+            None => false,
+        }
+    }
+
+    /// Whether each cell of the want has its count of free places.
+    pub fn fits(&self, want: &Want) -> bool
+        ensures fits { result ≡ fits_in_stock self.now want.now }
+    {
+        let count = u32::from(want.count());
+        want.cells().all(|cell| self.has_free(&cell, count))
+    }
+
+    /// Writes the places of a cell that was loaded.
+    fn put(&mut self, cell: &Cell, held: Held)
+        requires there { IsSome (stock_at self.old cell.now) }
+
+        ensures put { (x : Cell) → stock_at self.new x
+            ≡ (if is_cell x cell.now then Some (places_said held) else stock_at self.old x) }
+    {
+        match self.places.insert(CellKey { cell: *cell }, held) {
+            Ok(_) => {}
+            Err(_) => unreachable!(),
+        }
+    }
+
+    /// Takes so many places of a cell.
+    fn take_one(&mut self, cell: &Cell, count: u32)
+        requires free { IsTrue (has_free_in self.old count cell.now) }
+
+        ensures taken { ChangesOne (with_less count) cell.now self.old self.new }
+    {
+        let Some(held) = self.get(cell) else {
+            return;
+        };
+        let left = take(held, count);
+        self.put(cell, left);
+    }
+
+    /// Takes the places of a want.
+    pub fn take(&mut self, want: &Want)
+        requires fits { IsTrue (fits_in_stock self.old want.now) }
+
+        ensures taken { ChangesEach with_less want.now self.old self.new }
+    {
+        let count = u32::from(want.count());
+        for cell in want.cells() {
+            self.take_one(&cell, count);
+        }
+    }
+
+    /// Gives so many places of a cell back, where so many are held.
+    fn give_one(&mut self, cell: &Cell, count: u32)
+        ensures given { ChangesOne (with_back count) cell.now self.old self.new }
+    {
+        let Some(held) = self.get(cell) else {
+            return;
+        };
+        if count <= held.held() {
+            let more = give(held, count);
+            self.put(cell, more);
+        }
+    }
+
+    /// Gives the places of a want back.
+    pub fn give(&mut self, want: &Want)
+        ensures given { ChangesEach with_back want.now self.old self.new }
+    {
+        let count = u32::from(want.count());
+        for cell in want.cells() {
+            self.give_one(&cell, count);
+        }
+    }
+
+    /// Whether the row has fewer places than journeys hold of its cell.
+    fn is_below_held(&self, row: &Row) -> bool
+        ensures below { result ≡ is_below_in self.now row.now }
+    {
+        match self.get(&row.cell()) {
+            Some(held) => row.places() < held.held(),
+            None => false,
+        }
+    }
+
+    /// The place, from 0, of the first row that has fewer places than journeys hold of its cell.
+    pub fn first_below_held(&self, rows: &[Row]) -> Option<usize>
+        ensures first { result ≡ position (is_below_in self.now) rows.now }
+    {
+        rows.iter().position(|row| self.is_below_held(row))
+    }
+
+    /// The places of a cell once a row of it is loaded: those that journeys hold stay held.
+    fn set_to(&self, row: &Row) -> Held
+        requires held { IsTrue (not (is_below_in self.now row.now)) }
+
+        ensures set { places_said result ≡ set_to self.now row.now.cell row.now.places }
+    {
+        let places = row.places();
+        match self.get(&row.cell()) {
+            None => Held {
+                allot: places,
+                free: places,
+            },
+            Some(held) => match set(held, places) {
+                Ok(held) => held,
+                Err(_) => unreachable!(),
+            },
+        }
+    }
+
+    /// The stock once these rows are loaded.
+    pub fn loaded(&self, rows: &[Row]) -> Result<Stock, AllocError>
+        requires held { IsTrue (list_all (λ row. not (is_below_in self.now row)) rows.now) }
+
+        ensures loaded { IfOk result (λ stock. LoadsRows self.now stock rows.now) }
+    {
+        let mut places = self.places.clone()?;
+        for row in rows {
+            places.insert(CellKey { cell: row.cell() }, self.set_to(row))?;
+        }
+        Ok(Stock { places })
+    }
+
+    /// The nights of a want that were loaded, with their places.
+    pub fn nights_of(&self, alloc: Global, want: &Want) -> Result<Vec<(Night, Held)>, AllocError>
+        ensures nights { IfOk result (λ nights. map night_said nights.items
+            ≡ filter_map (λ x. option_map (at_night x) (stock_at self.now x)) (cells_of want.now)) }
+    {
+        let mut nights = Vec::new(alloc);
+        for cell in want.cells() {
+            if let Some(held) = self.get(&cell) {
+                nights.push((cell.night(), held))?;
+            }
+        }
+        Ok(nights)
+    }
+
+    /// All cells with their places, in order.
+    pub fn rows(&self, alloc: Global) -> Result<Vec<(Cell, Held)>, AllocError>
+        ensures rows { IfOk result (λ rows. rows.items
+            ≡ map (λ e. (e.0.cell, e.1)) self.now.places.entries) }
+        ensures ordered { IsOrdered cell_key_cmp self.now.places }
+    {
+        self.places
+            .iter()
+            .map(|(key, held)| (key.cell, *held))
+            .collect(alloc)
+    }
+}

@@ -1,7 +1,0 @@
--- The cells so far are those that the rows so far tell.
-use Rattle.std.proofs.Common.{take}
-use Rattle.reading.specs.Reading.{TellCells}
-use Rattle.reading.proofs.telling.cells_told.Given as goal
-
-abbrev pub invariant-loop-row : goal.invariant-loop-row
-invariant-loop-row l = TellCells (take l.row-index l.found) l.cells.items

@@ -1,7 +1,0 @@
--- The items so far are those that the rows so far tell.
-use Rattle.std.proofs.Common.{take}
-use Rattle.reading.specs.Reading.{TellItems}
-use Rattle.reading.proofs.telling.items_told.Given as goal
-
-abbrev pub invariant-loop-row : goal.invariant-loop-row
-invariant-loop-row l = TellItems (take l.row-index l.found) l.items.items

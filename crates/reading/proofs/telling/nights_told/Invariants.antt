@@ -1,7 +1,0 @@
--- The nights so far are those that the rows so far tell.
-use Rattle.std.proofs.Common.{take}
-use Rattle.reading.specs.Reading.{TellNights}
-use Rattle.reading.proofs.telling.nights_told.Given as goal
-
-abbrev pub invariant-loop-row : goal.invariant-loop-row
-invariant-loop-row l = TellNights (take l.row-index l.found) l.nights.items

@@ -1,0 +1,49 @@
+-- What a begin comes to, and the rows that lead there. For the functions that answer.
+use Rattle.std.proofs.Common.{◌≡◌, ◌+◌, ◌<◌, length, Option, Some, None, IsTrue, sym, ap, ◌∙◌}
+use Rattle.commands.specs.Asks.{Asked}
+use Rattle.commands.specs.Request as request
+use Rattle.commands.specs.declared.replies.Reply.{Reply}
+use Rattle.commands.specs.declared.replies.Reply.TheVariants.{Begun as Begins}
+use Rattle.desk_sql.specs.Rows.{Tables}
+use Rattle.desk_sql.specs.FoundRows.{FindsAnswer, answer_of}
+use Rattle.desk_sql.specs.declared.answers.KeptAnswer.{KeptAnswer}
+use Rattle.desk_sql.specs.declared.meta.Meta.{Meta}
+use Rattle.plan.specs.PlanModel.{is_plan}
+use Rattle.ledger.specs.Answer.{State, Outcome, most_events, kept_for, outcome}
+use Rattle.sql_model.specs.Standing.{StandsFor, IsDesk}
+use Rattle.sql_model.specs.Reading.{IsAnswerOf}
+use Rattle.sql_model.proofs.Beginning.{beginner, begin_stands}
+use Rattle.sql_model.proofs.Readings.{next_is_above, answer_read}
+use Rattle.sql_model.proofs.Answered.{tells-some, tells-none, outcome-known}
+use Rattle.sql_writes.specs.declared.events.Numbers.{Numbers}
+use Rattle.sql_writes.specs.declared.events.JourneyBegun.{JourneyBegun}
+use Rattle.sql_writes.specs.declared.events.Event.TheVariants.{Begin}
+use Rattle.sql_commands.specs.Answering.{AnswersAgain, Counts, Finds}
+use Rattle.sql_commands.specs.Moving.{LeadsTo}
+
+-- under the next numbers the rows of a journey that begins lead to what its begin comes to
+pub begin_leads : (s : State) (ask : Option Asked) (counts : Meta) (n : Numbers) (b : JourneyBegun) → IsDesk s
+    → kept_for s ask ≡ None → IsTrue (is_plan b.plan.now) → Counts s counts → length s.ledger < most_events
+    → n.num ≡ counts.events + 1 → n.journeys ≡ counts.journeys + 1 → b.agent.now ≡ beginner ask
+    → LeadsTo n (Begin b) ask (Begins n.journeys) s (outcome s ask (request.Begin b.plan.now)).state
+begin_leads s ask counts n b desk new good counted room num_is journeys_are agent =
+    let num = num_is ∙ ap (λ k. k + 1) counted.events in
+    let journey = journeys_are ∙ ap (λ k. k + 1) counted.journeys_are in
+    record {
+      fits = λ t st. rw journey (next_is_above t s st desk);
+      stands = λ t st. rw (agent, journey, num) (begin_stands t s ask b.plan.now st desk.legal good room new);
+    }
+
+-- a row that was found tells that its key is known, and what is answered
+pub known_reply : (t : Tables) (s : State) (ask : Asked) (found : KeptAnswer) (r : Reply) → StandsFor t s → IsDesk s
+    → FindsAnswer ask.agent ask.key t (Some found) → AnswersAgain found ask r → Finds s ask (Some r)
+known_reply t s ask found r st desk finds again asked =
+    let told = tells-some IsAnswerOf (answer_of ask.agent ask.key found) (s.kept ask.agent ask.key) (answer_read t s st desk ask.agent ask.key (Some found) finds) in
+    let known = outcome-known s (Some ask) asked told.0 told.1 in (
+      again s told.0 told.2.ask told.2.reply told.2.accepted ∙ sym (ap (λ (o : Outcome). o.reply) known),
+      ap (λ (o : Outcome). o.state) known,
+    )
+
+-- where none was found the key is new
+pub new_key : (t : Tables) (s : State) (ask : Asked) → StandsFor t s → IsDesk s → FindsAnswer ask.agent ask.key t None → kept_for s (Some ask) ≡ None
+new_key t s ask st desk finds = tells-none IsAnswerOf (s.kept ask.agent ask.key) (answer_read t s st desk ask.agent ask.key None finds)

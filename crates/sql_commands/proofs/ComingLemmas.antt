@@ -1,0 +1,218 @@
+-- What the rows of a step tell of what the rules answer to it. For `coming`.
+use Rattle.std.proofs.Common.{◌≡◌, ℕ, ◌+◌, ◌<◌, ◌≤◌, List, Option, Some, None, true, false, Bool, refl, sym, ap, subst, ◌∙◌, arith}
+use Rattle.std.specs.Prelude.{option_map, Ok, Err}
+use Rattle.plan.specs.PlanModel.{Planned, step_count, want_at}
+use Rattle.savepoints.specs.Rules as rules
+use Rattle.commands.specs.declared.items.Cursor.{Cursor}
+use Rattle.commands.specs.declared.items.Item.{Item}
+use Rattle.commands.specs.declared.items.Item.TheVariants as item
+use Rattle.commands.specs.declared.items.Phase.{Phase}
+use Rattle.commands.specs.declared.items.Phase.TheVariants.{Run, Back, Ended, Undone}
+use Rattle.ledger.specs.Answer.{State, asker, answer_within, kept_for}
+use Rattle.commands.specs.Asks.{Asked}
+use Rattle.commands.specs.Request as request
+use Rattle.desk_sql.specs.declared.meta.Meta.{Meta}
+use Rattle.sql_commands.specs.Answering.{Counts}
+use Rattle.sql_commands.specs.declared.moves.Motion.TheVariants as motion
+use Rattle.commands.specs.declared.refusals.Refusal.TheVariants.{Finished, NoSavePoint}
+use Rattle.ledger.specs.History.{is_finished, is_open, position_of}
+use Rattle.ledger.specs.Ledger.{Journey, fits, history}
+use Rattle.ledger.specs.Replies.{Answer, sees, seen_journey, answer_move, step_choices}
+use Rattle.ledger_transitions.proofs.Histories.{follows}
+use Rattle.ledger_transitions.proofs.Positions.{last_standing}
+use Rattle.ledger_transitions.specs.JourneyChanges.{cursor_after}
+use Rattle.ledger_transitions.specs.Cursors.{cursor_of}
+use Rattle.saga_core.specs.Views.{record_of}
+use Rattle.saga_core.specs.Deciding.{NamesStep}
+use Rattle.saga_core.specs.declared.deciding.Move.{Move}
+use Rattle.saga_core.specs.declared.deciding.Move.TheVariants as move
+use Rattle.saga_core.specs.declared.records.Record.{Record}
+use Rattle.saga_core.proofs.DecidingLemmas.{one-take, one-undo}
+use Rattle.sql_model.specs.Standing.{IsDesk}
+use Rattle.sql_reads.specs.Reading.{stand_of}
+use Rattle.sql_reads.specs.declared.reads.Stand.{Stand}
+use Rattle.sql_writes.specs.declared.events.Event.TheVariants as event
+use Rattle.sql_commands.specs.OptionChoice.{IsNextChoice, IsLastChoice}
+use Rattle.sql_commands.specs.Moving.{IsStepUp, IsStepDown, FitsIn, IsNextMade, IsMade, ComesFor, IsLastOption, FitsNext, IsEventOf, IsUnfit}
+use Rattle.sql_commands.specs.Placing.{begun_as, IsSeen, Fits, SeesStand}
+use Rattle.sql_commands.specs.declared.step_outcome.Coming.TheVariants as coming
+use Rattle.sql_commands.specs.declared.moves.Made.{Made}
+use Rattle.sql_commands.specs.declared.options.Choice.{Choice}
+use Rattle.sql_commands.proofs.NextLemmas.{record_seen, record_unseen, none_seen}
+use Rattle.sql_commands.proofs.StepLemmas.{IsSaid, step_next}
+
+-- Where a journey is.
+
+-- what is found of a journey is that of its record
+stand_shown : (stand : Stand) (o : Option Record) → Some stand ≡ option_map stand_of o
+    → (r : Record) × (o ≡ Some r) × (stand_of r ≡ stand)
+stand_shown stand None e = cc
+stand_shown stand (Some r) e = (r, refl, cc)
+
+module _ (s : State) (who : Option (List ℕ)) (id : ℕ) where
+  -- whoever sees journeys of its agent sees it
+  pub stand_seen : (stand : Stand) → Some stand ≡ option_map stand_of (record_of s.ledger id)
+      → ((plan : Planned) → true ≡ sees who (record { agent = stand.agent; plan = plan })) → SeesStand who id s (Some stand)
+  stand_seen stand found seen =
+      let it = stand_shown stand (record_of s.ledger id) found in
+      let agent : it.0.agent ≡ stand.agent = ap (λ (x : Stand). x.agent) it.2 in (
+        it.0,
+        record_seen s who id it.0 (sym it.1)
+            (ap (λ a. sees who (record { agent = a; plan = it.0.plan })) agent ∙ sym (seen it.0.plan)),
+        it.2,
+      )
+
+  -- whoever does not sees none
+  pub stand_unseen : (stand : Stand) → Some stand ≡ option_map stand_of (record_of s.ledger id)
+      → ((plan : Planned) → false ≡ sees who (record { agent = stand.agent; plan = plan })) → seen_journey s.ledger who id ≡ None
+  stand_unseen stand found seen =
+      let it = stand_shown stand (record_of s.ledger id) found in
+      let agent : it.0.agent ≡ stand.agent = ap (λ (x : Stand). x.agent) it.2 in
+      record_unseen s who id it.0 (sym it.1)
+      (ap (λ a. sees who (record { agent = a; plan = it.0.plan })) agent ∙ sym (seen it.0.plan))
+
+  -- where nothing is found there is no journey
+  pub stand_none : None ≡ option_map stand_of (record_of s.ledger id) → seen_journey s.ledger who id ≡ None
+  stand_none found = none_seen s who id (go (record_of s.ledger id) found)
+    where
+      go : (o : Option Record) → None ≡ option_map stand_of o → None ≡ o
+      go None e = refl
+      go (Some r) e = cc
+
+-- Its step.
+
+module _ (s : State) (desk : IsDesk s) (who : Option (List ℕ)) (id : ℕ) (r : Record) (is : IsSeen s who id r) where
+  -- what the rules answer to a step of it
+  abbrev answered : Answer
+  answered = answer_move s.ledger id step_choices NoSavePoint (seen_journey s.ledger who id)
+
+  -- an item that is decided is answered
+  decided : (fit : Bool) → FitsNext r s fit → (d : Move) → NamesStep r.plan r.marks r.cursor fit d
+      → is_finished r.cursor.phase ≡ false → (d ≡ move.Nothing → ⊥) → (x : Item) → IsSaid s id d (Ok x)
+      → Fits id r.plan r.cursor answered (Ok x)
+  decided fit fitting d one goes some x said =
+      step_next s desk.legal who id r is fit fitting d one
+      ((λ e. absurd (some e)), (λ e. absurd (let bad : true ≡ false = sym e ∙ goes in cc))) (Ok x) said
+
+  up_at : (choice : Choice) (m : Made) → r.cursor.phase ≡ Run → r.cursor.pos < step_count r.plan
+      → IsNextChoice id (r.cursor.pos + 1) r.cursor.used s choice → FitsIn choice.want s true
+      → IsStepUp id (stand_of r) choice m → IsNextMade id r answered m
+  up_at choice m run below next fit up =
+      let i = r.cursor.pos + 1 in
+      let chosen = next (begun_as r) is.at (omega arith) (omega arith) in
+      let option : choice.option ≡ rules.next_option r.plan r.cursor.pos r.cursor.used = chosen.0 in
+      let want : rules.next_want r.plan r.cursor.pos r.cursor.used ≡ Some choice.want =
+      ap (want_at r.plan i) (sym option) ∙ chosen.1 in
+      let fitting : FitsNext r s true = λ now. fit ∙ ap (fits s.ledger) (sym want) in
+      record {
+        same = up.same;
+        next = subst (λ x. Fits id r.plan r.cursor answered (Ok x)) (sym up.item_is)
+            (decided true fitting (move.Take i choice.option) (one-take r.plan r.marks r.cursor true choice.option run refl option)
+            (ap is_finished run) (λ e. cc) (item.Transaction i choice.option) refl);
+        says = subst (λ x. IsEventOf id r.plan r.cursor x m.event) (sym up.item_is)
+            (choice.want, chosen.1, up.event ∙ ap (λ c. event.Transaction (record { journey = id; step = i; option = choice.option; want = choice.want; cursor = c })) up.cursor);
+        cursor = up.cursor ∙ ap (cursor_after r.plan r.cursor) (sym up.item_is);
+      }
+
+  down_at : (choice : Choice) (m : Made) (q : ℕ) → r.cursor.phase ≡ Back q → 1 ≤ r.cursor.pos
+      → IsLastChoice id r.cursor.pos s choice
+      → IsStepDown id (stand_of r) choice m → IsNextMade id r answered m
+  down_at choice m q back above last down =
+      let i = r.cursor.pos in
+      let h = history s.ledger id in
+      let here : i ≡ position_of h = ap (λ (c : Cursor). c.pos) is.cursor in
+      let standing = last_standing r.plan h (follows s.ledger desk.legal id (begun_as r) is.at) (let e = here in omega (arith, e)) in
+      let chosen = last (begun_as r) standing.0 is.at (standing.1 ∙ ap (λ n. Some (n, standing.0)) (sym here)) in
+      let option : IsLastOption id i s choice.option = λ a c at stands. (last a c at stands).0 in
+      let fitting : FitsNext r s false = λ now. absurd (let bad : Back q ≡ Run = sym back ∙ now in cc) in
+      record {
+        same = down.same;
+        next = subst (λ x. Fits id r.plan r.cursor answered (Ok x)) (sym down.item_is)
+            (decided false fitting (move.Undo i) (one-undo r.plan r.marks r.cursor false q back) (ap is_finished back) (λ e. cc)
+            (item.Compensation i choice.option) (choice.option, option, refl));
+        says = subst (λ x. IsEventOf id r.plan r.cursor x m.event) (sym down.item_is) (
+          choice.want,
+          ap (want_at r.plan i) chosen.0 ∙ chosen.1,
+          down.event ∙ ap (λ c. event.Compensation (record { journey = id; step = i; option = choice.option; want = choice.want; cursor = c })) down.cursor,
+        );
+        cursor = down.cursor ∙ ap (cursor_after r.plan r.cursor) (sym down.item_is);
+      }
+
+  -- the next step, where its want fits
+  pub up_comes : (stand : Stand) → stand_of r ≡ stand → (choice : Choice) → stand.cursor.phase ≡ Run
+      → stand.cursor.pos < stand.steps → IsNextChoice id (stand.cursor.pos + 1) stand.cursor.used s choice
+      → FitsIn choice.want s true → ComesFor id stand s r answered (coming.Up choice)
+  up_comes stand same choice =
+      subst
+      (λ (x : Stand). x.cursor.phase ≡ Run → x.cursor.pos < x.steps → IsNextChoice id (x.cursor.pos + 1) x.cursor.used s choice
+      → FitsIn choice.want s true → ComesFor id x s r answered (coming.Up choice)) same (λ run below next fit m up. up_at choice m run below next fit up)
+
+  -- the compensation of the last standing step
+  pub down_comes : (stand : Stand) → stand_of r ≡ stand → (choice : Choice) (q : ℕ) → stand.cursor.phase ≡ Back q
+      → 1 ≤ stand.cursor.pos → IsLastChoice id stand.cursor.pos s choice
+      → ComesFor id stand s r answered (coming.Down choice)
+  down_comes stand same choice q =
+      subst
+      (λ (x : Stand). x.cursor.phase ≡ Back q → 1 ≤ x.cursor.pos → IsLastChoice id x.cursor.pos s choice
+      → ComesFor id x s r answered (coming.Down choice)) same (λ back above last m down. down_at choice m q back above last down)
+
+  -- a turn, where its want does not fit
+  pub refused_comes : (stand : Stand) → stand_of r ≡ stand → (choice : Choice)
+      → stand.cursor.pos < stand.steps → IsNextChoice id (stand.cursor.pos + 1) stand.cursor.used s choice
+      → FitsIn choice.want s false → ComesFor id stand s r answered coming.Refused
+  refused_comes stand same choice =
+      subst
+      (λ (x : Stand). x.cursor.pos < x.steps → IsNextChoice id (x.cursor.pos + 1) x.cursor.used s choice
+      → FitsIn choice.want s false → FitsNext r s false) same
+      (λ below next fit run.
+      let chosen = next (begun_as r) is.at (omega arith) (omega arith) in
+      fit ∙ ap (fits s.ledger) (sym chosen.1) ∙ ap (λ n. fits s.ledger (want_at r.plan (r.cursor.pos + 1) n)) chosen.0)
+
+  -- nothing, where it has finished
+  pub nothing_comes : (stand : Stand) → stand_of r ≡ stand → is_finished stand.cursor.phase ≡ true
+      → ComesFor id stand s r answered coming.Nothing
+  nothing_comes stand same finished =
+      let now : is_finished r.cursor.phase ≡ true = ap (λ (x : Stand). is_finished x.cursor.phase) same ∙ finished in
+      step_next s desk.legal who id r is false (not_running r.cursor.phase now) move.Nothing (none_named now)
+      ((λ e. now), (λ e. refl)) (Err Finished) refl
+    where
+      not_running : (p : Phase) → is_finished p ≡ true → p ≡ Run
+          → false ≡ fits s.ledger (rules.next_want r.plan r.cursor.pos r.cursor.used)
+      not_running p e run = absurd (let bad : true ≡ false = sym e ∙ ap is_finished run in cc)
+
+      finished_open : (p : Phase) → is_finished p ≡ true → is_open p ≡ true → ⊥
+      finished_open Run e goes = cc
+      finished_open (Back q) e goes = cc
+      finished_open Ended e goes = cc
+      finished_open Undone e goes = cc
+
+      none_named : is_finished r.cursor.phase ≡ true → NamesStep r.plan r.marks r.cursor false move.Nothing
+      none_named e h here goes = absurd (finished_open r.cursor.phase e goes)
+
+-- what comes next of a journey that is seen is made
+pub made_step : (s : State) (ask : Option Asked) (counts : Meta) (id : ℕ) (r : Record) (m : Made) → IsDesk s → kept_for s ask ≡ None
+    → Counts s counts → IsSeen s (asker ask) id r → IsNextMade id r (answer_within s.ledger (asker ask) (request.Step id)) m
+    → IsMade s ask counts motion.Refused m
+made_step s ask counts id r m desk new counted here next =
+    subst
+    (λ n. IsSeen s (asker ask) n r → Fits n r.plan r.cursor (answer_within s.ledger (asker ask) (request.Step n)) (Ok m.item)
+    → IsEventOf n r.plan r.cursor m.item m.event → IsMade s ask counts motion.Refused m) next.same
+    (λ seen fit says. record {
+      journey = r;
+      due = record { desk = desk; new = new; counted = counted; here = seen; answered = fit };
+      says = says;
+      cursor = next.cursor;
+    }) here next.next next.says
+
+-- all who see the journey see the same, so its want does not fit for any of them
+pub unfit_seen : (s : State) (who : Option (List ℕ)) (id : ℕ) (r : Record) → IsSeen s who id r → FitsNext r s false
+    → IsUnfit id motion.Refused s
+unfit_seen s who id r is unfit other b seen run =
+    let one : Some (begun_as b) ≡ Some (begun_as r) = sym seen.at ∙ is.at in
+    let same : begun_as b ≡ begun_as r = cc in
+    let plan : b.plan ≡ r.plan = ap (λ (a : Journey). a.plan) same in
+    let cursor : b.cursor ≡ r.cursor =
+    seen.cursor ∙ ap (λ p. cursor_of p (history s.ledger id)) plan ∙ sym is.cursor in
+    unfit (ap (λ (c : Cursor). c.phase) (sym cursor) ∙ run)
+    ∙ ap (λ p. fits s.ledger (rules.next_want p r.cursor.pos r.cursor.used)) (sym plan)
+    ∙ ap (λ (c : Cursor). fits s.ledger (rules.next_want b.plan c.pos c.used)) (sym cursor)

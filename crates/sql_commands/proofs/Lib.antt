@@ -1,0 +1,11 @@
+pub mod AnswerLemmas
+pub mod ChoiceLemmas
+pub mod ComingLemmas
+pub mod DueLemmas
+pub mod LeadLemmas
+pub mod LoadComes
+pub mod LoadRows
+pub mod NextLemmas
+pub mod OkLemmas
+pub mod SmallLemmas
+pub mod StepLemmas

@@ -1,0 +1,143 @@
+-- What is read of the rows of a batch, one after another. For `read_held`, `read_places` and `cells_of`.
+use Rattle.std.proofs.Common.{◌≡◌, ℕ, zero, suc, ◌+◌, ◌<◌, List, [], ◌∷◌, ◌++◌, length, map, take, get_or, cond, Bool, true, false, Some, None, refl, sym, ap, ap₂, ◌∙◌, arith, append_assoc, append-nil}
+use Rattle.std.specs.Prelude.{position, not, nat_lt}
+use Rattle.std.specs.List.{list_all, position_or_len}
+use Rattle.std.proofs.lemmas.Bool.{and_parts, and_from, lt-ltb}
+use Rattle.std.proofs.lemmas.Bool.Decides.{nat_tests}
+use Rattle.std.proofs.lemmas.List.{map-append}
+use Rattle.std.proofs.lemmas.Grind.{flat_map-append}
+use Rattle.std.proofs.lemmas.List.Folds.{list_all-append}
+use Rattle.sqlite.specs.Store.{Ghosts}
+use Rattle.sqlite.specs.State.{HasCleanDisk}
+use Rattle.sqlite.specs.Held.{Held, state}
+use Rattle.allotment.specs.Cells.{kind_number}
+use Rattle.allotment.specs.Texts.{row_text, line_feed}
+use Rattle.allotment.specs.declared.cells.Cell.{Cell}
+use Rattle.allotment.specs.declared.cells.Row.{Row}
+use Rattle.allotment.specs.declared.places.Held.{Held as HeldPlaces}
+use Rattle.ledger.specs.Answer.{State}
+use Rattle.ledger.specs.Ledger.{held, is_not_below_held}
+use Rattle.desk_sql.specs.Rows.{StockRow}
+use Rattle.desk_sql.specs.Stock.{put}
+use Rattle.sql_model.specs.ExpectedRows.{batch_text}
+use Rattle.sql_model.specs.Reading.{stock_row_of}
+use Rattle.sql_model.specs.Standing.{IsDesk}
+use Rattle.sql_transitions.specs.Loading.{put_rows}
+use Rattle.sql_writes.specs.Loads.{put_each}
+use Rattle.sql_writes.proofs.LoadLemmas.{take-more}
+use Rattle.desk_sql.specs.declared.versions.Version.TheVariants.{Two}
+use Rattle.sql_model.specs.Keeping.{Keeps}
+use Rattle.sql_commands.specs.Loading.{GetsPlaces, HavePlaces, HasLooked, row_loaded}
+use Rattle.sql_reads.specs.Reading.{OnlyReads}
+use Rattle.sql_reads.proofs.ReadLemmas.{reads_then}
+
+-- Places.
+
+-- the places that a row's cell gets are those of its row of stock
+places_told : (r : Row) (s : State) (p : HeldPlaces) → GetsPlaces r s (Some p)
+    → stock_row_of (r.cell, p) ≡ row_loaded s r
+places_told r s p gets =
+    ap₂
+    (λ (a f : ℕ). record { kind = kind_number r.cell.kind; supplier = r.cell.supplier; product = r.cell.product; night = r.cell.night; allot = a; free = f })
+    gets.1 gets.2
+
+-- one row more has its places
+have_more : (rows : List Row) (s : State) (cells : List (Cell × HeldPlaces)) (r : Row) (p : HeldPlaces)
+    → HavePlaces rows s cells → GetsPlaces r s (Some p)
+    → HavePlaces (rows ++ r ∷ []) s (cells ++ (r.cell, p) ∷ [])
+have_more rows s cells r p have gets = record {
+  above =
+      list_all-append (is_not_below_held s.ledger) rows (r ∷ [])
+      ∙ and_from (list_all (is_not_below_held s.ledger) rows) (list_all (is_not_below_held s.ledger) (r ∷ [])) have.above
+      (and_from (is_not_below_held s.ledger r) true gets.0 refl);
+  told =
+      map-append stock_row_of cells ((r.cell, p) ∷ [])
+      ∙ ap₂ (λ (a : List StockRow) (b : StockRow). a ++ b ∷ []) have.told (places_told r s p gets)
+      ∙ sym (map-append (row_loaded s) rows (r ∷ []));
+}
+
+-- so the cells get their places as the rows say
+pub put_told : (s : State) (rows : List Row) (cells : List (Cell × HeldPlaces)) (stock : List StockRow)
+    → map stock_row_of cells ≡ map (row_loaded s) rows → put_each cells stock ≡ put_rows (held s.ledger) rows stock
+put_told s [] [] stock e = refl
+put_told s [] (c ∷ cells) stock e = let bad : stock_row_of c ∷ map stock_row_of cells ≡ [] = e in cc
+put_told s (r ∷ rows) [] stock e = let bad : [] ≡ row_loaded s r ∷ map (row_loaded s) rows = e in cc
+put_told s (r ∷ rows) (c ∷ cells) stock e =
+    let both : stock_row_of c ∷ map stock_row_of cells ≡ row_loaded s r ∷ map (row_loaded s) rows = e in
+    let first : stock_row_of c ≡ row_loaded s r = cc in
+    let rest : map stock_row_of cells ≡ map (row_loaded s) rows = cc in
+    put_told s rows cells (put (stock_row_of c) stock) rest ∙ ap (λ x. put_rows (held s.ledger) rows (put x stock)) first
+
+-- Positions.
+
+-- one before equal numbers of others
+one_more : (m n : ℕ) → m ≡ n → 1 + m ≡ suc n
+one_more m n e = omega arith
+
+-- where all rows pass, there is no first one that does not
+pub none_below : (above : Row → Bool) (rows : List Row) → list_all above rows ≡ true
+    → position (λ r. not (above r)) rows ≡ None
+none_below above rows all =
+    ap (λ (n : ℕ). cond (nat_lt n (length rows)) (Some n) None) (past rows all)
+    ∙ ap (λ (b : Bool). cond b (Some (length rows)) None) (never (length rows))
+  where
+    never : (n : ℕ) → nat_lt n n ≡ false
+    never n = grind (arith, nat_tests)
+
+    past : (rs : List Row) → list_all above rs ≡ true → position_or_len (λ r. not (above r)) rs ≡ length rs
+    past [] e = refl
+    past (r ∷ rs) e =
+        let both = and_parts (above r) (list_all above rs) e in
+        ap (λ (b : Bool). cond (not (not b)) (1 + position_or_len (λ q. not (above q)) rs) 0) both.0
+        ∙ one_more (position_or_len (λ q. not (above q)) rs) (length rs) (past rs both.1)
+
+-- where the rows before it pass and it does not, it is the first
+pub first_below : (above : Row → Bool) (rows : List Row) (i : ℕ) (r : Row) → i < length rows → r ≡ get_or rows i r
+    → list_all above (take i rows) ≡ true → above r ≡ false → position (λ q. not (above q)) rows ≡ Some i
+first_below above rows i r within is all fails =
+    ap (λ (n : ℕ). cond (nat_lt n (length rows)) (Some n) None) (place rows i within is all)
+    ∙ ap (λ (b : Bool). cond b (Some i) None) (lt-ltb i (length rows) within)
+  where
+    place : (rs : List Row) (j : ℕ) → j < length rs → r ≡ get_or rs j r → list_all above (take j rs) ≡ true
+        → position_or_len (λ q. not (above q)) rs ≡ j
+    place [] j low e before = absurd (omega arith)
+    place (q ∷ rs) zero low e before =
+        ap (λ (b : Bool). cond (not (not b)) (1 + position_or_len (λ x. not (above x)) rs) 0) (ap above (sym e) ∙ fails)
+    place (q ∷ rs) (suc j) low e before =
+        let both = and_parts (above q) (list_all above (take j rs)) before in
+        ap (λ (b : Bool). cond (not (not b)) (1 + position_or_len (λ x. not (above x)) rs) 0) both.0
+        ∙ one_more (position_or_len (λ x. not (above x)) rs) j (place rs j (omega arith) e both.1)
+
+-- Rows, one after another.
+
+module _ {S : Type 0} (g : Ghosts S) where
+  -- at first nothing was looked at
+  pub none_looked : (h : Held S) → HasLooked g h h [] []
+  none_looked h = record {
+    reads = record { keeps = λ v s keeps. keeps; stop = λ clean db may. may; less = λ clean. clean };
+    shown = λ clean s desk keeps. record { above = refl; told = refl };
+  }
+
+  module _ (old mid new : Held S) (rows : List Row) (cells : List (Cell × HeldPlaces)) (has : HasLooked g old mid rows cells)
+      (reads : OnlyReads g mid new) (r : Row) where
+    -- then one row more has its places
+    pub looked_more : (p : HeldPlaces)
+        → (HasCleanDisk (state g new) → (s : State) → IsDesk s → Keeps (state g mid) s → GetsPlaces r s (Some p))
+        → HasLooked g old new (rows ++ r ∷ []) (cells ++ (r.cell, p) ∷ [])
+    looked_more p gets = record {
+      reads = reads_then g old mid new has.reads reads;
+      shown = λ clean s desk keeps.
+          have_more rows s cells r p (has.shown (reads.less clean) s desk keeps) (gets clean s desk (has.reads.keeps Two s keeps));
+    }
+
+-- Texts.
+
+-- the text of rows with one more is longer by its line
+pub text_more : (rows : List Row) (i : ℕ) (r : Row) (text : List ℕ) → i < length rows → r ≡ get_or rows i r
+    → text ≡ batch_text (take i rows) → (text ++ row_text r) ++ line_feed ∷ [] ≡ batch_text (take (i + 1) rows)
+text_more rows i r text within is e =
+    append_assoc text (row_text r) (line_feed ∷ [])
+    ∙ ap (λ (t : List ℕ). t ++ (row_text r ++ line_feed ∷ [])) e
+    ∙ ap (λ (t : List ℕ). batch_text (take i rows) ++ t) (sym (append-nil (row_text r ++ line_feed ∷ [])))
+    ∙ sym (flat_map-append (λ (q : Row). row_text q ++ line_feed ∷ []) (take i rows) (r ∷ []))
+    ∙ ap batch_text (sym (take-more rows i r within is))

@@ -1,0 +1,210 @@
+-- What a record that is seen tells of its journey, and what the rules answer to its moves. For `moves` and `coming`.
+use Rattle.std.proofs.Common.{◌≡◌, ℕ, Bool, true, false, List, Option, Some, None, refl, ap, sym, ◌∙◌, subst}
+use Rattle.std.specs.Prelude.{◌&&◌, not, nat_lt, if◌then◌else◌, option_map, Result, Ok, Err}
+use Rattle.plan.specs.PlanModel.{Planned}
+use Rattle.savepoints.specs.Marks.{is_taken_in}
+use Rattle.savepoints.specs.Turns.{may_be_made}
+use Rattle.savepoints.specs.declared.turns.Turn.{Turn}
+use Rattle.savepoints.specs.declared.turns.Turn.TheVariants as turn
+use Rattle.commands.specs.declared.items.Cause.{Cause}
+use Rattle.commands.specs.declared.items.Cause.TheVariants as causes
+use Rattle.commands.specs.declared.items.Cursor.{Cursor}
+use Rattle.commands.specs.declared.items.Item.{Item}
+use Rattle.commands.specs.declared.items.Item.TheVariants as item
+use Rattle.commands.specs.declared.items.Phase.{Phase}
+use Rattle.commands.specs.declared.items.Phase.TheVariants.{Run, Back, Ended, Undone}
+use Rattle.commands.specs.declared.refusals.Refusal.{Refusal}
+use Rattle.commands.specs.declared.refusals.Refusal.TheVariants.{NoSavePoint, NoSave}
+use Rattle.ledger.specs.Answer.{State}
+use Rattle.ledger.specs.Replies.{Answer, refused, answer_move, sees, seen_journey, abort_choices, stop_choices, save_choices}
+use Rattle.ledger.specs.Ledger.{Event, Journey, journey_at, history, IsLegal}
+use Rattle.ledger.specs.History.{last_save, position_of, phase, is_finished}
+use Rattle.ledger_transitions.specs.Answers.{moves}
+use Rattle.ledger_transitions.specs.JourneyChanges.{target_of}
+use Rattle.ledger_transitions.specs.Cursors.{cursor_of, marks_of}
+use Rattle.ledger_transitions.proofs.Answering.{abort-answer, stop-answer, save-answer, save-back, runs, goes_back}
+use Rattle.ledger_transitions.proofs.Histories.{follows}
+use Rattle.ledger_transitions.proofs.Moves.{move-finished, seen, unseen, seen-none}
+use Rattle.ledger_transitions.proofs.Taken.{last_save_by-marks, is_save_point_by-marks}
+use Rattle.saga_core.specs.Views.{record_of, record_of_journey}
+use Rattle.saga_core.specs.Rulings.{turn_said, save_said}
+use Rattle.saga_core.specs.declared.records.Record.{Record}
+use Rattle.sql_commands.specs.Placing.{begun_as, IsSeen, Fits}
+
+-- Records.
+
+-- a journey is its agent and its plan
+one_journey : (a : Journey) (agent : List ℕ) (plan : Planned) → a.agent ≡ agent → a.plan ≡ plan
+    → a ≡ record { agent = agent; plan = plan }
+one_journey a agent plan e f =
+    let with : List ℕ → Planned → Journey = λ x p. record { agent = x; plan = p } in ap (λ x. with x a.plan) e ∙ ap (with agent) f
+
+-- a record that is shown is that of the journey of its number
+record IsShown (l : List Event) (id : ℕ) (r : Record) : Type 0 where
+  at : journey_at l id ≡ Some (begun_as r)
+  cursor : r.cursor ≡ cursor_of r.plan (history l id)
+  marks : r.marks ≡ marks_of (history l id)
+
+-- it is that of some journey with the number
+shown_of : (l : List Event) (id : ℕ) (r : Record) (o : Option Journey) → Some r ≡ option_map (record_of_journey (history l id)) o
+    → (a : Journey) × (o ≡ Some a) × (r ≡ record_of_journey (history l id) a)
+shown_of l id r None e = cc
+shown_of l id r (Some a) e = (a, refl, cc)
+
+shown : (l : List Event) (id : ℕ) (r : Record) → Some r ≡ record_of l id → IsShown l id r
+shown l id r e =
+    let of = shown_of l id r (journey_at l id) e in
+    let agent : r.agent ≡ of.0.agent = ap (λ (b : Record). b.agent) of.2 in
+    let plan : r.plan ≡ of.0.plan = ap (λ (b : Record). b.plan) of.2 in
+    let cursor : r.cursor ≡ cursor_of of.0.plan (history l id) = ap (λ (b : Record). b.cursor) of.2 in
+    let marks : r.marks ≡ marks_of (history l id) = ap (λ (b : Record). b.marks) of.2 in
+    record {
+      at = of.1 ∙ ap Some (one_journey of.0 r.agent r.plan (sym agent) (sym plan));
+      cursor = cursor ∙ ap (λ p. cursor_of p (history l id)) (sym plan);
+      marks = marks;
+    }
+
+-- whoever sees its journey sees it
+pub record_seen : (s : State) (who : Option (List ℕ)) (id : ℕ) (r : Record) → Some r ≡ record_of s.ledger id
+    → sees who (begun_as r) ≡ true → IsSeen s who id r
+record_seen s who id r e see =
+    let is = shown s.ledger id r e in
+    record {
+      at = is.at;
+      seen = seen s.ledger who id (begun_as r) is.at see;
+      cursor = is.cursor;
+      marks = is.marks;
+    }
+
+-- whoever does not see its journey sees none
+pub record_unseen : (s : State) (who : Option (List ℕ)) (id : ℕ) (r : Record) → Some r ≡ record_of s.ledger id
+    → sees who (begun_as r) ≡ false → seen_journey s.ledger who id ≡ None
+record_unseen s who id r e see =
+    unseen s.ledger who id (begun_as r) (shown s.ledger id r e).at see
+
+-- where there is no record there is no journey
+pub none_seen : (s : State) (who : Option (List ℕ)) (id : ℕ) → None ≡ record_of s.ledger id
+    → seen_journey s.ledger who id ≡ None
+none_seen s who id e = seen-none s.ledger who id (go (journey_at s.ledger id) e)
+  where
+    go : (o : Option Journey) → None ≡ option_map (record_of_journey (history s.ledger id)) o → o ≡ None
+    go None n = refl
+    go (Some a) n = cc
+
+-- Moves.
+
+-- one of two answers, by a test, is one of two moves, by the same test
+by_test : (b : Bool) (j : ℕ) (plan : Planned) (c : Cursor) (x : Item) (why : Refusal) (a : Answer)
+    → a ≡ (if b then moves j plan c x else refused why)
+    → Fits j plan c a (if b then Ok x else Err why)
+by_test true j plan c x why a e = e
+by_test false j plan c x why a e = e
+
+-- of a journey in a legal ledger
+module _ (l : List Event) (legal : IsLegal l) (j : ℕ) (a : Journey) (at : journey_at l j ≡ Some a) where
+  -- its items
+  abbrev h : List Item
+  h = history l j
+
+  -- where it is
+  abbrev c : Cursor
+  c = cursor_of a.plan (history l j)
+
+  -- to an abort: by its phase
+  abort-by_phase : (p : Phase) → phase a.plan h ≡ p → (q : ℕ)
+      → Fits j a.plan c (answer_move l j (abort_choices q) NoSavePoint (Some a))
+      (turn_said a.plan (record c { phase = p }) (marks_of h) (turn.Asked q) causes.Asked)
+  abort-by_phase Run e q =
+      by_test _ j a.plan c (item.Turn q causes.Asked) NoSavePoint _
+      (abort-answer l j a q legal at (runs e)
+      ∙ ap (λ p. if may_be_made a.plan (is_taken_in (marks_of h)) (position_of h) (target_of p)
+      (turn.Asked q) then moves j a.plan c (item.Turn q causes.Asked) else refused NoSavePoint) e)
+  abort-by_phase (Back r) e q =
+      by_test _ j a.plan c (item.Turn q causes.Asked) NoSavePoint _
+      (abort-answer l j a q legal at (goes_back r e)
+      ∙ ap (λ p. if may_be_made a.plan (is_taken_in (marks_of h)) (position_of h) (target_of p)
+      (turn.Asked q) then moves j a.plan c (item.Turn q causes.Asked) else refused NoSavePoint) e)
+  abort-by_phase Ended e q = move-finished l j (abort_choices q) NoSavePoint a (ap is_finished e)
+  abort-by_phase Undone e q = move-finished l j (abort_choices q) NoSavePoint a (ap is_finished e)
+
+  -- to a stop: by its phase
+  stop-by_phase : (p : Phase) → phase a.plan h ≡ p
+      → Fits j a.plan c (answer_move l j stop_choices NoSavePoint (Some a))
+      (turn_said a.plan (record c { phase = p }) (marks_of h) turn.Stop causes.Stop)
+  stop-by_phase Run e =
+      stop-answer l j a legal at (runs e)
+      ∙ ap (λ p. if may_be_made a.plan (is_taken_in (marks_of h)) (position_of h) (target_of p)
+      turn.Stop then moves j a.plan c (item.Turn (last_save a.plan h) causes.Stop)
+      else refused NoSavePoint) e
+      ∙ ap (λ p. moves j a.plan c (item.Turn p causes.Stop)) (last_save_by-marks a.plan h (follows l legal j a at))
+  stop-by_phase (Back r) e =
+      stop-answer l j a legal at (goes_back r e)
+      ∙ ap (λ p. if may_be_made a.plan (is_taken_in (marks_of h)) (position_of h) (target_of p)
+      turn.Stop then moves j a.plan c (item.Turn (last_save a.plan h) causes.Stop)
+      else refused NoSavePoint) e
+  stop-by_phase Ended e = move-finished l j stop_choices NoSavePoint a (ap is_finished e)
+  stop-by_phase Undone e = move-finished l j stop_choices NoSavePoint a (ap is_finished e)
+
+  -- to taking a save-point: by its phase
+  save-by_phase : (p : Phase) → phase a.plan h ≡ p
+      → Fits j a.plan c (answer_move l j save_choices NoSave (Some a))
+      (save_said a.plan (record c { phase = p }) (marks_of h))
+  save-by_phase Run e =
+      by_test _ j a.plan c (item.Save (position_of h)) NoSave _
+      (save-answer l j a legal at e
+      ∙ ap (λ b. if nat_lt 0 (position_of h) && not b
+      then moves j a.plan c (item.Save (position_of h)) else refused NoSave)
+      (is_save_point_by-marks a.plan h (position_of h) (follows l legal j a at)))
+  save-by_phase (Back r) e = save-back l j a r legal at e
+  save-by_phase Ended e = move-finished l j save_choices NoSave a (ap is_finished e)
+  save-by_phase Undone e = move-finished l j save_choices NoSave a (ap is_finished e)
+
+-- of a record that is seen
+module _ (s : State) (legal : IsLegal s.ledger) (who : Option (List ℕ)) (id : ℕ) (r : Record) (is : IsSeen s who id r) where
+  -- the items of its journey
+  abbrev items : List Item
+  items = history s.ledger id
+
+  -- from what the rules say of the journey to what the record does
+  pub from_history : (choices : Planned → List Item → List Item) (otherwise : Refusal) (next : Result Item Refusal)
+      → Fits id r.plan (cursor_of r.plan items) (answer_move s.ledger id choices otherwise (Some (begun_as r))) next
+      → Fits id r.plan r.cursor (answer_move s.ledger id choices otherwise (seen_journey s.ledger who id)) next
+  from_history choices otherwise next fits =
+      subst (λ (c : Cursor). Fits id r.plan c (answer_move s.ledger id choices otherwise (seen_journey s.ledger who id)) next)
+      (sym is.cursor)
+      (subst (λ o. Fits id r.plan (cursor_of r.plan items) (answer_move s.ledger id choices otherwise o) next) (sym is.seen) fits)
+
+  -- what is said of a turn by the record is said of it by the journey
+  turn_same : (why : Turn) (cause : Cause) → turn_said r.plan (cursor_of r.plan items) (marks_of items) why cause
+      ≡ turn_said r.plan r.cursor r.marks why cause
+  turn_same why cause =
+      ap (λ c. turn_said r.plan c (marks_of items) why cause) (sym is.cursor)
+      ∙ ap (λ ms. turn_said r.plan r.cursor ms why cause) (sym is.marks)
+
+  -- an abort
+  pub abort_next : (q : ℕ) (next : Result Item Refusal) → next ≡ turn_said r.plan r.cursor r.marks (turn.Asked q) causes.Asked
+      → Fits id r.plan r.cursor (answer_move s.ledger id (abort_choices q) NoSavePoint (seen_journey s.ledger who id)) next
+  abort_next q next said =
+      from_history (abort_choices q) NoSavePoint next
+      (subst (Fits id r.plan (cursor_of r.plan items) (answer_move s.ledger id (abort_choices q) NoSavePoint (Some (begun_as r))))
+      (turn_same (turn.Asked q) causes.Asked ∙ sym said)
+      (abort-by_phase s.ledger legal id (begun_as r) is.at (phase r.plan items) refl q))
+
+  -- a stop
+  pub stop_next : (next : Result Item Refusal) → next ≡ turn_said r.plan r.cursor r.marks turn.Stop causes.Stop
+      → Fits id r.plan r.cursor (answer_move s.ledger id stop_choices NoSavePoint (seen_journey s.ledger who id)) next
+  stop_next next said =
+      from_history stop_choices NoSavePoint next
+      (subst (Fits id r.plan (cursor_of r.plan items) (answer_move s.ledger id stop_choices NoSavePoint (Some (begun_as r))))
+      (turn_same turn.Stop causes.Stop ∙ sym said)
+      (stop-by_phase s.ledger legal id (begun_as r) is.at (phase r.plan items) refl))
+
+  -- taking a save-point
+  pub save_next : (next : Result Item Refusal) → next ≡ save_said r.plan r.cursor r.marks
+      → Fits id r.plan r.cursor (answer_move s.ledger id save_choices NoSave (seen_journey s.ledger who id)) next
+  save_next next said =
+      from_history save_choices NoSave next
+      (subst (Fits id r.plan (cursor_of r.plan items) (answer_move s.ledger id save_choices NoSave (Some (begun_as r))))
+      (ap (λ c. save_said r.plan c (marks_of items)) (sym is.cursor)
+      ∙ ap (λ ms. save_said r.plan r.cursor ms) (sym is.marks) ∙ sym said)
+      (save-by_phase s.ledger legal id (begun_as r) is.at (phase r.plan items) refl))

@@ -1,0 +1,151 @@
+-- The numbers of an event of a journey fit the store's integers. For `event_of`.
+use Rattle.std.proofs.Common.{◌≡◌, ℕ, ◌+◌, ◌-◌, ◌<◌, ◌≤◌, ◌^◌, Bool, true, false, if◌then◌else◌, IsTrue, refl, sym, subst, arith}
+use Rattle.std.specs.Prelude.{◌==◌, nat_lt}
+use Rattle.plan.specs.Limits.{most_steps}
+use Rattle.plan.specs.PlanModel.{Planned, step_count, is_plan}
+use Rattle.commands.specs.declared.items.Cause.TheVariants.{Stop, Refused, Asked}
+use Rattle.commands.specs.declared.items.Cursor.{Cursor}
+use Rattle.commands.specs.declared.items.Item.{Item}
+use Rattle.commands.specs.declared.items.Item.TheVariants as item
+use Rattle.commands.specs.declared.items.Phase.{Phase}
+use Rattle.commands.specs.declared.items.Phase.TheVariants.{Run, Back, Ended, Undone}
+use Rattle.ledger_transitions.specs.JourneyChanges.{phase_up, phase_down, phase_back, cursor_after}
+use Rattle.desk_sql.specs.Changes.{IsSmallCursor}
+use Rattle.sql_model.specs.ExpectedRows.{target_of}
+use Rattle.sql_transitions.specs.Moving.{cursor_written}
+use Rattle.sql_writes.specs.Kinds.{IsSmall}
+use Rattle.sql_writes.specs.declared.events.Event.{Event}
+use Rattle.sql_commands.specs.Moving.{IsEventOf}
+use Rattle.sql_commands.specs.Placing.{IsPlaced, IsPlacedIn, MayBeMade, stepped_up, stepped_down}
+use Rattle.plan.proofs.LimitLemmas.{few_options, few_steps}
+
+-- small numbers are written small
+numbers_small : (pos used : ℕ) (p : Phase) → pos ≤ 25 → target_of p ≤ 25 → used ≤ 2 ^ 62
+    → IsSmallCursor (cursor_written (record { pos = pos; phase = p; used = used }))
+numbers_small pos used Run a b d = (omega arith, (omega arith, (omega arith, (omega arith, tt))))
+numbers_small pos used (Back p) a b d = (omega arith, (omega arith, (omega arith, (omega arith, tt))))
+numbers_small pos used Ended a b d = (omega arith, (omega arith, (omega arith, (omega arith, tt))))
+numbers_small pos used Undone a b d = (omega arith, (omega arith, (omega arith, (omega arith, tt))))
+
+-- one step further a journey goes nowhere back
+up_small : (n pos : ℕ) → target_of (phase_up n pos) ≤ 25
+up_small n pos = go (pos == n)
+  where
+    go : (b : Bool) → target_of (if b then Ended else Run) ≤ 25
+    go true = omega arith
+    go false = omega arith
+
+-- a way back leads to its target
+down_small : (p pos : ℕ) → p ≤ 25 → target_of (phase_down p pos) ≤ 25
+down_small p pos low = go (nat_lt p pos) (p == 0)
+  where
+    go : (a b : Bool) → target_of (if a then Back p else if b then Undone else Run) ≤ 25
+    go true b = low
+    go false true = omega arith
+    go false false = omega arith
+
+-- a journey goes back to below where it is
+phase_small : (c : Cursor) (p : Phase) → c.phase ≡ p → ((q : ℕ) → c.phase ≡ Back q → q < c.pos) → c.pos ≤ most_steps
+    → target_of p ≤ 25
+phase_small c Run e above low = omega arith
+phase_small c (Back q) e above low = let below = above q e in omega arith
+phase_small c Ended e above low = omega arith
+phase_small c Undone e above low = omega arith
+
+-- and a step below it still does
+back_small : (c : Cursor) (p : Phase) (pos : ℕ) → c.phase ≡ p → ((q : ℕ) → c.phase ≡ Back q → q < c.pos) → c.pos ≤ most_steps
+    → target_of (phase_back p pos) ≤ 25
+back_small c Run pos e above low = omega arith
+back_small c (Back q) pos e above low = let below = above q e in down_small q pos (omega arith)
+back_small c Ended pos e above low = omega arith
+back_small c Undone pos e above low = omega arith
+
+-- where a journey is after an item
+cursor_small : (plan : Planned) (at : Cursor) (x : Item) → IsTrue (is_plan plan) → IsPlaced plan at → MayBeMade plan at x
+    → IsSmallCursor (cursor_written (cursor_after plan at x))
+cursor_small plan at (item.Transaction i c) good placed may =
+    let few = few_steps plan good in
+    let within = placed.within in
+    let counted = placed.counted in
+    numbers_small (at.pos + 1) at.used (phase_up (step_count plan) (at.pos + 1)) (omega arith)
+    (up_small (step_count plan) (at.pos + 1)) (omega arith)
+cursor_small plan at (item.Compensation i c) good placed may =
+    let few = few_steps plan good in
+    let within = placed.within in
+    let counted = placed.counted in
+    numbers_small (at.pos - 1) at.used (phase_back at.phase (at.pos - 1)) (omega arith)
+    (back_small at at.phase (at.pos - 1) refl placed.above (omega arith)) (omega arith)
+cursor_small plan at (item.Turn p Stop) good placed may =
+    let few = few_steps plan good in
+    let within = placed.within in
+    let counted = placed.counted in
+    numbers_small at.pos at.used (phase_down p at.pos) (omega arith) (down_small p at.pos (omega arith)) (omega arith)
+cursor_small plan at (item.Turn p Asked) good placed may =
+    let few = few_steps plan good in
+    let within = placed.within in
+    let counted = placed.counted in
+    numbers_small at.pos at.used (phase_down p at.pos) (omega arith) (down_small p at.pos (omega arith)) (omega arith)
+cursor_small plan at (item.Turn p Refused) good placed may =
+    let few = few_steps plan good in
+    let within = placed.within in
+    let counted = placed.counted in
+    numbers_small at.pos (at.used + 1) (phase_down p at.pos) (omega arith) (down_small p at.pos (omega arith)) (omega arith)
+cursor_small plan at (item.Save p) good placed may =
+    let few = few_steps plan good in
+    let within = placed.within in
+    let counted = placed.counted in
+    numbers_small at.pos at.used at.phase (omega arith) (phase_small at at.phase refl placed.above (omega arith)) (omega arith)
+
+-- all numbers of an event
+pub event_small : (id : ℕ) (plan : Planned) (at : Cursor) (x : Item) (e : Event) → id < 2 ^ 63 → IsTrue (is_plan plan)
+    → IsPlaced plan at → MayBeMade plan at x → IsEventOf id plan at x e → IsSmall e
+event_small id plan at (item.Transaction i c) e low good placed may says =
+    let few = few_steps plan good in
+    let options = few_options plan i good in
+    let has = may.1 in
+    let step = has.in_plan in
+    let last = has.last in
+    subst IsSmall (sym says.2) (record {
+      journey = low;
+      step = omega arith;
+      option = omega arith;
+      cursor = cursor_small plan at (item.Transaction i c) good placed may;
+    })
+event_small id plan at (item.Compensation i c) e low good placed may says =
+    let few = few_steps plan good in
+    let options = few_options plan i good in
+    let has = may.1 in
+    let step = has.in_plan in
+    let last = has.last in
+    subst IsSmall (sym says.2) (record {
+      journey = low;
+      step = omega arith;
+      option = omega arith;
+      cursor = cursor_small plan at (item.Compensation i c) good placed may;
+    })
+event_small id plan at (item.Turn p cause) e low good placed may says =
+    let few = few_steps plan good in
+    subst IsSmall (sym says) (record {
+      journey = low;
+      target = omega arith;
+      cursor = cursor_small plan at (item.Turn p cause) good placed may;
+    })
+event_small id plan at (item.Save p) e low good placed may says =
+    let few = few_steps plan good in
+    let within = placed.within in
+    subst IsSmall (sym says) (record { journey = low; position = omega arith })
+
+-- where a journey is one step further, and one step back
+pub stepped_up_small : (steps : ℕ) (c : Cursor) → steps ≤ most_steps → IsPlacedIn steps c → c.pos < steps
+    → IsSmallCursor (cursor_written (stepped_up steps c))
+stepped_up_small steps c few placed below =
+    let counted = placed.counted in
+    numbers_small (c.pos + 1) c.used (phase_up steps (c.pos + 1)) (omega arith) (up_small steps (c.pos + 1)) (omega arith)
+
+pub stepped_down_small : (steps : ℕ) (c : Cursor) → steps ≤ most_steps → IsPlacedIn steps c
+    → IsSmallCursor (cursor_written (stepped_down c))
+stepped_down_small steps c few placed =
+    let within = placed.within in
+    let counted = placed.counted in
+    numbers_small (c.pos - 1) c.used (phase_back c.phase (c.pos - 1)) (omega arith)
+    (back_small c c.phase (c.pos - 1) refl placed.above (omega arith)) (omega arith)

@@ -1,0 +1,11 @@
+-- So far the cells of the first rows have their places, and nothing changed.
+use Rattle.std.proofs.Common.{◌≡◌, false, take}
+use Rattle.sql_commands.specs.Loading.{HasLooked}
+use Rattle.sql_commands.proofs.loading.cells_of.Given as goal
+
+abbrev pub invariant-loop-place : goal.invariant-loop-place
+invariant-loop-place g l =
+    record {
+      outside : l.conn.in_transaction ≡ false;
+      looked : HasLooked g.S.Store l.fn.conn l.conn (take l.place l.rows) l.cells.items;
+    }

@@ -1,0 +1,70 @@
+-- Where no row is below what is held the cells are loaded, and where one is the batch is refused.
+use Rattle.std.proofs.Common.{◌≡◌, inl, sym, subst, rules}
+use Rattle.std.specs.Option.{option_copied}
+use Rattle.sqlite.specs.Held.{state}
+use Rattle.sqlite.specs.State.{HasCleanDisk}
+use Rattle.commands.specs.Request.{Load}
+use Rattle.ledger.specs.Answer.{outcome}
+use Rattle.sql_model.specs.Keeping.{IsKept}
+use Rattle.sql_commands.specs.Loading.{IsLoadDue, HavePlaces, TellsBelow}
+use Rattle.sql_commands.proofs.LoadComes.{below_comes, where_clean}
+use Rattle.desk_sql.specs.declared.versions.Version.TheVariants.{Two}
+use Rattle.sql_commands.proofs.loading.load_new.Goals as goal
+
+-- a row is below what is held
+pub returns-in-Ok-Err-clause-reply : goal.returns-in-Ok-Err-clause-reply
+returns-in-Ok-Err-clause-reply g c clean s keeps is =
+    let b = c.args.batch.now in
+    let told = (rw c.in-Ok-Err.field-0-is at c.in-Ok-Err.ensures.cells) clean s is.desk keeps in
+    (below_comes s (option_copied c.args.ask) b.name b.rows c.args.counts c.in-Ok-Err.refusal is
+    (subst (λ rows. TellsBelow rows s c.in-Ok-Err.refusal) c.rows.ensures.rows told)).replied
+
+pub returns-in-Ok-Err-clause-after : goal.returns-in-Ok-Err-clause-after
+returns-in-Ok-Err-clause-after g c s keeps is clean =
+    let b = c.args.batch.now in
+    let told = (rw c.in-Ok-Err.field-0-is at c.in-Ok-Err.ensures.cells) clean s is.desk keeps in
+    subst (IsKept (state g.S.Store c.cells_of.new.conn))
+    (sym (below_comes s (option_copied c.args.ask) b.name b.rows c.args.counts c.in-Ok-Err.refusal is
+    (subst (λ rows. TellsBelow rows s c.in-Ok-Err.refusal) c.rows.ensures.rows told)).same)
+    (c.cells_of.ensures.same Two s keeps clean)
+
+pub returns-in-Ok-Err-clause-left : goal.returns-in-Ok-Err-clause-left
+returns-in-Ok-Err-clause-left g c s keeps is clean db may = inl ((c.cells_of.ensures.same Two s keeps clean).leaves db may)
+
+-- none is
+pub returns-in-Ok-Ok-clause-reply : goal.returns-in-Ok-Ok-clause-reply
+returns-in-Ok-Ok-clause-reply g c clean s keeps is =
+    let b = c.args.batch.now in
+    let cells = c.deref.result.now in
+    let same : cells ≡ c.in-Ok-Ok.cells.items = search rules in
+    let have = (rw c.in-Ok-Ok.field-0-is at c.in-Ok-Ok.ensures.cells) (c.load_cells.ensures.sound clean) s is.desk keeps in
+    let due : IsLoadDue (option_copied c.args.ask) c.args.counts b.name b.rows cells s = record {
+      new_name = is;
+      places = subst (λ rows. HavePlaces rows s cells) c.rows.ensures.rows (subst (HavePlaces c.rows.result.now s) (sym same) have);
+    } in
+    c.load_cells.ensures.reply clean s (c.cells_of.ensures.same Two s keeps) due
+
+pub returns-in-Ok-Ok-clause-after : goal.returns-in-Ok-Ok-clause-after
+returns-in-Ok-Ok-clause-after g c s keeps is =
+    let b = c.args.batch.now in
+    let cells = c.deref.result.now in
+    let same : cells ≡ c.in-Ok-Ok.cells.items = search rules in
+    where_clean (HasCleanDisk (state g.S.Store c.load_cells.new.conn)) (IsKept (state g.S.Store c.load_cells.new.conn) (outcome s (option_copied c.args.ask) (Load b.name b.rows)).state) c.load_cells.result
+    (λ clean. (let have = (rw c.in-Ok-Ok.field-0-is at c.in-Ok-Ok.ensures.cells) (c.load_cells.ensures.sound clean) s is.desk keeps in
+    let due : IsLoadDue (option_copied c.args.ask) c.args.counts b.name b.rows cells s = record {
+      new_name = is;
+      places = subst (λ rows. HavePlaces rows s cells) c.rows.ensures.rows (subst (HavePlaces c.rows.result.now s) (sym same) have);
+    } in
+    c.load_cells.ensures.after s (c.cells_of.ensures.same Two s keeps) due))
+
+pub returns-in-Ok-Ok-clause-left : goal.returns-in-Ok-Ok-clause-left
+returns-in-Ok-Ok-clause-left g c s keeps is clean =
+    let b = c.args.batch.now in
+    let cells = c.deref.result.now in
+    let same : cells ≡ c.in-Ok-Ok.cells.items = search rules in
+    let have = (rw c.in-Ok-Ok.field-0-is at c.in-Ok-Ok.ensures.cells) (c.load_cells.ensures.sound clean) s is.desk keeps in
+    let due : IsLoadDue (option_copied c.args.ask) c.args.counts b.name b.rows cells s = record {
+      new_name = is;
+      places = subst (λ rows. HavePlaces rows s cells) c.rows.ensures.rows (subst (HavePlaces c.rows.result.now s) (sym same) have);
+    } in
+    c.load_cells.ensures.left s (c.cells_of.ensures.same Two s keeps) due clean

@@ -1,0 +1,25 @@
+-- Whoever sees journeys of its agent sees where a journey is.
+use Rattle.std.proofs.Common.{◌≡◌, ◌∙◌, true, false, sym, rules}
+use Rattle.std.specs.Option.{option_copied}
+use Rattle.ledger.specs.Answer.{asker}
+use Rattle.sql_commands.proofs.ComingLemmas.{stand_none, stand_seen, stand_unseen}
+use Rattle.sql_commands.proofs.step_outcome.find_stand.Goals as goal
+
+pub returns-in-Ok-None-clause-seen : goal.returns-in-Ok-None-clause-seen
+returns-in-Ok-None-clause-seen g c clean s desk keeps =
+    stand_none s (asker (option_copied c.args.ask)) c.args.id
+    ((rw c.in-Ok-None.field-0-is at c.in-Ok-None.ensures.stand) clean s desk keeps)
+
+pub returns-then-not-is_seen_by-clause-seen : goal.returns-then-not-is_seen_by-clause-seen
+returns-then-not-is_seen_by-clause-seen g c clean s desk keeps =
+    let off : c.is_seen_by.result ≡ false = search rules in
+    stand_unseen s (asker (option_copied c.args.ask)) c.args.id c.in-Ok-Some.stand
+    ((rw c.in-Ok-Some.field-0-is at c.in-Ok-Some.ensures.stand) clean s desk keeps)
+    (λ plan. sym off ∙ c.is_seen_by.ensures.seen plan)
+
+pub returns-then-is_placed-clause-seen : goal.returns-then-is_placed-clause-seen
+returns-then-is_placed-clause-seen g c clean s desk keeps =
+    let on : c.is_seen_by.result ≡ true = search rules in
+    stand_seen s (asker (option_copied c.args.ask)) c.args.id c.in-Ok-Some.stand
+    ((rw c.in-Ok-Some.field-0-is at c.in-Ok-Some.ensures.stand) clean s desk keeps)
+    (λ plan. sym on ∙ c.is_seen_by.ensures.seen plan)

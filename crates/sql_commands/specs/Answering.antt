@@ -1,0 +1,82 @@
+-- What a call over a connection keeps, reads and leaves.
+use Rattle.std.specs.Prelude.{◌≡◌, ◌≤◌, length, Option, Some, None, Result, Err, OnOk, IfOk, IsTrue, string_bytes}
+use Rattle.sqlite.specs.Store.{Ghosts}
+use Rattle.sqlite.specs.Held.{Held, state}
+use Rattle.sqlite.specs.State.{HasCleanDisk}
+use Rattle.commands.specs.Asks.{Asked}
+use Rattle.commands.specs.Request.{Request}
+use Rattle.commands.specs.declared.faults.Fault.{Fault}
+use Rattle.commands.specs.declared.faults.Fault.TheVariants.{Memory}
+use Rattle.commands.specs.declared.replies.Reply.{Reply}
+use Rattle.commands.specs.Texts.{reply_line, is_accepted}
+use Rattle.desk_sql.specs.declared.meta.Meta.{Meta}
+use Rattle.desk_sql.specs.declared.answers.KeptAnswer.{KeptAnswer}
+use Rattle.ledger.specs.Ledger.{journeys}
+use Rattle.ledger.specs.Answer.{State, KeptReply, most_events, kept_for, answered_again, outcome}
+use Rattle.sql_model.specs.Standing.{IsDesk}
+use Rattle.sql_model.specs.Keeping.{Keeps, MayLeave}
+use Rattle.sql_reads.specs.Reading.{ShowsKept}
+
+-- the row of meta counts the events and the journeys
+pub record Counts (s : State) (m : Meta) : Type 0 where
+  pub events : m.events ≡ length s.ledger
+  pub journeys_are : m.journeys ≡ length (journeys s.ledger)
+
+-- so many events and journeys are not too many
+pub record IsCounted (m : Meta) : Type 0 where
+  pub events : m.events ≤ most_events
+  pub journeys_are : m.journeys ≤ most_events
+
+-- what is found for an ask: nothing where its key is new, else the reply that any request gets, which
+-- changes nothing
+abbrev pub Finds : State → Asked → Option Reply → Type 0
+Finds s ask None = kept_for s (Some ask) ≡ None
+Finds s ask (Some r) =
+    (asked : Request)
+    → (r ≡ (outcome s (Some ask) asked).reply) × ((outcome s (Some ask) asked).state ≡ s)
+
+-- the reply to an ask whose key is known: the kept one, or that the key has another text
+abbrev pub AnswersAgain : KeptAnswer → Asked → Reply → Type 0
+AnswersAgain found ask r =
+    (s : State) (k : KeptReply) → found.ask.items ≡ k.text
+    → string_bytes found.reply ≡ reply_line k.reply → IsTrue (is_accepted k.reply) → r ≡ (answered_again s ask.text k).reply
+
+module _ {S : Type 0} (g : Ghosts S) (old new : Held S) where
+  -- after a success the connection keeps what it kept
+  abbrev pub KeepsOn : {V : Type 0} → Result V Fault → Type 0
+  KeepsOn result = (s : State) → Keeps (state g old) s → OnOk result (Keeps (state g new) s)
+
+  -- and after want of memory
+  abbrev pub KeepsAtMemory : {V : Type 0} → Result V Fault → Type 0
+  KeepsAtMemory result =
+      (s : State) → Keeps (state g old) s → result ≡ Err Memory → Keeps (state g new) s
+
+  -- the reply is the one that the request comes to
+  abbrev pub Answers : Option Asked → Request → Result Reply Fault → Type 0
+  Answers ask asked result = ShowsKept g old new result (λ s r. r ≡ (outcome s ask asked).reply)
+
+  -- after a success the connection keeps what the request comes to
+  abbrev pub KeepsNext : Option Asked → Request → Result Reply Fault → Type 0
+  KeepsNext ask asked result =
+      (s : State) → IsDesk s → Keeps (state g old) s
+      → OnOk result (Keeps (state g new) (outcome s ask asked).state)
+
+  -- whatever came of it, a stop leaves the old state, or the one that the request comes to
+  abbrev pub LeavesOld : Option Asked → Request → Type 0
+  LeavesOld ask asked =
+      (s : State) → IsDesk s → Keeps (state g old) s
+      → MayLeave (state g new) s (outcome s ask asked).state
+
+  -- the same three, where nothing is kept for who asks
+  abbrev pub AnswersNew : Option Asked → Request → Result Reply Fault → Type 0
+  AnswersNew ask asked result =
+      HasCleanDisk (state g new) → (s : State) → IsDesk s → Keeps (state g old) s
+      → kept_for s ask ≡ None → IfOk result (λ r. r ≡ (outcome s ask asked).reply)
+
+  abbrev pub KeepsNew : Option Asked → Request → Result Reply Fault → Type 0
+  KeepsNew ask asked result = (s : State) → IsDesk s → Keeps (state g old) s
+      → kept_for s ask ≡ None → OnOk result (Keeps (state g new) (outcome s ask asked).state)
+
+  abbrev pub LeavesNew : Option Asked → Request → Type 0
+  LeavesNew ask asked = (s : State) → IsDesk s → Keeps (state g old) s
+      → kept_for s ask ≡ None → MayLeave (state g new) s (outcome s ask asked).state

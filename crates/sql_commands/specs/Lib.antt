@@ -1,0 +1,5 @@
+pub mod Answering
+pub mod Loading
+pub mod Moving
+pub mod OptionChoice
+pub mod Placing

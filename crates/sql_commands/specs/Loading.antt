@@ -1,0 +1,123 @@
+-- What a load of a batch finds, comes to and leaves.
+use Rattle.std.specs.Prelude.{◌≡◌, ℕ, ◌+◌, ◌-◌, not, true, false, List, [], ◌∷◌, map, position, nat_le, Option, Some, None, Result, IfOk, OnOk, IsTrue}
+use Rattle.std.specs.List.{list_all}
+use Rattle.sqlite.specs.Store.{Ghosts}
+use Rattle.sqlite.specs.Held.{Held, state}
+use Rattle.sqlite.specs.State.{HasCleanDisk}
+use Rattle.allotment.specs.declared.cells.Cell.{Cell}
+use Rattle.allotment.specs.declared.cells.Row.{Row}
+use Rattle.allotment.specs.declared.places.Held.{Held as HeldPlaces}
+use Rattle.commands.specs.Asks.{Asked}
+use Rattle.commands.specs.BatchData.{Batched}
+use Rattle.commands.specs.Batches.{is_good_row}
+use Rattle.commands.specs.Request.{Request}
+use Rattle.commands.specs.declared.faults.Fault.{Fault}
+use Rattle.commands.specs.declared.refusals.Refusal.{Refusal}
+use Rattle.commands.specs.declared.refusals.Refusal.TheVariants.{BelowHeld}
+use Rattle.commands.specs.declared.replies.Reply.{Reply}
+use Rattle.ledger.specs.Answer.{State, kept_for, outcome}
+use Rattle.ledger.specs.Ledger.{batches_named, held, is_not_below_held}
+use Rattle.ledger.specs.Replies as rules
+use Rattle.desk_sql.specs.Rows.{StockRow}
+use Rattle.desk_sql.specs.declared.batches.BatchFound.{BatchFound}
+use Rattle.desk_sql.specs.declared.meta.Meta.{Meta}
+use Rattle.sql_model.specs.ExpectedRows.{batch_text}
+use Rattle.sql_model.specs.Reading.{stock_row_of}
+use Rattle.sql_model.specs.Standing.{IsDesk}
+use Rattle.sql_transitions.specs.Loading.{loaded_row}
+use Rattle.sql_commands.specs.Answering.{Counts}
+use Rattle.sql_model.specs.Keeping.{Keeps, MayLeave}
+use Rattle.sql_reads.specs.Reading.{OnlyReads}
+
+-- Known batches.
+
+-- the batch with this name was loaded with these rows, and this is their text
+pub record IsTextOf (s : State) (name content : List ℕ) (known : List Row) : Type 0 where
+  pub named : batches_named s.ledger name ≡ known ∷ []
+  pub good : IsTrue (list_all is_good_row known)
+  pub text : content ≡ batch_text known
+
+-- what is found of a name: the text of the batch that has it, or that none has
+abbrev pub TellsName : List ℕ → State → Option BatchFound → Type 0
+TellsName name s None = batches_named s.ledger name ≡ []
+TellsName name s (Some b) = (known : List Row) × IsTextOf s name b.content.items known
+
+-- the reply to a batch whose name is known with the rows of this text
+abbrev pub AnswersKnown : Batched → List ℕ → Reply → Type 0
+AnswersKnown b content r =
+    (known : List Row) → IsTrue (list_all is_good_row known) → content ≡ batch_text known
+    → r ≡ (rules.answer_known b.name b.rows known).reply
+
+-- New batches.
+
+-- how many places of a cell journeys hold
+abbrev pub IsHeldOf : Cell → State → ℕ → Type 0
+IsHeldOf x s n = n ≡ held s.ledger x
+
+-- the places of a row's cell, where so many are held: what is not held is free; none where the row has
+-- fewer
+abbrev pub LeavesPlaces : Row → ℕ → Option HeldPlaces → Type 0
+LeavesPlaces r n None = nat_le n r.places ≡ false
+LeavesPlaces r n (Some p) =
+    (nat_le n r.places ≡ true) × (p.allot ≡ r.places) × (p.free ≡ r.places - n)
+
+-- the places that a row's cell gets, or none where the row is below what is held
+abbrev pub GetsPlaces : Row → State → Option HeldPlaces → Type 0
+GetsPlaces r s places = LeavesPlaces r (held s.ledger r.cell) places
+
+-- the row of a cell that is loaded
+abbrev pub row_loaded : State → Row → StockRow
+row_loaded s r = loaded_row (held s.ledger r.cell) r
+
+-- no row is below what is held, and these are the cells with the places that they get
+pub record HavePlaces (rows : List Row) (s : State) (cells : List (Cell × HeldPlaces)) : Type 0 where
+  pub above : list_all (is_not_below_held s.ledger) rows ≡ true
+  pub told : map stock_row_of cells ≡ map (row_loaded s) rows
+
+-- the refusal tells the first row that is below what is held
+abbrev pub TellsBelow : List Row → State → Refusal → Type 0
+TellsBelow rows s why =
+    (i : ℕ) × (why ≡ BelowHeld (i + 1))
+    × (position (λ (r : Row). not (is_not_below_held s.ledger r)) rows ≡ Some i)
+
+module _ {S : Type 0} (g : Ghosts S) (old now : Held S) where
+  -- so far these rows were looked at, and nothing changed
+  pub record HasLooked (rows : List Row) (cells : List (Cell × HeldPlaces)) : Type 0 where
+    pub reads : OnlyReads g old now
+    pub shown : HasCleanDisk (state g now) → (s : State) → IsDesk s → Keeps (state g old) s
+        → HavePlaces rows s cells
+
+-- A load for which nothing is kept, of a name that no batch has. The numbers of `meta` are those of the
+-- ledger.
+pub record IsNewName (ask : Option Asked) (counts : Meta) (name : List ℕ) (s : State) : Type 0 where
+  pub desk : IsDesk s
+  pub new : kept_for s ask ≡ None
+  pub counted : Counts s counts
+  pub unknown : batches_named s.ledger name ≡ []
+
+-- the same, where no row is below what is held
+pub record IsLoadDue (ask : Option Asked) (counts : Meta) (name : List ℕ) (rows : List Row)
+    (cells : List (Cell × HeldPlaces)) (s : State) : Type 0 where
+  pub new_name : IsNewName ask counts name s
+  pub places : HavePlaces rows s cells
+
+-- What a request comes to, of each state in which it is due.
+module _ {S : Type 0} (g : Ghosts S) (old new : Held S) (ask : Option Asked) (asked : Request)
+    (IsDueIn : State → Type 0) where
+  -- what is due is answered
+  abbrev pub AnswersWhere : Result Reply Fault → Type 0
+  AnswersWhere result =
+      HasCleanDisk (state g new) → (s : State) → Keeps (state g old) s → IsDueIn s
+      → IfOk result (λ reply. reply ≡ (outcome s ask asked).reply)
+
+  -- after a success the connection keeps what it comes to
+  abbrev pub KeepsWhere : Result Reply Fault → Type 0
+  KeepsWhere result =
+      (s : State) → Keeps (state g old) s → IsDueIn s
+      → OnOk result (Keeps (state g new) (outcome s ask asked).state)
+
+  -- whatever came of it, a stop leaves the old state, or the one that it comes to
+  abbrev pub LeavesWhere : Type 0
+  LeavesWhere =
+      (s : State) → Keeps (state g old) s → IsDueIn s
+      → MayLeave (state g new) s (outcome s ask asked).state

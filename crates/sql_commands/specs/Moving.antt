@@ -1,0 +1,242 @@
+-- What a move of a journey asks, comes to and leaves.
+use Rattle.std.specs.Prelude.{◌≡◌, ℕ, ◌+◌, ◌<◌, ◌≤◌, Bool, false, List, ⊤, Option, Some, None, Result, Ok, Err, IfOk, OnOk}
+use Rattle.sqlite.specs.Store.{Ghosts}
+use Rattle.sqlite.specs.Held.{Held, state}
+use Rattle.sqlite.specs.State.{HasCleanDisk}
+use Rattle.allotment.specs.Want.{Wanted}
+use Rattle.plan.specs.Limits.{most_options}
+use Rattle.plan.specs.PlanModel.{Planned, want_at}
+use Rattle.commands.specs.Asks.{Asked}
+use Rattle.commands.specs.Request as request
+use Rattle.commands.specs.Request.{Request}
+use Rattle.commands.specs.declared.faults.Fault.{Fault}
+use Rattle.commands.specs.declared.items.Cursor.{Cursor}
+use Rattle.commands.specs.declared.items.Item.{Item}
+use Rattle.commands.specs.declared.items.Item.TheVariants as item
+use Rattle.commands.specs.declared.items.Phase.TheVariants.{Run}
+use Rattle.commands.specs.declared.refusals.Refusal.{Refusal}
+use Rattle.commands.specs.declared.refusals.Refusal.TheVariants.{Finished}
+use Rattle.commands.specs.declared.replies.Reply.{Reply}
+use Rattle.ledger.specs.Answer.{State, asker, answer_within, kept_for, outcome}
+use Rattle.ledger.specs.History.{net, last_of}
+use Rattle.ledger.specs.Ledger.{Journey, journey_at, history, fits}
+use Rattle.ledger.specs.Replies.{Answer}
+use Rattle.savepoints.specs.Rules as rules
+use Rattle.ledger_transitions.specs.JourneyChanges.{cursor_after}
+use Rattle.saga_core.specs.declared.records.Record.{Record}
+use Rattle.desk_sql.specs.Rows.{Tables}
+use Rattle.desk_sql.specs.declared.meta.Meta.{Meta}
+use Rattle.sql_model.specs.Beginning.{with_answer}
+use Rattle.sql_model.specs.Standing.{StandsFor, IsDesk}
+use Rattle.sql_writes.specs.Kinds as kinds
+use Rattle.sql_writes.specs.Kinds.{rows_after}
+use Rattle.sql_writes.specs.declared.events.Numbers.{Numbers}
+use Rattle.sql_writes.specs.declared.events.Event.{Event}
+use Rattle.sql_writes.specs.declared.events.Event.TheVariants.{Transaction, Compensation, Turn, Save}
+use Rattle.sql_commands.specs.Answering.{Counts}
+use Rattle.sql_model.specs.Keeping.{Keeps, MayLeave}
+use Rattle.sql_commands.specs.Placing.{IsSeen, Fits, stepped_up, stepped_down}
+use Rattle.sql_reads.specs.Reading.{stand_of}
+use Rattle.sql_reads.specs.declared.reads.Stand.{Stand}
+use Rattle.sql_commands.specs.declared.options.Choice.{Choice}
+use Rattle.sql_commands.specs.declared.step_outcome.Coming.{Coming}
+use Rattle.sql_commands.specs.declared.step_outcome.Coming.TheVariants as coming
+use Rattle.sql_commands.specs.declared.moves.Made.{Made}
+use Rattle.sql_commands.specs.declared.moves.Motion.{Motion}
+use Rattle.sql_commands.specs.declared.moves.Motion.TheVariants as motion
+
+-- the request for a move of the journey with this number
+abbrev pub asked_for : ℕ → Motion → Request
+asked_for id motion.Refused = request.Step id
+asked_for id (motion.Abort p) = request.Abort id p
+asked_for id motion.Stop = request.Stop id
+asked_for id motion.Save = request.Save id
+
+-- where the journey runs, this says whether its next want fits
+abbrev pub FitsNext : Record → State → Bool → Type 0
+FitsNext r s fitting =
+    r.cursor.phase ≡ Run → fitting ≡ fits s.ledger (rules.next_want r.plan r.cursor.pos r.cursor.used)
+
+-- where this is the last step of the journey that stands, it took this option
+abbrev pub IsLastOption : ℕ → ℕ → State → ℕ → Type 0
+IsLastOption id step s option =
+    (a : Journey) (c : ℕ) → journey_at s.ledger id ≡ Some a
+    → last_of (net (history s.ledger id)) ≡ Some (step, c) → option ≡ c
+
+-- where it is a step that is asked for, the journey's next want does not fit
+abbrev pub IsUnfit : ℕ → Motion → State → Type 0
+IsUnfit id motion.Refused s =
+    (who : Option (List ℕ)) (r : Record) → IsSeen s who id r → FitsNext r s false
+IsUnfit id (motion.Abort p) s = ⊤
+IsUnfit id motion.Stop s = ⊤
+IsUnfit id motion.Save s = ⊤
+
+-- for whoever sees the journey, the rules answer a move of it by this item, or by this refusal
+abbrev pub IsNext : ℕ → Record → Motion → State → Result Item Refusal → Type 0
+IsNext id r why s next =
+    (who : Option (List ℕ)) → IsSeen s who id r → IsUnfit id why s
+    → Fits id r.plan r.cursor (answer_within s.ledger who (asked_for id why)) next
+
+-- The event says this item of a journey, which is here then; where the item has a want, with that of its plan.
+abbrev pub Says : ℕ → Planned → Cursor → Item → Event → Type 0
+Says id plan then (item.Transaction i c) e =
+    (w : Wanted) × (want_at plan i c ≡ Some w)
+    × (e ≡ Transaction (record { journey = id; step = i; option = c; want = w; cursor = then }))
+Says id plan then (item.Compensation i c) e =
+    (w : Wanted) × (want_at plan i c ≡ Some w)
+    × (e ≡ Compensation (record { journey = id; step = i; option = c; want = w; cursor = then }))
+Says id plan then (item.Turn p cause) e =
+    e ≡ Turn (record { journey = id; target = p; cause = cause; cursor = then })
+Says id plan then (item.Save p) e = e ≡ Save (record { journey = id; position = p })
+
+-- the event is that of an item of a journey that was here
+abbrev pub IsEventOf : ℕ → Planned → Cursor → Item → Event → Type 0
+IsEventOf id plan at x e = Says id plan (cursor_after plan at x) x e
+
+-- for whoever sees the journey the rules answer this item, of which these are the event and where the journey is then
+pub record IsNextMade (id : ℕ) (r : Record) (answered : Answer) (m : Made) : Type 0 where
+  pub same : m.id ≡ id
+  pub next : Fits id r.plan r.cursor answered (Ok m.item)
+  pub says : IsEventOf id r.plan r.cursor m.item m.event
+  pub cursor : m.cursor ≡ cursor_after r.plan r.cursor m.item
+
+-- the next step of a journey that is here, with this option
+pub record IsStepUp (id : ℕ) (stand : Stand) (choice : Choice) (m : Made) : Type 0 where
+  pub same : m.id ≡ id
+  pub item_is : m.item ≡ item.Transaction (stand.cursor.pos + 1) choice.option
+  pub event : m.event ≡ Transaction (record {
+    journey = id;
+    step = stand.cursor.pos + 1;
+    option = choice.option;
+    want = choice.want;
+    cursor = m.cursor;
+  })
+  pub cursor : m.cursor ≡ stepped_up stand.steps stand.cursor
+
+-- the compensation of its last standing step, with this option
+pub record IsStepDown (id : ℕ) (stand : Stand) (choice : Choice) (m : Made) : Type 0 where
+  pub same : m.id ≡ id
+  pub item_is : m.item ≡ item.Compensation stand.cursor.pos choice.option
+  pub event : m.event ≡ Compensation (record {
+    journey = id;
+    step = stand.cursor.pos;
+    option = choice.option;
+    want = choice.want;
+    cursor = m.cursor;
+  })
+  pub cursor : m.cursor ≡ stepped_down stand.cursor
+
+-- this says whether a want fits
+abbrev pub FitsIn : Wanted → State → Bool → Type 0
+FitsIn want s fitting = fitting ≡ fits s.ledger (Some want)
+
+-- what the rows of a step tell of it: that it is done, or compensated, with this option, that its want does not fit,
+-- or that there is none
+abbrev pub ComesFor : ℕ → Stand → State → Record → Answer → Coming → Type 0
+ComesFor id stand s r answered (coming.Up choice) =
+    (m : Made) → IsStepUp id stand choice m → IsNextMade id r answered m
+ComesFor id stand s r answered (coming.Down choice) =
+    (m : Made) → IsStepDown id stand choice m → IsNextMade id r answered m
+ComesFor id stand s r answered coming.Refused = FitsNext r s false
+ComesFor id stand s r answered coming.Nothing = Fits id r.plan r.cursor answered (Err Finished)
+
+-- this is what a step of the journey comes to that is here
+abbrev pub Comes : ℕ → Stand → State → Coming → Type 0
+Comes id stand s c =
+    (who : Option (List ℕ)) (r : Record) → IsSeen s who id r → stand_of r ≡ stand
+    → ComesFor id stand s r (answer_within s.ledger who (request.Step id)) c
+
+-- the step or the compensation is there, and its option has a small number
+abbrev pub MayCome : Stand → Coming → Type 0
+MayCome stand (coming.Up choice) = (stand.cursor.pos < stand.steps) × (choice.option ≤ most_options)
+MayCome stand (coming.Down choice) = (1 ≤ stand.cursor.pos) × (choice.option ≤ most_options)
+MayCome stand coming.Refused = ⊤
+MayCome stand coming.Nothing = ⊤
+
+-- with the rows of an event, and of its reply where there is an ask, tables that stood for the one state
+-- stand for the other
+pub record LeadsTo (n : Numbers) (e : Event) (ask : Option Asked) (reply : Reply) (old new : State)
+    : Type 0 where
+  pub fits : (t : Tables) → StandsFor t old → kinds.Fits n e t
+  pub stands : (t : Tables) → StandsFor t old
+      → StandsFor (with_answer ask reply (rows_after n e t)) new
+
+-- A request for which nothing is kept comes, by the rules, to this item of a journey, or to this refusal. The
+-- journey is seen by who asks, and the numbers of `meta` are those of the ledger.
+pub record IsDue (s : State) (ask : Option Asked) (asked : Request) (counts : Meta) (id : ℕ)
+    (r : Record) (next : Result Item Refusal) : Type 0 where
+  pub desk : IsDesk s
+  pub new : kept_for s ask ≡ None
+  pub counted : Counts s counts
+  pub here : IsSeen s (asker ask) id r
+  pub answered : Fits id r.plan r.cursor (answer_within s.ledger (asker ask) asked) next
+
+-- The event is that of an item which is due of a journey, and this is where the journey is then.
+pub record IsMade (s : State) (ask : Option Asked) (counts : Meta) (why : Motion) (m : Made) : Type 0 where
+  pub journey : Record
+  pub due : IsDue s ask (asked_for m.id why) counts m.id journey (Ok m.item)
+  pub says : IsEventOf m.id journey.plan journey.cursor m.item m.event
+  pub cursor : m.cursor ≡ cursor_after journey.plan journey.cursor m.item
+
+module _ {S : Type 0} (g : Ghosts S) (old new : Held S) (ask : Option Asked) (counts : Meta) (m : Made) where
+  -- what is made is answered
+  abbrev pub AnswersMade : Result Reply Fault → Type 0
+  AnswersMade result =
+      HasCleanDisk (state g new) → (s : State) (why : Motion) → Keeps (state g old) s
+      → IsMade s ask counts why m
+      → IfOk result (λ reply. reply ≡ (outcome s ask (asked_for m.id why)).reply)
+
+  -- after a success the connection keeps what it comes to
+  abbrev pub KeepsMade : Result Reply Fault → Type 0
+  KeepsMade result =
+      (s : State) (why : Motion) → Keeps (state g old) s → IsMade s ask counts why m
+      → OnOk result (Keeps (state g new) (outcome s ask (asked_for m.id why)).state)
+
+  -- whatever came of it, a stop leaves the old state, or the one that it comes to
+  abbrev pub LeavesMade : Type 0
+  LeavesMade =
+      (s : State) (why : Motion) → Keeps (state g old) s → IsMade s ask counts why m
+      → MayLeave (state g new) s (outcome s ask (asked_for m.id why)).state
+
+module _ {S : Type 0} (g : Ghosts S) (old new : Held S) (ask : Option Asked) (counts : Meta) (id : ℕ)
+    (r : Record) (next : Result Item Refusal) where
+  -- what is due is answered
+  abbrev pub AnswersDue : Result Reply Fault → Type 0
+  AnswersDue result =
+      HasCleanDisk (state g new) → (s : State) (why : Motion) → Keeps (state g old) s
+      → IsDue s ask (asked_for id why) counts id r next
+      → IfOk result (λ reply. reply ≡ (outcome s ask (asked_for id why)).reply)
+
+  -- after a success the connection keeps what it comes to
+  abbrev pub KeepsDue : Result Reply Fault → Type 0
+  KeepsDue result =
+      (s : State) (why : Motion) → Keeps (state g old) s
+      → IsDue s ask (asked_for id why) counts id r next
+      → OnOk result (Keeps (state g new) (outcome s ask (asked_for id why)).state)
+
+  -- whatever came of it, a stop leaves the old state, or the one that it comes to
+  abbrev pub LeavesDue : Type 0
+  LeavesDue =
+      (s : State) (why : Motion) → Keeps (state g old) s
+      → IsDue s ask (asked_for id why) counts id r next
+      → MayLeave (state g new) s (outcome s ask (asked_for id why)).state
+
+module _ {S : Type 0} (g : Ghosts S) (old new : Held S) (ask : Option Asked) (id : ℕ) (why : Motion) where
+  -- where nothing is kept for who asks, a move of the journey is answered
+  abbrev pub AnswersMove : Result Reply Fault → Type 0
+  AnswersMove result =
+      HasCleanDisk (state g new) → (s : State) → IsDesk s → Keeps (state g old) s
+      → kept_for s ask ≡ None → IsUnfit id why s
+      → IfOk result (λ reply. reply ≡ (outcome s ask (asked_for id why)).reply)
+
+  -- after a success the connection keeps what it comes to
+  abbrev pub KeepsMove : Result Reply Fault → Type 0
+  KeepsMove result =
+      (s : State) → IsDesk s → Keeps (state g old) s → kept_for s ask ≡ None → IsUnfit id why s
+      → OnOk result (Keeps (state g new) (outcome s ask (asked_for id why)).state)
+
+  -- whatever came of it, a stop leaves the old state, or the one that it comes to
+  abbrev pub LeavesMove : Type 0
+  LeavesMove =
+      (s : State) → IsDesk s → Keeps (state g old) s → kept_for s ask ≡ None → IsUnfit id why s
+      → MayLeave (state g new) s (outcome s ask (asked_for id why)).state

@@ -1,0 +1,45 @@
+-- The option of a step that comes next, and the one that was taken last.
+use Rattle.std.specs.Prelude.{◌≡◌, ◌≤◌, ◌+◌, ◌-◌, ◌==◌, ℕ, Bool, List, Some, find, min, slice_get}
+use Rattle.plan.specs.PlanModel.{step_count, option_count, want_at}
+use Rattle.ledger.specs.Answer.{State}
+use Rattle.ledger.specs.History.{net, last_of}
+use Rattle.ledger.specs.Ledger.{Journey, journey_at, history}
+use Rattle.desk_sql.specs.declared.steps.StepFound.{StepFound}
+use Rattle.sql_reads.specs.PlanRows.{TellsWant}
+use Rattle.sql_commands.specs.declared.options.Choice.{Choice}
+
+-- the choice is this option, and its want that of the row
+pub record IsOfRow (row : StepFound) (option : ℕ) (choice : Choice) : Type 0 where
+  pub option_is : choice.option ≡ option
+  pub want : TellsWant row choice.want
+
+-- of these rows the one with this number is chosen, counted from 1
+pub record IsRowChosen (rows : List StepFound) (option : ℕ) (choice : Choice) : Type 0 where
+  pub row : StepFound
+  pub from_one : 1 ≤ option
+  pub there : slice_get rows (option - 1) ≡ Some row
+  pub is : IsOfRow row option choice
+
+-- the row is that of an option that is taken
+abbrev pub is_taken_row : StepFound → Bool
+is_taken_row row = row.taken == 1
+
+-- of these rows the first one that is taken is chosen
+pub record IsTakenChosen (rows : List StepFound) (choice : Choice) : Type 0 where
+  pub row : StepFound
+  pub there : find is_taken_row rows ≡ Some row
+  pub is : IsOfRow row row.opt choice
+
+-- the option that the journey takes at this step once so many of its steps were refused, with its want
+abbrev pub IsNextChoice : ℕ → ℕ → ℕ → State → Choice → Type 0
+IsNextChoice id step used s choice =
+    (a : Journey) → journey_at s.ledger id ≡ Some a → 1 ≤ step → step ≤ step_count a.plan
+    → (choice.option ≡ min (used + 1) (option_count a.plan step))
+    × (want_at a.plan step choice.option ≡ Some choice.want)
+
+-- where this is the last step of the journey that stands, it took this option, with this want
+abbrev pub IsLastChoice : ℕ → ℕ → State → Choice → Type 0
+IsLastChoice id step s choice =
+    (a : Journey) (c : ℕ) → journey_at s.ledger id ≡ Some a
+    → last_of (net (history s.ledger id)) ≡ Some (step, c)
+    → (choice.option ≡ c) × (want_at a.plan step c ≡ Some choice.want)

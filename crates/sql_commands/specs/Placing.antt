@@ -1,0 +1,79 @@
+-- Where a journey stands by what a record shows of it, and what may come of it next.
+use Rattle.std.specs.Prelude.{◌≡◌, ℕ, ◌+◌, ◌-◌, ◌<◌, ◌≤◌, ◌^◌, List, IsTrue, Option, Some, None, Result, MatchResult}
+use Rattle.plan.specs.PlanModel.{Planned, step_count, option_count}
+use Rattle.commands.specs.declared.items.Cursor.{Cursor}
+use Rattle.commands.specs.declared.items.Item.{Item}
+use Rattle.commands.specs.declared.items.Item.TheVariants.{Transaction, Compensation, Turn, Save}
+use Rattle.commands.specs.declared.items.Phase.TheVariants.{Back}
+use Rattle.commands.specs.declared.refusals.Refusal.{Refusal}
+use Rattle.ledger.specs.History.{is_open}
+use Rattle.ledger.specs.Ledger as l
+use Rattle.ledger.specs.Ledger.{journey_at, history}
+use Rattle.ledger.specs.Answer.{State}
+use Rattle.ledger.specs.Replies.{Answer, refused, seen_journey}
+use Rattle.ledger_transitions.specs.Answers.{moves}
+use Rattle.ledger_transitions.specs.JourneyChanges.{phase_up, phase_back}
+use Rattle.ledger_transitions.specs.Cursors.{cursor_of, marks_of}
+use Rattle.saga_core.specs.declared.records.Record.{Record}
+use Rattle.sql_reads.specs.Reading.{stand_of}
+use Rattle.sql_reads.specs.declared.reads.Stand.{Stand}
+
+-- Of so many steps, an open journey is short of the last one, and above where it goes back to; and no journey was
+-- refused more often than a ledger may have events.
+pub record IsPlacedIn (steps : ℕ) (c : Cursor) : Type 0 where
+  pub within : c.pos ≤ steps
+  pub short : IsTrue (is_open c.phase) → c.pos < steps
+  pub above : (p : ℕ) → c.phase ≡ Back p → p < c.pos
+  pub counted : c.used < 2 ^ 62
+
+-- the same of a journey with this plan
+abbrev pub IsPlaced : Planned → Cursor → Type 0
+IsPlaced plan c = IsPlacedIn (step_count plan) c
+
+-- where a journey of so many steps is after one more of them
+abbrev pub stepped_up : ℕ → Cursor → Cursor
+stepped_up steps c = record { pos = c.pos + 1; phase = phase_up steps (c.pos + 1); used = c.used }
+
+-- where it is once its last standing step is compensated
+abbrev pub stepped_down : Cursor → Cursor
+stepped_down c = record { pos = c.pos - 1; phase = phase_back c.phase (c.pos - 1); used = c.used }
+
+-- the plan has this option of this step
+pub record HasOption (plan : Planned) (step option : ℕ) : Type 0 where
+  pub from_one : 1 ≤ step
+  pub in_plan : step ≤ step_count plan
+  pub first : 1 ≤ option
+  pub last : option ≤ option_count plan step
+
+-- the item is next where the journey is, as far as numbers tell
+abbrev pub MayBeMade : Planned → Cursor → Item → Type 0
+MayBeMade plan c (Transaction i k) = (i ≡ c.pos + 1) × HasOption plan i k
+MayBeMade plan c (Compensation i k) = (i ≡ c.pos) × HasOption plan i k
+MayBeMade plan c (Turn p cause) = p ≤ step_count plan
+MayBeMade plan c (Save p) = p ≡ c.pos
+
+-- a journey as it was begun
+abbrev pub begun_as : Record → l.Journey
+begun_as r = record { agent = r.agent; plan = r.plan }
+
+-- the record is that of the journey of this number, which is seen by who asks
+pub record IsSeen (s : State) (who : Option (List ℕ)) (id : ℕ) (r : Record) : Type 0 where
+  pub at : journey_at s.ledger id ≡ Some (begun_as r)
+  pub seen : seen_journey s.ledger who id ≡ Some (begun_as r)
+  pub cursor : r.cursor ≡ cursor_of r.plan (history s.ledger id)
+  pub marks : r.marks ≡ marks_of (history s.ledger id)
+
+-- what who asks sees of the journey of this number: its record, or that there is none for him
+abbrev pub Sees : Option (List ℕ) → ℕ → State → Option Record → Type 0
+Sees who id s None = seen_journey s.ledger who id ≡ None
+Sees who id s (Some r) = IsSeen s who id r
+
+-- what who asks sees of where the journey of this number is, or that there is none for him
+abbrev pub SeesStand : Option (List ℕ) → ℕ → State → Option Stand → Type 0
+SeesStand who id s None = seen_journey s.ledger who id ≡ None
+SeesStand who id s (Some stand) = (r : Record) × IsSeen s who id r × (stand_of r ≡ stand)
+
+-- what a move comes to is what is answered: its item, or its refusal
+abbrev pub Fits : ℕ → Planned → Cursor → Answer → Result Item Refusal → Type 0
+Fits j plan c answered next =
+    MatchResult next (λ x. answered ≡ moves j plan c x) (λ why. answered ≡ refused why)

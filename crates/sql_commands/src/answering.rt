@@ -1,0 +1,152 @@
+//! What is answered to a command.
+ghost use Rattle.std.specs.Prelude.{◌≡◌, false, IfOk, IsTrue, Some};
+ghost use Rattle.std.specs.Option.{option_copied as asker};
+ghost use Rattle.commands.specs.Orders.{request_of};
+ghost use Rattle.ledger.specs.Answer.{is_request};
+ghost use Rattle.sql_commands.specs.Answering.{AnswersAgain, Finds, KeepsOn, KeepsAtMemory};
+ghost use Rattle.sql_commands.specs.Answering.{Answers, KeepsNext, LeavesOld, AnswersNew, KeepsNew, LeavesNew};
+ghost use Rattle.sql_reads.specs.Reading.{LeavesAsBefore, ShowsKept, WasClean};
+
+use crate::begins::answer_begin;
+use crate::loading::answer_load;
+use crate::moves::{Motion, answer_move};
+use crate::step_outcome::answer_step;
+use commands::{Ask, Command, Fault, Refusal, Reply};
+use desk_sql::{KeptAnswer, find_answer};
+use sql_reads::fault_of;
+use sqlite::{Alter, Connection};
+use std::alloc::Global;
+
+/// What a known key is answered: its kept reply, where the text is the same. A line that is no reply's is a fault of the
+/// store.
+fn again(alloc: Global, kept: &KeptAnswer, ask: &Ask) -> Result<Reply, Fault>
+    ensures again { IfOk result (AnswersAgain kept.now ask.now) }
+{
+    if kept.ask.as_slice() != ask.text() {
+        return Ok(Reply::Refused(Refusal::KeyReused));
+    }
+    match Reply::from_line(alloc, kept.reply.as_str()) {
+        Ok(Some(reply)) => Ok(reply),
+        Ok(None) => Err(Fault::Store),
+        Err(_) => Err(Fault::Memory),
+    }
+}
+
+/// The reply to an ask whose key is known, if it is.
+fn find_reply<S: Alter>(
+    alloc: Global,
+    conn: &mut Connection<S>,
+    ask: &Ask,
+) -> Result<Option<Reply>, Fault>
+    requires outside { conn.old.in_transaction ≡ false }
+
+    ensures outside { conn.new.in_transaction ≡ false }
+    ensures found { ShowsKept S.Store conn.old conn.new result (λ s found. Finds s ask.now found) }
+    ensures same { KeepsOn S.Store conn.old conn.new result }
+    ensures memory { KeepsAtMemory S.Store conn.old conn.new result }
+    ensures left { LeavesAsBefore S.Store conn.old conn.new }
+    ensures sound { WasClean S.Store conn.old conn.new }
+{
+    match find_answer(conn, ask.agent().as_str(), ask.key().as_str()) {
+        Ok(None) => Ok(None),
+        Ok(Some(kept)) => match again(alloc, &kept, ask) {
+            Ok(reply) => Ok(Some(reply)),
+            Err(fault) => Err(fault),
+        },
+        Err(error) => Err(fault_of(&error)),
+    }
+}
+
+/// What is answered to a command, where nothing is kept for who asks.
+fn answer_new<S: Alter>(
+    alloc: Global,
+    conn: &mut Connection<S>,
+    command: &Command,
+    ask: Option<&Ask>,
+) -> Result<Reply, Fault>
+    requires outside { conn.old.in_transaction ≡ false }
+
+    ensures outside { conn.new.in_transaction ≡ false }
+    ensures reply { AnswersNew S.Store conn.old conn.new (asker ask.entry) (request_of command.now)
+        result }
+    ensures after { KeepsNew S.Store conn.old conn.new (asker ask.entry) (request_of command.now)
+        result }
+    ensures memory { KeepsAtMemory S.Store conn.old conn.new result }
+    ensures left { LeavesNew S.Store conn.old conn.new (asker ask.entry) (request_of command.now) }
+    ensures sound { WasClean S.Store conn.old conn.new }
+{
+    match command {
+        Command::Load(batch) => answer_load(alloc, conn, batch, ask),
+        Command::Begin(plan) => answer_begin(alloc, conn, plan, ask),
+        Command::Step(id) => answer_step(alloc, conn, *id, ask),
+        Command::Abort(id, position) => {
+            answer_move(alloc, conn, *id, Motion::Abort(*position), ask)
+        }
+        Command::Stop(id) => answer_move(alloc, conn, *id, Motion::Stop, ask),
+        Command::Save(id) => answer_move(alloc, conn, *id, Motion::Save, ask),
+    }
+}
+
+/// What is answered to a command of who asks: what is kept, where his key is known.
+fn answer_for<S: Alter>(
+    alloc: Global,
+    conn: &mut Connection<S>,
+    command: &Command,
+    ask: &Ask,
+) -> Result<Reply, Fault>
+    requires outside { conn.old.in_transaction ≡ false }
+
+    ensures outside { conn.new.in_transaction ≡ false }
+    ensures reply { Answers S.Store conn.old conn.new (Some ask.now) (request_of command.now)
+        result }
+    ensures after { KeepsNext S.Store conn.old conn.new (Some ask.now) (request_of command.now)
+        result }
+    ensures memory { KeepsAtMemory S.Store conn.old conn.new result }
+    ensures left { LeavesOld S.Store conn.old conn.new (Some ask.now) (request_of command.now) }
+    ensures sound { WasClean S.Store conn.old conn.new }
+{
+    match find_reply(alloc, conn, ask) {
+        Ok(Some(reply)) => Ok(reply),
+        Ok(None) => answer_new(alloc, conn, command, Some(ask)),
+        Err(fault) => Err(fault),
+    }
+}
+
+/// What is answered to a command, of whoever asks or of the house.
+pub fn answer<S: Alter>(
+    alloc: Global,
+    conn: &mut Connection<S>,
+    command: &Command,
+    ask: Option<&Ask>,
+) -> Result<Reply, Fault>
+    requires outside { conn.old.in_transaction ≡ false }
+
+    ensures outside { conn.new.in_transaction ≡ false }
+    ensures reply { Answers S.Store conn.old conn.new (asker ask.entry) (request_of command.now)
+        result }
+    ensures after { KeepsNext S.Store conn.old conn.new (asker ask.entry) (request_of command.now)
+        result }
+    ensures memory { KeepsAtMemory S.Store conn.old conn.new result }
+    ensures left { LeavesOld S.Store conn.old conn.new (asker ask.entry) (request_of command.now) }
+    ensures sound { WasClean S.Store conn.old conn.new }
+{
+    match ask {
+        None => answer_new(alloc, conn, command, None),
+        Some(ask) => answer_for(alloc, conn, command, ask),
+    }
+}
+
+/// A request that a command makes keeps the limits: there is no other.
+pub fn know_limits(command: &Command)
+    ensures limits { IsTrue (is_request (request_of command.now)) }
+{
+    match command {
+        Command::Begin(plan) => {
+            let _steps = plan.steps();
+        }
+        Command::Load(batch) => {
+            let _rows = batch.rows();
+        }
+        _ => {}
+    }
+}

@@ -1,0 +1,63 @@
+//! What is answered to a begin, where nothing is kept for who asks.
+ghost use Rattle.std.specs.Prelude.{◌≡◌, false, unwrap_or};
+ghost use Rattle.std.specs.Option.{option_copied as asked_by};
+ghost use Rattle.commands.specs.Names.{house};
+ghost use Rattle.commands.specs.Request.{Begin};
+ghost use Rattle.ledger.specs.Answer.{asker};
+ghost use Rattle.sql_commands.specs.Answering.{AnswersNew, KeepsNew, LeavesNew, KeepsAtMemory};
+ghost use Rattle.sql_reads.specs.Reading.{WasClean};
+
+use crate::committing::commit_answered;
+use crate::counts::read_counts;
+use commands::{Agent, Ask, Fault, MOST_EVENTS, Refusal, Reply};
+use plan::Plan;
+use sql_writes::{Event, JourneyBegun, Numbers};
+use sqlite::{Alter, Connection};
+use std::alloc::Global;
+
+/// Whose a journey is that begins: who asks, or the house.
+fn beginner(ask: Option<&Ask>) -> Agent
+    ensures agent { result ≡ unwrap_or (asker (asked_by ask.entry)) house }
+{
+    match ask {
+        None => Agent::house(),
+        Some(ask) => ask.agent(),
+    }
+}
+
+/// What is answered to a begin, where nothing is kept for who asks.
+pub(crate) fn answer_begin<S: Alter>(
+    alloc: Global,
+    conn: &mut Connection<S>,
+    plan: &Plan,
+    ask: Option<&Ask>,
+) -> Result<Reply, Fault>
+    requires outside { conn.old.in_transaction ≡ false }
+
+    ensures outside { conn.new.in_transaction ≡ false }
+    ensures reply { AnswersNew S.Store conn.old conn.new (asked_by ask.entry) (Begin plan.now) result }
+    ensures after { KeepsNew S.Store conn.old conn.new (asked_by ask.entry) (Begin plan.now) result }
+    ensures memory { KeepsAtMemory S.Store conn.old conn.new result }
+    ensures left { LeavesNew S.Store conn.old conn.new (asked_by ask.entry) (Begin plan.now) }
+    ensures sound { WasClean S.Store conn.old conn.new }
+{
+    let _steps = plan.steps();
+    let counts = read_counts(conn)?;
+    if counts.events >= MOST_EVENTS {
+        return Ok(Reply::Refused(Refusal::Limit));
+    }
+    let numbers = Numbers {
+        num: counts.events + 1,
+        journeys: counts.journeys + 1,
+    };
+    let agent = beginner(ask);
+    let event = Event::Begin(JourneyBegun {
+        agent: agent.as_str(),
+        plan,
+    });
+    let reply = Reply::Begun {
+        id: numbers.journeys,
+    };
+    commit_answered(alloc, conn, numbers, &event, &reply, ask)?;
+    Ok(reply)
+}

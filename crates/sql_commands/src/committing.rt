@@ -1,0 +1,76 @@
+//! One event, one commit.
+ghost use Rattle.std.specs.Prelude.{◌≡◌, false, Some, OnOk};
+ghost use Rattle.sqlite.specs.Held.{state};
+ghost use Rattle.ledger.specs.Answer.{State};
+ghost use Rattle.std.specs.Option.{option_copied as asked_by};
+ghost use Rattle.sql_writes.specs.Kinds.{IsSmall};
+ghost use Rattle.sql_commands.specs.Answering.{KeepsAtMemory};
+ghost use Rattle.sql_model.specs.Keeping.{Keeps, MayLeave};
+ghost use Rattle.sql_commands.specs.Moving.{LeadsTo};
+ghost use Rattle.sql_reads.specs.Reading.{WasClean};
+
+use commands::{Ask, Fault, Reply};
+use sql_writes::{Event, Keeping, Numbers, commit_event};
+use sqlite::{Alter, Connection};
+use std::alloc::Global;
+
+/// Writes an event in one commit, with the reply to this ask.
+fn commit_kept<S: Alter>(
+    alloc: Global,
+    conn: &mut Connection<S>,
+    numbers: Numbers,
+    event: &Event<'_>,
+    reply: &Reply,
+    ask: &Ask,
+) -> Result<(), Fault>
+    requires outside { conn.old.in_transaction ≡ false }
+    requires small { IsSmall event.now }
+
+    ensures outside { conn.new.in_transaction ≡ false }
+    ensures done { (s next : State) → LeadsTo numbers event.now (Some ask.now) reply.now s next
+        → Keeps (state S.Store conn.old) s → OnOk result (Keeps (state S.Store conn.new) next) }
+    ensures memory { KeepsAtMemory S.Store conn.old conn.new result }
+    ensures left { (s next : State) → LeadsTo numbers event.now (Some ask.now) reply.now s next
+        → Keeps (state S.Store conn.old) s → MayLeave (state S.Store conn.new) s next }
+    ensures sound { WasClean S.Store conn.old conn.new }
+{
+    let line = match reply.line(alloc) {
+        Ok(line) => line,
+        Err(_) => return Err(Fault::Memory),
+    };
+    let agent = ask.agent();
+    let key = ask.key();
+    let keeping = Keeping {
+        agent: agent.as_str(),
+        key: key.as_str(),
+        text: ask.text(),
+        line: line.as_str(),
+    };
+    commit_event(conn, numbers, event, Some(keeping))
+}
+
+/// Writes an event in one commit, with the reply to it where there is an ask.
+pub(crate) fn commit_answered<S: Alter>(
+    alloc: Global,
+    conn: &mut Connection<S>,
+    numbers: Numbers,
+    event: &Event<'_>,
+    reply: &Reply,
+    ask: Option<&Ask>,
+) -> Result<(), Fault>
+    requires outside { conn.old.in_transaction ≡ false }
+    requires small { IsSmall event.now }
+
+    ensures outside { conn.new.in_transaction ≡ false }
+    ensures done { (s next : State) → LeadsTo numbers event.now (asked_by ask.entry) reply.now s next
+        → Keeps (state S.Store conn.old) s → OnOk result (Keeps (state S.Store conn.new) next) }
+    ensures memory { KeepsAtMemory S.Store conn.old conn.new result }
+    ensures left { (s next : State) → LeadsTo numbers event.now (asked_by ask.entry) reply.now s next
+        → Keeps (state S.Store conn.old) s → MayLeave (state S.Store conn.new) s next }
+    ensures sound { WasClean S.Store conn.old conn.new }
+{
+    match ask {
+        None => commit_event(conn, numbers, event, None),
+        Some(ask) => commit_kept(alloc, conn, numbers, event, reply, ask),
+    }
+}

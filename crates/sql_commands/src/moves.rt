@@ -1,0 +1,306 @@
+//! What is answered to a move of a journey, where nothing is kept for who asks.
+//!
+//! All reads come first: the numbers of `meta`, and the journey by its rows. Then the item that the rules name is written
+//! in one commit, with the reply where one is kept. A step is answered in `coming`, and comes here where it is refused.
+ghost use Rattle.std.specs.Prelude.{◌≡◌, ◌<◌, ◌^◌, ℕ, false, Ok, IfOk, IfSome};
+ghost use Rattle.std.specs.Option.{option_copied as asked_by};
+ghost use Rattle.ledger.specs.Answer.{asker};
+ghost use Rattle.ledger.specs.Replies.{sees};
+ghost use Rattle.sql_writes.specs.Kinds.{IsSmall};
+ghost use Rattle.ledger.specs.Answer.{State};
+ghost use Rattle.sql_model.specs.Standing.{IsDesk};
+ghost use Rattle.sql_commands.specs.Answering.{KeepsAtMemory, IsCounted};
+ghost use Rattle.sql_commands.specs.declared.moves.Motion.TheVariants as motion;
+ghost use Rattle.plan.specs.PlanModel.{Planned};
+ghost use Rattle.sql_commands.specs.Moving.{AnswersDue, KeepsDue, LeavesDue, IsEventOf, IsNext, asked_for};
+ghost use Rattle.sql_commands.specs.Moving.{AnswersMade, KeepsMade, LeavesMade, AnswersMove, KeepsMove, LeavesMove};
+ghost use Rattle.sql_commands.specs.Placing.{IsPlaced, MayBeMade, Sees};
+ghost use Rattle.sql_reads.specs.Reading.{KeepsOn, LeavesAsBefore, ShowsKept, WasClean};
+
+use crate::committing::commit_answered;
+use crate::counts::read_counts;
+use crate::next::{cursor_after, is_placed, may_be_made};
+use commands::{Agent, Ask, Cause, Cursor, Fault, Item, MOST_EVENTS, Refusal, Reply};
+use desk_sql::{Meta, Version};
+use plan::Plan;
+use saga_core::{Move, Record, decide, saved, turned};
+use savepoints::Turn;
+use sql_reads::{LARGEST, read_journey};
+use sql_writes::{Event, Numbers, SaveMade, StepMade, TurnMade};
+use sqlite::{Alter, Connection};
+use std::alloc::Global;
+
+/// An item of a journey, with its event, and where the journey is then.
+#[derive(Clone, Copy)]
+pub(crate) struct Made<'x> {
+    pub id: u64,
+    pub item: Item,
+    pub event: Event<'x>,
+    pub cursor: Cursor,
+}
+
+/// Whether who asks sees a journey of this agent: his own alone, and the house sees each.
+pub(crate) fn is_seen_by(agent: Agent, ask: Option<&Ask>) -> bool
+    ensures seen { (plan : Planned) → result
+        ≡ sees (asker (asked_by ask.entry)) (record { agent = agent; plan = plan }) }
+{
+    match ask {
+        None => true,
+        Some(ask) => ask.agent() == agent,
+    }
+}
+
+/// The journey of that number, if who asks sees it. One that cannot be where its rows say is a fault of the store.
+fn find_seen<S: Alter>(
+    alloc: Global,
+    conn: &mut Connection<S>,
+    id: u64,
+    ask: Option<&Ask>,
+) -> Result<Option<Record>, Fault>
+    requires outside { conn.old.in_transaction ≡ false }
+
+    ensures outside { conn.new.in_transaction ≡ false }
+    ensures seen { ShowsKept S.Store conn.old conn.new result (Sees (asker (asked_by ask.entry)) id) }
+    ensures placed { IfOk result (λ found. IfSome found (λ r. IsPlaced r.plan r.cursor)) }
+    ensures small { IfOk result (λ found. IfSome found (λ r. id < 2 ^ 63)) }
+    ensures same { KeepsOn S.Store conn.old conn.new }
+    ensures stop { LeavesAsBefore S.Store conn.old conn.new }
+    ensures less { WasClean S.Store conn.old conn.new }
+{
+    match read_journey(alloc, conn, Version::Two, id) {
+        Ok(None) => Ok(None),
+        Ok(Some(journey)) => {
+            if !is_seen_by(journey.agent, ask) {
+                return Ok(None);
+            }
+            if id <= LARGEST && is_placed(journey.plan.steps(), journey.cursor) {
+                Ok(Some(journey))
+            } else {
+                Err(Fault::Store)
+            }
+        }
+        Err(fault) => Err(fault),
+    }
+}
+
+/// The event of a journey with this plan that makes an item and is here then.
+fn event_of<'x>(id: u64, plan: &Plan, at: Cursor, item: Item) -> Event<'x>
+    requires id { id < 2 ^ 63 }
+    requires placed { IsPlaced plan.now at }
+    requires next { MayBeMade plan.now at item }
+
+    ensures event { IsEventOf id plan.now at item result }
+    ensures small { IsSmall result }
+{
+    let _steps = plan.steps();
+    let cursor = cursor_after(plan, at, item);
+    match item {
+        Item::Transaction { step, option } => Event::Transaction(StepMade {
+            journey: id,
+            step,
+            option,
+            want: plan.want(step, option),
+            cursor,
+        }),
+        Item::Compensation { step, option } => Event::Compensation(StepMade {
+            journey: id,
+            step,
+            option,
+            want: plan.want(step, option),
+            cursor,
+        }),
+        Item::Turn { target, cause } => Event::Turn(TurnMade {
+            journey: id,
+            target,
+            cause,
+            cursor,
+        }),
+        Item::Save { position } => Event::Save(SaveMade {
+            journey: id,
+            position,
+        }),
+    }
+}
+
+/// Makes an item of a journey, which is here then, by its event, unless the ledger is full.
+pub(crate) fn make_event<S: Alter>(
+    alloc: Global,
+    conn: &mut Connection<S>,
+    counts: Meta,
+    made: &Made<'_>,
+    ask: Option<&Ask>,
+) -> Result<Reply, Fault>
+    requires outside { conn.old.in_transaction ≡ false }
+    requires counted { IsCounted counts }
+    requires small { IsSmall made.now.event }
+
+    ensures outside { conn.new.in_transaction ≡ false }
+    ensures reply { AnswersMade S.Store conn.old conn.new (asked_by ask.entry) counts made.now result }
+    ensures after { KeepsMade S.Store conn.old conn.new (asked_by ask.entry) counts made.now result }
+    ensures memory { KeepsAtMemory S.Store conn.old conn.new result }
+    ensures left { LeavesMade S.Store conn.old conn.new (asked_by ask.entry) counts made.now }
+    ensures sound { WasClean S.Store conn.old conn.new }
+{
+    if counts.events >= MOST_EVENTS {
+        return Ok(Reply::Refused(Refusal::Limit));
+    }
+    let reply = Reply::Moved {
+        id: made.id,
+        item: made.item,
+        pos: made.cursor.pos,
+        phase: made.cursor.phase,
+    };
+    let numbers = Numbers {
+        num: counts.events + 1,
+        journeys: counts.journeys,
+    };
+    commit_answered(alloc, conn, numbers, &made.event, &reply, ask)?;
+    Ok(reply)
+}
+
+/// Makes an item of a journey, unless the ledger is full. An item that does not come next there is a fault of the
+/// store.
+fn make<S: Alter>(
+    alloc: Global,
+    conn: &mut Connection<S>,
+    counts: Meta,
+    id: u64,
+    journey: &Record,
+    item: Item,
+    ask: Option<&Ask>,
+) -> Result<Reply, Fault>
+    requires outside { conn.old.in_transaction ≡ false }
+    requires counted { IsCounted counts }
+    requires id { id < 2 ^ 63 }
+    requires placed { IsPlaced journey.now.plan journey.now.cursor }
+
+    ensures outside { conn.new.in_transaction ≡ false }
+    ensures reply { AnswersDue S.Store conn.old conn.new (asked_by ask.entry) counts id journey.now
+        (Ok item) result }
+    ensures after { KeepsDue S.Store conn.old conn.new (asked_by ask.entry) counts id journey.now
+        (Ok item) result }
+    ensures memory { KeepsAtMemory S.Store conn.old conn.new result }
+    ensures left { LeavesDue S.Store conn.old conn.new (asked_by ask.entry) counts id journey.now
+        (Ok item) }
+    ensures sound { WasClean S.Store conn.old conn.new }
+{
+    if !may_be_made(&journey.plan, journey.cursor, item) {
+        return Err(Fault::Store);
+    }
+    let made = Made {
+        id,
+        item,
+        event: event_of(id, &journey.plan, journey.cursor, item),
+        cursor: cursor_after(&journey.plan, journey.cursor, item),
+    };
+    make_event(alloc, conn, counts, &made, ask)
+}
+
+/// Answers why there is no item, or makes the item.
+fn carry_out<S: Alter>(
+    alloc: Global,
+    conn: &mut Connection<S>,
+    counts: Meta,
+    id: u64,
+    journey: &Record,
+    next: Result<Item, Refusal>,
+    ask: Option<&Ask>,
+) -> Result<Reply, Fault>
+    requires outside { conn.old.in_transaction ≡ false }
+    requires counted { IsCounted counts }
+    requires id { id < 2 ^ 63 }
+    requires placed { IsPlaced journey.now.plan journey.now.cursor }
+
+    ensures outside { conn.new.in_transaction ≡ false }
+    ensures reply { AnswersDue S.Store conn.old conn.new (asked_by ask.entry) counts id journey.now
+        next result }
+    ensures after { KeepsDue S.Store conn.old conn.new (asked_by ask.entry) counts id journey.now
+        next result }
+    ensures memory { KeepsAtMemory S.Store conn.old conn.new result }
+    ensures left { LeavesDue S.Store conn.old conn.new (asked_by ask.entry) counts id journey.now
+        next }
+    ensures sound { WasClean S.Store conn.old conn.new }
+{
+    match next {
+        Err(refusal) => Ok(Reply::Refused(refusal)),
+        Ok(item) => make(alloc, conn, counts, id, journey, item, ask),
+    }
+}
+
+/// What is asked of a journey.
+#[derive(Clone, Copy)]
+pub(crate) enum Motion {
+    /// Its next step, whose want does not fit.
+    Refused,
+    /// A turn back to a position.
+    Abort(usize),
+    /// A turn back to its last save-point.
+    Stop,
+    /// A save-point where it is.
+    Save,
+}
+
+/// What the next step of a journey comes to whose want does not fit: a turn. A journey that does not run is not where its
+/// row said, which is a fault of the store.
+fn refused(journey: &Record) -> Result<Result<Item, Refusal>, Fault>
+    requires placed { IsPlaced journey.now.plan journey.now.cursor }
+
+    ensures next { IfOk result (λ next. (id : ℕ) (s : State) → IsDesk s
+        → IsNext id journey.now motion.Refused s next) }
+{
+    match decide(&journey.plan, &journey.marks, &journey.cursor, false) {
+        Move::Turn(target) => Ok(Ok(Item::Turn {
+            target,
+            cause: Cause::Refused,
+        })),
+        Move::Take(..) | Move::Undo(_) | Move::Nothing => Err(Fault::Store),
+    }
+}
+
+/// What a move of a journey comes to.
+fn next_of(journey: &Record, why: Motion) -> Result<Result<Item, Refusal>, Fault>
+    requires placed { IsPlaced journey.now.plan journey.now.cursor }
+
+    ensures next { IfOk result (λ next. (id : ℕ) (s : State) → IsDesk s
+        → IsNext id journey.now why s next) }
+{
+    let plan = &journey.plan;
+    let marks = &journey.marks;
+    match why {
+        Motion::Refused => refused(journey),
+        Motion::Abort(position) => {
+            let turn = Turn::Asked(position);
+            Ok(turned(plan, marks, journey.cursor, turn, Cause::Asked))
+        }
+        Motion::Stop => Ok(turned(plan, marks, journey.cursor, Turn::Stop, Cause::Stop)),
+        Motion::Save => Ok(saved(plan, marks, journey.cursor)),
+    }
+}
+
+/// What is answered to a move of a journey, where nothing is kept for who asks.
+pub(crate) fn answer_move<S: Alter>(
+    alloc: Global,
+    conn: &mut Connection<S>,
+    id: u64,
+    why: Motion,
+    ask: Option<&Ask>,
+) -> Result<Reply, Fault>
+    requires outside { conn.old.in_transaction ≡ false }
+
+    ensures outside { conn.new.in_transaction ≡ false }
+    ensures reply { AnswersMove S.Store conn.old conn.new (asked_by ask.entry) id why result }
+    ensures after { KeepsMove S.Store conn.old conn.new (asked_by ask.entry) id why result }
+    ensures memory { KeepsAtMemory S.Store conn.old conn.new result }
+    ensures left { LeavesMove S.Store conn.old conn.new (asked_by ask.entry) id why }
+    ensures sound { WasClean S.Store conn.old conn.new }
+{
+    let counts = read_counts(conn)?;
+    match find_seen(alloc, conn, id, ask) {
+        Ok(None) => Ok(Reply::Refused(Refusal::NoJourney)),
+        Ok(Some(journey)) => {
+            let next = next_of(&journey, why)?;
+            carry_out(alloc, conn, counts, id, &journey, next, ask)
+        }
+        Err(fault) => Err(fault),
+    }
+}

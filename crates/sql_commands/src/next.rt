@@ -1,0 +1,125 @@
+//! Where a journey is after one more item, by its record, and whether its numbers are those of a journey.
+ghost use Rattle.std.specs.Prelude.{◌≡◌, ◌≤◌, ◌<◌, ◌^◌, true};
+ghost use Rattle.ledger_transitions.specs.JourneyChanges.{phase_down as phase_down_rule, phase_up as phase_up_rule, cursor_after as after_rule};
+ghost use Rattle.plan.specs.PlanModel.{step_count};
+ghost use Rattle.sql_commands.specs.Placing.{IsPlaced, IsPlacedIn, HasOption, MayBeMade, stepped_up, stepped_down};
+
+use commands::{Cause, Cursor, Item, Phase};
+use plan::Plan;
+
+/// More refused steps than a ledger may have events.
+const MOST_USED: usize = 1 << 62;
+
+/// Whether a journey of so many steps may stand here.
+pub(crate) fn is_placed(steps: usize, cursor: Cursor) -> bool
+    ensures placed { result ≡ true → IsPlacedIn steps cursor }
+{
+    let Cursor { pos, phase, used } = cursor;
+    let is_there = match phase {
+        Phase::Run => pos < steps,
+        Phase::Back(target) => pos < steps && target < pos,
+        Phase::Ended | Phase::Undone => pos <= steps,
+    };
+    is_there && used < MOST_USED
+}
+
+/// Whether an item may be made where a journey is, as far as its numbers tell.
+pub(crate) fn may_be_made(plan: &Plan, cursor: Cursor, item: Item) -> bool
+    ensures may { result ≡ true → MayBeMade plan.now cursor item }
+{
+    match item {
+        Item::Transaction { step, option } => {
+            step > cursor.pos && step - 1 == cursor.pos && is_option(plan, step, option)
+        }
+        Item::Compensation { step, option } => step == cursor.pos && is_option(plan, step, option),
+        Item::Turn { target, .. } => target <= plan.steps(),
+        Item::Save { position } => position == cursor.pos,
+    }
+}
+
+/// Whether a plan has this option of this step.
+fn is_option(plan: &Plan, step: usize, option: usize) -> bool
+    ensures has { result ≡ true → HasOption plan.now step option }
+{
+    1 <= step && step <= plan.steps() && 1 <= option && option <= plan.options(step)
+}
+
+/// The phase of a journey of so many steps that has come to this position, one step further.
+fn phase_up(steps: usize, pos: usize) -> Phase
+    ensures up { result ≡ phase_up_rule steps pos }
+{
+    if pos == steps {
+        Phase::Ended
+    } else {
+        Phase::Run
+    }
+}
+
+/// The phase of a journey that is told to go back to a target, and is at this position.
+fn phase_down(target: usize, pos: usize) -> Phase
+    ensures down { result ≡ phase_down_rule target pos }
+{
+    if target < pos {
+        Phase::Back(target)
+    } else if target == 0 {
+        Phase::Undone
+    } else {
+        Phase::Run
+    }
+}
+
+/// Where a journey of so many steps is after one more of them.
+pub(crate) fn cursor_up(steps: usize, cursor: Cursor) -> Cursor
+    requires below { cursor.pos < steps }
+
+    ensures up { result ≡ stepped_up steps cursor }
+{
+    let Cursor { pos, used, .. } = cursor;
+    Cursor {
+        pos: pos + 1,
+        phase: phase_up(steps, pos + 1),
+        used,
+    }
+}
+
+/// Where a journey is once its last standing step is compensated.
+pub(crate) fn cursor_down(cursor: Cursor) -> Cursor
+    requires above { 1 ≤ cursor.pos }
+
+    ensures down { result ≡ stepped_down cursor }
+{
+    let Cursor { pos, phase, used } = cursor;
+    Cursor {
+        pos: pos - 1,
+        phase: match phase {
+            Phase::Back(target) => phase_down(target, pos - 1),
+            other => other,
+        },
+        used,
+    }
+}
+
+/// Where a journey with this plan is after one more item.
+pub(crate) fn cursor_after(plan: &Plan, cursor: Cursor, item: Item) -> Cursor
+    requires placed { IsPlaced plan.now cursor }
+    requires next { MayBeMade plan.now cursor item }
+
+    ensures after { result ≡ after_rule plan.now cursor item }
+{
+    let steps = plan.steps();
+    let Cursor { pos, used, .. } = cursor;
+    match item {
+        Item::Transaction { .. } => cursor_up(steps, cursor),
+        Item::Compensation { .. } => cursor_down(cursor),
+        Item::Turn { target, cause } => Cursor {
+            pos,
+            phase: phase_down(target, pos),
+            used: if cause == Cause::Refused {
+                used + 1
+            } else {
+                used
+            },
+        },
+        Item::Save { .. } => cursor,
+    }
+}

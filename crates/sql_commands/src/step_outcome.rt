@@ -1,0 +1,223 @@
+//! What a step of a journey comes to, by the rows of that step alone.
+//!
+//! A want that fits is taken, and a step is compensated, without the rest of the plan. Where the want does not fit, the
+//! journey turns, and then all of the plan is looked at.
+ghost use Rattle.std.specs.Prelude.{◌≡◌, ◌≤◌, ◌<◌, ◌^◌, false, true, IfOk, IfSome};
+ghost use Rattle.std.specs.Option.{option_copied as asked_by};
+ghost use Rattle.plan.specs.Limits.{most_options, most_steps};
+ghost use Rattle.ledger.specs.Answer.{asker};
+ghost use Rattle.sql_reads.specs.Reading.{KeepsOn, LeavesAsBefore, ShowsKept, WasClean};
+ghost use Rattle.sql_commands.specs.Answering.{AnswersNew, KeepsNew, LeavesNew, KeepsAtMemory};
+ghost use Rattle.sql_commands.specs.Moving.{Comes, FitsIn, MayCome, IsStepUp, IsStepDown};
+ghost use Rattle.sql_commands.specs.Placing.{IsPlacedIn, SeesStand};
+ghost use Rattle.commands.specs.Request.{Step};
+ghost use Rattle.sql_writes.specs.Kinds.{IsSmall};
+
+use crate::counts::read_counts;
+use crate::moves::{Made, Motion, answer_move, is_seen_by, make_event};
+use crate::next::{cursor_down, cursor_up, is_placed};
+use crate::options::{Choice, last_choice, next_choice};
+use allotment::{Want, fits};
+use commands::{Ask, Fault, Item, Phase, Refusal, Reply};
+use plan::MOST_STEPS;
+use sql_reads::{LARGEST, Stand, read_cells, read_stand};
+use sql_writes::{Event, StepMade};
+use sqlite::{Alter, Connection};
+use std::alloc::Global;
+
+/// What a step comes to.
+#[derive(Clone, Copy)]
+pub(crate) enum Coming {
+    /// The next step is done with this option.
+    Up(Choice),
+    /// The last standing step is compensated, which took this option.
+    Down(Choice),
+    /// The next want does not fit.
+    Refused,
+    /// Nothing: the journey has finished.
+    Nothing,
+}
+
+/// Where the journey of that number is, if who asks sees it. One that cannot be where its row says is a fault of the
+/// store.
+fn find_stand<S: Alter>(
+    conn: &mut Connection<S>,
+    id: u64,
+    ask: Option<&Ask>,
+) -> Result<Option<Stand>, Fault>
+    requires outside { conn.old.in_transaction ≡ false }
+
+    ensures outside { conn.new.in_transaction ≡ false }
+    ensures seen { ShowsKept S.Store conn.old conn.new result (SeesStand (asker (asked_by ask.entry)) id) }
+    ensures placed { IfOk result (λ found. IfSome found (λ it. IsPlacedIn it.steps it.cursor)) }
+    ensures few { IfOk result (λ found. IfSome found (λ it. it.steps ≤ most_steps)) }
+    ensures small { IfOk result (λ found. IfSome found (λ it. id < 2 ^ 63)) }
+    ensures same { KeepsOn S.Store conn.old conn.new }
+    ensures stop { LeavesAsBefore S.Store conn.old conn.new }
+    ensures less { WasClean S.Store conn.old conn.new }
+{
+    match read_stand(conn, id) {
+        Ok(None) => Ok(None),
+        Ok(Some(stand)) => {
+            if !is_seen_by(stand.agent, ask) {
+                return Ok(None);
+            }
+            if id <= LARGEST && stand.steps <= MOST_STEPS && is_placed(stand.steps, stand.cursor) {
+                Ok(Some(stand))
+            } else {
+                Err(Fault::Store)
+            }
+        }
+        Err(fault) => Err(fault),
+    }
+}
+
+/// The next step of a journey that is here, with this option.
+fn step_up<'x>(id: u64, stand: &Stand, choice: &Choice) -> Made<'x>
+    requires id { id < 2 ^ 63 }
+    requires placed { IsPlacedIn stand.now.steps stand.now.cursor }
+    requires below { stand.now.cursor.pos < stand.now.steps }
+    requires few_steps { stand.now.steps ≤ most_steps }
+    requires few_options { choice.now.option ≤ most_options }
+
+    ensures up { IsStepUp id stand.now choice.now result }
+    ensures small { IsSmall result.event }
+{
+    let step = stand.cursor.pos + 1;
+    let option = choice.option;
+    let cursor = cursor_up(stand.steps, stand.cursor);
+    let event = Event::Transaction(StepMade {
+        journey: id,
+        step,
+        option,
+        want: choice.want,
+        cursor,
+    });
+    Made {
+        id,
+        item: Item::Transaction { step, option },
+        event,
+        cursor,
+    }
+}
+
+/// The compensation of the last standing step of a journey that is here, with this option.
+fn step_down<'x>(id: u64, stand: &Stand, choice: &Choice) -> Made<'x>
+    requires id { id < 2 ^ 63 }
+    requires placed { IsPlacedIn stand.now.steps stand.now.cursor }
+    requires above { 1 ≤ stand.now.cursor.pos }
+    requires few_steps { stand.now.steps ≤ most_steps }
+    requires few_options { choice.now.option ≤ most_options }
+
+    ensures down { IsStepDown id stand.now choice.now result }
+    ensures small { IsSmall result.event }
+{
+    let step = stand.cursor.pos;
+    let option = choice.option;
+    let cursor = cursor_down(stand.cursor);
+    let event = Event::Compensation(StepMade {
+        journey: id,
+        step,
+        option,
+        want: choice.want,
+        cursor,
+    });
+    Made {
+        id,
+        item: Item::Compensation { step, option },
+        event,
+        cursor,
+    }
+}
+
+/// Whether a want fits its nights.
+fn fits_nights<S: Alter>(
+    alloc: Global,
+    conn: &mut Connection<S>,
+    want: &Want,
+) -> Result<bool, Fault>
+    requires outside { conn.old.in_transaction ≡ false }
+
+    ensures outside { conn.new.in_transaction ≡ false }
+    ensures fits { ShowsKept S.Store conn.old conn.new result (FitsIn want.now) }
+    ensures same { KeepsOn S.Store conn.old conn.new }
+    ensures stop { LeavesAsBefore S.Store conn.old conn.new }
+    ensures less { WasClean S.Store conn.old conn.new }
+{
+    match read_cells(alloc, conn, want) {
+        Ok(cells) => Ok(fits(cells.as_slice(), want)),
+        Err(fault) => Err(fault),
+    }
+}
+
+/// What a step of a journey that is here comes to.
+fn find_coming<S: Alter>(
+    alloc: Global,
+    conn: &mut Connection<S>,
+    id: u64,
+    stand: &Stand,
+) -> Result<Coming, Fault>
+    requires outside { conn.old.in_transaction ≡ false }
+    requires id { id < 2 ^ 63 }
+    requires placed { IsPlacedIn stand.now.steps stand.now.cursor }
+    requires few { stand.now.steps ≤ most_steps }
+
+    ensures outside { conn.new.in_transaction ≡ false }
+    ensures comes { ShowsKept S.Store conn.old conn.new result (Comes id stand.now) }
+    ensures may { IfOk result (MayCome stand.now) }
+    ensures same { KeepsOn S.Store conn.old conn.new }
+    ensures stop { LeavesAsBefore S.Store conn.old conn.new }
+    ensures less { WasClean S.Store conn.old conn.new }
+{
+    match stand.cursor.phase {
+        Phase::Run => {
+            let choice = next_choice(alloc, conn, id, stand.cursor.pos + 1, stand.cursor.used)?;
+            let fitting = fits_nights(alloc, conn, &choice.want)?;
+            if fitting {
+                Ok(Coming::Up(choice))
+            } else {
+                Ok(Coming::Refused)
+            }
+        }
+        Phase::Back(_) => {
+            let choice = last_choice(alloc, conn, id, stand.cursor.pos)?;
+            Ok(Coming::Down(choice))
+        }
+        Phase::Ended | Phase::Undone => Ok(Coming::Nothing),
+    }
+}
+
+/// What is answered to a step of a journey, where nothing is kept for who asks.
+pub(crate) fn answer_step<S: Alter>(
+    alloc: Global,
+    conn: &mut Connection<S>,
+    id: u64,
+    ask: Option<&Ask>,
+) -> Result<Reply, Fault>
+    requires outside { conn.old.in_transaction ≡ false }
+
+    ensures outside { conn.new.in_transaction ≡ false }
+    ensures reply { AnswersNew S.Store conn.old conn.new (asked_by ask.entry) (Step id) result }
+    ensures after { KeepsNew S.Store conn.old conn.new (asked_by ask.entry) (Step id) result }
+    ensures memory { KeepsAtMemory S.Store conn.old conn.new result }
+    ensures left { LeavesNew S.Store conn.old conn.new (asked_by ask.entry) (Step id) }
+    ensures sound { WasClean S.Store conn.old conn.new }
+{
+    let counts = read_counts(conn)?;
+    match find_stand(conn, id, ask) {
+        Ok(None) => Ok(Reply::Refused(Refusal::NoJourney)),
+        Ok(Some(stand)) => match find_coming(alloc, conn, id, &stand)? {
+            Coming::Up(choice) => {
+                let made = step_up(id, &stand, &choice);
+                make_event(alloc, conn, counts, &made, ask)
+            }
+            Coming::Down(choice) => {
+                let made = step_down(id, &stand, &choice);
+                make_event(alloc, conn, counts, &made, ask)
+            }
+            Coming::Refused => answer_move(alloc, conn, id, Motion::Refused, ask),
+            Coming::Nothing => Ok(Reply::Refused(Refusal::Finished)),
+        },
+        Err(fault) => Err(fault),
+    }
+}

@@ -1,0 +1,23 @@
+-- Tables that were just made stand for a new desk.
+use Rattle.std.proofs.Common.{[], refl}
+use Rattle.std.proofs.lemmas.List.Sorted.{IsPermutation-refl}
+use Rattle.ledger.specs.Answer.{start}
+use Rattle.desk_sql.specs.Changes.{founded}
+use Rattle.sql_model.specs.Standing.{StandsFor, IsDesk}
+
+-- without any event the tables have one row alone, that of meta
+pub founded_stands : StandsFor founded start
+founded_stands = record {
+  meta = refl;
+  stock = record { each = λ x. refl; once = tt; known = tt };
+  batch = IsPermutation-refl [];
+  journey = IsPermutation-refl [];
+  step = IsPermutation-refl [];
+  answer = record { each = λ agent key. refl; once = tt };
+  entries = IsPermutation-refl [];
+  mark = record { each = λ journey pos. refl; once = tt };
+}
+
+-- and a new desk is one
+pub start_is_desk : IsDesk start
+start_is_desk = record { legal = tt; keepable = λ agent key. tt }

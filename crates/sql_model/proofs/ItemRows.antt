@@ -1,0 +1,175 @@
+-- The rows of items tell the histories of journeys, and the rows of save-points which of them
+-- stand.
+use Rattle.std.proofs.Common.{◌≡◌, ℕ, zero, suc, ◌+◌, ◌<◌, ◌==◌, List, [], ◌∷◌, map, filter, take, cond, Bool, true, false, if◌then◌else◌, Some, None, refl, sym, ap, ap₂, ◌∙◌, arith}
+use Rattle.std.specs.Prelude.{filter_map, ◌&&◌, ◌||◌, nat_lt}
+use Rattle.std.proofs.lemmas.Bool.{lt-ltb}
+use Rattle.std.specs.List.{AllByRecursion, list_any, cons_option}
+use Rattle.std.specs.List.Sorted.{IsPermutation}
+use Rattle.std.proofs.lemmas.Bool.Decides.{nat_tests}
+use Rattle.std.proofs.lemmas.List.Sorted.{list_any-IsPermutation}
+use Rattle.sqlite_trees.proofs.ListLemmas.{all_weaker, filter_same}
+use Rattle.commands.specs.declared.items.Cause.TheVariants.{Stop, Refused, Asked}
+use Rattle.commands.specs.declared.items.Item.{Item}
+use Rattle.commands.specs.declared.items.Item.TheVariants.{Transaction, Compensation, Turn, Save}
+use Rattle.ledger.specs.History.{is_taken}
+use Rattle.ledger.specs.Ledger.{Event, Loaded, Began, Did, item_of, history}
+use Rattle.desk_sql.specs.Rows.{EntryRow, MarkRow}
+use Rattle.sql_model.specs.ExpectedRows.{counted_from, entry_row_of, entry_row_if, entries_called}
+use Rattle.sql_model.specs.Standing.{MarksStand}
+use Rattle.desk_sql.specs.FoundRows.{is_item_of, is_item_after, is_mark_of, mark_at_pos}
+use Rattle.sql_model.specs.Reading.{item_in}
+use Rattle.sql_model.proofs.Orders.{Rises, one_order}
+
+-- the row of an item tells it
+pub item_back : (num journey : ℕ) (item : Item)
+    → item_in (entry_row_of num journey item) ≡ Some item
+item_back num journey (Transaction step option) = refl
+item_back num journey (Compensation step option) = refl
+item_back num journey (Turn target Stop) = refl
+item_back num journey (Turn target Refused) = refl
+item_back num journey (Turn target Asked) = refl
+item_back num journey (Save position) = refl
+
+pub entry_num : (num journey : ℕ) (item : Item) → (entry_row_of num journey item).num ≡ num
+entry_num num journey (Transaction step option) = refl
+entry_num num journey (Compensation step option) = refl
+entry_num num journey (Turn target cause) = refl
+entry_num num journey (Save position) = refl
+
+pub entry_journey : (num journey : ℕ) (item : Item) → (entry_row_of num journey item).journey ≡ journey
+entry_journey num journey (Transaction step option) = refl
+entry_journey num journey (Compensation step option) = refl
+entry_journey num journey (Turn target cause) = refl
+entry_journey num journey (Save position) = refl
+
+-- the rows of the items from this event on
+abbrev pub entries_from : ℕ → List Event → List EntryRow
+entries_from n l = filter_map (λ (e : ℕ × Event). entry_row_if e.0 e.1) (counted_from n l)
+
+entries_from-above : (m n : ℕ) (l : List Event) → m < n
+    → AllByRecursion (λ (e : EntryRow). m < e.num) (entries_from n l)
+entries_from-above m n [] low = tt
+entries_from-above m n (Loaded name rows ∷ l) low = entries_from-above m (suc n) l (omega arith)
+entries_from-above m n (Began agent plan ∷ l) low = entries_from-above m (suc n) l (omega arith)
+entries_from-above m n (Did j item ∷ l) low =
+    (let e = entry_num n j item in omega arith, entries_from-above m (suc n) l (omega arith))
+
+pub entries_from-rise : (n : ℕ) (l : List Event) → Rises (λ (e : EntryRow). e.num) (entries_from n l)
+entries_from-rise n [] = tt
+entries_from-rise n (Loaded name rows ∷ l) = entries_from-rise (suc n) l
+entries_from-rise n (Began agent plan ∷ l) = entries_from-rise (suc n) l
+entries_from-rise n (Did j item ∷ l) = (
+  all_weaker (λ (e : EntryRow). n < e.num) (λ (e : EntryRow). (entry_row_of n j item).num < e.num)
+      (λ e low. let same = entry_num n j item in omega arith) (entries_from (suc n) l)
+      (entries_from-above n (suc n) l (omega arith)),
+  entries_from-rise (suc n) l,
+)
+
+-- rows whose numbers rise are just those that are called for, in their order
+pub entries_in_order : (l : List Event) (rows : List EntryRow)
+    → IsPermutation (entries_called l) rows → Rises (λ (e : EntryRow). e.num) rows
+    → rows ≡ entries_called l
+entries_in_order l rows same up =
+    one_order (λ (e : EntryRow). e.num) (entries_called l) rows same (entries_from-rise 1 l) up
+
+pub turned : (a b : ℕ) → (a == b) ≡ (b == a)
+turned a b = grind (arith, nat_tests)
+
+items_from : (j n : ℕ) (l : List Event)
+    → map item_in (filter (is_item_of j) (entries_from n l)) ≡ map Some (filter_map (item_of j) l)
+items_from j n [] = refl
+items_from j n (Loaded name rows ∷ l) = items_from j (suc n) l
+items_from j n (Began agent plan ∷ l) = items_from j (suc n) l
+items_from j n (Did k item ∷ l) =
+    ap
+    (λ v. map item_in (cond v (entry_row_of n k item ∷ filter (is_item_of j) (entries_from (suc n) l)) (filter (is_item_of j) (entries_from (suc n) l))))
+    (ap (λ i. i == j) (entry_journey n k item) ∙ turned k j)
+    ∙ go (j == k) (items_from j (suc n) l)
+  where
+    go : (v : Bool)
+        → map item_in (filter (is_item_of j) (entries_from (suc n) l)) ≡ map Some (filter_map (item_of j) l)
+        → map item_in (cond v (entry_row_of n k item ∷ filter (is_item_of j) (entries_from (suc n) l)) (filter (is_item_of j) (entries_from (suc n) l)))
+        ≡ map Some (cons_option (if v then Some item else None) (filter_map (item_of j) l))
+    go true rest = ap₂ ◌∷◌ (item_back n k item) rest
+    go false rest = rest
+
+module _ (j after : ℕ) where
+  -- where no row is at or below the number, just the journey's own are found
+  found_later : (e : EntryRow) → after < e.num → is_item_after j after e ≡ is_item_of j e
+  found_later e low = ap (λ v. is_item_of j e && v) (lt-ltb after e.num low) ∙ and_yes (is_item_of j e)
+    where
+      and_yes : (v : Bool) → (v && true) ≡ v
+      and_yes true = refl
+      and_yes false = refl
+
+  -- a row of another journey is not found
+  found_other : (e : EntryRow) (es : List EntryRow) → is_item_of j e ≡ false
+      → filter (is_item_after j after) es ≡ filter (is_item_of j) es
+      → filter (is_item_after j after) (e ∷ es) ≡ filter (is_item_of j) (e ∷ es)
+  found_other e es off rest =
+      let some = filter (is_item_after j after) es in
+      let all = filter (is_item_of j) es in
+      ap (λ v. cond (v && nat_lt after e.num) (e ∷ some) some) off ∙ rest
+      ∙ sym (ap (λ v. cond v (e ∷ all) all) off)
+
+  -- where none of the first events is an item of the journey, all of its rows stand above their number
+  found_above : (n m : ℕ) (l : List Event) → n + m ≡ after + 1 → history (take m l) j ≡ []
+      → filter (is_item_after j after) (entries_from n l) ≡ filter (is_item_of j) (entries_from n l)
+  found_above n zero l up none =
+      filter_same (is_item_after j after) (is_item_of j) (entries_from n l)
+      (all_weaker (λ (e : EntryRow). after < e.num) (λ (e : EntryRow). is_item_after j after e ≡ is_item_of j e) found_later (entries_from n l)
+      (entries_from-above after n l (omega arith)))
+  found_above n (suc m) [] up none = refl
+  found_above n (suc m) (Loaded name rows ∷ l) up none = found_above (suc n) m l (omega arith) none
+  found_above n (suc m) (Began agent plan ∷ l) up none = found_above (suc n) m l (omega arith) none
+  found_above n (suc m) (Did k item ∷ l) up none = go (j == k) refl none (λ is. found_above (suc n) m l (omega arith) is)
+    where
+      go : (v : Bool) → (j == k) ≡ v
+          → cons_option (if v then Some item else None) (history (take m l) j) ≡ []
+          → (history (take m l) j ≡ [] → filter (is_item_after j after) (entries_from (suc n) l) ≡ filter (is_item_of j) (entries_from (suc n) l))
+          → filter (is_item_after j after) (entries_from n (Did k item ∷ l)) ≡ filter (is_item_of j) (entries_from n (Did k item ∷ l))
+      go true e is rest = cc
+      go false e is rest =
+          found_other (entry_row_of n k item) (entries_from (suc n) l)
+          (ap (λ i. i == j) (entry_journey n k item) ∙ turned k j ∙ e)
+          (rest is)
+
+-- the rows that are found with a journey's number, in the order of theirs, tell its history, where they are sought
+-- from behind events that are no items of it
+pub items_found : (l : List Event) (rows : List EntryRow) (j after : ℕ)
+    → history (take after l) j ≡ []
+    → IsPermutation (entries_called l) rows → Rises (λ (e : EntryRow). e.num) rows
+    → map item_in (filter (is_item_after j after) rows) ≡ map Some (history l j)
+items_found l rows j after none same up =
+    ap (λ es. map item_in (filter (is_item_after j after) es)) (entries_in_order l rows same up)
+    ∙ ap (map item_in) (found_above j after 1 after l (omega arith) none)
+    ∙ items_from j 1 l
+
+-- Save-points.
+
+-- of those that pass one test some pass another where some pass both
+pub any-filter : {X : Type 0} (p q : X → Bool) (xs : List X)
+    → list_any q (filter p xs) ≡ list_any (λ x. p x && q x) xs
+any-filter p q [] = refl
+any-filter p q (x ∷ xs) = go (p x) (any-filter p q xs)
+  where
+    go : (v : Bool) → list_any q (filter p xs) ≡ list_any (λ y. p y && q y) xs
+        → list_any q (cond v (x ∷ filter p xs) (filter p xs)) ≡ ((v && q x) || list_any (λ y. p y && q y) xs)
+    go true rest = ap (λ v. q x || v) rest
+    go false rest = rest
+
+pub any-map : {X Y : Type 0} (f : X → Y) (q : Y → Bool) (xs : List X)
+    → list_any q (map f xs) ≡ list_any (λ x. q (f x)) xs
+any-map f q [] = refl
+any-map f q (x ∷ xs) = ap (λ v. q (f x) || v) (any-map f q xs)
+
+-- of the positions that are found with a journey's number there is each at which a save-point
+-- stands
+pub marks_found : (l : List Event) (rows : List MarkRow) (found : List ℕ) (j p : ℕ)
+    → MarksStand l rows → IsPermutation (filter (is_mark_of j) rows) (map (mark_at_pos j) found)
+    → list_any (λ q. q == p) found ≡ is_taken (history l j) p
+marks_found l rows found j p stand same =
+    sym (any-map (mark_at_pos j) (λ (m : MarkRow). m.pos == p) found)
+    ∙ sym
+    (list_any-IsPermutation (λ (m : MarkRow). m.pos == p) (filter (is_mark_of j) rows) (map (mark_at_pos j) found) same)
+    ∙ any-filter (is_mark_of j) (λ (m : MarkRow). m.pos == p) rows ∙ stand.each j p

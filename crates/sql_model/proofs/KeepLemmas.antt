@@ -1,0 +1,67 @@
+-- What a read keeps. For the functions that read.
+use Rattle.std.proofs.Common.{◌≡◌, ◌⊎◌, inl, inr, Bool, true, false, IsTrue, refl, sym, ap, subst, ◌∙◌}
+use Rattle.sqlite.specs.Tree.{Trees}
+use Rattle.sqlite.specs.Effect.{Database, IsDatabase}
+use Rattle.sqlite.specs.State.{State as Connected, HasCleanDisk, IsUnchanged, IsRolledBack, Survives}
+use Rattle.desk_sql.specs.declared.versions.Version.{Version}
+use Rattle.sqlite_schema.specs.declared.schema.Schema.{Schema}
+use Rattle.desk_sql.specs.Calls.{SeesIn, MaySeeIn}
+use Rattle.desk_sql.specs.Schema.{schema_of}
+use Rattle.desk_sql.specs.Rows.{Tables, ShowsIn, no_rows}
+use Rattle.ledger.specs.Answer.{State}
+use Rattle.sql_model.specs.Standing.{StandsIn}
+use Rattle.sql_model.specs.Keeping.{IsKeptIn, SeesOf}
+
+-- a connection that keeps a state may see tables that, as far as it is open, stand for it
+pub record IsSeen (v : Version) (c : Connected) (s : State) : Type 0 where
+  pub tables : Tables
+  pub may : MaySeeIn v c tables
+  pub stands : IsTrue c.is_open → StandsIn v tables s
+
+-- whether it is open or not
+pub seen_by : {v : Version} (c : Connected) (s : State) → IsKeptIn v c s → IsSeen v c s
+seen_by {v} c s kept = by_cases c.is_open refl
+  where
+    by_cases : (b : Bool) → c.is_open ≡ b → IsSeen v c s
+    by_cases true e = let saw = kept.sees e in
+        record { tables = saw.tables; may = λ _. record { schema = saw.schema; rows = saw.shown; sound = saw.sound }; stands = λ _. saw.stands }
+    by_cases false e =
+        let shut : IsTrue c.is_open → ⊥ = λ live. (let no : true ≡ false = sym live ∙ e in cc) in
+        record { tables = no_rows; may = λ live. absurd (shut live); stands = λ live. absurd (shut live) }
+
+-- trees in which a connection sees tables of a version list the schema of that version, and obey it
+pub is_database : {v : Version} (c : Connected) (t : Tables) → SeesIn v c t
+    → IsDatabase (record { schema = schema_of v; trees = c.now.trees })
+is_database c t sees =
+    subst (λ (schema : Schema). IsDatabase (record { schema = schema; trees = c.now.trees })) sees.schema sees.sound
+
+-- what a stop may leave after a read it could leave before
+pub left_before : (a b : Connected) → Survives a b (λ _. ⊥) → HasCleanDisk b → (db : Trees) → b.may_leave db → a.may_leave db
+left_before a b less clean db may = elim (less.crash clean db may) [ inl before ↦ before | inr none ↦ absurd none ]
+
+-- a desk that is seen stays so where both databases are the same
+same_desk : {v : Version} (a b : Connected) (s : State) → SeesOf v a s → b.now ≡ a.now → b.committed ≡ a.committed → SeesOf v b s
+same_desk {v} a b s saw now committed = record {
+  schema = ap (λ (d : Database). d.schema) now ∙ saw.schema;
+  sound = subst IsDatabase (sym now) saw.sound;
+  committed = now ∙ saw.committed ∙ sym committed;
+  tables = saw.tables;
+  shown = subst (λ (d : Database). ShowsIn v d.trees saw.tables) (sym now) saw.shown;
+  stands = saw.stands;
+}
+
+-- a read that answers keeps the state
+pub unchanged_keeps : {v : Version} (a b : Connected) (s : State) → IsKeptIn v a s → IsUnchanged a b → Survives a b (λ _. ⊥) → HasCleanDisk b → IsKeptIn v b s
+unchanged_keeps a b s kept same less clean = record {
+  sees = λ _. same_desk a b s (kept.sees same.0.was_open) same.0.now_is same.0.committed_is;
+  leaves = λ db may. kept.leaves db (left_before a b less clean db may);
+}
+
+-- and so does one that fails, whether it changed nothing or was rolled back
+pub quiet_keeps : {v : Version} (a b : Connected) (s : State) → IsKeptIn v a s → IsUnchanged a b ⊎ IsRolledBack a b → Survives a b (λ _. ⊥) → HasCleanDisk b → IsKeptIn v b s
+quiet_keeps a b s kept (inl same) less clean = unchanged_keeps a b s kept same less clean
+quiet_keeps a b s kept (inr back) less clean = record {
+  sees = λ live. (let saw = kept.sees (back.was_open live) in
+      same_desk a b s saw ((back.undone live).0 ∙ sym saw.committed) (back.undone live).1);
+  leaves = λ db may. kept.leaves db (left_before a b less clean db may);
+}

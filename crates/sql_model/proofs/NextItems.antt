@@ -1,0 +1,113 @@
+-- The item of a journey that comes next behind an event. For the reads of its items, one at a time.
+use Rattle.std.proofs.Common.{◌≡◌, ℕ, zero, suc, ◌+◌, ◌<◌, ◌==◌, List, [], ◌∷◌, drop, find, filter, cond, Bool, true, false, if◌then◌else◌, Option, Some, None, refl, sym, ap, subst, ◌∙◌, arith}
+use Rattle.std.specs.Prelude.{◌&&◌, nat_lt}
+use Rattle.std.specs.List.{cons_option}
+use Rattle.std.specs.List.Sorted.{IsPermutation}
+use Rattle.std.proofs.lemmas.Bool.{and_from, and_right, lt-ltb, le-ltb}
+use Rattle.commands.specs.declared.items.Item.{Item}
+use Rattle.ledger.specs.Ledger.{Event, Loaded, Began, Did, history}
+use Rattle.desk_sql.specs.FoundRows.{is_item_of, is_item_after}
+use Rattle.desk_sql.specs.Lists.{IsLeastOf}
+use Rattle.desk_sql.specs.Rows.{EntryRow}
+use Rattle.sql_model.specs.ExpectedRows.{entry_row_of, entries_called}
+use Rattle.sql_model.specs.Reading.{item_in}
+use Rattle.sql_model.proofs.ItemRows.{entries_from, entries_from-rise, entry_num, entry_journey, item_back, turned}
+use Rattle.sql_model.proofs.Orders.{least_is_first}
+
+-- of events that are counted from a number, behind so many, the row tells the first item of the journey; the later ones
+-- stand behind its own event
+pub record TellsNext (j n behind : ℕ) (l : List Event) (e : EntryRow) : Type 0 where
+  pub item : Item
+  pub told : item_in e ≡ Some item
+  pub past : ℕ
+  pub number : n + past ≡ e.num + 1
+  pub rest : history (drop behind l) j ≡ item ∷ history (drop past l) j
+
+-- the row tells the next item; where there is no row there is none
+abbrev pub TellsIfNext : ℕ → ℕ → ℕ → List Event → Option EntryRow → Type 0
+TellsIfNext j n behind l None = history (drop behind l) j ≡ []
+TellsIfNext j n behind l (Some e) = TellsNext j n behind l e
+
+-- an event that makes no item of the journey changes nothing
+passed : (j n : ℕ) (d : Event) (l : List Event) (o : Option EntryRow) → history (d ∷ l) j ≡ history l j
+    → TellsIfNext j (suc n) 0 l o → TellsIfNext j n 0 (d ∷ l) o
+passed j n d l None e none = e ∙ none
+passed j n d l (Some x) e tells = record {
+  item = tells.item;
+  told = tells.told;
+  past = suc tells.past;
+  number = (let number = tells.number in omega arith);
+  rest = e ∙ tells.rest;
+}
+
+-- nor does one that is not looked at
+skipped : (j n behind : ℕ) (d : Event) (l : List Event) (o : Option EntryRow)
+    → TellsIfNext j (suc n) behind l o → TellsIfNext j n (suc behind) (d ∷ l) o
+skipped j n behind d l None none = none
+skipped j n behind d l (Some x) tells = record {
+  item = tells.item;
+  told = tells.told;
+  past = suc tells.past;
+  number = (let number = tells.number in omega arith);
+  rest = tells.rest;
+}
+
+module _ (j after : ℕ) where
+  -- among the rows above the number
+  above : (n : ℕ) (l : List Event) → after < n
+      → TellsIfNext j n 0 l (find (is_item_after j after) (entries_from n l))
+  above n [] low = refl
+  above n (Loaded name rows ∷ l) low =
+      passed j n (Loaded name rows) l _ refl (above (suc n) l (omega arith))
+  above n (Began agent plan ∷ l) low =
+      passed j n (Began agent plan) l _ refl (above (suc n) l (omega arith))
+  above n (Did k item ∷ l) low = go (j == k) refl (above (suc n) l (omega arith))
+    where
+      go : (v : Bool) → (j == k) ≡ v
+          → TellsIfNext j (suc n) 0 l (find (is_item_after j after) (entries_from (suc n) l))
+          → TellsIfNext j n 0 (Did k item ∷ l) (find (is_item_after j after) (entries_from n (Did k item ∷ l)))
+      go v e rest =
+          by v e (ap (λ i. i == j) (entry_journey n k item) ∙ turned k j ∙ e) rest
+        where
+          by : (w : Bool) → (j == k) ≡ w → is_item_of j (entry_row_of n k item) ≡ w
+              → TellsIfNext j (suc n) 0 l (find (is_item_after j after) (entries_from (suc n) l))
+              → TellsIfNext j n 0 (Did k item ∷ l) (find (is_item_after j after) (entries_from n (Did k item ∷ l)))
+          by true own is rest =
+              let number = entry_num n k item in
+              subst (λ v. TellsIfNext j n 0 (Did k item ∷ l) (cond v (Some (entry_row_of n k item)) (find (is_item_after j after) (entries_from (suc n) l))))
+              (sym (and_from _ _ is (lt-ltb after (entry_row_of n k item).num (omega arith)))) (record {
+                item = item;
+                told = item_back n k item;
+                past = 1;
+                number = omega arith;
+                rest = ap (λ v. cons_option (if v then Some item else None) (history l j)) own;
+              })
+          by false other is rest =
+              subst (λ v. TellsIfNext j n 0 (Did k item ∷ l) (cond v (Some (entry_row_of n k item)) (find (is_item_after j after) (entries_from (suc n) l))))
+              (sym (ap (λ v. v && nat_lt after (entry_row_of n k item).num) is))
+              (passed j n (Did k item) l _ (ap (λ v. cons_option (if v then Some item else None) (history l j)) other) rest)
+
+  -- among all rows
+  behind_all : (n m : ℕ) (l : List Event) → n + m ≡ after + 1
+      → TellsIfNext j n m l (find (is_item_after j after) (entries_from n l))
+  behind_all n zero l up = above n l (omega arith)
+  behind_all n (suc m) [] up = refl
+  behind_all n (suc m) (Loaded name rows ∷ l) up =
+      skipped j n m (Loaded name rows) l _ (behind_all (suc n) m l (omega arith))
+  behind_all n (suc m) (Began agent plan ∷ l) up =
+      skipped j n m (Began agent plan) l _ (behind_all (suc n) m l (omega arith))
+  behind_all n (suc m) (Did k item ∷ l) up =
+      let number = entry_num n k item in
+      subst (λ v. TellsIfNext j n (suc m) (Did k item ∷ l) (cond v (Some (entry_row_of n k item)) (find (is_item_after j after) (entries_from (suc n) l))))
+      (sym (and_right (is_item_of j (entry_row_of n k item)) _ (le-ltb after (entry_row_of n k item).num (omega arith))))
+      (skipped j n m (Did k item) l _ (behind_all (suc n) m l (omega arith)))
+
+-- the row of the least number that is found behind so many events tells the journey's next item
+pub next_found : (l : List Event) (rows : List EntryRow) (j after : ℕ) (found : Option EntryRow)
+    → IsPermutation (entries_called l) rows
+    → IsLeastOf (λ (e : EntryRow). e.num) (filter (is_item_after j after) rows) found
+    → TellsIfNext j 1 after l found
+next_found l rows j after found same least =
+    subst (TellsIfNext j 1 after l)
+    (least_is_first (λ (e : EntryRow). e.num) (is_item_after j after) (entries_called l) rows found (entries_from-rise 1 l) same least)
+    (behind_all j after 1 after l (omega arith))

@@ -1,0 +1,165 @@
+-- The rows of one step of a journey's plan.
+use Rattle.std.proofs.Common.{◌≡◌, ℕ, zero, suc, ◌+◌, ◌<◌, ◌==◌, List, [], ◌∷◌, ◌++◌, map, filter, length, Bool, true, false, Option, Some, None, IsTrue, refl, sym, ap, ap₂, subst, ◌∙◌, arith, eq-eqb, append-nil}
+use Rattle.std.specs.Prelude.{slice_get, flat_map, ◌&&◌}
+use Rattle.std.specs.List.{AllByRecursion}
+use Rattle.std.specs.List.Sorted.{IsPermutation}
+use Rattle.std.proofs.lemmas.Bool.Decides.{nat_tests}
+use Rattle.std.proofs.lemmas.List.Elements.{filter-append}
+use Rattle.std.proofs.lemmas.List.Sorted.{IsPermutation-trans}
+use Rattle.sqlite_rules.proofs.ListLemmas.{has_filtered}
+use Rattle.sqlite_trees.specs.Tree.{IsAscending}
+use Rattle.sqlite_trees.proofs.ListLemmas.{IsPermutation-filter, ascending-filter, filter_all, filter_none, all-map, all_of}
+use Rattle.allotment.specs.Want.{Wanted}
+use Rattle.plan.specs.PlanModel.{Planned, StepPlan, numbered, is_plan}
+use Rattle.ledger.specs.Ledger.{Event, Journey, journey_at, history}
+use Rattle.desk_sql.specs.FoundRows.{is_step_of, is_option_of, IsByPlace, step_of}
+use Rattle.desk_sql.specs.Rows.{StepRow}
+use Rattle.desk_sql.specs.declared.steps.StepFound.{StepFound}
+use Rattle.sql_model.specs.ExpectedRows.{counted_from, option_row, option_rows, step_rows, is_standing, steps_called}
+use Rattle.sql_model.proofs.StepRows.{steps_found}
+use Rattle.sql_model.proofs.Orders.{found_in_order}
+use Rattle.sql_model.proofs.PlanRows.{rank, step_rows-rise, have_options, by_rank}
+
+-- the row is one of this step
+abbrev pub is_at : ℕ → StepRow → Bool
+is_at place r = r.place == place
+
+module _ (taken : ℕ → ℕ → Bool) (id : ℕ) where
+  abbrev rows_in : ℕ × StepPlan → List StepRow
+  rows_in s = option_rows taken id s.0 s.1
+
+  -- the rows of a step that may be there
+  abbrev rows_if : ℕ → Option StepPlan → List StepRow
+  rows_if place None = []
+  rows_if place (Some p) = option_rows taken id place p
+
+  at_step : (n : ℕ) (p : StepPlan) → AllByRecursion (λ (r : StepRow). r.place ≡ n) (rows_in (n, p))
+  at_step n p =
+      all-map (λ (r : StepRow). r.place ≡ n) (λ (w : ℕ × Wanted). option_row id n p.is_marked w.0 (taken n w.0) w.1)
+      (counted_from 1 p.options) (all_of _ (λ w. refl) (counted_from 1 p.options))
+
+  own : (n place : ℕ) (p : StepPlan) → n ≡ place → filter (is_at place) (rows_in (n, p)) ≡ rows_if place (Some p)
+  own n place p e =
+      filter_all (is_at place) (rows_in (n, p)) (each (rows_in (n, p)) (at_step n p)) ∙ ap (λ k. rows_in (k, p)) e
+    where
+      each : (rows : List StepRow) → AllByRecursion (λ (r : StepRow). r.place ≡ n) rows
+          → AllByRecursion (λ r. is_at place r ≡ true) rows
+      each [] all = tt
+      each (r ∷ rows) all = (eq-eqb r.place place (all.0 ∙ e), each rows all.1)
+
+  other : (n place : ℕ) (p : StepPlan) → (n == place) ≡ false → filter (is_at place) (rows_in (n, p)) ≡ []
+  other n place p e = filter_none (is_at place) (rows_in (n, p)) (each (rows_in (n, p)) (at_step n p))
+    where
+      each : (rows : List StepRow) → AllByRecursion (λ (r : StepRow). r.place ≡ n) rows
+          → AllByRecursion (λ r. is_at place r ≡ false) rows
+      each [] all = tt
+      each (r ∷ rows) all = (ap (λ k. k == place) all.0 ∙ e, each rows all.1)
+
+  past : (n place : ℕ) (ps : List StepPlan) → place < n → filter (is_at place) (flat_map rows_in (counted_from n ps)) ≡ []
+  past n place [] above = refl
+  past n place (p ∷ ps) above =
+      let off : (n == place) ≡ false = grind (arith, nat_tests) in
+      filter-append (is_at place) (rows_in (n, p)) (flat_map rows_in (counted_from (suc n) ps))
+      ∙ ap₂ ◌++◌ (other n place p off) (past (suc n) place ps (omega arith))
+
+  from : (n i place : ℕ) (ps : List StepPlan) → n + i ≡ place
+      → filter (is_at place) (flat_map rows_in (counted_from n ps)) ≡ rows_if place (slice_get ps i)
+  from n i place [] e = refl
+  from n zero place (p ∷ ps) e =
+      filter-append (is_at place) (rows_in (n, p)) (flat_map rows_in (counted_from (suc n) ps))
+      ∙ ap₂ ◌++◌ (own n place p (omega arith)) (past (suc n) place ps (omega arith))
+      ∙ append-nil (rows_if place (Some p))
+  from n (suc i) place (p ∷ ps) e =
+      let off : (n == place) ≡ false = grind (arith, nat_tests) in
+      filter-append (is_at place) (rows_in (n, p)) (flat_map rows_in (counted_from (suc n) ps))
+      ∙ ap₂ ◌++◌ (other n place p off) (from (suc n) i place ps (omega arith))
+
+-- of the rows of a plan those of one step are the rows of its options
+pub step_rows_at : (taken : ℕ → ℕ → Bool) (id : ℕ) (plan : Planned) (place : ℕ) (p : StepPlan)
+    → numbered plan.steps place ≡ Some p → filter (is_at place) (step_rows taken id plan) ≡ option_rows taken id place p
+step_rows_at taken id plan zero p e = cc
+step_rows_at taken id plan (suc i) p e =
+    from taken id 1 i (suc i) plan.steps (omega arith) ∙ ap (rows_if taken id (suc i)) e
+
+-- a test after another is both
+filter_both : {X : Type 0} (p q : X → Bool) (xs : List X) → filter q (filter p xs) ≡ filter (λ x. p x && q x) xs
+filter_both p q [] = refl
+filter_both {X} p q (x ∷ xs) = go (p x) refl (q x) refl (filter_both p q xs)
+  where
+    go : (a : Bool) → p x ≡ a → (b : Bool) → q x ≡ b → filter q (filter p xs) ≡ filter (λ y. p y && q y) xs
+        → filter q (filter p (x ∷ xs)) ≡ filter (λ y. p y && q y) (x ∷ xs)
+    go true e true f rest = simp (e, f, rest)
+    go true e false f rest = simp (e, f, rest)
+    go false e b f rest = simp (e, f, rest)
+
+-- the rows that are found of a step, in order, are those of that step of the plan
+pub options_found_in_order : (l : List Event) (rows found : List StepRow) (id place : ℕ) (a : Journey)
+    → IsPermutation (steps_called l) rows → journey_at l id ≡ Some a → IsTrue (is_plan a.plan)
+    → IsPermutation (filter (is_option_of id place) rows) found → IsAscending IsByPlace found
+    → found ≡ filter (is_at place) (step_rows (is_standing (history l id)) id a.plan)
+options_found_in_order l rows found id place a same at good sorted up =
+    found_in_order rank IsByPlace own_rows found
+    (IsPermutation-trans own_rows (filter (is_at place) (filter (is_step_of id) rows)) found
+    (IsPermutation-filter (is_at place) called (filter (is_step_of id) rows) (steps_found l rows id a same at))
+    (subst (λ xs. IsPermutation xs found) (sym (filter_both (is_step_of id) (is_at place) rows)) sorted))
+    (ascending-filter _ (is_at place) called (step_rows-rise (is_standing (history l id)) id a.plan (have_options a.plan good))) up
+    (λ r s h k. by_rank l id a good r s (has_filtered (is_at place) called r h).0 (has_filtered (is_at place) called s k).0)
+  where
+    called : List StepRow
+    called = step_rows (is_standing (history l id)) id a.plan
+
+    own_rows : List StepRow
+    own_rows = filter (is_at place) called
+
+-- What the rows of a step tell.
+
+module _ (id place : ℕ) (taken : ℕ → ℕ → Bool) (m : Bool) where
+  abbrev row_at : ℕ × Wanted → StepRow
+  row_at w = option_row id place m w.0 (taken place w.0) w.1
+
+  -- this option's want has this row
+  abbrev pub IsRowAt : ℕ → List Wanted → StepFound → ℕ → Type 0
+  IsRowAt n ws row i = (w : Wanted) × (slice_get ws i ≡ Some w) × (step_of id row ≡ option_row id place m n (taken place n) w)
+
+  many : (n : ℕ) (ws : List Wanted) (found : List StepFound) → map (step_of id) found ≡ map row_at (counted_from n ws)
+      → length found ≡ length ws
+  many n [] [] e = refl
+  many n [] (f ∷ fs) e = cc
+  many n (w ∷ ws) [] e = cc
+  many n (w ∷ ws) (f ∷ fs) e =
+      let rest : map (step_of id) fs ≡ map row_at (counted_from (suc n) ws) = cc in ap suc (many (suc n) ws fs rest)
+
+  told : (n : ℕ) (ws : List Wanted) (found : List StepFound) → map (step_of id) found ≡ map row_at (counted_from n ws)
+      → (i : ℕ) (row : StepFound) → slice_get found i ≡ Some row → IsRowAt (n + i) ws row i
+  told n ws [] e i row there = cc
+  told n [] (f ∷ fs) e i row there = cc
+  told n (w ∷ ws) (f ∷ fs) e zero row there =
+      let head : step_of id f ≡ row_at (n, w) = cc in
+      let here : f ≡ row = cc in
+      let number : n + 0 ≡ n = omega arith in
+      (w, refl, ap (step_of id) (sym here) ∙ head ∙ ap (λ k. row_at (k, w)) (sym number))
+  told n (w ∷ ws) (f ∷ fs) e (suc i) row there =
+      let rest : map (step_of id) fs ≡ map row_at (counted_from (suc n) ws) = cc in
+      let number : suc n + i ≡ n + suc i = omega arith in
+      subst (λ k. IsRowAt k (w ∷ ws) row (suc i)) number (told (suc n) ws fs rest i row there)
+
+-- there is a row for each option of a step, by its number
+pub option_row_at : (id place : ℕ) (taken : ℕ → ℕ → Bool) (p : StepPlan) (found : List StepFound)
+    → map (step_of id) found ≡ option_rows taken id place p
+    → (length found ≡ length p.options)
+    × ((i : ℕ) (row : StepFound) → slice_get found i ≡ Some row
+    → (w : Wanted) × (numbered p.options (i + 1) ≡ Some w)
+    × (step_of id row ≡ option_row id place p.is_marked (i + 1) (taken place (i + 1)) w))
+option_row_at id place taken p found e = (many id place taken p.is_marked 1 p.options found e, λ i row there. at i row there)
+  where
+    at : (i : ℕ) (row : StepFound) → slice_get found i ≡ Some row
+        → (w : Wanted) × (numbered p.options (i + 1) ≡ Some w)
+        × (step_of id row ≡ option_row id place p.is_marked (i + 1) (taken place (i + 1)) w)
+    at i row there =
+        let it = told id place taken p.is_marked 1 p.options found e i row there in
+        let number : 1 + i ≡ i + 1 = omega arith in
+        let next : suc i ≡ i + 1 = omega arith in (
+          it.0,
+          ap (numbered p.options) (sym next) ∙ it.1,
+          it.2 ∙ ap (λ n. option_row id place p.is_marked n (taken place n) it.0) number,
+        )

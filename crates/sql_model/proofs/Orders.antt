@@ -1,0 +1,191 @@
+-- Rows that come in another order: they are apart still, and of their orders one alone rises.
+use Rattle.std.proofs.Common.{◌≡◌, ◌≢◌, ◌⊎◌, inl, inr, ℕ, ◌<◌, ◌≤◌, List, [], ◌∷◌, Bool, true, false, filter, find, cond, Option, Some, None, refl, sym, ap, ap₂, subst, ◌∙◌, arith}
+use Rattle.std.specs.List.{AllByRecursion}
+use Rattle.std.specs.List.Sorted.{IsPermutation}
+use Rattle.std.proofs.lemmas.List.Sorted.{IsPermutation-refl, IsPermutation-cons, IsPermutation-middle, IsPermutation-trans}
+use Rattle.sqlite_trees.specs.Tree.{IsAscending}
+use Rattle.sqlite_trees.proofs.ListLemmas.{along_permutation, all-permutation}
+use Rattle.sqlite_rules.specs.Lists.{Has}
+use Rattle.sqlite_rules.proofs.ListLemmas.{all_has, all_from, has_filtered, has_kept, has_found}
+use Rattle.desk_sql.specs.Lists.{IsOneOf, IsLeastOf}
+use Rattle.desk_sql.proofs.Members.{permutation_from, permutation_to}
+use Rattle.sql_model.specs.Standing.{AreApart}
+use Rattle.sql_model.proofs.Finding.{find-none}
+
+-- each element is below all that come later
+abbrev pub Rises : {X : Type 0} → (X → ℕ) → List X → Type 0
+Rises key xs = IsAscending (λ a b. key a < key b) xs
+
+-- Pairs.
+
+module _ {X : Type 0} (R : X → X → Type 0) (back : (a b : X) → R a b → R b a) where
+  -- one is the other in another order, and its pairs are related too
+  abbrev Kept : List X → List X → Type 0
+  Kept ls ms = IsPermutation ls ms × (IsAscending R ls → IsAscending R ms)
+
+  nothing : (ls : List X) → Kept ls ls
+  nothing ls = (IsPermutation-refl ls, λ up. up)
+
+  under : (a : X) (ls ms : List X) → Kept ls ms → Kept (a ∷ ls) (a ∷ ms)
+  under a ls ms h =
+      (IsPermutation-cons a ls ms h.0, λ up. (all-permutation (R a) ls ms h.0 up.0, h.1 up.1))
+
+  turned : (a b : X) (ls : List X) → Kept (a ∷ b ∷ ls) (b ∷ a ∷ ls)
+  turned a b ls =
+      (IsPermutation-middle (a ∷ []) b ls, λ up. ((back a b up.0.0, up.1.0), (up.0.1, up.1.1)))
+
+  chained : (ls ms ns : List X) → Kept ls ms → Kept ms ns → Kept ls ns
+  chained ls ms ns h k = (IsPermutation-trans ls ms ns h.0 k.0, λ up. k.1 (h.1 up))
+
+  -- what holds of each two elements, whichever comes first, holds in every order
+  pub pairs-permutation : (xs ys : List X) → IsPermutation xs ys → IsAscending R xs
+      → IsAscending R ys
+  pairs-permutation xs ys same = (along_permutation Kept nothing under turned chained xs ys same).1
+
+-- One order.
+
+-- two rising lists with the same elements are one
+pub one_rising : {X : Type 0} (key : X → ℕ) (xs ys : List X) → Rises key xs → Rises key ys
+    → ((x : X) → Has xs x → Has ys x) → ((x : X) → Has ys x → Has xs x) → xs ≡ ys
+one_rising key [] [] p q a b = refl
+one_rising key [] (y ∷ ys) p q a b = absurd (b y (inl refl))
+one_rising key (x ∷ xs) [] p q a b = absurd (a x (inl refl))
+one_rising {X} key (x ∷ xs) (y ∷ ys) p q a b =
+    let first : x ≡ y = elim (a x (inl refl)) [
+      | inl e ↦ e
+      | inr later ↦ elim
+          (b y (inl refl)) [ inl e ↦ sym e | inr also ↦ absurd (let one = all_has _ xs y p.0 also in let two = all_has _ ys x q.0 later in omega arith) ]
+    ] in
+    let past =
+    λ (z : X) (zs : List X) (up : AllByRecursion (λ r. key z < key r) zs) (r : X) (h : Has zs r)
+    (e : r ≡ z).
+    let lower = rw e at (all_has _ zs r up h) in absurd {A = ⊥} (omega (arith, lower)) in
+    ap₂ ◌∷◌ first (one_rising key xs ys p.1 q.1
+    (λ r h. elim (a r (inr h)) [ inl e ↦ absurd (past x xs p.0 r h (e ∙ sym first)) | inr k ↦ k ])
+    (λ r h. elim (b r (inr h)) [ inl e ↦ absurd (past y ys q.0 r h (e ∙ first)) | inr k ↦ k ]))
+
+-- what rises is the only rising order of its elements
+pub one_order : {X : Type 0} (key : X → ℕ) (xs ys : List X) → IsPermutation xs ys → Rises key xs
+    → Rises key ys → ys ≡ xs
+one_order key xs ys same p q =
+    one_rising key ys xs q p (λ x h. permutation_from xs ys x same h)
+    (λ x h. permutation_to xs ys x same h)
+
+-- what follows for elements of the list follows for its pairs
+pub ascending_where : {X : Type 0} (R S : X → X → Type 0) (xs : List X)
+    → ((a b : X) → Has xs a → Has xs b → R a b → S a b) → IsAscending R xs → IsAscending S xs
+ascending_where R S [] follows up = tt
+ascending_where R S (x ∷ xs) follows up =
+    (all_from _ xs (λ b h. follows x b (inl refl) (inr h) (all_has _ xs b up.0 h)), ascending_where R S xs (λ a b h k. follows a b (inr h) (inr k)) up.1)
+
+-- elements whose keys differ rise, where keys do not fall
+pub climbs : {X : Type 0} (key : X → ℕ) (R : X → X → Type 0) (xs : List X)
+    → ((a b : X) → Has xs a → Has xs b → R a b → key a ≤ key b) → IsAscending R xs
+    → IsAscending (λ a b. key a ≢ key b) xs → Rises key xs
+climbs key R [] falls_not up apart = tt
+climbs key R (x ∷ xs) falls_not up apart = (
+  all_from _ xs (λ b h.
+      let low = falls_not x b (inl refl) (inr h) (all_has _ xs b up.0 h) in
+      let off = all_has _ xs b apart.0 h in
+      omega (arith, low, off)),
+  climbs key R xs (λ a b h k. falls_not a b (inr h) (inr k)) up.1 apart.1,
+)
+
+-- elements that rise do so again once they are in an order in which keys do not fall
+pub rises_in_order : {X : Type 0} (key : X → ℕ) (R : X → X → Type 0) (xs ys : List X)
+    → IsPermutation xs ys → Rises key xs → IsAscending R ys
+    → ((a b : X) → Has xs a → Has xs b → R a b → key a ≤ key b) → Rises key ys
+rises_in_order key R xs ys same up sorted falls_not =
+    climbs key R ys
+    (λ a b h k. falls_not a b (permutation_from xs ys a same h) (permutation_from xs ys b same k)) sorted
+    (pairs-permutation (λ a b. key a ≢ key b) (λ a b off e. off (sym e)) xs ys same (ascending_where (λ a b. key a < key b) (λ a b. key a ≢ key b) xs (λ a b h k low e. omega arith) up))
+
+-- the answer in order is the list that rises
+pub found_in_order : {X : Type 0} (key : X → ℕ) (R : X → X → Type 0) (xs ys : List X)
+    → IsPermutation xs ys → Rises key xs → IsAscending R ys
+    → ((a b : X) → Has xs a → Has xs b → R a b → key a ≤ key b) → ys ≡ xs
+found_in_order key R xs ys same up sorted falls_not =
+    one_order key xs ys same up (rises_in_order key R xs ys same up sorted falls_not)
+
+-- One of a kind.
+
+-- of elements that are apart at most one passes, where those that pass are the same
+pub found_is_first : {X : Type 0} (same : X → X → Bool) (test : X → Bool) (xs : List X) (found : Option X)
+    → AreApart same xs
+    → ((a b : X) → test a ≡ true → test b ≡ true → same a b ≡ true) → IsOneOf (filter test xs) found
+    → find test xs ≡ found
+found_is_first {X} same test xs found apart alike one = go xs apart found one
+  where
+    none_else : (x : X) (ls : List X) → test x ≡ true → AllByRecursion (λ y. same x y ≡ false) ls
+        → (y : X) → Has (filter test ls) y → ⊥
+    none_else x ls passes others y h =
+        let there = has_filtered test ls y h in
+        let on = alike x y passes there.1 in
+        let off = all_has _ ls y others there.0 in
+        let bad : true ≡ false = sym on ∙ off in cc
+
+    first : (a : X) (ls : List X) (v : Bool) → test a ≡ v
+        → AllByRecursion (λ y. same a y ≡ false) ls → (o : Option X)
+        → IsOneOf (cond v (a ∷ filter test ls) (filter test ls)) o
+        → ((p : Option X) → IsOneOf (filter test ls) p → find test ls ≡ p)
+        → cond v (Some a) (find test ls) ≡ o
+    first a ls true t others None is rest = cc
+    first a ls true t others (Some b) (inl e) rest = ap Some (sym e)
+    first a ls true t others (Some b) (inr later) rest = absurd (none_else a ls t others b later)
+    first a ls false t others o is rest = rest o is
+
+    go : (ls : List X) → AreApart same ls → (o : Option X) → IsOneOf (filter test ls) o
+        → find test ls ≡ o
+    go [] up None is = refl
+    go [] up (Some b) is = absurd is
+    go (a ∷ ls) up o is = first a ls (test a) refl up.0 o is (go ls up.1)
+
+-- The least.
+
+first_least : {X : Type 0} (key : X → ℕ) (test : X → Bool) (xs : List X) (y x : X) → Rises key xs
+    → find test xs ≡ Some y → Has xs x → test x ≡ true → (x ≡ y) ⊎ (key y < key x)
+first_least key test [] y x up found h passes = absurd h
+first_least {X} key test (z ∷ xs) y x up found h passes =
+    go (test z) refl found h (λ e k. first_least key test xs y x up.1 e k passes)
+  where
+    go : (v : Bool) → test z ≡ v → cond v (Some z) (find test xs) ≡ Some y → Has (z ∷ xs) x
+        → (find test xs ≡ Some y → Has xs x → (x ≡ y) ⊎ (key y < key x)) → (x ≡ y) ⊎ (key y < key x)
+    go true t is (inl same) rest = inl (same ∙ (let here : z ≡ y = cc in here))
+    go true t is (inr later) rest =
+        let here : z ≡ y =
+        cc in inr (subst (λ (w : X). key w < key x) here (all_has _ xs x up.0 later))
+    go false t is (inl same) rest = let bad : true ≡ false = sym passes ∙ ap test same ∙ t in cc
+    go false t is (inr later) rest = rest is later
+
+-- of rows whose numbers rise once they are in order, the least that passes is the first that does
+pub least_is_first : {X : Type 0} (key : X → ℕ) (test : X → Bool) (xs rows : List X) (found : Option X)
+    → Rises key xs → IsPermutation xs rows → IsLeastOf key (filter test rows) found
+    → find test xs ≡ found
+least_is_first {X} key test xs rows None up same none = go (find test xs) refl
+  where
+    go : (o : Option X) → find test xs ≡ o → find test xs ≡ None
+    go None e = e
+    go (Some y) e =
+        let there = has_found test xs y e in
+        absurd
+        (subst (λ ls. Has ls y) none (has_kept test rows y (permutation_to xs rows y same there.0) there.1))
+least_is_first {X} key test xs rows (Some x) up same least = go (find test xs) refl
+  where
+    here : Has rows x × (test x ≡ true)
+    here = has_filtered test rows x least.0
+
+    in_order : Has xs x
+    in_order = permutation_from xs rows x same here.0
+
+    go : (o : Option X) → find test xs ≡ o → find test xs ≡ Some x
+    go None e =
+        let bad : test x ≡ false =
+        all_has _ xs x (find-none test xs e) in_order in let no : true ≡ false =
+        sym here.1 ∙ bad in cc
+    go (Some y) e =
+        let there = has_found test xs y e in
+        let low =
+        least.1 y (has_kept test rows y (permutation_to xs rows y same there.0) there.1) in
+        e
+        ∙ ap Some
+        (elim (first_least key test xs y x up e in_order here.1) [ inl is ↦ sym is | inr high ↦ absurd (omega arith) ])

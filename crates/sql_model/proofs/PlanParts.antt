@@ -1,0 +1,62 @@
+-- The rows of a plan, step by step and option by option, and how many of them there are. For who writes or reads them.
+use Rattle.std.proofs.Common.{◌≡◌, ℕ, zero, suc, ◌+◌, ◌<◌, List, [], ◌∷◌, ◌++◌, length, false, refl, sym, ap, ◌∙◌, arith, add-one}
+use Rattle.std.specs.Prelude.{Option, Some, None, option_map, option_and_then, unwrap_or, slice_get}
+use Rattle.allotment.specs.Want.{Wanted}
+use Rattle.plan.specs.PlanModel.{Planned, StepPlan, numbered, option_count, step_count}
+use Rattle.sql_model.specs.ExpectedRows.{option_row, option_rows, step_rows_of, none_taken}
+use Rattle.sql_model.specs.Beginning.{first_options, first_steps, rows_of_step, rows_of_option, first_rows_of_step}
+use Rattle.sql_model.proofs.PlanWriting.{option_rows-more, option_rows-all, step_rows-more}
+
+-- The options of a step.
+
+-- below its length a list has an element
+none_within : {X : Type 0} (xs : List X) (n : ℕ) → slice_get xs n ≡ None → n < length xs → ⊥
+none_within [] n e within = omega arith
+none_within (x ∷ xs) zero e within = cc
+none_within (x ∷ xs) (suc n) e within = none_within xs n e (omega arith)
+
+more_of : (id i n : ℕ) (o : Option StepPlan) → n < unwrap_or (option_map (λ (s : StepPlan). length s.options) o) 0
+    → unwrap_or (option_map (λ (s : StepPlan). option_rows none_taken id i (first_options (n + 1) s)) o) []
+    ≡ unwrap_or (option_map (λ (s : StepPlan). option_rows none_taken id i (first_options n s)) o) []
+    ++ unwrap_or (option_map (λ (w : Wanted). option_row id i (unwrap_or (option_map (λ (s : StepPlan). s.is_marked) o) false) (n + 1) false w ∷ []) (option_and_then (λ (s : StepPlan). numbered s.options (n + 1)) o)) []
+more_of id i n None within = absurd (omega arith)
+more_of id i n (Some s) within = got (slice_get s.options n) refl
+  where
+    got : (found : Option Wanted) → slice_get s.options n ≡ found
+        → option_rows none_taken id i (first_options (n + 1) s)
+        ≡ option_rows none_taken id i (first_options n s)
+        ++ unwrap_or (option_map (λ (w : Wanted). option_row id i s.is_marked (n + 1) false w ∷ []) (numbered s.options (n + 1))) []
+    got None e = absurd (none_within s.options n e within)
+    got (Some w) e =
+        option_rows-more none_taken id i s n w e
+        ∙ ap (λ f. option_rows none_taken id i (first_options n s) ++ unwrap_or (option_map (λ (v : Wanted). option_row id i s.is_marked (n + 1) false v ∷ []) f) [])
+        (sym (ap (numbered s.options) (add-one n) ∙ e))
+
+-- after some options comes the next one
+pub first_rows_of_step-more : (id : ℕ) (plan : Planned) (i n : ℕ) → n < option_count plan i
+    → first_rows_of_step id plan i (n + 1) ≡ first_rows_of_step id plan i n ++ rows_of_option id plan i (n + 1)
+first_rows_of_step-more id plan i n within = more_of id i n (numbered plan.steps i) within
+
+all_of : (id i : ℕ) (o : Option StepPlan)
+    → unwrap_or (option_map (λ (s : StepPlan). option_rows none_taken id i (first_options (unwrap_or (option_map (λ (r : StepPlan). length r.options) o) 0) s)) o) []
+    ≡ unwrap_or (option_map (λ (s : StepPlan). option_rows none_taken id i s) o) []
+all_of id i None = refl
+all_of id i (Some s) = option_rows-all none_taken id i s
+
+-- with the last option they are all there
+pub first_rows_of_step-all : (id : ℕ) (plan : Planned) (i n : ℕ) → n ≡ option_count plan i
+    → first_rows_of_step id plan i n ≡ rows_of_step id plan i
+first_rows_of_step-all id plan i n all = ap (first_rows_of_step id plan i) all ∙ all_of id i (numbered plan.steps i)
+
+-- after the rows of some steps come those of the next one
+pub step_rows_of-more : (id : ℕ) (plan : Planned) (n : ℕ) → n < step_count plan
+    → step_rows_of id (first_steps (n + 1) plan) ≡ step_rows_of id (first_steps n plan) ++ rows_of_step id plan (n + 1)
+step_rows_of-more id plan n within = got (slice_get plan.steps n) refl
+  where
+    got : (found : Option StepPlan) → slice_get plan.steps n ≡ found
+        → step_rows_of id (first_steps (n + 1) plan) ≡ step_rows_of id (first_steps n plan) ++ rows_of_step id plan (n + 1)
+    got None e = absurd (none_within plan.steps n e within)
+    got (Some s) e =
+        step_rows-more none_taken id plan n s e
+        ∙ ap (λ f. step_rows_of id (first_steps n plan) ++ unwrap_or (option_map (λ (r : StepPlan). option_rows none_taken id (n + 1) r) f) [])
+        (sym (ap (numbered plan.steps) (add-one n) ∙ e))

@@ -1,0 +1,178 @@
+-- What each reading of the tables tells of the state that they stand for.
+use Rattle.std.proofs.Common.{◌≡◌, ℕ, ◌+◌, ◌≤◌, ◌==◌, List, [], ◌∷◌, map, filter, length, take, Option, Some, IsTrue, refl, sym, ap, subst, ◌∙◌}
+use Rattle.std.specs.Prelude.{option_map, bytes_eq, nat_le, ◌&&◌}
+use Rattle.std.specs.List.{list_any}
+use Rattle.std.specs.List.Sorted.{IsPermutation}
+use Rattle.sqlite_trees.specs.Tree.{IsAscending}
+use Rattle.sqlite_trees.proofs.ListLemmas.{filter_same, all_of}
+use Rattle.allotment.specs.Want.{Wanted}
+use Rattle.allotment.specs.Cells.{kind_number}
+use Rattle.allotment.specs.declared.cells.Cell.{Cell}
+use Rattle.allotment.specs.declared.places.Held.{Held}
+use Rattle.plan.specs.PlanModel.{Planned, StepPlan, numbered, is_plan}
+use Rattle.ledger.specs.History.{is_taken}
+use Rattle.ledger.specs.Ledger.{Journey, journeys, journey_at, history}
+use Rattle.ledger.specs.Answer.{State}
+use Rattle.saga_core.specs.Views.{first_unfinished, places_shown, IsStock}
+use Rattle.desk_sql.specs.declared.versions.Version.{Version}
+use Rattle.desk_sql.specs.Versions.{number_of}
+use Rattle.desk_sql.specs.Rows.{Tables, MetaRow, StockRow, JourneyRow, EntryRow}
+use Rattle.desk_sql.specs.Changes.{AreJourneysBelow}
+use Rattle.desk_sql.specs.FoundRows.{meta_of, IsMeta, answer_of, FindsAnswer, journey_of, FindsJourney, FindsUnfinished, step_of, FindsSteps, FindsOptions, item_of, FindsItems, FindsNextItem, FindsMarks}
+use Rattle.desk_sql.specs.Stock.{is_within, night_of, FindsNights, stock_of, IsByCell, FindsStock}
+use Rattle.desk_sql.specs.declared.meta.Meta.{Meta}
+use Rattle.desk_sql.specs.declared.answers.KeptAnswer.{KeptAnswer}
+use Rattle.desk_sql.specs.declared.journeys.JourneyFound.{JourneyFound}
+use Rattle.desk_sql.specs.declared.steps.StepFound.{StepFound}
+use Rattle.desk_sql.specs.declared.items.ItemFound.{ItemFound}
+use Rattle.desk_sql.specs.declared.stock.NightRange.{NightRange}
+use Rattle.desk_sql.specs.declared.stock.NightFound.{NightFound}
+use Rattle.desk_sql.specs.declared.stock.CellFound.{CellFound}
+use Rattle.sql_model.specs.ExpectedRows.{is_standing, option_rows, step_rows, step_rows_of}
+use Rattle.sql_model.specs.Standing.{StandsIn, IsDesk}
+use Rattle.sql_model.specs.Reading.{Tells, IsAnswerOf, IsJourneyOf, IsBriefOf, item_in, not_taken, IsRangeOf, is_wanted_row, night_told, night_seen, stock_row_of}
+use Rattle.sql_model.proofs.Orders.{Rises}
+use Rattle.sql_model.proofs.Answered.{answer_found}
+use Rattle.sql_model.proofs.FirstItems.{no_item_before}
+use Rattle.sql_model.proofs.JourneyRows.{journey_found, journey_begins, next_above}
+use Rattle.sql_model.proofs.UnfinishedRows.{unfinished_found}
+use Rattle.sql_model.proofs.PlanRows.{steps_found_in_order}
+use Rattle.sql_model.proofs.OptionRows.{is_at, step_rows_at, options_found_in_order}
+use Rattle.sql_model.proofs.ItemRows.{items_found, marks_found}
+use Rattle.sql_model.proofs.NextItems.{TellsIfNext, next_found}
+use Rattle.sql_model.proofs.StockRows.{nights_found, stock_found}
+use Rattle.sql_model.proofs.RecordRows.{plan_good, plan_told}
+
+module _ {v : Version} (t : Tables) (s : State) (st : StandsIn v t s) (desk : IsDesk s) where
+  -- the row of meta counts the events and the journeys
+  pub meta_read : (m : Meta) → IsMeta t m
+      → (m.version ≡ number_of v) × (m.events ≡ length s.ledger) × (m.journeys ≡ length (journeys s.ledger))
+  meta_read m is =
+      let same : meta_of m ≡ record { version = number_of v; events = length s.ledger; journeys = length (journeys s.ledger) } =
+      (let rows = sym is ∙ st.meta in ap head_row rows) in
+      (ap (λ (r : MetaRow). r.version) same, ap (λ (r : MetaRow). r.events) same, ap (λ (r : MetaRow). r.journeys) same)
+    where
+      head_row : List MetaRow → MetaRow
+      head_row [] = record { version = 0; events = 0; journeys = 0 }
+      head_row (r ∷ rs) = r
+
+  -- the next journey's number is above all
+  pub next_is_above : AreJourneysBelow (length (journeys s.ledger) + 1) t
+  next_is_above = next_above s.ledger t.journey st.journey
+
+  -- what is found under an agent's key tells what is kept there
+  pub answer_read : (agent key : List ℕ) (found : Option KeptAnswer) → FindsAnswer agent key t found
+      → Tells IsAnswerOf (option_map (answer_of agent key) found) (s.kept agent key)
+  answer_read agent key found finds =
+      answer_found s.kept t.answer agent key
+      (option_map (answer_of agent key) found) st.answer desk.keepable finds
+
+  -- what is found of a number tells the journey with that number
+  pub journey_read : (id : ℕ) (found : Option JourneyFound) → FindsJourney id t found
+      → Tells (λ (r : JourneyRow) a. (r.id ≡ id) × IsJourneyOf s.ledger r a) (option_map journey_of found) (journey_at s.ledger id)
+  journey_read id found finds =
+      journey_found s.ledger t.journey id (option_map journey_of found) st.journey finds
+
+  -- what is found above a number tells the first unfinished journey there
+  pub unfinished_read : (after : ℕ) (found : Option JourneyFound) → FindsUnfinished after t found
+      → Tells IsBriefOf (option_map journey_of found) (first_unfinished s.ledger after)
+  unfinished_read after found finds =
+      unfinished_found s.ledger t.journey after (option_map journey_of found) st.journey finds
+
+  -- the event of a journey that was found stands before all of its items
+  pub begins_read : (id : ℕ) (found : JourneyFound) → FindsJourney id t (Some found)
+      → history (take found.num s.ledger) id ≡ []
+  begins_read id found finds =
+      let begins = journey_begins s.ledger t.journey id (journey_of found) st.journey finds in
+      ap (λ n. history (take n s.ledger) id) begins.2 ∙ no_item_before s.ledger id begins.0 desk.legal begins.1
+
+  -- the items that are found of a journey are its history, where they are sought after events that are no items of
+  -- it; the rows of the table come by their numbers
+  pub items_read : (id after : ℕ) (found : List ItemFound) → history (take after s.ledger) id ≡ []
+      → Rises (λ (e : EntryRow). e.num) t.entries → FindsItems id after t found
+      → map (λ (i : ItemFound). item_in (item_of id i)) found ≡ map Some (history s.ledger id)
+  items_read id after found none up finds =
+      sym (map-map (item_of id) item_in found) ∙ ap (map item_in) finds
+      ∙ items_found s.ledger t.entries id after none st.entries up
+    where
+      map-map : {X Y Z : Type 0} (f : X → Y) (g : Y → Z) (xs : List X)
+          → map g (map f xs) ≡ map (λ x. g (f x)) xs
+      map-map f g [] = refl
+      map-map f g (x ∷ xs) = ap (λ ys. g (f x) ∷ ys) (map-map f g xs)
+
+  -- what is found after so many events tells the journey's next item
+  pub next_read : (id after : ℕ) (found : Option ItemFound) → FindsNextItem id after t found
+      → TellsIfNext id 1 after s.ledger (option_map (item_of id) found)
+  next_read id after found finds =
+      next_found s.ledger t.entries id after (option_map (item_of id) found) st.entries finds
+
+  -- the options that are found of a journey are the rows of its plan, in order
+  pub steps_read : (id : ℕ) (a : Journey) (found : List StepFound) → journey_at s.ledger id ≡ Some a
+      → FindsSteps id t found
+      → map (step_of id) found ≡ step_rows (is_standing (history s.ledger id)) id a.plan
+  steps_read id a found at finds =
+      steps_found_in_order s.ledger t.step (map (step_of id) found) id a st.step at
+      (plan_good s.ledger id a desk.legal at) finds.same finds.rising
+
+  -- the options that are found of a step are the rows of that step of the plan, in order
+  pub options_read : (id place : ℕ) (a : Journey) (found : List StepFound) → journey_at s.ledger id ≡ Some a
+      → FindsOptions id place t found
+      → map (step_of id) found ≡ filter (is_at place) (step_rows (is_standing (history s.ledger id)) id a.plan)
+  options_read id place a found at finds =
+      options_found_in_order s.ledger t.step (map (step_of id) found) id place a st.step at
+      (plan_good s.ledger id a desk.legal at) finds.same finds.rising
+
+  -- so they are the rows of its options
+  pub options_there : (id place : ℕ) (a : Journey) (found : List StepFound) (p : StepPlan) → journey_at s.ledger id ≡ Some a
+      → numbered a.plan.steps place ≡ Some p → FindsOptions id place t found
+      → map (step_of id) found ≡ option_rows (is_standing (history s.ledger id)) id place p
+  options_there id place a found p at there finds =
+      options_read id place a found at finds
+      ∙ step_rows_at (is_standing (history s.ledger id)) id a.plan place p there
+
+  -- a plan with just these options is the journey's
+  pub plan_read : (id : ℕ) (a : Journey) (found : List StepFound) (plan : Planned)
+      → journey_at s.ledger id ≡ Some a → FindsSteps id t found → IsTrue (is_plan plan)
+      → step_rows_of id plan ≡ map not_taken (map (step_of id) found) → plan.tries ≡ a.plan.tries
+      → plan ≡ a.plan
+  plan_read id a found plan at finds good rows tries =
+      plan_told s.ledger t.step
+      (map (step_of id) found) id a plan desk.legal st.step at finds.same finds.rising good rows tries
+
+  -- the positions that are found of a journey are those at which a save-point stands that was taken
+  -- at run time
+  pub marks_read : (id : ℕ) (found : List ℕ) → FindsMarks id t found → (p : ℕ)
+      → list_any (λ q. q == p) found ≡ is_taken (history s.ledger id) p
+  marks_read id found finds p = marks_found s.ledger t.mark found id p st.mark finds.same
+
+  -- the nights that are found of a want are what is shown of it
+  pub nights_read : (r : NightRange) (w : Wanted) (found : List NightFound) → IsRangeOf r w
+      → 1 ≤ w.nights → FindsNights r t found → map night_seen found ≡ places_shown s.ledger w
+  nights_read r w found is some finds =
+      sym (seen found) ∙ nights_found s.ledger t.stock (map (night_of r) found) w some st.stock
+      (subst (λ rows. IsPermutation rows (map (night_of r) found)) (filter_same (is_within r) (is_wanted_row w) t.stock (all_of (λ (x : StockRow). is_within r x ≡ is_wanted_row w x) within t.stock)) finds.same) finds.rising
+    where
+      seen : (ns : List NightFound) → map night_told (map (night_of r) ns) ≡ map night_seen ns
+      seen [] = refl
+      seen (n ∷ ns) = ap (λ ys. night_seen n ∷ ys) (seen ns)
+
+      within : (x : StockRow) → is_within r x ≡ is_wanted_row w x
+      within x =
+          ap
+          (λ k. (x.kind == k) && (bytes_eq x.supplier r.supplier.now && (bytes_eq x.product r.product.now && (nat_le r.first x.night && nat_le x.night r.last)))) is.kind
+          ∙ ap
+          (λ b. (x.kind == kind_number w.kind) && (bytes_eq x.supplier b && (bytes_eq x.product r.product.now && (nat_le r.first x.night && nat_le x.night r.last)))) is.supplier
+          ∙ ap
+          (λ b. (x.kind == kind_number w.kind) && (bytes_eq x.supplier w.supplier && (bytes_eq x.product b && (nat_le r.first x.night && nat_le x.night r.last)))) is.product
+          ∙ ap
+          (λ n. (x.kind == kind_number w.kind) && (bytes_eq x.supplier w.supplier && (bytes_eq x.product w.product && (nat_le n x.night && nat_le x.night r.last)))) is.first
+          ∙ ap
+          (λ n. (x.kind == kind_number w.kind) && (bytes_eq x.supplier w.supplier && (bytes_eq x.product w.product && (nat_le w.first x.night && nat_le x.night n)))) is.last
+
+  -- the cells that are found, with their places, are the stock
+  pub stock_read : (found : List CellFound) (cells : List (Cell × Held)) → FindsStock t found
+      → map stock_row_of cells ≡ map stock_of found → IsStock s.ledger cells
+  stock_read found cells finds rows =
+      stock_found s.ledger t.stock cells st.stock
+      (subst (IsPermutation t.stock) (sym rows) finds.same)
+      (subst (IsAscending IsByCell) (sym rows) finds.rising)

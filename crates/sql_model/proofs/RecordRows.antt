@@ -1,0 +1,146 @@
+-- A journey is shown by its row and the rows of its steps.
+use Rattle.std.proofs.Common.{◌≡◌, ℕ, zero, suc, ◌+◌, ◌<◌, ◌≤◌, ◌==◌, List, [], ◌∷◌, ◌++◌, map, filter, Bool, true, false, Some, IsTrue, refl, sym, ap, ap₂, subst, ◌∙◌, arith, eqb-true}
+use Rattle.std.specs.Prelude.{option_map, nat_eq, nat_le, ◌&&◌, ◌||◌}
+use Rattle.std.specs.FinSet as set
+use Rattle.std.specs.Ordering.{nat_cmp}
+use Rattle.std.proofs.lemmas.Bool.{and_parts, or_left, or_right, leb-true, eqb-false}
+use Rattle.allotment.specs.Limits.{is_between}
+use Rattle.allotment.specs.Cells.{numbers_from}
+use Rattle.commands.specs.declared.items.Item.{Item}
+use Rattle.ledger.specs.History.{is_taken}
+use Rattle.std.specs.List.{AllByRecursion, list_any}
+use Rattle.std.specs.List.Sorted.{IsPermutation}
+use Rattle.sqlite_trees.specs.Tree.{IsAscending}
+use Rattle.sqlite_trees.proofs.ListLemmas.{all-append, all-slice_get}
+use Rattle.plan.specs.PlanModel.{Planned, StepPlan, is_plan, numbered}
+use Rattle.commands.specs.declared.items.Cursor.{Cursor}
+use Rattle.ledger.specs.Ledger.{Event, Loaded, Began, Did, Journey, journeys, journey_at, history, is_allowed, IsLegal}
+use Rattle.ledger.proofs.Growing.{induct, journeys-began, journeys-loaded, journeys-did}
+use Rattle.savepoints.specs.Marks.{last_mark, is_taken_in, AreInRange, same_marks}
+use Rattle.saga_core.specs.Views.{cursor_of, marks_of, record_of_journey, record_of}
+use Rattle.saga_core.specs.declared.records.Record.{Record}
+use Rattle.desk_sql.specs.Rows.{JourneyRow, StepRow}
+use Rattle.sql_model.specs.ExpectedRows.{cursor_row, is_standing, step_rows_of, steps_called}
+use Rattle.desk_sql.specs.FoundRows.{is_step_of, IsByPlace}
+use Rattle.sql_model.specs.Reading.{IsJourneyOf, not_taken}
+use Rattle.sql_model.proofs.Cursors.{cursor_row-one}
+use Rattle.sql_model.proofs.ItemRows.{any-filter}
+use Rattle.sql_model.proofs.PlanRows.{steps_found_in_order}
+use Rattle.sql_model.proofs.PlanReading.{step_rows-not_taken, steps_from_rows}
+
+-- the journey's plan keeps the limits
+abbrev HasPlan : Journey → Type 0
+HasPlan a = IsTrue (is_plan a.plan)
+
+plans-more : (l : List Event) (e : Event) → IsLegal l → IsTrue (is_allowed l e)
+    → AllByRecursion HasPlan (journeys l) → AllByRecursion HasPlan (journeys (l ++ e ∷ []))
+plans-more l (Loaded name rows) legal may all =
+    subst (AllByRecursion HasPlan) (sym (journeys-loaded l name rows)) all
+plans-more l (Began agent plan) legal may all =
+    subst (AllByRecursion HasPlan) (sym (journeys-began l agent plan))
+    (all-append HasPlan (journeys l) (record { agent = agent; plan = plan } ∷ []) all (may, tt))
+plans-more l (Did j item) legal may all =
+    subst (AllByRecursion HasPlan) (sym (journeys-did l j item)) all
+
+numbered-all : (js : List Journey) (j : ℕ) (a : Journey) → numbered js j ≡ Some a
+    → AllByRecursion HasPlan js → HasPlan a
+numbered-all js zero a e all = cc
+numbered-all js (suc i) a e all = all-slice_get HasPlan js i a e all
+
+-- each journey of a legal ledger has a plan that keeps the limits
+pub plan_good : (l : List Event) (j : ℕ) (a : Journey) → IsLegal l → journey_at l j ≡ Some a
+    → IsTrue (is_plan a.plan)
+plan_good l j a legal e =
+    numbered-all (journeys l) j a e
+    (induct (λ m. AllByRecursion HasPlan (journeys m)) tt plans-more l legal)
+
+made_plan : List StepPlan → ℕ → Planned
+made_plan steps tries = record { steps = steps; tries = tries }
+
+-- a plan whose rows are those that were found, in order, is the journey's
+pub plan_told : (l : List Event) (rows found : List StepRow) (id : ℕ) (a : Journey) (plan : Planned)
+    → IsLegal l → IsPermutation (steps_called l) rows → journey_at l id ≡ Some a
+    → IsPermutation (filter (is_step_of id) rows) found → IsAscending IsByPlace found
+    → IsTrue (is_plan plan) → step_rows_of id plan ≡ map not_taken found → plan.tries ≡ a.plan.tries
+    → plan ≡ a.plan
+unfolding made_plan
+plan_told l rows found id a plan legal same at sorted up good read tries =
+    let fine = plan_good l id a legal at in
+    let called = steps_found_in_order l rows found id a same at fine sorted up in
+    let one : step_rows_of id plan ≡ step_rows_of id a.plan =
+    read ∙ ap (map not_taken) called ∙ step_rows-not_taken (is_standing (history l id)) id a.plan in
+    ap (λ steps. made_plan steps plan.tries) (steps_from_rows id plan a.plan good fine one)
+    ∙ ap (made_plan a.plan.steps) tries
+
+-- a number from 1 to the last mark is one of these
+low_numbers : (p : ℕ) → is_between 1 last_mark p ≡ true
+    → list_any (λ y. nat_eq y p) (numbers_from 1 last_mark) ≡ true
+low_numbers p e =
+    let bounds = and_parts (nat_le 1 p) (nat_le p last_mark) e in
+    among 1 last_mark p (leb-true 1 p bounds.0) (let high = leb-true p last_mark bounds.1 in omega arith)
+  where
+    among : (n k q : ℕ) → n ≤ q → q < n + k → list_any (λ y. nat_eq y q) (numbers_from n k) ≡ true
+    among n zero q low high = absurd (omega arith)
+    among n (suc k) q low high = go (n == q) refl (among (suc n) k q)
+      where
+        go : (v : Bool) → (n == q) ≡ v
+            → (suc n ≤ q → q < suc n + k → list_any (λ y. nat_eq y q) (numbers_from (suc n) k) ≡ true)
+            → list_any (λ y. nat_eq y q) (numbers_from n (suc k)) ≡ true
+        go true e rest = or_left _ _ e
+        go false e rest =
+            let off = eqb-false _ _ e in or_right _ _ (rest (omega arith) (omega arith))
+
+-- marks that say where a save-point stands are those that are shown of the history
+pub marks_told : (h : List Item) (marks : set.FinSet nat_cmp)
+    → ((p : ℕ) → is_taken_in marks p ≡ is_taken h p) → AreInRange marks → marks ≡ marks_of h
+marks_told h marks says low =
+    same_marks marks (marks_of h)
+    (λ p. says p ∙ sym (set.contains-from_list_nat (filter (is_taken h) (numbers_from 1 last_mark)) p ∙ any-filter (is_taken h) (λ y. nat_eq y p) (numbers_from 1 last_mark) ∙ at p))
+  where
+    one_of : (p y : ℕ) → (is_taken h y && nat_eq y p) ≡ (is_taken h p && nat_eq y p)
+    one_of p y = go (nat_eq y p) refl
+      where
+        none : (b : Bool) → (b && false) ≡ false
+        none true = refl
+        none false = refl
+
+        go : (v : Bool) → nat_eq y p ≡ v → (is_taken h y && v) ≡ (is_taken h p && v)
+        go true e = ap (λ n. is_taken h n && true) (eqb-true y p e)
+        go false e = none (is_taken h y) ∙ sym (none (is_taken h p))
+
+    each : (p : ℕ) (ys : List ℕ)
+        → list_any (λ y. is_taken h y && nat_eq y p) ys ≡ (is_taken h p && list_any (λ y. nat_eq y p) ys)
+    each p [] = elim (is_taken h p) as (λ b. false ≡ (b && false)) [ true ↦ refl | false ↦ refl ]
+    each p (y ∷ ys) =
+        ap₂ (λ a b. a || b) (one_of p y) (each p ys)
+        ∙ spread (is_taken h p) (nat_eq y p) (list_any (λ z. nat_eq z p) ys)
+      where
+        spread : (a b c : Bool) → ((a && b) || (a && c)) ≡ (a && (b || c))
+        spread true b c = refl
+        spread false b c = refl
+
+    at : (p : ℕ) → list_any (λ y. is_taken h y && nat_eq y p) (numbers_from 1 last_mark) ≡ is_taken h p
+    at p = each p (numbers_from 1 last_mark) ∙ go (is_taken h p) refl
+      where
+        go : (v : Bool) → is_taken h p ≡ v
+            → (v && list_any (λ y. nat_eq y p) (numbers_from 1 last_mark)) ≡ v
+        go true e = low_numbers p (low p (says p ∙ e))
+        go false e = refl
+
+made_record : List ℕ → Planned → Cursor → set.FinSet nat_cmp → Record
+made_record agent plan cursor marks =
+    record { agent = agent; plan = plan; cursor = cursor; marks = marks }
+
+-- what is told by the row of a journey, with its plan and its marks, is what is shown of it
+pub record_told : (l : List Event) (r : JourneyRow) (a : Journey) (shown : Record)
+    → journey_at l r.id ≡ Some a → IsJourneyOf l r a
+    → shown.agent ≡ r.agent → shown.plan ≡ a.plan → cursor_row shown.cursor ≡ r.cursor
+    → shown.marks ≡ marks_of (history l r.id) → record_of l r.id ≡ Some shown
+unfolding made_record
+record_told l r a shown at row agent plan cursor marks =
+    ap (λ o. option_map (record_of_journey (history l r.id)) o) at
+    ∙ ap Some
+    (sym (ap (λ x. made_record x shown.plan shown.cursor shown.marks) (agent ∙ row.agent) ∙ ap (λ p. made_record a.agent p shown.cursor shown.marks) plan
+    ∙ ap (λ c. made_record a.agent a.plan c shown.marks)
+    (cursor_row-one shown.cursor (cursor_of a.plan (history l r.id)) (cursor ∙ row.cursor))
+    ∙ ap (made_record a.agent a.plan (cursor_of a.plan (history l r.id))) marks))

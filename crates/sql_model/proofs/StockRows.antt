@@ -1,0 +1,348 @@
+-- The rows of stock tell the places of cells.
+use Rattle.std.proofs.Common.{◌≡◌, ◌≢◌, inl, inr, ℕ, zero, suc, ◌+◌, ◌-◌, ◌<◌, ◌≤◌, ◌==◌, List, [], ◌∷◌, map, filter, find, cond, Bool, true, false, Option, Some, None, refl, sym, ap, subst, ◌∙◌, arith, eqb-true, eq-eqb}
+use Rattle.std.specs.Prelude.{filter_map, option_map, bytes_eq}
+use Rattle.std.specs.List.{cons_option}
+use Rattle.std.specs.List.Sorted.{IsPermutation}
+use Rattle.std.proofs.lemmas.Bool.{and_parts, and_from, leb-true, le-leb, eqb-false, false_from_ne_true}
+use Rattle.std.proofs.lemmas.Slice.Eq.{bytes_eq-Decides}
+use Rattle.std.proofs.lemmas.Bool.Decides.{nat_tests}
+use Rattle.std.proofs.lemmas.Cmp.{on_total, then_total, nat_cmp_total, nat_list_cmp_total}
+use Rattle.std.proofs.lemmas.Map.Text.{is_eq-slice_cmp}
+use Rattle.std.specs.Cmp.{IsTotalOrder}
+use Rattle.std.specs.Cmp.Lexicographic.{slice_cmp}
+use Rattle.std.specs.Ordering.{is_lt, is_eq, ordering_then, ordering_reverse, nat_cmp}
+use Rattle.std.specs.declared.cmp.Ordering.{Ordering}
+use Rattle.std.specs.declared.cmp.Ordering.TheVariants.{Less, Equal, Greater}
+use Rattle.sqlite_trees.specs.Tree.{IsAscending}
+use Rattle.sqlite_trees.proofs.ListLemmas.{ascending-filter, ascending-map}
+use Rattle.sqlite_rules.specs.Lists.{Has}
+use Rattle.sqlite_rules.proofs.ListLemmas.{all_has, all_from, test_from, has_filtered, has_kept, has_found}
+use Rattle.sqlite_rules.proofs.ProbeLemmas.{has_mapped, mapped_has}
+use Rattle.allotment.specs.Want.{Wanted}
+use Rattle.allotment.specs.Cells.{is_cell, cell_at, numbers_from}
+use Rattle.allotment.specs.declared.cells.Cell.{Cell}
+use Rattle.allotment.specs.declared.places.Held.{Held}
+use Rattle.ledger.specs.Ledger.{Event}
+use Rattle.saga_core.specs.Views.{Places, places_said, places_of, at_night, places_shown, places_at, cell_cmp, are_in_order, IsStock}
+use Rattle.desk_sql.specs.Rows.{StockRow}
+use Rattle.desk_sql.proofs.Members.{permutation_from, permutation_to}
+use Rattle.sql_model.specs.Standing.{AreApart, is_stock_of, is_same_stock, places_told, stock_at, StockStands}
+use Rattle.sql_model.specs.Reading.{is_wanted_row, night_told, stock_row_of}
+use Rattle.desk_sql.specs.Stock.{IsByNight, IsByCell, cell_cmp as stock_cmp}
+use Rattle.sql_model.proofs.Orders.{Rises, pairs-permutation, ascending_where, climbs, one_rising, found_is_first}
+
+-- two rows of one cell are of the same cell
+one_cell : (x : Cell) (r s : StockRow) → is_stock_of x r ≡ true → is_stock_of x s ≡ true
+    → is_same_stock r s ≡ true
+one_cell x r s p q =
+    let p3 = and_parts _ _ p in
+    let p2 = and_parts _ _ p3.0 in
+    let p1 = and_parts _ _ p2.0 in
+    let q3 = and_parts _ _ q in
+    let q2 = and_parts _ _ q3.0 in
+    let q1 = and_parts _ _ q2.0 in
+    let kind : r.kind ≡ s.kind = sym (eqb-true _ _ p1.0) ∙ eqb-true _ _ q1.0 in
+    let supplier : r.supplier ≡ s.supplier =
+    sym ((bytes_eq-Decides x.supplier r.supplier).0 p1.1)
+    ∙ (bytes_eq-Decides x.supplier s.supplier).0 q1.1 in
+    let product : r.product ≡ s.product =
+    sym ((bytes_eq-Decides x.product r.product).0 p2.1)
+    ∙ (bytes_eq-Decides x.product s.product).0 q2.1 in
+    let night : r.night ≡ s.night = sym (eqb-true _ _ p3.1) ∙ eqb-true _ _ q3.1 in
+    and_from _ _
+    (and_from _ _ (and_from _ _ (eq-eqb r.kind s.kind kind) ((bytes_eq-Decides r.supplier s.supplier).1 supplier)) ((bytes_eq-Decides r.product s.product).1 product))
+    (eq-eqb r.night s.night night)
+
+-- the row of a cell tells what stands there
+pub stock_at-row : (rows : List StockRow) (x : Cell) (r : StockRow) → AreApart is_same_stock rows
+    → Has rows r → is_stock_of x r ≡ true → stock_at rows x ≡ Some (places_told r)
+stock_at-row rows x r once there on =
+    ap (λ o. option_map places_told o)
+    (found_is_first is_same_stock (is_stock_of x) rows (Some r) once (one_cell x) (has_kept (is_stock_of x) rows r there on))
+
+-- and what stands at a cell is told by its row
+pub row-stock_at : (rows : List StockRow) (x : Cell) (p : Places) → stock_at rows x ≡ Some p
+    → (r : StockRow) × Has rows r × (is_stock_of x r ≡ true) × (places_told r ≡ p)
+row-stock_at rows x p e = go (find (is_stock_of x) rows) refl
+  where
+    go : (o : Option StockRow) → find (is_stock_of x) rows ≡ o
+        → (r : StockRow) × Has rows r × (is_stock_of x r ≡ true) × (places_told r ≡ p)
+    go None f = let bad : None ≡ Some p = sym (ap (option_map places_told) f) ∙ e in cc
+    go (Some r) f =
+        let there = has_found (is_stock_of x) rows r f in
+        (r, there.0, there.1, (let same : Some (places_told r) ≡ Some p = sym (ap (option_map places_told) f) ∙ e in cc))
+
+-- Nights.
+
+-- a row that is wanted is that of the want's cell at its night
+pub wanted_cell : (w : Wanted) (r : StockRow) → 1 ≤ w.nights → is_wanted_row w r ≡ true
+    → (is_stock_of (cell_at w r.night) r ≡ true) × (w.first ≤ r.night) × (r.night < w.first + w.nights)
+wanted_cell w r some e =
+    let one = and_parts _ _ e in
+    let two = and_parts _ _ one.1 in
+    let three = and_parts _ _ two.1 in
+    let four = and_parts _ _ three.1 in (
+      and_from _ _
+          (and_from _ _ (and_from _ _ (eq-eqb _ _ (sym (eqb-true _ _ one.0))) ((bytes_eq-Decides w.supplier r.supplier).1 (sym ((bytes_eq-Decides r.supplier w.supplier).0 two.0))))
+          ((bytes_eq-Decides w.product r.product).1 (sym ((bytes_eq-Decides r.product w.product).0 three.0)))) (eq-eqb r.night r.night refl),
+      leb-true w.first r.night four.0,
+      (let high = leb-true r.night (w.first + w.nights - 1) four.1 in omega arith),
+    )
+
+-- a night of a want is from its first to its last
+night_within : (w : Wanted) (n m : ℕ) → n ≡ m → w.first ≤ n → n < w.first + w.nights
+    → (w.first ≤ m) × (m ≤ w.first + w.nights - 1)
+night_within w n m same low high = (omega arith, omega arith)
+
+-- and the row of a want's cell is wanted
+pub cell_wanted : (w : Wanted) (n : ℕ) (r : StockRow) → is_stock_of (cell_at w n) r ≡ true → w.first ≤ n
+    → n < w.first + w.nights → (is_wanted_row w r ≡ true) × (r.night ≡ n)
+cell_wanted w n r e low high =
+    let three = and_parts _ _ e in
+    let two = and_parts _ _ three.0 in
+    let one = and_parts _ _ two.0 in
+    let night : n ≡ r.night = eqb-true n r.night three.1 in
+    let bounds = night_within w n r.night night low high in (
+      and_from _ _ (eq-eqb _ _ (sym (eqb-true _ _ one.0)))
+          (and_from _ _ ((bytes_eq-Decides r.supplier w.supplier).1 (sym ((bytes_eq-Decides w.supplier r.supplier).0 one.1)))
+          (and_from _ _ ((bytes_eq-Decides r.product w.product).1 (sym ((bytes_eq-Decides w.product r.product).0 two.1)))
+          (and_from _ _ (le-leb w.first r.night bounds.0) (le-leb r.night (w.first + w.nights - 1) bounds.1)))),
+      sym night,
+    )
+
+-- what is shown of a want's nights, from a night on
+abbrev shown_from : List Event → Wanted → ℕ → ℕ → List (ℕ × Places)
+shown_from l w n k =
+    filter_map (λ x. option_map (at_night x) (places_of l x)) (map (cell_at w) (numbers_from n k))
+
+-- whether something is shown of a night
+module _ (l : List Event) (w : Wanted) where
+  pub shown_has : (n k : ℕ) (p : ℕ × Places) → Has (shown_from l w n k) p
+      → (n ≤ p.0) × (p.0 < n + k) × (places_of l (cell_at w p.0) ≡ Some p.1)
+  shown_has n zero p h = absurd h
+  shown_has n (suc k) p h = go (places_of l (cell_at w n)) refl h (shown_has (suc n) k p)
+    where
+      go : (o : Option Places) → places_of l (cell_at w n) ≡ o
+          → Has (cons_option (option_map (at_night (cell_at w n)) o) (shown_from l w (suc n) k)) p
+          → (Has (shown_from l w (suc n) k) p → (suc n ≤ p.0) × (p.0 < suc n + k) × (places_of l (cell_at w p.0) ≡ Some p.1))
+          → (n ≤ p.0) × (p.0 < n + suc k) × (places_of l (cell_at w p.0) ≡ Some p.1)
+      go None e h rest =
+          let r = rest h in let low = r.0 in let high = r.1 in (omega arith, omega arith, r.2)
+      go (Some places) e (inl same) rest =
+          let night : p.0 ≡ n = ap (λ (q : ℕ × Places). q.0) same in
+          (omega arith, omega arith, ap (λ m. places_of l (cell_at w m)) night ∙ e ∙ ap (λ (q : ℕ × Places). Some q.1) (sym same))
+      go (Some places) e (inr later) rest =
+          let r = rest later in let low = r.0 in let high = r.1 in (omega arith, omega arith, r.2)
+
+  pub has_shown : (n k : ℕ) (p : ℕ × Places) → n ≤ p.0 → p.0 < n + k
+      → places_of l (cell_at w p.0) ≡ Some p.1 → Has (shown_from l w n k) p
+  has_shown n zero p low high e = absurd (omega arith)
+  has_shown n (suc k) p low high e = go (p.0 == n) refl (has_shown (suc n) k p)
+    where
+      later : (o : Option Places) → Has (shown_from l w (suc n) k) p
+          → Has (cons_option (option_map (at_night (cell_at w n)) o) (shown_from l w (suc n) k)) p
+      later None h = h
+      later (Some places) h = inr h
+
+      go : (v : Bool) → (p.0 == n) ≡ v
+          → (suc n ≤ p.0 → p.0 < suc n + k → places_of l (cell_at w p.0) ≡ Some p.1 → Has (shown_from l w (suc n) k) p)
+          → Has (shown_from l w n (suc k)) p
+      go true t rest =
+          let night : p.0 ≡ n = eqb-true _ _ t in
+          let here : places_of l (cell_at w n) ≡ Some p.1 =
+          ap (λ m. places_of l (cell_at w m)) (sym night) ∙ e in
+          subst
+          (λ o. Has (cons_option (option_map (at_night (cell_at w n)) o) (shown_from l w (suc n) k)) p)
+          (sym here) (inl (ap (λ m. (m, p.1)) night))
+      go false t rest =
+          let off = eqb-false _ _ t in
+          later (places_of l (cell_at w n)) (rest (omega arith) (omega arith) e)
+
+  shown_rises : (n k : ℕ) → Rises (λ (p : ℕ × Places). p.0) (shown_from l w n k)
+  shown_rises n zero = tt
+  shown_rises n (suc k) = go (places_of l (cell_at w n)) (shown_rises (suc n) k)
+    where
+      go : (o : Option Places) → Rises (λ (p : ℕ × Places). p.0) (shown_from l w (suc n) k)
+          → Rises (λ (p : ℕ × Places). p.0) (cons_option (option_map (at_night (cell_at w n)) o) (shown_from l w (suc n) k))
+      go None rest = rest
+      go (Some places) rest =
+          (all_from _ (shown_from l w (suc n) k) (λ q h. let low = (shown_has (suc n) k q h).0 in omega arith), rest)
+
+-- wanted rows of different cells are of different nights
+apart_nights : (w : Wanted) (rows : List StockRow) → 1 ≤ w.nights → AreApart is_same_stock rows
+    → IsAscending (λ (r s : StockRow). r.night ≢ s.night) (filter (is_wanted_row w) rows)
+apart_nights w rows some once =
+    ascending_where (λ (r s : StockRow). is_same_stock r s ≡ false)
+    (λ (r s : StockRow). r.night ≢ s.night) (filter (is_wanted_row w) rows) differ
+    (ascending-filter (λ (r s : StockRow). is_same_stock r s ≡ false) (is_wanted_row w) rows once)
+  where
+    differ : (r s : StockRow) → Has (filter (is_wanted_row w) rows) r
+        → Has (filter (is_wanted_row w) rows) s → is_same_stock r s ≡ false → r.night ≡ s.night → ⊥
+    differ r s h k off night =
+        let of_r = (wanted_cell w r some (has_filtered (is_wanted_row w) rows r h).1).0 in
+        let of_s = (wanted_cell w s some (has_filtered (is_wanted_row w) rows s k).1).0 in
+        let on =
+        one_cell (cell_at w s.night) r s
+        (subst (λ n. is_stock_of (cell_at w n) r ≡ true) night of_r) of_s in
+        let bad : true ≡ false = sym on ∙ off in cc
+
+-- the rows that are found of a want's nights, in order, tell what is shown of them
+pub nights_found : (l : List Event) (rows found : List StockRow) (w : Wanted) → 1 ≤ w.nights
+    → StockStands l rows → IsPermutation (filter (is_wanted_row w) rows) found
+    → IsAscending IsByNight found
+    → map night_told found ≡ places_shown l w
+nights_found l rows found w some stand same sorted =
+    one_rising (λ (p : ℕ × Places). p.0) (map night_told found) (places_shown l w)
+    (ascending-map (λ (p q : ℕ × Places). p.0 < q.0) night_told found
+    (climbs (λ (r : StockRow). r.night) IsByNight found (λ r s h k low. low) sorted
+    (pairs-permutation (λ (r s : StockRow). r.night ≢ s.night) (λ r s off e. off (sym e)) (filter (is_wanted_row w) rows) found same (apart_nights w rows some stand.once))))
+    (shown_rises l w w.first w.nights) forth back
+  where
+    forth : (p : ℕ × Places) → Has (map night_told found) p → Has (places_shown l w) p
+    forth p h =
+        let r = has_mapped night_told found p h in
+        let there =
+        has_filtered (is_wanted_row w) rows r.0
+        (permutation_from (filter (is_wanted_row w) rows) found r.0 same r.1) in
+        let on = wanted_cell w r.0 some there.1 in
+        let told =
+        sym (stand.each (cell_at w r.0.night))
+        ∙ stock_at-row rows (cell_at w r.0.night) r.0 stand.once there.0 on.0 in
+        subst (λ (q : ℕ × Places). Has (places_shown l w) q) (sym r.2)
+        (has_shown l w w.first w.nights (night_told r.0) on.1 on.2 told)
+
+    back : (p : ℕ × Places) → Has (places_shown l w) p → Has (map night_told found) p
+    back p h =
+        let s = shown_has l w w.first w.nights p h in
+        let r = row-stock_at rows (cell_at w p.0) p.1 (stand.each (cell_at w p.0) ∙ s.2) in
+        let on = cell_wanted w p.0 r.0 r.2 s.0 s.1 in
+        let there =
+        permutation_to (filter (is_wanted_row w) rows) found r.0 same
+        (has_kept (is_wanted_row w) rows r.0 r.1 on.0) in
+        let is : night_told r.0 ≡ p =
+        ap (λ n. (n, places_told r.0)) on.1 ∙ ap (λ q. (p.0, q)) r.3 in
+        subst (λ (q : ℕ × Places). Has (map night_told found) q) is
+        (mapped_has night_told found r.0 there)
+
+-- All cells.
+
+pub same_back : (r s : StockRow) → is_same_stock r s ≡ false → is_same_stock s r ≡ false
+same_back r s off = false_from_ne_true (is_same_stock s r) (λ on.
+    let three = and_parts _ _ on in
+    let two = and_parts _ _ three.0 in
+    let one = and_parts _ _ two.0 in
+    let back : is_same_stock r s ≡ true = and_from _ _
+    (and_from _ _ (and_from _ _ (eq-eqb r.kind s.kind (sym (eqb-true _ _ one.0))) ((bytes_eq-Decides r.supplier s.supplier).1 (sym ((bytes_eq-Decides s.supplier r.supplier).0 one.1))))
+    ((bytes_eq-Decides r.product s.product).1 (sym ((bytes_eq-Decides s.product r.product).0 two.1)))) (eq-eqb r.night s.night (sym (eqb-true _ _ three.1))) in
+    let bad : true ≡ false = sym back ∙ off in cc)
+
+-- in another order the rows are apart still
+stock_apart : (rows found : List StockRow) → IsPermutation rows found → AreApart is_same_stock rows
+    → AreApart is_same_stock found
+stock_apart rows found same once =
+    pairs-permutation (λ (r s : StockRow). is_same_stock r s ≡ false) same_back rows found same once
+
+-- and tell the same of each cell
+stock_at-permutation : (rows found : List StockRow) (x : Cell) → IsPermutation rows found
+    → AreApart is_same_stock rows → stock_at found x ≡ stock_at rows x
+stock_at-permutation rows found x same once = go (stock_at rows x) refl
+  where
+    none : stock_at rows x ≡ None → (o : Option Places) → stock_at found x ≡ o → o ≡ None
+    none e None f = refl
+    none e (Some p) f =
+        let r = row-stock_at found x p f in
+        let bad : None ≡ Some (places_told r.0) =
+        sym e ∙ stock_at-row rows x r.0 once (permutation_from rows found r.0 same r.1) r.2 in cc
+
+    go : (o : Option Places) → stock_at rows x ≡ o → stock_at found x ≡ stock_at rows x
+    go None e = none e (stock_at found x) refl ∙ sym e
+    go (Some p) e =
+        let r = row-stock_at rows x p e in
+        stock_at-row found x r.0 (stock_apart rows found same once)
+        (permutation_to rows found r.0 same r.1) r.2
+        ∙ ap Some r.3 ∙ sym e
+
+stock_total : IsTotalOrder stock_cmp
+stock_total =
+    then_total (on_total (λ (r : StockRow). r.kind) nat_cmp_total)
+    (then_total (on_total (λ (r : StockRow). r.supplier) nat_list_cmp_total)
+    (then_total (on_total (λ (r : StockRow). r.product) nat_list_cmp_total) (on_total (λ (r : StockRow). r.night) nat_cmp_total)))
+
+both_tie : (o p : Ordering) → ordering_then o p ≡ Equal → (o ≡ Equal) × (p ≡ Equal)
+both_tie Less p e = cc
+both_tie Equal p e = (refl, e)
+both_tie Greater p e = cc
+
+number_tie : (a b : ℕ) → nat_cmp a b ≡ Equal → (a == b) ≡ true
+number_tie a b e = grind (arith, nat_tests)
+
+text_tie : (a b : List ℕ) → slice_cmp nat_cmp a b ≡ Equal → bytes_eq a b ≡ true
+text_tie a b e = sym (is_eq-slice_cmp a b) ∙ ap is_eq e
+
+-- rows that tie are of one cell
+tied_same : (r s : StockRow) → stock_cmp r s ≡ Equal → is_same_stock r s ≡ true
+tied_same r s e =
+    let one = both_tie (nat_cmp r.kind s.kind) _ e in
+    let two = both_tie (slice_cmp nat_cmp r.supplier s.supplier) _ one.1 in
+    let three = both_tie (slice_cmp nat_cmp r.product s.product) _ two.1 in
+    and_from _ _
+    (and_from _ _ (and_from _ _ (number_tie r.kind s.kind one.0) (text_tie r.supplier s.supplier two.0)) (text_tie r.product s.product three.0))
+    (number_tie r.night s.night three.1)
+
+-- of two cells, of which the second is not before the first, the first is before the second
+before : (r s : StockRow) → is_lt (stock_cmp s r) ≡ false → is_same_stock r s ≡ false
+    → is_lt (stock_cmp r s) ≡ true
+before r s up off = go (stock_cmp s r) refl up
+  where
+    go : (o : Ordering) → stock_cmp s r ≡ o → is_lt o ≡ false → is_lt (stock_cmp r s) ≡ true
+    go Less e f = cc
+    go Equal e f =
+        let tied : stock_cmp r s ≡ Equal = stock_total.antisymm r s ∙ ap ordering_reverse e in
+        let bad : true ≡ false = sym (tied_same r s tied) ∙ off in cc
+    go Greater e f = ap is_lt (stock_total.antisymm r s ∙ ap ordering_reverse e)
+
+find-map : {X Y : Type 0} (f : X → Y) (p : Y → Bool) (xs : List X)
+    → find p (map f xs) ≡ option_map f (find (λ x. p (f x)) xs)
+find-map f p [] = refl
+find-map {X} {Y} f p (x ∷ xs) = go (p (f x)) (find-map f p xs)
+  where
+    go : (v : Bool) → find p (map f xs) ≡ option_map f (find (λ y. p (f y)) xs)
+        → cond v (Some (f x)) (find p (map f xs)) ≡ option_map f (cond v (Some x) (find (λ y. p (f y)) xs))
+    go true rest = refl
+    go false rest = rest
+
+told_said : (o : Option (Cell × Held))
+    → option_map places_told (option_map stock_row_of o) ≡ option_map (λ (c : Cell × Held). places_said c.1) o
+told_said None = refl
+told_said (Some c) = refl
+
+-- what the rows of a list of cells tell is what the list has
+listed_at : (cells : List (Cell × Held)) (x : Cell)
+    → stock_at (map stock_row_of cells) x ≡ places_at cells x
+listed_at cells x =
+    ap (λ o. option_map places_told o) (find-map stock_row_of (is_stock_of x) cells)
+    ∙ told_said (find (λ (c : Cell × Held). is_cell x c.0) cells)
+
+listed_in_order : (cells : List (Cell × Held)) → IsAscending IsByCell (map stock_row_of cells)
+    → AreApart is_same_stock (map stock_row_of cells) → are_in_order cells ≡ true
+listed_in_order [] up once = refl
+listed_in_order (c ∷ cells) up once =
+    and_from _ _
+    (test_from (λ (d : Cell × Held). is_lt (cell_cmp c.0 d.0)) cells (λ d h.
+    let there = mapped_has stock_row_of cells d h in
+    before (stock_row_of c) (stock_row_of d)
+    (all_has _ (map stock_row_of cells) (stock_row_of d) up.0 there)
+    (all_has _ (map stock_row_of cells) (stock_row_of d) once.0 there)))
+    (listed_in_order cells up.1 once.1)
+
+-- a list of cells whose rows are those of the table, in order, shows the stock
+pub stock_found : (l : List Event) (rows : List StockRow) (cells : List (Cell × Held))
+    → StockStands l rows → IsPermutation rows (map stock_row_of cells)
+    → IsAscending IsByCell (map stock_row_of cells)
+    → IsStock l cells
+stock_found l rows cells stand same up = record {
+  each =
+      λ x. sym (listed_at cells x)
+      ∙ stock_at-permutation rows (map stock_row_of cells) x same stand.once ∙ stand.each x;
+  in_order = listed_in_order cells up (stock_apart rows (map stock_row_of cells) same stand.once);
+}

@@ -1,0 +1,77 @@
+-- The first row of an unfinished journey is that of the first unfinished journey.
+use Rattle.std.proofs.Common.{◌≡◌, ℕ, suc, ◌+◌, List, [], ◌∷◌, map, find, cond, length, Bool, true, false, Option, Some, refl, sym, ap, subst, ◌∙◌, arith}
+use Rattle.std.specs.Prelude.{slice_get, filter_map, option_map, nat_lt, not, ◌&&◌}
+use Rattle.std.specs.List.{cons_option}
+use Rattle.std.specs.List.Sorted.{IsPermutation}
+use Rattle.allotment.specs.Cells.{numbers_from}
+use Rattle.commands.specs.declared.items.Phase.{Phase}
+use Rattle.commands.specs.declared.items.Phase.TheVariants.{Run, Back, Ended, Undone}
+use Rattle.ledger.specs.History.{phase, is_finished}
+use Rattle.ledger.specs.Ledger.{Event, journey_at, numbers, history}
+use Rattle.saga_core.specs.Views.{brief_of_journey, brief_of, is_unfinished_above, first_unfinished}
+use Rattle.saga_core.specs.declared.records.Brief.{Brief}
+use Rattle.desk_sql.specs.Rows.{JourneyRow}
+use Rattle.sql_model.specs.ExpectedRows.{counted_from, Begun, begun, phase_number, journeys_called}
+use Rattle.desk_sql.specs.FoundRows.{is_unfinished_after}
+use Rattle.desk_sql.specs.Lists.{IsLeastOf}
+use Rattle.std.specs.Prelude.{nat_le, filter}
+use Rattle.sql_model.specs.Reading.{Tells, IsBriefOf}
+use Rattle.sql_model.proofs.Events.{length-begun}
+use Rattle.sql_model.proofs.JourneyRows.{row_in, begun_there, called_rises}
+use Rattle.sql_model.proofs.Orders.{least_is_first}
+
+-- a journey with its number, in short
+abbrev brief_in : List Event → ℕ × Begun → Brief
+brief_in l b = brief_of_journey b.0 (history l b.0) b.1.journey
+
+briefs_from : (l : List Event) (n : ℕ) (bs : List Begun)
+    → ((i : ℕ) (b : Begun) → slice_get bs i ≡ Some b → journey_at l (n + i) ≡ Some b.journey)
+    → filter_map (brief_of l) (numbers_from n (length bs)) ≡ map (brief_in l) (counted_from n bs)
+briefs_from l n [] at = refl
+briefs_from l n (b ∷ bs) at =
+    let here : journey_at l n ≡ Some b.journey =
+    ap (journey_at l) (let e : n ≡ n + 0 = omega arith in e) ∙ at 0 b refl in
+    ap
+    (λ o. cons_option (option_map (brief_of_journey n (history l n)) o) (filter_map (brief_of l) (numbers_from (suc n) (length bs)))) here
+    ∙ ap (λ more. brief_in l (n, b) ∷ more)
+    (briefs_from l (suc n) bs (λ i x e. ap (journey_at l) (let k : suc n + i ≡ n + suc i = omega arith in k) ∙ at (suc i) x e))
+
+-- the journeys in short are those that were begun
+briefs : (l : List Event)
+    → filter_map (brief_of l) (numbers l) ≡ map (brief_in l) (counted_from 1 (begun l))
+briefs l =
+    ap (λ n. filter_map (brief_of l) (numbers_from 1 n)) (sym (length-begun l))
+    ∙ briefs_from l 1 (begun l)
+    (λ i b e. ap (journey_at l) (let k : 1 + i ≡ suc i = omega arith in k) ∙ begun_there l i b e)
+
+found_alike : {X R B : Type 0} (IsOf : R → B → Type 0) (f : X → R) (g : X → B) (p : R → Bool) (q : B → Bool)
+    → ((x : X) → p (f x) ≡ q (g x)) → ((x : X) → IsOf (f x) (g x))
+    → (xs : List X) → Tells IsOf (find p (map f xs)) (find q (map g xs))
+found_alike IsOf f g p q same each [] = tt
+found_alike {X} IsOf f g p q same each (x ∷ xs) =
+    subst (λ v. Tells IsOf (find p (map f (x ∷ xs))) (cond v (Some (g x)) (find q (map g xs))))
+    (same x) (go (p (f x)) (found_alike IsOf f g p q same each xs))
+  where
+    go : (v : Bool) → Tells IsOf (find p (map f xs)) (find q (map g xs))
+        → Tells IsOf (cond v (Some (f x)) (find p (map f xs))) (cond v (Some (g x)) (find q (map g xs)))
+    go true rest = each x
+    go false rest = rest
+
+unfinished_phase : (p : Phase) → nat_le (phase_number p) 1 ≡ not (is_finished p)
+unfinished_phase Run = refl
+unfinished_phase (Back target) = refl
+unfinished_phase Ended = refl
+unfinished_phase Undone = refl
+
+-- the row with the least number, of those that are unfinished and above a number, tells the first
+-- such journey
+pub unfinished_found : (l : List Event) (rows : List JourneyRow) (after : ℕ) (found : Option JourneyRow)
+    → IsPermutation (journeys_called l) rows
+    → IsLeastOf (λ (r : JourneyRow). r.id) (filter (is_unfinished_after after) rows) found
+    → Tells IsBriefOf found (first_unfinished l after)
+unfinished_found l rows after found same least =
+    subst (λ (o : Option JourneyRow). Tells IsBriefOf o (first_unfinished l after))
+    (least_is_first (λ (r : JourneyRow). r.id) (is_unfinished_after after) (journeys_called l) rows found (called_rises l) same least)
+    (subst (λ bs. Tells IsBriefOf (find (is_unfinished_after after) (journeys_called l)) (find (is_unfinished_above after) bs)) (sym (briefs l))
+    (found_alike IsBriefOf (row_in l) (brief_in l) (is_unfinished_after after) (is_unfinished_above after)
+    (λ b. ap (λ v. nat_lt after b.0 && v) (unfinished_phase (phase b.1.journey.plan (history l b.0)))) (λ b. record { id = refl; agent = refl; cursor = refl }) (counted_from 1 (begun l))))

@@ -1,0 +1,48 @@
+-- A desk's state stays one through each world. For `desks`.
+use Rattle.std.proofs.Common.{◌≡◌, List, [], ◌∷◌, refl, sym, ap, subst}
+use Rattle.std.specs.Prelude.{true, false, Option, Some, None, is_some}
+use Rattle.commands.specs.Asks.{Asked}
+use Rattle.commands.specs.Request.{Request}
+use Rattle.commands.specs.declared.replies.Reply.{Reply}
+use Rattle.ledger.specs.Answer.{State, KeptReply, start, answer, asker, kept_for, state_with, outcome_for, outcome}
+use Rattle.ledger.specs.Ledger.{Event}
+use Rattle.ledger.specs.World.{Moment, Done, Cut, Reopened, after, KeepsLimits, GoesOn}
+use Rattle.sql_model.specs.Standing.{IsDesk}
+use Rattle.sql_model.specs.Worlds.{EachWorldIsADesk}
+use Rattle.sql_model.proofs.Accepting.{outcome_keeps}
+use Rattle.sql_model.proofs.Founding.{start_is_desk}
+
+-- a request that makes no event changes nothing
+same_with : (s : State) (ask : Option Asked) (r : Reply) (e : Option Event) → e ≡ None → state_with s ask r e ≡ s
+same_with s ask r None none = refl
+same_with s ask r (Some e) none = cc
+
+same_without : (s : State) (ask : Option Asked) (asked : Request) → (outcome s ask asked).event ≡ None
+    → (outcome s ask asked).state ≡ s
+same_without s ask asked = go (kept_for s ask)
+  where
+    go : (k : Option KeptReply) → (outcome_for s ask asked k).event ≡ None → (outcome_for s ask asked k).state ≡ s
+    go (Some k) none = refl
+    go None none =
+        same_with s ask (answer s.ledger (asker ask) asked).reply (answer s.ledger (asker ask) asked).event none
+
+-- one request of a world leaves a desk's state
+stays_desk : (s : State) (ask : Option Asked) (asked : Request) → IsDesk s → KeepsLimits s ask asked
+    → IsDesk (outcome s ask asked).state
+stays_desk s ask asked desk keeps = go (outcome s ask asked).event refl
+  where
+    go : (e : Option Event) → (outcome s ask asked).event ≡ e → IsDesk (outcome s ask asked).state
+    go None none = subst IsDesk (sym (same_without s ask asked none)) desk
+    go (Some e) some = outcome_keeps s ask asked desk (keeps (ap is_some some))
+
+after_desk : (s : State) (w : List Moment) → IsDesk s → GoesOn s w → IsDesk (after s w)
+after_desk s [] desk goes = desk
+after_desk s (Done asked ask reply ∷ later) desk goes =
+    after_desk (outcome s ask asked).state later (stays_desk s ask asked desk goes.0) goes.2
+after_desk s (Cut asked ask true ∷ later) desk goes =
+    after_desk (outcome s ask asked).state later (stays_desk s ask asked desk goes.0) goes.2
+after_desk s (Cut asked ask false ∷ later) desk goes = after_desk s later desk goes.2
+after_desk s (Reopened ∷ later) desk goes = after_desk s later desk goes
+
+pub each_world_is_a_desk : EachWorldIsADesk
+each_world_is_a_desk w world = after_desk start w start_is_desk world

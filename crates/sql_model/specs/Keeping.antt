@@ -1,0 +1,105 @@
+-- What a connection keeps of a desk, and what a stop may leave of it.
+use Rattle.std.specs.Prelude.{◌≡◌, ◌⊎◌, IsTrue}
+use Rattle.sqlite.specs.Tree.{Trees}
+use Rattle.sqlite.specs.Effect.{IsDatabase}
+use Rattle.sqlite.specs.Store.{Ghosts}
+use Rattle.sqlite.specs.Held.{Held, state}
+use Rattle.sqlite.specs.State.{State as Connected, HasCleanDisk}
+use Rattle.desk_sql.specs.declared.versions.Version.{Version}
+use Rattle.desk_sql.specs.declared.versions.Version.TheVariants.{One, Two}
+use Rattle.desk_sql.specs.Schema.{schema_of, no_schema}
+use Rattle.desk_sql.specs.Rows.{Tables, ShowsIn}
+use Rattle.ledger.specs.Answer.{State, start}
+use Rattle.sql_model.specs.Standing.{StandsIn}
+
+-- the trees list the desk's schema of this version and obey it, and its tables stand for the state
+pub record MeansIn (v : Version) (db : Trees) (s : State) : Type 0 where
+  pub of : IsDatabase (record { schema = schema_of v; trees = db })
+  pub tables : Tables
+  pub shown : ShowsIn v db tables
+  pub stands : StandsIn v tables s
+
+-- the same, of the newest version
+abbrev pub MeansDesk : Trees → State → Type 0
+MeansDesk db s = MeansIn Two db s
+
+-- a store without tables stands for a new desk
+pub record MeansNew (db : Trees) (s : State) : Type 0 where
+  pub of : IsDatabase (record { schema = no_schema; trees = db })
+  pub new : s ≡ start
+
+-- what the trees of a database of this version stand for; a store without tables counts as one of the
+-- newest, whose tables it gets
+abbrev pub MeansOf : Version → Trees → State → Type 0
+MeansOf One db s = MeansIn One db s
+MeansOf Two db s = MeansIn Two db s ⊎ MeansNew db s
+
+-- the same, of the newest version
+abbrev pub Means : Trees → State → Type 0
+Means db s = MeansOf Two db s
+
+-- whatever a stop leaves stands for one of these two states
+abbrev pub Leaves : Connected → State → State → Type 0
+Leaves c s t = (db : Trees) → c.may_leave db → Means db s ⊎ Means db t
+
+-- the connection sees the desk's tables of this version, committed, and these stand for the state
+pub record SeesOf (v : Version) (c : Connected) (s : State) : Type 0 where
+  pub schema : c.now.schema ≡ schema_of v
+  pub sound : IsDatabase c.now
+  pub committed : c.now ≡ c.committed
+  pub tables : Tables
+  pub shown : ShowsIn v c.now.trees tables
+  pub stands : StandsIn v tables s
+
+-- the same, of the newest version
+abbrev pub SeesDesk : Connected → State → Type 0
+SeesDesk c s = SeesOf Two c s
+
+-- as far as it is open the connection sees a desk of this version with this state, and a stop leaves
+-- just that
+pub record IsKeptIn (v : Version) (c : Connected) (s : State) : Type 0 where
+  pub sees : IsTrue c.is_open → SeesOf v c s
+  pub leaves : (db : Trees) → c.may_leave db → MeansOf v db s
+
+-- the same, of the newest version
+abbrev pub IsKept : Connected → State → Type 0
+IsKept c s = IsKeptIn Two c s
+
+-- while the store returns what was written, the connection keeps the state, in tables of this version
+abbrev pub KeepsIn : Version → Connected → State → Type 0
+KeepsIn v c s = HasCleanDisk c → IsKeptIn v c s
+
+-- the same, in tables of the newest version
+abbrev pub Keeps : Connected → State → Type 0
+Keeps c s = KeepsIn Two c s
+
+-- the connection sees a store without tables, and the state is that of a new desk
+pub record SeesNew (c : Connected) (s : State) : Type 0 where
+  pub schema : c.now.schema ≡ no_schema
+  pub committed : c.now ≡ c.committed
+  pub new : s ≡ start
+
+-- the connection sees a desk of this version with this state; a store without tables counts as one of
+-- the newest, whose tables it gets
+abbrev pub Sees : Version → Connected → State → Type 0
+Sees One c s = SeesOf One c s
+Sees Two c s = SeesOf Two c s ⊎ SeesNew c s
+
+-- as far as it is open the connection sees a desk of this version with this state, or a store without
+-- tables where the state is that of a new desk, and a stop leaves just that
+pub record IsFound (v : Version) (c : Connected) (s : State) : Type 0 where
+  pub sees : IsTrue c.is_open → Sees v c s
+  pub leaves : (db : Trees) → c.may_leave db → MeansOf v db s
+
+-- as far as its disk is clean the connection showed this state, and a stop left just that
+abbrev pub StoodFor : Version → Connected → State → Type 0
+StoodFor v c s = HasCleanDisk c → IsFound v c s
+
+-- while the store returns what was written, what a stop leaves stands for one of these two states
+abbrev pub MayLeave : Connected → State → State → Type 0
+MayLeave c s t = HasCleanDisk c → Leaves c s t
+
+module _ {S : Type 0} (g : Ghosts S) (old new : Held S) where
+  -- a store that returns what was written did so before
+  abbrev pub WasClean : Type 0
+  WasClean = HasCleanDisk (state g new) → HasCleanDisk (state g old)

@@ -1,0 +1,101 @@
+-- The rows of unfinished journeys. For `brief_rows`.
+use Rattle.std.proofs.Common.{◌≡◌, ℕ, suc, ◌+◌, ◌<◌, ◌≤◌, List, [], ◌∷◌, map, filter, cond, length, Bool, true, false, Some, refl, sym, ap, ◌∙◌, arith}
+use Rattle.std.specs.Prelude.{slice_get, filter_map, option_map, nat_lt, nat_le, not, ◌&&◌}
+use Rattle.std.specs.List.{cons_option}
+use Rattle.std.specs.List.Sorted.{IsPermutation}
+use Rattle.std.proofs.lemmas.List.Sorted.{IsPermutation-refl}
+use Rattle.std.proofs.lemmas.Bool.{lt-ltb}
+use Rattle.sqlite_trees.proofs.ListLemmas.{ascending-filter, ascending_weaker}
+use Rattle.allotment.specs.Cells.{numbers_from}
+use Rattle.commands.specs.declared.items.Phase.{Phase}
+use Rattle.commands.specs.declared.items.Phase.TheVariants.{Run, Back, Ended, Undone}
+use Rattle.ledger.specs.History.{phase, is_finished}
+use Rattle.ledger.specs.Ledger.{Event, journey_at, numbers, history}
+use Rattle.saga_core.specs.Views.{brief_of_journey, brief_of, unfinished_of}
+use Rattle.saga_core.specs.declared.records.Brief.{Brief}
+use Rattle.desk_sql.specs.Rows.{JourneyRow}
+use Rattle.desk_sql.specs.FoundRows.{is_unfinished_after, journey_of}
+use Rattle.desk_sql.specs.RemainingRows.{ListsUnfinished}
+use Rattle.desk_sql.specs.Rows.{Tables}
+use Rattle.desk_sql.specs.declared.journeys.JourneyFound.{JourneyFound}
+use Rattle.sql_model.specs.ExpectedRows.{counted_from, Begun, begun, phase_number, journeys_called}
+use Rattle.sql_model.proofs.Events.{length-begun}
+use Rattle.sql_model.proofs.JourneyRows.{row_in, begun_there, called_rises}
+use Rattle.sql_model.proofs.Orders.{Rises, one_order}
+use Rattle.sql_reads.specs.Reading.{TellsBrief}
+use Rattle.sql_reads.specs.RemainingRows.{Short, short_of, short_told, TellBriefs}
+use Rattle.sql_reads.proofs.ReadJourneys.{brief_told}
+
+-- a journey with its number, in short
+abbrev brief_in : List Event → ℕ × Begun → Brief
+brief_in l b = brief_of_journey b.0 (history l b.0) b.1.journey
+
+briefs_from : (l : List Event) (n : ℕ) (bs : List Begun)
+    → ((i : ℕ) (b : Begun) → slice_get bs i ≡ Some b → journey_at l (n + i) ≡ Some b.journey)
+    → filter_map (brief_of l) (numbers_from n (length bs)) ≡ map (brief_in l) (counted_from n bs)
+briefs_from l n [] at = refl
+briefs_from l n (b ∷ bs) at =
+    let here : journey_at l n ≡ Some b.journey = ap (journey_at l) (let e : n ≡ n + 0 = omega arith in e) ∙ at 0 b refl in
+    ap (λ o. cons_option (option_map (brief_of_journey n (history l n)) o) (filter_map (brief_of l) (numbers_from (suc n) (length bs)))) here
+    ∙ ap (λ more. brief_in l (n, b) ∷ more)
+    (briefs_from l (suc n) bs (λ i x e. ap (journey_at l) (let k : suc n + i ≡ n + suc i = omega arith in k) ∙ at (suc i) x e))
+
+-- the journeys in short are those that were begun
+briefs : (l : List Event) → filter_map (brief_of l) (numbers l) ≡ map (brief_in l) (counted_from 1 (begun l))
+briefs l =
+    ap (λ n. filter_map (brief_of l) (numbers_from 1 n)) (sym (length-begun l))
+    ∙ briefs_from l 1 (begun l) (λ i b e. ap (journey_at l) (let k : 1 + i ≡ suc i = omega arith in k) ∙ begun_there l i b e)
+
+unfinished_phase : (p : Phase) → nat_le (phase_number p) 1 ≡ not (is_finished p)
+unfinished_phase Run = refl
+unfinished_phase (Back target) = refl
+unfinished_phase Ended = refl
+unfinished_phase Undone = refl
+
+abbrev goes_on : Brief → Bool
+goes_on b = not (is_finished b.cursor.phase)
+
+kept_alike : (v w : Bool) (r : JourneyRow) (b : Brief) (rs : List JourneyRow) (bs : List Brief) → v ≡ w → short_of r ≡ short_told b
+    → map short_of rs ≡ map short_told bs → map short_of (cond v (r ∷ rs) rs) ≡ map short_told (cond w (b ∷ bs) bs)
+kept_alike true true r b rs bs e one more = cc
+kept_alike true false r b rs bs e one more = cc
+kept_alike false true r b rs bs e one more = cc
+kept_alike false false r b rs bs e one more = more
+
+-- the rows of the unfinished journeys tell them
+told_from : (l : List Event) (n : ℕ) (bs : List Begun)
+    → map short_of (filter (is_unfinished_after 0) (map (row_in l) (counted_from (suc n) bs)))
+    ≡ map short_told (filter goes_on (map (brief_in l) (counted_from (suc n) bs)))
+told_from l n [] = refl
+told_from l n (b ∷ bs) =
+    let p = phase b.journey.plan (history l (suc n)) in
+    let above : nat_lt 0 (suc n) ≡ true = lt-ltb 0 (suc n) (omega arith) in
+    kept_alike (is_unfinished_after 0 (row_in l (suc n, b))) (goes_on (brief_in l (suc n, b))) (row_in l (suc n, b)) (brief_in l (suc n, b))
+    (filter (is_unfinished_after 0) (map (row_in l) (counted_from (suc (suc n)) bs))) (filter goes_on (map (brief_in l) (counted_from (suc (suc n)) bs)))
+    (ap (λ v. v && nat_le (phase_number p) 1) above ∙ unfinished_phase p) refl (told_from l (suc n) bs)
+
+-- the rows of the journeys that are not finished
+abbrev pub all_unfinished : Tables → List JourneyRow
+all_unfinished t = filter (is_unfinished_after 0) t.journey
+
+pub lists_all : (t : Tables) → Rises (λ (j : JourneyRow). j.id) t.journey → ListsUnfinished 0 t (all_unfinished t)
+lists_all t rise = record {
+  same = IsPermutation-refl (all_unfinished t);
+  rising = ascending_weaker (λ (a b : JourneyRow). a.id < b.id) (λ (a b : JourneyRow). a.id ≤ b.id) (λ a b low. omega arith) (all_unfinished t)
+      (ascending-filter (λ (a b : JourneyRow). a.id < b.id) (is_unfinished_after 0) t.journey rise);
+}
+
+pub unfinished_told : (l : List Event) (t : Tables) (shown : List Brief) → IsPermutation (journeys_called l) t.journey
+    → Rises (λ (j : JourneyRow). j.id) t.journey → shown ≡ unfinished_of l → TellBriefs (all_unfinished t) shown
+unfinished_told l t shown same rise is =
+    ap (λ js. map short_of (filter (is_unfinished_after 0) js)) (one_order (λ (j : JourneyRow). j.id) (journeys_called l) t.journey same (called_rises l) rise)
+    ∙ told_from l 0 (begun l) ∙ ap (λ bs. map short_told (filter goes_on bs)) (sym (briefs l)) ∙ ap (map short_told) (sym is)
+
+-- a row that tells a journey in short tells no other
+pub brief_same : (r : JourneyFound) (b z : Brief) → TellsBrief r b → short_of (journey_of r) ≡ short_told z → b ≡ z
+brief_same r b z tells e =
+    let same : Some b ≡ Some z = brief_told (Some z) r b (record {
+      id = ap (λ (s : Short). s.id) e;
+      agent = ap (λ (s : Short). s.agent) e;
+      cursor = ap (λ (s : Short). s.cursor) e;
+    }) tells in cc

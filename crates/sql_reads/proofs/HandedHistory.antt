@@ -1,0 +1,121 @@
+-- The next item of a journey, and what is then left. For `history_rows`.
+use Rattle.std.proofs.Common.{◌≡◌, ℕ, List, [], ◌∷◌, ◌++◌, drop, Bool, true, false, Option, None, Some, refl, sym, ap, subst, ◌∙◌, append_assoc}
+use Rattle.sqlite.specs.Store.{Ghosts}
+use Rattle.sqlite.specs.Held.{Held, state}
+use Rattle.commands.specs.declared.items.Item.{Item}
+use Rattle.ledger.specs.Answer.{State}
+use Rattle.ledger.specs.Ledger.{journey_at, history}
+use Rattle.desk_sql.specs.FoundRows.{item_of}
+use Rattle.desk_sql.specs.declared.items.ItemFound.{ItemFound}
+use Rattle.saga_core.specs.RowSources.{HandsFirst}
+use Rattle.desk_sql.specs.declared.versions.Version.{Version}
+use Rattle.sql_model.specs.Keeping.{KeepsIn}
+use Rattle.sql_model.specs.Reading.{item_in}
+use Rattle.sql_model.specs.Standing.{IsDesk}
+use Rattle.sql_reads.specs.Following.{GoesOnWith, BringsTo, TellsFinished}
+use Rattle.sql_reads.specs.RemainingRows.{AreBehind, ItemsLeft}
+use Rattle.sql_reads.specs.Reading.{KeepsEach}
+use Rattle.sql_reads.specs.ItemSearch.{TellsNext, IsNextOf}
+use Rattle.sql_reads.specs.declared.item_search.Sought.{Sought}
+use Rattle.sql_reads.proofs.GoingOn.{goes_no_further}
+
+module _ {S : Type 0} (g : Ghosts S) (tables : Version) (old new : Held S) (w : Sought) (pos : ℕ) where
+  -- what is left where it is not finished
+  open_left : (was : Bool) (items : List Item) → was ≡ false → ItemsLeft g tables old w pos was items → AreBehind g tables old w pos items
+  open_left was items e left = subst (λ v. ItemsLeft g tables old w pos v items) e left
+
+  -- the row that is found, or that none is, of each desk that the connection keeps
+  abbrev pub IsNextFound : Option ItemFound → Type 0
+  IsNextFound o = (s : State) → IsDesk s → KeepsIn tables (state g old) s → IsNextOf w s o
+
+  -- the row tells the first item of those that were left; where it finishes the journey none is left after it
+  pub item_first : (v : Sought) (after : ℕ) (was finished : Bool) (i : ItemFound) (x : Item)
+      → v.journey ≡ w.journey → v.after ≡ i.num → v.steps ≡ w.steps → KeepsEach g old new
+      → IsNextFound (Some i) → Some x ≡ item_in (item_of 0 i)
+      → BringsTo pos x after → TellsFinished w.steps pos x finished → was ≡ false
+      → (failed : Bool) (xs : List Item) → (failed ≡ false) × ItemsLeft g tables old w pos was xs
+      → HandsFirst (λ zs. (false ≡ false) × ItemsLeft g tables new v after finished zs) (Some x) xs
+  item_first v after was finished i x journey_is after_is steps_is kept next is brings tells open_yet failed xs rests =
+      let left = open_left was xs open_yet rests.1 in
+      let told = next left.desk left.is_desk left.keeps in
+      go xs left told (sym left.behind ∙ told.rest)
+    where
+      goes_same : (y : Item) → y ≡ x → (later : List Item) → AreBehind g tables old w pos (y ∷ later) → GoesOnWith w.steps pos (x ∷ later)
+      goes_same y same later left = record {
+        ledger = left.desk.ledger;
+        legal = left.is_desk.legal;
+        id = w.journey;
+        has_steps = left.has_steps;
+        before = left.before;
+        stands = left.stands;
+        whole = left.whole ∙ ap (λ z. left.before ++ z ∷ later) same;
+      }
+
+      further : (f : Bool) (y : Item) → y ≡ x → TellsFinished w.steps pos x f → (later : List Item)
+          → (left : AreBehind g tables old w pos (y ∷ later))
+          → history (drop i.num left.desk.ledger) w.journey ≡ later → ItemsLeft g tables new v after f later
+      further true y same done later left behind =
+          goes_no_further w.steps pos x later done (goes_same y same later left)
+      further false y same open_still later left behind =
+          record {
+            desk = left.desk;
+            is_desk = left.is_desk;
+            keeps = kept tables left.desk left.keeps;
+            has_steps = λ a at. left.has_steps a (sym (ap (journey_at left.desk.ledger) journey_is) ∙ at) ∙ sym steps_is;
+            before = left.before ++ x ∷ [];
+            stands = sym (brings w.steps later (goes_same y same later left));
+            whole =
+                ap (history left.desk.ledger) journey_is ∙ left.whole ∙ ap (λ z. left.before ++ z ∷ later) same
+                ∙ sym (append_assoc left.before (x ∷ []) later);
+            behind =
+                ap (λ n. history (drop n left.desk.ledger) v.journey) after_is
+                ∙ ap (history (drop i.num left.desk.ledger)) journey_is ∙ behind;
+          }
+
+      go : (ys : List Item) (left : AreBehind g tables old w pos ys) (told : TellsNext w left.desk.ledger i)
+          → ys ≡ told.item ∷ history (drop i.num left.desk.ledger) w.journey
+          → HandsFirst (λ zs. (false ≡ false) × ItemsLeft g tables new v after finished zs) (Some x) ys
+      go [] left told e = cc
+      go (y ∷ later) left told e =
+          let both : Some x ≡ Some told.item = is ∙ told.told in
+          let same : y ≡ x = cc in
+          let behind : later ≡ history (drop i.num left.desk.ledger) w.journey = cc in
+          (ap Some (sym same), (refl, further finished y same tells later left (sym behind)))
+
+  -- where no row comes, none was left
+  pub item_none : (was : Bool) → KeepsEach g old new → IsNextFound None → was ≡ false
+      → (failed : Bool) (xs : List Item) → (failed ≡ false) × ItemsLeft g tables old w pos was xs
+      → HandsFirst (λ zs. (false ≡ false) × ItemsLeft g tables new w pos was zs) None xs
+  item_none was kept next open_yet failed xs rests =
+      let left = open_left was xs open_yet rests.1 in
+      go xs left (sym left.behind ∙ next left.desk left.is_desk left.keeps)
+    where
+      go : (ys : List Item) → AreBehind g tables old w pos ys → ys ≡ []
+          → HandsFirst (λ zs. (false ≡ false) × ItemsLeft g tables new w pos was zs) None ys
+      go [] left e = (
+        refl,
+        (
+          refl,
+          subst (λ v. ItemsLeft g tables new w pos v []) (sym open_yet) (record {
+            desk = left.desk;
+            is_desk = left.is_desk;
+            keeps = kept tables left.desk left.keeps;
+            has_steps = left.has_steps;
+            before = left.before;
+            stands = left.stands;
+            whole = left.whole;
+            behind = left.behind;
+          }),
+        ),
+      )
+      go (y ∷ later) left e = cc
+
+-- of a finished journey none is left
+pub none_left : {S : Type 0} (g : Ghosts S) (tables : Version) (h : Held S) (w : Sought) (pos : ℕ) (was : Bool) → was ≡ true
+    → (failed : Bool) (xs : List Item) → (failed ≡ false) × ItemsLeft g tables h w pos was xs
+    → HandsFirst (λ zs. (failed ≡ false) × ItemsLeft g tables h w pos was zs) None xs
+none_left g tables h w pos was done failed xs rests = go xs (subst (λ v. ItemsLeft g tables h w pos v xs) done rests.1)
+  where
+    go : (ys : List Item) → ys ≡ [] → HandsFirst (λ zs. (failed ≡ false) × ItemsLeft g tables h w pos was zs) None ys
+    go [] none = (refl, (rests.0, subst (λ v. ItemsLeft g tables h w pos v []) (sym done) refl))
+    go (y ∷ ys) none = cc

@@ -1,0 +1,75 @@
+-- Rows that are handed out tell the desk's own. For the sources of rows.
+use Rattle.std.proofs.Common.{◌≡◌, List, [], ◌∷◌, map, Bool, false, Some, None, refl, ap, ◌∙◌}
+use Rattle.sqlite.specs.Store.{Ghosts}
+use Rattle.sqlite.specs.Held.{Held, state}
+use Rattle.sqlite.specs.State.{HasCleanDisk}
+use Rattle.desk_sql.specs.Calls.{MaySeeIn, ChangesNothing, LeavesNoMore}
+use Rattle.desk_sql.specs.declared.versions.Version.{Version}
+use Rattle.desk_sql.specs.Rows.{Tables, ShowsIn}
+use Rattle.ledger.specs.Answer.{State}
+use Rattle.sql_model.specs.Standing.{StandsIn}
+use Rattle.sql_model.specs.Keeping.{KeepsIn}
+use Rattle.desk_sql.specs.RemainingRows.{HandsFirst as HandsFirstRow, Hands as HandsRows, StaysAsItIs}
+use Rattle.saga_core.specs.RowSources.{HandsFirst}
+use Rattle.sql_model.proofs.KeepLemmas.{seen_by, quiet_keeps}
+use Rattle.sql_reads.specs.RemainingRows.{IsLeftAsItWas}
+use Rattle.sql_reads.proofs.ReadLemmas.{was_clean, as_before}
+
+-- what handed out a row, or failed to, kept what the connection kept
+pub left_by : {S : Type 0} (g : Ghosts S) (old new : Held S) → ChangesNothing g old new → LeavesNoMore g old new
+    → (old.in_transaction ≡ false → new.in_transaction ≡ false) → IsLeftAsItWas g old new
+left_by g old new same survives outside = record {
+  reads = record {
+    keeps = λ v s keeps clean. quiet_keeps (state g old) (state g new) s (keeps (was_clean g old new survives clean)) (same clean) survives clean;
+    stop = as_before g old new survives;
+    less = was_clean g old new survives;
+  };
+  outside = outside;
+}
+
+-- the tables that a connection had which keeps a state, seen from what it has become
+pub record IsThere (v : Version) {S : Type 0} (g : Ghosts S) (h : Held S) (s : State) : Type 0 where
+  pub tables : Tables
+  pub may : MaySeeIn v (state g h) tables
+  pub rows : ShowsIn v (state g h).now.trees tables
+  pub stands : StandsIn v tables s
+
+pub there_at : {v : Version} {S : Type 0} (g : Ghosts S) (old new : Held S) (s : State) → KeepsIn v (state g old) s → StaysAsItIs g old new
+    → LeavesNoMore g old new → HasCleanDisk (state g new) → IsThere v g old s
+there_at g old new s keeps same survives clean =
+    let seen = seen_by (state g old) s (keeps (was_clean g old new survives clean)) in
+    let live = (same clean).0.was_open in
+    record { tables = seen.tables; may = seen.may; rows = (seen.may live).rows; stands = seen.stands live }
+
+-- what rows tell, where each row has a word for it and what it tells has one too
+abbrev pub Told : {X Y K : Type 0} → (Y → K) → (X → K) → (List Y → Type 0) → List X → Type 0
+Told {X} {Y} seen written Rests xs = (ys : List Y) × Rests ys × (map seen ys ≡ map written xs)
+
+module _ {X Y K : Type 0} (seen : Y → K) (written : X → K) (Before After : List Y → Type 0) where
+  -- the first row tells the first of those to come
+  pub told_first : (y : Y) (x : X) → HandsRows Before After (Some y) → ((z : X) → seen y ≡ written z → x ≡ z)
+      → (failed : Bool) → (xs : List X) → (failed ≡ false) × Told seen written Before xs
+      → HandsFirst (λ zs. (false ≡ false) × Told seen written After zs) (Some x) xs
+  told_first y x hands same failed xs rests = go xs rests.1.0 rests.1.2 (hands rests.1.0 rests.1.1)
+    where
+      go : (xs : List X) (ys : List Y) → map seen ys ≡ map written xs → HandsFirstRow After (Some y) ys
+          → HandsFirst (λ zs. (false ≡ false) × Told seen written After zs) (Some x) xs
+      go xs [] e h = absurd (let none = h.0 in cc)
+      go [] (z ∷ ys) e h = absurd (cc)
+      go (w ∷ xs) (z ∷ ys) e h =
+          let both : seen z ∷ map seen ys ≡ written w ∷ map written xs = e in
+          let is : y ≡ z = (let i = h.0 in cc) in
+          let first : seen z ≡ written w = cc in
+          let others : map seen ys ≡ map written xs = cc in
+          (ap Some (same w (ap seen is ∙ first)), (refl, (ys, h.1, others)))
+
+  -- where no row comes, none was to come
+  pub told_none : HandsRows Before After None → (failed : Bool) → (xs : List X) → (failed ≡ false) × Told seen written Before xs
+      → HandsFirst (λ zs. (false ≡ false) × Told seen written After zs) None xs
+  told_none hands failed xs rests = go xs rests.1.0 rests.1.2 (hands rests.1.0 rests.1.1)
+    where
+      go : (xs : List X) (ys : List Y) → map seen ys ≡ map written xs → HandsFirstRow After None ys
+          → HandsFirst (λ zs. (false ≡ false) × Told seen written After zs) None xs
+      go [] [] e h = (refl, (refl, ([], h.1, refl)))
+      go (w ∷ xs) [] e h = absurd (cc)
+      go xs (z ∷ ys) e h = absurd (let none = h.0 in cc)

@@ -1,0 +1,161 @@
+-- What the rows of journeys tell. For the functions of `sql_reads`.
+use Rattle.std.proofs.Common.{◌≡◌, ℕ, zero, suc, ◌≤◌, ◌<◌, List, [], ◌∷◌, map, find, cond, length, Option, Some, None, Bool, true, false, refl, sym, ap, ap₂, subst, ◌∙◌, arith}
+use Rattle.std.specs.Prelude.{option_map, filter_map, nat_lt, not}
+use Rattle.std.proofs.lemmas.Bool.{and_parts, and_from, ltb-true, lt-ltb}
+use Rattle.std.proofs.lemmas.Option.{slice_get_past}
+use Rattle.commands.specs.declared.items.Cursor.{Cursor}
+use Rattle.saga_core.specs.Views.{first_unfinished, is_unfinished_above, brief_of, record_of, record_of_journey, cursor_of, marks_of}
+use Rattle.saga_core.specs.declared.records.Record.{Record}
+use Rattle.plan.specs.PlanModel.{Planned, step_count}
+use Rattle.std.specs.List.{list_any}
+use Rattle.std.specs.FinSet as set
+use Rattle.std.specs.Ordering.{nat_cmp}
+use Rattle.sqlite.specs.Tree.{Trees}
+use Rattle.desk_sql.specs.declared.versions.Version.{Version}
+use Rattle.desk_sql.specs.declared.versions.Version.TheVariants.{One, Two}
+use Rattle.desk_sql.specs.Rows.{JourneyRow, Tables, ShowsIn, ShowsMarks}
+use Rattle.sql_model.proofs.RecordRows.{record_told, marks_told}
+use Rattle.saga_core.specs.declared.records.Brief.{Brief}
+use Rattle.desk_sql.specs.FoundRows.{journey_of}
+use Rattle.desk_sql.specs.declared.journeys.JourneyFound.{JourneyFound}
+use Rattle.ledger.specs.Answer.{State}
+use Rattle.ledger.specs.History.{is_finished, is_taken}
+use Rattle.ledger.specs.Ledger.{Event, Journey, journeys, journey_at, numbers, history}
+use Rattle.sql_model.specs.ExpectedRows.{cursor_row}
+use Rattle.sql_model.specs.Reading.{Tells, IsBriefOf, IsJourneyOf, cursor_in}
+use Rattle.sql_model.proofs.Cursors.{cursor_back}
+use Rattle.sql_model.specs.Standing.{StandsIn, is_mark_at}
+use Rattle.sql_reads.specs.Reading.{TellsBrief, TellsStand, TellsRecord, stand_of, IsNone, AreMarksAt}
+use Rattle.sql_reads.specs.declared.reads.Stand.{Stand}
+
+made_brief : ℕ → List ℕ → Cursor → Brief
+made_brief id agent cursor = record { id = id; agent = agent; cursor = cursor }
+
+brief_one : (r : JourneyFound) (b c : Brief) → IsBriefOf (journey_of r) c → TellsBrief r b → b ≡ c
+unfolding made_brief
+brief_one r b c is tells =
+    let cursor : Some b.cursor ≡ Some c.cursor = sym tells.cursor ∙ ap cursor_in is.cursor ∙ cursor_back c.cursor in
+    let same : b.cursor ≡ c.cursor = cc in
+    ap (λ n. made_brief n b.agent b.cursor) (tells.id ∙ is.id) ∙ ap (λ a. made_brief c.id a b.cursor) (tells.agent ∙ is.agent) ∙ ap (made_brief c.id c.agent) same
+
+-- the journey that a row tells in short is the one that is shown
+pub brief_told : (shown : Option Brief) (r : JourneyFound) (b : Brief) → Tells IsBriefOf (Some (journey_of r)) shown → TellsBrief r b → Some b ≡ shown
+brief_told None r b is tells = absurd is
+brief_told (Some c) r b is tells = ap Some (brief_one r b c is tells)
+
+-- where no row is found nothing is shown
+pub none_told : (shown : Option Brief) → Tells IsBriefOf None shown → None ≡ shown
+none_told None is = refl
+none_told (Some c) is = absurd is
+
+find_fewer : {X : Type 0} (p q : X → Bool) (xs : List X) → ((x : X) → q x ≡ true → p x ≡ true) → find p xs ≡ None → find q xs ≡ None
+find_fewer p q [] fewer none = refl
+find_fewer {X} p q (x ∷ xs) fewer none = go (p x) refl (q x) refl (find_fewer p q xs fewer)
+  where
+    go : (a : Bool) → p x ≡ a → (b : Bool) → q x ≡ b → (find p xs ≡ None → find q xs ≡ None) → find q (x ∷ xs) ≡ None
+    go true ep b eq rest = absurd (let bad : Some x ≡ None = sym (ap (λ v. cond v (Some x) (find p xs)) ep) ∙ none in cc)
+    go false ep true eq rest = absurd (let bad : false ≡ true = sym ep ∙ fewer x eq in cc)
+    go false ep false eq rest =
+        ap (λ v. cond v (Some x) (find q xs)) eq ∙ rest (sym (ap (λ v. cond v (Some x) (find p xs)) ep) ∙ none)
+
+-- where no journey above a number is unfinished, none is above a greater one
+pub none_above : (l : List Event) (low high : ℕ) → low ≤ high → first_unfinished l low ≡ None → first_unfinished l high ≡ None
+none_above l low high above none =
+    find_fewer (is_unfinished_above low) (is_unfinished_above high) (filter_map (brief_of l) (numbers l)) fewer none
+  where
+    fewer : (b : Brief) → is_unfinished_above high b ≡ true → is_unfinished_above low b ≡ true
+    fewer b e =
+        let parts = and_parts (nat_lt high b.id) (not (is_finished b.cursor.phase)) e in
+        let more : high < b.id = ltb-true high b.id parts.0 in
+        and_from _ _ (lt-ltb low b.id (omega arith)) parts.1
+
+-- no journey has a number above how many there are
+pub journey_past : (l : List Event) (id : ℕ) → length (journeys l) < id → journey_at l id ≡ None
+journey_past l zero low = absurd (omega arith)
+journey_past l (suc i) low = slice_get_past (journeys l) i (omega arith)
+
+-- two lists are the same where each element is there on both sides
+pub some_one : {X : Type 0} (xs ys : List X) → map Some xs ≡ map Some ys → xs ≡ ys
+some_one [] [] e = refl
+some_one [] (y ∷ ys) e = cc
+some_one (x ∷ xs) [] e = cc
+some_one {X} (x ∷ xs) (y ∷ ys) e =
+    let both : Some x ∷ map Some xs ≡ Some y ∷ map Some ys = e in
+    let head : x ≡ y = cc in
+    let tail : map Some xs ≡ map Some ys = cc in
+    ap₂ ◌∷◌ head (some_one xs ys tail)
+
+-- where no row is found there is no journey to show
+pub record_none : (l : List Event) (id : ℕ) → Tells (λ (r : JourneyRow) a. (r.id ≡ id) × IsJourneyOf l r a) None (journey_at l id) → None ≡ record_of l id
+record_none l id = go (journey_at l id)
+  where
+    go : (o : Option Journey) → Tells (λ (r : JourneyRow) a. (r.id ≡ id) × IsJourneyOf l r a) None o → None ≡ option_map (record_of_journey (history l id)) o
+    go None t = refl
+    go (Some a) t = absurd t
+
+-- a journey that a row tells
+pub record JourneyThere (l : List Event) (id : ℕ) (r : JourneyRow) : Type 0 where
+  pub journey : Journey
+  pub at : journey_at l id ≡ Some journey
+  pub same : r.id ≡ id
+  pub is : IsJourneyOf l r journey
+
+pub journey_there : (l : List Event) (id : ℕ) (r : JourneyRow) → Tells (λ (x : JourneyRow) a. (x.id ≡ id) × IsJourneyOf l x a) (Some r) (journey_at l id) → JourneyThere l id r
+journey_there l id r = go (journey_at l id) refl
+  where
+    go : (o : Option Journey) → journey_at l id ≡ o → Tells (λ (x : JourneyRow) a. (x.id ≡ id) × IsJourneyOf l x a) (Some r) o → JourneyThere l id r
+    go None e t = absurd t
+    go (Some a) e t = record { journey = a; at = e; same = t.0; is = t.1 }
+
+-- a journey that is put together from its row, its plan and its save-points is the one that is shown
+pub record_shown : (l : List Event) (id : ℕ) (r : JourneyFound) (plan : Planned) (marks : set.FinSet nat_cmp) (b : Record)
+    → Tells (λ (x : JourneyRow) a. (x.id ≡ id) × IsJourneyOf l x a) (Some (journey_of r)) (journey_at l id)
+    → ((a : Journey) → journey_at l id ≡ Some a → r.tries ≡ a.plan.tries → plan ≡ a.plan) → marks ≡ marks_of (history l id) → TellsRecord r plan marks b
+    → Some b ≡ record_of l id
+record_shown l id r plan marks b told planned marked tells =
+    let there = journey_there l id (journey_of r) told in
+    let a = there.journey in
+    let cursor : Some b.cursor ≡ Some (cursor_of a.plan (history l r.id)) = sym tells.cursor ∙ ap cursor_in there.is.cursor ∙ cursor_back (cursor_of a.plan (history l r.id)) in
+    let same_cursor : b.cursor ≡ cursor_of a.plan (history l r.id) = cc in
+    let number : r.id ≡ id = there.same in
+    sym (ap (record_of l) (sym number)
+    ∙ record_told l (journey_of r) a b (ap (journey_at l) number ∙ there.at) there.is tells.agent
+    (tells.same_plan ∙ planned a there.at there.is.tries) (ap cursor_row same_cursor ∙ sym there.is.cursor) (tells.same_marks ∙ marked ∙ ap (λ n. marks_of (history l n)) (sym number)))
+
+-- where a journey is by its row is where it is shown to be
+pub stand_shown : (l : List Event) (id : ℕ) (r : JourneyFound) (b : Stand)
+    → Tells (λ (x : JourneyRow) a. (x.id ≡ id) × IsJourneyOf l x a) (Some (journey_of r)) (journey_at l id)
+    → TellsStand r b → Some b ≡ option_map stand_of (record_of l id)
+stand_shown l id r b told tells =
+    let there = journey_there l id (journey_of r) told in
+    let a = there.journey in
+    let cursor : Some b.cursor ≡ Some (cursor_of a.plan (history l r.id)) = sym tells.cursor ∙ ap cursor_in there.is.cursor ∙ cursor_back (cursor_of a.plan (history l r.id)) in
+    let same_cursor : b.cursor ≡ cursor_of a.plan (history l id) =
+    (let here : b.cursor ≡ cursor_of a.plan (history l r.id) = cc in here ∙ ap (λ n. cursor_of a.plan (history l n)) there.same) in
+    ap Some
+    (ap (λ x. made x b.steps b.cursor) (tells.agent ∙ there.is.agent) ∙ ap (λ n. made a.agent n b.cursor) (tells.steps ∙ there.is.steps)
+    ∙ ap (made a.agent (step_count a.plan)) same_cursor)
+    ∙ sym (ap (λ o. option_map stand_of (option_map (record_of_journey (history l id)) o)) there.at)
+  where
+    made : List ℕ → ℕ → Cursor → Stand
+    made agent steps cursor = record { agent = agent; steps = steps; cursor = cursor }
+
+-- where no row is found there is no journey that is anywhere
+pub stand_none : (l : List Event) (id : ℕ) → Tells (λ (r : JourneyRow) a. (r.id ≡ id) × IsJourneyOf l r a) None (journey_at l id)
+    → None ≡ option_map stand_of (record_of l id)
+stand_none l id told = ap (option_map stand_of) (record_none l id told)
+
+-- in tables of the first version no save-point stands that was taken
+pub none_taken : {v : Version} (db : Trees) (t : Tables) (s : State) → v ≡ One → ShowsIn v db t → StandsIn v t s → (id p : ℕ)
+    → is_taken (history s.ledger id) p ≡ false
+none_taken db t s first shown stands id p =
+    let none : t.mark ≡ [] = subst (λ v. ShowsMarks v db t.mark) first shown.mark in
+    sym (stands.mark.each id p) ∙ ap (list_any (is_mark_at id p)) none
+
+-- so the save-points of a journey are what is read of them, in tables of either version
+pub marks_either : (v : Version) (db : Trees) (t : Tables) (s : State) → ShowsIn v db t → StandsIn v t s → (id : ℕ) (marks : set.FinSet nat_cmp)
+    → (v ≡ One → IsNone marks) → (v ≡ Two → AreMarksAt id s marks) → AreMarksAt id s marks
+marks_either One db t s shown stands id marks first second =
+    let none = first refl in
+    marks_told (history s.ledger id) marks (λ p. none.none p ∙ sym (none_taken db t s refl shown stands id p)) none.low
+marks_either Two db t s shown stands id marks first second = second refl

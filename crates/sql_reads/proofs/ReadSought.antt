@@ -1,0 +1,92 @@
+-- Where the items of a journey are sought. For the reads of its items.
+use Rattle.std.proofs.Common.{◌≡◌, ℕ, List, [], ◌∷◌, ◌++◌, take, drop, Option, None, Some, refl, sym, ap, ◌∙◌, arith}
+use Rattle.std.specs.Prelude.{option_map}
+use Rattle.std.proofs.lemmas.List.{take-append-drop}
+use Rattle.std.proofs.lemmas.List.Elements.{filter_map-append}
+use Rattle.plan.specs.PlanModel.{step_count}
+use Rattle.commands.specs.declared.items.Item.{Item}
+use Rattle.ledger.specs.Answer.{State}
+use Rattle.ledger.specs.Ledger.{Event, Journey, journey_at, item_of, history}
+use Rattle.ledger.proofs.Ledgers.{all_go}
+use Rattle.desk_sql.specs.FoundRows.{FindsJourney, FindsNextItem, journey_of, item_of as item_row}
+use Rattle.desk_sql.specs.declared.items.ItemFound.{ItemFound}
+use Rattle.desk_sql.specs.declared.versions.Version.{Version}
+use Rattle.desk_sql.specs.Rows.{Tables, JourneyRow}
+use Rattle.desk_sql.specs.declared.journeys.JourneyFound.{JourneyFound}
+use Rattle.sql_model.specs.Reading.{Tells, IsJourneyOf}
+use Rattle.sql_model.specs.Standing.{StandsIn, IsDesk}
+use Rattle.sql_model.proofs.Readings.{journey_read, begins_read, next_read}
+use Rattle.sql_model.proofs.NextItems.{TellsIfNext}
+use Rattle.sql_reads.specs.ItemSearch.{AreSoughtAt, IsNextOf}
+use Rattle.sql_reads.specs.declared.item_search.Sought.{Sought}
+use Rattle.sql_reads.proofs.ReadJourneys.{journey_there}
+
+first_none : (xs ys : List Item) → xs ++ ys ≡ [] → xs ≡ []
+first_none [] ys e = refl
+first_none (x ∷ xs) ys e = cc
+
+-- a journey without items has none among the first events
+none_first : (l : List Event) (j n : ℕ) → history l j ≡ [] → history (take n l) j ≡ []
+none_first l j n none =
+    first_none (history (take n l) j) (history (drop n l) j)
+    (sym (filter_map-append (item_of j) (take n l) (drop n l)) ∙ ap (λ es. history es j) (take-append-drop n l) ∙ none)
+
+-- where none is among the first events, all are behind them
+pub all_behind : (l : List Event) (j n : ℕ) → history (take n l) j ≡ [] → history (drop n l) j ≡ history l j
+all_behind l j n none =
+    ap (λ front. front ++ history (drop n l) j) (sym none) ∙ sym (filter_map-append (item_of j) (take n l) (drop n l))
+    ∙ ap (λ es. history es j) (take-append-drop n l)
+
+-- where there is no journey nothing is sought
+pub sought_nowhere : (s : State) (desk : IsDesk s) (id : ℕ) (w : Sought) → w.journey ≡ 0 → journey_at s.ledger id ≡ None
+    → AreSoughtAt id s w
+sought_nowhere s desk id w zero_is absent =
+    let go = all_go s.ledger desk.legal in
+    let none : history s.ledger w.journey ≡ [] = ap (history s.ledger) zero_is ∙ go.none 0 refl in
+    record {
+      items = none ∙ sym (go.none id absent);
+      first = none_first s.ledger w.journey w.after none;
+      steps = λ a at. let bad : None ≡ Some a = sym (ap (journey_at s.ledger) zero_is) ∙ at in cc;
+    }
+
+-- a number of which no row is found is that of no journey
+pub absent_read : {v : Version} (t : Tables) (s : State) (st : StandsIn v t s) (desk : IsDesk s) (id : ℕ) → FindsJourney id t None
+    → journey_at s.ledger id ≡ None
+absent_read t s st desk id finds = go (journey_at s.ledger id) refl (journey_read t s st desk id None finds)
+  where
+    go : (o : Option Journey) → journey_at s.ledger id ≡ o
+        → Tells (λ (r : JourneyRow) a. (r.id ≡ id) × IsJourneyOf s.ledger r a) None o → journey_at s.ledger id ≡ None
+    go None e tells = e
+    go (Some a) e tells = absurd tells
+
+-- a row that is found tells how many steps the journey has, and the event that began it
+pub sought_there : {v : Version} (t : Tables) (s : State) (st : StandsIn v t s) (desk : IsDesk s) (id : ℕ) (found : JourneyFound)
+    → FindsJourney id t (Some found) → (w : Sought) → w.journey ≡ id → w.after ≡ found.num → w.steps ≡ found.steps
+    → AreSoughtAt id s w
+sought_there t s st desk id found finds w journey after steps =
+    let there = journey_there s.ledger id (journey_of found) (journey_read t s st desk id (Some found) finds) in
+    record {
+      items = ap (history s.ledger) journey;
+      first =
+          ap (λ n. history (take n s.ledger) w.journey) after
+          ∙ ap (history (take found.num s.ledger)) journey ∙ begins_read t s st desk id found finds;
+      steps = λ a at.
+          let same : Some a ≡ Some there.journey = sym at ∙ ap (journey_at s.ledger) journey ∙ there.at in
+          let is : a ≡ there.journey = cc in
+          ap (λ (b : Journey). step_count b.plan) is ∙ sym there.is.steps ∙ sym steps;
+    }
+
+-- what the store finds behind an event is the next of the items that are sought
+pub next_sought : {v : Version} (t : Tables) (s : State) (st : StandsIn v t s) (desk : IsDesk s) (w : Sought) (found : Option ItemFound)
+    → FindsNextItem w.journey w.after t found → IsNextOf w s found
+next_sought t s st desk w found finds = go found (next_read t s st desk w.journey w.after found finds)
+  where
+    go : (o : Option ItemFound) → TellsIfNext w.journey 1 w.after s.ledger (option_map (item_row w.journey) o) → IsNextOf w s o
+    go None none = none
+    go (Some i) tells =
+        let past : tells.past ≡ i.num = (let number = tells.number in omega arith) in
+        record {
+          item = tells.item;
+          told = tells.told;
+          rest = tells.rest ∙ ap (λ n. tells.item ∷ history (drop n s.ledger) w.journey) past;
+        }

@@ -1,0 +1,145 @@
+-- What a read of a connection tells of the desk that it keeps, and what it leaves of it.
+use Rattle.std.specs.Prelude.{◌≡◌, ℕ, false, List, map, Option, None, Some, option_map, Result, IfOk}
+use Rattle.allotment.specs.declared.cells.Cell.{Cell}
+use Rattle.allotment.specs.declared.places.Held.{Held as HeldPlaces}
+use Rattle.saga_core.specs.Views.{night_said, first_unfinished, record_of, marks_of}
+use Rattle.desk_sql.specs.Stock.{stock_of}
+use Rattle.desk_sql.specs.declared.stock.NightFound.{NightFound}
+use Rattle.desk_sql.specs.declared.stock.CellFound.{CellFound}
+use Rattle.sqlite.specs.Tree.{Trees}
+use Rattle.sqlite.specs.Store.{Ghosts}
+use Rattle.sqlite.specs.Held.{Held, state}
+use Rattle.sqlite.specs.State.{HasCleanDisk}
+use Rattle.commands.specs.declared.faults.Fault.{Fault}
+use Rattle.commands.specs.declared.items.Item.{Item}
+use Rattle.commands.specs.declared.items.Cursor.{Cursor}
+use Rattle.desk_sql.specs.Rows.{CursorRow}
+use Rattle.desk_sql.specs.declared.journeys.Cursor.{Cursor as CursorFound}
+use Rattle.ledger.specs.Answer.{State}
+use Rattle.ledger.specs.Ledger.{Journey, journey_at, history}
+use Rattle.saga_core.specs.declared.records.Brief.{Brief}
+use Rattle.saga_core.specs.declared.records.Record.{Record}
+use Rattle.plan.specs.PlanModel.{Planned, step_count}
+use Rattle.savepoints.specs.Marks.{is_taken_in, AreInRange}
+use Rattle.std.specs.FinSet as set
+use Rattle.std.specs.Ordering.{nat_cmp}
+use Rattle.desk_sql.specs.FoundRows.{journey_of, item_of}
+use Rattle.desk_sql.specs.declared.journeys.JourneyFound.{JourneyFound}
+use Rattle.desk_sql.specs.declared.items.ItemFound.{ItemFound}
+use Rattle.sql_model.specs.Standing.{IsDesk}
+use Rattle.sql_reads.specs.declared.reads.Stand.{Stand}
+use Rattle.sql_model.specs.Reading.{cursor_in, item_in, night_seen, stock_row_of}
+use Rattle.desk_sql.specs.declared.versions.Version.{Version}
+use Rattle.desk_sql.specs.declared.versions.Version.TheVariants.{Two}
+use Rattle.sql_model.specs.Keeping.{Keeps, KeepsIn}
+pub use Rattle.sql_model.specs.Keeping.{WasClean}
+
+module _ {S : Type 0} (g : Ghosts S) (old new : Held S) where
+  -- while the store returns what was written, what is answered is so of each desk that the connection
+  -- kept in tables of this version
+  abbrev pub ShowsKeptIn : Version → {V : Type 0} → Result V Fault → (State → V → Type 0) → Type 0
+  ShowsKeptIn v result IsShown =
+      HasCleanDisk (state g new) → (s : State) → IsDesk s → KeepsIn v (state g old) s
+      → IfOk result (IsShown s)
+
+  -- in tables of the newest version
+  abbrev pub ShowsKept : {V : Type 0} → Result V Fault → (State → V → Type 0) → Type 0
+  ShowsKept result IsShown = ShowsKeptIn Two result IsShown
+
+  -- in tables of each version
+  abbrev pub ShowsEach : {V : Type 0} → Result V Fault → (State → V → Type 0) → Type 0
+  ShowsEach result IsShown = (v : Version) → ShowsKeptIn v result IsShown
+
+  -- the connection keeps each state that it kept, in tables of the newest version
+  abbrev pub KeepsOn : Type 0
+  KeepsOn = (s : State) → Keeps (state g old) s → Keeps (state g new) s
+
+  -- the connection keeps each state that it kept, in tables of the same version
+  abbrev pub KeepsEach : Type 0
+  KeepsEach = (v : Version) (s : State) → KeepsIn v (state g old) s → KeepsIn v (state g new) s
+
+  -- a stop leaves nothing that it could not have left before
+  abbrev pub LeavesAsBefore : Type 0
+  LeavesAsBefore =
+      HasCleanDisk (state g new) → (db : Trees) → (state g new).may_leave db
+      → (state g old).may_leave db
+
+  -- all of these
+  pub record OnlyReads : Type 0 where
+    pub keeps : KeepsEach
+    pub stop : LeavesAsBefore
+    pub less : WasClean g old new
+
+-- where a journey is, as a row
+abbrev pub row_of : CursorFound → CursorRow
+row_of c = record { pos = c.pos; phase = c.phase; target = c.target; used = c.used }
+
+-- the row tells where a journey is
+abbrev pub TellsCursor : CursorFound → Cursor → Type 0
+TellsCursor found c = cursor_in (row_of found) ≡ Some c
+
+-- the row tells this journey in short
+pub record TellsBrief (r : JourneyFound) (b : Brief) : Type 0 where
+  pub id : b.id ≡ r.id
+  pub agent : b.agent ≡ (journey_of r).agent
+  pub cursor : TellsCursor r.cursor b.cursor
+
+-- the row tells where this journey is
+pub record TellsStand (r : JourneyFound) (b : Stand) : Type 0 where
+  pub agent : b.agent ≡ (journey_of r).agent
+  pub steps : b.steps ≡ r.steps
+  pub cursor : TellsCursor r.cursor b.cursor
+
+-- the row tells this journey, with a plan and save-points
+pub record TellsRecord (r : JourneyFound) (plan : Planned) (marks : set.FinSet nat_cmp) (b : Record)
+    : Type 0 where
+  pub agent : b.agent ≡ (journey_of r).agent
+  pub same_plan : b.plan ≡ plan
+  pub cursor : TellsCursor r.cursor b.cursor
+  pub same_marks : b.marks ≡ marks
+
+-- the rows tell these items
+abbrev pub TellItems : List ItemFound → List Item → Type 0
+TellItems found items = map (λ (i : ItemFound). item_in (item_of 0 i)) found ≡ map Some items
+
+-- the rows tell these nights, with their places
+abbrev pub TellNights : List NightFound → List (ℕ × HeldPlaces) → Type 0
+TellNights found nights = map night_said nights ≡ map night_seen found
+
+-- the rows tell these cells, with their places
+abbrev pub TellCells : List CellFound → List (Cell × HeldPlaces) → Type 0
+TellCells found cells = map stock_row_of cells ≡ map stock_of found
+
+-- this plan is that of a journey with this number, and so many tries
+abbrev pub IsPlanOf : ℕ → ℕ → State → Planned → Type 0
+IsPlanOf id tries s plan =
+    (a : Journey) → journey_at s.ledger id ≡ Some a → tries ≡ a.plan.tries → plan ≡ a.plan
+
+-- the first unfinished journey above this number, in short
+abbrev pub IsFirstAbove : ℕ → State → Option Brief → Type 0
+IsFirstAbove after s found = found ≡ first_unfinished s.ledger after
+
+-- no journey has this number
+abbrev pub HasNone : {V : Type 0} → ℕ → State → V → Type 0
+HasNone id s _ = journey_at s.ledger id ≡ None
+
+-- the journey of this number, if there is one
+abbrev pub IsRecordAt : ℕ → State → Option Record → Type 0
+IsRecordAt id s found = found ≡ record_of s.ledger id
+
+-- where a journey is, of what is shown of it
+abbrev pub stand_of : Record → Stand
+stand_of r = record { agent = r.agent; steps = step_count r.plan; cursor = r.cursor }
+
+-- where the journey of this number is, if there is one
+abbrev pub IsStandAt : ℕ → State → Option Stand → Type 0
+IsStandAt id s found = found ≡ option_map stand_of (record_of s.ledger id)
+
+-- no save-point was taken
+pub record IsNone (marks : set.FinSet nat_cmp) : Type 0 where
+  pub none : (p : ℕ) → is_taken_in marks p ≡ false
+  pub low : AreInRange marks
+
+-- the save-points that the journey of this number took and that stand
+abbrev pub AreMarksAt : ℕ → State → set.FinSet nat_cmp → Type 0
+AreMarksAt id s marks = marks ≡ marks_of (history s.ledger id)

@@ -1,0 +1,121 @@
+-- What a source of rows has still to hand out, and what it leaves of the connection under it.
+use Rattle.std.specs.Prelude.{◌≡◌, ℕ, Bool, List, [], ◌++◌, map, drop, true, false, refl}
+use Rattle.std.specs.Borrow.{MutBor}
+use Rattle.std.proofs.Common.{◌∙◌}
+use Rattle.allotment.specs.declared.cells.Cell.{Cell}
+use Rattle.allotment.specs.declared.places.Held.{Held as HeldPlaces}
+use Rattle.commands.specs.declared.items.Item.{Item}
+use Rattle.ledger.specs.Answer.{State}
+use Rattle.ledger.specs.History.{position_of}
+use Rattle.ledger.specs.Ledger.{history}
+use Rattle.saga_core.specs.declared.records.Brief.{Brief}
+use Rattle.sqlite.specs.Store.{Ghosts}
+use Rattle.sqlite.specs.Held.{Held, state}
+use Rattle.sqlite.specs.State.{HasCleanDisk}
+use Rattle.desk_sql.specs.RemainingRows.{CellsRest, JourneysRest}
+use Rattle.desk_sql.specs.Rows.{JourneyRow, CursorRow}
+use Rattle.sql_model.specs.ExpectedRows.{cursor_row}
+use Rattle.desk_sql.specs.declared.versions.Version.{Version}
+use Rattle.sql_model.specs.Keeping.{KeepsIn}
+use Rattle.sql_model.specs.Reading.{stock_row_of}
+use Rattle.sql_model.specs.Standing.{IsDesk}
+use Rattle.sql_reads.specs.Reading.{OnlyReads}
+use Rattle.sql_reads.specs.ItemSearch.{HasSteps}
+use Rattle.sql_reads.specs.declared.history_rows.ItemCursor.{ItemCursor}
+use Rattle.sql_reads.specs.declared.item_search.Sought.{Sought}
+
+-- what a row tells of a journey in short
+pub record Short : Type 0 where
+  pub id : ℕ
+  pub agent : List ℕ
+  pub cursor : CursorRow
+
+abbrev pub short_of : JourneyRow → Short
+short_of r = record { id = r.id; agent = r.agent; cursor = r.cursor }
+
+-- a journey in short, as a row tells it
+abbrev pub short_told : Brief → Short
+short_told b = record { id = b.id; agent = b.agent; cursor = cursor_row b.cursor }
+
+-- the rows tell these journeys in short
+abbrev pub TellBriefs : List JourneyRow → List Brief → Type 0
+TellBriefs rows briefs = map short_of rows ≡ map short_told briefs
+
+module _ {S : Type 0} (g : Ghosts S) where
+  -- these rows of the desk are still to come
+
+  abbrev pub StockRests : Held S → List (Cell × HeldPlaces) → Type 0
+  StockRests h rows = CellsRest g h (map stock_row_of rows)
+
+  abbrev pub BriefsRest : Held S → List Brief → Type 0
+  BriefsRest h briefs = (rows : List JourneyRow) × JourneysRest g h rows × TellBriefs rows briefs
+
+  -- of a journey that has come to this position the connection keeps, in tables of this version, these
+  -- items after an event, and no more
+  pub record AreBehind (v : Version) (h : Held S) (w : Sought) (pos : ℕ) (items : List Item) : Type 0 where
+    pub desk : State
+    pub is_desk : IsDesk desk
+    pub keeps : KeepsIn v (state g h) desk
+    pub has_steps : HasSteps desk.ledger w.journey w.steps
+    pub before : List Item
+    pub stands : position_of before ≡ pos
+    pub whole : history desk.ledger w.journey ≡ before ++ items
+    pub behind : history (drop w.after desk.ledger) w.journey ≡ items
+
+  -- these items of a journey are still to come; none, where it is finished
+  abbrev pub ItemsLeft : Version → Held S → Sought → ℕ → Bool → List Item → Type 0
+  ItemsLeft v h w pos true items = items ≡ []
+  ItemsLeft v h w pos false items = AreBehind v h w pos items
+
+  -- these items are still to come after those that the cursor has passed, and no row has failed
+  abbrev pub ItemsRest : Held S → ItemCursor → List Item → Type 0
+  ItemsRest h c items = (c.failed ≡ false) × ItemsLeft c.version h c.sought c.pos c.finished items
+
+  module _ (old new : Held S) where
+    -- the connection keeps what it kept, and stays out of a transaction
+    pub record IsLeftAsItWas : Type 0 where
+      pub reads : OnlyReads g old new
+      pub outside : old.in_transaction ≡ false → new.in_transaction ≡ false
+
+    -- while the store returns what was written, such a list of each desk that the connection kept in
+    -- tables of this version is still to come
+    abbrev pub BeginsKept : Version → {X : Type 0} → (State → List X → Type 0) → (List X → Type 0)
+        → Type 0
+    BeginsKept v {X} IsList Rests =
+        HasCleanDisk (state g new) → (s : State) → IsDesk s → KeepsIn v (state g old) s
+        → (rows : List X) → IsList s rows → Rests rows
+
+  -- the reference is the same, and the connection behind it is left as it was
+  pub record StaysUnder (a b : MutBor (Held S)) : Type 0 where
+    pub same_reference : b.ghost_name ≡ a.ghost_name
+    pub left : IsLeftAsItWas a.now b.now
+
+-- it is so where nothing was done, and from one call to the next
+pub left_alone : {S : Type 0} (g : Ghosts S) (h : Held S) → IsLeftAsItWas g h h
+left_alone g h = record {
+  reads = record { keeps = λ v s keeps. keeps; stop = λ clean db may. may; less = λ clean. clean };
+  outside = λ outside. outside;
+}
+
+pub left_twice : {S : Type 0} (g : Ghosts S) (a b c : Held S) → IsLeftAsItWas g a b → IsLeftAsItWas g b c
+    → IsLeftAsItWas g a c
+left_twice g a b c one two = record {
+  reads = record {
+    keeps = λ v s keeps. two.reads.keeps v s (one.reads.keeps v s keeps);
+    stop = λ clean db may.
+        one.reads.stop (two.reads.less clean) db (two.reads.stop clean db may);
+    less = λ clean. one.reads.less (two.reads.less clean);
+  };
+  outside = λ outside. two.outside (one.outside outside);
+}
+
+-- so it is of the connection under rows
+pub stays_alone : {S : Type 0} {g : Ghosts S} (a : MutBor (Held S)) → StaysUnder g a a
+stays_alone {S} {g} a = record { same_reference = refl; left = left_alone g a.now }
+
+pub stays_twice : {S : Type 0} {g : Ghosts S} (a b c : MutBor (Held S))
+    → StaysUnder g a b → StaysUnder g b c → StaysUnder g a c
+stays_twice {S} {g} a b c one two = record {
+  same_reference = two.same_reference ∙ one.same_reference;
+  left = left_twice g a.now b.now c.now one.left two.left;
+}

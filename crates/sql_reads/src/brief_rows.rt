@@ -1,0 +1,86 @@
+//! Unfinished journeys in short, by rising number, handed out one at a time.
+
+ghost use Rattle.std.specs.Prelude.{◌≡◌, false, IfOk};
+ghost use Rattle.sqlite.specs.Held.{state};
+ghost use Rattle.sqlite.specs.State.{HasCleanDisk};
+ghost use Rattle.saga_core.specs.Views.{unfinished_of};
+ghost use Rattle.desk_sql.specs.declared.versions.Version.{Version};
+ghost use Rattle.sql_reads.specs.RemainingRows.{BriefsRest, IsLeftAsItWas, BeginsKept};
+
+use crate::faults::fault_of;
+use crate::telling::brief_of;
+use commands::Fault;
+use desk_sql::{UnfinishedHanded, hand_unfinished};
+use saga_core::{Brief, RowSource};
+use sqlite::{Alter, Connection};
+
+/// Unfinished journeys that are still to come. After a fault every call is a fault of the store.
+#[derive(Drop)]
+pub struct UnfinishedRows<'c, S: Alter> {
+    handed: UnfinishedHanded<'c, S>,
+    given: u64,
+    // A row could not be read, or told nothing, and none may be handed out behind it.
+    failed: bool,
+}
+
+/// Begins to hand out all unfinished journeys, by rising number.
+pub fn unfinished_rows<'c, S: Alter>(
+    conn: &'c mut Connection<S>,
+) -> Result<UnfinishedRows<'c, S>, Fault>
+    ensures same_reference { IfOk result (λ it.
+        it.handed.rows.conn.ghost_name ≡ conn.entry.ghost_name) }
+    ensures rows { IfOk result (λ it. (v : Version)
+        → BeginsKept S.Store conn.old it.handed.rows.conn.now v (λ s briefs. briefs ≡ unfinished_of s.ledger)
+        (⟦<UnfinishedRows<'c, S> as RowSource<Brief>>⟧.rests it)) }
+    ensures none { IfOk result (λ it.
+        ⟦<UnfinishedRows<'c, S> as RowSource<Brief>>⟧.given it ≡ 0) }
+    ensures kept { IfOk result (λ it. IsLeftAsItWas S.Store conn.old it.handed.rows.conn.now) }
+{
+    match hand_unfinished(conn, 0) {
+        Ok(handed) => Ok(UnfinishedRows {
+            handed,
+            given: 0,
+            failed: false,
+        }),
+        Err(error) => Err(fault_of(&error)),
+    }
+}
+
+impl<S: Alter> RowSource<Brief> for UnfinishedRows<'_, S> {
+    ghost use Rattle.sql_reads.specs.RemainingRows.{StaysUnder, stays_alone, stays_twice};
+
+    ghost is_sound = { λ s. HasCleanDisk (state S.Store s.handed.rows.conn.now) };
+
+    ghost rests = { λ s briefs. (s.failed ≡ false) × BriefsRest S.Store s.handed.rows.conn.now briefs };
+
+    ghost given = { λ s. s.given };
+
+    ghost becomes = { λ a b. StaysUnder S.Store a.handed.rows.conn b.handed.rows.conn };
+
+    ghost stays = { λ s. stays_alone s.handed.rows.conn };
+
+    ghost joins = { λ a b c. stays_twice a.handed.rows.conn b.handed.rows.conn c.handed.rows.conn };
+
+    fn next_row(&mut self) -> Result<Option<Brief>, Fault> {
+        let given = self.given;
+        if self.failed {
+            return Err(Fault::Store);
+        }
+        self.failed = true;
+        match self.handed.next() {
+            Ok(Some(found)) => match brief_of(&found) {
+                Some(brief) if given < u64::MAX => {
+                    self.given = given + 1;
+                    self.failed = false;
+                    Ok(Some(brief))
+                }
+                _ => Err(Fault::Store),
+            },
+            Ok(None) => {
+                self.failed = false;
+                Ok(None)
+            }
+            Err(error) => Err(fault_of(&error)),
+        }
+    }
+}

@@ -1,0 +1,85 @@
+//! Cells with their places, by kind, supplier, product and night, handed out one at a time.
+
+ghost use Rattle.std.specs.Prelude.{◌≡◌, false, IfOk};
+ghost use Rattle.saga_core.specs.Views.{IsStock};
+ghost use Rattle.sqlite.specs.Held.{state};
+ghost use Rattle.sqlite.specs.State.{HasCleanDisk};
+ghost use Rattle.desk_sql.specs.declared.versions.Version.{Version};
+ghost use Rattle.sql_reads.specs.RemainingRows.{StockRests, IsLeftAsItWas, BeginsKept};
+
+use crate::faults::fault_of;
+use crate::telling::cell_told;
+use allotment::{Cell, Held};
+use commands::Fault;
+use desk_sql::{StockHanded, hand_stock};
+use saga_core::RowSource;
+use sqlite::{Alter, Connection};
+
+/// Cells that are still to come. After a fault every call is a fault of the store.
+#[derive(Drop)]
+pub struct StockRows<'c, S: Alter> {
+    handed: StockHanded<'c, S>,
+    given: u64,
+    // A row could not be read, or told nothing, and none may be handed out behind it.
+    failed: bool,
+}
+
+/// Begins to hand out every cell that has an allotment, by kind, supplier, product and night.
+pub fn stock_rows<'c, S: Alter>(conn: &'c mut Connection<S>) -> Result<StockRows<'c, S>, Fault>
+    ensures same_reference { IfOk result (λ it.
+        it.handed.rows.conn.ghost_name ≡ conn.entry.ghost_name) }
+    ensures rows { IfOk result (λ it. (v : Version)
+        → BeginsKept S.Store conn.old it.handed.rows.conn.now v (λ s rows. IsStock s.ledger rows)
+        (⟦<StockRows<'c, S> as RowSource<(Cell, Held)>>⟧.rests it)) }
+    ensures none { IfOk result (λ it.
+        ⟦<StockRows<'c, S> as RowSource<(Cell, Held)>>⟧.given it ≡ 0) }
+    ensures kept { IfOk result (λ it. IsLeftAsItWas S.Store conn.old it.handed.rows.conn.now) }
+{
+    match hand_stock(conn) {
+        Ok(handed) => Ok(StockRows {
+            handed,
+            given: 0,
+            failed: false,
+        }),
+        Err(error) => Err(fault_of(&error)),
+    }
+}
+
+impl<S: Alter> RowSource<(Cell, Held)> for StockRows<'_, S> {
+    ghost use Rattle.sql_reads.specs.RemainingRows.{StaysUnder, stays_alone, stays_twice};
+
+    ghost is_sound = { λ s. HasCleanDisk (state S.Store s.handed.rows.conn.now) };
+
+    ghost rests = { λ s rows. (s.failed ≡ false) × StockRests S.Store s.handed.rows.conn.now rows };
+
+    ghost given = { λ s. s.given };
+
+    ghost becomes = { λ a b. StaysUnder S.Store a.handed.rows.conn b.handed.rows.conn };
+
+    ghost stays = { λ s. stays_alone s.handed.rows.conn };
+
+    ghost joins = { λ a b c. stays_twice a.handed.rows.conn b.handed.rows.conn c.handed.rows.conn };
+
+    fn next_row(&mut self) -> Result<Option<(Cell, Held)>, Fault> {
+        let given = self.given;
+        if self.failed {
+            return Err(Fault::Store);
+        }
+        self.failed = true;
+        match self.handed.next() {
+            Ok(Some(found)) => match cell_told(&found) {
+                Some(cell) if given < u64::MAX => {
+                    self.given = given + 1;
+                    self.failed = false;
+                    Ok(Some(cell))
+                }
+                _ => Err(Fault::Store),
+            },
+            Ok(None) => {
+                self.failed = false;
+                Ok(None)
+            }
+            Err(error) => Err(fault_of(&error)),
+        }
+    }
+}

@@ -1,0 +1,28 @@
+//! Where a journey stands after an item, and whether it is finished with it.
+ghost use Rattle.sql_reads.specs.Following.{BringsTo, TellsFinished};
+
+use commands::Item;
+
+/// The position to which an item brings a journey from another.
+pub(crate) fn position_after(item: &Item, pos: u64) -> u64
+    ensures { BringsTo pos item.now result }
+{
+    match item {
+        Item::Transaction { step, .. } => *step as u64,
+        Item::Compensation { step, .. } => step.saturating_sub(1) as u64,
+        Item::Turn { .. } => pos,
+        Item::Save { .. } => pos,
+    }
+}
+
+/// Whether a journey of so many steps, which stands at this position, is finished with an item.
+pub(crate) fn is_finished_with(item: &Item, steps: u64, pos: u64) -> bool
+    ensures { TellsFinished steps pos item.now result }
+{
+    match item {
+        Item::Transaction { step, .. } => *step as u64 == steps,
+        Item::Compensation { step, .. } => *step == 1,
+        Item::Turn { target, .. } => *target == 0 && pos == 0,
+        Item::Save { .. } => false,
+    }
+}

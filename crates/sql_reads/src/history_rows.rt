@@ -1,0 +1,98 @@
+//! The items of a journey, oldest first, found one at a time.
+//!
+//! Each is asked for by itself, after the event of the one before, the first after the event that began the journey; so the
+//! store looks no further than the next one. After the item with which the journey is finished it is not asked.
+
+ghost use Rattle.std.specs.Prelude.{◌≡◌, ◌+◌, ◌<◌, ◌^◌, false, IfOk};
+ghost use Rattle.sqlite.specs.Held.{state};
+ghost use Rattle.sqlite.specs.State.{HasCleanDisk};
+ghost use Rattle.ledger.specs.Ledger.{history};
+ghost use Rattle.saga_core.specs.RowSources.{count_of, Hands};
+ghost use Rattle.sql_reads.specs.RemainingRows.{ItemsRest, IsLeftAsItWas, BeginsKept};
+
+use crate::following::{is_finished_with, position_after};
+use crate::item_search::Sought;
+use crate::reads::{find_next, find_sought};
+use crate::telling::item_told;
+use commands::{Fault, Item};
+use desk_sql::Version;
+use sqlite::{Alter, Connection};
+
+/// How far the items of a journey were found. After a fault every call is a fault of the store.
+#[derive(Drop)]
+pub struct ItemCursor {
+    // The version of the tables.
+    version: Version,
+    // The next item is sought after this event.
+    sought: Sought,
+    // Where the journey stood after the items that were given, and whether it was finished with the last of them.
+    pos: u64,
+    finished: bool,
+    given: u64,
+    // A row could not be read, or told nothing, and none may be handed out after it.
+    failed: bool,
+}
+
+/// Before the first item of the journey of that number; where it is absent it has none.
+pub fn item_cursor<S: Alter>(
+    conn: &mut Connection<S>,
+    version: Version,
+    id: u64,
+) -> Result<ItemCursor, Fault>
+    requires { conn.old.in_transaction ≡ false }
+
+    ensures rows { IfOk result (λ it. BeginsKept S.Store conn.old conn.new version
+        (λ s items. items ≡ history s.ledger id) (ItemsRest S.Store conn.new it)) }
+    ensures none { IfOk result (λ it. it.given ≡ 0) }
+    ensures kept { IsLeftAsItWas S.Store conn.old conn.new }
+{
+    match find_sought(conn, id) {
+        Ok(sought) => Ok(ItemCursor {
+            version,
+            sought,
+            pos: 0,
+            finished: false,
+            given: 0,
+            failed: false,
+        }),
+        Err(fault) => Err(fault),
+    }
+}
+
+impl ItemCursor {
+    /// The next item of a connection; None after the last one.
+    pub fn next_item<S: Alter>(&mut self, conn: &mut Connection<S>) -> Result<Option<Item>, Fault>
+        ensures next { HasCleanDisk (state S.Store conn.new) → IfOk result
+            (Hands (ItemsRest S.Store conn.old self.old) (ItemsRest S.Store conn.new self.new)) }
+        ensures counted { IfOk result (λ found. self.new.given ≡ count_of found + self.old.given) }
+        ensures few { self.new.given < 2 ^ 64 }
+        ensures kept { IsLeftAsItWas S.Store conn.old conn.new }
+    {
+        let given = self.given;
+        if self.failed {
+            return Err(Fault::Store);
+        }
+        if self.finished {
+            return Ok(None);
+        }
+        self.failed = true;
+        match find_next(conn, self.version, &self.sought) {
+            Ok(Some(found)) => match item_told(&found) {
+                Some(item) if given < u64::MAX => {
+                    self.sought.after = found.num;
+                    self.finished = is_finished_with(&item, self.sought.steps, self.pos);
+                    self.pos = position_after(&item, self.pos);
+                    self.given = given + 1;
+                    self.failed = false;
+                    Ok(Some(item))
+                }
+                _ => Err(Fault::Store),
+            },
+            Ok(None) => {
+                self.failed = false;
+                Ok(None)
+            }
+            Err(fault) => Err(fault),
+        }
+    }
+}

@@ -1,0 +1,245 @@
+//! What rows tell, in the words of the desk. A row with a value out of range tells nothing.
+ghost use Rattle.std.specs.Prelude.{◌≡◌, ◌==◌, ℕ, IfOk, IfSome};
+ghost use Rattle.std.specs.List.{list_any};
+ghost use Rattle.allotment.specs.Cells.{kind_number};
+ghost use Rattle.savepoints.specs.Marks.{is_taken_in, AreInRange};
+ghost use Rattle.saga_core.specs.Views.{night_said};
+ghost use Rattle.desk_sql.specs.FoundRows.{item_of};
+ghost use Rattle.desk_sql.specs.Stock.{stock_of};
+ghost use Rattle.sql_model.specs.Reading.{phase_in, cause_in, item_in, night_seen, stock_row_of};
+ghost use Rattle.sql_reads.specs.Reading.{TellsCursor, TellsBrief, TellsStand, TellsRecord, TellItems, TellNights, TellCells};
+
+use crate::reads::Stand;
+use allotment::{Cell, Code, Held, Kind, MOST_PLACES, Night};
+use commands::{Agent, Cause, Cursor, Fault, Item, Phase};
+use desk_sql::{CellFound, Cursor as CursorFound, ItemFound, JourneyFound, NightFound};
+use plan::Plan;
+use saga_core::{Brief, Record};
+use savepoints::{LAST_MARK, Marks};
+use std::alloc::Global;
+
+/// The phase of a number and a target.
+fn phase_of(number: u64, target: u64) -> Option<Phase>
+    ensures { result ≡ phase_in number target }
+{
+    match number {
+        0 => Some(Phase::Run),
+        1 => Some(Phase::Back(target as usize)),
+        2 => Some(Phase::Ended),
+        3 => Some(Phase::Undone),
+        _ => None,
+    }
+}
+
+/// Where a journey is.
+fn cursor_of(found: &CursorFound) -> Option<Cursor>
+    ensures { IfSome result (TellsCursor found.now) }
+{
+    let phase = phase_of(found.phase, found.target)?;
+    Some(Cursor {
+        pos: found.pos as usize,
+        phase,
+        used: found.used as usize,
+    })
+}
+
+/// A journey in short.
+pub(crate) fn brief_of(found: &JourneyFound) -> Option<Brief>
+    ensures { IfSome result (TellsBrief found.now) }
+{
+    let agent = Agent::parse(found.agent.as_str())?;
+    let cursor = cursor_of(&found.cursor)?;
+    Some(Brief {
+        id: found.id,
+        agent,
+        cursor,
+    })
+}
+
+/// Where a journey is, without its plan.
+pub(crate) fn stand_of(found: &JourneyFound) -> Option<Stand>
+    ensures { IfSome result (TellsStand found.now) }
+{
+    let agent = Agent::parse(found.agent.as_str())?;
+    let cursor = cursor_of(&found.cursor)?;
+    Some(Stand {
+        agent,
+        steps: found.steps as usize,
+        cursor,
+    })
+}
+
+/// A journey with this plan and these save-points.
+pub(crate) fn record_of(found: &JourneyFound, plan: Plan, marks: Marks) -> Option<Record>
+    ensures { IfSome result (TellsRecord found.now plan marks) }
+{
+    let agent = Agent::parse(found.agent.as_str())?;
+    let cursor = cursor_of(&found.cursor)?;
+    Some(Record {
+        agent,
+        plan,
+        cursor,
+        marks,
+    })
+}
+
+/// What made a journey turn.
+fn cause_of(number: u64) -> Option<Cause>
+    ensures { result ≡ cause_in number }
+{
+    match number {
+        0 => Some(Cause::Stop),
+        1 => Some(Cause::Refused),
+        2 => Some(Cause::Asked),
+        _ => None,
+    }
+}
+
+/// An item of a journey.
+pub(crate) fn item_told(found: &ItemFound) -> Option<Item>
+    ensures { result ≡ item_in (item_of 0 found.now) }
+{
+    let first = found.a as usize;
+    let second = found.b as usize;
+    match found.item {
+        0 => Some(Item::Transaction {
+            step: first,
+            option: second,
+        }),
+        1 => Some(Item::Compensation {
+            step: first,
+            option: second,
+        }),
+        2 => {
+            let cause = cause_of(found.b)?;
+            Some(Item::Turn {
+                target: first,
+                cause,
+            })
+        }
+        3 => Some(Item::Save { position: first }),
+        _ => None,
+    }
+}
+
+/// The items of a journey.
+pub(crate) fn items_told(alloc: Global, found: &[ItemFound]) -> Result<Vec<Item>, Fault>
+    ensures { IfOk result (λ items. TellItems found.now items.items) }
+{
+    let mut items = Vec::new(alloc);
+    for row in found {
+        let Some(item) = item_told(row) else {
+            return Err(Fault::Store);
+        };
+        if items.push(item).is_err() {
+            return Err(Fault::Memory);
+        }
+    }
+    Ok(items)
+}
+
+/// A night by its day.
+fn night_of(day: u64) -> Option<Night>
+    ensures { IfSome result (λ night. night ≡ day) }
+{
+    if day > u64::from(u32::MAX) {
+        return None;
+    }
+    Night::from_day(day as u32)
+}
+
+/// Places of which some are free.
+fn places_of(allot: u64, free: u64) -> Option<Held>
+    ensures { IfSome result (λ places. (places.allot ≡ allot) × (places.free ≡ free)) }
+{
+    if allot > u64::from(MOST_PLACES) || free > allot {
+        return None;
+    }
+    Some(Held {
+        allot: allot as u32,
+        free: free as u32,
+    })
+}
+
+/// A night and its places.
+fn night_told(found: &NightFound) -> Option<(Night, Held)>
+    ensures { IfSome result (λ n. night_said n ≡ night_seen found.now) }
+{
+    let night = night_of(found.night)?;
+    let places = places_of(found.allot, found.free)?;
+    Some((night, places))
+}
+
+/// The nights and their places.
+pub(crate) fn nights_told(alloc: Global, found: &[NightFound]) -> Result<Vec<(Night, Held)>, Fault>
+    ensures { IfOk result (λ nights. TellNights found.now nights.items) }
+{
+    let mut nights = Vec::new(alloc);
+    for row in found {
+        let Some(night) = night_told(row) else {
+            return Err(Fault::Store);
+        };
+        if nights.push(night).is_err() {
+            return Err(Fault::Memory);
+        }
+    }
+    Ok(nights)
+}
+
+/// The kind of a number.
+fn kind_of(number: u64) -> Option<Kind>
+    ensures { IfSome result (λ kind. kind_number kind ≡ number) }
+{
+    match number {
+        0 => Some(Kind::Flight),
+        1 => Some(Kind::Room),
+        2 => Some(Kind::Transfer),
+        3 => Some(Kind::Cover),
+        _ => None,
+    }
+}
+
+/// A cell and its places.
+pub(crate) fn cell_told(found: &CellFound) -> Option<(Cell, Held)>
+    ensures { IfSome result (λ c. stock_row_of c ≡ stock_of found.now) }
+{
+    let kind = kind_of(found.kind)?;
+    let supplier = Code::parse(found.supplier.as_str())?;
+    let product = Code::parse(found.product.as_str())?;
+    let night = night_of(found.night)?;
+    let places = places_of(found.allot, found.free)?;
+    Some((Cell::new(kind, supplier, product, night), places))
+}
+
+/// The cells and their places.
+pub(crate) fn cells_told(alloc: Global, found: &[CellFound]) -> Result<Vec<(Cell, Held)>, Fault>
+    ensures { IfOk result (λ cells. TellCells found.now cells.items) }
+{
+    let mut cells = Vec::new(alloc);
+    for row in found {
+        let Some(cell) = cell_told(row) else {
+            return Err(Fault::Store);
+        };
+        if cells.push(cell).is_err() {
+            return Err(Fault::Memory);
+        }
+    }
+    Ok(cells)
+}
+
+/// The save-points at these positions.
+pub(crate) fn marks_told(found: &[u64]) -> Option<Marks>
+    ensures says { IfSome result (λ marks. (p : ℕ)
+        → is_taken_in marks p ≡ list_any (λ q. q == p) found.now) }
+    ensures low { IfSome result AreInRange }
+{
+    let mut marks = Marks::none();
+    for at in found {
+        if *at == 0 || *at > LAST_MARK as u64 {
+            return None;
+        }
+        marks.add(*at as usize);
+    }
+    let _in_range = marks.has(0);
+    Some(marks)
+}

@@ -1,0 +1,73 @@
+-- Rows of stock that are of one cell.
+use Rattle.std.proofs.Common.{◌≡◌, true, refl, sym, ◌∙◌, eqb-true, eq-eqb}
+use Rattle.std.proofs.lemmas.Bool.{and_parts, and_from}
+use Rattle.std.proofs.lemmas.Slice.Eq.{bytes_eq-Decides}
+use Rattle.allotment.specs.Cells.{kind_number}
+use Rattle.allotment.specs.declared.cells.Cell.{Cell}
+use Rattle.desk_sql.specs.Rows.{StockRow}
+use Rattle.sql_model.specs.Standing.{is_same_stock}
+
+-- two rows have the parts of one cell
+record AreOfOneCell (r s : StockRow) : Type 0 where
+  kind : r.kind ≡ s.kind
+  supplier : r.supplier ≡ s.supplier
+  product : r.product ≡ s.product
+  night : r.night ≡ s.night
+
+-- the test says so, part by part
+parts_of : (r s : StockRow) → is_same_stock r s ≡ true → AreOfOneCell r s
+parts_of r s e =
+    let night = and_parts _ _ e in
+    let product = and_parts _ _ night.0 in
+    let supplier = and_parts _ _ product.0 in
+    record {
+      kind = eqb-true r.kind s.kind supplier.0;
+      supplier = (bytes_eq-Decides r.supplier s.supplier).0 supplier.1;
+      product = (bytes_eq-Decides r.product s.product).0 product.1;
+      night = eqb-true r.night s.night night.1;
+    }
+
+-- and where all parts are alike it passes
+from_parts : (r s : StockRow) → AreOfOneCell r s → is_same_stock r s ≡ true
+from_parts r s p =
+    and_from _ _
+    (and_from _ _
+    (and_from _ _ (eq-eqb r.kind s.kind p.kind) ((bytes_eq-Decides r.supplier s.supplier).1 p.supplier))
+    ((bytes_eq-Decides r.product s.product).1 p.product))
+    (eq-eqb r.night s.night p.night)
+
+-- whichever comes first
+pub same-turned : (r s : StockRow) → is_same_stock r s ≡ true → is_same_stock s r ≡ true
+same-turned r s e =
+    let p = parts_of r s e in
+    from_parts s r
+    (record { kind = sym p.kind; supplier = sym p.supplier; product = sym p.product; night = sym p.night })
+
+-- two rows that are of one cell with a third
+pub same-same : (r s q : StockRow) → is_same_stock r s ≡ true → is_same_stock s q ≡ true
+    → is_same_stock r q ≡ true
+same-same r s q e f =
+    let a = parts_of r s e in
+    let b = parts_of s q f in
+    from_parts r q
+    (record {
+      kind = a.kind ∙ b.kind;
+      supplier = a.supplier ∙ b.supplier;
+      product = a.product ∙ b.product;
+      night = a.night ∙ b.night;
+    })
+
+-- a row is of its own cell
+pub same-self : (r : StockRow) → is_same_stock r r ≡ true
+same-self r = from_parts r r (record { kind = refl; supplier = refl; product = refl; night = refl })
+
+-- some row of a cell, by which tests of cells are tests of rows
+abbrev pub row_of_cell : Cell → StockRow
+row_of_cell x = record {
+  kind = kind_number x.kind;
+  supplier = x.supplier;
+  product = x.product;
+  night = x.night;
+  allot = 0;
+  free = 0;
+}

@@ -1,0 +1,66 @@
+-- Rows of stock of which some were changed, where no row became that of another cell.
+use Rattle.std.proofs.Common.{◌≡◌, List, [], ◌∷◌, find, cond, Bool, true, false, if◌then◌else◌, Some, refl, ap₂, ◌∙◌}
+use Rattle.std.specs.Prelude.{option_map}
+use Rattle.std.specs.List.{AllByRecursion}
+use Rattle.sqlite_trees.proofs.ListLemmas.{ascending-map, all-map, all_weaker}
+use Rattle.allotment.specs.declared.cells.Cell.{Cell}
+use Rattle.desk_sql.specs.Lists.{changed}
+use Rattle.desk_sql.specs.Rows.{StockRow}
+use Rattle.sql_model.specs.Standing.{AreApart, is_stock_of, is_same_stock, IsOfCell}
+use Rattle.sql_model.proofs.Orders.{ascending_where}
+use Rattle.sql_transitions.proofs.Alike.{row_of_cell}
+
+module _ (passes : StockRow → Bool) (change : StockRow → StockRow)
+    (first : (r s : StockRow) → is_same_stock (change r) s ≡ is_same_stock r s)
+    (second : (r s : StockRow) → is_same_stock r (change s) ≡ is_same_stock r s) where
+  -- a row that passes is changed
+  abbrev row_now : StockRow → StockRow
+  row_now r = if passes r then change r else r
+
+  -- it is of the cell that it was of
+  row_now-cell : (x : Cell) (r : StockRow) → is_stock_of x (row_now r) ≡ is_stock_of x r
+  row_now-cell x r = go (passes r)
+    where
+      go : (v : Bool) → is_stock_of x (if v then change r else r) ≡ is_stock_of x r
+      go true = second (row_of_cell x) r
+      go false = refl
+
+  -- and of one with just the rows that it was of one with
+  row_now-same : (r s : StockRow) → is_same_stock (row_now r) (row_now s) ≡ is_same_stock r s
+  row_now-same r s = go (passes r) (passes s)
+    where
+      go : (u v : Bool)
+          → is_same_stock (if u then change r else r) (if v then change s else s) ≡ is_same_stock r s
+      go true true = first r (change s) ∙ second r s
+      go true false = first r s
+      go false true = second r s
+      go false false = refl
+
+  -- so the row of a cell is found where it was, and changed
+  pub find-changed : (x : Cell) (rows : List StockRow)
+      → find (is_stock_of x) (changed passes change rows) ≡ option_map row_now (find (is_stock_of x) rows)
+  find-changed x [] = refl
+  find-changed x (r ∷ rows) =
+      ap₂ (λ v o. cond v (Some (row_now r)) o) (row_now-cell x r) (find-changed x rows)
+      ∙ go (is_stock_of x r)
+    where
+      go : (v : Bool)
+          → cond v (Some (row_now r)) (option_map row_now (find (is_stock_of x) rows))
+          ≡ option_map row_now (cond v (Some r) (find (is_stock_of x) rows))
+      go true = refl
+      go false = refl
+
+  -- no two rows are of one cell still
+  pub once-changed : (rows : List StockRow) → AreApart is_same_stock rows
+      → AreApart is_same_stock (changed passes change rows)
+  once-changed rows once =
+      ascending-map (λ r s. is_same_stock r s ≡ false) row_now rows
+      (ascending_where (λ r s. is_same_stock r s ≡ false) (λ r s. is_same_stock (row_now r) (row_now s)
+      ≡ false) rows (λ r s h k off. row_now-same r s ∙ off) once)
+
+  -- and each is of some cell
+  pub known-changed : (rows : List StockRow) → AllByRecursion IsOfCell rows
+      → AllByRecursion IsOfCell (changed passes change rows)
+  known-changed rows known =
+      all-map IsOfCell row_now rows
+      (all_weaker IsOfCell (λ r. IsOfCell (row_now r)) (λ r of. (of.0, row_now-cell of.0 r ∙ of.1)) rows known)

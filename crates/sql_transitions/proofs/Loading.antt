@@ -1,0 +1,144 @@
+-- The rows that a load writes stand for the ledger with it.
+use Rattle.std.proofs.Common.{◌≡◌, ℕ, ◌+◌, ◌-◌, List, [], ◌∷◌, ◌++◌, length, map, find, Option, Some, None, IsTrue, refl, sym, ap, subst, ◌∙◌, append-nil}
+use Rattle.std.specs.Prelude.{option_map, flat_map}
+use Rattle.std.specs.List.Sorted.{IsPermutation}
+use Rattle.std.proofs.lemmas.List.Sorted.{IsPermutation-append_left}
+use Rattle.sqlite_rules.proofs.ListLemmas.{has_found}
+use Rattle.allotment.specs.Cells.{is_cell}
+use Rattle.allotment.specs.declared.cells.Cell.{Cell}
+use Rattle.allotment.specs.declared.cells.Row.{Row}
+use Rattle.commands.specs.Asks.{Asked}
+use Rattle.commands.specs.declared.replies.Reply.{Reply}
+use Rattle.ledger.specs.Answer.{State, state_with, kept_for}
+use Rattle.ledger.specs.History.{is_taken}
+use Rattle.ledger.specs.Ledger.{Event, Loaded, Journey, journeys, history, held, allotment, is_allowed}
+use Rattle.ledger.proofs.Cells.{is_cell-same}
+use Rattle.ledger_transitions.specs.JourneyChanges.{newer, places_in_rows}
+use Rattle.ledger_transitions.proofs.Events.{length-more, journeys-loaded, history-loaded}
+use Rattle.ledger_transitions.proofs.Allotments.{loaded_distinct}
+use Rattle.ledger_transitions.proofs.Places.{held-loaded, allotment-loaded}
+use Rattle.saga_core.specs.Views.{places_of}
+use Rattle.desk_sql.specs.Rows.{Tables, MetaRow, StepRow, StockRow}
+use Rattle.sql_model.specs.ExpectedRows.{counted_from, meta_called, batch_text, batches_called, begun, journey_row_of, journeys_called, is_standing, step_rows, steps_called, entries_called}
+use Rattle.sql_model.specs.Standing.{StockStands, StandsFor}
+use Rattle.sql_model.specs.Beginning.{meta_row_at, with_answer}
+use Rattle.sql_model.proofs.Lists.{map-same, flat_map-same}
+use Rattle.sql_model.proofs.Events.{batches_called-more, entries_called-more, begun-more}
+use Rattle.sql_model.proofs.JourneyRows.{row_in}
+use Rattle.sql_model.proofs.Answering.{answer_stands}
+use Rattle.sql_transitions.specs.Loading.{put_rows, with_batch}
+use Rattle.sql_transitions.proofs.Puts.{once-rows, known-rows, places_given, stock_at-rows}
+
+module _ (l : List Event) (name : List ℕ) (rows : List Row) where
+  -- the ledger with the batch
+  abbrev next : List Event
+  next = l ++ Loaded name rows ∷ []
+
+  -- one event more, and no journey
+  meta-loaded : meta_called next ≡ meta_row_at (length l + 1) (length (journeys l))
+  meta-loaded =
+      ap (λ n. meta_row_at n (length (journeys next))) (length-more l (Loaded name rows))
+      ∙ ap (λ js. meta_row_at (length l + 1) (length js)) (journeys-loaded l name rows)
+
+  -- the batch comes last
+  batches-loaded : batches_called next
+      ≡ batches_called l ++ record { name = name; num = length l + 1; content = batch_text rows } ∷ []
+  batches-loaded = batches_called-more l (Loaded name rows)
+
+  -- no item more
+  entries-loaded : entries_called next ≡ entries_called l
+  entries-loaded = entries_called-more l (Loaded name rows) ∙ append-nil (entries_called l)
+
+  -- no journey moves
+  journeys_called-loaded : journeys_called next ≡ journeys_called l
+  journeys_called-loaded =
+      ap (λ bs. map (row_in next) (counted_from 1 bs))
+      (begun-more l (Loaded name rows) ∙ append-nil (begun l))
+      ∙ map-same (row_in next) (row_in l) (counted_from 1 (begun l))
+      (λ b. ap (λ h. journey_row_of h b.0 b.1) (history-loaded l name rows b.0))
+
+  -- the rows of the plan of a journey of this ledger
+  abbrev rows_in : List Event → ℕ × Journey → List StepRow
+  rows_in m a = step_rows (is_standing (history m a.0)) a.0 a.1.plan
+
+  -- no option is taken or given up
+  steps_called-loaded : steps_called next ≡ steps_called l
+  steps_called-loaded =
+      ap (λ js. flat_map (rows_in next) (counted_from 1 js)) (journeys-loaded l name rows)
+      ∙ flat_map-same (rows_in next) (rows_in l) (counted_from 1 (journeys l))
+      (λ a. ap (λ h. step_rows (is_standing h) a.0 a.1.plan) (history-loaded l name rows a.0))
+
+  -- each cell of the batch has its places, of which those are free that are not held
+  places-loaded : IsTrue (is_allowed l (Loaded name rows)) → (x : Cell)
+      → places_given (held l) (find (λ (r : Row). is_cell x r.cell) rows) (places_of l x) ≡ places_of next x
+  places-loaded may x =
+      go (find (λ (r : Row). is_cell x r.cell) rows) refl
+      ∙ ap (λ n. option_map (λ (m : ℕ). record { allot = m; free = m - n })
+      (newer (places_in_rows rows x) (allotment l x)))
+      (sym (held-loaded l name rows x))
+      ∙ ap (option_map (λ (m : ℕ). record { allot = m; free = m - held next x }))
+      (sym (allotment-loaded l name rows x (loaded_distinct l name rows may)))
+    where
+      go : (o : Option Row) → find (λ (r : Row). is_cell x r.cell) rows ≡ o
+          → places_given (held l) o (places_of l x)
+          ≡ option_map (λ (m : ℕ). record { allot = m; free = m - held l x })
+          (newer (option_map (λ (r : Row). r.places) o) (allotment l x))
+      go None e = refl
+      go (Some r) e =
+          ap (λ y. Some (record { allot = r.places; free = r.places - held l y }))
+          (sym (is_cell-same x r.cell (has_found (λ (q : Row). is_cell x q.cell) rows r e).1))
+
+  -- so the rows of stock follow
+  stock-loaded : IsTrue (is_allowed l (Loaded name rows)) → (cells : List StockRow)
+      → StockStands l cells → StockStands next (put_rows (held l) rows cells)
+  stock-loaded may cells stand = record {
+    each =
+        λ x. stock_at-rows (held l) rows cells x (loaded_distinct l name rows may)
+        ∙ ap (places_given (held l) (find (λ (r : Row). is_cell x r.cell) rows)) (stand.each x)
+        ∙ places-loaded may x;
+    once = once-rows (held l) rows cells stand.once;
+    known = known-rows (held l) rows cells stand.known;
+  }
+
+-- the rows of the cells and of the batch are those that the longer ledger calls for
+batch_stands : (t : Tables) (s : State) (name : List ℕ) (rows : List Row) → StandsFor t s
+    → IsTrue (is_allowed s.ledger (Loaded name rows))
+    → StandsFor (with_batch (length s.ledger + 1) (length (journeys s.ledger)) name rows (held s.ledger) t)
+    (record { ledger = s.ledger ++ Loaded name rows ∷ []; kept = s.kept })
+batch_stands t s name rows st may =
+    let l = s.ledger in
+    record {
+      meta =
+          ap (map (λ (m : MetaRow). meta_row_at (length l + 1) (length (journeys l)))) st.meta
+          ∙ ap (λ m. m ∷ []) (sym (meta-loaded l name rows));
+      stock = stock-loaded l name rows may t.stock st.stock;
+      batch =
+          subst
+          (λ called. IsPermutation called
+          (t.batch ++ record { name = name; num = length l + 1; content = batch_text rows } ∷ []))
+          (sym (batches-loaded l name rows))
+          (IsPermutation-append_left
+          (record { name = name; num = length l + 1; content = batch_text rows } ∷ [])
+          (batches_called l) t.batch st.batch);
+      journey =
+          subst (λ called. IsPermutation called t.journey) (sym (journeys_called-loaded l name rows)) st.journey;
+      step = subst (λ called. IsPermutation called t.step) (sym (steps_called-loaded l name rows)) st.step;
+      answer = st.answer;
+      entries = subst (λ called. IsPermutation called t.entries) (sym (entries-loaded l name rows)) st.entries;
+      mark = record {
+        each =
+            λ j p. st.mark.each j p ∙ sym (ap (λ h. is_taken h p) (history-loaded l name rows j));
+        once = st.mark.once;
+      };
+    }
+
+-- where a batch is loaded, its cells have its places, and its row is added
+pub load_stands : (t : Tables) (s : State) (ask : Option Asked) (reply : Reply) (name : List ℕ) (rows : List Row)
+    → StandsFor t s → IsTrue (is_allowed s.ledger (Loaded name rows)) → kept_for s ask ≡ None
+    → StandsFor (with_answer ask reply
+    (with_batch (length s.ledger + 1) (length (journeys s.ledger)) name rows (held s.ledger) t))
+    (state_with s ask reply (Some (Loaded name rows)))
+load_stands t s ask reply name rows st may new =
+    answer_stands (with_batch (length s.ledger + 1) (length (journeys s.ledger)) name rows (held s.ledger) t)
+    (record { ledger = s.ledger ++ Loaded name rows ∷ []; kept = s.kept }) ask reply
+    (batch_stands t s name rows st may) new

@@ -1,0 +1,104 @@
+-- One row of a save-point more, or one less, follows the save-points that stand.
+use Rattle.std.proofs.Common.{◌≡◌, ℕ, ◌==◌, List, [], ◌∷◌, ◌++◌, Bool, true, false, filter, eqb-true, refl, sym, ap, ap₂, ◌∙◌, arith}
+use Rattle.std.specs.Prelude.{◌&&◌, ◌||◌, not}
+use Rattle.std.specs.List.{list_any}
+use Rattle.std.proofs.lemmas.Bool.{and_parts, false_from_ne_true, not_from_false}
+use Rattle.std.proofs.lemmas.Bool.Decides.{nat_tests}
+use Rattle.std.proofs.lemmas.List.Folds.{list_any-append}
+use Rattle.std.proofs.lemmas.Map.Views.{any-filter_same}
+use Rattle.sqlite_trees.proofs.ListLemmas.{ascending-filter, filter_all}
+use Rattle.sqlite_rules.specs.Lists.{Has}
+use Rattle.sqlite_rules.proofs.ListLemmas.{all_from, some_from}
+use Rattle.commands.specs.declared.items.Item.{Item}
+use Rattle.ledger.specs.History.{is_taken}
+use Rattle.ledger.specs.Ledger.{Event, Did, history}
+use Rattle.ledger.proofs.Growing.{history-did_same, history-did_other}
+use Rattle.desk_sql.specs.FoundRows.{mark_at_pos}
+use Rattle.desk_sql.specs.Rows.{MarkRow}
+use Rattle.sql_model.specs.Standing.{is_mark_at, is_same_mark, MarksStand}
+use Rattle.sql_model.proofs.Finding.{apart-last}
+
+-- numbers compared the other way round
+pub turned : (a b : ℕ) → (a == b) ≡ (b == a)
+turned a b = grind (arith, nat_tests)
+
+module _ (l : List Event) (j : ℕ) (item : Item) (rows : List MarkRow) (stand : MarksStand l rows) where
+  -- where a save-point was taken that stood nowhere, its row comes last
+  pub marks-add : (p : ℕ) → is_taken (history l j) p ≡ false
+      → ((q : ℕ) → is_taken (history l j ++ item ∷ []) q ≡ ((q == p) || is_taken (history l j) q))
+      → MarksStand (l ++ Did j item ∷ []) (rows ++ mark_at_pos j p ∷ [])
+  marks-add p none taken = record {
+    each = λ k q. list_any-append (is_mark_at k q) rows (mark_at_pos j p ∷ []) ∙ go k q (k == j) refl;
+    once = apart-last is_same_mark rows (mark_at_pos j p) stand.once (all_from _ rows other);
+  }
+    where
+      last : (a b : Bool) → (a || (b || false)) ≡ (b || a)
+      last true true = refl
+      last true false = refl
+      last false true = refl
+      last false false = refl
+
+      go : (k q : ℕ) (v : Bool) → (k == j) ≡ v
+          → (list_any (is_mark_at k q) rows || (((j == k) && (p == q)) || false))
+          ≡ is_taken (history (l ++ Did j item ∷ []) k) q
+      go k q true e =
+          let is = eqb-true k j e in
+          ap₂ (λ a b. a || ((b && (p == q)) || false)) (stand.each k q) (turned j k ∙ e)
+          ∙ last (is_taken (history l k) q) (p == q)
+          ∙ ap₂ (λ b i. b || is_taken (history l i) q) (turned p q) is ∙ sym (taken q)
+          ∙ ap (λ i. is_taken (history l i ++ item ∷ []) q) (sym is)
+          ∙ ap (λ h. is_taken h q) (sym (history-did_same l j item k e))
+      go k q false e =
+          ap₂ (λ a b. a || ((b && (p == q)) || false)) (stand.each k q) (turned j k ∙ e)
+          ∙ last (is_taken (history l k) q) false
+          ∙ ap (λ h. is_taken h q) (sym (history-did_other l j item k e))
+
+      other : (m : MarkRow) → Has rows m → is_same_mark m (mark_at_pos j p) ≡ false
+      other m h =
+          false_from_ne_true (is_same_mark m (mark_at_pos j p))
+          (λ on.
+          let here : is_mark_at j p m ≡ true =
+          ap₂ (λ a b. a && b) (turned m.journey j) (turned m.pos p) ∙ on in
+          let bad : true ≡ false =
+          sym (some_from (is_mark_at j p) rows m h here) ∙ stand.each j p ∙ none in
+          cc)
+
+  -- where the save-point at a position stands no more, its row is gone
+  pub marks-drop : (p : ℕ)
+      → ((q : ℕ) → is_taken (history l j ++ item ∷ []) q ≡ (not (q == p) && is_taken (history l j) q))
+      → MarksStand (l ++ Did j item ∷ []) (filter (λ m. not (is_mark_at j p m)) rows)
+  marks-drop p taken = record {
+    each =
+        λ k q. any-filter_same (is_mark_at k q) (λ m. not (is_mark_at j p m)) (not ((k == j) && (q == p)))
+        (at k q) rows
+        ∙ ap (λ b. not ((k == j) && (q == p)) && b) (stand.each k q)
+        ∙ go k q (k == j) refl;
+    once = ascending-filter (λ m n. is_same_mark m n ≡ false) (λ m. not (is_mark_at j p m)) rows stand.once;
+  }
+    where
+      at : (k q : ℕ) (m : MarkRow) → is_mark_at k q m ≡ true
+          → not (is_mark_at j p m) ≡ not ((k == j) && (q == p))
+      at k q m on =
+          let both = and_parts _ _ on in
+          ap₂ (λ a b. not ((a == j) && (b == p))) (eqb-true _ _ both.0) (eqb-true _ _ both.1)
+
+      go : (k q : ℕ) (v : Bool) → (k == j) ≡ v
+          → (not (v && (q == p)) && is_taken (history l k) q) ≡ is_taken (history (l ++ Did j item ∷ []) k) q
+      go k q true e =
+          let is = eqb-true k j e in
+          ap (λ i. not (q == p) && is_taken (history l i) q) is ∙ sym (taken q)
+          ∙ ap (λ i. is_taken (history l i ++ item ∷ []) q) (sym is)
+          ∙ ap (λ h. is_taken h q) (sym (history-did_same l j item k e))
+      go k q false e = ap (λ h. is_taken h q) (sym (history-did_other l j item k e))
+
+-- where no save-point stands at a position there is no row to delete
+pub no_mark : (l : List Event) (j p : ℕ) (rows : List MarkRow) → MarksStand l rows
+    → is_taken (history l j) p ≡ false → filter (λ m. not (is_mark_at j p m)) rows ≡ rows
+no_mark l j p rows stand none =
+    filter_all (λ m. not (is_mark_at j p m)) rows
+    (all_from _ rows
+    (λ m h. not_from_false (is_mark_at j p m)
+    (false_from_ne_true (is_mark_at j p m)
+    (λ on.
+    let bad : true ≡ false = sym (some_from (is_mark_at j p) rows m h on) ∙ stand.each j p ∙ none in
+    cc))))

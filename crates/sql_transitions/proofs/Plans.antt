@@ -1,0 +1,99 @@
+-- The wants of a plan that keeps the limits keep theirs.
+use Rattle.std.proofs.Common.{◌≡◌, ℕ, zero, suc, ◌≤◌, List, [], ◌∷◌, length, Bool, true, Option, Some, None, ◌+◌, ◌-◌, IsTrue, refl, sym, ap, ◌∙◌, ◌<◌, arith}
+use Rattle.std.specs.Prelude.{slice_get, nat_le, ◌&&◌, option_and_then, option_map, unwrap_or}
+use Rattle.std.specs.List.{list_all}
+use Rattle.std.proofs.lemmas.Bool.{and_parts, leb-true}
+use Rattle.plan.proofs.LimitLemmas.{limited, step_limited}
+use Rattle.allotment.specs.Want.{Wanted}
+use Rattle.allotment.specs.Limits.{is_between, is_code, is_night, are_nights, is_count, is_want, most_nights, most_count}
+use Rattle.plan.specs.PlanModel.{Planned, StepPlan, numbered, want_at, is_step, is_plan, option_count}
+use Rattle.ledger.specs.Ledger.{Event, Journey, journey_at, IsLegal}
+use Rattle.sql_model.proofs.RecordRows.{plan_good}
+
+-- where each passes, the one of a number does
+numbered-passes : {X : Type 0} (p : X → Bool) (xs : List X) (n : ℕ) (x : X) → numbered xs n ≡ Some x
+    → list_all p xs ≡ true → p x ≡ true
+numbered-passes p xs zero x e all = cc
+numbered-passes p xs (suc i) x e all = at p xs i x e all
+  where
+    at : {X : Type 0} (p : X → Bool) (xs : List X) (i : ℕ) (x : X) → slice_get xs i ≡ Some x
+        → list_all p xs ≡ true → p x ≡ true
+    at p [] i x e all = cc
+    at {X} p (y ∷ xs) zero x e all =
+        let same : y ≡ x = cc in ap p (sym same) ∙ (and_parts (p y) (list_all p xs) all).0
+    at p (y ∷ xs) (suc i) x e all = at p xs i x e (and_parts (p y) (list_all p xs) all).1
+
+-- a want of a good plan keeps its limits
+pub want_good : (plan : Planned) (i c : ℕ) (w : Wanted) → IsTrue (is_plan plan)
+    → want_at plan i c ≡ Some w → is_want w ≡ true
+want_good plan i c w good want =
+    go (numbered plan.steps i) (λ s e. numbered-passes is_step plan.steps i s e (limited plan good).each_step) want
+  where
+    go : (o : Option StepPlan) → ((s : StepPlan) → o ≡ Some s → is_step s ≡ true)
+        → option_and_then (λ (s : StepPlan). numbered s.options c) o ≡ Some w → is_want w ≡ true
+    go None each e = cc
+    go (Some s) each e = numbered-passes is_want s.options c w e (step_limited s (each s refl)).each_want
+
+-- and so has a night at least
+pub want-nights : (w : Wanted) → is_want w ≡ true → 1 ≤ w.nights
+want-nights w good =
+    let four =
+    (and_parts
+    (is_code w.supplier && is_code w.product && is_night w.first && are_nights w.kind w.first w.nights)
+    (is_count w.count) good).0 in
+    let nights =
+    (and_parts (is_code w.supplier && is_code w.product && is_night w.first)
+    (are_nights w.kind w.first w.nights) four).1 in
+    let between =
+    (and_parts (is_between 1 (most_nights w.kind) w.nights) (is_night (w.first + w.nights - 1)) nights).0 in
+    leb-true 1 w.nights
+    (and_parts (nat_le 1 w.nights) (nat_le w.nights (most_nights w.kind)) between).0
+
+-- each want of a journey of a legal ledger has a night at least
+pub wanted_nights : (l : List Event) (j i c : ℕ) (a : Journey) (w : Wanted) → IsLegal l
+    → journey_at l j ≡ Some a → want_at a.plan i c ≡ Some w → 1 ≤ w.nights
+wanted_nights l j i c a w legal at want =
+    want-nights w (want_good a.plan i c w (plan_good l j a legal at) want)
+
+-- and takes so many places of a night at most
+pub want-count : (w : Wanted) → is_want w ≡ true → w.count ≤ most_count
+want-count w good =
+    let count =
+    (and_parts
+    (is_code w.supplier && is_code w.product && is_night w.first && are_nights w.kind w.first w.nights)
+    (is_count w.count) good).1 in
+    leb-true w.count most_count (and_parts (nat_le 1 w.count) (nat_le w.count most_count) count).1
+
+-- so does each want of a journey of a legal ledger
+pub wanted_count : (l : List Event) (j i c : ℕ) (a : Journey) (w : Wanted) → IsLegal l
+    → journey_at l j ≡ Some a → want_at a.plan i c ≡ Some w → w.count ≤ most_count
+wanted_count l j i c a w legal at want =
+    want-count w (want_good a.plan i c w (plan_good l j a legal at) want)
+
+-- an option that a step has is a want of the plan
+pub option_wanted : (plan : Planned) (i c : ℕ) → is_between 1 (option_count plan i) c ≡ true
+    → (w : Wanted) × (want_at plan i c ≡ Some w)
+option_wanted plan i c within = go (numbered plan.steps i) refl within
+  where
+    got : {X : Type 0} (xs : List X) (k : ℕ) → k < length xs → (x : X) × (slice_get xs k ≡ Some x)
+    got [] k low = absurd (omega arith)
+    got (x ∷ xs) zero low = (x, refl)
+    got (x ∷ xs) (suc k) low = got xs k (omega arith)
+
+    of_number : {X : Type 0} (xs : List X) (n : ℕ) → 1 ≤ n → n ≤ length xs
+        → (x : X) × (numbered xs n ≡ Some x)
+    of_number xs zero low high = absurd (omega arith)
+    of_number xs (suc k) low high = got xs k (omega arith)
+
+    go : (o : Option StepPlan) → numbered plan.steps i ≡ o
+        → is_between 1 (unwrap_or (option_map (λ (s : StepPlan). length s.options) o) 0) c ≡ true
+        → (w : Wanted) × (option_and_then (λ (s : StepPlan). numbered s.options c) (numbered plan.steps i) ≡ Some w)
+    go None e b =
+        let low = leb-true 1 c (and_parts (nat_le 1 c) (nat_le c 0) b).0 in
+        let high = leb-true c 0 (and_parts (nat_le 1 c) (nat_le c 0) b).1 in
+        absurd (omega arith)
+    go (Some s) e b =
+        let low = leb-true 1 c (and_parts (nat_le 1 c) (nat_le c (length s.options)) b).0 in
+        let high = leb-true c (length s.options) (and_parts (nat_le 1 c) (nat_le c (length s.options)) b).1 in
+        let found = of_number s.options c low high in
+        (found.0, ap (option_and_then (λ (x : StepPlan). numbered x.options c)) e ∙ found.1)

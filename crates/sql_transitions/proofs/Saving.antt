@@ -1,0 +1,64 @@
+-- The rows that a save-point writes stand for the ledger with it.
+use Rattle.std.proofs.Common.{◌≡◌, ℕ, ◌+◌, List, length, Bool, true, false, Option, Some, None, IsTrue, refl, sym, subst, IsTrue}
+use Rattle.std.specs.Prelude.{◌&&◌, ◌||◌, ◌==◌, not, nat_lt, nat_le}
+use Rattle.std.specs.List.Sorted.{IsPermutation}
+use Rattle.std.proofs.lemmas.Bool.{and_parts}
+use Rattle.commands.specs.Asks.{Asked}
+use Rattle.commands.specs.declared.items.Item.TheVariants.{Save}
+use Rattle.commands.specs.declared.replies.Reply.{Reply}
+use Rattle.plan.specs.PlanModel.{Planned, is_marked_at}
+use Rattle.commands.specs.declared.items.Item.{Item}
+use Rattle.ledger.specs.Answer.{State, state_with, kept_for}
+use Rattle.ledger.specs.History.{position_of, phase, is_running, is_taken, is_save_point, may_come, next_want}
+use Rattle.ledger.specs.Ledger.{Did, Journey, journeys, journey_at, history, fits, is_allowed}
+use Rattle.ledger.proofs.Standing.{net-save}
+use Rattle.ledger_transitions.proofs.Histories.{may_come-allowed}
+use Rattle.ledger_transitions.proofs.Places.{held-save}
+use Rattle.ledger_transitions.proofs.Taking.{is_taken-more}
+use Rattle.desk_sql.specs.Rows.{Tables}
+use Rattle.desk_sql.specs.Changes.{adds_mark}
+use Rattle.sql_model.specs.Standing.{StandsFor, IsDesk}
+use Rattle.sql_model.specs.Beginning.{with_answer}
+use Rattle.sql_transitions.specs.Moving.{with_save}
+use Rattle.sql_transitions.proofs.Items.{journeys_called-stays}
+use Rattle.sql_transitions.proofs.Marks.{marks-add}
+use Rattle.sql_transitions.proofs.Moves.{item_stands_answered, stock-stays, steps-stay, cursor_next}
+
+-- a save-point is taken where none was taken that stands
+pub save-new : (plan : Planned) (h : List Item) (may_fit : Bool) (p : ℕ)
+    → may_come plan h may_fit (Save p) ≡ true → is_taken h p ≡ false
+save-new plan h may_fit p may =
+    none (is_marked_at plan p && nat_le p (position_of h)) (is_taken h p)
+    (and_parts (is_running (phase plan h) && (p == position_of h) && nat_lt 0 p) (not (is_save_point plan h p)) may).1
+  where
+    none : (marked taken : Bool) → not (marked || taken) ≡ true → taken ≡ false
+    none true taken e = cc
+    none false true e = cc
+    none false false e = refl
+
+-- where a save-point is taken, its row is added, and all else stands as it stood
+pub save_stands : (t : Tables) (s : State) (ask : Option Asked) (reply : Reply) (j p : ℕ) (a : Journey)
+    → StandsFor t s → IsDesk s → journey_at s.ledger j ≡ Some a
+    → IsTrue (is_allowed s.ledger (Did j (Save p))) → kept_for s ask ≡ None
+    → StandsFor (with_answer ask reply (with_save (length s.ledger + 1) (length (journeys s.ledger)) j p t))
+    (state_with s ask reply (Some (Did j (Save p))))
+save_stands t s ask reply j p a st desk at may new =
+    let l = s.ledger in
+    let comes = may_come-allowed l j a (Save p) at may in
+    item_stands_answered t (adds_mark j p t) s j (Save p) st
+    (record {
+      meta = refl;
+      stock = stock-stays l j (Save p) t.stock (λ x. held-save l j p a x at) st.stock;
+      batch = refl;
+      journey =
+          subst (λ called. IsPermutation called t.journey)
+          (sym (journeys_called-stays l j (Save p) a at (cursor_next l j a (Save p) desk.legal at may)))
+          st.journey;
+      step = steps-stay l j (Save p) t.step (net-save (history l j) p) st.step;
+      answer = refl;
+      entries = refl;
+      mark =
+          marks-add l j (Save p) t.mark st.mark p
+          (save-new a.plan (history l j) (fits l (next_want a.plan (history l j))) p comes)
+          (is_taken-more (history l j) (Save p));
+    }) ask reply new

@@ -1,0 +1,40 @@
+use Rattle.std.proofs.Common.{◌+◌, List, sym, subst, ◌∙◌, arith}
+use Rattle.sqlite.specs.Held.{state}
+use Rattle.desk_sql.specs.Calls.{Makes}
+use Rattle.desk_sql.specs.Rows.{StepRow}
+use Rattle.sql_model.specs.Beginning.{adds_steps}
+use Rattle.sql_model.specs.Beginning.{first_rows_of_step, rows_of_option}
+use Rattle.sql_writes.specs.Begins.{HasWritten}
+use Rattle.plan.proofs.LimitLemmas.{few_options}
+use Rattle.sql_model.proofs.PlanParts.{first_rows_of_step-more, first_rows_of_step-all}
+use Rattle.sql_writes.proofs.BeginLemmas.{HasWritten-more}
+use Rattle.sql_writes.proofs.begins.write_options.Goals as goal
+
+pub write_option-requires-clause-options : goal.write_option-requires-clause-options
+write_option-requires-clause-options g c =
+    let few = few_options c.args.plan.now c.args.step c.steps-steps.ensures.limits in omega arith
+
+-- one more row is written
+pub loop-option-preserved : goal.loop-option-preserved
+loop-option-preserved g c =
+    let id = c.args.id in
+    let plan = c.args.plan.now in
+    let step = c.args.step in
+    let n = c.loop-option.option in
+    let old = c.args.tx.now.conn.now in
+    let new = c.write_option.new.tx.conn.now in
+    record {
+      same = c.write_option.ensures.same_reference ∙ c.loop-option.invariant.same;
+      bound = c.loop-option.invariant.bound;
+      written = subst (HasWritten g.S.Store old new) (sym (first_rows_of_step-more id plan step n (omega arith)))
+          (HasWritten-more g.S.Store old c.loop-option.tx.conn.now new (first_rows_of_step id plan step n) (rows_of_option id plan step (n + 1))
+          c.loop-option.invariant.written c.write_option.ensures.survives c.write_option.ensures.commit
+          c.in_ok-write_option.ensures.inside c.in_ok-write_option.ensures.made);
+    }
+
+-- all rows of the step are written
+pub returns-clause-made : goal.returns-clause-made
+returns-clause-made g c clean t may live =
+    subst (λ (rows : List StepRow). Makes (state g.S.Store c.args.tx.now.conn.now) (state g.S.Store c.loop-option.tx.conn.now) (adds_steps rows t))
+    (first_rows_of_step-all c.args.id c.args.plan.now c.args.step c.loop-option.option (omega arith))
+    (c.loop-option.invariant.written.made clean t may live)

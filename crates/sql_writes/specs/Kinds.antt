@@ -1,0 +1,54 @@
+-- The rows that an event of any kind makes, with those of the reply that is kept with it.
+use Rattle.std.specs.Prelude.{⊤, Option, Some, None}
+use Rattle.desk_sql.specs.Rows.{Tables}
+use Rattle.desk_sql.specs.Changes.{AreItemsBelow, AreJourneysBelow, adds_answer, kept}
+use Rattle.ledger.specs.Answer.{State}
+use Rattle.sql_model.specs.Standing.{StandsFor}
+use Rattle.sql_writes.specs.declared.events.Numbers.{Numbers}
+use Rattle.sql_writes.specs.declared.events.Keeping.{Keeping}
+use Rattle.sql_writes.specs.declared.events.Event.{Event}
+use Rattle.sql_writes.specs.declared.events.Event.TheVariants.{Begin, Transaction, Compensation, Turn, Save, Load}
+use Rattle.sql_writes.specs.Begins.{begin_rows}
+use Rattle.sql_writes.specs.Events.{IsSmallStep, IsSmallTurn, IsSmallSave, MayTake, MayGive, transaction_rows, compensation_rows, turn_rows, save_rows}
+use Rattle.sql_writes.specs.Loads.{MayLoad, load_rows}
+
+-- the numbers of an event fit the store's integers
+abbrev pub IsSmall : Event → Type 0
+IsSmall (Begin b) = ⊤
+IsSmall (Transaction m) = IsSmallStep m
+IsSmall (Compensation m) = IsSmallStep m
+IsSmall (Turn m) = IsSmallTurn m
+IsSmall (Save m) = IsSmallSave m
+IsSmall (Load b) = ⊤
+
+-- what an event asks of the rows before it
+abbrev pub Fits : Numbers → Event → Tables → Type 0
+Fits n (Begin b) t = AreJourneysBelow n.journeys t
+Fits n (Transaction m) t = MayTake n m t
+Fits n (Compensation m) t = MayGive n m t
+Fits n (Turn m) t = AreItemsBelow n.num t
+Fits n (Save m) t = AreItemsBelow n.num t
+Fits n (Load b) t = MayLoad t
+
+-- the rows after an event
+abbrev pub rows_after : Numbers → Event → Tables → Tables
+rows_after n (Begin b) t = begin_rows n b t
+rows_after n (Transaction m) t = transaction_rows n m t
+rows_after n (Compensation m) t = compensation_rows n m t
+rows_after n (Turn m) t = turn_rows n m t
+rows_after n (Save m) t = save_rows n m t
+rows_after n (Load b) t = load_rows n b t
+
+-- the same, and the row of the reply that is kept with it
+abbrev pub with_kept : Numbers → Event → Keeping → Tables → Tables
+with_kept n e k t = adds_answer (kept k.agent.now k.key.now k.text.now k.line.now) (rows_after n e t)
+
+-- the rows after an event, with or without a reply
+abbrev pub event_rows : Numbers → Event → Option Keeping → Tables → Tables
+event_rows n e None t = rows_after n e t
+event_rows n e (Some k) t = with_kept n e k t
+
+-- tables that stand for the old state fit the event, and with its rows stand for the new state
+pub record LeadsTo (n : Numbers) (e : Event) (k : Option Keeping) (old new : State) : Type 0 where
+  pub fits : (t : Tables) → StandsFor t old → Fits n e t
+  pub stands : (t : Tables) → StandsFor t old → StandsFor (event_rows n e k t) new

@@ -1,0 +1,5 @@
+pub mod Writing
+pub mod Begins
+pub mod Events
+pub mod Kinds
+pub mod Loads

@@ -1,0 +1,109 @@
+//! The row of an item of a journey, with the journey's cursor and the numbers of `meta`.
+ghost use Rattle.std.specs.Prelude.{◌≡◌, ◌<◌, ◌^◌};
+ghost use Rattle.desk_sql.specs.Calls.{StaysInside, WasOpen, CommitsNothing, LeavesNoMore};
+ghost use Rattle.desk_sql.specs.Changes.{AreItemsBelow, IsSmallCursor, IsSmallItem};
+ghost use Rattle.sql_transitions.specs.Moving.{cursor_written, item_written, with_item, with_move};
+ghost use Rattle.sql_writes.specs.Writing.{WritesRows};
+
+use crate::events::Numbers;
+use commands::{Cause, Cursor, Item, Phase};
+use desk_sql::{Cursor as CursorRow, ItemFound, insert_item, move_journey, update_meta};
+use sqlite::{Alter, Error, Transaction};
+
+/// Where a journey is, as it is written.
+fn cursor_row(cursor: Cursor) -> CursorRow
+    ensures { result ≡ cursor_written cursor }
+{
+    let (phase, target) = match cursor.phase {
+        Phase::Run => (0, 0),
+        Phase::Back(target) => (1, target as u64),
+        Phase::Ended => (2, 0),
+        Phase::Undone => (3, 0),
+    };
+    CursorRow {
+        pos: cursor.pos as u64,
+        phase,
+        target,
+        used: cursor.used as u64,
+    }
+}
+
+/// An item, as it is written under the number of its event.
+fn item_row(num: u64, item: Item) -> ItemFound
+    ensures written { result ≡ item_written num item }
+    ensures num { result.num ≡ num }
+{
+    let (kind, a, b) = match item {
+        Item::Transaction { step, option } => (0, step, option),
+        Item::Compensation { step, option } => (1, step, option),
+        Item::Turn {
+            target,
+            cause: Cause::Stop,
+        } => (2, target, 0),
+        Item::Turn {
+            target,
+            cause: Cause::Refused,
+        } => (2, target, 1),
+        Item::Turn {
+            target,
+            cause: Cause::Asked,
+        } => (2, target, 2),
+        Item::Save { position } => (3, position, 0),
+    };
+    ItemFound {
+        num,
+        item: kind,
+        a: a as u64,
+        b: b as u64,
+    }
+}
+
+/// The row of an item, and the numbers of `meta`.
+pub(crate) fn write_item<S: Alter>(
+    tx: &mut Transaction<'_, S>,
+    numbers: Numbers,
+    journey: u64,
+    item: Item,
+) -> Result<(), Error>
+    requires journey { journey < 2 ^ 63 }
+    requires item { IsSmallItem (item_written numbers.num item) }
+
+    ensures same_reference { tx.new.conn.ghost_name ≡ tx.old.conn.ghost_name }
+    ensures made { WritesRows S.Store tx.old.conn.now tx.new.conn.now (AreItemsBelow numbers.num)
+        result (with_item numbers.num numbers.journeys journey item) }
+    ensures live { WasOpen S.Store tx.old.conn.now tx.new.conn.now result }
+    ensures inside { StaysInside S.Store tx.old.conn.now tx.new.conn.now result }
+    ensures commit { CommitsNothing S.Store tx.old.conn.now tx.new.conn.now }
+    ensures survives { LeavesNoMore S.Store tx.old.conn.now tx.new.conn.now }
+{
+    let row = item_row(numbers.num, item);
+    insert_item(tx, journey, row)?;
+    update_meta(tx, 2, numbers.num, numbers.journeys)?;
+    Ok(())
+}
+
+/// The same, with where the journey is then.
+pub(crate) fn write_move<S: Alter>(
+    tx: &mut Transaction<'_, S>,
+    numbers: Numbers,
+    journey: u64,
+    item: Item,
+    cursor: Cursor,
+) -> Result<(), Error>
+    requires journey { journey < 2 ^ 63 }
+    requires item { IsSmallItem (item_written numbers.num item) }
+    requires cursor { IsSmallCursor (cursor_written cursor) }
+
+    ensures same_reference { tx.new.conn.ghost_name ≡ tx.old.conn.ghost_name }
+    ensures made { WritesRows S.Store tx.old.conn.now tx.new.conn.now (AreItemsBelow numbers.num)
+        result (with_move numbers.num numbers.journeys journey item cursor) }
+    ensures live { WasOpen S.Store tx.old.conn.now tx.new.conn.now result }
+    ensures inside { StaysInside S.Store tx.old.conn.now tx.new.conn.now result }
+    ensures commit { CommitsNothing S.Store tx.old.conn.now tx.new.conn.now }
+    ensures survives { LeavesNoMore S.Store tx.old.conn.now tx.new.conn.now }
+{
+    let row = cursor_row(cursor);
+    move_journey(tx, journey, row)?;
+    write_item(tx, numbers, journey, item)?;
+    Ok(())
+}

@@ -1,0 +1,70 @@
+//! The rows of a batch that is loaded.
+ghost use Rattle.std.specs.Prelude.{◌≡◌, ◌<◌, ◌^◌};
+ghost use Rattle.desk_sql.specs.Calls.{StaysInside, WasOpen, CommitsNothing, LeavesNoMore};
+ghost use Rattle.desk_sql.specs.Stock.{AreApart, puts_cell};
+ghost use Rattle.sql_model.specs.Reading.{stock_row_of};
+ghost use Rattle.sql_writes.specs.Writing.{WritesRows};
+ghost use Rattle.sql_writes.specs.Loads.{MayLoad, WritesCells, load_rows};
+
+use crate::events::{BatchLoaded, Numbers};
+use allotment::{Cell, Held};
+use desk_sql::{CellPlaces, insert_batch, put_cell, update_meta};
+use sqlite::{Alter, Error, Transaction};
+
+/// The places of one cell.
+fn put_places<S: Alter>(tx: &mut Transaction<'_, S>, cell: Cell, held: Held) -> Result<(), Error>
+    ensures same_reference { tx.new.conn.ghost_name ≡ tx.old.conn.ghost_name }
+    ensures made { WritesRows S.Store tx.old.conn.now tx.new.conn.now AreApart result
+        (puts_cell (stock_row_of (cell, held))) }
+    ensures live { WasOpen S.Store tx.old.conn.now tx.new.conn.now result }
+    ensures inside { StaysInside S.Store tx.old.conn.now tx.new.conn.now result }
+    ensures commit { CommitsNothing S.Store tx.old.conn.now tx.new.conn.now }
+    ensures survives { LeavesNoMore S.Store tx.old.conn.now tx.new.conn.now }
+{
+    let supplier = cell.supplier();
+    let product = cell.product();
+    let places = CellPlaces {
+        kind: u64::from(cell.kind().number()),
+        supplier: supplier.as_str(),
+        product: product.as_str(),
+        night: u64::from(cell.night().day()),
+        allot: u64::from(held.allot),
+        free: u64::from(held.free),
+    };
+    put_cell(tx, places)?;
+    Ok(())
+}
+
+/// The places of all cells of a batch, one after another.
+fn put_all<S: Alter>(tx: &mut Transaction<'_, S>, cells: &[(Cell, Held)]) -> Result<(), Error>
+    ensures same_reference { tx.new.conn.ghost_name ≡ tx.old.conn.ghost_name }
+    ensures made { WritesCells S.Store tx.old.conn.now tx.new.conn.now result cells.now }
+    ensures inside { StaysInside S.Store tx.old.conn.now tx.new.conn.now result }
+    ensures commit { CommitsNothing S.Store tx.old.conn.now tx.new.conn.now }
+    ensures survives { LeavesNoMore S.Store tx.old.conn.now tx.new.conn.now }
+{
+    for (cell, held) in cells {
+        put_places(tx, *cell, *held)?;
+    }
+    Ok(())
+}
+
+/// The rows of a batch that is loaded: its own, and those of its cells.
+pub fn write_load<S: Alter>(
+    tx: &mut Transaction<'_, S>,
+    numbers: Numbers,
+    batch: BatchLoaded<'_>,
+) -> Result<(), Error>
+    ensures same_reference { tx.new.conn.ghost_name ≡ tx.old.conn.ghost_name }
+    ensures made { WritesRows S.Store tx.old.conn.now tx.new.conn.now MayLoad result
+        (load_rows numbers batch.entry) }
+    ensures live { WasOpen S.Store tx.old.conn.now tx.new.conn.now result }
+    ensures inside { StaysInside S.Store tx.old.conn.now tx.new.conn.now result }
+    ensures commit { CommitsNothing S.Store tx.old.conn.now tx.new.conn.now }
+    ensures survives { LeavesNoMore S.Store tx.old.conn.now tx.new.conn.now }
+{
+    insert_batch(tx, batch.name, numbers.num, batch.content.as_bytes())?;
+    put_all(tx, batch.cells)?;
+    update_meta(tx, 2, numbers.num, numbers.journeys)?;
+    Ok(())
+}

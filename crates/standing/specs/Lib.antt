@@ -1,5 +1,0 @@
-pub mod Called
-pub mod Standing
-pub mod Beginning
-pub mod Reading
-pub mod Keeping

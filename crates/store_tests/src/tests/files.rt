@@ -1,0 +1,126 @@
+//! The desk's tables in files, which are opened, used and closed again. The store over files is named here alone: the
+//! proof of each function that passes it on opens its whole layout, and takes a minute or more. What tests do with it
+//! is a `Session`, which is proved once, for any store.
+ghost use Rattle.std.specs.Prelude.{◌≡◌, false, None, IsTrue, IfOk};
+ghost use Rattle.sqlite_disk.specs.Memory.{memory_is_usable};
+
+use sqlite::{Alter, Connection, Error, FileStore, Files, Options};
+use sqlite_disk::{Disk, Fuse, Memory};
+use std::alloc::Global;
+use std::io;
+use std::process::Abort;
+use std::test::Fail;
+
+/// What a test does between the opening of a database and its closing.
+pub trait Session {
+    /// Uses the connection, and returns it.
+    fn run<S: Alter + Drop, R: Abort>(
+        &mut self,
+        rt: &R,
+        alloc: Global,
+        conn: Connection<S>,
+    ) -> Result<Connection<S>, Fail>
+        requires outside { conn.in_transaction ≡ false }
+        requires unlimited { conn.step_limit ≡ None };
+}
+
+/// A disk with these bytes, on which nothing waits to be synced.
+pub fn disk_of(alloc: Global, bytes: &[u8]) -> io::Result<Memory>
+    ensures { IfOk result (λ m. IsTrue (memory_is_usable m)) }
+{
+    let mut disk = Memory::new(alloc);
+    disk.write_at(0, bytes)?;
+    disk.sync()?;
+    Ok(disk)
+}
+
+/// A connection over a log and a database file.
+fn over_files(alloc: Global, files: Files<Memory>) -> Result<Connection<FileStore<Memory>>, Error>
+    requires log { IsTrue (memory_is_usable files.log) }
+    requires db { IsTrue (memory_is_usable files.db) }
+
+    ensures outside { IfOk result (λ c. c.in_transaction ≡ false) }
+    ensures unlimited { IfOk result (λ c. c.step_limit ≡ None) }
+{
+    match Connection::open_files(alloc, files, Options::new(1)) {
+        Ok(conn) => Ok(conn),
+        Err((error, _)) => Err(error),
+    }
+}
+
+/// The database file of a connection, which is closed.
+fn close(conn: Connection<FileStore<Memory>>) -> Result<Memory, Error>
+    ensures { IfOk result (λ db. IsTrue (memory_is_usable db)) }
+{
+    match conn.close_files() {
+        Ok(Files { log: _, db }) => Ok(db),
+        Err(failed) => Err(failed.0),
+    }
+}
+
+/// The files of a database that is not open.
+#[derive(Drop)]
+pub struct ClosedFile {
+    log: Memory,
+    db: Memory,
+    ghost log_usable: { IsTrue (memory_is_usable log) },
+    ghost usable: { IsTrue (memory_is_usable db) },
+}
+
+impl ClosedFile {
+    /// A file without a byte.
+    pub fn new(alloc: Global) -> ClosedFile {
+        ClosedFile {
+            log: Memory::new(alloc),
+            db: Memory::new(alloc),
+        }
+    }
+
+    /// The files after a crash.
+    pub fn left(log: Memory, db: Memory) -> ClosedFile
+        requires log { IsTrue (memory_is_usable log) }
+        requires db { IsTrue (memory_is_usable db) }
+    {
+        ClosedFile { log, db }
+    }
+
+    /// The bytes of the database.
+    pub fn bytes(&self) -> &[u8] {
+        self.db.bytes()
+    }
+
+    /// Opens the files for a session, and closes them.
+    pub fn open_for<T: Session>(
+        self,
+        rt: &impl Abort,
+        alloc: Global,
+        session: &mut T,
+    ) -> Result<ClosedFile, Fail> {
+        let files = Files {
+            log: self.log,
+            db: self.db,
+        };
+        let conn = session.run(rt, alloc, over_files(alloc, files)?)?;
+        let db = close(conn)?;
+        Ok(ClosedFile {
+            log: Memory::new(alloc),
+            db,
+        })
+    }
+}
+
+/// Opens files that may fail for a session, if they open. Returns the files as they were left; nothing closes them.
+pub fn open_failing<T: Session>(
+    rt: &impl Abort,
+    alloc: Global,
+    files: Files<Fuse<Memory>>,
+    session: &mut T,
+) -> Result<Files<Fuse<Memory>>, Fail> {
+    if !files.log.may_be_used() || !files.db.may_be_used() {
+        return Ok(files);
+    }
+    match Connection::open_files(alloc, files, Options::new(1)) {
+        Ok(conn) => Ok(session.run(rt, alloc, conn)?.into_store().close()),
+        Err((_, left)) => Ok(left.into_files()),
+    }
+}

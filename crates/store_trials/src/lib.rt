@@ -1,6 +1,0 @@
-//! Tests of the desk over tables: what it opens and shows, what agents are answered, and stores that fail at any call and
-//! are opened again.
-#![tactic(auto)]
-
-#[cfg(test)]
-mod tests;

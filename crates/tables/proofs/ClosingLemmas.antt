@@ -1,0 +1,31 @@
+-- What a connection stands for when it is let go: its limit of steps counts for nothing. For both `into_store`.
+use Rattle.std.proofs.Common.{inl}
+use Rattle.std.specs.Prelude.{None}
+use Rattle.sqlite.specs.Store.{Ghosts}
+use Rattle.sqlite.specs.Held.{Held, state}
+use Rattle.desk_sql.specs.declared.versions.Version.{Version}
+use Rattle.desk_sql.specs.declared.versions.Version.TheVariants.{One, Two}
+use Rattle.ledger.specs.Answer.{State}
+use Rattle.tables.specs.Keeping.{SeesOf, IsKeptIn, IsFound}
+
+module _ {S : Type 0} (g : Ghosts S) (h : Held S) where
+  -- the connection without its limit
+  abbrev pub unlimited : Held S
+  unlimited = record h { step_limit = None }
+
+  still_seen : (v : Version) (s : State) → SeesOf v (state g h) s → SeesOf v (state g unlimited) s
+  still_seen v s saw = record {
+    schema = saw.schema;
+    sound = saw.sound;
+    committed = saw.committed;
+    tables = saw.tables;
+    shown = saw.shown;
+    stands = saw.stands;
+  }
+
+  -- what is kept is found
+  pub kept_found : (v : Version) (s : State) → IsKeptIn v (state g h) s → IsFound v (state g unlimited) s
+  kept_found One s kept =
+      record { sees = λ live. still_seen One s (kept.sees live); leaves = kept.leaves }
+  kept_found Two s kept =
+      record { sees = λ live. inl (still_seen Two s (kept.sees live)); leaves = kept.leaves }

@@ -1,8 +1,0 @@
--- So far the text is that of the first rows.
-use Rattle.std.proofs.Common.{◌≡◌, take}
-use Rattle.std.specs.Prelude.{string_bytes}
-use Rattle.standing.specs.Called.{batch_text}
-use Rattle.tables.proofs.loading.content_of.Given as goal
-
-abbrev pub invariant-loop-row : goal.invariant-loop-row
-invariant-loop-row l = string_bytes l.content ≡ batch_text (take l.row-index l.rows)

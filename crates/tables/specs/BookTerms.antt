@@ -1,0 +1,62 @@
+-- What a book over tables answers, keeps and leaves: the words of every book, at its fields.
+use Rattle.std.specs.Prelude.{◌≡◌, ℕ, Option, Result}
+use Rattle.std.specs.Borrow.{Bor}
+use Rattle.std.specs.Option.{option_copied}
+use Rattle.sqlite.specs.Store.{Ghosts}
+use Rattle.sqlite.specs.Held.{state}
+use Rattle.sqlite.specs.State.{HasCleanDisk}
+use Rattle.commands.specs.Asks.{Asked}
+use Rattle.commands.specs.Request.{Request}
+use Rattle.commands.specs.declared.faults.Fault.{Fault}
+use Rattle.commands.specs.declared.replies.Reply.{Reply}
+use Rattle.ledger.specs.Answer.{State}
+use Rattle.saga_core.specs.Books as books
+use Rattle.saga_core.specs.Views.{first_unfinished}
+use Rattle.saga_core.specs.declared.records.Brief.{Brief}
+use Rattle.tables.specs.Keeping.{Stands, MayLeave}
+use Rattle.tables.specs.declared.books.TableBook.{TableBook}
+
+module _ {S : Type 0} (g : Ghosts S) where
+  -- the book stands for this state
+  abbrev pub StandsBook : TableBook S g → State → Type 0
+  StandsBook b s = Stands b.failed b.finished (state g b.conn) s
+
+  -- whatever a crash leaves of the book stands for one of these two
+  abbrev pub LeavesBook : TableBook S g → State → State → Type 0
+  LeavesBook b s t = MayLeave (state g b.conn) s t
+
+  module _ (old new : TableBook S g) where
+    -- the first unfinished journey above a number is shown
+    abbrev pub ShowsFirst : ℕ → Result (Option Brief) Fault → Type 0
+    ShowsFirst after result =
+        HasCleanDisk (state g new.conn)
+        → books.Shows (StandsBook old) (λ s found. found ≡ first_unfinished s.ledger after) result
+
+    -- unless the store failed, the book stands for what it stood for
+    abbrev pub KeepsKnowing : {V : Type 0} → Result V Fault → Type 0
+    KeepsKnowing result =
+        HasCleanDisk (state g new.conn) → books.Keeps (StandsBook old) (StandsBook new) result
+
+    abbrev pub Answers : Option (Bor Asked) → Request → Result Reply Fault → Type 0
+    Answers ask asked result =
+        HasCleanDisk (state g new.conn)
+        → books.Replies (StandsBook old) (option_copied ask) asked result
+
+    abbrev pub MovesOn : Option (Bor Asked) → Request → Result Reply Fault → Type 0
+    MovesOn ask asked result =
+        HasCleanDisk (state g new.conn)
+        → books.MovesOn (StandsBook old) (StandsBook new) (option_copied ask) asked result
+
+    abbrev pub KeepsAtMemory : Result Reply Fault → Type 0
+    KeepsAtMemory result =
+        HasCleanDisk (state g new.conn)
+        → books.KeepsAtMemory (StandsBook old) (StandsBook new) result
+
+    abbrev pub LeavesAtStore : Option (Bor Asked) → Request → Result Reply Fault → Type 0
+    LeavesAtStore ask asked result =
+        HasCleanDisk (state g new.conn)
+        → books.LeavesAtStore (StandsBook old) (MayLeave (state g new.conn))
+        (option_copied ask) asked result
+
+    abbrev pub LeavesNoMore : Type 0
+    LeavesNoMore = books.LeavesNoMore (MayLeave (state g old.conn)) (MayLeave (state g new.conn))

@@ -1,0 +1,48 @@
+-- What was opened, what it keeps, and what becomes of it where rows are handed out.
+use Rattle.std.specs.Prelude.{◌≡◌, Result, refl}
+use Rattle.std.specs.Borrow.{Fml, GName, MutBor, RattleType, RestsIfErr}
+use Rattle.std.proofs.Common.{◌∙◌}
+use Rattle.sqlite.specs.Store.{Ghosts}
+use Rattle.sqlite.specs.Held.{state}
+use Rattle.ledger.specs.Answer.{State}
+use Rattle.sql_reads.specs.RemainingRows.{IsLeftAsItWas, left_alone, left_twice}
+use Rattle.tables.specs.Keeping.{KeepsIn}
+use Rattle.tables.specs.declared.opening.Opened.{Opened}
+use Rattle.tables.specs.contracts.opening.Opened as opened
+
+module _ {S : Type 0} (g : Ghosts S) where
+  -- what was opened keeps the state, in tables of its version
+  abbrev pub OpenedKeeps : Opened S → State → Type 0
+  OpenedKeeps o s = KeepsIn o.version (state g o.conn) s
+
+  -- what was opened was only read
+  pub record IsOnlyRead (old new : Opened S) : Type 0 where
+    pub version : new.version ≡ old.version
+    pub left : IsLeftAsItWas g old.conn new.conn
+
+  -- the reference is the same, and what was opened was only read
+  pub record StaysUnder (a b : MutBor (Opened S)) : Type 0 where
+    pub same_reference : b.ghost_name ≡ a.ghost_name
+    pub read : IsOnlyRead a.now b.now
+
+module _ (S : RattleType) (g : Ghosts S.Denot) where
+  -- where rows cannot begin to be handed out what was opened was only read; else it is that which the rows hold
+  abbrev pub LeavesIfErr : {X E : Type 0} → (X → GName) → MutBor (Opened S.Denot) → Result X E → Fml
+  LeavesIfErr name o r = RestsIfErr (opened.the_row S g) o name r (λ last. IsOnlyRead g o.now last)
+
+-- it stays so where nothing is handed out, and from one row to the next
+pub stays_alone : {S : Type 0} {g : Ghosts S} (a : MutBor (Opened S)) → StaysUnder g a a
+stays_alone {S} {g} a = record {
+  same_reference = refl;
+  read = record { version = refl; left = left_alone g a.now.conn };
+}
+
+pub stays_twice : {S : Type 0} {g : Ghosts S} (a b c : MutBor (Opened S))
+    → StaysUnder g a b → StaysUnder g b c → StaysUnder g a c
+stays_twice {S} {g} a b c one two = record {
+  same_reference = two.same_reference ∙ one.same_reference;
+  read = record {
+    version = two.read.version ∙ one.read.version;
+    left = left_twice g a.now.conn b.now.conn c.now.conn one.read.left two.read.left;
+  };
+}

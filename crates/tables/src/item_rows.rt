@@ -1,0 +1,85 @@
+//! The items of a journey, oldest first, handed out one at a time.
+//!
+//! The rows hold what was opened by a loan, and ask it for each item by itself. Once they are let go what was opened is
+//! known again: it was only read, also where the rows could not begin.
+
+ghost use Rattle.std.specs.Prelude.{◌≡◌, IfOk};
+ghost use Rattle.sqlite.specs.Held.{state};
+ghost use Rattle.sqlite.specs.State.{HasCleanDisk};
+ghost use Rattle.sql_reads.specs.RemainingRows.{ItemsRest};
+
+use crate::opening::Opened;
+use commands::{Fault, Item};
+use saga_core::RowSource;
+use sql_reads::{ItemCursor, item_cursor};
+use sqlite::Alter;
+
+/// The items of a journey that are still to come. After a fault every call is a fault of the store.
+#[derive(Drop)]
+pub struct ItemRows<'c, S: Alter> {
+    opened: &'c mut Opened<S>,
+    cursor: ItemCursor,
+}
+
+impl<S: Alter> Opened<S> {
+    ghost use Rattle.std.specs.Borrow.{sem};
+    ghost use Rattle.ledger.specs.Ledger.{history};
+    ghost use Rattle.sql_reads.specs.RemainingRows.{BeginsKept};
+    ghost use Rattle.tables.specs.Lending.{IsOnlyRead, LeavesIfErr};
+
+    /// Before the first item of the journey of that number.
+    fn begin_items(&mut self, id: u64) -> Result<ItemCursor, Fault>
+        ensures rows { IfOk result (λ it. BeginsKept S.Store self.old.conn self.new.conn
+            self.old.version (λ s items. items ≡ history s.ledger id)
+            (ItemsRest S.Store self.new.conn it)) }
+        ensures none { IfOk result (λ it. it.given ≡ 0) }
+        ensures kept { IsOnlyRead S.Store self.old self.new }
+    {
+        if !self.is_outside() {
+            return Err(Fault::Store);
+        }
+        item_cursor(&mut self.conn, self.version, id)
+    }
+
+    /// The items of the journey of that number, oldest first; none where it is absent. Each is asked for by itself, and the
+    /// store looks from the beginning of the journey to its last item, or to the end where it is not finished.
+    pub fn item_rows<'c>(&'c mut self, id: u64) -> Result<ItemRows<'c, S>, Fault>
+        ensures* fault { sem 𝓛 (LeavesIfErr S.row S.Store
+            (λ it. it.opened.ghost_name) self.entry result) }
+        ensures same_reference { IfOk result (λ it.
+            it.opened.ghost_name ≡ self.entry.ghost_name) }
+        ensures rows { IfOk result (λ it. BeginsKept S.Store self.old.conn it.opened.now.conn
+            self.old.version (λ s items. items ≡ history s.ledger id)
+            (⟦<ItemRows<'c, S> as RowSource<Item>>⟧.rests it)) }
+        ensures none { IfOk result (λ it. ⟦<ItemRows<'c, S> as RowSource<Item>>⟧.given it ≡ 0) }
+        ensures kept { IfOk result (λ it. IsOnlyRead S.Store self.old it.opened.now) }
+    {
+        match self.begin_items(id) {
+            Ok(cursor) => Ok(ItemRows {
+                opened: self,
+                cursor,
+            }),
+            Err(fault) => Err(fault),
+        }
+    }
+}
+
+impl<S: Alter> RowSource<Item> for ItemRows<'_, S> {
+    ghost use Rattle.tables.specs.Lending.{StaysUnder, stays_alone, stays_twice};
+
+    ghost is_sound = { λ s. HasCleanDisk (state S.Store s.opened.now.conn) };
+
+    ghost rests = { λ s items. ItemsRest S.Store s.opened.now.conn s.cursor items };
+
+    ghost given = { λ s. s.cursor.given };
+
+    ghost becomes = { λ a b. StaysUnder S.Store a.opened b.opened };
+
+    ghost stays = { λ s. stays_alone s.opened };
+
+    ghost joins = { λ a b c. stays_twice a.opened b.opened c.opened };
+
+    fn next_row(&mut self) -> Result<Option<Item>, Fault> {
+        self.cursor.next_item(&mut self.opened.conn)
+    }
+}

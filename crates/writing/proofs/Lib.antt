@@ -1,4 +1,0 @@
-pub mod Chaining
-pub mod CommitLemmas
-pub mod LoadLemmas
-pub mod Batches

@@ -1,4 +1,0 @@
-pub mod Writing
-pub mod Events
-pub mod Kinds
-pub mod Loads

@@ -1,0 +1,159 @@
+"""Runs the desk with its words, its lines or its requests, for the scripts that try it beside hostile files."""
+import os
+import signal
+import socket
+import subprocess
+
+DESK = os.environ["DESK"]
+PATIENCE = float(os.environ.get("PATIENCE", "60"))
+NAMED_FAULTS = {
+    f"fault {number} {name}\n"
+    for number, name in [
+        (17, "Memory"), (18, "Store"), (21, "Store"), (22, "Memory"),
+        (24, "Read"), (25, "Write"), (26, "File"), (27, "Net"),
+    ]
+}
+
+
+class Ended:
+    """How a run ended: its status, its output and its standard error."""
+
+    def __init__(self, status, out, err):
+        self.status, self.out, self.err = status, out.decode("utf-8", "replace"), err.decode("utf-8", "replace")
+
+    def fault(self):
+        """The fault that it named, where it ended by one."""
+        return self.err.strip() if self.status == 1 and self.err in NAMED_FAULTS else ""
+
+    def is_refused(self):
+        """Whether it ended by a refusal, which its last line says."""
+        return self.status == 1 and not self.err and self.out.rstrip("\n").split("\n")[-1].startswith("refused ")
+
+    def is_orderly(self):
+        """Whether it did its work, or said by name why not."""
+        return (self.status == 0 and not self.err) or self.fault() != "" or self.is_refused()
+
+    def __str__(self):
+        return f"status {self.status}, output {self.out!r}, standard error {self.err!r}"
+
+
+def desk(*words, lines="", env=None, folder=None):
+    """One run of the program, to its end. One that does not end has the status 'hang'."""
+    try:
+        done = subprocess.run(
+            [DESK, *words], input=lines.encode(), capture_output=True, cwd=folder, timeout=PATIENCE,
+            env={**os.environ, **env} if env else None, check=False,
+        )
+    except subprocess.TimeoutExpired as late:
+        return Ended("hang", late.stdout or b"", late.stderr or b"")
+    return Ended(done.returncode, done.stdout, done.stderr)
+
+
+class Lines:
+    """The program at its lines, which are asked one by one, so that it can be killed between two of them."""
+
+    def __init__(self, file, env=None, folder=None):
+        self.process = subprocess.Popen(
+            [DESK, "run", file], stdin=subprocess.PIPE, stdout=subprocess.PIPE, stderr=subprocess.DEVNULL,
+            env={**os.environ, **(env or {})}, cwd=folder,
+        )
+
+    def ask(self, line):
+        self.process.stdin.write(line.encode() + b"\n")
+        self.process.stdin.flush()
+        return self.process.stdout.readline().decode().rstrip("\n")
+
+    def kill(self):
+        self.process.send_signal(signal.SIGKILL)
+        self.process.stdin.close()
+        self.process.stdout.close()
+        self.process.wait()
+
+
+def free_port():
+    with socket.socket() as probe:
+        probe.bind(("127.0.0.1", 0))
+        return probe.getsockname()[1]
+
+
+class Server:
+    """The program at its port, for so many connections; a port that was taken meanwhile is tried again."""
+
+    def __init__(self, file, connections=1, env=None, folder=None):
+        for _ in range(3):
+            self.port = free_port()
+            self.process = subprocess.Popen(
+                [DESK, "serve", file, "--port", str(self.port), "--connections", str(connections)],
+                stdin=subprocess.DEVNULL, stdout=subprocess.PIPE, stderr=subprocess.PIPE,
+                env={**os.environ, **(env or {})}, cwd=folder,
+            )
+            self.said = self.process.stdout.readline()
+            if self.said or (env and "FAIL" in env):
+                return
+            self.process.communicate()
+
+    def end(self):
+        """Waits until it ends by itself."""
+        try:
+            out, err = self.process.communicate(timeout=PATIENCE)
+        except subprocess.TimeoutExpired:
+            self.process.kill()
+            out, err = self.process.communicate()
+            return Ended("hang", self.said + out, err)
+        return Ended(self.process.returncode, self.said + out, err)
+
+    def kill(self):
+        self.process.send_signal(signal.SIGKILL)
+        self.process.communicate()
+
+
+def request(method, path, key="", body=b""):
+    """The bytes of a request of ann's."""
+    fields = ["Host: d", "Desk-Agent: ann"]
+    if key:
+        fields += [f"Desk-Key: {key}", f"Content-Length: {len(body)}"]
+    return "\r\n".join([f"{method} {path} HTTP/1.1", *fields, "", ""]).encode() + body
+
+
+class Client:
+    """A connection to the desk."""
+
+    def __init__(self, port):
+        self.stream = socket.create_connection(("127.0.0.1", port), PATIENCE)
+        self.rest = b""
+
+    def ask(self, message):
+        """The page that answers this request, or what came of it where the connection ended before."""
+        try:
+            self.stream.sendall(message)
+            while not is_whole(self.rest):
+                piece = self.stream.recv(65536)
+                if not piece:
+                    break
+                self.rest += piece
+        except OSError:
+            pass
+        page, self.rest = self.rest[: page_size(self.rest)], self.rest[page_size(self.rest) :]
+        return page
+
+    def close(self):
+        self.stream.close()
+
+
+def page_size(text):
+    """How many bytes the first page of these has, all of them where it is not whole."""
+    head, end, _ = text.partition(b"\r\n\r\n")
+    for field in head.split(b"\r\n") if end else []:
+        name, _, value = field.partition(b":")
+        if name.lower() == b"content-length":
+            return min(len(text), len(head) + 4 + int(value))
+    return len(text)
+
+
+def is_whole(text):
+    """Whether a whole page begins these bytes."""
+    head, end, rest = text.partition(b"\r\n\r\n")
+    if not end:
+        return False
+    sizes = [int(f.partition(b":")[2]) for f in head.split(b"\r\n") if f.lower().startswith(b"content-length:")]
+    return bool(sizes) and len(rest) >= sizes[0]

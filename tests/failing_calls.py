@@ -1,0 +1,247 @@
+"""Failing calls. Each call that a run of the desk makes on its files and streams fails, one at a time, with an error of the
+disk; then a second one after it, or all later ones; and then a call of the next opening. The run ends with its usual
+answers, or names a fault. What it leaves is the ledger of what was answered, or that with one whole event more.
+
+failing_calls.py CALLS.so MORE EACH [SEED]    after each failure so many second ones; of the calls only each EACH-th, from
+                                              one that chance chooses on
+"""
+import collections
+import errno
+import os
+import random
+import sys
+
+from driving import Client, Lines, Server, desk, is_whole
+from scenes import FIRST, JUNE, PLANS, SECOND, http_requests
+from shown import Events, Migration, Shown, lay, look, old_file, read_files
+
+ERRORS = (errno.EIO, errno.ENOSPC)
+FAILED = "failed"
+THEN = (1, 2, 3, 4, 6, 9, "all")
+
+
+class Scene:
+    """One run of the desk over a disk, and what it does where no call fails."""
+
+    def __init__(self, name, start, measure=None):
+        self.name, self.start, self.pages, self.usual = name, start, [], None
+        self.measure = measure or (lambda tables: tables["meta"][0][2] if tables else 0)
+        self.first = self.last = self.measure(look(start))
+        self.usual = self.run({})
+        self.folder = f"usual-{name.replace(' ', '-')}"
+        lay(read_files("cut"), self.folder)
+        self.last = self.measure(look(read_files(self.folder)))
+
+    def run(self, env):
+        """Runs it over its disk, as it was."""
+        lay(self.start)
+        if os.path.exists(FAILED):
+            os.remove(FAILED)
+        return self.drive(env)
+
+    def drive(self, env):
+        return desk(*self.words, env=env)
+
+    def bounds(self, ended):
+        """After how many events the disk may be, at least and at most."""
+        return (self.last if ended.status == 0 else self.first), self.last
+
+    def fault(self, ended):
+        """What is wrong with how it ended."""
+        if not (ended.status == 0 and not ended.err) and not ended.fault():
+            return str(ended)
+        is_right = ended.out == self.usual.out if ended.status == 0 else self.usual.out.startswith(ended.out)
+        return "" if is_right else str(ended)
+
+
+class WordScene(Scene):
+    """One call with words, of which the answer comes at the end."""
+
+    def __init__(self, name, start, *words, measure=None):
+        self.words = words
+        super().__init__(name, start, measure)
+        assert self.usual.status == 0, str(self.usual)
+
+
+class LineScene(Scene):
+    """Lines."""
+
+    def __init__(self, name, start, lines):
+        self.lines = lines
+        super().__init__(name, start)
+        self.made = [int(not line.startswith("refused")) for line in self.usual.out.splitlines()]
+        assert len(self.made) == len(lines), str(self.usual)
+
+    def drive(self, env):
+        return desk("run", "cut/trips.db", lines="\n".join(self.lines) + "\n", env=env)
+
+    def bounds(self, ended):
+        count = ended.out.count("\n")
+        least = self.last - sum(self.made[count:]) if count else self.first
+        return least, self.last - sum(self.made[count + 1 :])
+
+
+class ServeScene(Scene):
+    """Requests with keys, over two connections, of which the second sends all again."""
+
+    def __init__(self, name, start, requests):
+        self.requests, self.got = requests, []
+        super().__init__(name, start)
+        self.expected = self.got
+        half = self.expected[: len(requests)]
+        self.made = [page.startswith(b"HTTP/1.1 200") and page not in half[:n] for n, page in enumerate(half)]
+        self.pages = [(requests, half)]
+
+    def drive(self, env):
+        server = Server("cut/trips.db", connections=2, env=env)
+        self.got = []
+        for _ in range(2 if server.said else 0):
+            try:
+                client = Client(server.port)
+            except OSError:
+                break
+            self.got += [client.ask(message) for message in self.requests]
+            client.close()
+        ended = server.end()
+        ended.out = "ready\n" if ended.out == f"ready {server.port}\n" else ended.out
+        return ended
+
+    def bounds(self, ended):
+        """A request was answered where a page came in either connection; after a fault the next one may be done too."""
+        count = len(self.requests)
+        pages = {n % count for n, page in enumerate(self.got) if is_whole(page)}
+        made = [n for n, is_made in enumerate(self.made) if is_made]
+        answered = sum(1 for n in made if n in pages)
+        base = self.last - len(made)
+        least = base + answered if ended.out else self.first
+        return least, min(base + answered + 1, self.last) if ended.out else base
+
+    def fault(self, ended):
+        """Each whole page is one that comes to this request without failures."""
+        count = len(self.requests)
+        for n, page in enumerate(self.got):
+            if is_whole(page) and page not in (self.expected[n % count], self.expected[n % count + count]):
+                return f"request {n + 1}: {page}"
+        if (ended.status == 0 and not ended.err and ended.out) or ended.fault():
+            return ""
+        return str(ended)
+
+
+class Trial:
+    """Makes each call of a scene fail, and looks at what is left."""
+
+    def __init__(self, scene, book, chance, library):
+        self.scene, self.chance, self.shown = scene, chance, Shown(book, chance)
+        self.library = {"LD_PRELOAD": library}
+        self.ends, self.names, self.wrong, self.calls = collections.Counter(), collections.Counter(), [], set()
+
+    def fails(self, **env):
+        """One run in which these calls fail; says whether there was such a call."""
+        ended = self.scene.run({**self.library, **{name: str(value) for name, value in env.items()}})
+        if not os.path.exists(FAILED):
+            return False
+        with open(FAILED, encoding="ascii") as file:
+            names = file.read().split()
+        self.names[names[0]] += 1
+        self.ends[ended.fault() or f"status {ended.status}"] += 1
+        what = f"{self.scene.name}, {' '.join(f'{n}={v}' for n, v in env.items())} ({' '.join(names[:3])})"
+        fault = self.scene.fault(ended)
+        if fault:
+            self.wrong.append(f"{what}: {fault}")
+        self.judge(read_files("cut"), *self.scene.bounds(ended), what)
+        return True
+
+    def judge(self, files, least, most, what):
+        """What is left is after least to most events, and goes on; after a failing opening too."""
+        found, fault = self.shown.verdict(files)
+        if fault or not least <= found <= most:
+            self.wrong.append(f"{what}, opened again: {fault or f'{found} events, expected {least} to {most}'}")
+        elif self.chance.random() < 0.2:
+            lay(files)
+            again = {**self.library, "FAIL": str(self.chance.randrange(1, 120)), "ERROR": str(errno.EIO)}
+            opened = desk("recover", "cut/trips.db", env=again)
+            self.ends["opened again: " + (opened.fault() or f"status {opened.status}")] += 1
+            if not opened.is_orderly():
+                self.wrong.append(f"{what}, recovered with FAIL={again['FAIL']}: {opened}")
+            self.is_kept(read_files("cut"), found, f"{what}, recovered with FAIL={again['FAIL']}")
+
+    def is_kept(self, files, least, what):
+        """After a recovery that may have failed, the desk opens the file, and no event is lost."""
+        tables = look(files)
+        if isinstance(tables, str) or self.scene.measure(tables) < least:
+            self.wrong.append(f"{what}: {tables if isinstance(tables, str) else 'events are lost'}")
+
+    def run(self, more, each):
+        """Each call fails, with each error; then so often a second one after it. Answers how many calls there are."""
+        for error in ERRORS:
+            call = self.chance.randrange(1, each + 1)
+            while self.fails(FAIL=call, ERROR=error) and len(self.wrong) < 10:
+                for _ in range(more):
+                    self.fails(FAIL=call, ERROR=error, THEN=self.chance.choice(THEN))
+                self.calls.add(call)
+                call += each
+
+    def in_pieces(self, size):
+        """With writes, and reads of streams, of so few bytes all is as ever. A page that a read gives in parts is a fault
+        to the library `sqlite`, which loses nothing."""
+        for env in ({"PIECES": str(size)}, {"PARTS": str(size)}):
+            ended = self.scene.run({**self.library, **env})
+            fault = self.scene.fault(ended)
+            if not fault and "PIECES" in env and ended.status != 0:
+                fault = str(ended)
+            found, wrong = self.shown.verdict(read_files("cut"))
+            least, most = self.scene.bounds(ended)
+            if fault or wrong or not least <= found <= most:
+                self.wrong.append(f"{self.scene.name}, {env}: {fault or wrong or found}")
+            self.ends[f"{'pieces' if 'PIECES' in env else 'parts'}: {ended.fault() or ended.status}"] += 1
+
+
+def disks():
+    """The disks that scenes begin with: one that was killed in the midst, so that its log holds events, and one closed."""
+    lay({})
+    assert desk("run", "cut/trips.db", lines="\n".join(FIRST) + "\n").status == 0
+    closed = read_files("cut")
+    assert desk("recover", "cut/trips.db").status == 0
+    open_desk = Lines("cut/trips.db")
+    for line in SECOND[:5]:
+        open_desk.ask(line)
+    open_desk.kill()
+    return closed, read_files("cut")
+
+
+def scenes():
+    """Each scene, with what its disks may show."""
+    closed, killed = disks()
+    with open("june.csv", "w", encoding="ascii") as file:
+        file.write(JUNE)
+    yield LineScene("a first run", {}, FIRST[:6] + ["step 1", "step 01", "step 2"])
+    yield LineScene("a run", killed, [f"begin {PLANS[0]}", "step 6", "step 6", "step 4", "step 06"])
+    yield WordScene("recover", killed, "recover", "cut/trips.db")
+    yield WordScene("load", closed, "load", "cut/trips.db", "june.csv", "--batch", "june")
+    yield ServeScene("serve", closed, http_requests(4))
+    yield WordScene("stock", killed, "stock", "cut/trips.db")
+    yield WordScene("unfinished", closed, "unfinished", "cut/trips.db")
+    yield WordScene("history", killed, "history", "cut/trips.db", "1")
+    yield WordScene("migrate", old_file(closed), "migrate", "cut/trips.db", measure=lambda t: int("mark" in (t or ())))
+
+
+def main():
+    library, more, each = os.path.abspath(sys.argv[1]), int(sys.argv[2]), int(sys.argv[3])
+    chance = random.Random(int(sys.argv[4]) if len(sys.argv) > 4 else 1987)
+    wrong = 0
+    for scene in scenes():
+        book = Migration(scene) if scene.name == "migrate" else Events(scene)
+        trial = Trial(scene, book, chance, library)
+        trial.run(more, each)
+        for size in (7, 509):
+            trial.in_pieces(size)
+        ends = ", ".join(f"{end}: {count}" for end, count in sorted(trial.ends.items()))
+        print(f"{scene.name}: {len(trial.calls)} calls, {sum(trial.names.values())} runs, {len(trial.wrong)} wrong; {ends}")
+        print(f"  what failed first: {', '.join(f'{n} {c}' for n, c in trial.names.most_common())}", flush=True)
+        for text in trial.wrong[:10]:
+            print(f"failing_calls.py: {text}", file=sys.stderr)
+        wrong += len(trial.wrong)
+    sys.exit(1 if wrong else 0)
+
+
+main()

@@ -1,0 +1,284 @@
+"""Power cuts. The calls that runs of the desk make on their files are noted, and after each of them the power may be cut.
+Every disk that a cut may leave is opened again: it shows the ledger of what was answered, or that with the event that was
+under way, and the desk goes on with it.
+
+power_cuts.py CALLS.so DISKS [SEED]    tries about so many disks; says what it found, and ends with 1 where a disk is wrong
+"""
+import collections
+import os
+import random
+import shutil
+import sys
+
+from disks import Disk, Part, notes_in
+from driving import Client, Lines, Server, desk, is_whole, page_size
+from scenes import BUS, FIRST, FLIGHT, JUNE, LARGE, PLANS, SECOND, http_requests
+from shown import Events, Migration, Shown, lay, look, old_file, read_files
+
+KEPT = 100
+EACH = int(os.environ.get("EACH", "1"))
+
+
+class Record:
+    """Runs of the desk in a folder of their own, one after another, with the calls that they made."""
+
+    def __init__(self, name, library, start=None, measure=None):
+        self.name, self.folder, self.library = name, os.path.abspath(f"record-{name}"), library
+        self.sessions, self.pages, self.start = [], [], start or {}
+        self.measure = measure or (lambda tables: tables["meta"][0][2] if tables else 0)
+        lay(self.start, self.folder)
+        self.began = self.count = self.events()
+
+    def path(self, file="trips.db"):
+        return f"{self.folder}/{file}"
+
+    def events(self):
+        """After how many events the files are, as they stand."""
+        return self.measure(look(read_files(self.folder)))
+
+    def session(self, drive):
+        """One session: drive runs the program with this environment, and answers how often each answer made an event."""
+        notes = self.path(f"notes-{len(self.sessions)}")
+        answers = drive({"NOTE": notes, "LD_PRELOAD": self.library})
+        self.count = self.events()
+        first = self.count - sum(answers)
+        self.sessions.append((notes, first, answers))
+
+    def run(self, lines, kill=False):
+        def drive(env):
+            if not kill:
+                said = desk("run", self.path(), lines="\n".join(lines) + "\n", env=env).out.splitlines()
+            else:
+                open_desk = Lines(self.path(), env)
+                said = [open_desk.ask(line) for line in lines]
+                open_desk.kill()
+            assert len(said) == len(lines), said
+            return [int(not line.startswith("refused")) for line in said]
+
+        self.session(drive)
+
+    def words(self, *words, events=0):
+        def drive(env):
+            done = desk(*words, env=env, folder=self.folder)
+            assert done.status == 0, str(done)
+            return [events]
+
+        self.session(drive)
+
+    def load(self, name, rows):
+        with open(self.path(f"{name}.csv"), "w", encoding="utf-8") as out:
+            out.write(rows)
+        self.words("load", self.path(), self.path(f"{name}.csv"), "--batch", name, events=1)
+
+    def serve(self, messages, kill=False):
+        def drive(env):
+            server = Server(self.path(), env=env)
+            client = Client(server.port)
+            pages = [client.ask(message) for message in messages]
+            if kill:
+                server.kill()
+            client.close()
+            if not kill:
+                assert server.end().status == 0
+            self.pages.append((messages, pages))
+            made = [page.startswith(b"HTTP/1.1 200") and page not in pages[:n] for n, page in enumerate(pages)]
+            return [0, *map(int, made)]
+
+        self.session(drive)
+
+
+Cut = collections.namedtuple("Cut", "disk least where is_log_sync")
+
+
+def cuts_of(record, has_syncs=True):
+    """Each moment at which the power may be cut: the disk, and how many events were answered for by then."""
+    disk = Disk(record.start)
+    least = record.began
+    for number, (notes, first, answers) in enumerate(record.sessions):
+        disk.restart()
+        said, answered = b"", 0
+        for place, note in enumerate(notes_in(notes)):
+            is_log_sync = note[0] == "y" and disk.open.get(note[1]) == "trips.db-wal"
+            may_differ = disk.take(note, has_syncs)
+            if note[0] == "s":
+                said += note[3]
+                answered, said = count_answers(answered, said)
+                if answered:
+                    least = first + sum(answers[:answered])
+                may_differ = True
+            if may_differ:
+                yield Cut(disk, least, f"{record.name}, session {number + 1}, after call {place + 1}", is_log_sync)
+
+
+def weight(cut, copying):
+    """How often the power is cut at a moment, beside others: never where all is synced."""
+    file = cut.disk.files.get("trips.db")
+    return (copying if file and file.pending else 1) if cut.disk.pending() else 0
+
+
+def count_answers(answered, said):
+    """How many lines and pages are whole by now, and what comes after the last of them."""
+    while said:
+        if said.startswith(b"HTTP"):
+            if not is_whole(said):
+                break
+            said = said[page_size(said) :]
+        elif b"\n" in said:
+            said = said.split(b"\n", 1)[1]
+        else:
+            break
+        answered += 1
+    return answered, said
+
+
+class Trial:
+    """Tries the disks that cuts of a record may leave."""
+
+    def __init__(self, record, book, chance):
+        self.record, self.chance, self.shown = record, chance, Shown(book, chance)
+        self.cuts, self.left, self.kinds, self.wrong, self.deeper = 0, 0, collections.Counter(), [], []
+
+    def judge(self, files, least, most, what, goes_on=True):
+        """Tries a disk that has to be after least to most events; answers after how many it is."""
+        found, fault = self.shown.verdict(files, goes_on)
+        if fault or not least <= found <= most:
+            self.wrong.append(f"{what}: {fault or f'{found} events, expected {least} to {most}'}")
+        return found
+
+    def run(self, disks, copying=1):
+        """Cuts the power at each moment, so often that about so many disks are tried; where the log is being copied into
+        the file, so many times as often."""
+        share = disks / max(sum(weight(cut, copying) for cut in cuts_of(self.record)), 1)
+        synced = (0, None)
+        for place, cut in enumerate(cuts_of(self.record)):
+            if cut.is_log_sync:
+                synced = (cut.least, cut.disk.whole())
+            if place % EACH:
+                continue
+            self.cuts += 1
+            durable = self.whole(synced[1], synced[0], self.record.count, cut) if synced[1] else 0
+            least = max(cut.least, durable)
+            most = self.whole(cut.disk.whole(), least, least + 1, cut)
+            for _ in range(int(share * weight(cut, copying) * EACH + self.chance.random())):
+                self.cut(cut, least, most)
+
+    def whole(self, files, least, most, cut):
+        """After how many events a disk is that lost nothing."""
+        found = self.judge(files, least, most, f"{cut.where}: nothing lost")
+        return least if found is None else found
+
+    def cut(self, cut, least, most):
+        """One cut at this moment."""
+        kind = self.chance.choice(Part.KINDS)
+        files = cut.disk.cut(Part(kind, self.chance, cut.disk))
+        self.kinds[kind] += 1
+        before = self.shown.tried
+        found = self.judge(files, least, most, f"{cut.where}: cut, {kind}")
+        if self.shown.tried > before and found is not None:
+            self.keep((files, cut.where))
+
+    def keep(self, left):
+        """Keeps some of the disks that were left, each as likely as any other, so that the power is cut there again."""
+        self.left += 1
+        if len(self.deeper) < KEPT:
+            self.deeper.append(left)
+        elif (place := self.chance.randrange(self.left)) < KEPT:
+            self.deeper[place] = left
+
+
+def booking(library):
+    """All that one file lives through: the first opening, lines, reports, a load, a kill, recovery, requests with keys."""
+    record = Record("booking", library)
+    record.run(FIRST)
+    record.words("stock", record.path())
+    record.load("june", JUNE)
+    record.run(SECOND, kill=True)
+    record.words("recover", record.path())
+    record.serve(http_requests(6))
+    record.serve(http_requests(8), kill=True)
+    record.run([f"begin {PLANS[0]}", "step 10", "step 10"])
+    return record
+
+
+def growing(library):
+    """A large load, and so many lines that the log is copied into the file while the desk runs."""
+    record = Record("growing", library)
+    record.load("large", LARGE)
+    lines = [f"set t {FLIGHT} 900", f"set u {BUS} 900"]
+    for n in range(1, 121):
+        lines += [f"begin {FLIGHT}/1/1;{BUS}/1/1!0", f"step {n}"]
+    record.run(lines, kill=True)
+    record.words("unfinished", record.path())
+    return record
+
+
+def migrating(library, start):
+    """The migration of a file of schema 1."""
+    record = Record("migrating", library, start, lambda tables: int("mark" in (tables or ())))
+    record.words("migrate", record.path(), events=1)
+    return record
+
+
+def without_syncs(record, book, chance, count):
+    """How many of so many disks are wrong where the syncs are left out of the record: the check of this trial."""
+    trial = Trial(record, book, chance)
+    moments = [cut for cut in range(sum(1 for _ in cuts_of(record)))]
+    chosen = set(chance.sample(moments, min(count, len(moments))))
+    for place, cut in enumerate(cuts_of(record, has_syncs=False)):
+        if place in chosen:
+            files = cut.disk.cut(Part(chance.choice(("sectors", "calls", "one lost")), chance, cut.disk))
+            trial.judge(files, cut.least, cut.least + 1, cut.where, goes_on=False)
+    return len(trial.wrong), len(chosen)
+
+
+def cut_again(trial, chance, records, disks):
+    """The power is cut again while a disk that a cut left is recovered."""
+    results = []
+    for n, (files, where) in enumerate(chance.sample(trial.deeper, min(records, len(trial.deeper)))):
+        record = Record(f"again-{n}", trial.record.library, files)
+        record.words("recover", record.path())
+        again = Trial(record, Events(record), chance)
+        again.run(disks)
+        again.wrong = [f"{where}, and {text}" for text in again.wrong]
+        results.append(again)
+        shutil.rmtree(record.folder)
+    return results
+
+
+def tell(name, trials):
+    """Says what was tried, and of what is wrong the first."""
+    kinds = sum((trial.kinds for trial in trials), collections.Counter())
+    wrong = [text for trial in trials for text in trial.wrong]
+    tried, cuts = sum(t.shown.tried for t in trials), sum(t.cuts for t in trials)
+    print(f"{name}: {cuts} moments, {sum(kinds.values())} cuts, {tried} disks, {len(wrong)} wrong", flush=True)
+    for text in wrong[:10]:
+        print(f"power_cuts.py: {text}", file=sys.stderr)
+    return len(wrong)
+
+
+def main():
+    library, disks = os.path.abspath(sys.argv[1]), int(sys.argv[2])
+    chance = random.Random(int(sys.argv[3]) if len(sys.argv) > 3 else 1987)
+    record = booking(library)
+    book = Events(record)
+    trial = Trial(record, book, chance)
+    trial.run(disks * 6 // 10)
+    wrong = tell("a file's life", [trial])
+    wrong += tell("cut again while recovered", cut_again(trial, chance, max(2, disks // 400), disks // 50))
+    grown = growing(library)
+    trial = Trial(grown, Events(grown), chance)
+    trial.run(disks // 10, copying=20)
+    wrong += tell("a log that is copied on the way", [trial])
+    moved = migrating(library, old_file(read_files(record.folder)))
+    trial = Trial(moved, Migration(moved), chance)
+    trial.run(disks // 10)
+    wrong += tell("a migration", [trial])
+    bad, all_disks = without_syncs(record, book, chance, max(20, disks // 10))
+    print(f"without the syncs: {all_disks} disks, {bad} wrong")
+    if bad * 3 < all_disks:
+        print("power_cuts.py: without the syncs too few disks are wrong, so this trial finds nothing", file=sys.stderr)
+        wrong += 1
+    sys.exit(1 if wrong else 0)
+
+
+main()
