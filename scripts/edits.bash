@@ -1,10 +1,14 @@
 # Which edits the gate tries: bodies that the prover must refuse, in crates/NAME/must-fail. For scripts that have set top
 # and say, and have read crates.bash.
 #
-# Whether an edit is refused depends on nothing but the sources of its crate, of those below, and the toolchain. So all
+# Whether an edit is refused depends on nothing but the sources of its crate, of those below, and the toolchain. So the
 # edits of a crate are tried where any of these has changed since a revision, and of the others every fourth, by turns of
-# a day. An edit that has itself changed is tried too.
+# a day, as far as edit_minutes go: first the edits that have changed themselves, then those of a crate with a source
+# that has changed, then those of the crates above, then the others; of each the fourth first whose turn it is, and of this a fourth first.
 : "${top:?the top of the repository}"
+
+# how many minutes of one processor, as docs/minutes.tsv reckons, the edits of a gate may take
+edit_minutes=50
 
 # in_history WORD ..: git over this repository, whoever owns it
 in_history() { git -c safe.directory="$top" -C "$top" "$@"; }
@@ -20,6 +24,12 @@ changed_files() {
     in_history -c core.quotePath=false ls-files --others --exclude-standard -- crates
 }
 
+# changed_edits REVISION: the edits that are not as in the revision, one a line; one that has only moved is
+changed_edits() {
+  in_history -c core.quotePath=false diff -M100% -l0 --diff-filter=AM --name-only "$1" -- 'crates/*.edit' &&
+    in_history -c core.quotePath=false ls-files --others --exclude-standard -- 'crates/*.edit'
+}
+
 # changed_lines REVISION: the crates whose line of crates.txt is not as in the revision
 changed_lines() {
   in_history show "$1:crates.txt" | diff - "$top/crates.txt" | sed -n 's/^[<>] *\([a-z_0-9]\{1,\}\).*:.*$/\1/p'
@@ -30,17 +40,17 @@ is_same_toolchain() {
   in_history show "$1:docs/RUNNING.md" 2>/dev/null | grep -qF "$(rt version)"
 }
 
-# changed_crates REVISION: the crates with a source that has changed since, and all that stand on these; every crate where
-# the toolchain has changed. Fails where the revision is not known.
+# changed_crates REVISION: the crates with a source that has changed since; every crate where the toolchain has changed.
+# Fails where the revision is not known.
 changed_crates() {
   local files lines
   files=$(changed_files "$1") && lines=$(changed_lines "$1") || return 1
-  if ! is_same_toolchain "$1"; then
+  if is_same_toolchain "$1"; then
+    files=$(printf '%s\n' "$files" | sed -n 's,^crates/\([^/]*\)/\(src\|specs\|proofs\)/.*,\1,p')
+    crates_all | grep -xF "${lines:-none}"$'\n'"${files:-none}" || true
+  else
     crates_all
-    return
   fi
-  # shellcheck disable=SC2046,SC2086
-  crates_above $lines $(printf '%s\n' "$files" | sed -n 's,^crates/\([^/]*\)/\(src\|specs\|proofs\)/.*,\1,p' | sort -u)
 }
 
 # all_edits: the edits of all crates, one a line, crate by crate
@@ -51,39 +61,68 @@ all_edits() {
   done
 }
 
-# edits_left_out DAY REVISION CRATES: of the edits on standard input those that are left out on this day, where all edits of
-# CRATES are tried
+# edits_left_out DAY CHANGED CRATES ABOVE: of the edits on standard input those that are left out on this day, where the
+# edits CHANGED have changed, CRATES have a source that has, and ABOVE stand on these
 edits_left_out() {
-  local changed
-  changed=$(changed_files "$2") || return 1
-  whole=$3 changed=$changed awk -v day="$1" '
+  changed=$2 crates=$3 above=$4 awk -v day="$1" -v minutes="$edit_minutes" '
+    function set_of(text, set,    part, i) { for (i = split(text, part, "\n"); i > 0; i--) set[part[i]] = 1 }
     BEGIN {
-      for (i = split(ENVIRON["whole"], name, "\n"); i > 0; i--) is_whole[name[i]] = 1
-      for (i = split(ENVIRON["changed"], file, "\n"); i > 0; i--) is_changed[file[i]] = 1
+      set_of(ENVIRON["changed"], is_changed)
+      set_of(ENVIRON["crates"], has_changed)
+      set_of(ENVIRON["above"], is_above)
     }
-    { split($0, part, "/"); crate = part[2] }
-    crate != last { last = crate; crates++; at = crates }
-    { at++ }
-    !(crate in is_whole) && !($0 in is_changed) && (at + day) % 4 != 0'
+    FILENAME ~ /minutes\.tsv$/ { if (!/^#/) takes[$1] = $4; next }
+    {
+      split($0, part, "/")
+      crate = part[2]
+      if (!(crate in size)) at = ++crates
+      size[crate]++
+      edit[++edits] = $0
+      crate_of[$0] = crate
+      at++
+      turn = (at + day) % 4
+      rank = ($0 in is_changed) ? 0 : (crate in has_changed) ? 1 : (crate in is_above) ? 2 : 3
+      place = 16 * rank + 4 * turn + int((at + day) / 4) % 4
+      if (rank < 3 || turn == 0) queue[place] = queue[place] $0 "\n"
+    }
+    END {
+      for (place = 0; place < 64; place++) {
+        last = split(queue[place], waits, "\n") - 1
+        for (i = 1; i <= last; i++) {
+          crate = crate_of[waits[i]]
+          left = (takes[crate] == "" || takes[crate] == "-") ? 0.2 : takes[crate] / size[crate]
+          if (spent + left > minutes) continue
+          spent += left
+          is_tried[waits[i]] = 1
+        }
+      }
+      for (i = 1; i <= edits; i++) if (!(edit[i] in is_tried)) print edit[i]
+    }' "$top/docs/minutes.tsv" -
 }
 
 # choose_edits REVISION DAY: sets edits to all edits, left_out to those that are left out against this revision on this day,
 # and tried to the others. Says what is left out. Without a revision all are tried.
 choose_edits() {
-  local whole since=$1
+  local since=$1
   edits=$(all_edits)
   left_out=""
-  if [ -n "$since" ] && ! { whole=$(changed_crates "$since") && left_out=$(edits_left_out "$2" "$since" "$whole" <<<"$edits"); }; then
+  if [ -n "$since" ] && ! leave_out "$since" "$2"; then
     say "what has changed since $since cannot be told"
-    since=""
     left_out=""
   fi
   tried=$(grep -vxF "${left_out:-none}" <<<"$edits")
-  if [ -n "$since" ]; then
-    say "compared with $(in_history log -1 --format='%h of %cI' "$since"), sources changed in or below: $(one_line "${whole:-no crate}")"
-  fi
   say "bodies that must be refused: $(count "$tried") of $(count "$edits") are tried"
   [ -z "$left_out" ] || say "left out until their turn: $(by_crate "$left_out"); ./check --all tries all"
+}
+
+# leave_out REVISION DAY: sets left_out for choose_edits, and says which crates have changed
+leave_out() {
+  local changed crates above
+  changed=$(changed_edits "$1") && crates=$(changed_crates "$1") || return 1
+  # shellcheck disable=SC2086
+  above=$(crates_above $crates)
+  left_out=$(edits_left_out "$2" "$changed" "$crates" "$above" <<<"$edits") || return 1
+  say "compared with $(in_history log -1 --format='%h of %cI' "$1"), sources changed in or below: $(one_line "${above:-no crate}")"
 }
 
 # one_line TEXT: its lines as one

@@ -134,9 +134,28 @@ echo "kit 1" >"$FAKE/version"
 . scripts/crates.bash
 . scripts/edits.bash
 for day in 20000 20001 20002 20003; do
-  all_edits | edits_left_out "$day" HEAD ""
+  all_edits | edits_left_out "$day" "" "" ""
 done | sort | uniq -c | awk '{ print $1 }' | uniq -c | awk '{ print $1, $2 }' >"$work/turns"
 same "each edit is left out on three days of four" "40 3" "$(cat "$work/turns")"
+
+# tried_in MINUTES CHANGED CRATES ABOVE: of each crate how many edits are tried where they may take no longer
+tried_in() {
+  edit_minutes=$1
+  all_edits >all
+  edits_left_out 20000 "$2" "$3" "$4" <all | grep -vxF -f - all | cut -d/ -f2 | uniq -c |
+    awk '{ printf "%s%s %d", (NR > 1 ? ", " : ""), $2, $1 }'
+}
+above=$'low\nmid\nhigh\ndesk'
+same "enough minutes" "low 8, mid 8, high 8, other 3, desk 8" "$(tried_in 9 crates/other/must-fail/3.edit low "$above")"
+same "an edit that has changed, and a crate that has" "low 4, other 1" \
+  "$(tried_in 1 crates/other/must-fail/3.edit low "$above")"
+same "the crates above" "low 8, mid 2, high 2, desk 2" "$(tried_in 2.9 '' low "$above")"
+same "no minute" "" "$(tried_in 0 '' low "$above")"
+for day in {20000..20015}; do
+  edit_minutes=0.45
+  all_edits | edits_left_out "$day" "" low "" | grep low
+done | sort | uniq -c | awk '{ print $1 }' | uniq -c | awk '{ print $1, $2 }' >turns
+same "each edit of a crate gets its turn" "8 12" "$(cat turns)"
 
 # a gate that is ended leaves nothing
 rm -f "$FAKE/edits"
