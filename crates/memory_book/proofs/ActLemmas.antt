@@ -1,4 +1,4 @@
--- What a request with or without a known key comes to. For `act` of a book in memory.
+-- The outcome of a request with or without a known key. For `act` of a book in memory.
 use Rattle.std.proofs.Common.{◌≡◌, refl, ap, sym, ◌∙◌, subst}
 use Rattle.std.specs.Prelude.{Option, Some, None, option_map}
 use Rattle.commands.specs.Asks.{Asked}
@@ -9,18 +9,18 @@ use Rattle.memory_book.specs.Memory.{StandsFor, IsCarriedOut}
 use Rattle.memory_book.specs.MemoryAnswers.{kept_in, found_for}
 use Rattle.memory_book.specs.declared.mem_book.MemBook.{MemBook}
 
--- what the book keeps for an ask is what is kept for it
+-- the reply that the book keeps for a request is the one that the state keeps
 pub found_for-kept : (m : MemBook) (s : State) → StandsFor m s → (ask : Option Asked)
     → found_for (kept_in m.answers) ask ≡ kept_for s ask
 found_for-kept m s here None = refl
 found_for-kept m s here (Some a) = here.kept a.agent a.key
 
--- the reply is what the request comes to, and nothing changes
+-- the reply is the outcome's, and nothing changes
 pub record IsAgain (s : State) (ask : Option Asked) (asked : Request) (r : Reply) : Type 0 where
   pub replied : r ≡ (outcome s ask asked).reply
   pub same : (outcome s ask asked).state ≡ s
 
--- so it is where the key is known
+-- this holds where the key is known
 pub again-known : (s : State) (ask : Option Asked) (asked : Request) (r : Reply)
     (o : Option KeptReply) → kept_for s ask ≡ o
     → Some r ≡ option_map (λ k. (answered_again s (text_of ask) k).reply) o → IsAgain s ask asked r
@@ -34,7 +34,7 @@ again-known s ask asked r (Some k) known is =
       same = ap (λ (t : Outcome). t.state) told;
     }
 
--- where no reply is kept, the request is carried out
+-- where no reply is kept, the request is executed
 pub outcome-new : (s : State) (ask : Option Asked) (asked : Request) (o : Option KeptReply)
     → kept_for s ask ≡ o
     → None ≡ option_map (λ k. (answered_again s (text_of ask) k).reply) o

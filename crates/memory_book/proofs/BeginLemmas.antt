@@ -1,4 +1,4 @@
--- What a begin makes of a book in memory. For `MemBook::begin`.
+-- How a begin changes a book in memory. For `MemBook::begin`.
 use Rattle.std.proofs.Common.{◌≡◌, ℕ, suc, ◌+◌, ◌<◌, ◌≤◌, ◌⊎◌, inl, inr, true, List, [], ◌∷◌, ◌++◌, length, map, refl, ap, sym, ◌∙◌, subst, arith}
 use Rattle.std.specs.Prelude.{slice_get, Option, Some, unwrap_or, IsTrue}
 use Rattle.std.proofs.lemmas.List.{length-map, map-append}
@@ -39,16 +39,16 @@ pub record BeginsIn (m n : MemBook) (ask : Option Asked) (plan : Planned) : Type
       (kept_after (kept_in m.answers) ask (reply.Begun (length m.journeys.items + 1)))
   pub events : n.events ≡ m.events + 1
 
--- there are as many journeys as are kept
+-- the book keeps as many journeys as the ledger has
 pub length-begun : (m : MemBook) (s : State) → StandsFor m s
     → length m.journeys.items ≡ length (journeys s.ledger)
 length-begun m s here = sym (length-map m.journeys.items begun_as) ∙ ap length here.begun
 
--- the agent to whom what is asked so belongs
+-- the agent to whom a journey begun by this asker belongs
 abbrev pub owner : Option Asked → List ℕ
 owner ask = unwrap_or (asker ask) house
 
--- the book then stands for the ledger with one more begin
+-- the book then represents the ledger with one more begin
 pub stands-begun : (m n : MemBook) (s : State) (ask : Option Asked) (plan : Planned)
     → StandsFor m s → IsTrue (is_plan plan) → BeginsIn m n ask plan
     → StandsFor n (state_with s ask (reply.Begun (length (journeys s.ledger) + 1))
@@ -87,7 +87,7 @@ stands-begun m n s ask plan here good b = record {
         subst (Tells k) (sym (history-began s.ledger (owner ask) plan (suc i) ∙ none))
         (subst (λ (j : Journey). Tells j []) (sym last.1) b.told)
 
--- so a begin is answered by the next number, where the ledger has room
+-- so a begin is answered with the next number, where the ledger has room
 pub carried_out-begun : (m n : MemBook) (s : State) (ask : Option Asked) (plan : Planned) (r : Reply)
     → StandsFor m s → IsTrue (is_plan plan) → BeginsIn m n ask plan → m.events < most_events
     → r ≡ reply.Begun (length m.journeys.items + 1)
@@ -101,7 +101,7 @@ carried_out-begun m n s ask plan r here good b room is =
       stands = stands-begun m n s ask plan here good b;
     })
 
--- and is refused where it has none
+-- a begin is refused where the ledger has no room
 pub carried_out-full : (m : MemBook) (s : State) (ask : Option Asked) (plan : Planned) (r : Reply)
     → StandsFor m s → most_events ≤ m.events → r ≡ reply.Refused Limit
     → IsCarriedOut m s ask (answer s.ledger (asker ask) (request.Begin plan)) r

@@ -21,7 +21,7 @@ use Rattle.memory_book.specs.declared.stock.Stock.{Stock}
 
 -- Places of cells.
 
--- what is written at a key is found there, and elsewhere what was there
+-- what is written at a key is found there, and other keys keep what they had
 pub stock_at-put : (old new : Stock) (k : Cell) (held : Held)
     → tree.Updates cell_key_cmp old.places new.places (key_of k) (Some held)
     → (x : Cell)
@@ -41,12 +41,12 @@ stock_at-put old new k held updates x =
 
 -- Cells that change one by one.
 
--- no cell comes twice
+-- no cell occurs twice
 abbrev pub are_apart : List Cell → Bool
 are_apart [] = true
 are_apart (x ∷ xs) = not (list_any (is_cell x) xs) && are_apart xs
 
--- what the places of a cell come to once those of these cells have changed by n
+-- the places of a cell after those of these cells have changed by n
 abbrev pub changed : (ℕ → Places → Places) → ℕ → List Cell → (Cell → Option Places) → Cell
     → Option Places
 changed change n cells places x =
@@ -57,20 +57,20 @@ not_true : (b : Bool) → not b ≡ true → b ≡ false
 not_true true e = sym e
 not_true false e = refl
 
--- the first cell is none of the others
+-- the first cell is not among the others
 pub apart-first : (k : Cell) (cells : List Cell) → are_apart (k ∷ cells) ≡ true
     → list_any (is_cell k) cells ≡ false
 apart-first k cells apart =
     not_true _ (and_parts (not (list_any (is_cell k) cells)) (are_apart cells) apart).0
 
--- nor do the others come twice
+-- no cell occurs twice among the others
 pub apart-rest : (k : Cell) (cells : List Cell) → are_apart (k ∷ cells) ≡ true
     → are_apart cells ≡ true
 apart-rest k cells apart =
     (and_parts (not (list_any (is_cell k) cells)) (are_apart cells) apart).1
 
--- once the first cell has changed, the others are still to change: at the first cell nothing more
--- comes, and elsewhere it changed nothing
+-- after the first cell has changed, the others are still to change: the first cell does not change again, and its
+-- change left the others the same
 pub changed-step : (change : ℕ → Places → Places) → ((p : Places) → change 0 p ≡ p)
     → (n : ℕ) (k : Cell) (cells : List Cell) (old new : Cell → Option Places)
     → are_apart (k ∷ cells) ≡ true
@@ -100,7 +100,7 @@ changed-step change none n k cells old new apart one x = go (is_cell x k) refl
         ∙ ap (λ b. option_map (change (if b || list_any (is_cell x) cells then n else 0)) (old x))
         (sym e)
 
--- once no cell is left, nothing more changes
+-- where no cell is left, nothing more changes
 pub changed-none : (change : ℕ → Places → Places) → ((p : Places) → change 0 p ≡ p)
     → (n : ℕ) (places : Cell → Option Places) (x : Cell) → changed change n [] places x ≡ places x
 changed-none change none n places x = same (places x)
@@ -114,7 +114,7 @@ abbrev pub has_free_at : (Cell → Option Places) → ℕ → Cell → Bool
 has_free_at places n x =
     unwrap_or (option_map (λ (p : Places). nat_le n p.free) (places x)) false
 
--- what another cell's places change does not touch what these have free
+-- a change of another cell's places leaves the free places of these cells the same
 pub free-step : (change : Places → Places) (n : ℕ) (k : Cell) (cells : List Cell)
     (old new : Cell → Option Places)
     → ((x : Cell) → new x ≡ (if is_cell x k then option_map change (old k) else old x))
@@ -147,7 +147,7 @@ and_false : (a b : Bool) → b ≡ false → (a && b) ≡ false
 and_false true b e = e
 and_false false b e = refl
 
--- the cell of a night is none of those of later nights
+-- the cell of a night is not among those of later nights
 later_nights : (want : Wanted) (a b n : ℕ) → a < b
     → list_any (is_cell (cell_at want a)) (map (cell_at want) (numbers_from b n)) ≡ false
 later_nights want a b zero less = refl
@@ -157,7 +157,7 @@ later_nights want a b (suc n) less =
     (and_false _ (a == b) other)
     ∙ later_nights want a (suc b) n (omega arith)
 
--- the cells of so many nights are apart
+-- the cells of n nights are distinct
 nights_apart : (want : Wanted) (first n : ℕ)
     → are_apart (map (cell_at want) (numbers_from first n)) ≡ true
 nights_apart want first zero = refl
@@ -166,18 +166,18 @@ nights_apart want first (suc n) =
     (later_nights want first (suc first) n (omega arith))
     ∙ nights_apart want (suc first) n
 
--- no cell of a want comes twice
+-- no cell of a want occurs twice
 pub cells_of-apart : (want : Wanted) → are_apart (cells_of want) ≡ true
 cells_of-apart want = nights_apart want want.first want.nights
 
--- Nothing taken and nothing given back.
+-- Changes by 0.
 
--- none fewer are as many
+-- taking 0 places changes nothing
 pub none_less : (p : Places) → with_less 0 p ≡ p
 none_less p =
     let e : p.free - 0 ≡ p.free = omega arith in ap (λ f. record { allot = p.allot; free = f }) e
 
--- none more are as many
+-- giving 0 places back changes nothing
 pub none_back : (p : Places) → with_back 0 p ≡ p
 none_back p =
     let low : nat_le 0 (p.allot - p.free) ≡ true = le-leb 0 (p.allot - p.free) (omega arith) in

@@ -1,4 +1,4 @@
--- What one more event changes of the parts that a book in memory keeps. For each command.
+-- How one more event changes the parts that a book in memory keeps. For each command.
 use Rattle.std.proofs.Common.{◌≡◌, ℕ, zero, suc, ◌+◌, ◌-◌, ◌<◌, ◌≤◌, Bool, true, false, cond, List, [], ◌∷◌, ◌++◌, length, map, refl, ap, sym, ◌∙◌, subst, inl, inr, arith}
 use Rattle.std.specs.Prelude.{◌&&◌, ◌↔◌, bytes_eq, nat_le, if◌then◌else◌, slice_get, Option, Some, None, is_some, option_map, Result, Ok, Err, IsTrue}
 use Rattle.std.specs.declared.alloc.AllocError.{AllocError}
@@ -25,7 +25,7 @@ use Rattle.memory_book.specs.declared.mem_book.MemBook.{MemBook}
 
 -- Kept replies.
 
--- where the same was kept, the same is kept after one more reply
+-- where the same replies were kept, the same are kept after one more reply
 pub kept_after-alike : (old new : Kept) → AreKeptAlike old new → (ask : Option Asked) (r : Reply)
     → AreKeptAlike (kept_after old ask r) (kept_after new ask r)
 kept_after-alike old new alike None r agent key = alike agent key
@@ -40,7 +40,7 @@ pub loads-none : (l : List Event) (e : Event) → batch_of e ≡ None → loads 
 loads-none [] e none = ap (λ o. cons_option o []) none
 loads-none (d ∷ l) e none = ap (cons_option (batch_of d)) (loads-none l e none)
 
--- what stands before a list stands before it with more at its end
+-- an element prepended to a list and one appended to it do not affect each other
 cons_option-append : {X : Type 0} (o : Option X) (xs ys : List X)
     → cons_option o (xs ++ ys) ≡ cons_option o xs ++ ys
 cons_option-append None xs ys = refl
@@ -56,11 +56,11 @@ loads-loaded (d ∷ l) name rows =
 
 -- Places.
 
--- so many allotted and so many held are these places
+-- the places of a cell with so many allotted and so many held
 abbrev pub places_left : ℕ → ℕ → Places
 places_left held_now n = record { allot = n; free = n - held_now }
 
--- a begin leaves the places of each cell
+-- a begin leaves the places of each cell the same
 pub places_of-began : (l : List Event) (agent : List ℕ) (plan : Planned) (x : Cell) → IsLegal l
     → places_of (l ++ Began agent plan ∷ []) x ≡ places_of l x
 places_of-began l agent plan x legal =
@@ -75,25 +75,25 @@ and_false : (a b : Bool) → b ≡ false → (a && b) ≡ false
 and_false true b e = e
 and_false false b e = refl
 
--- where the ledger has room, the answer stays
+-- where the ledger has room, the limit does not change the answer
 pub limited-room : (l : List Event) (a : Answer) → length l < most_events → limited l a ≡ a
 limited-room l a room =
     ap (λ b. if b then refused Limit else a)
     (and_false (is_some a.event) (nat_le most_events (length l))
     (lt-leb most_events (length l) room))
 
--- where it has none, an event that is due is refused
+-- where the ledger has no room, an answer with an event becomes a refusal
 pub limited-full : (l : List Event) (a : Answer) → is_some a.event ≡ true → most_events ≤ length l
     → limited l a ≡ refused Limit
 limited-full l a due full =
     ap (λ b. if b && nat_le most_events (length l) then refused Limit else a) due
     ∙ ap (λ b. if b then refused Limit else a) (le-leb most_events (length l) full)
 
--- a refusal stays
+-- the limit does not change a refusal
 pub limited-refused : (l : List Event) (why : Refusal) → limited l (refused why) ≡ refused why
 limited-refused l why = refl
 
--- who is refused leaves the book as it was
+-- a refusal leaves the book as it was
 pub carried_out-refused : (m : MemBook) (s : State) (ask : Option Asked) (a : Answer) (why : Refusal)
     → StandsFor m s → a ≡ refused why → (r : Reply) → r ≡ (refused why).reply
     → IsCarriedOut m s ask a r
@@ -101,15 +101,15 @@ carried_out-refused m s ask a why here is r replied =
     subst (λ (b : Answer). IsCarriedOut m s ask b r) (sym is)
     (record { replied = replied; stands = here })
 
--- Want of memory.
+-- Out of memory.
 
--- where each state that the book stood for is one that it stands for, it is kept at every fault
+-- where each state that the book represented is one that it represents now, the book is kept at every fault
 pub keeps_book : {T : Type 0} (m n : MemBook) (r : Result T AllocError)
     → ((s : State) → StandsFor m s → StandsFor n s) → KeepsBook m n r
 keeps_book m n (Ok x) keeps = tt
 keeps_book m n (Err e) keeps = keeps
 
--- a book with the same parts stands for the same
+-- a book with the same parts represents the same state
 pub stands-same : (m n : MemBook) → n.journeys.items ≡ m.journeys.items → n.stock ≡ m.stock
     → n.batches.items ≡ m.batches.items
     → AreKeptAlike (kept_in n.answers) (kept_in m.answers) → n.events ≡ m.events
@@ -132,7 +132,7 @@ room_left full most events tells not_full = elim (cases_lt events most) [
   | inr past ↦ (let is : true ≡ false = sym (tells.1 past) ∙ not_full in cc)
 ]
 
--- and one that is has none
+-- a ledger that is full has no room
 pub no_room : (full : Bool) (most events : ℕ) → IsTrue full ↔ (most ≤ events) → full ≡ true
     → most ≤ events
 no_room full most events tells is = tells.0 is

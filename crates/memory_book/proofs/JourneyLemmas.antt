@@ -13,18 +13,18 @@ use Rattle.memory_book.specs.MemoryJourneys.{IsPlaced}
 at_least_one : (plan : Planned) → IsTrue (is_plan plan) → (0 == step_count plan) ≡ false
 at_least_one plan good = grind (arith, common_steps)
 
--- a journey that was just begun is running at its beginning
+-- a journey that was just begun is running
 pub phase-begun : (plan : Planned) → IsTrue (is_plan plan) → phase plan [] ≡ Run
 phase-begun plan good = ap (λ ended. if ended then Ended else Run) (at_least_one plan good)
 
--- the phase that runs
+-- the only phase that is running is `Run`
 pub running-is : (p : Phase) → is_running p ≡ true → p ≡ Run
 running-is Run e = refl
 running-is (Back q) e = cc
 running-is Ended e = cc
 running-is Undone e = cc
 
--- a journey that is not finished is short of its last step
+-- a journey that is not finished has not reached its last step
 pub open_below : (plan : Planned) (cursor : Cursor) (taken : List ℕ) → IsPlaced plan cursor taken
     → is_finished cursor.phase ≡ false → cursor.pos < step_count plan
 open_below plan cursor taken placed unfinished = go cursor.phase refl unfinished

@@ -12,16 +12,16 @@ use Rattle.memory_book.specs.declared.answers.KeptAnswer.{KeptAnswer}
 use Rattle.memory_book.specs.declared.answers.Answers.{Answers}
 use Rattle.memory_book.proofs.CellLemmas.{is_eq-then, is_eq-texts}
 
--- the key of an agent and a key
+-- the map key of an agent and a key
 abbrev pub ask_key : List ℕ → List ℕ → AskKey
 ask_key agent key = record { agent = agent; key = key }
 
--- a key is its two parts
+-- a map key is its two parts
 pub ask_key-is : (k : AskKey) (agent key : List ℕ) → k.agent ≡ agent → k.key ≡ key
     → k ≡ ask_key agent key
 ask_key-is k agent key a b = ap (λ x. ask_key x k.key) a ∙ ap (ask_key agent) b
 
--- two keys are alike where agent and key are the same
+-- two map keys are equal where agent and key are the same
 is_eq-asks : (k : AskKey) (agent key : List ℕ)
     → is_eq (ask_key_cmp k (ask_key agent key)) ≡ (bytes_eq agent k.agent && bytes_eq key k.key)
 is_eq-asks k agent key =
@@ -31,7 +31,7 @@ is_eq-asks k agent key =
     ∙ ap (λ b. bytes_eq agent k.agent && b)
     (is_eq-texts k.key key ∙ nat_list_eq_equiv.symm k.key key)
 
--- a reply that is inserted is kept under its agent and key, and under the others what was kept
+-- a reply that is inserted is kept under its agent and key, and the others keep what they had
 pub kept_in-insert : (old new : Answers) (k : AskKey) (v : KeptAnswer)
     → tree.Updates ask_key_cmp old.kept new.kept k (Some v)
     → (agent key : List ℕ)

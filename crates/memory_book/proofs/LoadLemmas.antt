@@ -1,4 +1,4 @@
--- What a load makes of a book in memory. For `MemBook::load`.
+-- How a load changes a book in memory. For `MemBook::load`.
 use Rattle.std.proofs.Common.{◌≡◌, ℕ, suc, ◌+◌, ◌-◌, ◌<◌, ◌≤◌, Bool, true, false, cond, List, [], ◌∷◌, ◌++◌, length, map, refl, ap, sym, ◌∙◌, subst, arith}
 use Rattle.std.specs.Prelude.{◌&&◌, not, bytes_eq, nat_le, nat_lt, if◌then◌else◌, slice_get, find, filter_map, position, Option, Some, None, option_map, unwrap_or, IfSome, IsTrue}
 use Rattle.std.specs.List.{list_all, cons_option, position_or_len}
@@ -37,7 +37,7 @@ use Rattle.memory_book.proofs.GrowthLemmas.{places_left, kept_after-alike, loads
 abbrev pub rows_of_named : List ℕ → Batched → Option (List Row)
 rows_of_named name b = if bytes_eq name b.name then Some b.rows else None
 
--- one event more is one batch more, if it loads one
+-- one more event is one more batch, if it loads one
 step-named : (name : List ℕ) (e : Event) (rest : List (List Row)) (bs : List Batched)
     → rest ≡ filter_map (rows_of_named name) bs
     → cons_option (rows_if_named name e) rest
@@ -58,7 +58,7 @@ batches_named-loads (e ∷ l) name =
 abbrev pub has_name : List ℕ → Batched → Bool
 has_name name b = bytes_eq b.name name
 
--- where no batch of this name is found, there is none
+-- where no batch of this name is found, there are no rows of that name
 named-none : (name : List ℕ) (bs : List Batched) → find (has_name name) bs ≡ None
     → filter_map (rows_of_named name) bs ≡ []
 named-none name [] none = refl
@@ -75,7 +75,7 @@ named-none name (b ∷ bs) none =
         (nat_list_eq_equiv.symm name b.name ∙ e)
         ∙ more none
 
--- where one is found, its rows are the first
+-- where a batch of this name is found, its rows are the first
 named-some : (name : List ℕ) (bs : List Batched) (b : Batched) → find (has_name name) bs ≡ Some b
     → (rest : List (List Row)) × (filter_map (rows_of_named name) bs ≡ b.rows ∷ rest)
 named-some name [] b found = cc
@@ -109,7 +109,7 @@ known-none m s here name none =
     batches_named-loads s.ledger name ∙ ap (filter_map (rows_of_named name)) (sym here.batches)
     ∙ named-none name m.batches.items none
 
--- where it finds one, the ledger has its rows first
+-- where the book finds a batch of a name, the ledger has its rows first
 pub known-some : (m : MemBook) (s : State) → StandsFor m s → (name : List ℕ) (b : Batched)
     → find (has_name name) m.batches.items ≡ Some b
     → (rest : List (List Row)) × (batches_named s.ledger name ≡ b.rows ∷ rest)
@@ -122,7 +122,7 @@ known-some m s here name b found =
 
 -- Rows below what is held.
 
--- a row is below what is held by the stock where it is by the ledger
+-- a row is below what is held by the stock exactly if it is below what is held by the ledger
 below_by : (s : List Event) (stock : Stock) → IsLegal s
     → ((x : Cell) → stock_at stock x ≡ places_of s x) → (r : Row)
     → is_below_in stock r ≡ not (is_not_below_held s r)
@@ -139,14 +139,14 @@ below_by s stock legal here r =
     go None e = let none = held_none s r.cell legal e in grind (arith, nat_tests)
     go (Some n) e = let within = held_within s r.cell n legal e in grind (arith, nat_tests)
 
--- so the first such row is the same
+-- so the first such row is the same in both
 pub first_below-held : (m : MemBook) (s : State) → StandsFor m s → (rows : List Row)
     → position (is_below_in m.stock) rows ≡ position (λ r. not (is_not_below_held s.ledger r)) rows
 first_below-held m s here rows =
     ap (λ test. position test rows)
     (λ i r. below_by s.ledger m.stock here.legal here.stock r i)
 
--- where none passes, each fails
+-- where no element passes, each fails
 none_passes : {X : Type 0} (test : X → Bool) (xs : List X)
     → length xs ≤ position_or_len test xs → list_all (λ x. not (test x)) xs ≡ true
 none_passes test [] past = refl
@@ -160,7 +160,7 @@ none_passes test (x ∷ xs) past =
     go false e past more =
         ap (λ v. not v && list_all (λ y. not (test y)) xs) e ∙ more (omega arith)
 
--- of no position nothing passes
+-- where no position is found, each element fails
 pub none_at : {X : Type 0} (test : X → Bool) (xs : List X) → position test xs ≡ None
     → list_all (λ x. not (test x)) xs ≡ true
 none_at test xs none = go (nat_lt (position_or_len test xs) (length xs)) refl none
@@ -173,7 +173,7 @@ none_at test xs none = go (nat_lt (position_or_len test xs) (length xs)) refl no
 
 -- Places.
 
--- a row sets its cell to what is left of its places
+-- a row sets its cell to its places, less those that are held
 set_left : (s : List Event) (stock : Stock) (x : Cell) (n : ℕ) → IsLegal s
     → stock_at stock x ≡ places_of s x → set_to stock x n ≡ places_left (held s x) n
 set_left s stock x n legal here =
@@ -193,7 +193,7 @@ set_left s stock x n legal here =
         let same : n - (a - (a - held s x)) ≡ n - held s x = omega arith in
         ap (λ f. record { allot = n; free = f }) same
 
--- a stock with the places of a ledger has them after a load too, once the rows are loaded
+-- a stock with the places of a ledger has them after a load too, when the rows are loaded
 pub stock-loaded : (s : List Event) (name : List ℕ) (rows : List Row) → IsLegal s
     → (old new : Stock) → ((x : Cell) → stock_at old x ≡ places_of s x) → LoadsRows old new rows
     → (x : Cell) → stock_at new x ≡ places_of (s ++ Loaded name rows ∷ []) x
@@ -221,7 +221,7 @@ pub record LoadsIn (m n : MemBook) (ask : Option Asked) (b : Batched) : Type 0 w
       (kept_after (kept_in m.answers) ask (loaded b.name b.rows))
   pub events : n.events ≡ m.events + 1
 
--- the book then stands for the ledger with that load
+-- the book then represents the ledger with that load
 pub stands-loaded : (m n : MemBook) (s : State) (ask : Option Asked) (b : Batched) → StandsFor m s
     → IsTrue (is_allowed s.ledger (Loaded b.name b.rows)) → LoadsIn m n ask b
     → StandsFor n (state_with s ask (loaded b.name b.rows) (Some (Loaded b.name b.rows)))
@@ -245,7 +245,7 @@ stands-loaded m n s ask b here may k = record {
 
 -- Answers.
 
--- to a batch whose name is known
+-- the answer to a batch whose name is known
 pub carried_out-known : (m : MemBook) (s : State) (ask : Option Asked) (name : List ℕ)
     (rows known : List Row) (rest : List (List Row)) (r : Reply) → StandsFor m s
     → batches_named s.ledger name ≡ known ∷ rest → r ≡ (answer_known name rows known).reply
@@ -263,7 +263,7 @@ carried_out-known m s ask name rows known rest r here is replied =
     go true replied = record { replied = replied; stands = here }
     go false replied = record { replied = replied; stands = here }
 
--- to a batch with a new name, by the first row below what is held
+-- the answer to a batch with a new name, by the first row below what is held
 pub answer-new : (s : State) (who : Option (List ℕ)) (name : List ℕ) (rows : List Row)
     (o : Option ℕ) → batches_named s.ledger name ≡ []
     → position (λ r. not (is_not_below_held s.ledger r)) rows ≡ o
@@ -272,7 +272,7 @@ answer-new s who name rows o none first =
     ap (λ bs. limited s.ledger (answer_load s.ledger name rows bs)) none
     ∙ ap (λ p. limited s.ledger (answer_new name rows p)) first
 
--- where there is such a row, it is refused
+-- where there is such a row, the load is refused
 pub carried_out-below : (m : MemBook) (s : State) (ask : Option Asked) (name : List ℕ)
     (rows : List Row) (i : ℕ) (r : Reply) → StandsFor m s
     → batches_named s.ledger name ≡ [] → Some i ≡ position (is_below_in m.stock) rows
@@ -284,7 +284,7 @@ carried_out-below m s ask name rows i r here none first is =
     (answer-new s (asker ask) name rows (Some i) none
     (sym (first ∙ first_below-held m s here rows))) r is
 
--- where there is none, the load is due
+-- where there is none, the rules allow the load
 pub due : (m : MemBook) (s : State) (ask : Option Asked) (name : List ℕ) (rows : List Row)
     → StandsFor m s → is_batch name rows ≡ true
     → batches_named s.ledger name ≡ [] → None ≡ position (is_below_in m.stock) rows
@@ -301,7 +301,7 @@ due m s ask name rows here good none first = record {
     go None may = tt
     go (Some e) may = may
 
--- and is answered where the ledger has room
+-- the load is answered where the ledger has room
 pub carried_out-loaded : (m n : MemBook) (s : State) (ask : Option Asked) (b : Batched)
     (a : Answer) (r : Reply) → StandsFor m s → m.events < most_events
     → IsDue s.ledger (asker ask) b.name b.rows a → LoadsIn m n ask b
@@ -315,7 +315,7 @@ carried_out-loaded m n s ask b a r here room d k is =
     subst (λ (x : Answer). IsCarriedOut n s ask x r) (sym told)
     (record { replied = is; stands = stands-loaded m n s ask b here may k })
 
--- and refused where it has none
+-- the load is refused where the ledger has no room
 pub carried_out-no_room : (m : MemBook) (s : State) (ask : Option Asked) (name : List ℕ)
     (rows : List Row) (a : Answer) (r : Reply) → StandsFor m s → most_events ≤ m.events
     → IsDue s.ledger (asker ask) name rows a → r ≡ reply.Refused Limit → IsCarriedOut m s ask a r

@@ -1,4 +1,4 @@
--- What one more item makes of a book in memory. For `MemBook::make` and `carry_out`.
+-- How one more item changes a book in memory. For `MemBook::make` and `carry_out`.
 use Rattle.std.proofs.Common.{◌≡◌, ℕ, suc, ◌+◌, ◌-◌, ◌<◌, ◌≤◌, ◌⊎◌, inl, inr, Bool, true, false, List, [], ◌∷◌, ◌++◌, length, map, refl, ap, sym, ◌∙◌, subst, arith}
 use Rattle.std.specs.Prelude.{slice_get, slice_set, nat_le, if◌then◌else◌, Option, Some, None, option_map, IsTrue}
 use Rattle.std.proofs.lemmas.Bool.{le-leb}
@@ -35,7 +35,7 @@ use Rattle.memory_book.proofs.TellLemmas.{MakesOne, tells-more}
 
 -- Places.
 
--- to hold more is to have fewer free
+-- with more places held, fewer are free
 less_left : (n h : ℕ) (allotted : Option ℕ)
     → option_map (with_less n) (option_map (places_left h) allotted)
     ≡ option_map (places_left (h + n)) allotted
@@ -44,7 +44,7 @@ less_left n h (Some a) =
     let e : a - h - n ≡ a - (h + n) = omega arith in
     ap (λ f. Some (record { allot = a; free = f })) e
 
--- to hold fewer is to have more free, as many as were held
+-- with fewer places held, more are free, as many as were held
 back_left : (n g h : ℕ) (allotted : Option ℕ) → h ≡ g + n
     → ((a : ℕ) → allotted ≡ Some a → h ≤ a)
     → option_map (with_back n) (option_map (places_left h) allotted)
@@ -57,7 +57,7 @@ back_left n g h (Some a) is within =
     ap (λ b. Some (if b then record { allot = a; free = a - h + n } else places_left h a)) low
     ∙ ap (λ f. Some (record { allot = a; free = f })) e
 
--- a stock with the places of a ledger has them after an item too, once the item's places changed
+-- a stock with the places of a ledger has them after an item too, when the item's places changed
 pub stock-did : (s : List Event) (j : ℕ) (a : l.Journey) (x : Item) → IsLegal s
     → journey_at s j ≡ Some a → IsTrue (is_allowed s (Did j x)) → (old new : Stock)
     → ((y : Cell) → stock_at old y ≡ places_of s y) → ChangesFor a.plan x old new
@@ -89,7 +89,7 @@ stock-did s j a (Save p) legal at may old new here changed y =
 
 -- The book.
 
--- where a journey is after an item
+-- the cursor of a journey after an item
 abbrev pub then_at : Journey → Item → Cursor
 then_at k x = cursor_after k.plan k.cursor x
 
@@ -109,7 +109,7 @@ pub record MakesIn (m n : MemBook) (ask : Option Asked) (place : ℕ) (old new :
       (kept_after (kept_in m.answers) ask (moved place old x))
   pub events : n.events ≡ m.events + 1
 
--- the book then stands for the ledger with that item
+-- the book then represents the ledger with that item
 pub stands-made : (m n : MemBook) (s : State) (ask : Option Asked) (place : ℕ) (old new : Journey)
     (x : Item) → StandsFor m s → IsTrue (is_allowed s.ledger (Did (suc place) x))
     → MakesIn m n ask place old new x
@@ -158,7 +158,7 @@ stands-made m n s ask place old new x here may b = record {
         (λ (e : suc i ≡ suc place). other.0 (omega arith))))
         (here.told i k other.1)
 
--- so the item is answered by where the journey is then
+-- so the reply to the item has the journey's cursor after it
 pub carried_out-made : (m n : MemBook) (s : State) (ask : Option Asked) (place : ℕ)
     (old new : Journey) (x : Item) (r : Reply) → StandsFor m s
     → IsTrue (is_allowed s.ledger (Did (suc place) x)) → MakesIn m n ask place old new x

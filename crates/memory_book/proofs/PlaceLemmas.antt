@@ -1,8 +1,8 @@
--- What stands at a place of a list that grew by one, or of which one was written. For a book in memory.
+-- The elements of a list to which one was appended, or of which one was replaced. For a book in memory.
 use Rattle.std.proofs.Common.{◌≡◌, ℕ, zero, suc, ◌<◌, ◌⊎◌, inl, inr, List, [], ◌∷◌, ◌++◌, length, map, refl, ap, sym, ◌∙◌, arith}
 use Rattle.std.specs.Prelude.{slice_get, slice_set, Option, Some, None}
 
--- of a list with one more at its end, a place is one of the others or the last
+-- an element of a list with one appended is one of the others or the last
 pub place_of-push : {X : Type 0} (xs : List X) (x : X) (i : ℕ) (y : X)
     → slice_get (xs ++ x ∷ []) i ≡ Some y
     → (slice_get xs i ≡ Some y) ⊎ ((i ≡ length xs) × (y ≡ x))
@@ -14,7 +14,7 @@ place_of-push (z ∷ xs) x (suc i) y e = elim (place_of-push xs x i y e) [
   | inr last ↦ inr (ap (λ n. suc n) last.0, last.1)
 ]
 
--- of a list of which one was written, a place is that one or another, which is as it was
+-- an element of a list of which one was replaced is that one, or another, which is as it was
 pub place_of-set : {X : Type 0} (xs : List X) (p : ℕ) (x : X) (i : ℕ) (y : X)
     → slice_get (slice_set xs p x) i ≡ Some y
     → ((i ≡ p) × (y ≡ x)) ⊎ ((i ≡ p → ⊥) × (slice_get xs i ≡ Some y))
@@ -27,7 +27,7 @@ place_of-set (z ∷ xs) (suc p) x (suc i) y e = elim (place_of-set xs p x i y e)
   | inr other ↦ inr (λ (h : suc i ≡ suc p). other.0 (omega arith), other.1)
 ]
 
--- what is read of each is as it was, where it is as it was of the one that was written
+-- a function has the same values on the list, where it has the same value on the element that was replaced
 pub map-set : {X Y : Type 0} (f : X → Y) (xs : List X) (p : ℕ) (x y : X)
     → slice_get xs p ≡ Some y → f x ≡ f y → map f (slice_set xs p x) ≡ map f xs
 map-set f [] p x y at same = cc

@@ -1,4 +1,4 @@
--- What may be made of a journey in a book in memory, and what making it leaves. For the moves of the book.
+-- Which items a journey in a book in memory may make, and the journey after one. For the moves of the book.
 use Rattle.std.proofs.Common.{◌≡◌, ℕ, zero, suc, ◌+◌, ◌-◌, ◌<◌, ◌≤◌, ◌⊎◌, inl, inr, Bool, true, false, List, [], ◌∷◌, ◌++◌, length, get_or, map, refl, ap, sym, ◌∙◌, subst, arith, ltb-true}
 use Rattle.std.specs.Prelude.{◌&&◌, not, nat_lt, slice_get, slice_set, if◌then◌else◌, Option, Some, None, Result, Ok, Err, IfOk, IsTrue}
 use Rattle.std.proofs.lemmas.Option.{slice_get-get_or}
@@ -35,9 +35,9 @@ use Rattle.memory_book.specs.declared.mem_book.MemBook.{MemBook}
 use Rattle.memory_book.proofs.PlaceLemmas.{place_of-set, map-set}
 use Rattle.memory_book.proofs.TellLemmas.{MakesOne}
 
--- What may be made.
+-- Items that may be made.
 
--- what is next and fits is ready
+-- an item that is next and fits is ready
 pub ready : (m : MemBook) (k : Journey) (next : Result Item Refusal)
     → IfOk next (IsNext k.plan k.cursor)
     → IfOk next (λ x. IsTrue (fits_where_taken m.stock k.plan x)) → IfOk next (IsReady m k)
@@ -60,7 +60,7 @@ turn_said-fits stock plan c marks why cause =
     go false true = refl
     go false false = tt
 
--- nor does a save-point
+-- a save-point takes nothing
 pub save_said-fits : (stock : Stock) (plan : Planned) (c : Cursor) (marks : set.FinSet nat_cmp)
     → IfOk (save_said plan c marks) (λ x. IsTrue (fits_where_taken stock plan x))
 save_said-fits stock plan c marks =
@@ -113,7 +113,7 @@ step_said-fits stock plan c marks taken fit tests = go c.phase refl fit tests
     go Ended e fit tests = tt
     go Undone e fit tests = tt
 
--- what is next stands in the plan
+-- an item that is next is in the plan
 pub in_plan : (plan : Planned) (cursor : Cursor) (taken : List ℕ) (x : Item)
     → IsPlaced plan cursor taken → IsNext plan cursor x → IsInPlan plan x
 in_plan plan cursor taken (Transaction i c) placed next =
@@ -141,7 +141,7 @@ in_plan plan cursor taken (Compensation i c) placed next =
 in_plan plan cursor taken (Turn p cause) placed next = tt
 in_plan plan cursor taken (Save p) placed next = tt
 
--- What is left.
+-- After an item.
 
 -- there is a journey at each place
 pub a_journey : (ks : List Journey) (i : ℕ) → i < length ks → (k : Journey) × (slice_get ks i ≡ Some k)
@@ -149,7 +149,7 @@ a_journey [] i within = absurd (omega arith)
 a_journey (k ∷ ks) zero within = (k, refl)
 a_journey (k ∷ ks) (suc i) within = a_journey ks i (omega arith)
 
--- an item that is made once there is room is made of the journey as it was
+-- an item that is made after capacity was reserved is made of the journey as it was
 pub makes-after : (old kept new : Journey) (x : Item) → IsSameJourney old kept → MakesOne kept new x
     → MakesOne old new x
 makes-after old kept new x same made = record {
@@ -164,7 +164,7 @@ makes-after old kept new x same made = record {
       ∙ ap (λ ms. stands_after x new.cursor.pos (is_taken_in ms) q) same.marks;
 }
 
--- a journey that is the same tells the same
+-- what is kept of the same journey agrees with the same history
 tells-same : (old new : Journey) (h : List Item) → IsSameJourney old new → Tells old h → Tells new h
 tells-same old new h same told = record {
   items = same.items ∙ told.items;
@@ -175,7 +175,7 @@ tells-same old new h same told = record {
   taken = same.taken ∙ told.taken;
 }
 
--- a book in which one journey has more room stands for the same
+-- a book in which one journey has more capacity represents the same state
 pub stands-reserved : (m n : MemBook) (place : ℕ) (old new : Journey)
     → slice_get m.journeys.items place ≡ Some old
     → n.journeys.items ≡ slice_set m.journeys.items place new → IsSameJourney old new
@@ -205,7 +205,7 @@ stands-reserved m n place old new at written same stock batches kept events s he
         (tells-same old new (history s.ledger (suc place)) same (here.told place old at)))
     told i k (inr other) = here.told i k other.1
 
--- what stands at a place is what is found there
+-- two reads of one place give the same journey
 pub same_item : (ks : List Journey) (place : ℕ) (a k : Journey) → place < length ks
     → a ≡ get_or ks place a → slice_get ks place ≡ Some k → a ≡ k
 same_item ks place a k within is at =

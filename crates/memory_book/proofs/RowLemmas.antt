@@ -29,7 +29,7 @@ use Rattle.memory_book.proofs.CellLemmas.{key_of, is_eq-cells}
 
 -- Rows.
 
--- two lists of rows are the same where row by row cell and places are
+-- two lists of rows are the same if, row by row, cell and places are the same
 pub same_rows : (test : Row → Row → Bool)
     → ((r s : Row) → test r s ≡ (is_cell r.cell s.cell && (r.places == s.places)))
     → (rs ss : List Row) → pointwise test rs ss ≡ are_same_rows rs ss
@@ -46,7 +46,7 @@ same_rows test each (r ∷ rs) (s ∷ ss) =
 abbrev pub shown_at : (Cell → Option Places) → Cell → Option (ℕ × Places)
 shown_at places x = option_map (at_night x) (places x)
 
--- a night more was found
+-- one more night was found
 pub nights-some : (places : Cell → Option Places) (nights : List (ℕ × Held)) (x : Cell)
     (held : Held) (rest : List Cell) → Some (places_said held) ≡ places x
     → map night_said (nights ++ (x.night, held) ∷ []) ++ filter_map (shown_at places) rest
@@ -59,7 +59,7 @@ nights-some places nights x held rest found =
     ∙ ap (λ o. map night_said nights
     ++ cons_option (option_map (at_night x) o) (filter_map (shown_at places) rest)) found
 
--- a night that was never loaded is passed over
+-- a night that was never loaded is skipped
 pub nights-none : (places : Cell → Option Places) (nights : List (ℕ × Held)) (x : Cell)
     (rest : List Cell) → None ≡ places x
     → map night_said nights ++ filter_map (shown_at places) rest
@@ -68,7 +68,7 @@ nights-none places nights x rest none =
     ap (λ o. map night_said nights
     ++ cons_option (option_map (at_night x) o) (filter_map (shown_at places) rest)) none
 
--- what is shown hangs on the places alone
+-- the values of a list depend on the values of its elements only
 filter_map-same : {X Y : Type 0} (f g : X → Option Y) → ((x : X) → f x ≡ g x) → (xs : List X)
     → filter_map f xs ≡ filter_map g xs
 filter_map-same f g same [] = refl
@@ -90,7 +90,7 @@ places_shown-stock l stock w here =
 abbrev pub row_of : CellKey × Held → Cell × Held
 row_of e = (e.0.cell, e.1)
 
--- the list has of a cell what the look-up finds
+-- the list has the places of a cell that a look-up finds
 places_at-rows : (es : List (CellKey × Held)) (x : Cell)
     → places_at (map row_of es) x
     ≡ option_map places_said (lookup (is_at (cell_key_cmp (key_of x))) es)
@@ -144,13 +144,13 @@ IsStock-rows l stock here ordered = record {
 
 -- Loads.
 
--- of a list with one more at its end, the last is that one
+-- the last element of a list with one appended is that one
 last_of-push : (rs : List Row) (r : Row) → last_of (rs ++ r ∷ []) ≡ Some r
 last_of-push [] r = refl
 last_of-push (q ∷ []) r = refl
 last_of-push (q ∷ p ∷ rs) r = last_of-push (p ∷ rs) r
 
--- of rows with one more at their end, the last of a cell is that one, if it is of the cell
+-- the last row of a cell, of rows with one appended, is that one if it is of the cell
 last_row-push : (rs : List Row) (r : Row) (x : Cell)
     → last_row (rs ++ r ∷ []) x ≡ (if is_cell x r.cell then Some r else last_row rs x)
 last_row-push rs r x =
@@ -163,13 +163,13 @@ last_row-push rs r x =
     go true = last_of-push (filter (λ (q : Row). is_cell x q.cell) rs) r
     go false = ap last_of (append-nil (filter (λ (q : Row). is_cell x q.cell) rs))
 
--- what a cell has once these rows are loaded
+-- the places of a cell after these rows are loaded
 abbrev pub loaded_at : Stock → List Row → Cell → Option Places
 loaded_at stock rows x =
     unwrap_or (option_map (λ (r : Row). Some (set_to stock x r.places)) (last_row rows x))
     (stock_at stock x)
 
--- once one more row is loaded, its cell has its places
+-- after one more row is loaded, its cell has its places
 pub loaded_at-push : (stock : Stock) (rs : List Row) (r : Row) (x : Cell) (p : Places)
     → p ≡ set_to stock r.cell r.places
     → (if is_cell x r.cell then Some p else loaded_at stock rs x)

@@ -1,4 +1,4 @@
--- What a book in memory shows, by what it stands for. For the readings of the book.
+-- What a book in memory shows, by the state that it represents. For the reads of the book.
 use Rattle.std.proofs.Common.{◌≡◌, ℕ, zero, suc, ◌<◌, ◌≤◌, ◌⊎◌, inl, inr, List, [], length, map, refl, ap, sym, ◌∙◌, arith}
 use Rattle.std.specs.Prelude.{slice_get, option_map, Option, Some, None}
 use Rattle.std.specs.FinSet as set
@@ -16,7 +16,7 @@ use Rattle.saga_core.specs.declared.records.Record.{Record}
 use Rattle.memory_book.specs.declared.journeys.Journey.{Journey}
 use Rattle.memory_book.specs.declared.mem_book.MemBook.{MemBook}
 
--- the journey at a place is that of the next number
+-- the journey at a place is the journey with the next number
 pub journey_at-kept : (m : MemBook) (s : State) → StandsFor m s → (place : ℕ) (k : Journey)
     → slice_get m.journeys.items place ≡ Some k
     → journey_at s.ledger (suc place) ≡ Some (begun_as k)
@@ -24,7 +24,7 @@ journey_at-kept m s here place k at =
     ap (λ js. slice_get js place) (sym here.begun)
     ∙ slice_get-map begun_as m.journeys.items place ∙ ap (option_map begun_as) at
 
--- there is none of number 0, and none above the last
+-- no journey has number 0, or a number above the last
 pub journey_at-past : (m : MemBook) (s : State) → StandsFor m s → (id : ℕ)
     → (id ≡ 0) ⊎ (length m.journeys.items < id) → journey_at s.ledger id ≡ None
 journey_at-past m s here zero past = refl
@@ -33,7 +33,7 @@ journey_at-past m s here (suc i) (inr past) =
     ap (λ js. slice_get js i) (sym here.begun) ∙ slice_get-map begun_as m.journeys.items i
     ∙ ap (option_map begun_as) (slice_get_past m.journeys.items i (omega arith))
 
--- where there is no journey there are no items
+-- a journey that does not exist has no items
 pub history-past : (m : MemBook) (s : State) → StandsFor m s → (id : ℕ)
     → (id ≡ 0) ⊎ (length m.journeys.items < id) → history s.ledger id ≡ []
 history-past m s here id past =
@@ -68,7 +68,7 @@ record_of-kept m s here id place k at is r agent plan cursor marks =
     (sym (journey_at-kept m s here place k at))
     ∙ ap (record_of s.ledger) (sym is)
 
--- no journey is shown where there is none
+-- no journey is shown where none exists
 pub record_of-past : (m : MemBook) (s : State) → StandsFor m s → (id : ℕ)
     → (id ≡ 0) ⊎ (length m.journeys.items < id) → None ≡ record_of s.ledger id
 record_of-past m s here id past =

@@ -1,4 +1,4 @@
--- What a book in memory makes of a journey's move is what the rules answer. For steps, turns and save-points.
+-- The result of a journey's move in a book in memory is what the rules answer. For steps, turns and save-points.
 use Rattle.std.proofs.Common.{◌≡◌, ℕ, zero, suc, ◌+◌, ◌-◌, ◌<◌, ◌≤◌, Bool, true, false, List, [], ◌∷◌, length, map, refl, ap, sym, ◌∙◌, subst, arith}
 use Rattle.std.specs.Prelude.{◌&&◌, not, nat_le, nat_lt, slice_get, slice_index, if◌then◌else◌, Option, Some, None, option_map, unwrap_or, Result, Ok, Err, MatchResult, IsTrue}
 use Rattle.std.specs.List.{list_all}
@@ -43,7 +43,7 @@ use Rattle.memory_book.specs.declared.mem_book.MemBook.{MemBook}
 
 -- What fits.
 
--- a want fits by the stock where it fits by the ledger
+-- a want fits by the stock exactly if it fits by the ledger
 pub fits-stock : (m : MemBook) (s : State) → StandsFor m s → (w : Wanted)
     → fits_in_stock m.stock w ≡ fits s.ledger (Some w)
 fits-stock m s here w = fits-by_test s.ledger w (has_free_in m.stock w.count) each
@@ -64,7 +64,7 @@ fits-stock m s here w = fits-by_test s.ledger w (has_free_in m.stock w.count) ea
 
 -- Moves.
 
--- what a move comes to is what is answered: its item's move, or its refusal
+-- the answer has the result of a move: its item's move, or its refusal
 abbrev pub Fits : ℕ → Planned → Cursor → Answer → Result Item Refusal → Type 0
 Fits j plan c answered next =
     MatchResult next (λ x. answered ≡ moves j plan c x) (λ why. answered ≡ refused why)
@@ -76,7 +76,7 @@ by_test : (b : Bool) (j : ℕ) (plan : Planned) (c : Cursor) (x : Item) (why : R
 by_test true j plan c x why a e = e
 by_test false j plan c x why a e = e
 
--- the last of a list, read at its last place
+-- the last element of a list, read at its last index
 last-index : (ts : List (ℕ × ℕ)) (t : ℕ × ℕ) → last_of ts ≡ Some t
     → slice_index (map (λ (u : ℕ × ℕ). u.1) ts) (length ts - 1) ≡ t.1
 last-index [] t e = cc
@@ -85,18 +85,18 @@ last-index (u ∷ v ∷ ts) t e =
     let n : length (u ∷ v ∷ ts) - 1 ≡ suc (length (v ∷ ts) - 1) = omega arith in
     ap (slice_index (map (λ (w : ℕ × ℕ). w.1) (u ∷ v ∷ ts))) n ∙ last-index (v ∷ ts) t e
 
--- of a journey in a ledger, with what is kept of it
+-- for a journey in a ledger, with what is kept of it
 module _ (m : MemBook) (s : State) (here : StandsFor m s) (j : ℕ) (a : l.Journey)
     (at : journey_at s.ledger j ≡ Some a) where
   -- its items
   abbrev h : List Item
   h = history s.ledger j
 
-  -- where it is
+  -- its cursor
   abbrev c : Cursor
   c = cursor_of a.plan (history s.ledger j)
 
-  -- to a step: by its phase, and whether its next want fits
+  -- the answer to a step: by the phase, and by whether the next want fits
   step-by_phase : (p : Phase) → phase a.plan h ≡ p → (fit : Bool)
       → (p ≡ Run → fit ≡ fits s.ledger (rules.next_want a.plan c.pos c.used))
       → Fits j a.plan c (answer_move s.ledger j step_choices NoSavePoint (Some a))
@@ -118,7 +118,7 @@ module _ (m : MemBook) (s : State) (here : StandsFor m s) (j : ℕ) (a : l.Journ
   step-by_phase Ended e fit is = move-finished s.ledger j step_choices NoSavePoint a (ap is_finished e)
   step-by_phase Undone e fit is = move-finished s.ledger j step_choices NoSavePoint a (ap is_finished e)
 
-  -- to an abort: by its phase
+  -- the answer to an abort: by the phase
   abort-by_phase : (p : Phase) → phase a.plan h ≡ p → (q : ℕ)
       → Fits j a.plan c (answer_move s.ledger j (abort_choices q) NoSavePoint (Some a))
       (turn_said a.plan (record c { phase = p }) (marks_of h) (turn.Asked q) cause.Asked)
@@ -137,7 +137,7 @@ module _ (m : MemBook) (s : State) (here : StandsFor m s) (j : ℕ) (a : l.Journ
   abort-by_phase Undone e q =
       move-finished s.ledger j (abort_choices q) NoSavePoint a (ap is_finished e)
 
-  -- to a stop: by its phase
+  -- the answer to a stop: by the phase
   stop-by_phase : (p : Phase) → phase a.plan h ≡ p
       → Fits j a.plan c (answer_move s.ledger j stop_choices NoSavePoint (Some a))
       (turn_said a.plan (record c { phase = p }) (marks_of h) turn.Stop cause.Stop)
@@ -156,7 +156,7 @@ module _ (m : MemBook) (s : State) (here : StandsFor m s) (j : ℕ) (a : l.Journ
   stop-by_phase Ended e = move-finished s.ledger j stop_choices NoSavePoint a (ap is_finished e)
   stop-by_phase Undone e = move-finished s.ledger j stop_choices NoSavePoint a (ap is_finished e)
 
-  -- to taking a save-point: by its phase
+  -- the answer to taking a save-point: by the phase
   save-by_phase : (p : Phase) → phase a.plan h ≡ p
       → Fits j a.plan c (answer_move s.ledger j save_choices NoSave (Some a))
       (save_said a.plan (record c { phase = p }) (marks_of h))
@@ -172,19 +172,19 @@ module _ (m : MemBook) (s : State) (here : StandsFor m s) (j : ℕ) (a : l.Journ
 
 -- The book's own moves.
 
--- what fits of a want that may be none
+-- whether an optional want fits
 pub fits_some-stock : (m : MemBook) (s : State) → StandsFor m s → (o : Option Wanted)
     → fits_some m.stock o ≡ fits s.ledger o
 fits_some-stock m s here None = refl
 fits_some-stock m s here (Some w) = fits-stock m s here w
 
--- a move of the journey that is seen, told by what is kept of it
+-- the journey that the asker sees, by what is kept of it
 record IsTold (m : MemBook) (who : Option (List ℕ)) (s : State) (id place : ℕ) (k : Journey) : Type 0 where
   pub at : journey_at s.ledger (suc place) ≡ Some (begun_as k)
   pub seen : seen_journey s.ledger who id ≡ Some (begun_as k)
   pub told : Tells k (history s.ledger (suc place))
 
--- so it is, where it is seen
+-- this holds where the asker sees the journey
 told-seen : (m : MemBook) (who : Option (List ℕ)) (s : State) (id place : ℕ) (k : Journey)
     → StandsFor m s → IsSeenAt m who id place → slice_get m.journeys.items place ≡ Some k
     → IsTold m who s id place k
@@ -198,7 +198,7 @@ told-seen m who s id place k here is at =
       told = here.told place k at;
     }
 
--- from what the rules say of a history to what is kept of it
+-- from what the rules say of a history to what is kept of the journey
 from_history : (id place : ℕ) (k : Journey) (h : List Item) (a b : Answer)
     (next : Result Item Refusal) → Tells k h → a ≡ b
     → Fits (suc place) k.plan (cursor_of k.plan h) b next

@@ -1,4 +1,4 @@
--- What is kept of a journey tells its history after one more item. For the moves of a book in memory.
+-- What is kept of a journey agrees with its history after one more item. For the moves of a book in memory.
 use Rattle.std.proofs.Common.{◌≡◌, ℕ, zero, suc, ◌+◌, ◌-◌, Bool, true, false, List, [], ◌∷◌, ◌++◌, length, map, take, refl, ap, sym, ◌∙◌, arith}
 use Rattle.std.specs.Prelude.{◌==◌, ◌&&◌, ◌||◌, nat_le, IsTrue}
 use Rattle.std.specs.FinSet as set
@@ -25,7 +25,7 @@ use Rattle.memory_book.specs.declared.journeys.Journey.{Journey}
 abbrev option_of : ℕ × ℕ → ℕ
 option_of t = t.1
 
--- without its last a list with one more at its end is the list
+-- a list with one appended is the list again without its last element
 take-push : (xs : List ℕ) (x : ℕ) → take (length (xs ++ x ∷ []) - 1) (xs ++ x ∷ []) ≡ xs
 take-push [] x = refl
 take-push (y ∷ []) x = refl
@@ -80,7 +80,7 @@ pub record MakesOne (old new : Journey) (x : Item) : Type 0 where
   pub marks : (q : ℕ)
       → is_taken_in new.marks q ≡ stands_after x new.cursor.pos (is_taken_in old.marks) q
 
--- what is then kept tells the history with that item
+-- what is then kept agrees with the history with that item
 pub tells-more : (old new : Journey) (x : Item) (h : List Item) (may_fit : Bool)
     → Tells old h → MakesOne old new x → Follows old.plan h
     → IsTrue (may_come old.plan h may_fit x) → Tells new (h ++ x ∷ [])

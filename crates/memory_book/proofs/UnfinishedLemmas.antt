@@ -14,16 +14,16 @@ use Rattle.memory_book.specs.declared.mem_book.MemBook.{MemBook}
 use Rattle.memory_book.proofs.BeginLemmas.{length-begun}
 use Rattle.memory_book.proofs.StandLemmas.{journey_at-kept}
 
--- what is shown of a journey in short, under this number
+-- the summary of a journey, under this number
 abbrev pub brief_at : ℕ → Journey → Brief
 brief_at j k = record { id = j; agent = k.agent; cursor = k.cursor }
 
--- the same of each journey, from this number on
+-- the summaries of journeys, numbered from this one on
 abbrev pub briefs_from : ℕ → List Journey → List Brief
 briefs_from j [] = []
 briefs_from j (k ∷ ks) = brief_at j k ∷ briefs_from (suc j) ks
 
--- the journeys of these numbers are shown so, where each is
+-- the ledger shows these summaries of the journeys with these numbers, where it shows each
 briefs-each : (l : List Event) (ks : List Journey) (first : ℕ)
     → ((i : ℕ) (k : Journey) → slice_get ks i ≡ Some k → (j : ℕ) → j ≡ first + i
     → brief_of l j ≡ Some (brief_at j k))
@@ -35,7 +35,7 @@ briefs-each l (k ∷ ks) first each =
     ∙ ap (λ bs. brief_at first k ∷ bs)
     (briefs-each l ks (suc first) (λ i x at j e. each (suc i) x at j (omega arith)))
 
--- what is kept of a journey is what the ledger shows of it in short
+-- what is kept of a journey is the summary that the ledger shows
 brief_of-kept : (m : MemBook) (s : State) → StandsFor m s → (i : ℕ) (k : Journey)
     → slice_get m.journeys.items i ≡ Some k → (j : ℕ) → j ≡ 1 + i
     → brief_of s.ledger j ≡ Some (brief_at j k)
@@ -48,7 +48,7 @@ brief_of-kept m s here i k at j is =
     (sym (here.told i k at).cursor)
     ∙ ap (λ n. Some (brief_at n k)) (sym next)
 
--- so the first that is not finished is the first among those that are kept
+-- so the first journey that is not finished is the first among those that are kept
 pub first_unfinished-kept : (m : MemBook) (s : State) (after : ℕ) → StandsFor m s
     → find (is_unfinished_above after) (briefs_from 1 m.journeys.items)
     ≡ first_unfinished s.ledger after
@@ -60,7 +60,7 @@ first_unfinished-kept m s after here =
 
 -- One journey after another.
 
--- what is shown of a journey in short is told by its parts
+-- a summary with these parts is that of the journey
 pub brief_is : (b : Brief) (j : ℕ) (k : Journey) → b.id ≡ j → b.agent ≡ k.agent
     → b.cursor ≡ k.cursor → b ≡ brief_at j k
 brief_is b j k number agent cursor =
@@ -68,7 +68,7 @@ brief_is b j k number agent cursor =
     ∙ ap (λ a. record { id = j; agent = a; cursor = b.cursor }) agent
     ∙ ap (λ c. record { id = j; agent = k.agent; cursor = c }) cursor
 
--- from a place on, the first that passes is the journey there or the first behind it
+-- from a place on, the first that passes is the journey there or the first after it
 pub found_from : (test : Brief → Bool) (ks : List Journey) (place : ℕ) (k : Journey)
     → place < length ks → k ≡ get_or ks place k
     → find test (briefs_from (suc place) (drop place ks))

@@ -1,4 +1,4 @@
--- What a book in memory stands for, part by part.
+-- What a book in memory represents, part by part.
 use Rattle.std.specs.Prelude.{◌≡◌, ℕ, suc, ◌<◌, List, vec_len, vec_capacity, length, map, filter_map, slice_get, Option, Some, None, Result, MatchResult, IfOk, OnErr, IfSome, IsTrue}
 use Rattle.std.specs.declared.alloc.AllocError.{AllocError}
 use Rattle.allotment.specs.declared.cells.Cell.{Cell}
@@ -26,19 +26,19 @@ use Rattle.memory_book.specs.declared.mem_book.MemBook.{MemBook}
 abbrev pub begun_as : Journey → l.Journey
 begun_as k = record { agent = k.agent; plan = k.plan }
 
--- what is kept of a journey is its history, and what this has come to
+-- what is kept of a journey is its history, and the state that follows from it
 pub record Tells (k : Journey) (h : List Item) : Type 0 where
   pub items : k.items.items ≡ h
   pub cursor : k.cursor ≡ cursor_of k.plan h
   pub marks : k.marks ≡ marks_of h
   pub taken : k.taken.items ≡ map (λ (t : ℕ × ℕ). t.1) (net h)
 
--- there is room for one more item
+-- there is capacity for one more item
 pub record HasRoom (k : Journey) : Type 0 where
   pub items : vec_len k.items < vec_capacity k.items
   pub taken : vec_len k.taken < vec_capacity k.taken
 
--- nothing is kept that was not kept before, and all that was
+-- the two journeys are the same, except for their capacity
 pub record IsSameJourney (old new : Journey) : Type 0 where
   pub begun : begun_as new ≡ begun_as old
   pub items : new.items.items ≡ old.items.items
@@ -46,7 +46,7 @@ pub record IsSameJourney (old new : Journey) : Type 0 where
   pub marks : new.marks ≡ old.marks
   pub taken : new.taken.items ≡ old.taken.items
 
--- the batch that this event loaded, if it loaded one
+-- the batch that this event loaded, if any
 abbrev pub batch_of : Event → Option Batched
 batch_of (Loaded name rows) = Some (record { name = name; rows = rows })
 batch_of _ = None
@@ -60,7 +60,7 @@ abbrev pub TellEach : List Journey → List Event → Type 0
 TellEach kept l =
     (i : ℕ) (k : Journey) → slice_get kept i ≡ Some k → Tells k (history l (suc i))
 
--- the book stands for a state, whose ledger is legal
+-- the book represents a state, whose ledger is legal
 pub record StandsFor (m : MemBook) (s : State) : Type 0 where
   pub begun : map begun_as m.journeys.items ≡ journeys s.ledger
   pub told : TellEach m.journeys.items s.ledger
@@ -72,51 +72,51 @@ pub record StandsFor (m : MemBook) (s : State) : Type 0 where
 
 -- Answers.
 
--- the reply is that of the answer, and the book stands for the state that the answer leaves
+-- the reply is that of the answer, and the book represents the state after the answer
 pub record IsCarriedOut (m : MemBook) (s : State) (ask : Option Asked) (a : Answer) (r : Reply)
     : Type 0 where
   pub replied : r ≡ a.reply
   pub stands : StandsFor m (carried_out s ask a).state
 
--- a request whose key is not known is answered, whatever state the book stood for
+-- a request whose key is not known is answered, whatever state the book represented
 abbrev pub CarriesOut : MemBook → MemBook → Option Asked → Request → Result Reply AllocError → Type 0
 CarriesOut old new ask asked result =
     (s : State) → StandsFor old s
     → IfOk result (IsCarriedOut new s ask (answer s.ledger (asker ask) asked))
 
--- where memory ran out, the book stands for what it stood for
+-- out of memory, the book represents what it represented before
 abbrev pub KeepsBook : {T : Type 0} → MemBook → MemBook → Result T AllocError → Type 0
 KeepsBook old new result = OnErr result ((s : State) → StandsFor old s → StandsFor new s)
 
--- a journey stands at this place, and it is seen
+-- a journey is at this place, and the asker sees it
 pub record IsSeenAt (m : MemBook) (who : Option (List ℕ)) (id place : ℕ) : Type 0 where
   pub within : place < length m.journeys.items
   pub number : id ≡ suc place
   pub seen : (k : Journey) → slice_get m.journeys.items place ≡ Some k
       → IsTrue (sees who (begun_as k))
 
--- no journey of this number is seen
+-- the asker sees no journey with this number
 abbrev pub IsSeenNowhere : MemBook → Option (List ℕ) → ℕ → Type 0
 IsSeenNowhere m who id = (s : State) → StandsFor m s → seen_journey s.ledger who id ≡ None
 
--- what the rules answer is what this comes to for the journey at this place: its item, or a refusal
+-- the rules answer with the result of this move of the journey at this place: its item, or a refusal
 abbrev pub IsMove : MemBook → ℕ → Answer → Result Item Refusal → Type 0
 IsMove m place answered next =
     (k : Journey) → slice_get m.journeys.items place ≡ Some k
     → MatchResult next (λ x. answered ≡ moves (suc place) k.plan k.cursor x)
     (λ why. answered ≡ refused why)
 
--- the journey at this place may make what it comes to: it is next there, and what it takes fits
+-- the journey at this place may make the item: the item is next there, and what it takes fits
 pub record IsReady (m : MemBook) (k : Journey) (x : Item) : Type 0 where
   pub next : IsNext k.plan k.cursor x
   pub fits : IsTrue (fits_where_taken m.stock k.plan x)
 
--- whatever item this comes to, the journey at this place may make it
+-- if the move results in an item, the journey at this place may make it
 abbrev pub MayBeMade : MemBook → ℕ → Result Item Refusal → Type 0
 MayBeMade m place next =
     (k : Journey) → slice_get m.journeys.items place ≡ Some k → IfOk next (IsReady m k)
 
--- where the ledger has room the answer is this load, and where it has none it is refused
+-- if the ledger has room the answer is this load, and otherwise a refusal
 pub record IsDue (l : List Event) (who : Option (List ℕ)) (name : List ℕ) (rows : List Row)
     (a : Answer) : Type 0 where
   pub answered : a ≡ limited l (answer_new name rows None)

@@ -14,7 +14,7 @@ use Rattle.memory_book.specs.declared.answers.Answers.{Answers}
 abbrev pub ask_key_cmp : AskKey → AskKey → Ordering
 ask_key_cmp = then_cmp (on (λ k. k.agent) (slice_cmp nat_cmp)) (on (λ k. k.key) (slice_cmp nat_cmp))
 
--- the kept reply, as the definitions have it
+-- the kept reply, as the definitions represent it
 abbrev pub kept_said : KeptAnswer → KeptReply
 kept_said k = record { text = k.text.items; reply = k.reply }
 

@@ -1,4 +1,4 @@
--- What a book in memory keeps of a journey, and what one more item changes of it.
+-- What a book in memory keeps of a journey, and how one more item changes it.
 use Rattle.std.specs.Prelude.{◌≡◌, ℕ, ◌+◌, ◌-◌, ◌<◌, ◌≤◌, ◌==◌, ◌&&◌, ◌||◌, Bool, List, [], ◌∷◌, ◌++◌, length, map, take, nat_le, slice_index, IsTrue}
 use Rattle.plan.specs.PlanModel.{Planned, step_count, option_count}
 use Rattle.commands.specs.declared.items.Item.{Item}
@@ -10,11 +10,11 @@ use Rattle.ledger.specs.History.{net, is_going_back, is_open}
 use Rattle.savepoints.specs.Marks.{last_mark}
 use Rattle.saga_core.specs.Views.{cursor_of, marks_of}
 
--- this option is one of the step that has this place, from 0
+-- the option belongs to the step at this place, counted from 0
 abbrev pub IsOptionAt : Planned → ℕ → ℕ → Type 0
 IsOptionAt plan place c = (1 ≤ c) × (c ≤ option_count plan (place + 1))
 
--- where a journey is, with the options that its standing steps took, agrees with its plan
+-- the position and phase of a journey, and the options that its standing steps took, agree with its plan
 pub record IsPlaced (plan : Planned) (cursor : Cursor) (taken : List ℕ) : Type 0 where
   pub counted : length taken ≡ cursor.pos
   pub within : cursor.pos ≤ step_count plan
@@ -29,13 +29,13 @@ taken_after (Transaction i c) taken = taken ++ c ∷ []
 taken_after (Compensation i c) taken = take (length taken - 1) taken
 taken_after _ taken = taken
 
--- which save-points stand after one more item, where the journey is then at this position
+-- whether a save-point stands after one more item, which brings the journey to this position
 abbrev pub stands_after : Item → ℕ → (ℕ → Bool) → ℕ → Bool
 stands_after (Save p) pos before q = (q == p) || before q
 stands_after (Compensation i c) pos before q = nat_le q pos && before q
 stands_after _ pos before q = before q
 
--- the item may be made where the journey is
+-- the item may be next for a journey with this cursor
 abbrev pub IsNext : Planned → Cursor → Item → Type 0
 IsNext plan cursor (Transaction i c) =
     (cursor.phase ≡ Run) × (i ≡ cursor.pos + 1) × IsOptionAt plan cursor.pos c

@@ -1,4 +1,4 @@
--- What a step of a journey comes to, by what is kept of it: an item, or why there is none.
+-- The result of a journey's step, by what is kept of the journey: an item, or why there is none.
 use Rattle.std.specs.Prelude.{ℕ, ◌+◌, ◌-◌, Bool, List, slice_index, if◌then◌else◌, Result, Ok, Err}
 use Rattle.std.specs.FinSet as set
 use Rattle.std.specs.Ordering.{nat_cmp}
@@ -14,7 +14,7 @@ use Rattle.commands.specs.declared.refusals.Refusal.TheVariants.{Finished}
 use Rattle.ledger.specs.History.{is_going_back, is_finished}
 pub use Rattle.saga_core.specs.Rulings.{turn_said, save_said}
 
--- a step goes back by the last option that was taken, or forward, or turns where its want does not fit
+-- a step goes back by the last option that was taken; or goes forward; or turns if its want does not fit
 abbrev pub step_said : Planned → Cursor → set.FinSet nat_cmp → List ℕ → Bool → Result Item Refusal
 step_said plan c marks taken fits =
     if is_finished c.phase then Err Finished

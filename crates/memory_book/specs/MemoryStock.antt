@@ -1,4 +1,4 @@
--- The places of all cells, as a book in memory keeps them, and what its calls change of them.
+-- The places of all cells, as a book in memory keeps them, and how its calls change them.
 use Rattle.std.specs.Prelude.{◌≡◌, ℕ, ◌+◌, ◌-◌, ◌≤◌, ⊤, Bool, true, false, List, filter, nat_le, nat_lt, if◌then◌else◌, Option, Some, option_map, unwrap_or}
 use Rattle.std.specs.List.{list_all}
 use Rattle.std.specs.BTreeMap as tree
@@ -15,7 +15,7 @@ use Rattle.ledger.specs.Ledger.{places_in}
 use Rattle.saga_core.specs.Views.{Places, places_said}
 use Rattle.memory_book.specs.declared.stock.Stock.{Stock}
 
--- what the stock has of a cell
+-- the places of a cell in the stock
 abbrev pub stock_at : Stock → Cell → Option Places
 stock_at stock x =
     option_map places_said (tree.get cell_key_cmp stock.places (record { cell = x }))
@@ -33,18 +33,18 @@ fits_in_stock stock want = list_all (has_free_in stock want.count) (cells_of wan
 abbrev pub with_less : ℕ → Places → Places
 with_less n p = record { allot = p.allot; free = p.free - n }
 
--- with so many more free places, where so many are held
+-- with so many more free places, if so many are held
 abbrev pub with_back : ℕ → Places → Places
 with_back n p =
     if nat_le n (p.allot - p.free) then record { allot = p.allot; free = p.free + n } else p
 
--- the places of this cell change so, where it was loaded, and no other cell's
+-- the places of this cell change so, if it was loaded; those of other cells stay the same
 abbrev pub ChangesOne : (Places → Places) → Cell → Stock → Stock → Type 0
 ChangesOne change cell old new =
     (x : Cell) → stock_at new x
     ≡ (if is_cell x cell then option_map change (stock_at old cell) else stock_at old x)
 
--- the places of each cell of the want change by its count, and no other cell's do
+-- the places of each cell of the want change by its count; those of other cells stay the same
 abbrev pub ChangesEach : (ℕ → Places → Places) → Wanted → Stock → Stock → Type 0
 ChangesEach change want old new =
     (x : Cell) → stock_at new x ≡ option_map (change (places_in x (Some want))) (stock_at old x)
@@ -55,7 +55,7 @@ is_below_in stock row =
     unwrap_or
     (option_map (λ (p : Places). nat_lt row.places (p.allot - p.free)) (stock_at stock row.cell)) false
 
--- with another allotment: what is held stays held
+-- with another allotment; held places stay held
 abbrev pub with_allotment : ℕ → Places → Places
 with_allotment n p = record { allot = n; free = n - (p.allot - p.free) }
 
@@ -64,17 +64,17 @@ abbrev pub set_to : Stock → Cell → ℕ → Places
 set_to stock x n =
     unwrap_or (option_map (with_allotment n) (stock_at stock x)) (record { allot = n; free = n })
 
--- the last of these rows that is of this cell
+-- the last of these rows for this cell
 abbrev pub last_row : List Row → Cell → Option Row
 last_row rows x = last_of (filter (λ (r : Row). is_cell x r.cell) rows)
 
--- each cell of the rows has the places of its last row, and no other changes
+-- each cell of the rows has the places of its last row; other cells stay the same
 abbrev pub LoadsRows : Stock → Stock → List Row → Type 0
 LoadsRows old new rows =
     (x : Cell) → stock_at new x ≡ unwrap_or
     (option_map (λ (r : Row). Some (set_to old x r.places)) (last_row rows x)) (stock_at old x)
 
--- What an item changes.
+-- Changes by an item.
 
 -- the step and the option of the item are in the plan
 abbrev pub IsInPlan : Planned → Item → Type 0
@@ -84,7 +84,7 @@ IsInPlan plan (Compensation i c) =
     (1 ≤ i) × (i ≤ step_count plan) × (1 ≤ c) × (c ≤ option_count plan i)
 IsInPlan plan _ = ⊤
 
--- a want that may be none fits
+-- there is a want, and it fits
 abbrev pub fits_some : Stock → Option Wanted → Bool
 fits_some stock want = unwrap_or (option_map (fits_in_stock stock) want) false
 
@@ -93,7 +93,7 @@ abbrev pub fits_where_taken : Stock → Planned → Item → Bool
 fits_where_taken stock plan (Transaction i c) = fits_some stock (want_at plan i c)
 fits_where_taken stock plan _ = true
 
--- the item takes the places of its want, gives them back, or changes none
+-- the item takes the places of its want, gives them back, or changes no places
 abbrev pub ChangesFor : Planned → Item → Stock → Stock → Type 0
 ChangesFor plan (Transaction i c) old new =
     (x : Cell) → stock_at new x

@@ -1,10 +1,10 @@
-//! Replies that are kept, by who asked and under which key.
+//! Kept replies, by agent and key.
 use crate::keys::AskKey;
 use commands::{Ask, Refusal, Reply};
 use std::alloc::{AllocError, Global};
 use std::collections::BTreeMap;
 
-/// A reply that is kept, with the text that was asked.
+/// A kept reply, with the text of its request.
 #[derive(Drop)]
 pub struct KeptAnswer {
     text: Vec<u8>,
@@ -16,7 +16,7 @@ impl KeptAnswer {
     ghost use Rattle.ledger.specs.Answer.{State, answered_again};
     ghost use Rattle.memory_book.specs.MemoryAnswers.{kept_said};
 
-    /// What is answered to this text under a known key: the kept reply, where it is the same text.
+    /// The reply to this text under a known key: the kept reply, if it is the same text.
     fn again(&self, text: &[u8]) -> Reply
         ensures reply { (s : State) → result
             ≡ (answered_again s text.now (kept_said self.now)).reply }
@@ -29,7 +29,7 @@ impl KeptAnswer {
     }
 }
 
-/// The kept replies.
+/// The kept replies, by agent and key.
 #[derive(Drop)]
 pub struct Answers {
     kept: BTreeMap<AskKey, KeptAnswer>,
@@ -41,7 +41,7 @@ impl Answers {
     ghost use Rattle.ledger.specs.Answer.{State, nothing_kept, kept_after, answered_again, text_of};
     ghost use Rattle.memory_book.specs.MemoryAnswers.{kept_in, found_for, AreKeptAlike};
 
-    /// No reply is kept.
+    /// No kept replies.
     pub fn new(alloc: Global) -> Answers
         ensures nothing { AreKeptAlike (kept_in result) nothing_kept }
     {
@@ -50,7 +50,7 @@ impl Answers {
         }
     }
 
-    /// What is answered to an ask whose key is known.
+    /// The reply to a request whose key is known. Returns `None` if its key is new, or if it has none.
     pub fn again(&self, ask: Option<&Ask>) -> Option<Reply>
         ensures known { (s : State) → result
             ≡ option_map (λ k. (answered_again s (text_of (option_copied ask.entry)) k).reply)
@@ -62,7 +62,7 @@ impl Answers {
         }
     }
 
-    /// The same to this ask.
+    /// The reply to a request with a key. Returns `None` if the key is new.
     fn again_to(&self, ask: &Ask) -> Option<Reply>
         ensures known { (s : State) → result
             ≡ option_map (λ k. (answered_again s ask.now.text k).reply)
@@ -74,7 +74,7 @@ impl Answers {
         }
     }
 
-    /// Keeps the reply to an ask, where there is one.
+    /// Keeps the reply to a request, if the request has a key.
     pub fn keep(&mut self, alloc: Global, ask: Option<&Ask>, reply: Reply) -> Result<(), AllocError>
         ensures kept { OnOk result (AreKeptAlike (kept_in self.new)
             (kept_after (kept_in self.old) (option_copied ask.entry) reply)) }

@@ -11,21 +11,21 @@ use saga_core::{Brief, Record};
 use savepoints::{Marks, option_at};
 use std::alloc::{AllocError, Global};
 
-/// Where a journey begins.
+/// The start of a journey.
 const AT_START: Cursor = Cursor {
     pos: 0,
     phase: Phase::Run,
     used: 0,
 };
 
-/// A journey: who began it, its plan, its items in order, and what they have come to.
+/// A journey: its agent, its plan, its items in order, and the state that follows from them.
 #[derive(Drop)]
 pub struct Journey {
     pub agent: Agent,
     pub plan: Plan,
     pub cursor: Cursor,
     pub marks: Marks,
-    /// The options that the steps which stand have taken, in order.
+    /// The options that the standing steps took, in order of the steps.
     pub taken: Vec<usize>,
     pub items: Vec<Item>,
     ghost placed: { IsPlaced plan cursor taken.items },
@@ -47,7 +47,7 @@ impl Journey {
     ghost use Rattle.memory_book.specs.MemoryJourneys.{IsOptionAt, taken_after, stands_after, IsNext};
     ghost use Rattle.memory_book.specs.Memory.{HasRoom, IsSameJourney};
 
-    /// A journey that is just begun.
+    /// A journey that has made no item.
     pub fn new(alloc: Global, agent: Agent, plan: Plan) -> Journey
         ensures agent { result.agent ≡ agent }
         ensures plan { result.plan ≡ plan }
@@ -65,7 +65,7 @@ impl Journey {
         }
     }
 
-    /// Whether who asks sees it: his own alone, and the house sees each.
+    /// Whether the asker sees the journey. An agent sees his own journeys, and the house sees all.
     pub fn is_seen_by(&self, ask: Option<&Ask>) -> bool
         ensures seen { result ≡ sees (asker (option_copied ask.entry)) (begun_as self.now) }
     {
@@ -75,7 +75,7 @@ impl Journey {
         }
     }
 
-    /// What a book shows of it.
+    /// The journey, as a book shows it. The only fault is out of memory.
     pub fn record(&self, alloc: Global) -> Result<Record, AllocError>
         ensures agent { IfOk result (λ r. r.agent ≡ self.now.agent) }
         ensures plan { IfOk result (λ r. r.plan ≡ self.now.plan) }
@@ -90,7 +90,7 @@ impl Journey {
         })
     }
 
-    /// The same in short, under its number.
+    /// The summary of the journey, under this number.
     pub fn brief(&self, id: u64) -> Brief
         ensures number { result.id ≡ id }
         ensures agent { result.agent ≡ self.now.agent }
@@ -103,7 +103,7 @@ impl Journey {
         }
     }
 
-    /// The option that its next step takes, while it runs.
+    /// The option that the journey's next step takes. The precondition says that the journey is running.
     pub fn next_option(&self) -> usize
         requires running { self.now.cursor.phase ≡ Phase.Run }
 
@@ -114,7 +114,7 @@ impl Journey {
         option_at(&self.plan, self.cursor.pos + 1, self.cursor.used)
     }
 
-    /// The want that its next step takes, while it runs.
+    /// The want that the journey's next step takes. The precondition says that the journey is running.
     pub fn next_want(&self) -> Want
         requires running { self.now.cursor.phase ≡ Phase.Run }
 
@@ -124,7 +124,7 @@ impl Journey {
         self.plan.want(self.cursor.pos + 1, self.next_option())
     }
 
-    /// The option that its last standing step took, while it goes back.
+    /// The option that the journey's last standing step took. The precondition says that the journey goes back.
     pub fn last_option(&self) -> usize
         requires back { IsTrue (is_going_back self.now.cursor.phase) }
 
@@ -134,7 +134,7 @@ impl Journey {
         self.taken[self.cursor.pos - 1]
     }
 
-    /// Makes room for one more item.
+    /// Reserves capacity for one more item. The only fault is out of memory, which changes nothing but capacity.
     pub fn reserve(&mut self) -> Result<(), AllocError>
         ensures room { OnOk result (HasRoom self.new) }
 
@@ -145,7 +145,7 @@ impl Journey {
         Ok(())
     }
 
-    /// Makes one more item, for which there is room.
+    /// Makes one more item. The precondition says that there is capacity for it.
     pub fn make(&mut self, item: Item)
         requires room { HasRoom self.old }
         requires next { IsNext self.old.plan self.old.cursor item }
@@ -171,7 +171,7 @@ impl Journey {
     }
 }
 
-/// Where a journey is after a way back has brought it to this position.
+/// The phase of a journey that went back to this position.
 fn phase_down(target: usize, pos: usize) -> Phase
     ensures down { result ≡ phase_down_rule target pos }
 {
@@ -184,7 +184,7 @@ fn phase_down(target: usize, pos: usize) -> Phase
     }
 }
 
-/// Where a journey with this plan is after one more item.
+/// The cursor of a journey with this plan after one more item.
 pub fn cursor_after(plan: &Plan, cursor: Cursor, item: Item) -> Cursor
     requires counted { cursor.used < 2 ^ 63 }
     requires within { cursor.pos ≤ step_count plan.now }

@@ -1,8 +1,8 @@
-//! What the maps of a book in memory are ordered by.
+//! Keys of the maps of a book in memory.
 use commands::{Agent, Ask, Key};
 use std::cmp::Ordering;
 
-/// An agent and one of his keys, ordered by their texts.
+/// An agent and one of his keys, ordered by the texts of both.
 #[derive(Clone, Copy, PartialEq, Eq)]
 pub struct AskKey {
     pub agent: Agent,
@@ -12,7 +12,7 @@ pub struct AskKey {
 impl AskKey {
     ghost use Rattle.std.specs.Prelude.{◌≡◌};
 
-    /// Who asks, and under which key.
+    /// The agent and the key of a request.
     pub fn of(ask: &Ask) -> AskKey
         ensures agent { result.agent ≡ ask.now.agent }
         ensures key { result.key ≡ ask.now.key }

@@ -1,8 +1,8 @@
-//! The book in memory, which tests and other programs run against. It never fails.
+//! The book in memory, for tests and other programs. Its store never fails: the only fault is out of memory.
 //!
-//! Beside the items of each journey it keeps what they have come to, and the places of all cells, so that a move costs
-//! what the nights of its want cost, however long the ledger is. All growth comes before any change, so that out of
-//! memory changes nothing. The program `desk` does not stand on this crate.
+//! Beside the items of each journey it keeps the state that follows from them, and the places of all cells. A move
+//! therefore costs time by the nights of its want, and not by the length of the ledger. All growth comes before any
+//! change, so that out of memory changes nothing. The program `desk` does not depend on this crate.
 #![tactic(auto)]
 
 mod answers;

@@ -15,13 +15,13 @@ use std::alloc::{AllocError, Global};
 /// The desk in memory.
 #[derive(Drop)]
 pub struct MemBook {
-    /// In the order of their numbers, which count from 1.
+    /// Journeys in order of their numbers, which count from 1.
     journeys: Vec<Journey>,
     stock: Stock,
-    /// In the order in which they were loaded.
+    /// Batches in the order in which they were loaded.
     batches: Vec<Batch>,
     answers: Answers,
-    /// How many events the ledger has.
+    /// The number of events in the ledger.
     events: u64,
     alloc: Global,
 }
@@ -34,7 +34,7 @@ impl MemBook {
     ghost use Rattle.ledger.specs.Answer.{start};
     ghost use Rattle.memory_book.specs.Memory.{StandsFor, CarriesOut, KeepsBook};
 
-    /// A new desk: no event, and no reply kept. It takes no memory.
+    /// A new desk: no event, and no reply kept. Allocates nothing.
     pub fn new(alloc: Global) -> MemBook
         ensures start { StandsFor result start }
     {
@@ -55,7 +55,7 @@ impl MemBook {
         self.events >= MOST_EVENTS
     }
 
-    /// The place of the journey with this number, if there is one.
+    /// The place of the journey with this number. Returns `None` if there is none.
     fn place_of(&self, id: u64) -> Option<usize>
         ensures within { IfSome result (λ place. place < length self.now.journeys.items) }
         ensures number { IfSome result (λ place. id ≡ suc place) }
@@ -68,7 +68,7 @@ impl MemBook {
         Some(id as usize - 1)
     }
 
-    /// Begins a journey of who asks, or of the house.
+    /// Begins a journey of the asker.
     fn begin(&mut self, plan: &Plan, ask: Option<&Ask>) -> Result<Reply, AllocError>
         ensures answer { CarriesOut self.old self.new (option_copied ask.entry)
             (request.Begin plan.now) result }
@@ -91,7 +91,7 @@ impl MemBook {
         Ok(Reply::Begun { id })
     }
 
-    /// Answers a command whose key is not known.
+    /// Answers a request whose key is not known.
     fn answer(&mut self, command: &Command, ask: Option<&Ask>) -> Result<Reply, AllocError>
         ensures answer { CarriesOut self.old self.new (option_copied ask.entry)
             (request_of command.now) result }

@@ -1,4 +1,4 @@
-//! What a move of a journey comes to, by what is kept of it: an item, or why there is none.
+//! The result of a journey's move, by what is kept of the journey: an item, or why there is none.
 ghost use Rattle.std.specs.Prelude.{◌≡◌, IfOk};
 ghost use Rattle.memory_book.specs.MemoryJourneys.{IsNext};
 ghost use Rattle.saga_core.specs.Views.{is_unfinished_above as is_unfinished_above_rule};
@@ -9,14 +9,14 @@ use commands::{Cause, Item, Refusal};
 use saga_core::{Brief, Move, decide, is_finished};
 use savepoints::Turn;
 
-/// Whether the journey has a number above this one, and more comes of it.
+/// Whether the journey has a number above this one and is unfinished.
 pub fn is_unfinished_above(brief: &Brief, after: u64) -> bool
     ensures unfinished { result ≡ is_unfinished_above_rule after brief.now }
 {
     brief.id > after && !is_finished(brief.cursor.phase)
 }
 
-/// A turn.
+/// The result of a turn.
 pub fn turned(journey: &Journey, turn: Turn, cause: Cause) -> Result<Item, Refusal>
     ensures said { result
         ≡ turn_said journey.now.plan journey.now.cursor journey.now.marks turn cause }
@@ -25,7 +25,7 @@ pub fn turned(journey: &Journey, turn: Turn, cause: Cause) -> Result<Item, Refus
     saga_core::turned(&journey.plan, &journey.marks, journey.cursor, turn, cause)
 }
 
-/// A save-point where the journey is.
+/// The result of taking a save-point at the journey's position.
 pub fn saved(journey: &Journey) -> Result<Item, Refusal>
     ensures said { result ≡ save_said journey.now.plan journey.now.cursor journey.now.marks }
     ensures next { IfOk result (IsNext journey.now.plan journey.now.cursor) }
@@ -34,7 +34,7 @@ pub fn saved(journey: &Journey) -> Result<Item, Refusal>
     saga_core::saved(&journey.plan, &journey.marks, journey.cursor)
 }
 
-/// The next step, where the want of a running journey fits or does not.
+/// The result of a step; `fits` says whether the next want of a running journey fits.
 pub fn stepped(journey: &Journey, fits: bool) -> Result<Item, Refusal>
     ensures said { result ≡ step_said journey.now.plan journey.now.cursor journey.now.marks
         journey.now.taken.items fits }

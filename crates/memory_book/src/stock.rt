@@ -1,4 +1,4 @@
-//! The places of all cells, kept by cell.
+//! The places of all cells, by cell.
 use allotment::{Cell, Held, Night, Row, Want, give, set, take};
 use commands::CellKey;
 use std::alloc::{AllocError, Global};
@@ -21,7 +21,7 @@ impl Stock {
     ghost use Rattle.memory_book.specs.MemoryStock.{with_less, with_back, ChangesOne, ChangesEach};
     ghost use Rattle.memory_book.specs.MemoryStock.{is_below_in, set_to, LoadsRows};
 
-    /// Nothing was loaded.
+    /// A stock in which no cell was loaded.
     pub fn new(alloc: Global) -> Stock
         ensures none { (x : Cell) → stock_at result x ≡ None }
     {
@@ -30,7 +30,7 @@ impl Stock {
         }
     }
 
-    /// The places of a cell, if it was ever loaded.
+    /// The places of a cell. Returns `None` if it was never loaded.
     pub fn get(&self, cell: &Cell) -> Option<Held>
         ensures places { option_map places_said result ≡ stock_at self.now cell.now }
     {
@@ -55,7 +55,7 @@ impl Stock {
         want.cells().all(|cell| self.has_free(&cell, count))
     }
 
-    /// Writes the places of a cell that was loaded.
+    /// Replaces the places of a cell that was loaded.
     fn put(&mut self, cell: &Cell, held: Held)
         requires there { IsSome (stock_at self.old cell.now) }
 
@@ -68,7 +68,7 @@ impl Stock {
         }
     }
 
-    /// Takes so many places of a cell.
+    /// Takes so many places of a cell. The precondition says that so many are free.
     fn take_one(&mut self, cell: &Cell, count: u32)
         requires free { IsTrue (has_free_in self.old count cell.now) }
 
@@ -81,7 +81,7 @@ impl Stock {
         self.put(cell, left);
     }
 
-    /// Takes the places of a want.
+    /// Takes the places of a want. The precondition says that the want fits.
     pub fn take(&mut self, want: &Want)
         requires fits { IsTrue (fits_in_stock self.old want.now) }
 
@@ -93,7 +93,7 @@ impl Stock {
         }
     }
 
-    /// Gives so many places of a cell back, where so many are held.
+    /// Gives so many places of a cell back, if so many are held.
     fn give_one(&mut self, cell: &Cell, count: u32)
         ensures given { ChangesOne (with_back count) cell.now self.old self.new }
     {
@@ -126,14 +126,14 @@ impl Stock {
         }
     }
 
-    /// The place, from 0, of the first row that has fewer places than journeys hold of its cell.
+    /// The index, from 0, of the first row that has fewer places than journeys hold of its cell.
     pub fn first_below_held(&self, rows: &[Row]) -> Option<usize>
         ensures first { result ≡ position (is_below_in self.now) rows.now }
     {
         rows.iter().position(|row| self.is_below_held(row))
     }
 
-    /// The places of a cell once a row of it is loaded: those that journeys hold stay held.
+    /// The places of a row's cell after the row is loaded. Places that journeys hold stay held.
     fn set_to(&self, row: &Row) -> Held
         requires held { IsTrue (not (is_below_in self.now row.now)) }
 
@@ -152,7 +152,7 @@ impl Stock {
         }
     }
 
-    /// The stock once these rows are loaded.
+    /// The stock after these rows are loaded. The only fault is out of memory.
     pub fn loaded(&self, rows: &[Row]) -> Result<Stock, AllocError>
         requires held { IsTrue (list_all (λ row. not (is_below_in self.now row)) rows.now) }
 
@@ -165,7 +165,7 @@ impl Stock {
         Ok(Stock { places })
     }
 
-    /// The nights of a want that were loaded, with their places.
+    /// The nights of a want that were loaded, with their places. The only fault is out of memory.
     pub fn nights_of(&self, alloc: Global, want: &Want) -> Result<Vec<(Night, Held)>, AllocError>
         ensures nights { IfOk result (λ nights. map night_said nights.items
             ≡ filter_map (λ x. option_map (at_night x) (stock_at self.now x)) (cells_of want.now)) }
@@ -179,7 +179,7 @@ impl Stock {
         Ok(nights)
     }
 
-    /// All cells with their places, in order.
+    /// All cells with their places, in order. The only fault is out of memory.
     pub fn rows(&self, alloc: Global) -> Result<Vec<(Cell, Held)>, AllocError>
         ensures rows { IfOk result (λ rows. rows.items
             ≡ map (λ e. (e.0.cell, e.1)) self.now.places.entries) }

@@ -1,7 +1,7 @@
 mod lines;
 mod rows;
 
-// What no clause says: that each call answers where memory is ample, on values from the rules, by hand.
+// What no clause says: each call succeeds given enough memory. The expected values are computed by hand from the rules.
 ghost use Rattle.std.specs.Prelude.{IsTrue};
 
 use crate::MemBook;
@@ -21,26 +21,26 @@ const AT_START: Cursor = Cursor {
 
 const REUSED: Reply = Reply::Refused(Refusal::KeyReused);
 
-/// Stops the test where this is not so.
+/// Stops the test if this does not hold.
 pub fn holds(rt: &impl Abort, case: &str, is_so: bool)
     ensures { IsTrue is_so }
 {
     assert!(rt; is_so, "{case}");
 }
 
-/// To begin the journey of one flight.
+/// The command that begins the journey of one flight.
 fn begin(alloc: Global) -> Result<Command, Fail> {
     Ok(Command::Begin(Plan::from_line(alloc, FLIGHT)?))
 }
 
-/// This agent asks, under this key and with this text.
+/// A request of this agent, under this key and with this text.
 pub fn ask(alloc: Global, agent: &str, key: &str, text: &str) -> Result<Ask, Fail> {
     let agent = Agent::parse(agent).ok_or("no agent")?;
     let key = Key::parse(key).ok_or("no key")?;
     Ok(Ask::new(agent, key, text.as_bytes().to_vec(alloc)?))
 }
 
-/// Stops the test where the book answers something else to this command.
+/// Stops the test if the book gives another answer to this command.
 fn replies(
     rt: &impl Abort,
     case: &str,
@@ -75,7 +75,7 @@ fn has_journey(book: &mut MemBook, id: u64) -> Result<bool, Fault> {
     Ok(record.is_some())
 }
 
-// who asks, under which key, with which text, and what is answered
+// agent, key and text of a request, and the expected answer
 #[rattlefmt::skip]
 const ASKS: [(&str, &str, &str, &str, Reply); 6] = [
     ("a new key",                "anna", "k1", "one", Reply::Begun { id: 1 }),
@@ -100,7 +100,7 @@ fn a_key_acts_once(rt: HostRuntime) -> Result<(), Fail> {
     Ok(())
 }
 
-/// Stops the test where this journey is not at its start, or is another agent's.
+/// Stops the test if this journey is not at its start, or belongs to another agent.
 fn is_shown(
     rt: &impl Abort,
     alloc: Global,

@@ -1,4 +1,4 @@
--- What a command of recovery comes to, by what the rules answer to it. For `stop` and `step`.
+-- What a command of recovery does, by how the rules answer it. For `stop` and `step`.
 use Rattle.std.proofs.Common.{◌≡◌, ℕ, ◌+◌, ◌<◌, ◌≤◌, List, [], ◌∷◌, ◌++◌, length, refl, ap, sym, ◌∙◌, subst, arith, append-nil, eq-eqb}
 use Rattle.std.proofs.lemmas.Bool.{leb-true, leb-false}
 use Rattle.std.specs.Prelude.{Bool, true, false, nat_le, Option, Some, None, is_some, option_map, Result, Err, IsTrue, if◌then◌else◌, ◌&&◌}
@@ -25,15 +25,15 @@ pub record Moves (l : List Event) (asked : Request) (j : ℕ) (item : Item) : Ty
   pub at : journey_at l j ≡ Some journey
   pub told : answer_within l None asked ≡ moved journey.plan (history l j) j item
 
--- with no event the state is the same
+-- with no event appended the state is the same
 pub with_none : (s : State) → with_events s [] ≡ s
 with_none s = ap (λ l. record { ledger = l; kept = s.kept }) (append-nil s.ledger)
 
--- what the request comes to, where the ledger is full or is not
+-- the outcome of the request, where the ledger is full or not
 abbrev pub cut : State → Answer → Bool → Outcome
 cut s a v = carried_out s None (if v then refused Limit else a)
 
--- it is cut off where the ledger is full
+-- the request is refused where the ledger is full
 pub outcome-moves : (s : State) (asked : Request) (j : ℕ) (item : Item)
     (m : Moves s.ledger asked j item)
     → outcome s None asked
@@ -42,7 +42,7 @@ outcome-moves s asked j item m =
     ap (λ (a : Answer). carried_out s None
     (if is_some a.event && nat_le most_events (length s.ledger) then refused Limit else a)) m.told
 
--- then the book stands for the state with the event more, or its ledger is full
+-- then the book represents the state with the event appended, or the ledger is full
 pub adds-cut : (stands : State → Type 0) (s : State) (j : ℕ) (item : Item) (a : Journey) (v : Bool)
     → nat_le most_events (length s.ledger) ≡ v
     → stands (cut s (moved a.plan (history s.ledger j) j item) v).state
@@ -51,7 +51,7 @@ pub adds-cut : (stands : State → Type 0) (s : State) (j : ℕ) (item : Item) (
 adds-cut stands s j item a true full st = (leb-true _ _ full, st)
 adds-cut stands s j item a false full st = (leb-false _ _ full, st)
 
--- so it is for the reply that came
+-- the same for the reply that was received
 pub adds : (stands : State → Type 0) (s : State) (asked : Request) (j : ℕ) (item : Item)
     → Moves s.ledger asked j item → (r : Reply) → r ≡ (outcome s None asked).reply
     → stands (outcome s None asked).state → Adds stands s (Did j item) (is_some (phase_told r))
@@ -88,7 +88,7 @@ steps-cut stands s j item a false at forward allowed full st = record {
   stands_there = st;
 }
 
--- so it is for the reply that came
+-- the same for the reply that was received
 pub steps : (stands : State → Type 0) (s : State) (asked : Request) (j : ℕ) (item : Item)
     → Moves s.ledger asked j item → IsTrue (is_forward item)
     → IsTrue (is_item_allowed s.ledger j item)
@@ -102,7 +102,7 @@ steps stands s asked j item m forward allowed r is st =
     (steps-cut stands s j item m.journey v m.at forward allowed refl
     (subst (λ (p : Outcome). stands p.state) o st))
 
--- at a fault a crash leaves the old state, or the one with the event more
+-- at a fault a crash leaves the old state, or the state with the event appended
 pub left_at_fault : (stood stands : State → Type 0) (leaves : State → State → Type 0) (s : State)
     (asked : Request) (j : ℕ) (item : Item) (Are : List Event → Type 0)
     → Moves s.ledger asked j item → Are [] → Are (Did j item ∷ [])

@@ -1,4 +1,4 @@
--- A pass at one journey after another. For `carry`.
+-- A pass over one journey after another. For `carry`.
 use Rattle.std.proofs.Common.{◌≡◌, ℕ, zero, suc, ◌+◌, ◌-◌, ◌<◌, ◌≤◌, List, [], ◌∷◌, ◌++◌, length, refl, ap, sym, ◌∙◌, arith, append_assoc, append-nil, length-append, subst}
 use Rattle.std.proofs.lemmas.Bool.{false_from_ne_true, not_from_false, ltb-true, ltb-false}
 use Rattle.std.specs.Prelude.{Bool, true, false, not, nat_lt, Option, Some, None, IsTrue}
@@ -21,8 +21,8 @@ use Rattle.recovery.proofs.PassLemmas.{with_more, grew-join, may-join, may-just,
 use Rattle.recovery.proofs.ReachLemmas.{reached-further, reached-carried, reached-past}
 use Rattle.recovery.proofs.TurnedLemmas.{first-in}
 
--- the book stands for the state with so many items of the pass more, and it is done with the
--- journeys up to this number
+-- the book represents the state with so many items of the pass appended, and the pass is done with the journeys up to
+-- this number
 pub record CarriedSoFar (p : Pass) (stands : State → Type 0) (s : State) (after made rounds : ℕ)
     : Type 0 where
   pub events : List Event
@@ -33,7 +33,7 @@ pub record CarriedSoFar (p : Pass) (stands : State → Type 0) (s : State) (afte
   pub within : made ≤ room_of s
   pub stands_there : stands (with_events s events)
 
--- at first there is none
+-- at first the pass has made no item
 pub carried-start : (p : Pass) (stands : State → Type 0) (s : State) → stands s
     → CarriedSoFar p stands s 0 0 0
 carried-start p stands s st = record {
@@ -57,7 +57,7 @@ carried-start p stands s st = record {
     none zero below = refl
     none (suc i) below = absurd (omega arith)
 
--- a journey that is not open is none of the pass
+-- the pass does not go on with a journey that is not open
 closed : (p : Pass) (m : List Event) (k : ℕ) → is_in is_open m k ≡ false
     → is_in (goes_on p) m k ≡ false
 closed p m k shut =
@@ -67,7 +67,7 @@ closed p m k shut =
     clash : true ≡ false → ⊥
     clash e = cc
 
--- the pass has come to the first open journey
+-- the pass has reached the first open journey
 come-to : (p : Pass) (stands : State → Type 0) (s : State) (after made rounds : ℕ) (b : Brief)
     → (t : CarriedSoFar p stands s after made rounds) → IsFirst (s.ledger ++ t.events) after b
     → HasReached (makes p) (goes_on p) s.ledger t.events b.id
@@ -76,7 +76,7 @@ come-to p stands s after made rounds b t f =
     reached-further (makes p) (goes_on p) s.ledger t.events (suc after) b.id t.reached (omega arith)
     (λ k low below. closed p (s.ledger ++ t.events) k (f.between k (omega arith) below))
 
--- the pass has nothing to do with it
+-- the pass has nothing to do with the first open journey
 pub carried-further : (p : Pass) (stands then : State → Type 0) (s : State) (after made rounds : ℕ)
     (b : Brief) → (t : CarriedSoFar p stands s after made rounds)
     → Some b ≡ first_unfinished (s.ledger ++ t.events) after → goes_on p b.cursor.phase ≡ false
@@ -99,14 +99,14 @@ carried-further p stands then s after made rounds b t is rests st =
       stands_there = st;
     }
 
--- the pass goes on with the first one
+-- the pass goes on with the first open journey
 pub goes-first : (p : Pass) (m : List Event) (after : ℕ) (b : Brief)
     → Some b ≡ first_unfinished m after → goes_on p b.cursor.phase ≡ true
     → is_in (goes_on p) m b.id ≡ true
 goes-first p m after b is goes =
     first-in (goes_on p) m after b (first-found m after b is) ∙ goes
 
--- its items, one journey more
+-- the items of the pass, with those of one more journey
 pub under-more : (p : Pass) (stands : State → Type 0) (s : State) (after made rounds : ℕ) (b : Brief)
     → (t : CarriedSoFar p stands s after made rounds)
     → Some b ≡ first_unfinished (s.ledger ++ t.events) after
@@ -117,7 +117,7 @@ under-more p stands s after made rounds b t is more c =
     (come-to p stands s after made rounds b t (first-found (s.ledger ++ t.events) after b is))
     c.allowed c.items c.of_journey
 
--- the journey was carried
+-- the pass is done with one more journey
 pub carried-more : (p : Pass) (stands then : State → Type 0) (s : State)
     (after made rounds more total : ℕ) (b : Brief) → (t : CarriedSoFar p stands s after made rounds)
     → Some b ≡ first_unfinished (s.ledger ++ t.events) after
@@ -151,7 +151,7 @@ carried-more p stands then s after made rounds more total b t is g sum =
       stands_there = subst then (with_more s t.events g.events) g.stands_there;
     }
 
--- the ledger was full within it
+-- the ledger was full within the journey
 pub carried-cut : (p : Pass) (stands then : State → Type 0) (s : State)
     (after made rounds more total : ℕ) (b : Brief) → (t : CarriedSoFar p stands s after made rounds)
     → Some b ≡ first_unfinished (s.ledger ++ t.events) after
@@ -172,7 +172,7 @@ carried-cut p stands then s after made rounds more total b t is g sum =
       full = omega arith;
     }
 
--- a fault came within it
+-- a fault within the journey
 pub carried-fault : (p : Pass) (stands : State → Type 0) (leaves : State → State → Type 0)
     (s : State) (after made rounds : ℕ) (b : Brief) (fault : Fault)
     → (t : CarriedSoFar p stands s after made rounds)
@@ -187,7 +187,7 @@ carried-fault p stands leaves s after made rounds b fault t is g =
       reached = under-more p stands s after made rounds b t is more c;
     })
 
--- no journey is left: the pass is through
+-- no journey is left: the pass is complete
 pub carried-all : (p : Pass) (stands then : State → Type 0) (s : State) (after made rounds : ℕ)
     → (t : CarriedSoFar p stands s after made rounds)
     → None ≡ first_unfinished (s.ledger ++ t.events) after → then (with_events s t.events)
@@ -235,7 +235,7 @@ carried-over p stands s after made rounds t over =
       full = omega arith;
     }
 
--- a look met a fault
+-- a read of the book met a fault
 pub carried-look : (p : Pass) (stands : State → Type 0) (leaves : State → State → Type 0)
     (s : State) (after made rounds : ℕ) (fault : Fault)
     → (t : CarriedSoFar p stands s after made rounds)

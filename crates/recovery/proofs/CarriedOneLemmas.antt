@@ -1,4 +1,4 @@
--- One journey that a pass carries, step by step. For `carry_one`.
+-- One journey in a pass, step by step. For `carry_one`.
 use Rattle.std.proofs.Common.{◌≡◌, ℕ, ◌+◌, ◌-◌, ◌<◌, ◌≤◌, List, [], ◌∷◌, ◌++◌, length, refl, ap, sym, ◌∙◌, arith, append_assoc, append-nil, length-append, subst}
 use Rattle.std.specs.Prelude.{Bool, true, false, Option, Some, None}
 use Rattle.commands.specs.declared.faults.Fault.{Fault}
@@ -13,7 +13,7 @@ use Rattle.recovery.specs.declared.passes.Pass.{Pass}
 use Rattle.recovery.proofs.CarryLemmas.{in-open, carry-start, carry-more, goes-told}
 use Rattle.recovery.proofs.PassLemmas.{with_more, may-join}
 
--- the book stands for the state with so many steps of the journey more, and the pass goes on with it
+-- the book represents the state with so many steps of the journey appended, and the pass goes on with it
 pub record OneSoFar (p : Pass) (stands : State → Type 0) (s : State) (j made : ℕ) : Type 0 where
   pub events : List Event
   pub carry : Carry p j s.ledger events
@@ -22,7 +22,7 @@ pub record OneSoFar (p : Pass) (stands : State → Type 0) (s : State) (j made :
   pub within : made ≤ room_of s
   pub stands_there : stands (with_events s events)
 
--- at first there is no step
+-- at first the pass has made no step
 pub one-start : (p : Pass) (stands : State → Type 0) (s : State) (j : ℕ) → stands s
     → is_in (goes_on p) s.ledger j ≡ true → OneSoFar p stands s j 0
 one-start p stands s j st on = record {
@@ -85,7 +85,7 @@ one-on p stands then s j made q t legal step on =
       stands_there = m.stands_there;
     }
 
--- the pass is done with it
+-- the pass is done with the journey
 pub one-done : (p : Pass) (stands then : State → Type 0) (s : State) (j made : ℕ) (q : Phase)
     → (t : OneSoFar p stands s j made) → IsLegal (s.ledger ++ t.events)
     → Steps stands then j (Some q) → goes_on p q ≡ false
@@ -119,7 +119,7 @@ one-full p then s j made t full =
       full = omega arith;
     }
 
--- the step found it full
+-- the step found the ledger full
 pub one-refused : (p : Pass) (stands then : State → Type 0) (s : State) (j made : ℕ)
     → OneSoFar p stands s j made → Steps stands then j None
     → GrewFull then (Carry p j s.ledger) s made

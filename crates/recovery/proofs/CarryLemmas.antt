@@ -1,4 +1,4 @@
--- A journey that a pass carries: each of its steps is of the kind that the pass makes. For `carry_one`.
+-- One journey in a pass: each of its steps is of the kind that the pass makes. For `carry_one`.
 use Rattle.std.proofs.Common.{◌≡◌, ℕ, List, [], ◌∷◌, ◌++◌, refl, ap, sym, ◌∙◌, append_assoc, eq-eqb, subst}
 use Rattle.std.proofs.lemmas.Bool.{and_from}
 use Rattle.std.proofs.lemmas.List.Folds.{list_all-append}
@@ -18,7 +18,7 @@ use Rattle.recovery.specs.declared.passes.Pass.{Pass}
 use Rattle.recovery.specs.declared.passes.Pass.TheVariants as pass
 use Rattle.recovery.proofs.TellLemmas.{is_there}
 
--- a pass goes on with open journeys alone
+-- a pass goes on with open journeys only
 goes-open : (p : Pass) (q : Phase) → goes_on p q ≡ true → is_open q ≡ true
 goes-open pass.Back Run e = refl
 goes-open pass.Back (Back t) e = refl
@@ -26,7 +26,7 @@ goes-open pass.Back Ended e = cc
 goes-open pass.Back Undone e = cc
 goes-open pass.On q e = e
 
--- so a journey that it goes on with is open
+-- so a journey with which it goes on is open
 pub in-open : (p : Pass) (m : List Event) (j : ℕ) → is_in (goes_on p) m j ≡ true
     → is_in is_open m j ≡ true
 in-open p m j goes =
@@ -46,13 +46,13 @@ step-made pass.Back m j item legal goes forward allowed =
     in
     ap is_compensation (sym same) ∙ back.1
 
--- Carrying.
+-- Steps of one journey.
 
 -- at first there is no event
 pub carry-start : (p : Pass) (j : ℕ) (l : List Event) → Carry p j l []
 carry-start p j l = record { allowed = tt; items = refl; of_journey = refl }
 
--- and then one step more
+-- one more step
 pub carry-more : (p : Pass) (j : ℕ) (l events : List Event) (item : Item) → Carry p j l events
     → IsLegal (l ++ events) → is_in (goes_on p) (l ++ events) j ≡ true → is_forward item ≡ true
     → is_item_allowed (l ++ events) j item ≡ true → Carry p j l (events ++ Did j item ∷ [])
@@ -67,7 +67,7 @@ carry-more p j l events item c legal goes forward allowed = record {
       ∙ and_from _ _ c.of_journey (and_from _ _ (eq-eqb j j refl) refl);
 }
 
--- the phase that a step tells is that in which the journey is then
+-- the reported phase of a step is the phase of the journey after it
 pub goes-told : (p : Pass) (m : List Event) (j : ℕ) (q : Phase) → phase_of m j ≡ Some q
     → is_in (goes_on p) m j ≡ goes_on p q
 goes-told p m j q told = ap (λ o. unwrap_or (option_map (goes_on p) o) false) told

@@ -1,4 +1,4 @@
--- One pass after another, to the end, to where the ledger is full, or to a fault. For `recover_all`.
+-- One pass after another, until all are complete, the ledger is full, or a fault comes. For `recover_all`.
 use Rattle.std.proofs.Common.{◌≡◌, ℕ, ◌+◌, ◌≤◌, List, ◌++◌, ap, append_assoc, sym, ◌∙◌, subst, refl}
 use Rattle.commands.specs.declared.faults.Fault.{Fault}
 use Rattle.ledger.specs.Recovery.{IsRecovered}
@@ -13,7 +13,7 @@ use Rattle.recovery.specs.declared.passes.Pass.TheVariants.{Back, On}
 use Rattle.recovery.proofs.PassLemmas.{with_more, grew-join, full-join, may-join, may-weaken}
 use Rattle.recovery.proofs.RecoverLemmas.{turns-begin, back-begins, on-begins, on-recovers, recovery-whole, recovery-full}
 
--- a beginning that fills the ledger is recovery, as far as there is room
+-- a prefix of the recovered ledger that fills the ledger is recovery, as far as there is room
 cut-recovers : (stands : State → Type 0) (s : State) (made : ℕ)
     → GrewFull stands (AreBeginning s.ledger) s made → Grew stands (AreRecovery s.ledger) s made
 cut-recovers stands s made g = record {
@@ -24,7 +24,7 @@ cut-recovers stands s made g = record {
   stands_there = g.grew.stands_there;
 }
 
--- the turns filled it
+-- the turns filled the ledger
 pub turns-cut : (stands : State → Type 0) (s : State) (made : ℕ) → IsLegal s.ledger
     → GrewFull stands (AreFirstStops s.ledger) s made → Grew stands (AreRecovery s.ledger) s made
 turns-cut stands s made legal g =
@@ -39,7 +39,7 @@ turns-cut stands s made legal g =
       full = g.full;
     })
 
--- the way back filled it
+-- the way back filled the ledger
 pub back-cut : (turned stands : State → Type 0) (s : State) (n m total : ℕ) → IsLegal s.ledger
     → (t : Grew turned (AreStops s.ledger) s n)
     → GrewFull stands (IsUnderWay Back (s.ledger ++ t.events)) (with_events s t.events) m
@@ -50,7 +50,7 @@ back-cut turned stands s n m total legal t g sum =
     n m total t.counted t.within g
     (back-begins s.ledger t.events g.grew.events legal t.are g.grew.are) sum)
 
--- the way on filled it
+-- the way on filled the ledger
 pub on-cut : (turned back stands : State → Type 0) (s : State) (n m k total : ℕ)
     → IsLegal s.ledger → (t : Grew turned (AreStops s.ledger) s n)
     → (b : Grew back (IsThrough Back (s.ledger ++ t.events)) (with_events s t.events) m)
@@ -71,7 +71,7 @@ on-cut turned back stands s n m k total legal t b g sum =
     (full-join stands s (λ e. AreBeginning s.ledger (t.events ++ e)) (AreBeginning s.ledger)
     t.events n (m + k) total t.counted t.within after_turns after_turns.grew.are sum)
 
--- all passes came through
+-- all passes completed
 pub all-through : (turned back stands : State → Type 0) (s : State) (n m k total : ℕ)
     → ((u : State) → stands u → IsLegal u.ledger) → (t : Grew turned (AreStops s.ledger) s n)
     → (b : Grew back (IsThrough Back (s.ledger ++ t.events)) (with_events s t.events) m)
@@ -107,7 +107,7 @@ pub came-within : (stands : State → Type 0) (s : State) (All Some : List Event
 came-within stands s All Some (Through k) g = g.within
 came-within stands s All Some (Full k) g = g.grew.within
 
--- however the way on came out
+-- the way on, whether it completed or filled the ledger
 pub on-came : (turned back stands : State → Type 0) (s : State) (n m total : ℕ) (came : Came)
     → IsLegal s.ledger → ((u : State) → stands u → IsLegal u.ledger)
     → (t : Grew turned (AreStops s.ledger) s n)

@@ -1,4 +1,4 @@
--- The requests of recovery make its events. For the worlds of `recover`.
+-- The requests of recovery make its events. For the executions of `recover`.
 use Rattle.std.proofs.Common.{◌≡◌, ℕ, ◌+◌, ◌-◌, ◌<◌, ◌≤◌, List, [], ◌∷◌, ◌++◌, length, refl, ap, sym, ◌∙◌, subst, arith, append_assoc, length-append, eqb-true}
 use Rattle.std.proofs.lemmas.Bool.{and_parts, and_from, false_from_ne_true, lt-leb}
 use Rattle.std.proofs.lemmas.List.{append_cancel_left}
@@ -32,7 +32,7 @@ use Rattle.recovery.proofs.TellLemmas.{stop-moves, step-moves}
 
 -- Which events are recovery's.
 
--- it makes what a step makes, and turns by its stops
+-- recovery makes what a step makes, and turns whose cause is a stop
 abbrev is_of_recovery : Item → Bool
 is_of_recovery (Turn p cause.Stop) = true
 is_of_recovery item = is_forward item
@@ -58,7 +58,7 @@ forward-ours (Turn p cause.Refused) e = e
 forward-ours (Turn p cause.Asked) e = e
 forward-ours (Save p) e = e
 
--- items of one kind are of a wider one
+-- items of one kind are also of a wider kind
 wider : (test wide : Item → Bool) → ((x : Item) → test x ≡ true → wide x ≡ true) → (p : List Event)
     → list_all (are_items test) p ≡ true → list_all (are_items wide) p ≡ true
 wider test wide widens [] all = refl
@@ -77,7 +77,7 @@ stops-ours : (l : List Event) (js : List ℕ)
 stops-ours l [] = refl
 stops-ours l (j ∷ js) = stops-ours l js
 
--- the new events of a recovered ledger are recovery's, and so is each front of them
+-- the new events of a recovered ledger are recovery's, and so is each prefix of them
 pub ours : (l events rest : List Event) → IsRecovered l ((l ++ events) ++ rest) → AreOurs l events
 ours l events rest r =
     let k = are_items is_of_recovery in
@@ -98,7 +98,7 @@ ours l events rest r =
           (sym (list_all-append k events rest) ∙ ap (list_all k) same ∙ all)).0;
     }
 
--- Each is made by its request.
+-- Each event is made by its request.
 
 -- the request of the event makes it
 pub record IsMade (s : State) (e : Event) : Type 0 where
@@ -157,7 +157,7 @@ stop-made s j p may = go (journey_at s.ledger j) refl
         subst (λ q. Moves s.ledger (request.Stop j) j (Turn q cause.Stop)) target
         (stop-moves s.ledger j runs)
 
--- and so is a step
+-- so is a step that is allowed
 step-made : (s : State) (j : ℕ) (item : Item) → IsLegal s.ledger → is_forward item ≡ true
     → is_item_allowed s.ledger j item ≡ true → Moves s.ledger (request.Step j) j item
 step-made s j item legal forward may =
@@ -185,7 +185,7 @@ made s (Did j (Compensation i c)) legal kind may room =
     record { event = m.0; state = m.1 }
 made s (Did j (Save p)) legal kind may room = cc
 
--- All of them.
+-- All events.
 
 -- the requests of the events, one after another, make them
 pub record AreMade (s : State) (events : List Event) : Type 0 where
@@ -214,7 +214,7 @@ all-made s (e ∷ es) legal o room =
           ap (λ t. state_after t (orders_of es)) m.state ∙ rest.leads ∙ with_more s (e ∷ []) es;
     }
 
--- they keep the limits of a request
+-- the requests keep the limits of a request
 pub in-limit : (e : Event) → IsTrue (is_request (request_making e))
 in-limit (Loaded name rows) = refl
 in-limit (Began agent plan) = refl

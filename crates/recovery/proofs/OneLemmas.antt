@@ -1,4 +1,4 @@
--- The recovery of a state is one list of events. For `one_recovery`, and for the worlds of `recover`.
+-- A state has one recovery, which is one list of events. For `one_recovery`, and for the executions of `recover`.
 use Rattle.std.proofs.Common.{◌≡◌, ℕ, ◌+◌, ◌-◌, ◌<◌, ◌≤◌, List, [], ◌∷◌, ◌++◌, length, take, drop, refl, ap, sym, ◌∙◌, subst, arith, append_assoc, append-nil, length-append}
 use Rattle.std.proofs.Math.Seq.{take-append-add}
 use Rattle.std.proofs.lemmas.Bool.{leb-true, leb-false}
@@ -14,7 +14,7 @@ use Rattle.recovery.specs.Growing.{room_of}
 use Rattle.recovery.specs.Recovers.{IsRecovery, HasOneRecovery}
 use Rattle.recovery.proofs.RecoverLemmas.{recovery-within}
 
--- these events, and as many of the rest of the recovered ledger as there is room for, are its recovery
+-- these events, and as many of the later events of the recovered ledger as there is room for, are its recovery
 pub recovery-cut : (s : State) (made rest : List Event) → IsRecovered s.ledger ((s.ledger ++ made) ++ rest)
     → length made ≤ room_of s → IsRecovery s (made ++ take (room_of s - length made) rest)
 recovery-cut s made rest r fits =
@@ -50,7 +50,7 @@ none-left : (events : List Event) → length events ≤ 0 → events ≡ []
 none-left [] few = refl
 none-left (e ∷ events) few = absurd (omega (arith, few))
 
--- there is no other recovery
+-- two recoveries of a state are the same
 pub recovery-alone : (s : State) (a b : List Event) → IsRecovery s a → IsRecovery s b → a ≡ b
 recovery-alone s a b x y = go (nat_le (length s.ledger) most_events) refl
   where
@@ -68,7 +68,7 @@ recovery-alone s a b x y = go (nat_le (length s.ledger) most_events) refl
         let two = y.within in
         none-left a (omega (arith, long, one)) ∙ sym (none-left b (omega (arith, long, two)))
 
--- each legal ledger has one
+-- each state with a legal ledger has one recovery
 pub recovery-one : (s : State) → IsLegal s.ledger → HasOneRecovery s
 recovery-one s legal =
     let l = s.ledger in

@@ -1,4 +1,4 @@
--- How the state of a book grows in a pass. For the passes.
+-- How the state of a book is extended by a pass. For the passes.
 use Rattle.std.proofs.Common.{◌≡◌, ℕ, ◌+◌, ◌-◌, ◌^◌, ◌<◌, ◌≤◌, List, [], ◌∷◌, suc, ◌++◌, length, ap, ◌∙◌, arith, append_assoc, append-nil, length-append, sym, subst}
 use Rattle.std.specs.Prelude.{Option, Some, None, Err}
 use Rattle.std.specs.List.{cons_option}
@@ -10,19 +10,19 @@ use Rattle.saga_core.specs.Books.{Keeps, LeavesNoMore}
 use Rattle.saga_core.specs.declared.records.Brief.{Brief}
 use Rattle.recovery.specs.Growing.{with_events, room_of, Grew, GrewFull, LeavesAt, MayHaveGrown}
 
--- events after events are all of them
+-- appending events, and then more events, appends both lists
 pub with_more : (s : State) (events more : List Event)
     → with_events (with_events s events) more ≡ with_events s (events ++ more)
 with_more s events more =
     ap (λ l. record { ledger = l; kept = s.kept }) (append_assoc s.ledger events more)
 
--- a ledger with events more is so much longer
+-- a ledger with n events appended is longer by n
 length-with : (s : State) (events : List Event) (n : ℕ) → length events ≡ n
     → length (s.ledger ++ events) ≡ length s.ledger + n
 length-with s events n counted =
     length-append s.ledger events ∙ ap (λ m. length s.ledger + m) counted
 
--- growing, and then growing again, is growing
+-- an extension of an extension is an extension
 pub grew-join : (stands : State → Type 0) (s : State) (AreMore Are : List Event → Type 0)
     (events : List Event) (n m total : ℕ) → length events ≡ n → n ≤ room_of s
     → (g : Grew stands AreMore (with_events s events) m) → Are (events ++ g.events)
@@ -41,13 +41,13 @@ grew-join stands s AreMore Are events n m total counted within g are sum =
       stands_there = subst stands (with_more s events g.events) g.stands_there;
     }
 
--- such sums fit the numbers of a program
+-- such a sum fits in 64 bits
 pub sum-fits : (s : State) (events : List Event) (n m : ℕ) → length events ≡ n → n ≤ room_of s
     → m ≤ room_of (with_events s events) → n + m < 2 ^ 64
 sum-fits s events n m counted low more =
     let longer = length-with s events n counted in omega arith
 
--- so do sums of three
+-- so does a sum of three
 pub sums-fit : (s : State) (events more : List Event) (n m k : ℕ) → length events ≡ n → n ≤ room_of s
     → length more ≡ m → m ≤ room_of (with_events s events)
     → k ≤ room_of (with_events (with_events s events) more) → n + (m + k) < 2 ^ 64
@@ -56,7 +56,7 @@ sums-fit s events more n m k counted low counted_more low_more last =
     let longest = length-with (with_events s events) more m counted_more in
     omega arith
 
--- what a stop may leave after more growth
+-- what a crash may leave after a further extension
 pub may-join : (leaves : State → State → Type 0) (s : State) (AreMore Are : List Event → Type 0)
     (events : List Event) (n : ℕ) (fault : Fault) → length events ≡ n → n ≤ room_of s
     → MayHaveGrown leaves AreMore (with_events s events) fault
@@ -85,7 +85,7 @@ may-join leaves s AreMore Are events n fault counted low g are =
           (with_more s events (g.events ++ g.next)) g.left));
     }
 
--- what a stop may leave, said more weakly
+-- what a crash may leave, as a weaker fact
 pub may-weaken : (leaves : State → State → Type 0) (s : State) (Are Weaker : List Event → Type 0)
     (fault : Fault) → MayHaveGrown leaves Are s fault
     → ((events : List Event) → Are events → Weaker events) → MayHaveGrown leaves Weaker s fault
@@ -99,7 +99,7 @@ may-weaken leaves s Are Weaker fault g weaken = record {
   left = g.left;
 }
 
--- a stop that leaves just the state as it has grown
+-- a crash that leaves just the extended state
 pub may-just : (leaves : State → State → Type 0) (s : State) (Are : List Event → Type 0)
     (events : List Event) (n : ℕ) (fault : Fault) → length events ≡ n → n ≤ room_of s → Are events
     → leaves (with_events s events) (with_events s events) → MayHaveGrown leaves Are s fault
@@ -116,14 +116,14 @@ may-just leaves s Are events n fault counted low are left =
       left = subst (λ e. leaves (with_events s events) (with_events s e)) none left;
     }
 
--- a look that met a fault leaves what there was
+-- a read that met a fault leaves the state as it was
 pub looked : (stood stands : State → Type 0) (left leaves : State → State → Type 0) (fault : Fault)
     → Keeps {T = Option Brief} stood stands (Err fault) → LeavesNoMore left leaves → ((u : State) → stood u → left u u)
     → (u : State) → stood u → LeavesAt fault stands leaves u u
 looked stood stands left leaves Memory keeps stop settled u here = (keeps u here, stop u u (settled u here))
 looked stood stands left leaves Store keeps stop settled u here = stop u u (settled u here)
 
--- growing, and then growing till the ledger is full
+-- an extension, and then another that fills the ledger
 pub full-join : (stands : State → Type 0) (s : State) (AreMore Are : List Event → Type 0)
     (events : List Event) (n m total : ℕ) → length events ≡ n → n ≤ room_of s
     → (g : GrewFull stands AreMore (with_events s events) m) → Are (events ++ g.grew.events)

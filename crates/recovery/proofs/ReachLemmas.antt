@@ -1,4 +1,4 @@
--- How far a pass has come: to a further journey, and past the one that it carried. For the passes.
+-- How far a pass has come: to a later journey, and past a journey whose steps it made. For the passes.
 use Rattle.std.proofs.Common.{◌≡◌, ℕ, zero, suc, ◌+◌, ◌<◌, ◌≤◌, List, [], ◌∷◌, ◌++◌, refl, ap, sym, ◌∙◌, arith, append_assoc, eqb-true}
 use Rattle.std.proofs.lemmas.Bool.{and_parts, and_from, le-leb, leb-true, lt-ltb, ltb-true, ltb-false}
 use Rattle.std.proofs.lemmas.List.Folds.{list_all-append}
@@ -22,7 +22,7 @@ up_to-higher a b (e ∷ p) low all =
     let here = leb-true _ _ both.0 in
     and_from _ _ (le-leb _ _ (omega arith)) (up_to-higher a b p low both.1)
 
--- the pass has come to a further journey where it has nothing to do with those between
+-- the pass has reached a later journey where it has nothing to do with those between
 pub reached-further : (test : Item → Bool) (passes : Phase → Bool) (before part : List Event)
     (a b : ℕ) → HasReached test passes before part a → a ≤ b
     → ((k : ℕ) → a ≤ k → k < b → is_in passes (before ++ part) k ≡ false)
@@ -41,7 +41,7 @@ reached-further test passes before part a b r low between = record {
 
 -- Items of one journey.
 
--- items of a journey from a number on are from that number on
+-- items of a journey are of a journey from each lower number on
 of-from : (a j : ℕ) (p : List Event) → a ≤ j → list_all (λ e. journey_of e == j) p ≡ true
     → list_all (λ d. nat_le a (journey_of d)) p ≡ true
 of-from a j [] low all = refl
@@ -50,7 +50,7 @@ of-from a j (e ∷ p) low all =
     let same = eqb-true _ _ both.0 in
     and_from _ _ (le-leb _ _ (omega arith)) (of-from a j p low both.1)
 
--- and up to that journey
+-- items of a journey are of a journey up to this one
 of-up_to : (j : ℕ) (p : List Event) → list_all (λ e. journey_of e == j) p ≡ true
     → list_all (λ d. nat_le (journey_of d) j) p ≡ true
 of-up_to j [] all = refl
@@ -59,7 +59,7 @@ of-up_to j (e ∷ p) all =
     let same = eqb-true _ _ both.0 in
     and_from _ _ (le-leb _ _ (omega arith)) (of-up_to j p both.1)
 
--- and behind each lower one
+-- items of a journey are of a journey after each lower one
 of-behind : (k j : ℕ) (p : List Event) → k < j → list_all (λ e. journey_of e == j) p ≡ true
     → list_all (λ d. nat_lt k (journey_of d)) p ≡ true
 of-behind k j [] below all = refl
@@ -68,7 +68,7 @@ of-behind k j (e ∷ p) below all =
     let same = eqb-true _ _ both.0 in
     and_from _ _ (lt-ltb _ _ (omega arith)) (of-behind k j p below both.1)
 
--- items of one journey are by number
+-- items of one journey are ordered by number
 of-by_number : (j : ℕ) (p : List Event) → list_all (λ e. journey_of e == j) p ≡ true
     → is_by_number p ≡ true
 of-by_number j [] all = refl
@@ -77,7 +77,7 @@ of-by_number j (e ∷ p) all =
     let same = eqb-true _ _ both.0 in
     and_from _ _ (of-from (journey_of e) j p (omega arith) both.1) (of-by_number j p both.1)
 
--- items up to a journey, and then items of that journey, are by number
+-- items up to a journey, followed by items of that journey, are ordered by number
 join-by_number : (j : ℕ) (p q : List Event) → is_by_number p ≡ true
     → list_all (λ e. nat_le (journey_of e) j) p ≡ true
     → list_all (λ e. journey_of e == j) q ≡ true → is_by_number (p ++ q) ≡ true
@@ -92,7 +92,7 @@ join-by_number j (e ∷ p) q sorted low all =
     ∙ and_from _ _ first.0 (of-from (journey_of e) j q (leb-true _ _ lows.0) all))
     (join-by_number j p q first.1 lows.1 all)
 
--- the pass has carried the journey that it has come to by these items
+-- these items of the journey that the pass has reached are among the items of the pass
 pub reached-carried : (test : Item → Bool) (passes : Phase → Bool) (before part more : List Event)
     (j : ℕ) → HasReached test passes before part j → AreAllowedAfter (before ++ part) more
     → list_all (are_items test) more ≡ true → list_all (λ e. journey_of e == j) more ≡ true
@@ -110,7 +110,7 @@ reached-carried test passes before part more j r allowed items of_journey = reco
       ∙ r.done k below;
 }
 
--- and past it once it is done with it
+-- the pass is past the journey once it is done with it
 pub reached-past : (test : Item → Bool) (passes : Phase → Bool) (before part : List Event) (j : ℕ)
     → HasReached test passes before part j → is_in passes (before ++ part) j ≡ false
     → HasReached test passes before part (suc j)

@@ -1,4 +1,4 @@
--- The three passes are recovery: all of them, or a beginning of it. For `recover`.
+-- The three passes make recovery: all of it, or a prefix of it. For `recover`.
 use Rattle.std.proofs.Common.{◌≡◌, ℕ, ◌+◌, ◌-◌, ◌<◌, ◌≤◌, List, [], ◌∷◌, ◌++◌, length, take, refl, ap, sym, ◌∙◌, arith, append_assoc, append-nil, length-append, subst}
 use Rattle.std.proofs.lemmas.List.{take_all, take-append-le}
 use Rattle.std.specs.Prelude.{IsTrue}
@@ -15,15 +15,15 @@ use Rattle.recovery.specs.Passes.{AreFirstStops, IsUnderWay, IsThrough}
 use Rattle.recovery.specs.Recovers.{AreRecovery, AreBeginning, IsFinished}
 use Rattle.recovery.specs.declared.passes.Pass.TheVariants.{Back, On}
 
--- Beginnings.
+-- Prefixes.
 
--- some of the turns begin recovery
+-- a prefix of the turns is a prefix of recovery
 pub turns-begin : (l events : List Event) → IsLegal l → AreFirstStops l events
     → AreBeginning l events
 turns-begin l events legal first =
     recovery-goes_on l legal (l ++ events) (turning events first.rest first.all)
 
--- all of them, and some of the way back
+-- so are all turns, and a part of the way back
 pub back-begins : (l turned back : List Event) → IsLegal l → turned ≡ stops l
     → IsUnderWay Back (l ++ turned) back → AreBeginning l (turned ++ back)
 back-begins l turned back legal is under =
@@ -33,7 +33,7 @@ back-begins l turned back legal is under =
     (recovery-goes_on l legal ((l ++ stops l) ++ back) (going_back back u.number u.reached)))
     under
 
--- the whole way back, and some of the way on
+-- so are all turns, the whole way back, and a part of the way on
 pub on-begins : (l turned back on : List Event) → IsLegal l → turned ≡ stops l
     → IsThrough Back (l ++ turned) back → IsUnderWay On ((l ++ turned) ++ back) on
     → AreBeginning l ((turned ++ back) ++ on)
@@ -47,7 +47,7 @@ on-begins l turned back on legal is through under =
     (going_on back on b.under_way.number u.number b.under_way.reached b.done u.reached)))
     through under
 
--- the whole of all three is recovery
+-- all three passes together are recovery
 pub on-recovers : (l turned back on : List Event) → turned ≡ stops l
     → IsThrough Back (l ++ turned) back → IsThrough On ((l ++ turned) ++ back) on
     → IsLegal (((l ++ turned) ++ back) ++ on) → IsRecovered l (l ++ ((turned ++ back) ++ on))
@@ -73,7 +73,7 @@ on-recovers l turned back on is through forth legal =
 
 -- Recovery, as far as there is room.
 
--- a recovered ledger is one, and has room where the old one had
+-- a ledger that is recovered is its recovery, and keeps the limit of events where the old ledger kept it
 pub recovery-whole : (s : State) (events : List Event) (n : ℕ)
     → IsRecovered s.ledger (s.ledger ++ events) → length events ≡ n → n ≤ room_of s
     → AreRecovery s.ledger events
@@ -88,12 +88,12 @@ recovery-whole s events n recovered counted within =
       cut_off = λ fits. sym (take_all most_events (s.ledger ++ events) (omega arith));
     }
 
--- where no rest is left
+-- where nothing fits after a list, nothing comes after it
 no_rest : (l rest : List Event) → length (l ++ rest) ≤ length l → l ++ rest ≡ l
 no_rest l [] fits = append-nil l
 no_rest l (e ∷ rest) fits = let longer = length-append l (e ∷ rest) in absurd (omega arith)
 
--- a beginning of the recovered ledger that is full is all that there is room for
+-- a prefix of the recovered ledger that is full is all that there is room for
 pub recovery-full : (s : State) (events : List Event) (n : ℕ) → AreBeginning s.ledger events
     → length events ≡ n → n ≤ room_of s → most_events ≤ length s.ledger + n
     → AreRecovery s.ledger events
@@ -112,7 +112,7 @@ recovery-full s events n begins counted within full =
           ∙ take_all most_events m (omega arith));
     }
 
--- What follows.
+-- Consequences.
 
 -- no journey is unfinished where there is room for the recovered ledger
 pub recovery-finishes : (l events r : List Event) → AreRecovery l events → IsRecovered l r
@@ -122,7 +122,7 @@ recovery-finishes l events r a is fits =
     let short : length a.recovered ≤ most_events = omega (arith, ap length same) in
     subst (λ m. IsTrue (has_none is_open m)) (sym (a.whole short)) a.is_recovered.all_finished
 
--- and there are no more events than the bound
+-- recovery makes no more events than the bound
 pub recovery-within : (l events : List Event) → IsLegal l → AreRecovery l events
     → length events ≤ bound l
 recovery-within l events legal a =

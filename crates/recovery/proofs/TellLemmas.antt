@@ -18,7 +18,7 @@ use Rattle.ledger.proofs.Phases.{passing}
 use Rattle.ledger_transitions.proofs.Moves.{seen, find-first}
 use Rattle.recovery.proofs.AskLemmas.{Moves}
 
--- a journey in some phase is there
+-- a journey that is in some phase exists
 pub record IsThere (passes : Phase → Bool) (l : List Event) (j : ℕ) : Type 0 where
   pub journey : Journey
   pub at : journey_at l j ≡ Some journey
@@ -65,7 +65,7 @@ stop-moves l j runs =
           ∙ ap (λ p. moved a.plan h j (Turn p cause.Stop)) target;
     }
 
--- an answer that has this event is that of this item
+-- an answer with this event is the answer for this item
 event-moved : (l : List Event) (j : ℕ) (a : Journey) (x : Item)
     → (answer_move l j step_choices NoSavePoint (Some a)).event ≡ Some (Did j x)
     → answer_move l j step_choices NoSavePoint (Some a) ≡ moved a.plan (history l j) j x

@@ -1,4 +1,4 @@
--- The first pass, so far: the turns of the running journeys up to some number. For `turn_back`.
+-- The turns that the first pass has made: those of the running journeys up to some number. For `turn_back`.
 use Rattle.std.proofs.Common.{◌≡◌, ℕ, zero, suc, ◌+◌, ◌-◌, ◌<◌, ◌≤◌, List, [], ◌∷◌, ◌++◌, length, map, cond, refl, ap, sym, ◌∙◌, arith, append_assoc, append-nil}
 use Rattle.std.proofs.lemmas.Bool.{ne_eqb}
 use Rattle.std.specs.Prelude.{Bool, true, false, filter, option_map, unwrap_or}
@@ -21,7 +21,7 @@ abbrev pub turns_above : List Event → ℕ → List Event
 turns_above l a =
     map (stop_of l) (filter (is_in is_running l) (numbers_from (suc a) (length (journeys l) - a)))
 
--- above 0 there are all
+-- the turns above 0 are all turns
 pub turns-all : (l : List Event) → stops l ≡ turns_above l 0
 turns-all l =
     ap (λ n. map (stop_of l) (filter (is_in is_running l) (numbers_from 1 n)))
@@ -38,7 +38,7 @@ filter-skip test (suc n) first ys each =
     (each first (omega arith) (omega arith))
     ∙ filter-skip test n (suc first) ys (λ k low high. each k (omega arith) (omega arith))
 
--- where those between do not run, the next of them is this one
+-- where no journey between runs, the next of the numbers is this one
 turns-next : (l : List Event) (a i : ℕ) → a < suc i → suc i ≤ length (journeys l)
     → ((k : ℕ) → a < k → k < suc i → is_in is_running l k ≡ false)
     → turns_above l a
@@ -55,7 +55,7 @@ turns-next l a i above within between =
     ∙ ap (λ n. map (stop_of l) (filter (is_in is_running l) (numbers_from (suc i) n)))
     (let e : length (journeys l) - i ≡ suc (length (journeys l) - suc i) = omega arith in e)
 
--- a running one turns
+-- the next running journey turns
 pub turns-running : (l : List Event) (a j : ℕ) → a < j → j ≤ length (journeys l)
     → ((k : ℕ) → a < k → k < j → is_in is_running l k ≡ false) → is_in is_running l j ≡ true
     → turns_above l a ≡ stop_of l j ∷ turns_above l j
@@ -66,7 +66,7 @@ turns-running l a (suc i) above within between runs =
     (suc i ∷ filter (is_in is_running l) (numbers_from (suc (suc i)) (length (journeys l) - suc i)))
     (filter (is_in is_running l) (numbers_from (suc (suc i)) (length (journeys l) - suc i))))) runs
 
--- another one does not
+-- a journey that does not run makes no turn
 pub turns-other : (l : List Event) (a j : ℕ) → a < j → j ≤ length (journeys l)
     → ((k : ℕ) → a < k → k < j → is_in is_running l k ≡ false) → is_in is_running l j ≡ false
     → turns_above l a ≡ turns_above l j
@@ -77,7 +77,7 @@ turns-other l a (suc i) above within between rests =
     (suc i ∷ filter (is_in is_running l) (numbers_from (suc (suc i)) (length (journeys l) - suc i)))
     (filter (is_in is_running l) (numbers_from (suc (suc i)) (length (journeys l) - suc i))))) rests
 
--- where none above runs there is no turn
+-- where no journey above the number runs, no turn is left
 pub turns-none : (l : List Event) (a : ℕ) → ((k : ℕ) → a < k → is_in is_running l k ≡ false)
     → turns_above l a ≡ []
 turns-none l a none =
@@ -87,7 +87,7 @@ turns-none l a none =
     (filter-skip (is_in is_running l) (length (journeys l) - a) (suc a) []
     (λ k low high. none k (omega arith)))
 
--- Journeys that are not reached yet.
+-- Journeys that the pass has not reached.
 
 -- the ledgers have the same journeys, and above this number the same histories
 pub record IsSameAbove (a : ℕ) (l m : List Event) : Type 0 where
@@ -103,19 +103,19 @@ same-did a j l m item same above = record {
       history-did_other m j item k (ne_eqb k j (λ e. omega arith)) ∙ same.of k (omega arith);
 }
 
--- what is the same above a number is so above a higher one
+-- what is the same above a number is the same above a higher one
 pub same-further : (a j : ℕ) (l m : List Event) → IsSameAbove a l m → a < j → IsSameAbove j l m
 same-further a j l m same above =
     record { begun = same.begun; of = λ k higher. same.of k (omega arith) }
 
--- so is the phase of a journey above it
+-- the phase of a journey above the number is the same
 pub phase-same : (passes : Phase → Bool) (a k : ℕ) (l m : List Event) → IsSameAbove a l m → a < k
     → is_in passes m k ≡ is_in passes l k
 phase-same passes a k l m same above =
     ap (λ h. passing passes h (journey_at m k)) (same.of k above)
     ∙ ap (λ js. passing passes (history l k) (numbered js k)) same.begun
 
--- and its last save-point
+-- its last save-point is the same
 pub stop-same : (a k : ℕ) (l m : List Event) → IsSameAbove a l m → a < k
     → stop_of m k ≡ stop_of l k
 stop-same a k l m same above =
@@ -132,7 +132,7 @@ pub record Turning (l : List Event) (a : ℕ) (events : List Event) : Type 0 whe
   pub all : stops l ≡ events ++ turns_above l a
   pub same : IsSameAbove a l (l ++ events)
 
--- at first there are none
+-- at first the pass has made no turn
 pub turning-start : (l : List Event) → Turning l 0 []
 turning-start l = record {
   all = turns-all l;
@@ -142,7 +142,7 @@ turning-start l = record {
   };
 }
 
--- a running journey, the next one, turns
+-- the next running journey turns
 pub turning-more : (l : List Event) (a j : ℕ) (events : List Event) → Turning l a events → a < j
     → j ≤ length (journeys l) → ((k : ℕ) → a < k → k < j → is_in is_running l k ≡ false)
     → is_in is_running l j ≡ true
@@ -159,7 +159,7 @@ turning-more l a j events t above within between runs =
           (same-did a j l (l ++ events) (Turn (last_save_of (l ++ events) j) Stop) t.same above);
     }
 
--- another journey does not
+-- a journey that does not run makes no turn
 pub turning-further : (l : List Event) (a j : ℕ) (events : List Event) → Turning l a events
     → a < j → j ≤ length (journeys l)
     → ((k : ℕ) → a < k → k < j → is_in is_running l k ≡ false) → is_in is_running l j ≡ false

@@ -1,4 +1,4 @@
--- The first pass at one journey after another. For `turn_back`.
+-- The first pass over one journey after another. For `turn_back`.
 use Rattle.std.proofs.Common.{◌≡◌, ℕ, ◌+◌, ◌-◌, ◌^◌, ◌<◌, ◌≤◌, List, [], ◌∷◌, ◌++◌, length, refl, ap, sym, ◌∙◌, arith, append-nil, length-append, subst}
 use Rattle.std.proofs.lemmas.Bool.{false_from_ne_true}
 use Rattle.std.specs.Prelude.{Bool, true, false, Option, Some, None, option_map, unwrap_or}
@@ -20,7 +20,7 @@ use Rattle.recovery.proofs.PassLemmas.{with_more, may-join, may-just, journeys-f
 use Rattle.recovery.proofs.TellLemmas.{is_there}
 use Rattle.recovery.proofs.TurnLemmas.{Turning, turning-start, turning-more, turning-further, turns-none, turns_above, phase-same}
 
--- the book stands for the state with the turns up to this number, and these are so many
+-- the book represents the state with the turns up to this number appended, and there are so many of them
 pub record TurnedSoFar (stands : State → Type 0) (s : State) (after made rounds : ℕ) : Type 0 where
   pub events : List Event
   pub turning : Turning s.ledger after events
@@ -30,7 +30,7 @@ pub record TurnedSoFar (stands : State → Type 0) (s : State) (after made round
   pub below : after ≤ length (journeys s.ledger)
   pub stands_there : stands (with_events s events)
 
--- at first there is no turn
+-- at first the pass has made no turn
 pub turned-start : (stands : State → Type 0) (s : State) → stands s → TurnedSoFar stands s 0 0 0
 turned-start stands s st = record {
   events = [];
@@ -43,7 +43,7 @@ turned-start stands s st = record {
       (sym (append-nil s.ledger))) st;
 }
 
--- the same of a book that stands there now
+-- the same of a book that represents that state now
 abbrev pub turned-now : (stands then : State → Type 0) (s : State) (after made rounds : ℕ)
     → (t : TurnedSoFar stands s after made rounds) → then (with_events s t.events)
     → TurnedSoFar then s after made rounds
@@ -64,7 +64,7 @@ run-open (Back q) e = cc
 run-open Ended e = cc
 run-open Undone e = cc
 
--- so one that is not open does not run
+-- so a journey that is not open does not run
 not_running : (m : List Event) (k : ℕ) → is_in is_open m k ≡ false → is_in is_running m k ≡ false
 not_running m k closed =
     false_from_ne_true _ (λ runs.
@@ -76,12 +76,12 @@ not_running m k closed =
     clash : true ≡ false → ⊥
     clash e = cc
 
--- what a test says of the first open journey
+-- a test of the first open journey is a test of the reported phase
 pub first-in : (passes : Phase → Bool) (m : List Event) (after : ℕ) (b : Brief) → IsFirst m after b
     → is_in passes m b.id ≡ passes b.cursor.phase
 first-in passes m after b f = ap (λ o. unwrap_or (option_map passes o) false) f.phase_is
 
--- none of those between runs in the old ledger
+-- no journey between runs in the old ledger
 between : (l events : List Event) (after : ℕ) (b : Brief) → Turning l after events
     → IsFirst (l ++ events) after b
     → (k : ℕ) → after < k → k < b.id → is_in is_running l k ≡ false
@@ -166,7 +166,7 @@ turned-all stands then s after made rounds t is st =
       stands_there = st;
     }
 
--- the first ones of the turns, whatever comes
+-- the turns so far are a prefix of all turns
 firsts : (s : State) (after : ℕ) (events : List Event) → Turning s.ledger after events
     → AreFirstStops s.ledger events
 firsts s after events t = record { rest = turns_above s.ledger after; all = t.all }
@@ -202,7 +202,7 @@ turned-over then s after made rounds t over =
     let treated = t.treated in
     turned-full then then s after made rounds t (omega arith) t.stands_there
 
--- the stop found it full
+-- the stop found the ledger full
 pub turned-refused : (stands then : State → Type 0) (s : State) (after made rounds : ℕ) (b : Brief)
     → (t : TurnedSoFar stands s after made rounds)
     → Some b ≡ first_unfinished (s.ledger ++ t.events) after
@@ -214,7 +214,7 @@ turned-refused stands then s after made rounds b t is runs stopped =
     let stayed = stopped (with_events s t.events) t.stands_there now in
     turned-full stands then s after made rounds t stayed.0 stayed.1
 
--- a look met a fault
+-- a read of the book met a fault
 pub turned-look : (stands : State → Type 0) (leaves : State → State → Type 0) (s : State)
     (after made rounds : ℕ) (fault : Fault) → (t : TurnedSoFar stands s after made rounds)
     → ((u : State) → stands u → leaves u u)

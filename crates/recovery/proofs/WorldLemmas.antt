@@ -1,4 +1,4 @@
--- A world goes on with recovery. For `recover`.
+-- An execution continues with recovery. For `recover`.
 use Rattle.std.proofs.Common.{◌≡◌, ℕ, ◌+◌, ◌-◌, ◌≤◌, List, [], ◌∷◌, ◌++◌, length, take, refl, ap, sym, ◌∙◌, subst, arith, length-append}
 use Rattle.std.proofs.lemmas.List.{length-map, map-append}
 use Rattle.std.specs.Prelude.{Bool, true, false}
@@ -17,7 +17,7 @@ use Rattle.recovery.specs.Worlds.{order_of, orders_of, EndsRecovered, EndsRecove
 use Rattle.recovery.proofs.MadeLemmas.{AreMade, ours, all-made, in-limits}
 use Rattle.recovery.proofs.OneLemmas.{recovery-cut}
 
--- it came through: all of its requests were answered
+-- recovery completed: all of its requests were answered
 pub world-recovered : {stood : State → Type 0} (stands : State → Type 0) (leaves : State → State → Type 0)
     (w : List Moment) (made : ℕ) → ((u : State) → stands u → leaves u u)
     → StandsAtEnd stood w → IsLegal (after start w).ledger
@@ -38,9 +38,9 @@ world-recovered stands leaves w made settled here legal g =
           (subst stands (sym all.leads) g.stands_there);
     }
 
--- How the requests of recovery fall apart.
+-- The parts of recovery's requests.
 
--- the events of recovery that were made, those that may be, and the later ones; and their requests
+-- the events of recovery: those that were made, those that may have been made, and the later ones
 record Parts (s : State) (events next : List Event) : Type 0 where
   later : List Event
   is : IsRecovery s (events ++ next ++ later)
@@ -67,11 +67,11 @@ parts s events next legal are are_with some fits =
           (ours s.ledger (events ++ next) are_with.rest are_with.recovered) fits).leads;
     }
 
--- so many requests as events
+-- there are as many requests as events
 few-orders : (events : List Event) (n : ℕ) → length events ≤ n → length (orders_of events) ≤ n
 few-orders events n few = let same = length-map events order_of in omega (arith, same, few)
 
--- what a crash leaves, by the requests
+-- what a crash leaves, in terms of the requests
 crash-leaves : (leaves : State → State → Type 0) (s : State) (events next : List Event) → (p : Parts s events next)
     → leaves (with_events s events) (with_events s (events ++ next))
     → leaves (state_after s (orders_of events)) (state_after s (orders_of events ++ orders_of next))
@@ -79,7 +79,7 @@ crash-leaves leaves s events next p left =
     subst (leaves (state_after s (orders_of events))) (sym p.leads)
     (subst (λ t. leaves t (with_events s (events ++ next))) (sym p.front.leads) left)
 
--- the events of a book that has grown
+-- the events of a book that was extended
 grown-parts : (left : State → State → Type 0) (s : State) (fault : Fault) → IsLegal s.ledger
     → (g : MayHaveGrown left (AreBeginning s.ledger) s fault) → Parts s g.events g.next
 grown-parts left s fault legal g =
@@ -87,7 +87,7 @@ grown-parts left s fault legal g =
     let longer : length (g.events ++ g.next) ≡ length g.events + length g.next = length-append g.events g.next in
     parts s g.events g.next legal g.are g.are_with (omega (arith, fits, longer)) g.within
 
--- a run of these requests that a fault ended
+-- a run of these requests that ended at a fault
 abbrev ends-among : {stood : State → Type 0} (stands : State → Type 0) (leaves : State → State → Type 0)
     (w : List Moment) (events next : List Event) (failed : Bool) → StandsAtEnd stood w
     → (p : Parts (after start w) events next) → length next ≤ 1 → length next ≤ most_under_way failed
@@ -110,7 +110,7 @@ ends-among stands leaves w events next failed here p one few ends left =
           (crash-leaves leaves (after start w) events next p left);
     }
 
--- a fault came: a prefix of its requests was answered, and perhaps the next one was cut off
+-- at a fault a prefix of the requests was answered, and perhaps the next one was cut off
 pub world-cut : {stood : State → Type 0} (stands : State → Type 0) (leaves : State → State → Type 0)
     (w : List Moment) (fault : Fault) → StandsAtEnd stood w → IsLegal (after start w).ledger
     → MayHaveGrown (LeavesAt fault stands leaves) (AreBeginning (after start w).ledger) (after start w) fault

@@ -1,4 +1,4 @@
--- What one command of recovery comes to.
+-- What one command of recovery does to a book.
 use Rattle.std.specs.Prelude.{◌≡◌, ℕ, ◌<◌, ◌≤◌, Bool, true, false, List, [], ◌∷◌, ◌++◌, length, Option, Some, None, IsTrue}
 use Rattle.commands.specs.declared.faults.Fault.{Fault}
 use Rattle.commands.specs.declared.items.Item.{Item}
@@ -13,7 +13,7 @@ use Rattle.ledger.specs.Ledger.{Event, Did, is_in, is_item_allowed, phase_of}
 use Rattle.ledger.specs.Recovery.{last_save_of, is_forward}
 use Rattle.recovery.specs.Growing.{with_events, LeavesAt, MayHaveGrown}
 
--- the phase that a reply tells, if a journey moved
+-- the phase that a reply reports, if a journey moved
 abbrev pub phase_told : Reply → Option Phase
 phase_told (reply.Moved j item pos phase) = Some phase
 phase_told _ = None
@@ -22,7 +22,7 @@ phase_told _ = None
 abbrev pub stop_of : List Event → ℕ → Event
 stop_of l j = Did j (Turn (last_save_of l j) Stop)
 
--- the book stands for the state with this event more; or for just the state, whose ledger is full
+-- the book represents the state with this event appended; or the ledger is full and the book represents the same state
 abbrev pub Adds : (State → Type 0) → State → Event → Bool → Type 0
 Adds stands s event true = (length s.ledger < most_events) × stands (with_events s (event ∷ []))
 Adds stands s event false = (most_events ≤ length s.ledger) × stands s
@@ -51,7 +51,7 @@ pub record Stepped (stands : State → Type 0) (s : State) (j : ℕ) (phase : Ph
   pub room : length s.ledger < most_events
   pub stands_there : stands (with_events s (Did j item ∷ []))
 
--- the journey made a step, or the ledger is full
+-- the journey made one step and is then in the reported phase, or the ledger is full and nothing changed
 abbrev pub SteppedTo : (State → Type 0) → State → ℕ → Option Phase → Type 0
 SteppedTo stands s j (Some phase) = Stepped stands s j phase
 SteppedTo stands s j None = (most_events ≤ length s.ledger) × stands s

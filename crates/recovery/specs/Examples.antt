@@ -9,17 +9,17 @@ use Rattle.ledger.specs.World.{events_of}
 use Rattle.saga_core.specs.Worlds.{dones}
 use Rattle.recovery.specs.Worlds.{orders_of}
 
--- two journeys want one room: both turn back, the second gives it back, and the first takes it
+-- two journeys want one room: both turn back, the second gives the room back, and the first takes it
 abbrev pub room_changes_hands : List Event
 room_changes_hands = both_turn_back ++ Did 2 (undone 1) ∷ Did 1 (done 2) ∷ []
 
--- the house asks for two stops and two steps
+-- the house sends two stops and two steps
 pub two_stops_and_two_steps :
     orders_of room_changes_hands
     ≡ (Stop 1, None) ∷ (Stop 2, None) ∷ (Step 2, None) ∷ (Step 1, None) ∷ []
 two_stops_and_two_steps = refl
 
--- where the desk stands before
+-- the state of the desk before recovery
 abbrev pub room_is_wanted_twice : State
 room_is_wanted_twice = record { ledger = two_want_one_room; kept = start.kept }
 

@@ -1,4 +1,4 @@
--- What each pass of recovery comes to.
+-- What each pass of recovery does to a book.
 use Rattle.std.specs.Prelude.{◌≡◌, ℕ, ◌==◌, Bool, false, List, ◌++◌, IsTrue}
 use Rattle.std.specs.List.{list_all}
 use Rattle.commands.specs.declared.faults.Fault.{Fault}
@@ -14,22 +14,22 @@ use Rattle.recovery.specs.declared.passes.Came.TheVariants.{Through, Full}
 use Rattle.recovery.specs.declared.passes.Pass.{Pass}
 use Rattle.recovery.specs.declared.passes.Pass.TheVariants.{Back, On}
 
--- how many events it made
+-- how many events the pass made
 abbrev pub made_by : Came → ℕ
 made_by (Through made) = made
 made_by (Full made) = made
 
--- in which phases a pass goes on with a journey
+-- the phases in which a pass goes on with a journey
 abbrev pub goes_on : Pass → Phase → Bool
 goes_on Back = is_going_back
 goes_on On = is_open
 
--- which items a pass makes
+-- the items that a pass makes
 abbrev pub makes : Pass → Item → Bool
 makes Back = is_compensation
 makes On = is_forward
 
--- it came through and made such events, or the ledger is full and it made some
+-- the pass completed and made all such events, or the ledger is full and it made some of them
 abbrev pub Comes : (State → Type 0) → State → (List Event → Type 0) → (List Event → Type 0) → Came
     → Type 0
 Comes stands s All Some (Through made) = Grew stands All s made
@@ -41,7 +41,7 @@ Comes stands s All Some (Full made) = GrewFull stands Some s made
 abbrev pub AreStops : List Event → List Event → Type 0
 AreStops l events = events ≡ stops l
 
--- the first ones of the turns of the ledger
+-- a prefix of the turns of the ledger
 pub record AreFirstStops (l events : List Event) : Type 0 where
   pub rest : List Event
   pub all : stops l ≡ events ++ rest
@@ -54,7 +54,7 @@ abbrev pub MadeSomeStops : (State → Type 0) → (State → Type 0) → (State 
 MadeSomeStops stood stands leaves fault =
     (s : State) → stood s → MayHaveGrown (LeavesAt fault stands leaves) (AreFirstStops s.ledger) s fault
 
--- Journeys that are carried.
+-- Journeys that a pass steps.
 
 -- the events are items of journey j of the kind that the pass makes
 pub record Carry (pass : Pass) (j : ℕ) (l events : List Event) : Type 0 where
@@ -62,12 +62,12 @@ pub record Carry (pass : Pass) (j : ℕ) (l events : List Event) : Type 0 where
   pub items : IsTrue (list_all (are_items (makes pass)) events)
   pub of_journey : IsTrue (list_all (λ e. journey_of e == j) events)
 
--- and the pass is then done with the journey
+-- after such items the pass is done with the journey
 pub record CarryOut (pass : Pass) (j : ℕ) (l events : List Event) : Type 0 where
   pub carry : Carry pass j l events
   pub done : is_in (goes_on pass) (l ++ events) j ≡ false
 
--- of a journey with which the pass goes on
+-- the result of stepping a journey with which the pass goes on
 abbrev pub CarriedOne : (State → Type 0) → (State → Type 0) → Pass → ℕ → Came → Type 0
 CarriedOne stood stands pass j came =
     (s : State) → stood s → IsTrue (is_in (goes_on pass) s.ledger j)
@@ -81,7 +81,7 @@ CarriedOneSome stood stands leaves pass j fault =
 
 -- Passes.
 
--- the pass has come as far as some journey
+-- the pass has reached some journey
 pub record IsUnderWay (pass : Pass) (l events : List Event) : Type 0 where
   pub number : ℕ
   pub reached : HasReached (makes pass) (goes_on pass) l events number

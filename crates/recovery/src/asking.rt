@@ -1,4 +1,4 @@
-//! One command of recovery, asked by the house.
+//! One command of recovery, sent by the house.
 ghost use Rattle.std.specs.Prelude.{IfOk, IfErr, ◌↔◌, ◌≡◌, IsTrue, IsErrOf, is_some};
 ghost use Rattle.saga_core.specs.Books.{LeavesNoMore};
 ghost use Rattle.recovery.specs.Asking.{phase_told, Stops, StopsOrNot, Steps, StepsOrNot};
@@ -6,7 +6,7 @@ ghost use Rattle.recovery.specs.Asking.{phase_told, Stops, StopsOrNot, Steps, St
 use commands::{Command, Fault, Phase, Reply};
 use saga_core::Book;
 
-/// The phase that a reply tells, if a journey moved.
+/// The phase that a reply reports. Returns `None` if no journey moved.
 fn phase_told(reply: Reply) -> Option<Phase>
     ensures { result ≡ phase_told reply }
 {
@@ -16,7 +16,7 @@ fn phase_told(reply: Reply) -> Option<Phase>
     }
 }
 
-/// Turns a running journey back to its last save-point. False where the ledger is full.
+/// Turns a running journey back to its last save-point. Returns false if the ledger is full, and then nothing changed.
 pub fn stop<B: Book>(book: &mut B, id: u64) -> Result<bool, Fault>
     ensures ok { B.is_sound book.new →
         IfOk result (λ made. Stops (B.stands book.old) (B.stands book.new) id made) }
@@ -35,7 +35,8 @@ pub fn stop<B: Book>(book: &mut B, id: u64) -> Result<bool, Fault>
     }
 }
 
-/// Carries an unfinished journey one step on. Answers the phase that it is in then, or none where the ledger is full.
+/// Makes one step of an unfinished journey. Returns the phase of the journey after the step, or `None` if the ledger is
+/// full, and then nothing changed.
 pub fn step<B: Book>(book: &mut B, id: u64) -> Result<Option<Phase>, Fault>
     ensures ok { B.is_sound book.new →
         IfOk result (λ phase. Steps (B.stands book.old) (B.stands book.new) id phase) }

@@ -1,11 +1,11 @@
-//! What recovery comes to, whoever carries it out.
+//! Laws of recovery, whichever program runs it.
 //!
-//! A law is the contract of a function that does nothing: who calls it may use the law.
+//! A law is the contract of a function that does nothing: a caller of the function may use the law.
 ghost use Rattle.ledger.specs.Answer.{State};
 ghost use Rattle.ledger.specs.Ledger.{IsLegal};
 ghost use Rattle.recovery.specs.Recovers.{HasOneRecovery};
 
-/// Recovery has no choice: each state with a legal ledger has just one recovery, with no more events than its bound.
+/// Recovery is deterministic: each state with a legal ledger has just one recovery, with no more events than its bound.
 pub fn one_recovery()
     ensures one { (s : State) → IsLegal s.ledger → HasOneRecovery s }
 {}

@@ -1,11 +1,11 @@
-//! Recovery: after a stop, no half journey is left.
+//! Recovery: after a crash, no journey is left half done.
 //!
-//! `recover` takes each unfinished journey back to its last save-point, or to its beginning, and from there to its end.
-//! It keeps no list: it asks the book for the first unfinished journey behind the last one that it treated. What it
-//! hands out is the book made `Ready`, and there is no other way to one.
+//! `recover` takes each unfinished journey back to its last save-point, or to its start, and from there to its end. It
+//! keeps no list of journeys: it asks the book for the first unfinished journey after the last one that it treated.
+//! `recover` returns the book as a `Ready`, and nothing else makes a `Ready`.
 //!
-//! Words: a *pass* goes over the unfinished journeys once, by rising number; the *room* of a ledger is how many events
-//! more it may have.
+//! Words: a *pass* goes over the unfinished journeys once, by rising number; the *room* of a ledger is how many more
+//! events it may have.
 #![tactic(auto)]
 
 mod asking;

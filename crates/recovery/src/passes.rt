@@ -8,17 +8,17 @@ use crate::asking::{step, stop};
 use commands::{Fault, Phase};
 use saga_core::Book;
 
-/// How a pass came out, with the number of the events that it made.
+/// The result of a pass, with the number of events that it made.
 #[derive(Clone, Copy)]
 pub enum Came {
-    /// It came through.
+    /// The pass completed.
     Through(u64),
-    /// The ledger is full, and an event more was due.
+    /// The ledger is full, and the pass had another event to make.
     Full(u64),
 }
 
 impl Came {
-    /// How many events it made.
+    /// How many events the pass made.
     pub fn made(self) -> u64
         ensures { result ≡ made_by self }
     {
@@ -31,9 +31,9 @@ impl Came {
 /// The passes that step journeys.
 #[derive(Clone, Copy)]
 pub enum Pass {
-    /// The journeys that go back, until each is where it goes.
+    /// Steps the journeys that go back, each until it has reached the position that it goes back to.
     Back,
-    /// All unfinished journeys, until each has ended or is undone.
+    /// Steps all unfinished journeys, each until it has ended or is undone.
     On,
 }
 
@@ -117,7 +117,7 @@ fn carry_one<B: Book>(book: &mut B, pass: Pass, id: u64) -> Result<Came, Fault>
     Ok(Came::Full(u64::MAX))
 }
 
-/// Steps each journey that the pass is about until the pass is done with it.
+/// Steps each journey with which the pass goes on, until the pass is done with it.
 pub fn carry<B: Book>(book: &mut B, pass: Pass) -> Result<Came, Fault>
     ensures ok { B.is_sound book.new →
         IfOk result (λ came. CarriedAll (B.stands book.old) (B.stands book.new) pass came) }

@@ -6,7 +6,7 @@ use commands::{Ask, Command, Fault, Item, Reply};
 use saga_core::{Book, Brief, Record};
 use std::marker::Model;
 
-/// A book that is recovered. `recover` alone makes one. To a contract it is the book itself.
+/// A book that is recovered. Only `recover` makes one. In a contract it is the book itself.
 #[derive(Drop)]
 pub struct Ready<B> {
     book: B,
@@ -19,14 +19,14 @@ impl<B> Model for Ready<B> {
 }
 
 impl<B> Ready<B> {
-    /// This book, which is recovered.
+    /// Marks this book as recovered. Only `recover` calls this.
     pub(crate) fn new(book: B) -> Ready<B>
         ensures same { result ≡ book }
     {
         Ready { book }
     }
 
-    /// The book, as it is.
+    /// The book itself.
     pub fn into_inner(self) -> B
         ensures same { result ≡ self }
     {

@@ -9,7 +9,8 @@ use crate::ready::Ready;
 use commands::Fault;
 use saga_core::Book;
 
-/// The three passes, one after another. Answers how many events they made.
+/// Runs the three passes, one after another, until one of them finds the ledger full. Returns how many events they
+/// made.
 fn recover_all<B: Book>(book: &mut B) -> Result<u64, Fault>
     ensures recovered { B.is_sound book.new →
         IfOk result (λ made. Recovers (B.stands book.old) (B.stands book.new) made) }
@@ -37,8 +38,10 @@ fn recover_all<B: Book>(book: &mut B) -> Result<u64, Fault>
     }
 }
 
-/// Takes every unfinished journey back to its last save-point, or to its beginning, and from there to its end. Answers
-/// the book, ready for commands, and how many events that made. At a fault the book comes back as it is then.
+/// Takes every unfinished journey back to its last save-point, or to its start, and from there to its end.
+///
+/// Returns the book, ready for commands, and how many events recovery made. At a fault, returns the book as it is then,
+/// and the fault.
 pub fn recover<B: Book>(book: B) -> Result<(Ready<B>, u64), (B, Fault)>
     ensures recovered { IfOk result (λ r.
         B.is_sound r.0 → Recovers (B.stands book) (B.stands r.0) r.1) }

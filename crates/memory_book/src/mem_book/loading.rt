@@ -14,7 +14,7 @@ fn has_same_rows(rows: &[Row], known: &[Row]) -> bool
     rows == known
 }
 
-/// The reply to a batch that stands.
+/// The reply to a batch that is loaded.
 fn loaded(batch: &Batch) -> Reply
     ensures loaded { result ≡ reply_to batch.now.name batch.now.rows }
 {
@@ -24,7 +24,7 @@ fn loaded(batch: &Batch) -> Reply
     }
 }
 
-/// The reply to a batch whose name is known, with these rows or with others.
+/// The reply to a batch whose name is known, with the same rows or with others.
 fn loaded_again(batch: &Batch, known: &Batch) -> Reply
     ensures again { result
         ≡ (answer_known batch.now.name batch.now.rows known.now.rows).reply }
@@ -48,7 +48,7 @@ impl MemBook {
     ghost use Rattle.commands.specs.Request as request;
     ghost use Rattle.memory_book.specs.Memory.{CarriesOut, KeepsBook};
 
-    /// The batch of this name, if it was loaded.
+    /// The batch of this name. Returns `None` if none was loaded.
     fn batch_named(&self, name: Name) -> Option<&Batch>
         ensures first { option_copied result
             ≡ find (λ b. bytes_eq b.name name) self.now.batches.items }
@@ -56,7 +56,7 @@ impl MemBook {
         self.batches.iter().find(|batch| batch.name() == name)
     }
 
-    /// Loads a batch, unless its name is known or a row of it is below what journeys hold.
+    /// Loads a batch. A batch whose name is known changes nothing, nor does one with a row below what journeys hold.
     pub fn load(&mut self, batch: &Batch, ask: Option<&Ask>) -> Result<Reply, AllocError>
         ensures answer { CarriesOut self.old self.new (option_copied ask.entry)
             (request.Load batch.now.name batch.now.rows) result }
@@ -83,7 +83,7 @@ impl MemBook {
         }
     }
 
-    /// Loads a batch of which no row is below what journeys hold, where the ledger has room.
+    /// Loads a batch, if the ledger has room. The precondition says that no row of it is below what journeys hold.
     fn load_fitting(&mut self, batch: &Batch, ask: Option<&Ask>) -> Result<Reply, AllocError>
         requires held { IsTrue
             (list_all (λ row. not (is_below_in self.old.stock row)) batch.now.rows) }

@@ -12,7 +12,7 @@ use saga_core::is_running;
 use savepoints::Turn;
 use std::alloc::AllocError;
 
-/// The reply to the journey at this place, which made this item and is here now.
+/// The reply to the journey at this place, which made this item and is now at this cursor.
 fn moved(place: usize, item: Item, cursor: &Cursor) -> Reply
     requires counted { place < 2 ^ 63 }
 
@@ -61,7 +61,7 @@ impl MemBook {
     ghost use Rattle.memory_book.specs.Memory.{IsSeenAt, IsSeenNowhere, IsMove, MayBeMade};
     ghost use Rattle.memory_book.specs.declared.journeys.Journey.{Journey};
 
-    /// The place of the journey with this number, if who asks sees it.
+    /// The place of the journey with this number. Returns `None` if the asker sees no such journey.
     fn seen(&self, id: u64, ask: Option<&Ask>) -> Option<usize>
         ensures seen { IfSome result (IsSeenAt self.now (asker (option_copied ask.entry)) id) }
 
@@ -76,7 +76,7 @@ impl MemBook {
         }
     }
 
-    /// Whether the next want of the journey at this place fits, if it runs.
+    /// Whether the journey at this place is running and its next want fits.
     fn next_fits(&self, place: usize) -> bool
         requires within { place < length self.now.journeys.items }
 
@@ -92,7 +92,7 @@ impl MemBook {
         self.stock.fits(&want)
     }
 
-    /// Does a journey's next step.
+    /// Makes a journey's next step.
     pub fn step(&mut self, id: u64, ask: Option<&Ask>) -> Result<Reply, AllocError>
         ensures answer { CarriesOut self.old self.new (option_copied ask.entry)
             (request.Step id) result }
@@ -137,7 +137,7 @@ impl MemBook {
         self.carry_out(place, next, ask)
     }
 
-    /// Takes a save-point where a journey is.
+    /// Takes a save-point at the journey's position.
     pub fn save(&mut self, id: u64, ask: Option<&Ask>) -> Result<Reply, AllocError>
         ensures answer { CarriesOut self.old self.new (option_copied ask.entry)
             (request.Save id) result }
@@ -150,7 +150,7 @@ impl MemBook {
         self.carry_out(place, next, ask)
     }
 
-    /// Answers why there is no item, or makes the item.
+    /// Replies why there is no item, or makes the item.
     fn carry_out(
         &mut self,
         place: usize,
@@ -179,7 +179,7 @@ impl MemBook {
         }
     }
 
-    /// Makes an item, for which the ledger has room, and keeps the reply.
+    /// Makes an item and keeps the reply. The precondition says that the ledger has room.
     fn make(&mut self, place: usize, item: Item, ask: Option<&Ask>) -> Result<Reply, AllocError>
         requires within { place < length self.old.journeys.items }
         requires next { MayBeMade self.old place (Ok item) }

@@ -1,9 +1,9 @@
-//! Commands as lines, and what a book answers to them, so that tests can be tables.
+//! Commands as lines, and the answers of a book, for tests in tables.
 //!
-//! `load NAME CELL PLACES` loads a batch, whose rows stand between commas; `begin PLAN`, `step ID`, `abort ID P`,
-//! `stop ID` and `save ID` are the other commands; `items ID` asks for a journey's items, `unfinished ID` for the first
+//! `load NAME CELL PLACES` loads a batch, whose rows are separated by commas; `begin PLAN`, `step ID`, `abort ID P`,
+//! `stop ID` and `save ID` are the other commands. `items ID` asks for a journey's items, `unfinished ID` for the first
 //! unfinished journey above this number, `free CELL` for the free places of a cell, `cells WANT` for those of a want's
-//! nights, and `stock` for all cells. `@` and a letter or digit stands for the cell or the first five parts of a want
+//! nights, and `stock` for all cells. `@` and a letter or digit represents the cell, or the first five parts of a want,
 //! that `NAMES` has.
 use crate::MemBook;
 use allotment::{Cell, Row};
@@ -13,7 +13,7 @@ use std::alloc::Global;
 use std::process::Abort;
 use std::test::Fail;
 
-// what stands for which cell
+// letters and digits, and the cells that they represent
 const NAMES: [(char, &str); 14] = [
     ('1', "F/AL/A1/2030-06-01"),
     ('2', "F/AL/A2/2030-06-01"),
@@ -31,7 +31,7 @@ const NAMES: [(char, &str); 14] = [
     ('Z', "R/INN/X/2030-06-01"),
 ];
 
-/// What this stands for, and what stands behind it.
+/// The cell that the first character of the text represents, and the text after it.
 fn named(text: &str) -> Option<(&'static str, &str)> {
     for &(letter, cell) in &NAMES {
         if let Some(rest) = text.strip_prefix(letter) {
@@ -41,7 +41,7 @@ fn named(text: &str) -> Option<(&'static str, &str)> {
     None
 }
 
-/// The line with its names written out.
+/// The line with its names replaced by what they represent.
 fn written_out(alloc: Global, line: &str) -> Result<String, Fail> {
     let mut written = String::new(alloc);
     for (i, part) in line.split('@').enumerate() {
@@ -68,7 +68,7 @@ fn row_of(text: &str) -> Option<Row> {
     }
 }
 
-/// The rows that stand between commas, each a cell and its places.
+/// The rows in a text, separated by commas, each a cell and its places.
 fn rows_of(alloc: Global, text: &str) -> Result<Vec<Row>, Fail> {
     let mut rows = Vec::new(alloc);
     for part in text.split(", ") {
@@ -98,7 +98,7 @@ fn move_of(word: &str, text: &str) -> Option<Command> {
     }
 }
 
-/// The command of a line that is written out.
+/// The command of a line without names.
 fn written_command(alloc: Global, line: &str) -> Result<Command, Fail> {
     let (word, rest) = line.split_once(' ').ok_or("no command")?;
     match word {
@@ -125,7 +125,7 @@ fn items(alloc: Global, book: &mut MemBook, id: u64) -> Result<String, Fail> {
     Ok(line)
 }
 
-/// The first unfinished journey above a number, with its agent and where it is, or `none`.
+/// The first unfinished journey above a number, with its agent and its position, or `none`.
 fn unfinished(alloc: Global, book: &mut MemBook, after: u64) -> Result<String, Fail> {
     let Some(brief) = book.first_unfinished(after)? else {
         return Ok(String::from_str(alloc, "none")?);
@@ -182,8 +182,8 @@ fn free(alloc: Global, book: &mut MemBook, text: &str) -> Result<String, Fail> {
     Ok(String::from_str(alloc, "none")?)
 }
 
-/// What a book answers to a command, and whoever asks. Where memory runs out nothing changes, so the same command is
-/// answered as it would have been.
+/// The answer of a book to a command of this asker. Out of memory changes nothing, so the command is then sent once
+/// more and gets the answer that it would have had.
 pub fn reply(book: &mut MemBook, command: &Command, ask: Option<&Ask>) -> Result<Reply, Fault> {
     match book.act(command, ask) {
         Err(Fault::Memory) => book.act(command, ask),
@@ -191,7 +191,7 @@ pub fn reply(book: &mut MemBook, command: &Command, ask: Option<&Ask>) -> Result
     }
 }
 
-/// What a book answers to a line of the house.
+/// The answer of a book to a line of the house.
 fn answer(alloc: Global, book: &mut MemBook, line: &str) -> Result<String, Fail> {
     let written = written_out(alloc, line)?;
     match written.as_str().split_once(' ') {
@@ -204,12 +204,12 @@ fn answer(alloc: Global, book: &mut MemBook, line: &str) -> Result<String, Fail>
     }
 }
 
-/// Stops the test where another text is answered to this line.
+/// Stops the test if another text was answered to this line.
 pub fn reads(rt: &impl Abort, line: &str, answered: &str, expected: &str) {
     assert!(rt; answered == expected, "{line}: {answered}");
 }
 
-/// Goes through a table of lines and answers.
+/// Checks a table of lines and answers.
 pub fn goes_on(
     rt: &impl Abort,
     alloc: Global,
@@ -223,7 +223,7 @@ pub fn goes_on(
     Ok(())
 }
 
-/// Goes through a table of lines and answers, on a new desk.
+/// Checks a table of lines and answers, on a new desk.
 pub fn answers(rt: &impl Abort, alloc: Global, rows: &[(&str, &str)]) -> Result<(), Fail> {
     goes_on(rt, alloc, &mut MemBook::new(alloc), rows)
 }

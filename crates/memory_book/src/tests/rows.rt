@@ -1,4 +1,4 @@
-//! Worked rows, each on a new desk: a line, and what is answered.
+//! Worked rows, each on a new desk: a line, and the expected answer.
 use crate::MemBook;
 use crate::tests::ask;
 use crate::tests::lines::{answers, command_of, goes_on, reads, reply};
@@ -369,7 +369,7 @@ fn a_save_point_is_taken_once(rt: HostRuntime) -> Result<(), Fail> {
     answers(&rt, rt.alloc(), &SAVES)
 }
 
-// a save-point falls with the compensation of its step
+// the compensation of a step discards the save-point after it
 #[rattlefmt::skip]
 const SAVES_FALL: [(&str, &str); 13] = [
     ("load a @1 10, @X 10, @D 10",  "loaded a 3"),
@@ -392,7 +392,7 @@ fn a_save_point_falls_with_its_step(rt: HostRuntime) -> Result<(), Fail> {
     answers(&rt, rt.alloc(), &SAVES_FALL)
 }
 
-// the nights of a want, less those that have no allotment
+// the nights of a want, without those that have no allotment
 #[rattlefmt::skip]
 const NIGHTS: [(&str, &str); 5] = [
     ("load a @D 4, R/INN/DBL/2030-06-03 2", "loaded a 2"),
@@ -440,7 +440,7 @@ fn a_room_without_its_last_night_is_not_taken(rt: HostRuntime) -> Result<(), Fai
     answers(&rt, alloc, &rows)
 }
 
-// who asks, under which key, what is asked, and what is answered
+// agent and key of a request, the request, and the expected answer
 #[rattlefmt::skip]
 const AGENTS: [(&str, &str, &str, &str); 15] = [
     ("ann", "k1", "begin @1/1/1!0", "journey 1 begun"),
@@ -467,7 +467,7 @@ const AFTERWARDS: [(&str, &str); 3] = [
     ("free @1", "6"),
 ];
 
-/// What a book answers to a line of an agent, who asks it under this key.
+/// The answer of a book to a line of an agent, under this key.
 fn answer_to(
     alloc: Global,
     book: &mut MemBook,

@@ -5,7 +5,7 @@ use Rattle.plan.proofs.LimitLemmas.{few_steps}
 use Rattle.memory_book.proofs.ReadyLemmas.{save_said-next}
 use Rattle.memory_book.proofs.next.saved.Goals as goal
 
--- a running journey is short of its last step, and a plan has few
+-- a running journey has not reached its last step, and a plan has few steps
 pub returns-clause-next : goal.returns-clause-next
 returns-clause-next c =
     let journey = c.args.journey.now in

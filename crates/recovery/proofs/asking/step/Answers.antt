@@ -6,7 +6,7 @@ use Rattle.recovery.proofs.AskLemmas.{steps, left_at_fault}
 use Rattle.recovery.proofs.TellLemmas.{step-moves}
 use Rattle.recovery.proofs.asking.step.Goals as goal
 
--- the reply tells the phase after the journey's one step
+-- the reply reports the phase after the journey's one step
 pub returns-in-Ok-clause-ok : goal.returns-in-Ok-clause-ok
 returns-in-Ok-clause-ok g c =
     λ sound s st unfinished.
@@ -18,7 +18,7 @@ returns-in-Ok-clause-ok g c =
     step.forward step.allowed c.in-Ok.reply
     (c.in-Ok.ensures.reply sound s st) (c.in-Ok.ensures.after sound s st))
 
--- at a fault it made its one step, or it did not
+-- at a fault the journey made its one step, or it did not
 pub returns-clause-fault : goal.returns-clause-fault
 returns-clause-fault g c =
     λ sound s st unfinished.

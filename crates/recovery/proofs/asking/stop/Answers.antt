@@ -7,7 +7,7 @@ use Rattle.recovery.proofs.AskLemmas.{adds, left_at_fault}
 use Rattle.recovery.proofs.TellLemmas.{stop-moves}
 use Rattle.recovery.proofs.asking.stop.Goals as goal
 
--- the reply tells a phase just where the journey turned
+-- the reply reports a phase exactly if the journey turned
 pub returns-in-Ok-clause-ok : goal.returns-in-Ok-clause-ok
 returns-in-Ok-clause-ok g c =
     λ sound s st runs.
@@ -18,7 +18,7 @@ returns-in-Ok-clause-ok g c =
     (adds stands s (request.Stop j) j _ (stop-moves s.ledger j runs) c.in-Ok.reply
     (c.in-Ok.ensures.reply sound s st) (c.in-Ok.ensures.after sound s st))
 
--- at a fault it turned, or it did not
+-- at a fault the journey turned, or it did not
 pub returns-clause-fault : goal.returns-clause-fault
 returns-clause-fault g c =
     λ sound s st runs.

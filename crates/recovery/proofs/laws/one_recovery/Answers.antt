@@ -1,4 +1,4 @@
--- The rules leave no choice.
+-- The rules are deterministic.
 use Rattle.recovery.proofs.OneLemmas.{recovery-one}
 use Rattle.recovery.proofs.laws.one_recovery.Goals as goal
 

@@ -44,7 +44,7 @@ returns-in-Ok-Full-clause-ok g c =
     c.loop-round._round c.in-Ok-Full.more c.saturating_add.result b t first more
     (omega (arith, c.saturating_add.ensures, fits))
 
--- a look met a fault
+-- a read of the book met a fault
 pub returns-in-Err-clause-fault : goal.returns-in-Err-clause-fault
 returns-in-Err-clause-fault g c =
     λ sound s st.
@@ -58,7 +58,7 @@ returns-in-Err-clause-fault g c =
     (book.leaves c.first_unfinished.new.self) c.in-Err.fault (c.in-Err.ensures.same sound)
     (c.first_unfinished.ensures.stop sound) (g.met.B.Book.settled c.loop-round.book))
 
--- a fault came within a journey
+-- a fault within a journey
 pub returns-in-Err-carry_one-clause-fault : goal.returns-in-Err-carry_one-clause-fault
 returns-in-Err-carry_one-clause-fault g c =
     λ sound s st.
@@ -78,7 +78,7 @@ returns-in-Err-carry_one-clause-fault g c =
     (c.in-Err-carry_one.ensures.fault sound (with_events s t.events) here
     (goes-first c.args.pass (s.ledger ++ t.events) c.loop-round.after b first goes))
 
--- one journey further: the pass carried it, or has nothing to do with it
+-- one more journey: the pass stepped it, or has nothing to do with it
 pub loop-round-preserved : goal.loop-round-preserved
 loop-round-preserved g c =
     elim c.if-goes_on.branch [

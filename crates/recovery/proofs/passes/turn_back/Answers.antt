@@ -49,7 +49,7 @@ returns-in-Ok-false-clause-ok g c =
     (subst (Stops (g.B.Book.stands c.first_unfinished.new.self) (g.B.Book.stands c.stop.new.book)
     b.id) c.in-Ok-false.field-0-test (c.in-Ok-false.ensures.ok sound))
 
--- a look met a fault
+-- a read of the book met a fault
 pub returns-in-Err-clause-fault : goal.returns-in-Err-clause-fault
 returns-in-Err-clause-fault g c =
     λ sound s st.
@@ -82,7 +82,7 @@ returns-in-Err-stop-clause-fault g c =
     ∙ c.in-Ok-Some.ensures.first looked (with_events s t.events) t.stands_there)
     (sym c.is_running.ensures ∙ c.if-is_running.true) (c.in-Err-stop.ensures.fault sound)
 
--- one journey further: it turned, or it does not run
+-- one more journey: it turned, or it does not run
 pub loop-round-preserved : goal.loop-round-preserved
 loop-round-preserved g c =
     elim c.if-is_running.branch [

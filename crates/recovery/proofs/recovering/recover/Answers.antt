@@ -21,7 +21,7 @@ returns-in-Ok-clause-finished g c =
       finished = recovery-finishes s.ledger grew.events r grew.are is fits;
     }
 
--- and it is within the bound
+-- recovery makes no more events than the bound
 pub returns-in-Ok-clause-bound : goal.returns-in-Ok-clause-bound
 returns-in-Ok-clause-bound g c =
     λ sound s st.
@@ -32,7 +32,7 @@ returns-in-Ok-clause-bound g c =
     in
     omega arith
 
--- a world goes on with the requests of recovery
+-- an execution continues with the requests of recovery
 pub returns-in-Ok-clause-world : goal.returns-in-Ok-clause-world
 returns-in-Ok-clause-world g c =
     λ sound w here.
@@ -45,7 +45,7 @@ returns-in-Ok-clause-world g c =
     (g.met.B.Book.settled c.recover_all.new.book) here legal
     (c.in-Ok.ensures.recovered moved s here.stands_there))
 
--- and at a fault with a prefix of them
+-- at a fault an execution continues with a prefix of them
 pub returns-in-Err-clause-world_at_fault : goal.returns-in-Err-clause-world_at_fault
 returns-in-Err-clause-world_at_fault g c =
     λ sound w here.

@@ -32,7 +32,7 @@ returns-in-Ok-Full-carry-clause-recovered g c =
     c.in-Ok-Full-carry.made c.saturating_add.result (g.met.B.Book.legal c.args.book.now s st) t b
     (omega (arith, c.saturating_add.ensures, fits))
 
--- the way on came through, or filled the ledger
+-- the way on completed, or filled the ledger
 pub returns-in-Ok-clause-recovered : goal.returns-in-Ok-clause-recovered
 returns-in-Ok-clause-recovered g c =
     λ sound s st.
@@ -55,7 +55,7 @@ returns-in-Ok-clause-recovered g c =
     (g.met.B.Book.legal c.args.book.now s st) (g.met.B.Book.legal c.carry-2.new.book) t b on
     (omega (arith, c.saturating_add-in-Ok.ensures, c.saturating_add-back.ensures, c.made.ensures, fits))
 
--- a fault came in the turns
+-- a fault in the turns
 pub returns-in-Err-clause-fault : goal.returns-in-Err-clause-fault
 returns-in-Err-clause-fault g c =
     λ sound s st.
@@ -65,7 +65,7 @@ returns-in-Err-clause-fault g c =
     (g.met.B.Book.legal c.args.book.now s st)
     (c.in-Err.ensures.fault sound s st)
 
--- a fault came on the way back
+-- a fault on the way back
 pub returns-in-Err-carry-clause-fault : goal.returns-in-Err-carry-clause-fault
 returns-in-Err-carry-clause-fault g c =
     λ sound s st.
@@ -78,7 +78,7 @@ returns-in-Err-carry-clause-fault g c =
     c.in-Ok-Through.made c.in-Err-carry.fault (g.met.B.Book.legal c.args.book.now s st) t
     (c.in-Err-carry.ensures.fault sound (with_events s t.events) t.stands_there)
 
--- a fault came on the way on
+-- a fault on the way on
 pub returns-in-Err-carry-2-clause-fault : goal.returns-in-Err-carry-2-clause-fault
 returns-in-Err-carry-2-clause-fault g c =
     λ sound s st.

@@ -5,7 +5,7 @@ use Rattle.ledger.specs.Answer.{answered_again, text_of}
 use Rattle.memory_book.specs.MemoryAnswers.{kept_in, found_for}
 use Rattle.memory_book.proofs.answers.Answers.again.Goals as goal
 
--- this ask is answered again
+-- the request is answered under its known key
 pub returns-in-Some : goal.returns-in-Some
 returns-in-Some c = record {
   known = λ s.

@@ -6,7 +6,7 @@ use Rattle.memory_book.specs.MemoryAnswers.{ask_key_cmp, kept_said, kept_in}
 use Rattle.memory_book.proofs.KeptLemmas.{ask_key-is}
 use Rattle.memory_book.proofs.answers.Answers.again_to.Goals as goal
 
--- the kept reply is the one under the agent and the key of the ask
+-- the kept reply is the one under the agent and the key of the request
 pub returns-in-Some : goal.returns-in-Some
 returns-in-Some c =
     let ask = c.args.ask.now in

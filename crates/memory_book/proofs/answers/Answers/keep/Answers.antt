@@ -6,7 +6,7 @@ use Rattle.memory_book.specs.MemoryAnswers.{kept_in}
 use Rattle.memory_book.proofs.KeptLemmas.{kept_in-insert}
 use Rattle.memory_book.proofs.answers.Answers.keep.Goals as goal
 
--- the reply is kept under the agent and the key of the ask, with its text
+-- the reply is kept under the agent and the key of the request, with its text
 pub returns-clause-kept : goal.returns-clause-kept
 returns-clause-kept c agent key =
     let old = c.args.self.now in

@@ -3,7 +3,7 @@ use Rattle.ledger_transitions.proofs.Taken.{marks_of-begin}
 use Rattle.memory_book.proofs.JourneyLemmas.{phase-begun}
 use Rattle.memory_book.proofs.journeys.Journey.new.Goals as goal
 
--- nothing was done yet
+-- the journey has made no item
 pub returns-clause-told : goal.returns-clause-told
 returns-clause-told c = record {
   items = c.new-2.ensures.items;

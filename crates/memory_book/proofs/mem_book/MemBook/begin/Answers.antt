@@ -10,7 +10,7 @@ use Rattle.memory_book.proofs.GrowthLemmas.{keeps_book, room_left, stands-same}
 use Rattle.memory_book.proofs.mem_book.MemBook.begin.Goals as goal
 use Rattle.memory_book.proofs.mem_book.MemBook.begin.Goals.{in-Some, in-None}
 
--- room was made, and nothing else changed
+-- capacity was reserved, and nothing else changed
 pub returns-in_err-keep-clause-memory : goal.returns-in_err-keep-clause-memory
 returns-in_err-keep-clause-memory c =
     let m = c.args.self.now in

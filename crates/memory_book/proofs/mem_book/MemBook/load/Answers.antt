@@ -14,7 +14,7 @@ returns-in-Some-clause-answer c s here =
     carried_out-known m s (option_copied c.args.ask) batch.name batch.rows
     c.in-Some.known.now.rows found.0 c.loaded_again.result here found.1 c.loaded_again.ensures.again
 
--- it is new
+-- the name is new
 pub returns-in-None-clause-answer : goal.returns-in-None-clause-answer
 returns-in-None-clause-answer c s here =
     let m = c.args.self.now in

@@ -24,7 +24,7 @@ loaded-requires c = record {
       (sym c.rows.ensures.rows) c.requires.held;
 }
 
--- room was made, and nothing else changed
+-- capacity was reserved, and nothing else changed
 pub returns-in_err-keep-clause-memory : goal.returns-in_err-keep-clause-memory
 returns-in_err-keep-clause-memory c =
     let m = c.args.self.now in

@@ -14,7 +14,7 @@ returns-in-Some-clause-answer c s here none =
     c.in-Some.place _ here none
     (c.in-Some.ensures.first ∙ ap (position (is_below_in m.stock)) c.rows.ensures.rows) refl
 
--- none is
+-- no row is below what is held
 pub load_fitting-requires : goal.load_fitting-requires
 load_fitting-requires c = record {
   held =
@@ -23,7 +23,7 @@ load_fitting-requires c = record {
       ∙ ap (position (is_below_in c.args.self.now.stock)) c.rows.ensures.rows));
 }
 
--- so the load is due
+-- so the rules allow the load
 pub returns-in-None-clause-answer : goal.returns-in-None-clause-answer
 returns-in-None-clause-answer c s here none =
     let m = c.args.self.now in

@@ -18,14 +18,14 @@ use Rattle.memory_book.proofs.MoveLemmas.{carried_out-made}
 use Rattle.memory_book.proofs.ReadyLemmas.{in_plan, makes-after, same_item, stands-reserved}
 use Rattle.memory_book.proofs.mem_book.MemBook.make.Goals as goal
 
--- the item is next at the journey at this place
+-- the item is next for the journey at this place
 pub cursor_after-cursor-requires-clause-next : goal.cursor_after-cursor-requires-clause-next
 cursor_after-cursor-requires-clause-next c =
     let old = c.index_mut-journey.result.now in
     (c.requires.next old (slice_get-get_or c.args.self.now.journeys.items c.args.place old
     c.requires.within ∙ ap Some (sym c.index_mut-journey.ensures.value))).next
 
--- no room was made, and nothing changed
+-- no capacity was reserved, and nothing changed
 pub returns-in_err-reserve-clause-memory : goal.returns-in_err-reserve-clause-memory
 returns-in_err-reserve-clause-memory c =
     let m = c.args.self.now in
@@ -45,7 +45,7 @@ returns-in_err-reserve-clause-memory c =
     ∙ ap Some (sym c.index_mut-journey.ensures.value))
     refl kept refl refl (λ agent key. refl) refl)
 
--- room was made, and nothing else changed
+-- capacity was reserved, and nothing else changed
 pub returns-in_err-keep-clause-memory : goal.returns-in_err-keep-clause-memory
 returns-in_err-keep-clause-memory c =
     let m = c.args.self.now in
@@ -68,7 +68,7 @@ returns-in_err-keep-clause-memory c =
     ∙ ap Some (sym c.index_mut-journey.ensures.value))
     refl kept refl refl c.in_err-keep.ensures.memory refl)
 
--- what is next stands in the plan
+-- the next item is in the plan
 pub change_stock-requires-clause-in_plan : goal.change_stock-requires-clause-in_plan
 change_stock-requires-clause-in_plan c =
     let old = c.index_mut-journey.result.now in
@@ -77,7 +77,7 @@ change_stock-requires-clause-in_plan c =
     subst (λ (b : l.Journey). IsInPlan b.plan c.args.item) (sym c.reserve.ensures.same.begun)
     (in_plan old.plan old.cursor old.taken.items c.args.item old.placed (c.requires.next old at).next)
 
--- what it takes fits
+-- what the item takes fits
 pub change_stock-requires-clause-fits : goal.change_stock-requires-clause-fits
 change_stock-requires-clause-fits c =
     let m = c.args.self.now in
@@ -87,7 +87,7 @@ change_stock-requires-clause-fits c =
     subst (λ (b : l.Journey). IsTrue (fits_where_taken m.stock b.plan c.args.item))
     (sym c.reserve.ensures.same.begun) (c.requires.next old at).fits
 
--- it is still next
+-- the item is still next
 pub make-requires-clause-next : goal.make-requires-clause-next
 make-requires-clause-next c =
     let old = c.index_mut-journey.result.now in

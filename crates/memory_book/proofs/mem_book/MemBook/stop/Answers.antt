@@ -10,7 +10,7 @@ use Rattle.memory_book.proofs.ReadyLemmas.{same_item}
 use Rattle.memory_book.proofs.StepLemmas.{stop-move}
 use Rattle.memory_book.proofs.mem_book.MemBook.stop.Goals as goal
 
--- what is kept of the journey comes to what the rules answer
+-- what is kept of the journey gives what the rules answer
 pub returns-clause-answer : goal.returns-clause-answer
 returns-clause-answer c s here =
     let m = c.args.self.now in

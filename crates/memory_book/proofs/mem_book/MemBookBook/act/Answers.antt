@@ -13,7 +13,7 @@ returns-in-Some-clause-reply c _ s here =
     (again-known s ask (request_of c.args.command.now) c.in-Some.reply _
     (sym (found_for-kept c.args.self.now s here ask)) (c.in-Some.ensures.known s)).replied
 
--- and nothing changes
+-- a known key changes nothing
 pub returns-in-Some-clause-after : goal.returns-in-Some-clause-after
 returns-in-Some-clause-after c _ s here =
     let ask = option_copied c.args.ask in
@@ -21,7 +21,7 @@ returns-in-Some-clause-after c _ s here =
     (sym (again-known s ask (request_of c.args.command.now) c.in-Some.reply _
     (sym (found_for-kept c.args.self.now s here ask)) (c.in-Some.ensures.known s)).same) here
 
--- it is new, and the command is answered
+-- the key is new, and the command is answered
 pub returns-in-Ok-clause-reply : goal.returns-in-Ok-clause-reply
 returns-in-Ok-clause-reply c _ s here =
     let ask = option_copied c.args.ask in

@@ -5,7 +5,7 @@ use Rattle.saga_core.specs.Views.{is_unfinished_above}
 use Rattle.memory_book.proofs.UnfinishedLemmas.{brief_at, briefs_from, brief_is, found_from, first_unfinished-kept}
 use Rattle.memory_book.proofs.mem_book.MemBookBook.first_unfinished.Goals as goal
 
--- the journey at hand is not one
+-- the current journey is not one
 pub loop-place-preserved : goal.loop-place-preserved
 loop-place-preserved c =
     let ks = c.args.self.now.journeys.items in
@@ -24,7 +24,7 @@ loop-place-preserved c =
     (find (is_unfinished_above c.args.after) (briefs_from (suc (place + 1)) (drop (place + 1) ks))))
     fails
 
--- the journey at hand is the first
+-- the current journey is the first
 pub returns-then-is_unfinished_above-clause-first : goal.returns-then-is_unfinished_above-clause-first
 returns-then-is_unfinished_above-clause-first c _ s here =
     let m = c.args.self.now in
@@ -46,7 +46,7 @@ returns-then-is_unfinished_above-clause-first c _ s here =
     passes)
     ∙ first_unfinished-kept m s c.args.after here
 
--- there is none
+-- there is no such journey
 pub returns-clause-first : goal.returns-clause-first
 returns-clause-first c _ s here =
     let m = c.args.self.now in

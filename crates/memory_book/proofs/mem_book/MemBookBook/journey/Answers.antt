@@ -9,7 +9,7 @@ pub returns-in-None-clause-journey : goal.returns-in-None-clause-journey
 returns-in-None-clause-journey c _ s here =
     record_of-past c.args.self.now s here c.args.id c.in-None.ensures.none
 
--- what is kept of it is copied
+-- what is kept of the journey is copied
 pub returns-in-Ok-clause-journey : goal.returns-in-Ok-clause-journey
 returns-in-Ok-clause-journey c _ s here =
     let m = c.args.self.now in

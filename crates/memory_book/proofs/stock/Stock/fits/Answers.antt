@@ -6,7 +6,7 @@ use Rattle.allotment.specs.Cells.{cells_of}
 use Rattle.memory_book.specs.MemoryStock.{has_free_in}
 use Rattle.memory_book.proofs.stock.Stock.fits.Goals as goal
 
--- all cells of the want are gone through
+-- all cells of the want are checked
 pub returns : goal.returns
 returns c =
     let stock = c.args.self.now in

@@ -4,7 +4,7 @@ use Rattle.memory_book.specs.MemoryStock.{stock_at, with_back}
 use Rattle.memory_book.proofs.CellLemmas.{are_apart, apart-rest, changed, changed-step, cells_of-apart, none_back}
 use Rattle.memory_book.proofs.stock.Stock.give.Goals as goal
 
--- all cells of the want are left, and they are apart
+-- all cells of the want are left, and they are distinct
 pub loop-cell-init : goal.loop-cell-init
 loop-cell-init c =
     let want = c.args.want.now in

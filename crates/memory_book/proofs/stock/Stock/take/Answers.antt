@@ -6,7 +6,7 @@ use Rattle.memory_book.specs.MemoryStock.{stock_at, with_less}
 use Rattle.memory_book.proofs.CellLemmas.{are_apart, apart-rest, apart-first, free-step, has_free_at, changed, changed-step, cells_of-apart, none_less}
 use Rattle.memory_book.proofs.stock.Stock.take.Goals as goal
 
--- all cells of the want are left, and they are apart
+-- all cells of the want are left, and they are distinct
 pub loop-cell-init : goal.loop-cell-init
 loop-cell-init c =
     let want = c.args.want.now in

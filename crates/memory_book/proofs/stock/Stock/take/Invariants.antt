@@ -6,7 +6,7 @@ use Rattle.memory_book.specs.MemoryStock.{stock_at, with_less}
 use Rattle.memory_book.proofs.CellLemmas.{are_apart, changed, has_free_at}
 use Rattle.memory_book.proofs.stock.Stock.take.Given as goal
 
--- the cells that are left are apart, and what they change makes the whole of what the want changes
+-- the cells that are left are distinct, and their changes complete those of the want
 abbrev pub invariant-loop-cell : goal.invariant-loop-cell
 invariant-loop-cell l = record {
   apart : are_apart l.cell-iterator ≡ true;
