@@ -16,11 +16,11 @@ use Rattle.command_line.specs.Subcommands.{bare_app, has_any, ids_in, ids_of, ne
 use Rattle.command_line.specs.declared.subcommands.Subcommand.{Subcommand}
 use Rattle.command_line.specs.declared.subcommands.Subcommand.TheVariants.{Run, Serve, Recover, Load, Stock, Unfinished, History, Migrate}
 
--- the values behind the first one are needed too
+-- the values after the first one are required too
 rest_needed : (x : Arg) (xs : List Arg) → All IsNeeded (x ∷ xs) → All IsNeeded xs
 rest_needed x xs all = λ k d lt. all (suc k) d (omega arith)
 
--- how clap reads the words once each value was added
+-- how clap reads the words when each value was added
 app_of-chain : (start cmd : Command) (xs : List Arg) → AddsInTurn AddsArg start xs cmd → All IsNeeded xs
     → app_of cmd ≡ with_rules (app_of start) (map rule_of xs)
 app_of-chain start cmd [] chain needed = ap app_of (sym chain)
@@ -28,16 +28,16 @@ app_of-chain start cmd (x ∷ xs) chain needed =
     app_of-chain chain.0 cmd xs chain.2 (rest_needed x xs needed)
     ∙ ap (λ app. with_rules app (map rule_of xs)) (chain.1.shape (needed 0 x (omega arith)).global)
 
--- the two names are one
+-- the two names are the same
 abbrev is_same : Text → Text → Bool
 is_same id other = bytes_eq other id || bytes_eq id other
 
--- no two of the names are one
+-- no two of the names are the same
 abbrev pub differ : List Text → Bool
 differ [] = true
 differ (id ∷ more) = not (list_any (is_same id) more) && differ more
 
--- a name that clap gives no argument of its own
+-- the name is not empty, and is not that of an argument which clap adds
 abbrev pub is_own : Text → Bool
 is_own id = has_any id && not (bytes_eq id (codes "help") || bytes_eq id (codes "version"))
 
@@ -57,7 +57,7 @@ denied : (a : Bool) → not a ≡ true → a ≡ false
 denied true e = cc
 denied false e = refl
 
--- a test that none of the names passes is passed by none of the values
+-- a test that fails on each name fails on each value
 none_passes : (p : Text → Bool) (xs : List Arg) (k : ℕ) (d : Arg) → list_any p (ids_in (map rule_of xs)) ≡ false
     → k < length xs → p (slice_index_or xs k d).id.now ≡ false
 none_passes p [] k d none lt = absurd (omega arith)
@@ -65,7 +65,7 @@ none_passes p (x ∷ xs) zero d none lt = (neither (p x.id.now) (list_any p (ids
 none_passes p (x ∷ xs) (suc k) d none lt =
     none_passes p xs k d (neither (p x.id.now) (list_any p (ids_in (map rule_of xs))) none).1 (omega arith)
 
--- a test that all names pass is passed by each of the values
+-- a test that passes on each name passes on each value
 each_passes : (p : Text → Bool) (xs : List Arg) (k : ℕ) (d : Arg) → list_all p (ids_in (map rule_of xs)) ≡ true
     → k < length xs → p (slice_index_or xs k d).id.now ≡ true
 each_passes p [] k d all lt = absurd (omega arith)
@@ -73,7 +73,7 @@ each_passes p (x ∷ xs) zero d all lt = (both (p x.id.now) (list_all p (ids_in 
 each_passes p (x ∷ xs) (suc k) d all lt =
     each_passes p xs k d (both (p x.id.now) (list_all p (ids_in (map rule_of xs))) all).1 (omega arith)
 
--- a value is told apart from those behind it, where these are told apart
+-- a value differs by its name from the later ones, which differ from each other
 apart_from_later : (x : Arg) (xs : List Arg) → list_any (is_same x.id.now) (ids_in (map rule_of xs)) ≡ false
     → HasDistinctIds xs → HasDistinctIds (x ∷ xs)
 apart_from_later x xs none later = λ j k d e in_j in_k same. at j k d e in_j in_k same
@@ -90,14 +90,14 @@ apart_from_later x xs none later = λ j k d e in_j in_k same. at j k d e in_j in
     at (suc j) zero d e in_j in_k same = let other = (apart j e (omega arith)).0 in cc
     at (suc j) (suc k) d e in_j in_k same = ap suc (later j k d e (omega arith) (omega arith) same)
 
--- values whose names differ are told apart by them
+-- values with distinct names have distinct ids
 differ_by_id : (xs : List Arg) → differ (ids_in (map rule_of xs)) ≡ true → HasDistinctIds xs
 differ_by_id [] all = λ j k d e in_j in_k same. absurd (omega arith)
 differ_by_id (x ∷ xs) all =
     let parts = both (not (list_any (is_same x.id.now) (ids_in (map rule_of xs)))) (differ (ids_in (map rule_of xs))) all in
     apart_from_later x xs (denied (list_any (is_same x.id.now) (ids_in (map rule_of xs))) parts.0) (differ_by_id xs parts.1)
 
--- a name of its own is not empty, and none that clap gives
+-- such a name is not empty, and clap adds no argument of that name
 own_fits : (id : Text) → is_own id ≡ true
     → (id ≡ [] → ⊥) × ((id ≡ codes "help") ⊎ (id ≡ codes "version") → ⊥)
 own_fits id own = (
@@ -115,7 +115,7 @@ fits_chain xs needed own = λ k d lt.
     let named = own_fits (slice_index_or xs k d).id.now (each_passes is_own xs k d own lt) in
     (here.plain, here.global, named.0, named.1)
 
--- the name of a value stands where the value does
+-- the name at an index is that of the value there
 id_at : (xs : List Arg) (k : ℕ) (id : Text) (d : Arg) → k < length xs
     → slice_index_or (ids_in (map rule_of xs)) k id ≡ (slice_index_or xs k d).id.now
 id_at [] k id d lt = absurd (omega arith)
@@ -153,7 +153,7 @@ with_values name start cmd xs wanted chain app args groups globals negates neede
       subst (λ rs. All (Requires cmd) (ids_in rs)) rules (all_required start cmd xs chain args groups globals negates needed fit),
     )
 
--- the names of the values of each subcommand fit
+-- the names of the values of each subcommand fit together
 pub ids_fit : (s : Subcommand) → fit_together (ids_of s) ≡ true
 unfolding clap_on_literals
 ids_fit Run = refl
@@ -165,7 +165,7 @@ ids_fit Unfinished = refl
 ids_fit History = refl
 ids_fit Migrate = refl
 
--- every other subcommand has a file alone
+-- every other subcommand has only a file
 pub rules_for-others : (s : Subcommand) → (s ≡ Serve → ⊥) → (s ≡ Load → ⊥) → (s ≡ History → ⊥)
     → rules_for s ≡ needed (codes "FILE") ∷ []
 rules_for-others Run serve load history = refl
@@ -177,7 +177,7 @@ rules_for-others Unfinished serve load history = refl
 rules_for-others History serve load history = absurd (history refl)
 rules_for-others Migrate serve load history = refl
 
--- one more value that is needed, before the others
+-- one more required value, before the others
 pub and_needed : (x : Arg) (xs : List Arg) → IsNeeded x → All IsNeeded xs → All IsNeeded (x ∷ xs)
 and_needed x xs here rest = λ k d lt. at k d lt
   where
@@ -189,21 +189,21 @@ and_needed x xs here rest = λ k d lt. at k d lt
 pub none_needed : All IsNeeded []
 none_needed = λ k d lt. absurd (omega arith)
 
--- a value that stands behind an option is needed as before
+-- a value that follows an option is required as before
 pub long_needed : (a b : Arg) (name : Bor Text) → b ≡ record a { long = Some name } → IsNeeded a → IsNeeded b
 long_needed a b name e is = subst IsNeeded (sym e) (record { plain = is.plain; global = is.global; value = is.value })
 
--- and its rule has the option
+-- the rule of such a value has the option
 pub long_rule : (a b : Arg) (name : Bor Text) (id : Text) → b ≡ record a { long = Some name } → rule_of a ≡ needed id
     → rule_of b ≡ record (needed id) { long = Some name.now }
 long_rule a b name id e is = ap rule_of e ∙ ap (λ (r : Rule). record r { long = Some name.now }) is
 
--- what clap reads under a name is what the matches have
+-- the value that clap reads under a name is the one of the matches
 pub value_in-matches : (app : App) (words : List Text) (m : ArgMatches) (id : Text) → rows_of (found_of m) ≡ matches_of app words
     → value_in app words id ≡ first_value (found_of m) id
 value_in-matches app words m id rows = ap (first_of id) (sym rows) ∙ sym (first_value-rows (found_of m) id)
 
--- and so is a value
+-- so a value of the matches is the one that clap reads
 pub value_read : (app : App) (words : List Text) (m : ArgMatches) (id value : Text) → rows_of (found_of m) ≡ matches_of app words
     → first_value (found_of m) id ≡ Some value → value_in app words id ≡ Some value
 value_read app words m id value rows is = value_in-matches app words m id rows ∙ is

@@ -1,5 +1,5 @@
--- The jobs that the words of the command line ask for. The first word names the subcommand, and the
--- others are read by the rules of clap for that subcommand.
+-- The jobs of the words of the command line. The first word names the subcommand, and the other words are read by
+-- clap's rules for that subcommand.
 use Rattle.std.specs.Prelude.{◌≡◌, ◌||◌, ◌⊎◌, ⊤, ℕ, Bool, true, false, is_none, bytes_eq, if◌then◌else◌, List, [], ◌∷◌, codes, Option, None, Some, Result, Ok, Err}
 use Rattle.std.specs.Option.{option_and_then, option_map_or}
 use Rattle.std.specs.String.{string_bytes}
@@ -13,7 +13,7 @@ use Rattle.command_line.specs.declared.jobs.JobFault.TheVariants.{Usage, Memory}
 use Rattle.command_line.specs.declared.subcommands.Subcommand.{Subcommand}
 use Rattle.command_line.specs.declared.subcommands.Subcommand.TheVariants as sub
 
--- the subcommand of a job; to print the version there is none
+-- the subcommand of a job; the job that prints the version has none
 abbrev pub subcommand_of : Job → Option Subcommand
 subcommand_of (Run file) = Some sub.Run
 subcommand_of (Serve file port connections) = Some sub.Serve
@@ -25,7 +25,7 @@ subcommand_of (History file id) = Some sub.History
 subcommand_of (Migrate file) = Some sub.Migrate
 subcommand_of Version = None
 
--- the words name this file
+-- the value of FILE is this file
 abbrev pub NamesFile : (Text → Option Text) → Text → Type 0
 NamesFile value file = value (codes "FILE") ≡ Some file
 
@@ -36,18 +36,18 @@ most_port = 65535
 abbrev pub most_connections : ℕ
 most_connections = 1000
 
--- the number from 1 to this one that a value spells in digits, without sign and without leading zeros
+-- the number from 1 to `most` that a value spells in digits, without sign and without leading zeros
 abbrev pub number_named : ℕ → Option Text → Option ℕ
 number_named most value = option_and_then (number_from 1 most) value
 
--- the port that is named, and the number of connections
+-- the port, and the number of connections, by their names
 abbrev pub port_in : (Text → Option Text) → Option ℕ
 port_in value = number_named most_port (value (codes "PORT"))
 
 abbrev pub connections_in : (Text → Option Text) → Option ℕ
 connections_in value = number_named most_connections (value (codes "N"))
 
--- the values of a job are those that are read under their names
+-- the values of a job are those under their names
 abbrev pub HasValues : (Text → Option Text) → Job → Type 0
 HasValues value (Run file) = NamesFile value (string_bytes file)
 HasValues value (Serve file port connections) = NamesFile value (string_bytes file)
@@ -68,7 +68,7 @@ HasValues value Version = ⊤
 abbrev pub value_in : App → List Text → Text → Option Text
 value_in app words id = first_of id (matches_of app words)
 
--- the job is that of this subcommand, with the values that are read from these words
+-- the job is of this subcommand, with the values that are read from these words
 pub record IsJobOf (s : Subcommand) (words : List Text) (job : Job) : Type 0 where
   pub subcommand : subcommand_of job ≡ Some s
   pub values : HasValues (value_in (app_for s) words) job
@@ -77,7 +77,7 @@ pub record IsJobOf (s : Subcommand) (words : List Text) (job : Job) : Type 0 whe
 abbrev pub names_version : Text → Bool
 names_version word = bytes_eq word (codes "--version") || bytes_eq word (codes "-V")
 
--- the job is to print the version, and this word asks for it
+-- the word asks for the version, and the job is to print it
 pub record IsVersionJob (word : Text) (job : Job) : Type 0 where
   pub version : job ≡ Version
   pub named : names_version word ≡ true
@@ -93,17 +93,17 @@ abbrev pub IsJob : List Text → Job → Type 0
 IsJob [] job = ⊥
 IsJob (word ∷ others) job = IsVersionJob word job ⊎ IsSubcommandJob word others job
 
--- a subcommand that reads numbers is given something else for one of them
+-- a value that must be a number is none
 abbrev pub lacks_number : Subcommand → (Text → Option Text) → Bool
 lacks_number sub.Serve value = is_none (port_in value) || is_none (connections_in value)
 lacks_number _ value = false
 
--- the words that follow a subcommand are refused: by clap, or for a value that is no number
+-- the words after a subcommand are refused: by clap, or for a value that is no number
 abbrev pub refuses : Subcommand → List Text → Bool
 refuses s words = is_refused_by (app_for s) words || lacks_number s (value_in (app_for s) words)
 
--- the words ask for no job: the first one asks for no version and names no subcommand, or the
--- subcommand refuses the others
+-- the words are refused: there is none, or the first word neither asks for the version nor names a subcommand that
+-- takes the others
 abbrev pub are_refused : List Text → Bool
 are_refused [] = true
 are_refused (word ∷ others) =
@@ -115,7 +115,7 @@ abbrev pub IsText : JobFault → Type 0
 IsText (Usage text) = ⊤
 IsText Memory = ⊥
 
--- the answer is a usage
+-- the result is a usage
 abbrev pub IsUsage : {T : Type 0} → Result T JobFault → Type 0
 IsUsage (Err fault) = IsText fault
 IsUsage (Ok _) = ⊥

@@ -1,4 +1,4 @@
--- The subcommands: the word that names each, and how clap reads the words that follow it.
+-- The subcommands: the word that names each, and how clap reads the words after it.
 use Rattle.std.specs.Prelude.{◌≡◌, Bool, true, false, List, [], ◌∷◌, map, codes, bytes_eq, if◌then◌else◌, Option, Some, None, is_some}
 use Rattle.clap.specs.Words.{App, Rule, Text, first_value, found_of, fault_of, new_app, new_rule, with_rule, IsParsedFrom, IsPlainArg}
 use Rattle.clap.specs.Built.{TakesValue}
@@ -34,15 +34,15 @@ subcommand_in word =
     else if bytes_eq word (codes "migrate") then Some Migrate
     else None
 
--- a value that has to be there
+-- a required value
 abbrev pub needed : Text → Rule
 needed id = record (new_rule id) { action = Some Set; required = true }
 
--- the name of a batch stands behind `--batch`
+-- the name of a batch follows `--batch`
 abbrev pub batch_name : Rule
 batch_name = record (needed (codes "NAME")) { long = Some (codes "batch") }
 
--- the port stands behind `--port`, and the number of connections behind `--connections`
+-- the port follows `--port`, and the number of connections `--connections`
 abbrev pub port_number : Rule
 port_number = record (needed (codes "PORT")) { long = Some (codes "port") }
 
@@ -68,11 +68,11 @@ ids_in = map (λ r. r.id)
 abbrev pub ids_of : Subcommand → List Text
 ids_of s = ids_in (rules_for s)
 
--- a subcommand without values, whose words begin behind its name
+-- a subcommand without values, whose words start after its name
 abbrev pub bare_app : Text → App
 bare_app name = on_top (λ s. record s { no_binary_name = true }) (new_app name)
 
--- the same with these values
+-- the same, with these values
 abbrev pub with_rules : App → List Rule → App
 with_rules app [] = app
 with_rules app (rule ∷ more) = with_rules (with_rule app rule) more
@@ -90,7 +90,7 @@ has_any (x ∷ more) = true
 abbrev pub is_refused_by : App → List Text → Bool
 is_refused_by app words = has_any (fault_of app words)
 
--- an argument is a value that has to be there, whatever the others are
+-- an argument is a required value, whatever the other arguments are
 pub record IsNeeded (arg : Arg) : Type 0 where
   pub plain : IsPlainArg arg
   pub global : arg.global ≡ false

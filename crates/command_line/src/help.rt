@@ -4,7 +4,7 @@
 //! follow are what it prints.
 use crate::subcommands::Subcommand;
 
-/// What follows the help of the whole program.
+/// The text after the help of the whole program.
 pub(crate) const PROGRAM: &str = "\
 'desk COMMAND --help' says what a command reads and prints, with an example.
 
@@ -260,7 +260,7 @@ Example:
   refused 23 AlreadyNew";
 
 impl Subcommand {
-    /// What the subcommand reads and prints. The first line says what it does.
+    /// What the subcommand reads and prints. The first line is its summary.
     pub(crate) fn long_about<'a>(self) -> &'a str {
         match self {
             Subcommand::Run => RUN,

@@ -1,17 +1,17 @@
-//! The jobs of the program, and why there is none.
+//! The jobs of the program, and the faults of its words.
 ghost use Rattle.std.specs.Prelude.{◌≡◌};
 ghost use Rattle.command_line.specs.declared.jobs.JobFault.TheVariants.{Memory};
 
 use std::alloc::AllocError;
 
-/// What the program is to do.
+/// A job of the program.
 #[derive(Debug, Drop)]
 pub enum Job {
     /// Recover the desk over this file, and answer the lines of standard input.
     Run {
         file: String,
     },
-    /// Recover the desk over this file, and serve so many connections to a port of this host, one after another.
+    /// Recover the desk over this file, and serve so many connections on a port of this host, one after another.
     Serve {
         file: String,
         /// 1 to 65,535.
@@ -42,7 +42,7 @@ pub enum Job {
         file: String,
         id: String,
     },
-    /// Bring the database in this file from schema 1 to schema 2.
+    /// Migrate the database in this file from schema 1 to schema 2.
     Migrate {
         file: String,
     },
@@ -50,12 +50,12 @@ pub enum Job {
     Version,
 }
 
-/// Why the words are no job.
+/// Why the words have no job.
 #[derive(Debug, Drop)]
 pub enum JobFault {
-    /// They are refused, or ask for help; the text is for who wrote them.
+    /// The words are refused, or ask for help. The text is printed for the user.
     Usage(String),
-    /// Memory ran out.
+    /// Out of memory.
     Memory,
 }
 

@@ -1,7 +1,7 @@
-//! What the words of the command line ask for, by the rules of `clap`.
+//! The jobs of the words of the command line, by the rules of `clap`.
 //!
-//! `job` gives the job that the words ask for, or why they ask for none; `program_version` and `version_line` say which
-//! version of the program this is.
+//! `job` returns the job of the words, or why they have none. `program_version` and `version_line` return the version
+//! of the program.
 #![tactic(auto)]
 
 mod help;

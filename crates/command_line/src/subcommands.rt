@@ -20,7 +20,7 @@ pub(crate) enum Subcommand {
 }
 
 impl Subcommand {
-    /// All of them, in the order in which the usage shows them.
+    /// All subcommands, in the order of the usage.
     pub(crate) const ALL: [Subcommand; 8] = [
         Subcommand::Run,
         Subcommand::Serve,
@@ -32,7 +32,7 @@ impl Subcommand {
         Subcommand::Migrate,
     ];
 
-    /// The subcommand that a word names.
+    /// The subcommand that a word names. Returns `None` if the word names none.
     pub(crate) fn named(word: &str) -> Option<Subcommand>
         ensures named { result ≡ subcommand_in word.now }
         ensures name { IfSome result (λ s. word.now ≡ name_of s) }
@@ -66,7 +66,7 @@ impl Subcommand {
         }
     }
 
-    /// The words that stand before the others, as the usage shows them.
+    /// The words that call the subcommand, as the usage shows them.
     fn called<'a>(self) -> &'a str {
         match self {
             Subcommand::Run => "desk run",
@@ -80,7 +80,7 @@ impl Subcommand {
         }
     }
 
-    /// What the subcommand does.
+    /// A line on what the subcommand does.
     fn about<'a>(self) -> &'a str {
         match self {
             Subcommand::Run => "Answer the lines of standard input, one by one",
@@ -94,7 +94,7 @@ impl Subcommand {
         }
     }
 
-    /// What its file is.
+    /// A line on the subcommand's file.
     fn file<'a>(self) -> &'a str {
         match self {
             Subcommand::Run | Subcommand::Serve | Subcommand::Recover | Subcommand::Load => {
@@ -107,7 +107,7 @@ impl Subcommand {
         }
     }
 
-    /// How `clap` reads the words that follow the subcommand.
+    /// The `clap` command that reads the words after the subcommand.
     pub(crate) fn command<'a>(self, alloc: Global) -> Result<Command<'a>, AllocError>
         ensures app { IfOk result (λ command. app_of command ≡ app_for self) }
         ensures each { IfOk result (λ command. All (Requires command) (ids_of self)) }
@@ -136,7 +136,7 @@ impl Subcommand {
     }
 }
 
-/// A value that has to be there.
+/// A required value.
 fn value<'a>(alloc: Global, id: &'a str, help: &'a str) -> Arg<'a>
     ensures rule { rule_of result ≡ needed id.entry.now }
     ensures needed { IsNeeded result }

@@ -1,4 +1,4 @@
-//! Which version of the program this is.
+//! The version of the program.
 ghost use Rattle.std.specs.Prelude.{◌≡◌};
 ghost use Rattle.command_line.specs.Version.{version_text, version_line as line_of_version};
 
@@ -9,7 +9,7 @@ pub fn program_version<'a>() -> &'a str
     "0.2.0"
 }
 
-/// The line that says which version of the program this is, with its end.
+/// The line of the version, with its line feed.
 pub fn version_line<'a>() -> &'a str
     ensures line { result.now ≡ line_of_version }
 {

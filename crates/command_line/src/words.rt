@@ -1,7 +1,7 @@
-//! What the words of the command line ask for.
+//! The job of the words of the command line.
 //!
 //! The first word names the subcommand, or asks for the version. `clap` reads the others, by its rules for that
-//! subcommand alone. Words that name none get the usage of them all.
+//! subcommand alone. If the first word does neither, the usage of all subcommands is returned.
 ghost use Rattle.std.specs.Prelude.{◌≡◌, ◌≢◌, None, false, true, map, All, IfErr, IfOk, IsOk, Some, is_some};
 ghost use Rattle.std.specs.String.{string_bytes};
 ghost use Rattle.clap.specs.Words.{first_value, found_of, kind_of, matches_of, rows_of};
@@ -20,10 +20,10 @@ use std::alloc::{AllocError, Global};
 /// The highest port.
 const MOST_PORT: u16 = 65_535;
 
-/// How many connections are served, at most.
+/// The most connections that are served.
 const MOST_CONNECTIONS: u16 = 1000;
 
-/// The job that these words ask for, which follow the program's name.
+/// The job of these words, which follow the program's name. Errors are the text of a usage, and out of memory.
 pub fn job(alloc: Global, words: Vec<String>) -> Result<Job, JobFault>
     ensures job { IfOk result (IsJob (map string_bytes words.items)) }
 
@@ -49,7 +49,7 @@ fn is_version(word: &str) -> bool
     word == "--version" || word == "-V"
 }
 
-/// The job of a subcommand, with the values that the words name which follow it.
+/// The job of a subcommand, with the values of the words that follow it.
 fn job_of(alloc: Global, subcommand: Subcommand, words: &[String]) -> Result<Job, JobFault>
     ensures job { IfOk result (IsJobOf subcommand (map string_bytes words.now)) }
     ensures taken { IsOk result → refuses subcommand (map string_bytes words.now) ≡ false }
@@ -84,7 +84,7 @@ fn job_of(alloc: Global, subcommand: Subcommand, words: &[String]) -> Result<Job
     }
 }
 
-/// What `clap` reads of the words that follow a subcommand.
+/// The matches that `clap` reads from the words after a subcommand.
 fn matches_in<'a>(
     alloc: Global,
     subcommand: Subcommand,
@@ -106,7 +106,7 @@ fn matches_in<'a>(
     }
 }
 
-/// The value of this name, which is there.
+/// The value of this name. The precondition says that there is one.
 fn value_of(alloc: Global, matches: &ArgMatches, id: &str) -> Result<String, AllocError>
     requires { is_some (first_value (found_of matches.now) id.now) ≡ true }
     ensures value { IfOk result (λ value.
@@ -115,7 +115,7 @@ fn value_of(alloc: Global, matches: &ArgMatches, id: &str) -> Result<String, All
     String::from_str(alloc, matches.get_str(id).unwrap())
 }
 
-/// The number of this name, from 1 to `most`, which stands behind an option.
+/// The number under this name, from 1 to `most`. An error names its option.
 fn number_of(
     alloc: Global,
     matches: &ArgMatches,
@@ -136,7 +136,7 @@ fn number_of(
     }
 }
 
-/// What is wrong with a value that is no number from 1 to `most`.
+/// The error of a value that is no number from 1 to `most`.
 fn no_number(alloc: Global, word: &str, id: &str, option: &str, most: u16) -> JobFault {
     let text = format!(in alloc;
         "error: invalid value '{word}' for '{option} <{id}>': not a number from 1 to {most}\n\nFor more information, try '--help'.\n"
@@ -147,7 +147,7 @@ fn no_number(alloc: Global, word: &str, id: &str, option: &str, most: u16) -> Jo
     }
 }
 
-/// What is wrong with words that name no subcommand, with the usage of all.
+/// The error of words that name no subcommand, with the usage of all subcommands.
 fn usage_of_all(alloc: Global, words: &[String]) -> JobFault {
     match usage_text(alloc, words) {
         Ok(fault) => fault,
@@ -155,7 +155,7 @@ fn usage_of_all(alloc: Global, words: &[String]) -> JobFault {
     }
 }
 
-/// The same, but for want of memory.
+/// The same error, or out of memory.
 fn usage_text(alloc: Global, words: &[String]) -> Result<JobFault, AllocError> {
     if let Some(subcommand) = helped(words) {
         return help_text(alloc, subcommand);
@@ -176,7 +176,7 @@ fn usage_text(alloc: Global, words: &[String]) -> Result<JobFault, AllocError> {
     }
 }
 
-/// The subcommand that `help` asks about by its next word, where that is the last one.
+/// The subcommand that `help` asks about, if its name is the last word.
 fn helped(words: &[String]) -> Option<Subcommand> {
     match words {
         [help, name] if help.as_str() == "help" => Subcommand::named(name.as_str()),
@@ -184,13 +184,13 @@ fn helped(words: &[String]) -> Option<Subcommand> {
     }
 }
 
-/// The whole help of a subcommand. Here `clap` knows that it is called by `desk` and its name.
+/// The long help of a subcommand. The words of the call are `desk` and the subcommand's name.
 fn help_text(alloc: Global, subcommand: Subcommand) -> Result<JobFault, AllocError> {
     let mut command = subcommand.command(alloc)?;
     Ok(JobFault::Usage(command.render_long_help()?))
 }
 
-/// The fault of an error of `clap`: its text, but for want of memory.
+/// The fault of an error of `clap`: its text, or out of memory.
 fn fault_of(alloc: Global, error: &Error) -> JobFault
     ensures usage { IsText result → kind_of error.now ≢ ErrorKind.OutOfMemory }
 {

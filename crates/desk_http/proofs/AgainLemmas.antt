@@ -1,4 +1,4 @@
--- A message that made an event is answered again by the reply that was kept. For the law.
+-- A message that made an event is answered again with the kept reply. For the law.
 use Rattle.std.proofs.Common.{◌≡◌, ◌∙◌, ap, sym, subst, refl, ℕ, List, [], ◌∷◌, Bool, true, false, ◌&&◌, if◌then◌else◌}
 use Rattle.std.specs.Prelude.{Option, Some, None, Result, Ok, Err, bytes_eq, codes, is_some, IsTrue}
 use Rattle.std.proofs.lemmas.Bool.{and_parts}
@@ -23,7 +23,7 @@ use Rattle.desk_http.specs.Pages.{Command, IsPage, Says, SaysUnless, closes, com
 
 -- Kept replies.
 
--- to keep one reply more, under a key that was free, leaves what was kept
+-- keeping one more reply, under a key that was free, leaves the other kept replies the same
 keep-other : (kept : Kept) (ask : Asked) (answered : Reply) (agent key : List ℕ) (k : KeptReply)
     → kept ask.agent ask.key ≡ None → kept agent key ≡ Some k → keep kept ask answered agent key ≡ Some k
 keep-other kept ask answered agent key k free is = go (bytes_eq agent ask.agent && bytes_eq key ask.key) refl
@@ -38,14 +38,14 @@ keep-other kept ask answered agent key k free is = go (bytes_eq agent ask.agent 
         let there : kept ask.agent ask.key ≡ Some k = subst (λ x. kept ask.agent x ≡ Some k) same_key (subst (λ x. kept x key ≡ Some k) same_agent is) in
         let bad : None ≡ Some k = sym free ∙ there in cc
 
--- so does an answer
+-- an answer leaves the other kept replies the same
 kept-with : (s : State) (ask : Option Asked) (answered : Reply) (e : Option Event) (agent key : List ℕ) (k : KeptReply)
     → kept_for s ask ≡ None → s.kept agent key ≡ Some k → (state_with s ask answered e).kept agent key ≡ Some k
 kept-with s ask answered None agent key k free is = is
 kept-with s None answered (Some e) agent key k free is = is
 kept-with s (Some ask) answered (Some e) agent key k free is = keep-other s.kept ask answered agent key k free is
 
--- a reply that is kept stays
+-- a kept reply stays kept after a request
 outcome-same : (s : State) (ask : Option Asked) (asked : Request) (agent key : List ℕ) (k : KeptReply)
     → s.kept agent key ≡ Some k → (outcome s ask asked).state.kept agent key ≡ Some k
 outcome-same s ask asked agent key k is = go (kept_for s ask) refl
@@ -55,7 +55,7 @@ outcome-same s ask asked agent key k is = go (kept_for s ask) refl
     go None at =
         kept-with s ask (answer s.ledger (asker ask) asked).reply (answer s.ledger (asker ask) asked).event agent key k at is
 
--- whatever comes
+-- a kept reply stays kept in every execution
 after-same : (s : State) (w : List Moment) (agent key : List ℕ) (k : KeptReply)
     → s.kept agent key ≡ Some k → (after s w).kept agent key ≡ Some k
 after-same s [] agent key k is = is
@@ -66,7 +66,7 @@ after-same s (Cut asked ask true ∷ w) agent key k is =
 after-same s (Cut asked ask false ∷ w) agent key k is = after-same s w agent key k is
 after-same s (Reopened ∷ w) agent key k is = after-same s w agent key k is
 
--- what is kept of a command
+-- the kept reply of a command
 abbrev kept_of : State → Command → KeptReply
 kept_of s c = record { text = c.1.text; reply = (outcome s (Some c.1) c.0).reply }
 
@@ -91,7 +91,7 @@ made-kept s c made = go (s.kept c.1.agent c.1.key) refl made
     go (Some r) at = λ some. cc
     go None at = free (answer s.ledger (Some c.1.agent) c.0).event
 
--- it is answered by it again, and nothing changes
+-- a command whose reply is kept gets it again, and nothing changes
 kept-again : (t : State) (c : Command) (k : KeptReply) → k.text ≡ c.1.text → t.kept c.1.agent c.1.key ≡ Some k
     → ((outcome t (Some c.1) c.0).reply ≡ k.reply) × ((outcome t (Some c.1) c.0).state ≡ t)
 kept-again t c k text is = (
@@ -102,7 +102,7 @@ kept-again t c k text is = (
 
 -- Messages.
 
--- what a command in a message says of its head and its demand
+-- a message that makes a command has a head without complaint, and the demand to execute that command
 pub carry_of : (o : Option Refusal) (d : Result Demand Denied) (c : Command) → command_unless o d ≡ Some c
     → (o ≡ None) × (d ≡ Ok (Carry c.0 c.1))
 carry_of (Some why) d c = λ is. cc
@@ -112,12 +112,12 @@ carry_of None (Ok (SeeUnfinished agent)) c = λ is. cc
 carry_of None (Ok SeeStock) c = λ is. cc
 carry_of None (Err denied) c = λ is. cc
 
--- the message is to have no body in its answer
+-- the message's page has no body
 abbrev is_head_in : Message → Bool
 is_head_in NoHead = false
 is_head_in (Asks h body) = is_method (codes "HEAD") (parts_of h)
 
--- the page of a command that is carried out
+-- the page of a command that is executed
 carried_page : (s : State) (m : Message) (c : Command) (bytes : List ℕ) → command_in m ≡ Some c → IsPage s m bytes
     → bytes ≡ page_text (is_head_in m) (closes m) (reply_page (outcome s (Some c.1) c.0).reply)
 carried_page s NoHead c bytes asks page = let bad : None ≡ Some c = asks in cc
@@ -128,7 +128,7 @@ carried_page s (Asks h body) c bytes asks page =
     let said : Says s (Ok (Carry c.0 c.1)) page.page = subst (λ d. Says s d page.page) of.1 says in
     page.text ∙ ap (page_text (is_method (codes "HEAD") parts) (closes (Asks h body))) said
 
--- a message that made an event is answered again as it was
+-- a message that made an event gets the same page again, and nothing changes
 pub answered_as_before : (s : State) (m : Message) (between : List Moment) → MakesEvent s m → AnswersAgain s m between
 answered_as_before s m between event =
     let c = event.command in

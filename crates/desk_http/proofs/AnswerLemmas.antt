@@ -1,4 +1,4 @@
--- What comes of messages and demands. For the answer to one message.
+-- The outcome of messages and demands. For the answer to one message.
 use Rattle.std.proofs.Common.{◌≡◌, ◌∙◌, ap, sym, subst, inl, inr, ℕ, List, Bool, true, false, ◌||◌}
 use Rattle.std.specs.Prelude.{None, Result, Ok, Err, IfOk, IfErr, is_some, codes}
 use Rattle.ledger.specs.Answer.{State}
@@ -18,7 +18,7 @@ use Rattle.desk_http.specs.declared.answering.Answer.{Answer}
 use Rattle.protocols.specs.declared.faults.ServeFault.{ServeFault}
 use Rattle.protocols.specs.declared.faults.ServeFault.TheVariants.{Memory, Read, Store, Write}
 
--- what is denied changes nothing
+-- a denied request changes nothing
 pub denied_says : (stands : State → Type 0) (s : State) (parts : Parts) (body : List ℕ) (page : Paged)
     (denied : Denied) → complaint_of parts ≡ None → demand_of parts body ≡ Err denied
     → page ≡ denied_page denied.refusal denied.allow → stands s
@@ -26,13 +26,13 @@ pub denied_says : (stands : State → Type 0) (s : State) (parts : Parts) (body 
     × stands (state_by s (command_unless (complaint_of parts) (demand_of parts body)))
 denied_says stands s parts body page denied none is said here = rw (none, is) (said, here)
 
--- a page was laid out as bytes, or memory ran out
+-- the page was laid out as bytes, or memory ran out
 pub record LaidOut (result : Result Answer ServeFault) (page : Paged) (is_head ends : Bool) : Type 0 where
   pub bytes : IfOk result (λ answer. answer.bytes.items ≡ page_text is_head ends page)
   pub closes : IfOk result (λ answer. answer.closes ≡ ends)
   pub memory : IfErr result (λ fault. fault ≡ Memory)
 
--- bytes that are no head get the page that says so
+-- a message without a head gets the page that says so
 pub no_head_answered : (stands : State → Type 0) (leaves : State → State → Type 0) (s : State)
     (m : sent.Message) (result : Result Answer ServeFault) (page : Page) → IsTaken taken.NoHead m
     → page_said page ≡ refused_page BadHead → LaidOut result (page_said page) false true → stands s
@@ -43,7 +43,7 @@ no_head_answered stands leaves s sent.NoHead (Err fault) page is said out here =
     subst (λ f. Answers stands leaves s sent.NoHead (Err f)) (sym out.memory) (inl here)
 no_head_answered stands leaves s (sent.Asks h body) result page is said out here = absurd is
 
--- a request gets the page of what comes of it
+-- a request gets the page that reports its outcome
 pub request_answered : (stands : State → Type 0) (leaves : State → State → Type 0) (s : State)
     (r : Request) (m : sent.Message) (result : Result Answer ServeFault) (page : Page) (closes : Bool)
     → IsTaken (taken.Asks r) m
@@ -70,7 +70,7 @@ request_answered stands leaves s r (sent.Asks h body) (Err fault) page closes is
     subst (λ f. Answers stands leaves s (sent.Asks h body) (Err f)) (sym out.memory)
     (inr (told (parts_of h) body is).1)
 
--- where a fault came instead, it leaves what it says
+-- a request that met a fault leaves the states of that fault
 pub request_failed : (stands : State → Type 0) (leaves : State → State → Type 0) (s : State)
     (r : Request) (m : sent.Message) (fault : ServeFault) → IsTaken (taken.Asks r) m
     → ((parts : Parts) (body : List ℕ) → IsRequest r parts body → Tells stands leaves s parts body (Err fault))

@@ -11,7 +11,7 @@ use Rattle.desk_http.specs.DemandValues.{AsksFor, Demands}
 use Rattle.desk_http.specs.declared.demands.Unmet.{Unmet}
 use Rattle.desk_http.specs.declared.demands.Unmet.TheVariants.{Memory, Refused}
 
--- a body that is refused asks for nothing
+-- a body that is refused makes no demand
 pub refused_body : (said : Result Request Refusal) (sender : Sender) (e : Unmet) → AsksFor said (Err e)
     → Demands (denied_by (carried sender said)) (Err e)
 refused_body (Ok asked) sender (Refused denied) told = cc

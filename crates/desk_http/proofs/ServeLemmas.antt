@@ -1,4 +1,4 @@
--- Serving goes on by one message, and stops at a closing page, at the end of the input or at a fault. For serve_book.
+-- Serving answers one message after another, until a closing page, the end of the input or a fault. For serve_book.
 use Rattle.std.proofs.Common.{◌≡◌, ◌∙◌, ap, sym, subst, refl, inl, inr, ◌+◌, List, [], ◌∷◌, ◌++◌, ℕ, Bool, true, false, if◌then◌else◌, length, take, append_assoc, append-nil, length-append, Option}
 use Rattle.std.specs.Prelude.{Some, None, Ok, Err}
 use Rattle.std.specs.List.{concat}
@@ -20,7 +20,7 @@ use Rattle.desk_http.specs.declared.answering.Answer.{Answer}
 use Rattle.protocols.specs.declared.faults.ServeFault.{ServeFault}
 use Rattle.protocols.specs.declared.faults.ServeFault.TheVariants.{Memory, Read, Store, Write}
 
--- Lists of messages and of their pages, each longer by one.
+-- Lists of messages and of their pages, with one appended.
 
 pub begins_more : (input stream rest : List ℕ) (ms : List sent.Message) (m : sent.Message)
     → BeginsWithAll input ms stream → BeginsWith stream m rest → BeginsWithAll input (ms ++ m ∷ []) rest
@@ -56,7 +56,7 @@ concat_more (q ∷ ps) p = ap (λ rest. q ++ rest) (concat_more ps p) ∙ sym (a
 
 -- Runs.
 
--- the first messages were answered, so many, of which none closes, and the rest is still to come
+-- so many messages were answered, of which none closes, and the others are in the rest of the input
 pub record SoFar (x : Scene) (s : State) (input : List ℕ) (left : Option (List ℕ)) (count : ℕ) : Type 0 where
   pub messages : List sent.Message
   pub rest : List ℕ
@@ -68,7 +68,7 @@ pub record SoFar (x : Scene) (s : State) (input : List ℕ) (left : Option (List
   pub stands : x.stands (state_after_all s messages)
   pub counted : count ≡ length pages
 
--- at first, nothing was answered
+-- at first, no message was answered
 pub starts : (held : Option (List ℕ)) (stands : State → Type 0) (leaves : State → State → Type 0)
     (s : State) (input : List ℕ) (u : Unused) (known : Option (List ℕ)) → u.waiting ≡ [] → known ≡ Some input
     → stands s → SoFar (scene held held stands leaves) s input (to_come u known) 0
@@ -106,7 +106,7 @@ stops x s input left count Memory so_far reads = record {
 stops x s input left count Store so_far none = absurd none
 stops x s input left count Write so_far none = absurd none
 
--- where there is no further message, all were answered
+-- where there is no further message, all messages were answered
 pub all_answered : (x : Scene) (s : State) (input : List ℕ) (left rest : Option (List ℕ)) (count : ℕ)
     → SoFar x s input left count → IsNext left rest None → ServesAll x s input count
 all_answered x s input left rest count so_far next =
@@ -125,7 +125,7 @@ all_answered x s input left rest count so_far next =
       left = so_far.stands;
     }
 
--- the next message, with what comes behind it
+-- the next message, and the input after it
 record HasNext (rest : Option (List ℕ)) (stream : List ℕ) (taken : Message) : Type 0 where
   pub message : sent.Message
   pub is_taken : IsTaken taken message
@@ -133,7 +133,7 @@ record HasNext (rest : Option (List ℕ)) (stream : List ℕ) (taken : Message) 
   pub rest_is : rest ≡ Some left
   pub begins : BeginsWith stream message left
 
--- a message that was taken is the next one
+-- a message that was taken is the next message
 next_of : (left rest : Option (List ℕ)) (stream : List ℕ) (taken : Message) → left ≡ Some stream
     → IsNext left rest (Some taken) → HasNext rest stream taken
 next_of left rest stream taken is next = of rest (subst (λ known. IsNext known rest (Some taken)) is next)
@@ -192,7 +192,7 @@ goes_on held holds now stands0 stands1 leaves0 leaves1 s input left rest count t
       counted = ap (λ n. n + 1) so_far.counted ∙ sym (length-append so_far.pages (page ∷ []));
     }
 
--- its page does not close, and more may come
+-- the page does not close, and more messages may follow
 pub stays_on : (x : Scene) (s : State) (input : List ℕ) (rest : Option (List ℕ)) (count : ℕ) (answer : Answer)
     → HasMore x s input rest count answer → answer.closes ≡ false → SoFar x s input rest (count + 1)
 stays_on x s input rest count answer more other = record {
@@ -207,7 +207,7 @@ stays_on x s input rest count answer more other = record {
   counted = more.counted;
 }
 
--- or it closes, and was the last
+-- the page closes, and was the last
 pub closes_all : (x : Scene) (s : State) (input : List ℕ) (rest : Option (List ℕ)) (count : ℕ) (answer : Answer)
     → HasMore x s input rest count answer → answer.closes ≡ true → ServesAll x s input (count + 1)
 closes_all x s input rest count answer more last = record {
@@ -221,7 +221,7 @@ closes_all x s input rest count answer more last = record {
   left = more.stands;
 }
 
--- its page was written in part
+-- the page was written in part
 pub write_fails : (held holds now : Option (List ℕ)) (stands0 stands1 : State → Type 0)
     (leaves0 leaves1 : State → State → Type 0) (s : State) (input : List ℕ)
     (left rest : Option (List ℕ)) (count : ℕ) (taken : Message) (answer : Answer)
@@ -253,7 +253,7 @@ write_fails held holds now stands0 stands1 leaves0 leaves1 s input left rest cou
       );
     }
 
--- what is left where the answer to a message failed
+-- the state where the answer to a message failed
 answer_leaves : (held holds : Option (List ℕ)) (stands : State → Type 0) (leaves : State → State → Type 0)
     (t : State) (pages : List (List ℕ)) (rest after : List ℕ) (m : sent.Message) (fault : ServeFault)
     → Wrote (scene held holds stands leaves) (concat pages) → BeginsWith rest m after

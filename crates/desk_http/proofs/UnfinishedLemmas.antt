@@ -1,4 +1,4 @@
--- Journeys that are not finished, found one after another. For own_unfinished.
+-- Unfinished journeys, found one after another. For own_unfinished.
 use Rattle.std.proofs.Common.{◌≡◌, ◌∙◌, ap, sym, subst, refl, ℕ, zero, suc, ◌<◌, ◌≤◌, List, [], ◌∷◌, ◌++◌, cond, Bool, true, false, Option, Some, None, arith, append_assoc}
 use Rattle.std.specs.Prelude.{filter, filter_map, find, option_map, nat_lt, not, ◌&&◌, bytes_eq}
 use Rattle.std.specs.List.{cons_option}
@@ -22,7 +22,7 @@ rises_lower : (n k : ℕ) (bs : List Brief) → n ≤ k → RisesFrom k bs → R
 rises_lower n k [] low rise = tt
 rises_lower n k (b ∷ bs) low rise = (let e : n ≤ b.id = omega (arith, low, rise.0) in e, rise.1)
 
--- those of a ledger rise
+-- the numbers of a ledger's journeys rise
 rises_from : (l : List Event) (n m : ℕ) → RisesFrom n (filter_map (brief_of l) (numbers_from n m))
 rises_from l n zero = tt
 rises_from l n (suc m) = go (journey_at l n) (rises_from l (suc n) m)
@@ -32,7 +32,7 @@ rises_from l n (suc m) = go (journey_at l n) (rises_from l (suc n) m)
     go None more = rises_lower n (suc n) (filter_map (brief_of l) (numbers_from (suc n) m)) (omega arith) more
     go (Some a) more = (let e : n ≤ n = omega arith in e, more)
 
--- where all are above a number, those above it are all that are not finished
+-- where all numbers are above this one, the unfinished journeys above it are all unfinished journeys
 all_above : (a : ℕ) (bs : List Brief) → RisesFrom (suc a) bs
     → filter (is_unfinished_above a) bs ≡ filter goes_on bs
 all_above a [] rise = refl
@@ -42,7 +42,7 @@ all_above a (b ∷ bs) rise =
     ap (λ v. cond (v && goes_on b) (b ∷ filter (is_unfinished_above a) bs) (filter (is_unfinished_above a) bs)) above
     ∙ ap (λ more. cond (goes_on b) (b ∷ more) more) later
 
--- what is found stands where all numbers do
+-- a journey that is found has a number in the range of all
 found_from : (n : ℕ) (test : Brief → Bool) (bs : List Brief) (b : Brief) → RisesFrom n bs
     → find test bs ≡ Some b → n ≤ b.id
 found_from n test [] b rise is = cc
@@ -52,7 +52,7 @@ found_from n test (x ∷ bs) b rise is = go (test x) is (found_from (suc x.id) t
     go true same more = let e : x ≡ b = cc in subst (λ (y : Brief). n ≤ y.id) e rise.0
     go false same more = let e = more same in omega (arith, e, rise.0)
 
--- one that is above a number has a greater one
+-- a journey above a number has a greater number
 above_is_greater : (a : ℕ) (b : Brief) → is_unfinished_above a b ≡ true → a < b.id
 above_is_greater a b is = go (nat_lt a b.id) refl is
   where
@@ -60,7 +60,7 @@ above_is_greater a b is = go (nat_lt a b.id) refl is
     go true at = λ yes. ltb-true a b.id at
     go false at = λ yes. cc
 
--- the first one above a number comes before those above its own
+-- the first journey above a number comes before those above its own number
 pub first_above : (n a : ℕ) (bs : List Brief) (b : Brief) → RisesFrom n bs → find (is_unfinished_above a) bs ≡ Some b
     → filter (is_unfinished_above a) bs ≡ b ∷ filter (is_unfinished_above b.id) bs
 first_above n a [] b rise is = cc
@@ -86,7 +86,7 @@ first_above n a (x ∷ bs) b rise is = go (is_unfinished_above a x) refl is (fir
         later same
         ∙ sym (ap (λ v. b ∷ cond (v && goes_on x) (x ∷ filter (is_unfinished_above b.id) bs) (filter (is_unfinished_above b.id) bs)) low)
 
--- where none is found, there is none
+-- where no journey is found, there is none
 none_found : (test : Brief → Bool) (bs : List Brief) → find test bs ≡ None → filter test bs ≡ []
 none_found test [] is = refl
 none_found test (x ∷ bs) is = go (test x) is (none_found test bs)
@@ -96,9 +96,9 @@ none_found test (x ∷ bs) is = go (test x) is (none_found test bs)
     go true same later = cc
     go false same later = later same
 
--- Those of an agent.
+-- Journeys of an agent.
 
--- the journeys of a ledger in short
+-- the summaries of a ledger's journeys
 abbrev pub briefs_of : List Event → List Brief
 briefs_of l = filter_map (brief_of l) (numbers l)
 
@@ -106,27 +106,27 @@ briefs_of l = filter_map (brief_of l) (numbers l)
 abbrev pub is_own : List ℕ → Brief → Bool
 is_own agent b = bytes_eq agent b.agent
 
--- the agent's own above a number
+-- the agent's own unfinished journeys above a number
 abbrev pub own_above : List Event → List ℕ → ℕ → List Brief
 own_above l agent a = filter (is_own agent) (filter (is_unfinished_above a) (briefs_of l))
 
--- all are above 0
+-- all journeys are above 0
 pub own_at_first : (l : List Event) (agent : List ℕ) → own_above l agent 0 ≡ own_unfinished l agent
 own_at_first l agent =
     ap (filter (is_own agent)) (all_above 0 (briefs_of l) (rises_from l 1 _))
 
--- none is above the last
+-- no journey is above the last
 pub own_at_last : (l : List Event) (agent : List ℕ) (a : ℕ) → None ≡ first_unfinished l a → own_above l agent a ≡ []
 own_at_last l agent a is = ap (filter (is_own agent)) (none_found (is_unfinished_above a) (briefs_of l) (sym is))
 
--- the next one is the agent's, or is passed over
+-- the next journey is the agent's, or is skipped
 pub own_next : (l : List Event) (agent : List ℕ) (a : ℕ) (b : Brief) (v : Bool) → Some b ≡ first_unfinished l a
     → is_own agent b ≡ v → own_above l agent a ≡ cond v (b ∷ own_above l agent b.id) (own_above l agent b.id)
 own_next l agent a b v is own =
     ap (filter (is_own agent)) (first_above 1 a (briefs_of l) b (rises_from l 1 _) (sym is))
     ∙ ap (λ w. cond w (b ∷ own_above l agent b.id) (own_above l agent b.id)) own
 
--- what was found before, with the next one
+-- the journeys that were found, with the next one
 pub own_grows : (l : List Event) (agent : List ℕ) (a : ℕ) (before now : List Brief) (b : Brief)
     → before ++ own_above l agent a ≡ own_unfinished l agent → Some b ≡ first_unfinished l a → is_own agent b ≡ true
     → now ≡ before ++ b ∷ [] → now ++ own_above l agent b.id ≡ own_unfinished l agent
@@ -135,7 +135,7 @@ own_grows l agent a before now b so_far is own more =
     ∙ append_assoc before (b ∷ []) (own_above l agent b.id)
     ∙ sym (ap (λ later. before ++ later) (own_next l agent a b true is own)) ∙ so_far
 
--- what was found before, where the next one is another agent's
+-- the journeys that were found, where the next one is another agent's
 pub own_stays : (l : List Event) (agent : List ℕ) (a : ℕ) (before now : List Brief) (b : Brief)
     → before ++ own_above l agent a ≡ own_unfinished l agent → Some b ≡ first_unfinished l a → is_own agent b ≡ false
     → now ≡ before → now ++ own_above l agent b.id ≡ own_unfinished l agent

@@ -1,4 +1,4 @@
--- How a world goes on with the messages of a connection. For serve.
+-- How an execution continues with the messages of a connection. For serve.
 use Rattle.std.proofs.Common.{◌≡◌, ◌≤◌, ◌∙◌, ap, sym, subst, refl, inl, inr, arith, List, [], ◌∷◌, ◌++◌, ℕ, Bool, true, false, length, append_assoc, append-nil, IsTrue}
 use Rattle.std.specs.Prelude.{Option, Some, None, Result, Ok, Err, IfOk, IfErr, IfSome}
 use Rattle.serde_json.specs.Data.{Data}
@@ -39,7 +39,7 @@ use Rattle.desk_http.proofs.ServeLemmas.{after_more}
 
 -- Limits.
 
--- a request that was made keeps the limits
+-- a request that is read keeps the limits
 abbrev Within : {E : Type 0} → Result Request E → Type 0
 Within r = (asked : Request) → r ≡ Ok asked → IsTrue (is_request asked)
 
@@ -94,14 +94,14 @@ asked_within (Ok route) parts body c = go (agent_of parts)
     go (Some agent) = demanded_within route (record { agent = agent; key = key_of parts; target = parts.target; body = body }) c
     go None = λ same. cc
 
--- what a message asks for keeps the limits
+-- the command of a message keeps the limits
 limits_of : (m : Message) (c : Command) → command_in m ≡ Some c → IsTrue (is_request c.0)
 limits_of NoHead c = λ same. cc
 limits_of (sent.Asks h body) c = λ same.
     let parts = parts_of h in
     asked_within (admitted_by parts) parts body c (carry_of (complaint_of parts) (demand_of parts body) c same).1
 
--- what messages ask for keeps the limits
+-- the commands of messages keep the limits
 by-in_limits : (o : Option Command) (rest : Asks) → ((c : Command) → o ≡ Some c → IsTrue (is_request c.0))
     → KeepLimits rest → KeepLimits (asks_by o ++ rest)
 by-in_limits (Some c) rest limits all = (limits c refl, all)
@@ -111,21 +111,21 @@ in-limits : (ms : List Message) → KeepLimits (asks_in ms)
 in-limits [] = tt
 in-limits (m ∷ ms) = by-in_limits (command_in m) (asks_in ms) (limits_of m) (in-limits ms)
 
--- What messages ask for.
+-- The commands of messages.
 
--- messages and then others
+-- the commands of messages followed by other messages
 asks_in-append : (ms ns : List Message) → asks_in (ms ++ ns) ≡ asks_in ms ++ asks_in ns
 asks_in-append [] ns = refl
 asks_in-append (m ∷ ms) ns =
     ap (λ l. asks_by (command_in m) ++ l) (asks_in-append ms ns)
     ∙ sym (append_assoc (asks_by (command_in m)) (asks_in ms) (asks_in ns))
 
--- one message asks for at most one thing
+-- one message makes at most one command
 one-asked : (o : Option Command) → length (asks_by o ++ []) ≤ 1
 one-asked (Some c) = omega arith
 one-asked None = omega arith
 
--- a message leads where what it asks for leads
+-- a message leads to the state to which its command leads
 leads-by : (s : State) (o : Option Command) (rest : Asks)
     → runs.state_after (state_by s o) rest ≡ runs.state_after s (asks_by o ++ rest)
 leads-by s (Some c) rest = refl
@@ -135,7 +135,7 @@ leads : (s : State) (ms : List Message) → state_after_all s ms ≡ runs.state_
 leads s [] = refl
 leads s (m ∷ ms) = leads (state_after s m) ms ∙ leads-by s (command_in m) (asks_in ms)
 
--- Worlds that go on.
+-- Executions that continue.
 
 -- all messages were answered
 all_go_on : {stood : State → Type 0} (x : Scene) (w : List Moment) (input : List ℕ) (count : ℕ)
@@ -147,7 +147,7 @@ all_go_on x w input count settled here all = record {
       (subst x.stands (leads (after start w) all.messages) all.left);
 }
 
--- these messages were carried out, and no other came
+-- these messages were executed, and no other came
 abbrev stops-after : {stood : State → Type 0} (x : Scene) (w : List Moment) (ms : List Message)
     → ((u : State) → x.stands u → x.leaves u u) → StandsAtEnd stood w
     → x.stands (state_after_all (after start w) ms)
@@ -157,7 +157,7 @@ stops-after x w ms settled here now =
     (ap asks_in (append-nil ms) ∙ sym (append-nil (asks_in ms))) (in-limits ms)
     (subst x.stands (leads (after start w) ms) now)
 
--- the next one was carried out too
+-- the next message was executed too
 abbrev stops-with : {stood : State → Type 0} (x : Scene) (w : List Moment) (ms : List Message) (m : Message)
     → ((u : State) → x.stands u → x.leaves u u) → StandsAtEnd stood w
     → x.stands (state_after (state_after_all (after start w) ms) m)
@@ -168,7 +168,7 @@ stops-with x w ms m settled here now =
     (subst x.stands (leads (after start w) (ms ++ m ∷ []))
     (subst x.stands (sym (after_more (after start w) ms m)) now))
 
--- what a crash leaves of the next one
+-- what a crash leaves of the next message
 message-cut : (leaves : State → State → Type 0) (s : State) (ms : List Message) (m : Message)
     → leaves (state_after_all s ms) (state_after (state_after_all s ms) m)
     → leaves (runs.state_after s (asks_in ms)) (runs.state_after s (asks_in ms ++ asks_in (m ∷ [])))
@@ -179,7 +179,7 @@ message-cut leaves s ms m left =
     subst (λ t. leaves t (runs.state_after s (asks_in ms ++ asks_in (m ∷ [])))) (leads s ms)
     (subst (leaves (state_after_all s ms)) (sym both) left)
 
--- it was cut off
+-- the next message was cut off
 abbrev cuts : {stood : State → Type 0} (x : Scene) (w : List Moment) (ms : List Message) (m : Message)
     → StandsAtEnd stood w
     → x.leaves (state_after_all (after start w) ms) (state_after (state_after_all (after start w) ms) m)
@@ -190,7 +190,7 @@ cuts x w ms m here left =
     (one-asked (command_in m)) (KeepLimits-append (asks_in ms) (asks_in (m ∷ [])) (in-limits ms) (in-limits (m ∷ [])))
     (message-cut x.leaves (after start w) ms m left)
 
--- a fault ended it
+-- a fault ended the run
 ends_by : {stood : State → Type 0} (x : Scene) (w : List Moment) (input rest : List ℕ) (fault : ServeFault)
     (ms : List Message) (pages : List (List ℕ)) → ((u : State) → x.stands u → x.leaves u u)
     → StandsAtEnd stood w → Answered (after start w) input ms rest pages → stays_open ms ≡ true
@@ -239,9 +239,9 @@ ends_by x w input rest Store ms pages settled here answered stays left = record 
   under_way = (refl, refl);
 }
 
--- What was served, as a world.
+-- The result of serving, as an execution.
 
--- at Ok it goes on with all messages, up to and with the first that closes
+-- at Ok the execution continues with all messages, up to and including the first that closes
 pub messages_go_on : {stood : State → Type 0} (x : Scene) (known : Option (List ℕ)) (r : Result Served ServeFault)
     → ((u : State) → x.stands u → x.leaves u u)
     → ((s : State) → stood s → IfSome known (λ input. IfOk r (λ served. ServesAll x s input served.pages)))
@@ -251,7 +251,7 @@ messages_go_on x (Some input) (Ok served) settled each =
     λ w here. all_go_on x w input served.pages settled here (each (after start w) here.stands_there)
 messages_go_on x (Some input) (Err fault) settled each = tt
 
--- at a fault with a prefix of them
+-- at a fault it continues with a prefix of them
 pub messages_stop : {stood : State → Type 0} (x : Scene) (known : Option (List ℕ)) (r : Result Served ServeFault)
     → ((u : State) → x.stands u → x.leaves u u)
     → ((s : State) → stood s → IfSome known (λ input. IfErr r (ServesSome x s input)))

@@ -1,4 +1,4 @@
--- What the answer to a message is, and where it leaves the book.
+-- The answer to a message, and the state of the book after it.
 use Rattle.std.specs.Prelude.{◌≡◌, ◌⊎◌, ℕ, List, Result, Ok, Err}
 use Rattle.ledger.specs.Answer.{State}
 use Rattle.http_messages.specs.Heads.{Parts, complaint_of}
@@ -12,23 +12,23 @@ use Rattle.protocols.specs.declared.faults.ServeFault.{ServeFault}
 use Rattle.protocols.specs.declared.faults.ServeFault.TheVariants.{Memory, Store}
 
 module _ (stands : State → Type 0) (leaves : State → State → Type 0) (s : State) where
-  -- what was asked for was done, and this holds of what came of it; or a fault came before or after
+  -- the request was executed and its result satisfies `So`; or a fault came before it was executed or after that
   abbrev pub Comes : {T : Type 0} → State → (T → Type 0) → Result T ServeFault → Type 0
   Comes after So (Ok made) = So made × stands after
   Comes after So (Err Memory) = stands s ⊎ stands after
   Comes after So (Err Store) = leaves s after
   Comes after So (Err _) = ⊥
 
-  -- it is shown, and nothing changes
+  -- the result is shown, and nothing changes
   abbrev pub Shows : {T : Type 0} → (T → Type 0) → Result T ServeFault → Type 0
   Shows So result = Comes s So result
 
-  -- the page says what comes of a demand
+  -- the page reports the outcome of a demand
   abbrev pub Meets : Demand → Result Page ServeFault → Type 0
   Meets demand result =
       Comes (state_by s (command_by (Ok demand))) (λ page. Says s (Ok demand) (page_said page)) result
 
-  -- the page says what comes of a request with these parts and this body, whose head may be refused
+  -- the page reports the outcome of a request with these parts and this body, whose head may be refused
   abbrev pub Tells : Parts → List ℕ → Result Page ServeFault → Type 0
   Tells parts body result =
       Comes (state_by s (command_unless (complaint_of parts) (demand_of parts body)))

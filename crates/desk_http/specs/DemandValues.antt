@@ -1,4 +1,4 @@
--- What values of the program say of demands.
+-- What values of the program mean as demands.
 use Rattle.std.specs.Prelude.{◌≡◌, ⊤, Option, option_map, Result, Ok, Err}
 use Rattle.serde_json.specs.Data.{Data}
 use Rattle.serde_json.specs.View.{view}
@@ -20,7 +20,7 @@ use Rattle.desk_http.specs.declared.senders.Sender.{Sender}
 abbrev pub ReadsAs : Option Data → Option Value → Type 0
 ReadsAs value found = option_map view found ≡ value
 
--- who sent a request, and with what
+-- the sender of a request, with its target and body
 abbrev pub sender_said : Sender → sent.Sender
 sender_said sender = record {
   agent = sender.agent;
@@ -29,20 +29,20 @@ sender_said sender = record {
   body = sender.body.now;
 }
 
--- what is demanded
+-- the demand that a value represents
 abbrev pub demand_said : Demand → sent.Demand
 demand_said (Carry command ask) = sent.Carry (request_of command) ask
 demand_said (SeeJourney agent id) = sent.SeeJourney agent id
 demand_said (SeeUnfinished agent) = sent.SeeUnfinished agent
 demand_said SeeStock = sent.SeeStock
 
--- it asks for this command, or is refused for this, unless memory ran out
+-- the value is the command of this request, or the refusal of it, or memory ran out
 abbrev pub AsksFor : Result Request Refusal → Result Command Unmet → Type 0
 AsksFor said (Ok command) = said ≡ Ok (request_of command)
 AsksFor said (Err (Refused denied)) = denied_by said ≡ Err denied
 AsksFor said (Err Memory) = ⊤
 
--- it demands this, or is denied for this, unless memory ran out
+-- the value is this demand, or its denial, or memory ran out
 abbrev pub Demands : Result sent.Demand Denied → Result Demand Unmet → Type 0
 Demands said (Ok demand) = said ≡ Ok (demand_said demand)
 Demands said (Err (Refused denied)) = said ≡ Err denied

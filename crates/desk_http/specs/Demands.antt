@@ -1,4 +1,4 @@
--- What a request asks of the desk, or the first thing that is wrong with it.
+-- The demand of a request, or the first thing that is wrong with the request.
 use Rattle.std.specs.Prelude.{ℕ, List, [], ◌∷◌, ◌++◌, codes, if◌then◌else◌, Option, Some, None, is_some, Result, Ok, Err}
 use Rattle.std.specs.Str.{is_utf8}
 use Rattle.serde_json.specs.Data.{Data}
@@ -25,7 +25,7 @@ use Rattle.http_pages.specs.declared.routes.Route.TheVariants.{LoadBatch, Begin,
 
 -- What a body says.
 
--- a value, or no right body
+-- the value, or the refusal of a malformed body
 abbrev pub or_bad_body : {X : Type 0} → Option X → Result X Refusal
 or_bad_body (Some x) = Ok x
 or_bad_body None = Err refusal.BadBody
@@ -41,52 +41,52 @@ abbrev pub begin_of : Result Planned BadPlan → Result Request Refusal
 begin_of (Ok plan) = Ok (asks.Begin plan)
 begin_of (Err fault) = Err (refusal.BadPlan fault)
 
--- the JSON value that a body is, if it is one
+-- the JSON value of a body, if it is UTF-8 and JSON
 abbrev pub value_in : List ℕ → Option Data
 value_in body = if is_utf8 body then read body else None
 
--- the plan of a value is begun; without a value there is no right body
+-- the plan of a value is begun; without a value the body is malformed
 abbrev pub begin_by : Option Data → Result Request Refusal
 begin_by (Some value) = begin_of (plan_in_json value)
 begin_by None = Err refusal.BadBody
 
--- this is asked, by a request without a body
+-- the request, if the body is empty, or the refusal of a malformed body
 abbrev pub bare : List ℕ → Request → Result Request Refusal
 bare [] asked = Ok asked
 bare (byte ∷ later) asked = Err refusal.BadBody
 
--- What a request asks for.
+-- The demand of a request.
 
--- a command to be carried out, under an agent and a key; or something that an agent is to be shown
+-- a command to execute, under an agent and a key; or a view for an agent
 pub data Demand : Type 0 where
   Carry : (asked : Request) (ask : Asked) → Demand
   SeeJourney : (agent : List ℕ) (id : ℕ) → Demand
   SeeUnfinished : (agent : List ℕ) → Demand
   SeeStock : Demand
 
--- who asks, under which key, with which target and body
+-- the agent and the key of a request, its target and its body
 pub record Sender : Type 0 where
   pub agent : List ℕ
   pub key : Option (List ℕ)
   pub target : List ℕ
   pub body : List ℕ
 
--- the text of an ask: the target, a line feed and the body
+-- the text under which a reply is kept: the target, a line feed and the body
 abbrev pub text_of : Sender → List ℕ
 text_of sender = sender.target ++ line_feed ∷ sender.body
 
--- a command is carried out under the sender's key; without a key none is
+-- a command is executed under the sender's key, and refused without a key
 abbrev pub carried_under : Option (List ℕ) → Sender → Request → Result Demand Refusal
 carried_under (Some key) sender asked =
     Ok (Carry asked (record { agent = sender.agent; key = key; text = text_of sender }))
 carried_under None sender asked = Err refusal.NoKey
 
--- the command that a body asks for, under the sender's key
+-- the command that a body makes, under the sender's key
 abbrev pub carried : Sender → Result Request Refusal → Result Demand Refusal
 carried sender (Ok asked) = carried_under sender.key sender asked
 carried sender (Err why) = Err why
 
--- what is asked for by a route
+-- the demand of a sender on a route
 abbrev pub demanded : Route → Sender → Result Demand Refusal
 demanded (LoadBatch name) sender = carried sender (load_of (batch_of name sender.body))
 demanded Begin sender = carried sender (begin_by (value_in sender.body))
@@ -97,28 +97,28 @@ demanded (ShowJourney id) sender = Ok (SeeJourney sender.agent id)
 demanded ShowUnfinished sender = Ok (SeeUnfinished sender.agent)
 demanded ShowStock sender = Ok SeeStock
 
--- a refusal that has nothing to do with the method
+-- a refusal that does not depend on the method
 abbrev pub denied_by : {X : Type 0} → Result X Refusal → Result X Denied
 denied_by (Ok x) = Ok x
 denied_by (Err why) = Err (plain why)
 
--- what an agent asks for by a route; without an agent there is nobody to answer
+-- the demand of an agent on a route; a request without an agent is refused
 abbrev pub asked_by : Option (List ℕ) → Parts → List ℕ → Route → Result Demand Denied
 asked_by (Some agent) parts body route =
     denied_by (demanded route (record { agent = agent; key = key_of parts; target = parts.target; body = body }))
 asked_by None parts body route = Err (plain refusal.NoAgent)
 
--- what was admitted is asked for
+-- the demand of a request whose head was admitted
 abbrev pub asked_if : Result Route Denied → Parts → List ℕ → Result Demand Denied
 asked_if (Ok route) parts body = asked_by (agent_of parts) parts body route
 asked_if (Err denied) parts body = Err denied
 
--- the route of a head, or what is wrong with the head: path, method, agent, key, parts of the path
+-- the route of a head, or the first thing that is wrong with it: path, method, agent, key, parts of the path
 abbrev pub admitted_by : Parts → Result Route Denied
 admitted_by parts =
     admitted (route_of parts.method parts.target) (is_some (agent_of parts)) (is_some (key_of parts))
     (is_method (codes "POST") parts)
 
--- what a request asks for, or the first thing that is wrong with it
+-- the demand of a request, or the first thing that is wrong with it
 abbrev pub demand_of : Parts → List ℕ → Result Demand Denied
 demand_of parts body = asked_if (admitted_by parts) parts body

@@ -1,4 +1,4 @@
--- What the page of a message is, and where the desk stands behind it.
+-- The page of a message, and the state of the desk after it.
 use Rattle.std.specs.Prelude.{◌≡◌, ℕ, ◌||◌, not, Bool, true, false, List, [], ◌∷◌, filter, filter_map, bytes_eq, codes, if◌then◌else◌, Option, Some, None, is_some, option_and_then, Result, Ok, Err}
 use Rattle.allotment.specs.declared.cells.Cell.{Cell}
 use Rattle.allotment.specs.declared.places.Held.{Held}
@@ -20,19 +20,19 @@ use Rattle.http_pages.specs.declared.admitting.Denied.{Denied}
 use Rattle.reports.specs.Layouts.{stock_report}
 use Rattle.desk_http.specs.Demands.{Demand, Carry, SeeJourney, SeeUnfinished, SeeStock, demand_of}
 
--- What is shown.
+-- Views.
 
--- the journey of this number, where it is the agent's own
+-- the journey of this number, if it is the agent's own
 abbrev pub own_journey : List Event → List ℕ → ℕ → Option Record
 own_journey l agent id =
     option_and_then (λ (r : Record). if bytes_eq agent r.agent then Some r else None) (record_of l id)
 
--- a journey with its history; of another agent's no more is told than of one that is absent
+-- a journey with its history; a journey of another agent looks the same as one that does not exist
 abbrev pub journey_page : List Event → ℕ → Option Record → Paged
 journey_page l id (Some r) = value_page (journey_data id r.cursor (history l id))
 journey_page l id None = refused_page NoJourney
 
--- an agent's own journeys that are not finished, in short, by rising number
+-- the summaries of an agent's own unfinished journeys, by rising number
 abbrev pub own_unfinished : List Event → List ℕ → List Brief
 own_unfinished l agent = filter (λ (b : Brief). bytes_eq agent b.agent) (unfinished_of l)
 
@@ -44,7 +44,7 @@ pub record ShowsStock (l : List Event) (page : Paged) : Type 0 where
 
 -- Pages.
 
--- the page says what a request comes to
+-- the page reports the outcome of a demand, or the denial
 abbrev pub Says : State → Result Demand Denied → Paged → Type 0
 Says s (Err denied) page = page ≡ denied_page denied.refusal denied.allow
 Says s (Ok (Carry asked ask)) page = page ≡ reply_page (outcome s (Some ask) asked).reply
@@ -53,17 +53,17 @@ Says s (Ok (SeeUnfinished agent)) page =
     page ≡ value_page (unfinished_data (own_unfinished s.ledger agent))
 Says s (Ok SeeStock) page = ShowsStock s.ledger page
 
--- a head that is refused gets that refusal, and any other what its request comes to
+-- a head that is refused gets that refusal, and any other head gets the outcome of its demand
 abbrev pub SaysUnless : Option Refusal → State → Parts → List ℕ → Paged → Type 0
 SaysUnless (Some why) s parts body page = page ≡ refused_page why
 SaysUnless None s parts body page = Says s (demand_of parts body) page
 
--- a closing page: behind it the connection ends
+-- the page closes: the connection ends after it
 abbrev pub closes : Message → Bool
 closes NoHead = true
 closes (Asks h body) = is_some (complaint_of (parts_of h)) || asks_to_close (parts_of h)
 
--- a page, by what it says
+-- the page's bytes, by what it reports
 pub record IsPageOf (s : State) (m : Message) (parts : Parts) (body bytes : List ℕ) : Type 0 where
   pub page : Paged
   pub says : SaysUnless (complaint_of parts) s parts body page
@@ -74,13 +74,13 @@ abbrev pub IsPage : State → Message → List ℕ → Type 0
 IsPage s NoHead bytes = bytes ≡ page_text false true (refused_page BadHead)
 IsPage s (Asks h body) bytes = IsPageOf s (Asks h body) (parts_of h) body bytes
 
--- Where the desk stands behind a page.
+-- The state of the desk after a page.
 
--- a command that an agent asks for
+-- a command of an agent
 abbrev pub Command : Type 0
 Command = Request × Asked
 
--- the command that is demanded, if one is
+-- the command of a demand, if it has one
 abbrev pub command_by : Result Demand Denied → Option Command
 command_by (Ok (Carry asked ask)) = Some (asked, ask)
 command_by (Ok (SeeJourney agent id)) = None
@@ -88,27 +88,27 @@ command_by (Ok (SeeUnfinished agent)) = None
 command_by (Ok SeeStock) = None
 command_by (Err denied) = None
 
--- none is, where the head is refused
+-- no command, if the head is refused
 abbrev pub command_unless : Option Refusal → Result Demand Denied → Option Command
 command_unless (Some why) demand = None
 command_unless None demand = command_by demand
 
--- the command that a message asks for, if it asks for one
+-- the command that a message makes, if any
 abbrev pub command_in : Message → Option Command
 command_in NoHead = None
 command_in (Asks h body) =
     command_unless (complaint_of (parts_of h)) (demand_of (parts_of h) body)
 
--- a command is carried out, and all else changes nothing
+-- a command is executed, and anything else changes nothing
 abbrev pub state_by : State → Option Command → State
 state_by s (Some command) = (outcome s (Some command.1) command.0).state
 state_by s None = s
 
--- where the desk stands behind a message
+-- the state of the desk after a message
 abbrev pub state_after : State → Message → State
 state_after s m = state_by s (command_in m)
 
--- Messages one after another.
+-- Messages in order.
 
 -- these are the pages of these messages
 abbrev pub ArePages : State → List Message → List (List ℕ) → Type 0
@@ -116,7 +116,7 @@ ArePages s [] pages = pages ≡ []
 ArePages s (m ∷ later) [] = ⊥
 ArePages s (m ∷ later) (page ∷ pages) = IsPage s m page × ArePages (state_after s m) later pages
 
--- where the desk stands behind these messages
+-- the state of the desk after these messages
 abbrev pub state_after_all : State → List Message → State
 state_after_all s [] = s
 state_after_all s (m ∷ later) = state_after_all (state_after s m) later

@@ -18,7 +18,7 @@ use protocols::ServeFault;
 use saga_core::Book;
 use std::alloc::Global;
 
-/// A page as it goes out, and whether the connection ends behind it.
+/// The bytes of a page, and whether the connection ends after it.
 #[derive(Drop)]
 pub(crate) struct Answer {
     pub(crate) bytes: Vec<u8>,
@@ -26,7 +26,7 @@ pub(crate) struct Answer {
 }
 
 impl Answer {
-    /// A page as it goes out. To HEAD it goes out without its body.
+    /// The bytes of a page. The page of a HEAD request has no body. The only fault is out of memory.
     fn new(alloc: Global, page: &Page, closes: bool, is_head: bool) -> Result<Answer, ServeFault>
         ensures bytes { IfOk result (λ answer.
             answer.bytes.items ≡ page_text is_head closes (page_said page.now)) }
@@ -39,7 +39,7 @@ impl Answer {
     }
 }
 
-/// Answers a message.
+/// Answers a message: executes its command, if it makes one, and returns the bytes of its page.
 pub(crate) fn answer_to<B: Book>(
     alloc: Global,
     paths: &Paths,
@@ -69,7 +69,7 @@ pub(crate) fn answer_to<B: Book>(
     }
 }
 
-/// Whether the connection ends behind the page of a request.
+/// Whether the connection ends after the page of a request.
 fn closes(request: &Request) -> bool
     ensures closes { result ≡ (is_some request.now.complaint || request.now.closes) }
 {
@@ -104,7 +104,7 @@ fn page_of<B: Book>(
     }
 }
 
-/// The page of what comes of a demand.
+/// The page that reports the outcome of a demand.
 fn meet<B: Book>(alloc: Global, demand: &Demand, book: &mut B) -> Result<Page, ServeFault>
     ensures page { B.is_sound book.new → (s : State) → B.stands book.old s →
         Meets (B.stands book.new) (B.leaves book.new) s (demand_said demand.now) result }

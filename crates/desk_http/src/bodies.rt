@@ -1,4 +1,4 @@
-//! The commands that bodies ask for.
+//! The commands that bodies make.
 ghost use Rattle.std.specs.Prelude.{◌≡◌, IfOk};
 ghost use Rattle.commands.specs.Orders.{request_of};
 ghost use Rattle.allotment_csv.specs.Files.{batch_of};
@@ -25,7 +25,7 @@ pub(crate) fn load(alloc: Global, name: Name, body: &[u8]) -> Result<Command, Un
     }
 }
 
-/// The begin of a journey, whose plan is a body in JSON.
+/// The begin of a journey, whose plan is the JSON of a body.
 pub(crate) fn begin(alloc: Global, body: &[u8]) -> Result<Command, Unmet>
     ensures begin { AsksFor (begin_by (value_in body.now)) result }
 {
@@ -39,7 +39,7 @@ pub(crate) fn begin(alloc: Global, body: &[u8]) -> Result<Command, Unmet>
     }
 }
 
-/// The JSON value that a body is, if it is one.
+/// The JSON value of a body. Returns `None` if the body is not UTF-8 or not JSON.
 fn value_of(alloc: Global, body: &[u8]) -> Result<Option<Value>, AllocError>
     ensures value { IfOk result (ReadsAs (value_in body.now)) }
 {
@@ -53,7 +53,7 @@ fn value_of(alloc: Global, body: &[u8]) -> Result<Option<Value>, AllocError>
     }
 }
 
-/// A command that has no body.
+/// The command, if the body is empty.
 pub(crate) fn bare(body: &[u8], command: Command) -> Result<Command, Unmet>
     ensures bare { AsksFor (bare body.now (request_of command)) result }
 {

@@ -1,4 +1,4 @@
-//! What a request asks of the desk.
+//! The demand of a request on the desk.
 ghost use Rattle.std.specs.Prelude.{◌≡◌, List, ℕ};
 ghost use Rattle.http_messages.specs.Requests.{IsRequest};
 ghost use Rattle.http_messages.specs.Heads.{Parts};
@@ -14,25 +14,25 @@ use http_messages::Request;
 use http_pages::{Denied, Paths, Route, admit};
 use std::alloc::{AllocError, Global};
 
-/// What a request asks for, once all is well with it.
+/// The demand of a request with which nothing is wrong.
 #[derive(Drop)]
 pub(crate) enum Demand {
-    /// Carry this out, under an agent and a key.
+    /// Execute this command, under an agent and a key.
     Carry(Command, Ask),
     /// Show an agent the journey of this number.
     SeeJourney(Agent, u64),
-    /// Show an agent its journeys that are not finished.
+    /// Show an agent its unfinished journeys.
     SeeUnfinished(Agent),
     /// Show the stock.
     SeeStock,
 }
 
-/// Why a request asks for nothing.
+/// Why a request has no demand.
 #[derive(Clone, Copy, Debug, PartialEq, Eq)]
 pub(crate) enum Unmet {
-    /// Something is wrong with it.
+    /// Something is wrong with the request.
     Refused(Denied),
-    /// Memory ran out.
+    /// Out of memory.
     Memory,
 }
 
@@ -60,7 +60,7 @@ impl From<AllocError> for Unmet {
     }
 }
 
-/// What a request asks for, or the first thing that is wrong with it: path, method, agent, key, the
+/// The demand of a request, or the first thing that is wrong with it, in this order: path, method, agent, key, the
 /// parts of the path, the body.
 pub(crate) fn demand_in(alloc: Global, paths: &Paths, request: &Request) -> Result<Demand, Unmet>
     ensures demand { (parts : Parts) → (body : List ℕ) → IsRequest request.now parts body →
@@ -82,7 +82,7 @@ pub(crate) fn demand_in(alloc: Global, paths: &Paths, request: &Request) -> Resu
     demand_by(alloc, route, &sender)
 }
 
-/// What a sender asks for by a route.
+/// The demand of a sender on a route.
 fn demand_by(alloc: Global, route: Route, sender: &Sender<'_>) -> Result<Demand, Unmet>
     ensures demand { Demands (denied_by (demanded route (sender_said sender.now))) result }
 {

@@ -1,8 +1,8 @@
-//! What holds of a message that is sent again.
+//! Idempotence of a message that made an event.
 ghost use Rattle.desk_http.specs.Laws.{ActOnce};
 
-/// The same request under the same key, sent again after it made an event: it gets the same page, and
-/// makes no second event, whatever came between.
+/// A request that made an event is idempotent under its key: when the same request is retried, it gets the same page
+/// and makes no second event, whatever came between.
 pub fn again()
     ensures law { ActOnce }
 {}

@@ -1,10 +1,10 @@
-//! The desk over HTTP: what is answered to the messages of a connection.
+//! The desk over HTTP: the answers to the messages of a connection.
 //!
-//! `serve` reads messages from a reader, carries out what each asks for over a book, and writes its
-//! page before it looks for the next message.
+//! `serve` reads messages from a reader, executes their demands over a book, and writes the page of each message before
+//! it reads the next.
 //!
-//! Words: a *demand* is what a request asks for once all is well with it, a *page* the answer to a
-//! message, and a *closing* page one behind which the connection ends.
+//! Words: a *demand* is what a request asks for if nothing is wrong with it, a *page* is the answer to a message, and
+//! after a *closing* page the connection ends.
 #![tactic(auto)]
 
 mod answering;

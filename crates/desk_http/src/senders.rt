@@ -1,4 +1,4 @@
-//! Who sent a request, and with what.
+//! The sender of a request, with its target and body.
 ghost use Rattle.std.specs.Prelude.{◌≡◌, IfOk, Ok};
 ghost use Rattle.commands.specs.Orders.{request_of};
 ghost use Rattle.desk_http.specs.Demands.{carried, text_of};
@@ -8,7 +8,7 @@ use crate::demands::{Demand, Unmet};
 use commands::{Agent, Ask, Command, Key, Refusal};
 use std::alloc::{AllocError, Global};
 
-/// Who asks, under which key, with which target and body.
+/// The agent and the key of a request, its target and its body.
 #[derive(Clone, Copy)]
 pub(crate) struct Sender<'a> {
     pub(crate) agent: Agent,
@@ -18,7 +18,7 @@ pub(crate) struct Sender<'a> {
 }
 
 impl Sender<'_> {
-    /// A command is carried out under the sender's key; without a key none is.
+    /// The demand to execute a command under the sender's key. Without a key the request is refused.
     pub(crate) fn carry(&self, alloc: Global, command: Command) -> Result<Demand, Unmet>
         ensures carry { Demands
             (denied_by (carried (sender_said self.now) (Ok (request_of command)))) result }
@@ -30,7 +30,7 @@ impl Sender<'_> {
         Ok(Demand::Carry(command, Ask::new(self.agent, key, text)))
     }
 
-    /// The text under which a command is kept: the target, a line feed and the body.
+    /// The text under which a reply is kept: the target, a line feed and the body. The only fault is out of memory.
     fn text(&self, alloc: Global) -> Result<Vec<u8>, AllocError>
         ensures text { IfOk result (λ text. text.items ≡ text_of (sender_said self.now)) }
     {

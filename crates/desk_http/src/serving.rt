@@ -19,17 +19,17 @@ use std::alloc::Global;
 use std::io::{Read, Write};
 use streams::send;
 
-/// What was served.
+/// The result of serving a connection.
 #[derive(Clone, Copy, Debug, PartialEq, Eq)]
 pub struct Served {
     /// How many pages were written.
     pub pages: u64,
 }
 
-/// Answers the messages of a connection, each by its page, up to and with the first closing one.
+/// Answers the messages of a connection, each by its page, up to and including the first closing one.
 ///
-/// Each page is written out and flushed before the next message is looked for, and nothing is read
-/// while a whole message waits. A message that the end of the input cuts off gets no page.
+/// Each page is written and flushed before the next message is read, and nothing is read while a whole message is
+/// buffered. A message that the end of the input cuts off gets no page.
 pub fn serve<R: Read, W: Write, B: Book>(
     alloc: Global,
     reader: &mut R,
@@ -64,7 +64,7 @@ pub fn serve<R: Read, W: Write, B: Book>(
     serve_book(alloc, reader, writer, book)
 }
 
-/// The same over any book.
+/// Does the same over any book.
 fn serve_book<R: Read, W: Write, B: Book>(
     alloc: Global,
     reader: &mut R,
@@ -102,7 +102,7 @@ fn serve_book<R: Read, W: Write, B: Book>(
     Err(ServeFault::Read)
 }
 
-/// The next message of a reader, if one comes.
+/// The next message of a reader. Returns `None` if the input has ended.
 fn next_message<R: Read>(
     incoming: &mut Incoming,
     reader: &mut R,

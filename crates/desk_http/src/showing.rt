@@ -1,4 +1,4 @@
-//! What agents are shown of a book. It changes nothing.
+//! Views of a book for agents. A view changes nothing.
 ghost use Rattle.std.specs.Prelude.{◌≡◌, IfOk, IsErrOf, IsTrue};
 ghost use Rattle.ledger.specs.Answer.{State};
 ghost use Rattle.saga_core.specs.Books.{LeavesNoMore};
@@ -14,7 +14,7 @@ use reports::stock_text;
 use saga_core::{Book, Brief, Listed};
 use std::alloc::{AllocError, Global};
 
-/// The page of an agent's own journey. Another agent's is told no more of than one that is absent.
+/// The page of an agent's own journey. A journey of another agent gets the page of one that does not exist.
 pub(crate) fn see_journey<B: Book>(
     alloc: Global,
     book: &mut B,
@@ -42,7 +42,7 @@ pub(crate) fn see_journey<B: Book>(
     }
 }
 
-/// The page of an agent's own journeys that are not finished, by rising number.
+/// The page of an agent's own unfinished journeys, by rising number.
 pub(crate) fn see_unfinished<B: Book>(
     alloc: Global,
     book: &mut B,
@@ -64,7 +64,7 @@ pub(crate) fn see_unfinished<B: Book>(
     Ok(shown_page(Body::Json(body)))
 }
 
-/// An agent's own journeys that are not finished, by rising number.
+/// An agent's own unfinished journeys, by rising number.
 fn own_unfinished<B: Book>(
     alloc: Global,
     book: &mut B,

@@ -1,4 +1,4 @@
--- What a failed command leaves. For the answer to one line.
+-- The states after a command that failed. For the answer to one line.
 use Rattle.std.proofs.Common.{inl, Global}
 use Rattle.std.specs.Prelude.{None, Err, Ok}
 use Rattle.commands.specs.Request.{Request}
@@ -10,7 +10,7 @@ use Rattle.saga_core.specs.Books.{KeepsAtMemory, LeavesAtStore}
 use Rattle.desk_lines.specs.Answering.{AnswersOrder}
 use Rattle.protocols.specs.Faults.{served_fault}
 
--- where a command failed, the book stands where it stood, or the store leaves that or what follows
+-- where a command failed, the book represents the state before it, or the store leaves that state or the next one
 pub act_failed : (stood stands : State → Type 0) (leaves : State → State → Type 0) (s : State)
     (request : Request) (fault : Fault)
     → stood s

@@ -1,4 +1,4 @@
--- The lines of bytes, of which one after another is taken. For next_line.
+-- Taking one line of the bytes after another. For next_line.
 use Rattle.std.proofs.Common.{◌≡◌, ◌∙◌, ap, sym, refl, ◌||◌, ◌+◌, ◌≤◌, ◌<◌, List, [], ◌∷◌, ◌++◌, ℕ, Bool, true, false, length, append_assoc, append-nil, arith, true≢false, subst, inl, inr, take, drop, take-append-drop, lt-ltb, length-take, drop_of_length-le, ap₂, eqb-true, ◌-◌}
 use Rattle.std.specs.Prelude.{Option, Some, None, nat_lt}
 use Rattle.std.specs.List.{position, position_or_len}
@@ -19,14 +19,14 @@ both_false : (a b : Bool) → (a || b) ≡ false → (a ≡ false) × (b ≡ fal
 both_false false b none = (refl, none)
 both_false true b none = (none, absurd (true≢false none))
 
--- two pieces without a line feed are one without
+-- two pieces without a line feed have none when joined
 pub plain-append : (xs ys : List ℕ) → HasNoLineFeed xs → HasNoLineFeed ys → HasNoLineFeed (xs ++ ys)
 plain-append [] ys first second = second
 plain-append (x ∷ xs) ys first second =
     let none = both_false (is_line_feed x) _ first in
     rw (none.0) (plain-append xs ys none.1 second)
 
--- a line is what stands before the first line feed
+-- a line is the bytes before the first line feed
 pub lines-front : (text rest : List ℕ)
     → HasNoLineFeed text
     → lines (text ++ line_feed ∷ rest) ≡ text ∷ lines rest
@@ -35,7 +35,7 @@ lines-front (x ∷ text) rest plain =
     let none = both_false (is_line_feed x) _ plain in
     rw (none.0) (ap (with_first x) (lines-front text rest none.1))
 
--- a rest without a line feed is one line
+-- bytes without a line feed are one line
 pub lines-last : (x : ℕ) (text : List ℕ)
     → HasNoLineFeed (x ∷ text)
     → lines (x ∷ text) ≡ (x ∷ text) ∷ []
@@ -44,7 +44,7 @@ lines-last x (y ∷ text) plain =
     let none = both_false (is_line_feed x) _ plain in
     rw (none.0) (ap (with_first x) (lines-last y text none.1))
 
--- up to the first line feed there is none, and what follows it is the rest
+-- the bytes before the first line feed contain none, and the bytes after it are the suffix
 feed_cut : (xs : List ℕ) (i : ℕ) → position is_line_feed xs ≡ Some i
     → HasNoLineFeed (take i xs) × (xs ≡ take i xs ++ line_feed ∷ drop (i + 1) xs)
 feed_cut xs i found =
@@ -56,14 +56,14 @@ feed_cut xs i found =
       sym (take-append-drop i xs) ∙ ap (λ rest. take i xs ++ rest) there,
     )
 
--- where none is found, there is none
+-- where no line feed is found, there is none
 no_feed : (xs : List ℕ) → position is_line_feed xs ≡ None → HasNoLineFeed xs
 no_feed xs none = elim (cases_lt (position_or_len is_line_feed xs) (length xs)) [
   | inl inside ↦ let found = rw (lt-ltb (position_or_len is_line_feed xs) (length xs) inside) at none in cc
   | inr past ↦ list_any_none is_line_feed xs (λ k d lt. fails_before_first is_line_feed xs k d (omega arith))
 ]
 
--- a part of a list, by its first place and its end
+-- a part of a list, by its start and its end
 window : (xs : List ℕ) (from to : ℕ)
     → from ≤ to
     → take (to - from) (drop from xs) ≡ drop from (take to xs)
@@ -73,15 +73,15 @@ window xs from to in_order =
 
 module _ (chunk : List ℕ) (from to : ℕ) (waiting : List ℕ) (old new : Line) (in_order : from ≤ to)
     (view : drop from (take to chunk) ≡ waiting) where
-  -- the bytes in which a line feed is looked for
+  -- the bytes that are searched for a line feed
   abbrev pub looked_at : List ℕ
   looked_at = take (to - from) (drop from chunk)
 
-  -- they are those that wait
+  -- they are the buffered bytes
   looked_same : looked_at ≡ waiting
   looked_same = window chunk from to in_order ∙ view
 
-  -- the front up to a line feed is a piece
+  -- the prefix before a line feed is a piece
   pub takes_front : (at : ℕ)
       → position is_line_feed looked_at ≡ Some at
       → KeepsMore old new (take at looked_at)
@@ -97,7 +97,7 @@ module _ (chunk : List ℕ) (from to : ℕ) (waiting : List ℕ) (old new : Line
         kept = kept;
       }
 
-  -- with no line feed, all that waits is a piece
+  -- without a line feed, all buffered bytes are a piece
   pub takes_all : position is_line_feed looked_at ≡ None → KeepsMore old new looked_at
       → TakesPiece false waiting (drop to (take to chunk)) old new
   takes_all none kept = record {
@@ -107,7 +107,7 @@ module _ (chunk : List ℕ) (from to : ℕ) (waiting : List ℕ) (old new : Line
     kept = kept;
   }
 
--- reading more puts what was read in the place of what waited
+-- a read replaces the buffered bytes with those that were read
 goes_on : (u0 u2 : Unanswered) (r0 r1 : Option (List ℕ)) (piece : List ℕ)
     → u0.waiting ≡ piece
     → Consumes r0 r1 u2.waiting
@@ -116,19 +116,19 @@ goes_on u0 u2 None r1 piece front read = tt
 goes_on u0 u2 (Some xs) None piece front read = absurd read
 goes_on u0 u2 (Some xs) (Some ys) piece front read = ap₂ (λ a b. a ++ b) front read
 
--- nothing is read where nothing changes
+-- where nothing changes, nothing is read
 consumes_none : (known : Option (List ℕ)) → Consumes known known []
 consumes_none None = tt
 consumes_none (Some xs) = refl
 
--- a line was begun: this text of it was taken, and the line keeps it
+-- this text is the start of a line that was taken, and the line keeps it
 pub record IsBegun (start now : Option (List ℕ)) (line : Line) : Type 0 where
   pub text : List ℕ
   pub plain : HasNoLineFeed text
   pub kept : Keeps line text
   pub taken : Consumes start now text
 
--- of a line with no text yet, nothing was taken
+-- of an empty line nothing was taken
 pub begun_none : (start : Option (List ℕ)) (line : Line) → Keeps line [] → IsBegun start start line
 begun_none start line kept = record { text = []; plain = refl; kept = kept; taken = consumes_none start }
 
@@ -146,7 +146,7 @@ begun_more start u0 u1 u2 r0 r1 old new so_far taken read = record {
   taken = consumes_more start (to_come u0 r0) (to_come u2 r1) so_far.text taken.piece so_far.taken (goes_on u0 u2 r0 r1 taken.piece taken.front.0 read);
 }
 
--- up to a line feed, the line is whole
+-- before a line feed, the line is complete
 pub line_found : (start : Option (List ℕ)) (u0 u1 : Unanswered) (r : Option (List ℕ))
     (old new : Line)
     → IsBegun start (to_come u0 r) old
@@ -164,7 +164,7 @@ line_found (Some input) u0 u1 (Some left) old new so_far taken =
       ap lines whole ∙ lines-front text (u1.waiting ++ left) (plain-append so_far.text taken.piece so_far.plain taken.plain),
     )
 
--- at the end of the input, what was begun is the last line, unless it is empty
+-- at the end of the input, the text that was taken is the last line, unless it is empty
 last_line : (text : List ℕ) (line : Line)
     → HasNoLineFeed text
     → Keeps line text
@@ -185,7 +185,7 @@ line_ended (Some input) (Some left) line found so_far end is =
     let whole : input ≡ so_far.text = so_far.taken ∙ ap (λ rest. so_far.text ++ rest) end ∙ append-nil so_far.text in
     rw (whole, end, is) (last_line so_far.text line so_far.plain so_far.kept)
 
--- nothing is still to come where nothing waits and the reader is at its end
+-- no input is left where nothing is buffered and the reader is at its end
 pub at_end : (u : Unanswered) (left : Option (List ℕ))
     → u.waiting ≡ []
     → IsAtEnd left

@@ -1,4 +1,4 @@
--- A text asks for a request exactly where it is the line of that request. For the law of lines.
+-- A text makes a request exactly if it is the line of that request. For the law of lines.
 use Rattle.std.proofs.Common.{◌≡◌, ◌∙◌, ap, sym, subst, refl, ℕ, ◌<◌, ◌^◌, ◌==◌, ◌&&◌, not, List, [], ◌∷◌, ◌++◌, Bool, true, false, length, drop, take, take-append-drop, arith, Option, Some, None}
 use Rattle.std.specs.Prelude.{Result, Ok, Err, bytes_eq, codes, decimal, nat_le, option_and_then, option_map, IsTrue, if◌then◌else◌}
 use Rattle.std.specs.Str.Parse.{digits_value}
@@ -29,9 +29,9 @@ use Rattle.commands.proofs.BlankLemmas.{has_no_blank, number_lacks, parts_joined
 use Rattle.desk_lines.specs.Lines.{IsLineOf, abort_line, abort_of, begin_meaning, begin_word, found_meaning, is_begin, is_named_position, journey_in, load_of, name_in, position_in, request_of_words, row_of, save_line, set_line, step_line, text_meaning}
 use Rattle.commands.proofs.SpelledLemmas.{found_number}
 
--- What words are, where something is read of them.
+-- The words from which something is read.
 
--- a number that is read of a word is within the limits, and the word is what is written of it
+-- a number that is read from a word is within the limits, and the word is its decimal text
 number_read_by : (low high : ℕ) (word : List ℕ) (n : ℕ) (o : Option ℕ) → number_in word ≡ o
     → option_and_then (keep_if (is_between low high)) o ≡ Some n
     → IsTrue (is_between low high n) × (word ≡ decimal n)
@@ -41,17 +41,17 @@ number_read_by low high word n (Some m) is e =
     let spelled = keep_if_some (λ k. bytes_eq (decimal k) word) (digits_value 10 word) m is in
     (kept.1, sym (same_bytes (decimal m) word spelled.1) ∙ ap decimal kept.0)
 
--- the same, where the reading is one step
+-- the same, for a read in one step
 number_read : (low high : ℕ) (word : List ℕ) (n : ℕ) → number_from low high word ≡ Some n
     → IsTrue (is_between low high n) × (word ≡ decimal n)
 number_read low high word n e = number_read_by low high word n (number_in word) refl e
 
--- what is written of a number within the limits is read as it
+-- the decimal text of a number within the limits is read as that number
 number_spelled : (low high n : ℕ) → high < 2 ^ 64 → IsTrue (is_between low high n)
     → number_from low high (decimal n) ≡ Some n
 number_spelled low high n small within = sym (found_number low high (decimal n) (Some n) small (within, refl))
 
--- two words that are these ones make their line, and so do three and four
+-- two equal words make the same line, and so do three and four
 two_words : (a b x y : List ℕ) → a ≡ x → b ≡ y → sentence (a ∷ b ∷ []) ≡ sentence (x ∷ y ∷ [])
 two_words a b x y p q = cc
 
@@ -63,7 +63,7 @@ four_words : (a b d e x y z w : List ℕ) → a ≡ x → b ≡ y → d ≡ z �
     → sentence (a ∷ b ∷ d ∷ e ∷ []) ≡ sentence (x ∷ y ∷ z ∷ w ∷ [])
 four_words a b d e x y z w p q r s = cc
 
--- From what a text means to its line.
+-- From the meaning of a text to its line.
 
 -- a step of the journey that a word names
 step_read : (verb word : List ℕ) (o : Option ℕ) (request : Request) → verb ≡ codes "step" → journey_in word ≡ o
@@ -74,7 +74,7 @@ step_read verb word (Some id) request says is e =
     let same : Step id ≡ request = cc in
     subst (IsLineOf (sentence (verb ∷ word ∷ []))) same (read.0, two_words verb word _ _ says read.1)
 
--- a save-point of it
+-- a save-point of the journey that a word names
 save_read : (verb word : List ℕ) (o : Option ℕ) (request : Request) → verb ≡ codes "save" → journey_in word ≡ o
     → option_map Save o ≡ Some request → IsLineOf (sentence (verb ∷ word ∷ [])) request
 save_read verb word None request says is e = cc
@@ -83,7 +83,7 @@ save_read verb word (Some id) request says is e =
     let same : Save id ≡ request = cc in
     subst (IsLineOf (sentence (verb ∷ word ∷ []))) same (read.0, two_words verb word _ _ says read.1)
 
--- two words say one of these
+-- two words make one of these requests
 two_read : (verb word : List ℕ) (request : Request) (step save : Bool)
     → bytes_eq verb (codes "step") ≡ step → bytes_eq verb (codes "save") ≡ save
     → (if step then option_map Step (journey_in word) else if save then option_map Save (journey_in word) else None)
@@ -95,7 +95,7 @@ two_read verb word request false true is other e =
     save_read verb word (journey_in word) request (same_bytes verb (codes "save") other) refl e
 two_read verb word request false false is other e = cc
 
--- a turn of the journey that a word names, to the position that another one names
+-- a turn of the journey that one word names, to the position that another names
 turn_read : (verb word place : List ℕ) (o p : Option ℕ) (request : Request) → verb ≡ codes "abort"
     → journey_in word ≡ o → position_in place ≡ p
     → abort_of o p ≡ Some request → IsLineOf (sentence (verb ∷ word ∷ place ∷ [])) request
@@ -108,7 +108,7 @@ turn_read verb word place (Some id) (Some position) request says is at e =
     subst (IsLineOf (sentence (verb ∷ word ∷ place ∷ []))) same
     (and_from _ _ read.0 target.0, three_words verb word place _ _ _ says read.1 target.1)
 
--- three words say that
+-- three words make this request
 three_read : (verb word place : List ℕ) (request : Request) (abort : Bool) → bytes_eq verb (codes "abort") ≡ abort
     → (if abort then abort_of (journey_in word) (position_in place) else None) ≡ Some request
     → IsLineOf (sentence (verb ∷ word ∷ place ∷ [])) request
@@ -122,7 +122,7 @@ one_row_good : (name : List ℕ) (row : Row) → is_batch_name name ≡ true →
 one_row_good name row named good =
     and_from _ _ (and_from _ _ (and_from _ _ named refl) (and_from _ _ good refl)) refl
 
--- a load of the cell and the places that words name, under the name that one is
+-- a load of the cell and places that words spell, under the name in another
 row_read : (verb name cell places : List ℕ) (n : Option (List ℕ)) (x : Option Cell) (p : Option ℕ) (request : Request)
     → verb ≡ codes "set" → name_in name ≡ n → cell_in cell ≡ x → places_in places ≡ p
     → load_of n (row_of x p) ≡ Some request → IsLineOf (sentence (verb ∷ name ∷ cell ∷ places ∷ [])) request
@@ -141,7 +141,7 @@ row_read verb name cell places (Some n) (Some x) (Some k) request says is of man
     subst (IsLineOf (sentence (verb ∷ name ∷ cell ∷ places ∷ []))) same
     (one_row_good n row named.1 (and_from _ _ sold.0 few), four_words verb name cell places _ _ _ _ says named.0 sold.1 count.1)
 
--- four words say that
+-- four words make this request
 four_read : (verb name cell places : List ℕ) (request : Request) (set : Bool) → bytes_eq verb (codes "set") ≡ set
     → (if set then load_of (name_in name) (row_of (cell_in cell) (places_in places)) else None) ≡ Some request
     → IsLineOf (sentence (verb ∷ name ∷ cell ∷ places ∷ [])) request
@@ -150,7 +150,7 @@ four_read verb name cell places request true is e =
     (same_bytes verb (codes "set") is) refl refl refl e
 four_read verb name cell places request false is e = cc
 
--- words that ask for a request are those of its line
+-- words that make a request are those of its line
 words_read : (words : List (List ℕ)) (request : Request)
     → request_of_words words ≡ Some request → IsLineOf (sentence words) request
 words_read [] request e = cc
@@ -161,12 +161,12 @@ words_read (a ∷ b ∷ d ∷ []) request e = three_read a b d request (bytes_eq
 words_read (a ∷ b ∷ d ∷ f ∷ []) request e = four_read a b d f request (bytes_eq a (codes "set")) refl e
 words_read (a ∷ b ∷ d ∷ f ∷ g ∷ words) request e = cc
 
--- what is meant by what was found was found
+-- a request that is meant was found
 was_found : (o : Option Request) (request : Request) → found_meaning o ≡ Ok request → o ≡ Some request
 was_found None request e = cc
 was_found (Some found) request e = let same : found ≡ request = cc in ap (λ r. Some r) same
 
--- a plan behind the word that begins a journey
+-- a plan after the word that begins a journey
 plan_read : (text rest : List ℕ) (read : Result Planned BadPlan) (request : Request) → text ≡ begin_word ++ rest
     → plan_in rest ≡ read → begin_meaning read ≡ Ok request → IsLineOf text request
 plan_read text rest (Err fault) request whole is e = cc
@@ -175,13 +175,13 @@ plan_read text rest (Ok plan) request whole is e =
     let same : Begin plan ≡ request = cc in
     subst (IsLineOf text) same (line.keeps_limits, whole ∙ ap (λ t. begin_word ++ t) line.spelled)
 
--- a text that begins so is that word and what stands behind it
+-- a text with that prefix is the word and the text after it
 behind_begin : (text : List ℕ) → is_begin text ≡ true → text ≡ begin_word ++ drop (length begin_word) text
 behind_begin text is =
     let front : begin_word ≡ take (length begin_word) text = same_bytes begin_word (take (length begin_word) text) is in
     sym (take-append-drop (length begin_word) text) ∙ ap (λ t. t ++ drop (length begin_word) text) (sym front)
 
--- a text that asks for a request is its line, whether it begins a journey or not
+-- a text that makes a request is its line, whether it begins a journey or not
 meant_by : (text : List ℕ) (request : Request) (begins : Bool) → is_begin text ≡ begins
     → (if begins then begin_meaning (plan_in (drop (length begin_word) text))
     else found_meaning (request_of_words (parts blank text))) ≡ Ok request
@@ -193,20 +193,20 @@ meant_by text request false is e =
     let found = was_found (request_of_words (parts blank text)) request e in
     subst (λ t. IsLineOf t request) again (words_read (parts blank text) request found)
 
--- so it is for each text
+-- the same for each text
 pub meant_is_line : (text : List ℕ) (request : Request) → text_meaning text ≡ Ok request → IsLineOf text request
 meant_is_line text request e = meant_by text request (is_begin text) refl e
 
--- From a line to what it means.
+-- From a line to its meaning.
 
--- two texts without blanks have none together
+-- two texts without blanks have none when joined
 append_no_blank : (x y : List ℕ) → has_no_blank x ≡ true → has_no_blank y ≡ true → has_no_blank (x ++ y) ≡ true
 append_no_blank [] y front back = back
 append_no_blank (b ∷ x) y front back =
     let both = and_parts (not (b == 32)) (has_no_blank x) front in
     and_from _ _ both.0 (append_no_blank x y both.1 back)
 
--- a text of digits, capitals and dashes has none
+-- a text of digits, capitals and dashes has no blank
 plain_no_blank : (text : List ℕ) → is_plain text ≡ true → has_no_blank text ≡ true
 plain_no_blank [] plain = refl
 plain_no_blank (b ∷ text) plain =
@@ -215,7 +215,7 @@ plain_no_blank (b ∷ text) plain =
     let here : not (b == 32) ≡ true = grind (arith, nat_tests) in
     and_from _ _ here (plain_no_blank text both.1)
 
--- neither has the text of a cell
+-- the text of a cell has no blank
 cell_no_blank : (x : Cell) → is_good_cell x ≡ true → has_no_blank (cell_text x) ≡ true
 cell_no_blank x good =
     let sound = is_sound x good in
@@ -226,31 +226,31 @@ cell_no_blank x good =
     (append_no_blank x.product _ (plain_no_blank x.product (code_plain x.product sound.product))
     (plain_no_blank night (night_plain x.night sound.night))))
 
--- nor the name of a batch
+-- the name of a batch has no blank
 name_no_blank : (name : List ℕ) → is_batch_name name ≡ true → has_no_blank name ≡ true
 name_no_blank name good =
     let words = words_no_blank (Loaded name 1) (and_from _ _ good refl) in
     (and_parts (has_no_blank name) _ (and_parts (has_no_blank (codes "loaded")) _ words).1).0
 
--- nor a number
+-- a number has no blank
 journey_no_blank : (id : ℕ) → IsTrue (is_journey id) → has_no_blank (decimal id) ≡ true
 journey_no_blank id good = number_lacks 32 1 most_events id (omega arith) (omega arith) good
 
--- a step of a journey
+-- the line of a step means that step
 step_again : (id : ℕ) → IsTrue (is_journey id) → text_meaning (step_line id) ≡ Ok (Step id)
 step_again id good =
     ap (λ words. found_meaning (request_of_words words))
     (parts_joined (codes "step") (decimal id ∷ []) (and_from _ _ (journey_no_blank id good) refl))
     ∙ ap (λ o. found_meaning (option_map Step o)) (number_spelled 1 most_events id (omega arith) good)
 
--- a save-point of it
+-- the line of a save-point means that save-point
 save_again : (id : ℕ) → IsTrue (is_journey id) → text_meaning (save_line id) ≡ Ok (Save id)
 save_again id good =
     ap (λ words. found_meaning (request_of_words words))
     (parts_joined (codes "save") (decimal id ∷ []) (and_from _ _ (journey_no_blank id good) refl))
     ∙ ap (λ o. found_meaning (option_map Save o)) (number_spelled 1 most_events id (omega arith) good)
 
--- a turn of it
+-- the line of a turn means that turn
 abort_again : (id position : ℕ) → IsTrue (is_journey id) → IsTrue (is_named_position position)
     → text_meaning (abort_line id position) ≡ Ok (Abort id position)
 abort_again id position good named =
@@ -261,7 +261,7 @@ abort_again id position good named =
     ∙ ap (λ o. found_meaning (abort_of o (position_in (decimal position)))) (number_spelled 1 most_events id (omega arith) good)
     ∙ ap (λ p. found_meaning (abort_of (Some id) p)) (number_spelled 0 most_named_position position (omega arith) named)
 
--- a load of one row
+-- the line of a load of one row means that load
 set_again : (name : List ℕ) (x : Cell) (places : ℕ) → is_batch_name name ≡ true → is_good_cell x ≡ true
     → nat_le places most_places ≡ true
     → text_meaning (set_line name x places) ≡ Ok (Load name (allotted x places ∷ []))
@@ -286,7 +286,7 @@ row_limits name row good =
     let one = and_parts (is_good_cell row.cell) (nat_le row.places most_places) (and_parts (is_good_row row) true both.1).0 in
     ((and_parts (is_batch_name name) true both.0).0, one.0, one.1)
 
--- the line of a request means it
+-- the line of a request means that request
 pub line_is_meant : (text : List ℕ) (request : Request) → IsLineOf text request → text_meaning text ≡ Ok request
 line_is_meant text (Load name []) is = absurd is
 line_is_meant text (Load name (row ∷ [])) is =

@@ -1,4 +1,4 @@
--- What a line means by what is kept of it, and which number a word spells. For what is to be done at a line.
+-- The meaning of a line, by what is kept of it, and the number that a word spells. For the order of a line.
 use Rattle.std.proofs.Common.{◌≡◌, ◌≢◌, ◌∙◌, ap, sym, subst, refl, ℕ, List, [], ◌∷◌, Bool, true, false, true≢false, length, arith, None}
 use Rattle.std.specs.Prelude.{Err, nat_le}
 use Rattle.std.specs.Str.{IsUtf8, is_utf8}
@@ -26,7 +26,7 @@ kept_text line text short kept = go (nat_le (length text) longest_line) refl kep
     go true is where_kept = (is, where_kept.1)
     go false is long = absurd (true≢false (sym long ∙ short))
 
--- a text that is no UTF-8 has no test that says so
+-- a text that is not UTF-8 fails the test for UTF-8
 not_utf8 : (text : List ℕ) → (IsUtf8 text → ⊥) → is_utf8 text ≡ false
 not_utf8 text other = go (is_utf8 text) refl
   where
@@ -34,7 +34,7 @@ not_utf8 text other = go (is_utf8 text) refl
     go true is = absurd (other (IsUtf8-from_is_utf8 text is))
     go false is = refl
 
--- what the text of a line means, the line means
+-- a line has the meaning of its text
 pub means_as_text : (line : Line) (read text : List ℕ) (meaning : Meaning)
     → line.is_long ≡ false
     → read ≡ line.kept.items
@@ -46,7 +46,7 @@ means_as_text line read text meaning short is utf8 means kept =
     let readable : is_readable text ≡ true = rw (facts.0) (is_utf8-from_IsUtf8 text (subst IsUtf8 same utf8)) in
     rw readable (means ∙ ap text_meaning same)
 
--- a line that is no text is a bad body
+-- a line that is not UTF-8 is malformed
 pub means_no_text : (line : Line) (read text : List ℕ)
     → line.is_long ≡ false
     → read ≡ line.kept.items
@@ -60,7 +60,7 @@ means_no_text line read text short is other kept =
 
 -- Words.
 
--- fewer than two words, and more than four, ask for nothing
+-- fewer than two words, and more than four, make no request
 pub other_words : (words : List (Bor (List ℕ))) → length words ≢ 2 → length words ≢ 3 → length words ≢ 4
     → None ≡ request_of_words (texts_of words)
 other_words [] two three four = refl

@@ -1,4 +1,4 @@
--- A run over lines goes on by one line, and stops at the end of the input or at a fault. For run_lines.
+-- A run over lines answers one line after another, until the input ends or a fault comes. For run_lines.
 use Rattle.std.proofs.Common.{◌≡◌, ◌∙◌, ap, sym, subst, refl, inl, ◌+◌, List, [], ◌∷◌, ◌++◌, ℕ, true, false, length, take, append_assoc, append-nil, length-append, Option, String, Global}
 use Rattle.std.specs.Prelude.{Some, None, Ok, Err}
 use Rattle.std.specs.String.{string_bytes}
@@ -17,7 +17,7 @@ use Rattle.protocols.specs.declared.faults.ServeFault.TheVariants.{Memory, Read,
 use Rattle.desk_lines.specs.declared.lines.Line.{Line}
 use Rattle.streams.proofs.ByteLemmas.{appends_more, appends_none, keeps_same}
 
--- Lists of lines and of their answers, each longer by one.
+-- Lists of lines and of their answers, with one appended.
 
 -- the state after one more line
 pub after_more : (s : State) (ls : List (List ℕ)) (line : List ℕ)
@@ -25,31 +25,31 @@ pub after_more : (s : State) (ls : List (List ℕ)) (line : List ℕ)
 after_more s [] line = refl
 after_more s (l ∷ ls) line = after_more (answer_line s l).after ls line
 
--- the answers with one more
+-- the answers to one more line
 answers_more : (s : State) (ls : List (List ℕ)) (line : List ℕ)
     → answer_lines s (ls ++ line ∷ []) ≡ answer_lines s ls ++ (answer_line (state_after_lines s ls) line).text ∷ []
 answers_more s [] line = refl
 answers_more s (l ∷ ls) line = ap (λ texts. (answer_line s l).text ∷ texts) (answers_more (answer_line s l).after ls line)
 
--- what is written for one more text
+-- the bytes for one more text
 written_more : (texts : List (List ℕ)) (text : List ℕ)
     → written (texts ++ text ∷ []) ≡ written texts ++ ended text
 written_more [] text = append-nil (ended text)
 written_more (t ∷ texts) text = ap (λ rest. ended t ++ rest) (written_more texts text) ∙ sym (append_assoc (ended t) (written texts) (ended text))
 
--- what is written for one more line
+-- the bytes for one more line
 written_for_more : (s : State) (ls : List (List ℕ)) (line : List ℕ)
     → written (answer_lines s (ls ++ line ∷ [])) ≡ written (answer_lines s ls) ++ ended (answer_line (state_after_lines s ls) line).text
 written_for_more s ls line = ap written (answers_more s ls line) ∙ written_more (answer_lines s ls) _
 
 -- Runs.
 
--- behind these lines come those of the bytes that are still to come
+-- the lines of the input are these, followed by those of the rest of the input
 abbrev pub ComesAfter : Option (List ℕ) → List ℕ → List (List ℕ) → Type 0
 ComesAfter None input answered = ⊥
 ComesAfter (Some left) input answered = lines input ≡ answered ++ lines left
 
--- so many lines were answered, and the others are still to come
+-- so many lines were answered, and the others are in the rest of the input
 pub record SoFar (x : Scene) (s : State) (input : List ℕ) (left : Option (List ℕ))
     (count : ℕ) : Type 0 where
   pub answered : List (List ℕ)
@@ -58,7 +58,7 @@ pub record SoFar (x : Scene) (s : State) (input : List ℕ) (left : Option (List
   pub counted : count ≡ length answered
   pub later : ComesAfter left input answered
 
--- at first, nothing was answered
+-- at first, no line was answered
 pub starts : (held : Option (List ℕ)) (stands : State → Type 0) (leaves : State → State → Type 0)
     (s : State) (input : List ℕ) (u : Unanswered)
     (known : Option (List ℕ)) → u.waiting ≡ [] → known ≡ Some input → stands s → SoFar (scene held held stands leaves) s input (to_come u known) 0
@@ -91,7 +91,7 @@ read_fails x s input (Some left) count Memory so_far of = record {
 read_fails x s input (Some left) count Store so_far of = absurd of
 read_fails x s input (Some left) count Write so_far of = absurd of
 
--- where there is no further line, all were answered
+-- where there is no further line, all lines were answered
 pub all_answered : (x : Scene) (s : State) (input : List ℕ) (left rest : Option (List ℕ))
     (count : ℕ) (line : Line)
     → SoFar x s input left count
@@ -106,7 +106,7 @@ all_answered x s input (Some left) (Some rest) count line so_far taken =
       counted = so_far.counted ∙ ap length (sym whole);
     }
 
--- the next line, with what comes behind it
+-- the next line, and the lines after it
 record HasNext (rest : Option (List ℕ)) (input : List ℕ) (answered : List (List ℕ))
     (line : Line) : Type 0 where
   pub text : List ℕ
@@ -115,7 +115,7 @@ record HasNext (rest : Option (List ℕ)) (input : List ℕ) (answered : List (L
   pub rest_is : rest ≡ Some left
   pub cut : lines input ≡ answered ++ text ∷ lines left
 
--- a line that was taken is the next one
+-- a line that was taken is the next line
 next_of : (x : Scene) (s : State) (input : List ℕ) (left rest : Option (List ℕ)) (count : ℕ)
     (line : Line) (so_far : SoFar x s input left count)
     → TakesLine left rest true line → HasNext rest input so_far.answered line
@@ -174,7 +174,7 @@ write_fails held holds now stands0 stands1 leaves0 leaves1 s input left rest cou
       leaves = (cut.0, appends_more held holds now (written (answer_lines s done)) (take cut.0 (ended text)) so_far.sent front, answered.1);
     }
 
--- what is left where the answer to a line failed
+-- the state where the answer to a line failed
 answer_leaves : (held holds : Option (List ℕ)) (stands : State → Type 0)
     (leaves : State → State → Type 0) (s : State) (answered : List (List ℕ))
     (line : List ℕ) (later : List (List ℕ))

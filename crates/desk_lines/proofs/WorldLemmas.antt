@@ -1,4 +1,4 @@
--- How a world goes on with the lines of an input. For run_lines.
+-- How an execution continues with the lines of an input. For run_lines.
 use Rattle.std.proofs.Common.{◌≡◌, ◌≤◌, ◌∙◌, ap, sym, subst, refl, inl, inr, arith, List, [], ◌∷◌, ◌++◌, ℕ, Bool, true, false, length, append_assoc, IsTrue}
 use Rattle.std.specs.Prelude.{Option, Some, None, Result, Ok, Err, IfOk, IfErr, IfSome, OnOk, if◌then◌else◌}
 use Rattle.commands.specs.Request.{Request, Load, Begin, Step, Abort, Stop, Save}
@@ -30,12 +30,12 @@ line_in_limits text (Abort id position) is = refl
 line_in_limits text (Stop id) is = absurd is
 line_in_limits text (Save id) is = refl
 
--- a line means what its text does where it can be read
+-- a line that can be read has the meaning of its text
 readable_means : (line : List ℕ) (readable : Bool) → readable ≡ is_readable line
     → (if readable then text_meaning line else Err BadBody) ≡ meaning_in line
 readable_means line readable is = ap (λ b. if b then text_meaning line else Err BadBody) is
 
--- what a line asks for keeps the limits
+-- the request of a line keeps the limits
 asked_in_limits : (line : List ℕ) (request : Request) (readable : Bool) → readable ≡ is_readable line
     → meaning_in line ≡ Ok request → IsTrue (is_request request)
 asked_in_limits line request true is means =
@@ -46,7 +46,7 @@ asked_in_limits line request false is means =
 limits_of : (line : List ℕ) (request : Request) → meaning_in line ≡ Ok request → IsTrue (is_request request)
 limits_of line request = asked_in_limits line request (is_readable line) refl
 
--- what lines ask for keeps the limits
+-- the requests of lines keep the limits
 meant-in_limits : (m : Meaning) (rest : Asks) → ((request : Request) → m ≡ Ok request → IsTrue (is_request request))
     → KeepLimits rest → KeepLimits (asks_meant m ++ rest)
 meant-in_limits (Ok request) rest limits all = (limits request refl, all)
@@ -56,21 +56,21 @@ in-limits : (ls : List (List ℕ)) → KeepLimits (asks_in ls)
 in-limits [] = tt
 in-limits (line ∷ ls) = meant-in_limits (meaning_in line) (asks_in ls) (limits_of line) (in-limits ls)
 
--- What lines ask for.
+-- The requests of lines.
 
--- lines and then others
+-- the requests of lines followed by other lines
 asks_in-append : (ls ms : List (List ℕ)) → asks_in (ls ++ ms) ≡ asks_in ls ++ asks_in ms
 asks_in-append [] ms = refl
 asks_in-append (line ∷ ls) ms =
     ap (λ l. asks_meant (meaning_in line) ++ l) (asks_in-append ls ms)
     ∙ sym (append_assoc (asks_meant (meaning_in line)) (asks_in ls) (asks_in ms))
 
--- one line asks for at most one thing
+-- one line makes at most one request
 one-meant : (m : Meaning) → length (asks_meant m ++ []) ≤ 1
 one-meant (Ok request) = omega arith
 one-meant (Err why) = omega arith
 
--- a line leads where what it asks for leads
+-- a line leads to the state to which its request leads
 leads-meant : (s : State) (m : Meaning) (rest : Asks)
     → state_after (answer_to s m).after rest ≡ state_after s (asks_meant m ++ rest)
 leads-meant s (Ok request) rest = refl
@@ -80,7 +80,7 @@ leads : (s : State) (ls : List (List ℕ)) → state_after_lines s ls ≡ state_
 leads s [] = refl
 leads s (line ∷ ls) = leads (answer_line s line).after ls ∙ leads-meant s (meaning_in line) (asks_in ls)
 
--- Worlds that go on.
+-- Executions that continue.
 
 -- all lines were answered
 all_go_on : {stood : State → Type 0} (x : Scene) (w : List Moment) (input : List ℕ) (count : ℕ)
@@ -91,7 +91,7 @@ all_go_on x w input count settled here all =
     ends-with x.stands x.leaves w (asks_in (lines input)) settled here (in-limits (lines input))
     (subst x.stands (leads (after start w) (lines input)) all.left)
 
--- these lines were carried out
+-- these lines were executed
 abbrev stops-after : {stood : State → Type 0} (x : Scene) (w : List Moment) (input : List ℕ)
     (carried later : List (List ℕ)) → ((u : State) → x.stands u → x.leaves u u)
     → StandsAtEnd stood w → lines input ≡ carried ++ later
@@ -102,7 +102,7 @@ stops-after x w input carried later settled here cut now =
     (ap asks_in cut ∙ asks_in-append carried later) (in-limits carried)
     (subst x.stands (leads (after start w) carried) now)
 
--- a line more
+-- one more line
 one-more : (input : List ℕ) (answered : List (List ℕ)) (line : List ℕ) (later : List (List ℕ))
     → lines input ≡ answered ++ line ∷ later → lines input ≡ (answered ++ line ∷ []) ++ later
 one-more input answered line later cut = cut ∙ sym (append_assoc answered (line ∷ []) later)
@@ -119,7 +119,7 @@ line-cut leaves s answered line left =
     subst (λ t. leaves t (state_after s (asks_in answered ++ asks_in (line ∷ [])))) (leads s answered)
     (subst (leaves (state_after_lines s answered)) (sym both) left)
 
--- what its requests are among
+-- the requests of all lines, by those of the answered lines, the next line and the later ones
 parted : (input : List ℕ) (answered : List (List ℕ)) (line : List ℕ) (later : List (List ℕ))
     → lines input ≡ answered ++ line ∷ later
     → asks_in (lines input) ≡ asks_in answered ++ asks_in (line ∷ []) ++ asks_in later
@@ -185,9 +185,9 @@ ends_by x w input Store answered (line ∷ later) settled here cut left = record
   under_way = refl;
 }
 
--- What a run answered, as a world.
+-- The result of a run, as an execution.
 
--- at Ok it goes on with all lines
+-- at Ok the execution continues with all lines
 pub lines_go_on : {stood : State → Type 0} (x : Scene) (known : Option (List ℕ)) (r : Result ℕ ServeFault)
     → ((u : State) → x.stands u → x.leaves u u)
     → ((s : State) → stood s → IfSome known (λ input. IfOk r (AnswersAll x s input)))
@@ -197,7 +197,7 @@ lines_go_on x (Some input) (Ok count) settled each =
     λ w here. all_go_on x w input count settled here (each (after start w) here.stands_there)
 lines_go_on x (Some input) (Err fault) settled each = tt
 
--- at a fault with a prefix of them
+-- at a fault it continues with a prefix of them
 pub lines_stop : {stood : State → Type 0} (x : Scene) (known : Option (List ℕ)) (r : Result ℕ ServeFault)
     → ((u : State) → x.stands u → x.leaves u u)
     → ((s : State) → stood s → IfSome known (λ input. IfErr r (AnswersSome x s input)))

@@ -1,4 +1,4 @@
--- What the answer to one line is, and where it leaves the book.
+-- The answer to one line, and the state of the book after it.
 use Rattle.std.specs.Prelude.{◌≡◌, ◌⊎◌, List, ℕ, Result, Ok, Err, String}
 use Rattle.std.specs.String.{string_bytes}
 use Rattle.ledger.specs.Answer.{State}
@@ -8,14 +8,14 @@ use Rattle.protocols.specs.declared.faults.ServeFault.{ServeFault}
 use Rattle.protocols.specs.declared.faults.ServeFault.TheVariants.{Memory, Store}
 
 module _ (stands : State → Type 0) (leaves : State → State → Type 0) (s : State) where
-  -- the text is this answer, and the book stands where it leads; or a fault came before or after
+  -- the text is this answer, and the book represents the state after it; or a fault came before the answer or after it
   abbrev pub Gives : {Z : Type 0} → Answered → Result (String Z) ServeFault → Type 0
   Gives answer (Ok text) = (string_bytes text ≡ ended answer.text) × stands answer.after
   Gives answer (Err Memory) = stands s ⊎ stands answer.after
   Gives answer (Err Store) = leaves s answer.after
   Gives answer (Err _) = ⊥
 
-  -- what was meant was answered, or a fault came
+  -- the meaning of a line was answered, or a fault came
   abbrev pub AnswersOrder : {Z : Type 0} → Meaning → Result (String Z) ServeFault → Type 0
   AnswersOrder meaning result = Gives (answer_to s meaning) result
 

@@ -1,29 +1,29 @@
--- What of the input is still to come, and what a line keeps of it.
+-- The input that is still unread or unanswered, and what a line keeps of it.
 use Rattle.std.specs.Prelude.{◌≡◌, ⊤, ℕ, ◌==◌, Bool, true, false, List, [], ◌∷◌, ◌++◌, length, nat_le, nat_lt, Option, Some, None, option_map}
 use Rattle.std.specs.List.{list_any}
 use Rattle.allotment.specs.Texts.{line_feed}
 use Rattle.desk_lines.specs.Lines.{lines, longest_line}
 use Rattle.desk_lines.specs.declared.lines.Line.{Line}
 
--- what was read and not yet given out, and how many bytes may still be read
+-- the bytes that were read and are buffered, and how many more bytes may be read
 pub record Unanswered : Type 0 where
   pub waiting : List ℕ
   pub left : ℕ
 
--- the line keeps the text, where a test says whether it is short enough
+-- the line keeps the text, where the text is short enough; otherwise it only records that it is too long
 abbrev pub KeepsWhere : Bool → Line → List ℕ → Type 0
 KeepsWhere true line text = (line.is_long ≡ false) × (line.kept.items ≡ text)
 KeepsWhere false line text = line.is_long ≡ true
 
--- the line keeps this text, or where it is too long only that it is
+-- the line keeps this text; or, if the text is too long, only that it is
 abbrev pub Keeps : Line → List ℕ → Type 0
 Keeps line text = KeepsWhere (nat_le (length text) longest_line) line text
 
--- the answer says whether the text that the line keeps has a byte
+-- the answer is whether the text of the line has a byte
 abbrev pub SaysIfAny : Line → Bool → Type 0
 SaysIfAny line answer = (text : List ℕ) → Keeps line text → answer ≡ nat_lt 0 (length text)
 
--- the text that a line keeps grew by this piece
+-- this piece was appended to the text that a line keeps
 abbrev pub KeepsMore : Line → Line → List ℕ → Type 0
 KeepsMore old new piece = (text : List ℕ) → Keeps old text → Keeps new (text ++ piece)
 
@@ -35,7 +35,7 @@ is_line_feed byte = byte == line_feed
 abbrev pub HasNoLineFeed : List ℕ → Type 0
 HasNoLineFeed piece = list_any is_line_feed piece ≡ false
 
--- a piece was taken from what was waiting, up to a line feed or, where there is none, all of it
+-- a piece was taken from the buffered bytes: those before a line feed, or all of them if there is none
 abbrev pub IsFront : Bool → List ℕ → List ℕ → List ℕ → Type 0
 IsFront true waiting piece rest = waiting ≡ piece ++ line_feed ∷ rest
 IsFront false waiting piece rest = (waiting ≡ piece) × (rest ≡ [])
@@ -47,16 +47,16 @@ pub record TakesPiece (found : Bool) (waiting rest : List ℕ) (old new : Line) 
   pub front : IsFront found waiting piece rest
   pub kept : KeepsMore old new piece
 
--- the bytes that are still to come: those that are waiting, and those that the reader has left
+-- the rest of the input: the buffered bytes, and those that the reader has left
 abbrev pub to_come : Unanswered → Option (List ℕ) → Option (List ℕ)
 to_come unread left = option_map (λ bytes. unread.waiting ++ bytes) left
 
--- a first line was taken from the bytes to come, or there was none
+-- the first line was taken from the input, or the input has no line
 abbrev pub LineOf : Bool → List ℕ → List ℕ → Line → Type 0
 LineOf true input rest line = (text : List ℕ) × Keeps line text × (lines input ≡ text ∷ lines rest)
 LineOf false input rest line = lines input ≡ []
 
--- the same, where the bytes to come are known
+-- the same, where the rest of the input is known
 abbrev pub TakesLine : Option (List ℕ) → Option (List ℕ) → Bool → Line → Type 0
 TakesLine None left found line = ⊤
 TakesLine (Some input) None found line = ⊥

@@ -1,4 +1,4 @@
--- What a run over the lines of a reader did: what it wrote, and where it left the book.
+-- The result of a run over the lines of a reader: what it wrote, and the state of the book after it.
 use Rattle.std.specs.Prelude.{◌≡◌, ◌⊎◌, ℕ, List, [], ◌∷◌, ◌++◌, length, take}
 use Rattle.ledger.specs.Answer.{State}
 use Rattle.protocols.specs.Scenes.{Scene, Wrote}
@@ -11,25 +11,25 @@ use Rattle.protocols.specs.declared.faults.ServeFault.TheVariants.{Memory, Store
 abbrev pub WroteAll : Scene → State → List (List ℕ) → Type 0
 WroteAll x s answered = Wrote x (written (answer_lines s answered))
 
--- all lines of the input were answered, and the book stands where they lead
+-- all lines of the input were answered, and the book represents the state after them
 pub record AnswersAll (x : Scene) (s : State) (input : List ℕ) (count : ℕ) : Type 0 where
   pub sent : WroteAll x s (lines input)
   pub left : x.stands (state_after_lines s (lines input))
   pub counted : count ≡ length (lines input)
 
--- there is a next line, and this holds of it
+-- there is a next line, for which this holds
 abbrev pub ForNext : List (List ℕ) → (List ℕ → Type 0) → Type 0
 ForNext [] So = ⊥
 ForNext (line ∷ later) So = So line
 
--- besides, a beginning of the answer to this line was written, and the book stands where it leads
+-- besides, a prefix of the answer to this line was written, and the book represents the state after the line
 abbrev pub IsCut : Scene → State → List (List ℕ) → List ℕ → Type 0
 IsCut x s answered line =
     let answer = answer_line (state_after_lines s answered) line in
     (part : ℕ) × Wrote x (written (answer_lines s answered) ++ take part (ended answer.text))
     × x.stands answer.after
 
--- what each fault leaves, where these lines were answered and these come later
+-- the state at each fault, where these lines were answered and these follow
 abbrev pub Leaves : ServeFault → Scene → State → List (List ℕ) → List (List ℕ) → Type 0
 Leaves Read x s answered later = WroteAll x s answered × x.stands (state_after_lines s answered)
 Leaves Write x s answered later = ForNext later (IsCut x s answered)
@@ -41,7 +41,7 @@ Leaves Store x s answered later =
     let t = state_after_lines s answered in
     WroteAll x s answered × ForNext later (λ line. x.leaves t (answer_line t line).after)
 
--- the first lines of the input were answered, and then came a fault
+-- a prefix of the lines was answered, and then a fault came
 pub record AnswersSome (x : Scene) (s : State) (input : List ℕ) (fault : ServeFault) : Type 0 where
   pub answered : List (List ℕ)
   pub later : List (List ℕ)

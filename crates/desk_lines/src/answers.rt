@@ -12,7 +12,7 @@ use protocols::ServeFault;
 use saga_core::Book;
 use std::alloc::Global;
 
-/// Answers a line, for the house: the text of the answer, with a line feed behind it.
+/// Answers a line of the house. Returns the text of the answer, with a line feed at its end.
 pub(crate) fn answer<B: Book>(
     alloc: Global,
     line: &Line,
@@ -33,7 +33,7 @@ pub(crate) fn answer<B: Book>(
     carry_out(alloc, &order, book)
 }
 
-/// Carries an order out, and gives the text of the answer, with a line feed behind it.
+/// Executes an order. Returns the text of the answer, with a line feed at its end.
 fn carry_out<B: Book>(alloc: Global, order: &Order, book: &mut B) -> Result<String, ServeFault>
     ensures answer { B.is_sound book.new → (s : State) → B.stands book.old s →
         AnswersOrder (B.stands book.new) (B.leaves book.new) s (meaning_of order.now) result }

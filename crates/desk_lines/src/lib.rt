@@ -1,9 +1,9 @@
-//! The desk by lines: what a line asks for, and the line that answers it.
+//! The desk by lines: the request that a line makes, and the line that answers it.
 //!
 //! `run_lines` answers the lines of a reader over a book: it writes the answers of all lines, in order, and nothing
 //! else.
 //!
-//! Words: an *order* is what is to be done at a line, which is a command or a refusal.
+//! Words: an *order* is what a line is read as: a command, or a refusal.
 #![tactic(auto)]
 
 mod answers;

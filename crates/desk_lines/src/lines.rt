@@ -4,7 +4,7 @@ ghost use Rattle.desk_lines.specs.Reading.{Keeps, KeepsMore, SaysIfAny};
 
 use std::alloc::{AllocError, Global};
 
-/// How many bytes a line may have, without its line feed.
+/// The most bytes that a line may have, without its line feed.
 pub(crate) const LONGEST_LINE: usize = 8192;
 
 /// One line, without its line feed: its bytes, or only that it is too long.
@@ -16,7 +16,7 @@ pub(crate) struct Line {
 }
 
 impl Line {
-    /// A line of no bytes.
+    /// An empty line.
     pub(crate) fn new(alloc: Global) -> Line
         ensures { Keeps result [] }
     {
@@ -26,7 +26,7 @@ impl Line {
         }
     }
 
-    /// Forgets the line, for the next one.
+    /// Empties the line, for the next one.
     pub(crate) fn clear(&mut self)
         ensures { Keeps self.new [] }
     {
@@ -41,7 +41,7 @@ impl Line {
         self.is_long || !self.kept.is_empty()
     }
 
-    /// Adds a piece at the end.
+    /// Appends a piece. A line that becomes too long keeps only that it is. The only fault is out of memory.
     pub(crate) fn add(&mut self, piece: &[u8]) -> Result<(), AllocError>
         ensures { OnOk result (KeepsMore self.old self.new piece.now) }
     {

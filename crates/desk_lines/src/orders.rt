@@ -1,4 +1,4 @@
-//! What is to be done at one line.
+//! The order of one line.
 ghost use Rattle.std.specs.Prelude.{◌≡◌, List, ℕ, IfOk, IfErr};
 ghost use Rattle.allotment.specs.Texts.{blank, parts, cell_in, places_in};
 ghost use Rattle.commands.specs.Orders.{request_of};
@@ -21,14 +21,14 @@ use protocols::ServeFault;
 use std::alloc::{AllocError, Global};
 use std::str;
 
-/// What is to be done at a line: a command, or a refusal.
+/// The order of a line: a command, or a refusal.
 #[derive(Drop)]
 pub(crate) enum Order {
     Do(Command),
     Refuse(Refusal),
 }
 
-/// What is to be done at a line.
+/// The order of a line.
 pub(crate) fn order_of(alloc: Global, line: &Line) -> Result<Order, ServeFault>
     ensures order { IfOk result (λ order. (text : List ℕ) → Keeps line.now text →
         meaning_of order ≡ meaning_in text) }
@@ -43,7 +43,7 @@ pub(crate) fn order_of(alloc: Global, line: &Line) -> Result<Order, ServeFault>
     }
 }
 
-/// What is to be done at a line that can be read.
+/// The order of a line that is short enough and UTF-8. The only fault is out of memory.
 fn order_of_text(alloc: Global, text: &str) -> Result<Order, ServeFault>
     ensures order { IfOk result (λ order. meaning_of order ≡ text_meaning text.now) }
     ensures memory { IfErr result (λ fault. fault ≡ ServeFault.Memory) }
@@ -54,7 +54,7 @@ fn order_of_text(alloc: Global, text: &str) -> Result<Order, ServeFault>
     }
 }
 
-/// A journey is begun by its plan's line, and a bad line is refused.
+/// The order of a plan's line, which begins a journey. A bad plan is refused. The only fault is out of memory.
 fn order_of_plan(alloc: Global, text: &str) -> Result<Order, ServeFault>
     ensures order { IfOk result (λ order. meaning_of order ≡ begin_meaning (plan_in text.now)) }
     ensures memory { IfErr result (λ fault. fault ≡ ServeFault.Memory) }
@@ -66,7 +66,7 @@ fn order_of_plan(alloc: Global, text: &str) -> Result<Order, ServeFault>
     }
 }
 
-/// What is to be done at a line of words with a blank between each two.
+/// The order of a line of words with a blank between each two. The only fault is out of memory.
 fn order_of_words(alloc: Global, text: &str) -> Result<Order, ServeFault>
     ensures order { IfOk result (λ order.
         meaning_of order ≡ found_meaning (request_of_words (parts blank text.now))) }
@@ -79,14 +79,14 @@ fn order_of_words(alloc: Global, text: &str) -> Result<Order, ServeFault>
     }
 }
 
-/// The words of a line, between its blanks.
+/// The words of a line, split at each blank.
 fn words_of(alloc: Global, text: &str) -> Result<Vec<&str>, AllocError>
     ensures words { IfOk result (λ words. texts_of words.items ≡ parts blank text.now) }
 {
     text.split(' ').collect(alloc)
 }
 
-/// The command that words ask for, if they ask for one.
+/// The command that the words make. Returns `None` if they make none.
 fn command_of(alloc: Global, words: &[&str]) -> Result<Option<Command>, AllocError>
     ensures command { IfOk result (λ command.
         request_if_any command ≡ request_of_words (texts_of words.now)) }
@@ -99,7 +99,7 @@ fn command_of(alloc: Global, words: &[&str]) -> Result<Option<Command>, AllocErr
     }
 }
 
-/// What a word asks of a journey: a step or a save-point.
+/// The command of a verb and a journey: a step or a save-point.
 fn two_in(verb: &str, id: &str) -> Option<Command>
     ensures two { request_if_any result ≡ request_of_two verb.now id.now }
 {
@@ -110,7 +110,7 @@ fn two_in(verb: &str, id: &str) -> Option<Command>
     }
 }
 
-/// What a word asks of a journey and a position: a turn.
+/// The command of a verb, a journey and a position: a turn.
 fn three_in(verb: &str, id: &str, position: &str) -> Option<Command>
     ensures three { request_if_any result ≡ request_of_three verb.now id.now position.now }
 {
@@ -120,7 +120,7 @@ fn three_in(verb: &str, id: &str, position: &str) -> Option<Command>
     }
 }
 
-/// What a word asks of a name, a cell and places: a load.
+/// The command of a verb, a name, a cell and places: a load.
 fn four_in(
     alloc: Global,
     verb: &str,
@@ -176,14 +176,14 @@ fn row_of(cell: &str, places: &str) -> Option<Row>
     Some(Row::new(cell, places as u32))
 }
 
-/// The journey that a word names.
+/// The number of a journey in a word. Returns `None` if the word is no number of a journey.
 pub fn journey_in(word: &str) -> Option<u64>
     ensures journey { result ≡ journey_of word.now }
 {
     number_between(word, 1, MOST_EVENTS as usize).map(|id| id as u64)
 }
 
-/// The position that a word names.
+/// The position in a word. Returns `None` if the word is no position that a line may name.
 fn position_in(word: &str) -> Option<usize>
     ensures position { result ≡ position_of word.now }
 {

@@ -1,4 +1,4 @@
-//! Runs over the lines of a reader, which a desk that is recovered answers.
+//! Runs over the lines of a reader, answered by a recovered desk.
 ghost use Rattle.std.specs.Prelude.{◌≡◌, IfOk, IfErr, IfSome, IsErrOf, IsTrue, OnOk};
 ghost use Rattle.std.specs.Io.KnownBytes.{IsAtEnd};
 ghost use Rattle.ledger.specs.Answer.{State};
@@ -19,9 +19,10 @@ use std::alloc::Global;
 use std::io::{Read, Write};
 use streams::send;
 
-/// Answers the lines of a reader, each by one line, and says how many there were.
+/// Answers the lines of a reader, each by one line, and returns how many there were.
 ///
-/// Each answer is written out and flushed before the next line is looked at.
+/// Each answer is written and flushed before the next line is read. Errors report that reading, writing, memory or the
+/// store failed.
 pub fn run_lines<R: Read, W: Write, B: Book>(
     alloc: Global,
     reader: &mut R,
@@ -56,7 +57,7 @@ pub fn run_lines<R: Read, W: Write, B: Book>(
     answer_input(alloc, reader, writer, book)
 }
 
-/// The same over any book.
+/// Does the same over any book.
 fn answer_input<R: Read, W: Write, B: Book>(
     alloc: Global,
     reader: &mut R,

@@ -1,4 +1,4 @@
-//! What was read of the input and is not yet answered.
+//! Input that was read and is buffered.
 ghost use Rattle.std.specs.Prelude.{◌≡◌, ◌<◌, [], position, true, false, IfOk, IfErr, OnOk};
 ghost use Rattle.std.specs.Io.KnownBytes.{Consumes, IsAtEnd};
 ghost use Rattle.desk_lines.specs.Reading.{is_line_feed, TakesLine, TakesPiece, to_come};
@@ -11,17 +11,17 @@ use std::io::Read;
 use std::marker::Model;
 use streams::read_some;
 
-/// How many bytes are read at once, at most.
+/// The most bytes that are read at once.
 const CHUNK: usize = 8192;
 
-/// What was read and is not yet answered, and how many bytes may still be read.
+/// The bytes that were read and are buffered, and how many more bytes may be read.
 #[derive(Drop)]
 pub(crate) struct Unread {
-    /// Where bytes are read into.
+    /// The buffer into which bytes are read.
     chunk: Vec<u8>,
-    /// The first byte that waits.
+    /// Where the buffered bytes start in `chunk`.
     from: usize,
-    /// Where the bytes that wait end.
+    /// Where the buffered bytes end in `chunk`.
     to: usize,
     left: u64,
 }
@@ -39,7 +39,7 @@ impl Model for Unread {
 }
 
 impl Unread {
-    /// Nothing was read, and 2^64 - 1 bytes may be.
+    /// Nothing is buffered, and 2^64 - 1 bytes may be read.
     pub(crate) fn new(alloc: Global) -> Result<Unread, AllocError>
         ensures { IfOk result (λ unread. unread.waiting ≡ []) }
     {
@@ -51,7 +51,7 @@ impl Unread {
         })
     }
 
-    /// Takes the next line, and says whether there is one.
+    /// Takes the next line. Returns false if the input has ended.
     pub(crate) fn next_line<R: Read>(
         &mut self,
         reader: &mut R,
@@ -75,7 +75,7 @@ impl Unread {
         }
     }
 
-    /// Takes what waits up to a line feed, or all of it, and says whether there was a line feed.
+    /// Takes the buffered bytes before a line feed, or all of them. Returns whether there was a line feed.
     fn take_piece(&mut self, line: &mut Line) -> Result<bool, AllocError>
         ensures piece { IfOk result (λ found.
             TakesPiece found self.old.waiting self.new.waiting line.old line.new) }
@@ -96,7 +96,7 @@ impl Unread {
         }
     }
 
-    /// Reads more in the place of what waited, and says whether there was any.
+    /// Reads more bytes in place of the buffered ones. Returns false at the end of the input.
     fn fill<R: Read>(&mut self, reader: &mut R) -> Result<bool, ServeFault>
         ensures bytes { OnOk result
             (Consumes (R.remaining reader.old) (R.remaining reader.new) self.new.waiting) }
@@ -119,7 +119,7 @@ impl Unread {
     }
 }
 
-/// Where the first line feed stands.
+/// The index of the first line feed.
 fn line_feed_in(bytes: &[u8]) -> Option<usize>
     ensures { result ≡ position is_line_feed bytes.now }
 {

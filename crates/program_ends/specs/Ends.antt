@@ -1,4 +1,4 @@
--- How the program ends, and what it tells.
+-- How the program ends, and what it prints at its end.
 use Rattle.std.specs.Prelude.{◌≡◌, ◌⊎◌, ⊤, ℕ, List, [], ◌∷◌, codes, decimal, Option, Result, Ok, Err}
 use Rattle.std.specs.String.{string_bytes}
 use Rattle.std.specs.Io.KnownBytes.{Keeps}
@@ -27,7 +27,7 @@ fault_number fault.Write = 25
 fault_number fault.File = 26
 fault_number fault.Net = 27
 
--- its name
+-- the name of a fault
 abbrev pub fault_name : ProgramFault → List ℕ
 fault_name fault.Memory = codes "Memory"
 fault_name fault.Store = codes "Store"
@@ -38,44 +38,44 @@ fault_name fault.Write = codes "Write"
 fault_name fault.File = codes "File"
 fault_name fault.Net = codes "Net"
 
--- a fault's line: `fault 17 Memory`
+-- the line of a fault: `fault 17 Memory`
 abbrev pub fault_line : ProgramFault → List ℕ
 fault_line f = ended (sentence (codes "fault" ∷ decimal (fault_number f) ∷ fault_name f ∷ []))
 
--- the fault of a run, as one of the program
+-- the fault of the program that represents the fault of a run
 abbrev pub fault_of_run : ServeFault → ProgramFault
 fault_of_run serve.Memory = fault.Memory
 fault_of_run serve.Store = fault.Store
 fault_of_run serve.Read = fault.Read
 fault_of_run serve.Write = fault.Write
 
--- the fault of a report, as one of the program
+-- the fault of the program that represents the fault of a report
 abbrev pub fault_of_report : ReportFault → ProgramFault
 fault_of_report report.Memory = fault.Memory
 fault_of_report report.Store = fault.Store
 fault_of_report report.Write = fault.Write
 
--- what was done ends the program well, or by its fault
+-- the end of a result: all was done, or its fault
 abbrev pub end_of_result : {T : Type 0} → Result T ProgramFault → End
 end_of_result (Ok done) = finish.Done
 end_of_result (Err f) = finish.Fault f
 
--- the first end, or where all was done, the second one
+-- the first end; or the second, if the first was done
 abbrev pub end_of_both : End → End → End
 end_of_both finish.Done after = after
 end_of_both first after = first
 
--- words that ask for no job end the program with the usage, or for want of memory
+-- the end of words without a job: the usage, or out of memory
 abbrev pub end_of_job : JobFault → End
 end_of_job (job.Usage text) = finish.Usage text
 end_of_job job.Memory = finish.Fault fault.Memory
 
--- what is printed where a word of the command line is not UTF-8
+-- the text that is printed if a word of the command line is not UTF-8
 abbrev pub not_text : List ℕ
 not_text =
     codes "error: invalid UTF-8 was detected in one or more arguments\n\nFor more information, try '--help'.\n"
 
--- the end is wrong usage, for which this is printed; or there was no memory for the text
+-- the end is wrong usage, with this text; or out of memory for the text
 abbrev pub IsUsageFor : List ℕ → End → Type 0
 IsUsageFor text (finish.Usage shown) = string_bytes shown ≡ text
 IsUsageFor text (finish.Fault fault.Memory) = ⊤
@@ -88,33 +88,32 @@ status_of (finish.Refused refusal) = 1
 status_of (finish.Fault f) = 1
 status_of (finish.Usage text) = 2
 
--- a job ends so: it is not the usage that is told
+-- an end of a job: any but a usage
 abbrev pub EndsJob : End → Type 0
 EndsJob (finish.Usage text) = ⊥
 EndsJob _ = ⊤
 
--- a job ends so that not all was done
+-- an end of a job in which not all was done
 abbrev pub EndsBadly : End → Type 0
 EndsBadly finish.Done = ⊥
 EndsBadly e = EndsJob e
 
--- where all was done, this holds
+-- this holds if all was done
 abbrev pub IfDone : End → Type 0 → Type 0
 IfDone finish.Done So = So
 IfDone _ So = ⊤
 
--- what is told on standard output: a refusal alone
+-- the text on standard output: a refusal, or nothing
 abbrev pub told_out : End → List ℕ
 told_out (finish.Refused refusal) = ended (refusal_line refusal)
 told_out _ = []
 
--- nothing is told, or a fault
+-- nothing, or a prefix of the line of a fault, was written
 abbrev pub TellsNoneOrFault : Option (List ℕ) → Option (List ℕ) → Type 0
 TellsNoneOrFault held holds =
     Keeps held holds ⊎ ((f : ProgramFault) × WroteFront held holds (fault_line f))
 
--- what is told on standard error: a fault, the usage, or the fault that kept a refusal from being
--- told
+-- the text on standard error: a fault, a usage, or the fault because of which a refusal was not printed
 abbrev pub TellsError : End → Option (List ℕ) → Option (List ℕ) → Type 0
 TellsError finish.Done held holds = Keeps held holds
 TellsError (finish.Refused refusal) held holds = TellsNoneOrFault held holds

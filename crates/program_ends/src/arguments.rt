@@ -1,4 +1,4 @@
-//! How the program ends where the words of its command line cannot be read.
+//! The end of the program if the words of its command line cannot be read.
 ghost use Rattle.std.specs.Prelude.{◌≡◌, ◌≢◌};
 ghost use Rattle.program_ends.specs.Ends.{not_text, IsUsageFor};
 
@@ -7,11 +7,11 @@ use crate::faults::ProgramFault;
 use std::alloc::Global;
 use std::io::ErrorKind;
 
-/// What is printed where a word is not UTF-8.
+/// The text that is printed if a word is not UTF-8.
 const NOT_TEXT: &str =
     "error: invalid UTF-8 was detected in one or more arguments\n\nFor more information, try '--help'.\n";
 
-/// The end for an error of the words: a word that is not UTF-8 is wrong usage.
+/// The end for an error of the words. A word that is not UTF-8 is wrong usage.
 pub fn end_of_arguments(alloc: Global, error: ErrorKind) -> End
     ensures text { error ≡ ErrorKind.InvalidData → IsUsageFor not_text result }
     ensures memory { error ≡ ErrorKind.OutOfMemory → result ≡ End.Fault ProgramFault.Memory }

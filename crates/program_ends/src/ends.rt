@@ -1,6 +1,6 @@
-//! How the program ends: its exit status, and what it tells on its outputs.
+//! Ends of the program: exit statuses, and what is printed.
 //!
-//! A refusal is told on standard output; a fault, and the usage, on standard error.
+//! A refusal is printed on standard output; a fault, and the usage, on standard error.
 ghost use Rattle.std.specs.Prelude.{◌≡◌};
 ghost use Rattle.streams.specs.Written.{WroteFront};
 ghost use Rattle.commands.specs.Texts.{refusal_line};
@@ -15,16 +15,16 @@ use std::alloc::Global;
 use std::io::Write;
 use streams::send;
 
-/// How the program ends.
+/// An end of the program.
 #[derive(Debug, Drop)]
 pub enum End {
     /// All was done.
     Done,
-    /// What was asked is refused.
+    /// The request is refused.
     Refused(Refusal),
     /// A fault came.
     Fault(ProgramFault),
-    /// The words ask for no job; the text is for who wrote them.
+    /// The words have no job. The text is printed for the user.
     Usage(String),
 }
 
@@ -51,7 +51,7 @@ impl From<Result<(), ProgramFault>> for End {
 }
 
 impl End {
-    /// This end, or where all was done, how what came after it ended.
+    /// This end; or, if all was done, the end of what came after it.
     pub fn then(self, after: End) -> End
         ensures end { result ≡ end_of_both self after }
     {
@@ -72,9 +72,9 @@ impl End {
         }
     }
 
-    /// Tells the end on the outputs, and gives the exit status.
+    /// Prints the end on the outputs, and returns the exit status.
     ///
-    /// A refusal that cannot be told is a fault, which is told in its place.
+    /// If a refusal cannot be printed, the fault because of which is printed instead.
     pub fn tell<O: Write, E: Write>(&self, alloc: Global, out: &mut O, err: &mut E) -> u8
         ensures status { result ≡ status_of self.now }
         ensures out { WroteFront (O.contents out.old) (O.contents out.new) (told_out self.now) }
@@ -90,7 +90,7 @@ impl End {
     }
 }
 
-/// Tells a refusal, or the fault that keeps it from being told.
+/// Prints a refusal, or the fault because of which it could not be printed.
 fn tell_refusal<O: Write, E: Write>(alloc: Global, refusal: &Refusal, out: &mut O, err: &mut E)
     ensures out { WroteFront (O.contents out.old) (O.contents out.new)
         (ended (refusal_line refusal.now)) }
@@ -102,7 +102,7 @@ fn tell_refusal<O: Write, E: Write>(alloc: Global, refusal: &Refusal, out: &mut 
     }
 }
 
-/// Writes a refusal's line out, with a line feed behind it.
+/// Writes the line of a refusal, with a line feed at its end, and flushes it.
 fn send_refusal<O: Write>(alloc: Global, refusal: &Refusal, out: &mut O) -> Result<(), ServeFault>
     ensures front { WroteFront (O.contents out.old) (O.contents out.new)
         (ended (refusal_line refusal.now)) }
@@ -112,7 +112,7 @@ fn send_refusal<O: Write>(alloc: Global, refusal: &Refusal, out: &mut O) -> Resu
     Ok(send(out, line.as_bytes())?)
 }
 
-/// Tells a text. Where that fails, there is nothing left to tell it on.
+/// Prints a text. A failure of that is ignored, since no output is left to report it.
 fn tell_text<E: Write>(text: &str, err: &mut E)
     ensures front { WroteFront (E.contents err.old) (E.contents err.new) text.now }
 {

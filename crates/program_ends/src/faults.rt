@@ -10,13 +10,13 @@ use reports::ReportFault;
 /// A fault that ends the program.
 #[derive(Clone, Copy, Debug, PartialEq, Eq)]
 pub enum ProgramFault {
-    /// Memory ran out.
+    /// Out of memory.
     Memory,
     /// The store failed.
     Store,
     /// The store cannot be opened.
     OpeningStore,
-    /// Memory ran out while the store was opened.
+    /// Out of memory while the store was opened.
     OpeningMemory,
     /// The input cannot be read.
     Read,
@@ -59,7 +59,7 @@ impl ProgramFault {
         }
     }
 
-    /// The fault's line, with a line feed. It takes no memory, so that want of memory can be told.
+    /// The fault's line, with a line feed. Allocates nothing, so that out of memory can be reported.
     pub fn line(self) -> &'static str
         ensures line { result.now ≡ fault_line self }
     {

@@ -2,7 +2,7 @@
 use Rattle.std.proofs.Common.{◌≡◌, refl, List, ℕ, Option}
 use Rattle.std.specs.Prelude.{Some, None, IfSome}
 
--- to prove a fact of known bytes, an equation for them may be assumed
+-- a fact of known bytes may be proved for the bytes that they equal
 pub for_known : (known : Option (List ℕ)) (So : List ℕ → Type 0)
     → ((input : List ℕ) → known ≡ Some input → So input) → IfSome known So
 for_known None So each = tt

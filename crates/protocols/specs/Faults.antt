@@ -5,7 +5,7 @@ use Rattle.commands.specs.declared.faults.Fault.TheVariants as fault
 use Rattle.protocols.specs.declared.faults.ServeFault.{ServeFault}
 use Rattle.protocols.specs.declared.faults.ServeFault.TheVariants.{Memory, Store, Read}
 
--- the fault of a book as a fault of a run
+-- the fault of a run that represents a fault of a book
 abbrev pub served_fault : Fault → ServeFault
 served_fault fault.Memory = Memory
 served_fault fault.Store = Store

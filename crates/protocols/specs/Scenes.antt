@@ -1,10 +1,10 @@
--- What a run over a reader and a writer is held against: what it wrote, and for which states the book stands.
+-- The writer and the book of a run, by which contracts say what it wrote and which states the book represents.
 use Rattle.std.specs.Prelude.{ℕ, List, [], ◌∷◌, ◌++◌, Option}
 use Rattle.std.specs.Io.KnownBytes.{Appends}
 use Rattle.allotment.specs.Texts.{line_feed}
 use Rattle.ledger.specs.Answer.{State}
 
--- what a writer held and holds, for which states a book stands, and what a stop may leave of it
+-- the bytes of a writer before and after a run, the states that a book represents, and what a crash may leave of it
 pub record Scene : Type 1 where
   pub held : Option (List ℕ)
   pub holds : Option (List ℕ)

@@ -17,7 +17,7 @@ returns-in-Run-clause-job c =
       values = read (codes "FILE") _ c.in_ok-matches.ensures.rows c.in_ok-file.ensures.value;
     }
 
--- the numbers that are read are those that the matches name
+-- the numbers are those of the matches
 pub returns-in-Serve-clause-job : goal.returns-in-Serve-clause-job
 returns-in-Serve-clause-job c =
     let app = app_for c.args.subcommand in
@@ -44,7 +44,7 @@ returns-in-Serve-clause-taken c = λ _.
     (ap (number_named most_port) (value_in-matches app words m (codes "PORT") rows) ∙ c.in_ok-port-in-Serve.ensures.number)
     (ap (number_named most_connections) (value_in-matches app words m (codes "N") rows) ∙ c.in_ok-connections-in-Serve.ensures.number)
 
--- a usage is given for a port only where none is named
+-- a usage is returned for a port only where no port is given
 pub returns-in_err-port-in-Serve-clause-usage : goal.returns-in_err-port-in-Serve-clause-usage
 returns-in_err-port-in-Serve-clause-usage c = λ usage.
     let app = app_for c.args.subcommand in
@@ -55,7 +55,7 @@ returns-in_err-port-in-Serve-clause-usage c = λ usage.
     (ap (number_named most_port) (value_in-matches app words m (codes "PORT") c.in_ok-matches.ensures.rows)
     ∙ c.in_err-port-in-Serve.ensures.usage (subst IsUsage (failed.1 ∙ ap Err failed.2) usage))
 
--- and so for a number of connections
+-- a usage is returned for a number of connections only where none is given
 pub returns-in_err-connections-in-Serve-clause-usage : goal.returns-in_err-connections-in-Serve-clause-usage
 returns-in_err-connections-in-Serve-clause-usage c = λ usage.
     let app = app_for c.args.subcommand in

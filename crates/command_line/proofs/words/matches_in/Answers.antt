@@ -1,4 +1,4 @@
--- What a subcommand reads of the words is what the rules of clap give.
+-- The values that a subcommand reads from the words are those of clap's rules.
 use Rattle.std.proofs.Common.{◌≡◌, ◌∙◌, true, sym, ap, [], ◌∷◌, map, refl, inl, inr, ◌≢◌}
 use Rattle.std.specs.String.{string_bytes}
 use Rattle.clap.specs.Words.{HasKind, Kinds, IsAmong, app_of, fault_of, matches_of, is_simple, is_simple_and_free, kind_of}
@@ -33,12 +33,12 @@ is_free Unfinished = refl
 is_free History = refl
 is_free Migrate = refl
 
--- a kind that stands in a list of kinds shows that there is one
+-- a list that has a kind is not empty
 kinds_there : (kind : ErrorKind) (kinds : Kinds) → IsAmong kind kinds → has_any kinds ≡ true
 kinds_there kind [] none = absurd none
 kinds_there kind (k ∷ more) among = refl
 
--- where memory did not run out, an error of clap has one of the kinds
+-- unless memory ran out, an error of clap has one of the kinds
 kinds_of_error : (e : Error) (kinds : Kinds) → HasKind kinds e → kind_of e ≢ OutOfMemory → has_any kinds ≡ true
 kinds_of_error e kinds (inl memory) other = absurd (other memory)
 kinds_of_error e kinds (inr among) other = kinds_there (kind_of e) kinds among
@@ -50,14 +50,14 @@ returns-in-Ok-clause-rows c =
     (c.in-Ok.ensures.matches (ap is_simple is_app ∙ is_exact c.args.subcommand)).0
     ∙ ap (λ app. matches_of app (map string_bytes c.args.words.now)) is_app
 
--- clap refuses nothing where it gives matches
+-- where clap returns matches, it refuses nothing
 pub returns-in-Ok-clause-taken : goal.returns-in-Ok-clause-taken
 returns-in-Ok-clause-taken c = λ _.
     let is_app = c.in_ok-command.ensures.app in
     let words = map string_bytes c.args.words.now in
     ap (λ kinds. has_any kinds) (ap (λ app. fault_of app words) (sym is_app) ∙ c.in-Ok.ensures.kinds (ap is_simple_and_free is_app ∙ is_free c.args.subcommand))
 
--- an error that is not want of memory is a refusal
+-- an error other than out of memory is a refusal
 pub returns-in-Err-clause-usage : goal.returns-in-Err-clause-usage
 returns-in-Err-clause-usage c = λ text.
     let is_app = c.in_ok-command.ensures.app in

@@ -1,4 +1,4 @@
--- A message gets the page of what comes of it.
+-- A message gets the page that reports its outcome.
 use Rattle.std.proofs.Common.{subst}
 use Rattle.std.proofs.lemmas.Result.{err_from_is_err_and}
 use Rattle.http_messages.specs.Requests.{IsTaken}

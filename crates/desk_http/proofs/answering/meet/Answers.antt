@@ -1,4 +1,4 @@
--- What is shown changes nothing.
+-- A view changes nothing.
 use Rattle.std.proofs.Common.{subst, sym}
 use Rattle.desk_http.specs.Answering.{Meets}
 use Rattle.desk_http.specs.DemandValues.{demand_said}

@@ -1,4 +1,4 @@
--- What is denied changes nothing.
+-- A denied request changes nothing.
 use Rattle.std.proofs.Common.{◌∙◌, sym, subst}
 use Rattle.std.specs.Prelude.{Err}
 use Rattle.desk_http.specs.Demands.{demand_of}

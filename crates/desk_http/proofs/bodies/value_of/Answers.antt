@@ -1,4 +1,4 @@
--- A body that is no text is no value.
+-- A body that is not UTF-8 is no value.
 use Rattle.std.proofs.Common.{refl, sym}
 use Rattle.std.proofs.lemmas.Str.{is_utf8-from_IsUtf8}
 use Rattle.http_pages.proofs.TextLemmas.{not_utf8}

@@ -1,4 +1,4 @@
--- A body that is refused asks for nothing.
+-- A body that is refused makes no demand.
 use Rattle.std.proofs.Common.{subst, sym}
 use Rattle.std.specs.Prelude.{Err}
 use Rattle.std.proofs.lemmas.Result.{err_from_is_err_and}

@@ -1,9 +1,9 @@
--- What was served is how the world goes on.
+-- The result of serving says how the execution continues.
 use Rattle.protocols.specs.Scenes.{scene}
 use Rattle.desk_http.proofs.WorldLemmas.{messages_go_on, messages_stop}
 use Rattle.desk_http.proofs.serving.serve.Goals as goal
 
--- with all messages
+-- it continues with all messages
 pub returns-clause-world : goal.returns-clause-world
 returns-clause-world g c = λ sound.
     let book = g.B.Book in
@@ -14,7 +14,7 @@ returns-clause-world g c = λ sound.
     (g.R.Read.remaining c.args.reader.now) _ (g.met.B.Book.settled c.serve_book.new.book)
     (c.serve_book.ensures.all sound)
 
--- or with a prefix of them
+-- it continues with a prefix of the messages
 pub returns-clause-world_at_fault : goal.returns-clause-world_at_fault
 returns-clause-world_at_fault g c = λ sound.
     let book = g.B.Book in

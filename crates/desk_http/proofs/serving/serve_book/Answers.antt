@@ -1,4 +1,4 @@
--- A connection is served message by message, up to a closing page, the end of the input or a fault.
+-- A connection is served message by message, until a closing page, the end of the input or a fault.
 use Rattle.std.proofs.Common.{subst, sym}
 use Rattle.std.specs.Io.KnownBytes.{Appends}
 use Rattle.std.proofs.lemmas.Result.{err_from_is_err_and}
@@ -11,7 +11,7 @@ use Rattle.protocols.proofs.KnownLemmas.{for_known}
 use Rattle.desk_http.proofs.ServeLemmas.{all_answered, answer_fails, closes_all, goes_on, starts, stays_on, stops, write_fails}
 use Rattle.desk_http.proofs.serving.serve_book.Goals as goal
 
--- nothing was answered yet
+-- no message was answered
 pub loop-pages-init : goal.loop-pages-init
 loop-pages-init g c = record {
   sound = λ sound. sound;

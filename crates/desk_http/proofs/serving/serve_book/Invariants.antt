@@ -7,7 +7,7 @@ use Rattle.protocols.specs.Scenes.{scene}
 use Rattle.desk_http.proofs.ServeLemmas.{SoFar}
 use Rattle.desk_http.proofs.serving.serve_book.Given as goal
 
--- the messages so far were answered, and the others are still to come
+-- the messages so far were answered, and the others are in the rest of the input
 abbrev pub invariant-loop-pages : goal.invariant-loop-pages
 invariant-loop-pages g l =
     let book = g.B.Book in

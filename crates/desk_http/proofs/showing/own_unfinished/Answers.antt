@@ -6,7 +6,7 @@ use Rattle.desk_http.proofs.UnfinishedLemmas.{own_above, own_at_first, own_at_la
 use Rattle.desk_http.proofs.showing.own_unfinished.Goals as goal
 use Rattle.desk_http.proofs.showing.own_unfinished.Goals.{then-eq+in_ok-push, else-eq}
 
--- none was looked at
+-- no journey was examined
 pub loop-round-init : goal.loop-round-init
 loop-round-init g c = record {
   sound = λ sound. sound;
@@ -17,7 +17,7 @@ loop-round-init g c = record {
       ap (λ before. before ++ own_above s.ledger c.args.agent 0) c.new-briefs.ensures.items ∙ own_at_first s.ledger c.args.agent;
 }
 
--- none is left
+-- no journey is left
 pub returns-in_default-clause-briefs : goal.returns-in_default-clause-briefs
 returns-in_default-clause-briefs g c = λ sound s stood.
     let at = c.loop-round in
@@ -28,7 +28,7 @@ returns-in_default-clause-briefs g c = λ sound s stood.
       c.in_ok-brief.ensures.same sound s here,
     )
 
--- one more was looked at
+-- one more journey was examined
 pub loop-round-preserved : goal.loop-round-preserved
 loop-round-preserved g c =
     let at = c.loop-round in

@@ -6,7 +6,7 @@ use Rattle.desk_http.specs.Pages.{own_unfinished}
 use Rattle.desk_http.proofs.UnfinishedLemmas.{own_above}
 use Rattle.desk_http.proofs.showing.own_unfinished.Given as goal
 
--- the agent's own so far, and then those above the last one that was looked at
+-- the agent's own journeys so far, and then those above the last one that was examined
 abbrev pub invariant-loop-round : goal.invariant-loop-round
 invariant-loop-round g l =
     let book = g.B.Book in

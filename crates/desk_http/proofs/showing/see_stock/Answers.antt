@@ -1,4 +1,4 @@
--- The text of the report is what a writer that held nothing holds.
+-- The text of the report is what was written to an empty writer.
 use Rattle.std.proofs.Common.{◌∙◌, ◌++◌, ap, sym}
 use Rattle.http_pages.specs.Pages.{report_page}
 use Rattle.reports.specs.Layouts.{stock_report}

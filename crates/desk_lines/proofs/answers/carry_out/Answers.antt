@@ -1,4 +1,4 @@
--- A command that failed leaves what the book says.
+-- A command that failed leaves the states that the book's contract names.
 use Rattle.std.proofs.Common.{◌≡◌, ◌∙◌, ap, sym, subst, Global}
 use Rattle.std.specs.Prelude.{Err}
 use Rattle.std.proofs.lemmas.Result.{err_from_is_err_and}

@@ -1,9 +1,9 @@
--- Words that are too few or too many ask for nothing.
+-- Too few or too many words make no request.
 use Rattle.std.proofs.Common.{arith}
 use Rattle.desk_lines.proofs.OrderLemmas.{other_words}
 use Rattle.desk_lines.proofs.orders.command_of.Goals as goal
 
--- there are not two, three or four
+-- there are not two, three or four words
 pub returns-in_default : goal.returns-in_default
 returns-in_default c = record {
   command = other_words c.args.words.now (omega (arith, c.in_default)) (omega (arith, c.in_default)) (omega (arith, c.in_default));

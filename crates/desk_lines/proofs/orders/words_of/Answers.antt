@@ -4,7 +4,7 @@ use Rattle.std.proofs.lemmas.Iterator.Consumers.{map_from_collect}
 use Rattle.std.proofs.lemmas.Iterator.Splits.{YieldsList-from_str_split}
 use Rattle.desk_lines.proofs.orders.words_of.Goals as goal
 
--- what was collected is what was yielded
+-- the collected pieces are those that were yielded
 pub returns : goal.returns
 returns c =
     let split = c.split.ensures in

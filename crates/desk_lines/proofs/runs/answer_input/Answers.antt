@@ -1,4 +1,4 @@
--- A run over lines answers one after another, and stops at the end of the input or at a fault.
+-- A run over lines answers one line after another, until the input ends or a fault comes.
 use Rattle.std.proofs.Common.{sym, subst, refl, []}
 use Rattle.std.specs.Io.KnownBytes.{Appends}
 use Rattle.std.proofs.lemmas.Result.{err_from_is_err_and}
@@ -11,7 +11,7 @@ use Rattle.protocols.proofs.KnownLemmas.{for_known}
 use Rattle.desk_lines.proofs.ServeLemmas.{all_answered, answer_fails, goes_on, read_fails, starts, write_fails}
 use Rattle.desk_lines.proofs.runs.answer_input.Goals as goal
 
--- nothing was answered yet
+-- no line was answered
 pub loop-answered-init : goal.loop-answered-init
 loop-answered-init g c = record {
   sound = λ sound. sound;
@@ -44,7 +44,7 @@ loop-answered-preserved g c =
           (subst (Appends (contents at.writer) (contents c.send.new.writer)) c.as_bytes.ensures.value c.in_ok-send.ensures.sent);
     }
 
--- memory ran out before the first line
+-- out of memory before the first line
 pub returns-in_err-unread-clause-some : goal.returns-in_err-unread-clause-some
 returns-in_err-unread-clause-some g c = λ sound s stood.
     let book = g.B.Book in

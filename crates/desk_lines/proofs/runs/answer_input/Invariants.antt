@@ -7,7 +7,7 @@ use Rattle.protocols.specs.Scenes.{scene}
 use Rattle.desk_lines.proofs.ServeLemmas.{SoFar}
 use Rattle.desk_lines.proofs.runs.answer_input.Given as goal
 
--- the lines so far were answered, and the others are still to come
+-- the lines so far were answered, and the others are in the rest of the input
 abbrev pub invariant-loop-answered : goal.invariant-loop-answered
 invariant-loop-answered g l =
     let book = g.B.Book in

@@ -1,9 +1,9 @@
--- What was answered is how the world goes on.
+-- The result of a run says how the execution continues.
 use Rattle.protocols.specs.Scenes.{scene}
 use Rattle.desk_lines.proofs.WorldLemmas.{lines_go_on, lines_stop}
 use Rattle.desk_lines.proofs.runs.run_lines.Goals as goal
 
--- with all lines
+-- it continues with all lines
 pub returns-clause-world : goal.returns-clause-world
 returns-clause-world g c = λ sound.
     let book = g.B.Book in
@@ -14,7 +14,7 @@ returns-clause-world g c = λ sound.
     (g.R.Read.remaining c.args.reader.now) _ (g.met.B.Book.settled c.answer_input.new.book)
     (c.answer_input.ensures.all sound)
 
--- or with a prefix of them
+-- it continues with a prefix of the lines
 pub returns-clause-world_at_fault : goal.returns-clause-world_at_fault
 returns-clause-world_at_fault g c = λ sound.
     let book = g.B.Book in

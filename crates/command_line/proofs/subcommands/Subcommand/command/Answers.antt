@@ -78,7 +78,7 @@ returns-in-History c =
       each = IfOk-weaker c.arg-in-History.result _ _ (λ command added. (made command added).1) c.arg-in-History.ensures;
     }
 
--- the others have a file alone
+-- the others have only a file
 pub returns-in_default : goal.returns-in_default
 returns-in_default c =
     let s = c.args.self in

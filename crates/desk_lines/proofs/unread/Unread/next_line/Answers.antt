@@ -1,10 +1,10 @@
--- Pieces are taken until a line feed or the end of the input makes a line of them.
+-- Pieces are taken until a line feed or the end of the input completes a line.
 use Rattle.std.proofs.Common.{subst}
 use Rattle.desk_lines.specs.Reading.{TakesPiece, to_come}
 use Rattle.desk_lines.proofs.LineLemmas.{at_end, begun_more, line_ended, line_found}
 use Rattle.desk_lines.proofs.unread.Unread.next_line.Goals as goal
 
--- with a line feed the line is whole
+-- at a line feed the line is complete
 pub returns-then-branch-clause-line : goal.returns-then-branch-clause-line
 returns-then-branch-clause-line g c =
     let left = g.R.Read.remaining in
@@ -13,7 +13,7 @@ returns-then-branch-clause-line g c =
     line_found (to_come c.args.self.now (left c.args.reader.now)) u0 u1 (left c.loop-self.reader) c.loop-self.line c.take_piece.new.line c.loop-self.invariant
     (subst (λ b. TakesPiece b u0.waiting u1.waiting c.loop-self.line c.take_piece.new.line) c.if-branch.true c.in_ok-take_piece.ensures.piece)
 
--- the next piece goes on with the line
+-- the next piece continues the line
 pub loop-self-preserved : goal.loop-self-preserved
 loop-self-preserved g c =
     let left = g.R.Read.remaining in
@@ -24,7 +24,7 @@ loop-self-preserved g c =
     (subst (λ b. TakesPiece b u0.waiting u1.waiting c.loop-self.line c.take_piece.new.line) c.if-branch.false c.in_ok-take_piece.ensures.piece)
     c.in_ok-fill.ensures.bytes
 
--- at the end of the input, what was begun is a line unless it is empty
+-- at the end of the input, the text that was taken is a line unless it is empty
 pub returns-then-not-branch-clause-line : goal.returns-then-not-branch-clause-line
 returns-then-not-branch-clause-line g c =
     let left = g.R.Read.remaining in

@@ -1,11 +1,11 @@
--- The piece is what waited, up to a line feed or all of it.
+-- The piece is the buffered bytes before a line feed, or all of them.
 use Rattle.std.proofs.Common.{◌∙◌, ◌-◌, ℕ, List, ap, drop, subst, sym, take}
 use Rattle.std.specs.List.{position}
 use Rattle.desk_lines.specs.Reading.{is_line_feed, KeepsMore, Unanswered}
 use Rattle.desk_lines.proofs.LineLemmas.{takes_all, takes_front}
 use Rattle.desk_lines.proofs.unread.Unread.take_piece.Goals as goal
 
--- the front up to the line feed that was found
+-- the prefix before the line feed that was found
 pub returns-in_ok-add-in-Some-clause-piece : goal.returns-in_ok-add-in-Some-clause-piece
 returns-in_ok-add-in-Some-clause-piece c =
     let u = c.self.inside in
@@ -15,7 +15,7 @@ returns-in_ok-add-in-Some-clause-piece c =
     (sym (c.line_feed_in.ensures ∙ ap (λ items. position is_line_feed (seen items)) c.deref.ensures.value) ∙ c.in-Some.is)
     (subst (λ items. KeepsMore c.args.line.now c.add.new.self (take c.in-Some.at (seen items))) c.deref.ensures.value c.in_ok-add-in-Some.ensures)
 
--- all of it, where none was found
+-- all buffered bytes, where no line feed was found
 pub returns-in_ok-add-in-None-clause-piece : goal.returns-in_ok-add-in-None-clause-piece
 returns-in_ok-add-in-None-clause-piece c =
     let u = c.self.inside in

@@ -1,4 +1,4 @@
--- Each line is written out, its number in digits.
+-- Each line is a literal, with its number in digits.
 use Rattle.std.proofs.Common.{rules}
 use Rattle.std.specs.Fmt.{digits}
 use Rattle.program_ends.proofs.faults.ProgramFault.line.Goals as goal
