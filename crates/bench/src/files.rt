@@ -1,11 +1,11 @@
-//! How fast an allotment file of 2,000 rows is read as a batch, beside reading its records alone.
+//! How fast an allotment file of 2,000 rows is read as a batch, compared with reading only its records.
 use allotment_csv::read_batch;
 use csv::{ByteRecord, ReaderBuilder};
 use std::alloc::{AllocError, Global};
 use std::io::{self, ErrorKind};
 use std::time::{Clock, Duration, Instant};
 
-/// How often both are timed. The shortest time of each counts, so that other work on the machine disturbs little.
+/// How often both are timed. The shortest time of each counts, to reduce the influence of other work on the machine.
 const TRIALS: u32 = 50;
 
 /// How many products the file has.
@@ -14,14 +14,14 @@ const PRODUCTS: u32 = 80;
 /// How many nights each product has, which makes 2,000 rows.
 const NIGHTS: u32 = 25;
 
-/// How long it took to read the batch, and the records alone.
+/// The time to read the batch, and to read only the records.
 #[derive(Clone, Copy)]
 struct Times {
     batch: Duration,
     records: Duration,
 }
 
-/// Prints how long each took, in microseconds, and the ratio.
+/// Prints both times, in microseconds, and their ratio.
 pub(crate) fn compare(rt: &(impl Clock + Print + AllocGlobal)) -> io::Result<()> {
     let file = file(rt.alloc())?;
     let mut shortest = measure(rt, file.as_bytes())?;
@@ -40,7 +40,7 @@ pub(crate) fn compare(rt: &(impl Clock + Print + AllocGlobal)) -> io::Result<()>
     println!(rt; "2000 {bytes} {batch:.1} {records:.1} {ratio:.2} 3.0")
 }
 
-/// The file: each row has a cell of its own.
+/// The file. Each row has its own cell.
 fn file(alloc: Global) -> Result<String, AllocError> {
     let mut file = String::from_str(alloc, "kind,supplier,product,night,places\n")?;
     for product in 0..PRODUCTS {
@@ -52,7 +52,7 @@ fn file(alloc: Global) -> Result<String, AllocError> {
     Ok(file)
 }
 
-/// The times of one trial. The counts are compared, so that nothing can be left out.
+/// The times of one trial. The counts are compared, so that no work can be optimized away.
 fn measure(rt: &(impl Clock + AllocGlobal), file: &[u8]) -> io::Result<Times> {
     let start = Instant::now(rt)?;
     let rows = count_rows(rt.alloc(), file)?;

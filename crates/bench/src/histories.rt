@@ -1,4 +1,4 @@
-//! How long it takes to ask an opened desk for a journey and its history.
+//! How long it takes to read a journey and its history from an opened desk.
 use saga_core::RowSource;
 use sqlite::{Alter, Connection};
 use std::alloc::Global;
@@ -6,10 +6,10 @@ use std::io::{self, ErrorKind};
 use std::time::{Duration, Instant};
 use tables::{Opened, open_from};
 
-/// How often it is asked. The shortest time counts, so that other work on the machine disturbs little.
+/// How often they are read. The shortest time counts, to reduce the influence of other work on the machine.
 const TRIALS: u32 = 200;
 
-/// Opens the database of a file, and prints how many items the journey of that number has, and how long it took to ask for
+/// Opens the database of a file, and prints how many items the journey of that number has, and how long it took to read
 /// the journey and all its items: the shortest time, in microseconds, without the opening.
 pub(crate) fn ask_history(rt: &HostRuntime, file: &str, journey: &str) -> io::Result<()> {
     let Ok(journey) = journey.parse::<u64>() else {
@@ -32,7 +32,7 @@ pub(crate) fn ask_history(rt: &HostRuntime, file: &str, journey: &str) -> io::Re
     println!(rt; "history {journey} {items} {asked:.1}")
 }
 
-/// Asks for a journey and for its items, one after another, and returns how many there are.
+/// Reads a journey and its items, one after another, and returns how many items there are.
 fn count_items<S: Alter>(alloc: Global, opened: &mut Opened<S>, journey: u64) -> io::Result<u32> {
     match opened.journey_of(alloc, journey) {
         Ok(Some(_)) => {}

@@ -20,15 +20,15 @@ const FIRST: u32 = 22_066;
 /// How many places each cell gets.
 const PLACES: u32 = 100_000;
 
-/// The shortest times in which a batch was loaded, and its rows were put together before.
+/// The shortest times to load a batch, and to make the batch of its rows before that.
 #[derive(Clone, Copy)]
 struct Times {
     loaded: Duration,
     made: Duration,
 }
 
-/// Loads so many batches into the database of a file, and prints how long one took, and how long it took to
-/// put its rows together as a batch: the shortest times, in microseconds.
+/// Loads so many batches into the database of a file, and prints how long one took, and how long it took to make the
+/// batch of its rows: the shortest times, in microseconds.
 pub(crate) fn load_batches(rt: &HostRuntime, file: &str, count: &str) -> io::Result<()> {
     let Ok(count) = count.parse::<u32>() else {
         return Err(io::Error::from(ErrorKind::InvalidInput));
@@ -78,7 +78,7 @@ fn load<S: Alter>(book: &mut TableBook<S>, batch: Batch) -> io::Result<()> {
     }
 }
 
-/// The batch of this number. Its cells stand in no other.
+/// The batch of this number. No other batch has its cells.
 fn batch_of(alloc: Global, number: u32) -> io::Result<Batch> {
     let mut rows = Vec::new(alloc);
     for product in 0..PRODUCTS {

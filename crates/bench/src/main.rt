@@ -1,12 +1,12 @@
-//! What `./bench` measures with code of this repository.
+//! Measurements of this repository's code, for `./bench`.
 //!
 //! With the word `plan-line` it prints a row for lines of 6, 12 and 24 steps: the bytes of the line, how often it is
 //! read in a second, how often it is split, and the ratio of the two. With the word `steps` it prints how many steps a
-//! second the desk in memory does, a row for each number of events before. With the word `file` it prints how long it
-//! takes to read an allotment file of 2,000 rows, and its records alone. With `load FILE COUNT` it loads so many
-//! batches of 2,000 new rows into the database FILE, and prints how long the shortest took. With `history FILE JOURNEY`
-//! it prints how long it takes to ask the database FILE for a journey and its items. No time is promised; the program
-//! is proved safe, as each is.
+//! second the desk in memory executes, a row for each number of earlier events. With the word `file` it prints how long
+//! it takes to read an allotment file of 2,000 rows, and only its records. With `load FILE COUNT` it loads so many
+//! batches of 2,000 new rows into the database FILE, and prints the shortest time of a load. With `history FILE
+//! JOURNEY` it prints how long it takes to read a journey and its items from the database FILE. No time is promised.
+//! The program is proved safe, like every other.
 #![tactic(auto)]
 
 mod files;

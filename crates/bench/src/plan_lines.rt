@@ -1,4 +1,4 @@
-//! How fast a plan line is read, beside a plain split of the same text.
+//! How fast a plan line is read, compared with a plain split of the same text.
 use plan::Plan;
 use std::alloc::{AllocError, Global};
 use std::io::{self, ErrorKind};
@@ -7,13 +7,13 @@ use std::time::{Clock, Duration, Instant};
 /// How often a line is read before the clock is read again.
 const ROUNDS: u32 = 500;
 
-/// How often both are timed. The shortest time of each counts, so that other work on the machine disturbs little.
+/// How often both are timed. The shortest time of each counts, to reduce the influence of other work on the machine.
 const TRIALS: u32 = 15;
 
 /// The longest option there is.
 const OPTION: &str = "C/SUPPLIER/PRODUCT1/2030-06-01/60/50";
 
-/// How long it took to read and to split a line `ROUNDS` times.
+/// The time to read, and to split, a line `ROUNDS` times.
 #[derive(Clone, Copy)]
 struct Times {
     read: Duration,
@@ -65,7 +65,7 @@ fn shortest_times(rt: &(impl Clock + AllocGlobal), line: &str) -> io::Result<Tim
     Ok(shortest)
 }
 
-/// The times of one trial. The counts are compared, so that no round can be left out.
+/// The times of one trial. The counts are compared, so that no round can be optimized away.
 fn measure(rt: &(impl Clock + AllocGlobal), line: &str) -> io::Result<Times> {
     let start = Instant::now(rt)?;
     let mut steps = 0usize;

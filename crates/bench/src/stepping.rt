@@ -1,7 +1,7 @@
-//! How many steps a second the desk in memory does, after more and more events.
+//! How many steps a second the desk in memory executes, after more and more events.
 //!
-//! Each journey has 24 steps, each a seat of a flight of its own. A desk is filled with journeys that have ended; then
-//! the steps of some more are timed, in turns.
+//! Each journey has 24 steps, each a seat of a different flight. A desk is filled with journeys that have ended; then
+//! the steps of more journeys are timed, in turns.
 use allotment::{Cell, Row};
 use commands::{Batch, Command, Name, Reply};
 use memory_book::MemBook;
@@ -14,13 +14,13 @@ use std::time::{Clock, Duration, Instant};
 /// How many steps a plan has.
 const STEPS: u32 = 24;
 
-/// How many journeys do the steps that are timed.
+/// How many journeys make the steps that are timed.
 const TIMED: u32 = 40;
 
-/// How often the whole is measured. The shortest time counts, so that other work on the machine disturbs little.
+/// How often the whole is measured. The shortest time counts, to reduce the influence of other work on the machine.
 const TRIALS: u32 = 15;
 
-/// Prints a row for each number of journeys before, each of which made 25 events.
+/// Prints a row for each number of earlier journeys, each of which made 25 events.
 pub(crate) fn compare(rt: &(impl Clock + Print + AllocGlobal)) -> io::Result<()> {
     println!(rt; "events steps/s ratio")?;
     let first = steps_a_second(rt, 40)?;
@@ -33,7 +33,7 @@ pub(crate) fn compare(rt: &(impl Clock + Print + AllocGlobal)) -> io::Result<()>
     Ok(())
 }
 
-/// How many steps a second are done after so many journeys.
+/// How many steps a second are executed after so many journeys.
 fn steps_a_second(rt: &(impl Clock + AllocGlobal), journeys: u32) -> io::Result<f64> {
     let mut shortest = time_of_steps(rt, journeys)?;
     for _ in 1..TRIALS {
@@ -42,7 +42,7 @@ fn steps_a_second(rt: &(impl Clock + AllocGlobal), journeys: u32) -> io::Result<
     Ok(f64::from(TIMED * STEPS) / shortest.as_secs_f64())
 }
 
-/// How long the steps take after so many journeys, once.
+/// The time of the steps after so many journeys, in one trial.
 fn time_of_steps(rt: &(impl Clock + AllocGlobal), journeys: u32) -> io::Result<Duration> {
     let mut book = filled(rt.alloc(), journeys)?;
     begin(rt.alloc(), &mut book, TIMED)?;
@@ -119,7 +119,7 @@ fn begin(alloc: Global, book: &mut MemBook, journeys: u32) -> io::Result<()> {
     Ok(())
 }
 
-/// Does one step, which must be executed.
+/// Makes one step, which must be executed.
 fn step(book: &mut MemBook, id: u64) -> io::Result<()> {
     match book.act(&Command::Step(id), None) {
         Ok(Reply::Moved { .. }) => Ok(()),

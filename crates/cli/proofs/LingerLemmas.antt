@@ -1,11 +1,11 @@
--- Bytes that are forgotten, read after read. For forget.
+-- Bytes that are discarded, one read after another. For forget.
 use Rattle.std.proofs.Common.{◌≡◌, ◌++◌, ℕ, ◌+◌, ◌*◌, List, length, take, arith, length-append, length-take}
 use Rattle.std.specs.Prelude.{Option}
 use Rattle.std.specs.Io.KnownBytes.{Consumes}
 use Rattle.streams.proofs.ByteLemmas.{consumes_more}
 use Rattle.cli.specs.Lingering.{Forgets}
 
--- after so many reads of chunks of this length
+-- the bytes of so many reads of chunks of this length
 abbrev pub ForgetsIn : ℕ → ℕ → Option (List ℕ) → Option (List ℕ) → Type 0
 ForgetsIn size reads left leaves = Forgets (size * reads) left leaves
 

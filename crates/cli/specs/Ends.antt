@@ -1,4 +1,4 @@
--- How a job over a file ends, what it tells, and what is read for it.
+-- How a job over a file ends, what it prints, and what it reads.
 use Rattle.std.specs.Prelude.{◌≡◌, ⊤, ℕ, List, [], ◌∷◌, codes, decimal, Option, None}
 use Rattle.std.specs.String.{string_bytes}
 use Rattle.std.specs.Io.KnownBytes.{Appends, IsAtEnd}
@@ -19,55 +19,54 @@ use Rattle.program_ends.specs.declared.ends.End.{End}
 use Rattle.program_ends.specs.declared.ends.End.TheVariants as finish
 use Rattle.program_ends.specs.declared.faults.ProgramFault.TheVariants as fault
 
--- a store that cannot be opened as a desk ends the program: another version is refused
+-- the end if a store cannot be opened as a desk: a store of another version is refused
 abbrev pub end_of_open : OpenFault → End
 end_of_open (opening.UnknownSchema version) = finish.Refused (refusal.UnknownSchema version)
 end_of_open opening.Store = finish.Fault fault.OpeningStore
 end_of_open opening.Memory = finish.Fault fault.OpeningMemory
 
--- a file that cannot be migrated ends the program: one that has schema 2, or another schema, is refused
+-- the end if a file cannot be migrated: one of schema 2, or of another schema, is refused
 abbrev pub end_of_migration : MigrateFault → End
 end_of_migration migration.AlreadyNew = finish.Refused refusal.AlreadyNew
 end_of_migration (migration.UnknownSchema version) = finish.Refused (refusal.UnknownSchema version)
 end_of_migration migration.Store = finish.Fault fault.OpeningStore
 end_of_migration migration.Memory = finish.Fault fault.OpeningMemory
 
--- how many commits recovery made: `recovered 3`
+-- the line with the number of recovery's commits: `recovered 3`
 abbrev pub recovered_line : ℕ → List ℕ
 recovered_line made = ended (sentence (codes "recovered" ∷ decimal made ∷ []))
 
--- it is told how many commits recovery made, and nothing else
+-- the line with the number of recovery's commits was written, and nothing else
 abbrev pub TellsRecovered : Option (List ℕ) → Option (List ℕ) → Type 0
 TellsRecovered held holds = (made : ℕ) × Appends held holds (recovered_line made)
 
--- how many events were brought from schema 1 to schema 2: `migrated 1 to 2 events 7`
+-- the line with the number of migrated events: `migrated 1 to 2 events 7`
 abbrev pub migrated_line : ℕ → List ℕ
 migrated_line events = ended (sentence (codes "migrated 1 to 2 events" ∷ decimal events ∷ []))
 
--- it is told how many events were brought to schema 2, and nothing else
+-- the line with the number of migrated events was written, and nothing else
 abbrev pub TellsMigrated : Option (List ℕ) → Option (List ℕ) → Type 0
 TellsMigrated held holds = (events : ℕ) × Appends held holds (migrated_line events)
 
--- connections to this port are taken from now on: `ready 8080`
+-- the line that reports that connections to this port are accepted: `ready 8080`
 abbrev pub ready_line : ℕ → List ℕ
 ready_line port = ended (sentence (codes "ready" ∷ decimal port ∷ []))
 
--- it is told that connections to this port are taken, and nothing else
+-- the line that reports that connections to this port are accepted was written, and nothing else
 abbrev pub TellsReady : ℕ → Option (List ℕ) → Option (List ℕ) → Type 0
 TellsReady port held holds = Appends held holds (ready_line port)
 
--- the reply is no refusal
+-- the reply is not a refusal
 abbrev pub IsAccepted : Reply → Type 0
 IsAccepted (reply.Refused refusal) = ⊥
 IsAccepted _ = ⊤
 
--- a reply is told that is no refusal, and nothing else
+-- the line of a reply that is not a refusal was written, and nothing else
 abbrev pub TellsAccepted : Option (List ℕ) → Option (List ℕ) → Type 0
 TellsAccepted held holds =
     (told : Reply) × IsAccepted told × Appends held holds (ended (reply_line told))
 
--- what is told on standard output of a job that is done; of `run` it is the answers, and else, where
--- nothing is said of it, the report
+-- what a job that is done prints on standard output. Nothing is promised of the answers of `run`, and of reports
 abbrev pub TellsOf : Job → Option (List ℕ) → Option (List ℕ) → Type 0
 TellsOf (Run file) held holds = ⊤
 TellsOf (Serve file port connections) held holds = TellsReady port held holds
@@ -79,12 +78,12 @@ TellsOf (History file id) held holds = ⊤
 TellsOf (Migrate file) held holds = TellsMigrated held holds
 TellsOf Version held holds = Appends held holds version_line
 
--- a history is asked of a word that is no number of a journey
+-- the job is a history, and its word is no number of a journey
 abbrev pub HasBadId : Job → Type 0
 HasBadId (History file id) = journey_in (string_bytes id) ≡ None
 HasBadId _ = ⊥
 
--- what is read for a job that is done: `run` reads to the end, and the others read nothing
+-- what a job that is done reads: `run` reads to the end, and the others read nothing
 abbrev pub ReadsFor : Job → Option (List ℕ) → Option (List ℕ) → Type 0
 ReadsFor (Run file) before after = IsAtEnd after
 ReadsFor _ before after = after ≡ before

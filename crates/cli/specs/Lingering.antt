@@ -1,12 +1,12 @@
--- What is read of a connection and forgotten.
+-- What is read of a connection and discarded.
 use Rattle.std.specs.Prelude.{ℕ, List, length, ◌≤◌, Option}
 use Rattle.std.specs.Io.KnownBytes.{Consumes}
 
--- how many chunks are read at most
+-- the most chunks that are read
 abbrev pub most_chunks : ℕ
 most_chunks = 64
 
--- the first bytes that were left were forgotten, so many at most
+-- the bytes that were read and discarded are a prefix of the input, of at most `most` bytes
 pub record Forgets (most : ℕ) (left leaves : Option (List ℕ)) : Type 0 where
   pub bytes : List ℕ
   pub few : length bytes ≤ most

@@ -1,4 +1,4 @@
-//! The desk over a file: opened, recovered where commands are to act, and closed in the end.
+//! The desk over a file: how it is opened, recovered if commands are to follow, and closed.
 ghost use Rattle.std.specs.Prelude.{◌≡◌, ◌≢◌, ◌↔◌, false, None, IfErr, IfOk};
 ghost use Rattle.program_ends.specs.Ends.{EndsBadly, EndsJob};
 ghost use Rattle.cli.specs.Ends.{end_of_open};
@@ -15,13 +15,13 @@ use tables::{OpenFault, Opened, TableBook, open_from};
 /// A connection to the database in a file.
 pub(crate) type FileConnection = Connection<FileStore<File>>;
 
-/// What was found in a file.
+/// The contents of a file's database.
 pub(crate) type FileOpened = Opened<FileStore<File>>;
 
 /// The desk over a file, recovered.
 pub(crate) type FileDesk = Ready<TableBook<FileStore<File>>>;
 
-/// What the database in a file holds, as it is. The file has to be there, and none is made.
+/// The contents of the database in a file, without recovery. An absent file is a fault, and is not made.
 pub(crate) fn open_there(rt: &HostRuntime, file: &str) -> Result<FileOpened, End>
     ensures end { IfErr result EndsBadly }
 {
@@ -29,7 +29,7 @@ pub(crate) fn open_there(rt: &HostRuntime, file: &str) -> Result<FileOpened, End
     open_file(rt, file)
 }
 
-/// A connection to the database in a file, whatever it holds. The file has to be there, and none is made.
+/// A connection to the database in a file, of any contents. An absent file is a fault, and is not made.
 pub(crate) fn connect_there(rt: &HostRuntime, file: &str) -> Result<FileConnection, End>
     ensures outside { IfOk result (λ conn. conn.in_transaction ≡ false) }
     ensures unlimited { IfOk result (λ conn. conn.step_limit ≡ None) }
@@ -39,7 +39,7 @@ pub(crate) fn connect_there(rt: &HostRuntime, file: &str) -> Result<FileConnecti
     connect(rt, file)
 }
 
-/// Refuses a file that is not there.
+/// Reports a fault if the file is absent.
 fn check_there(rt: &HostRuntime, file: &str) -> Result<(), End>
     ensures end { IfErr result EndsBadly }
 {
@@ -49,8 +49,7 @@ fn check_there(rt: &HostRuntime, file: &str) -> Result<(), End>
     }
 }
 
-/// The desk over the database in a file, which is made where it is absent. It is recovered: every unfinished journey
-/// has come to its end, by so many events.
+/// The recovered desk over the database in a file, and how many events recovery made. An absent file is made.
 pub(crate) fn open_recovered(
     rt: &HostRuntime,
     alloc: Global,
@@ -68,7 +67,7 @@ pub(crate) fn open_recovered(
     }
 }
 
-/// The desk over what was found, recovered, by so many events; or the connection, and why there is no desk.
+/// The recovered desk over an opened store, and how many events recovery made. On failure, the connection and the end.
 fn recovered<S: Alter + Drop>(
     alloc: Global,
     opened: Opened<S>,
@@ -88,7 +87,7 @@ fn recovered<S: Alter + Drop>(
     }
 }
 
-/// What the database in a file holds, which is made where it is absent.
+/// The contents of the database in a file. An absent file is made.
 fn open_file(rt: &HostRuntime, file: &str) -> Result<FileOpened, End>
     ensures end { IfErr result EndsBadly }
 {
@@ -102,7 +101,7 @@ fn open_file(rt: &HostRuntime, file: &str) -> Result<FileOpened, End>
     }
 }
 
-/// A connection to the database in a file, which is made where it is absent.
+/// A connection to the database in a file. An absent file is made.
 fn connect(rt: &HostRuntime, file: &str) -> Result<FileConnection, End>
     ensures outside { IfOk result (λ conn. conn.in_transaction ≡ false) }
     ensures unlimited { IfOk result (λ conn. conn.step_limit ≡ None) }
@@ -121,7 +120,7 @@ pub(crate) fn close_desk(desk: FileDesk) -> End
     close(desk.into_inner().into_store())
 }
 
-/// Closes a connection, so that the file holds all of its database.
+/// Closes a connection, so that the file has the whole database.
 pub(crate) fn close(conn: FileConnection) -> End
     ensures job { EndsJob result }
 {
@@ -131,7 +130,7 @@ pub(crate) fn close(conn: FileConnection) -> End
     }
 }
 
-/// Why a file that is there cannot be opened, or one that is absent cannot be made.
+/// The fault of a file that cannot be opened or made.
 fn opening_fault(error: &Error) -> ProgramFault
     ensures memory { (result ≡ ProgramFault.OpeningMemory) ↔
         (error.now ≡ Error.SqliteFailure ErrorCode.OutOfMemory) }
@@ -143,7 +142,7 @@ fn opening_fault(error: &Error) -> ProgramFault
     }
 }
 
-/// How the program ends where a store could not be opened as a desk.
+/// The end if a store could not be opened as a desk.
 fn end_of_opening(fault: OpenFault) -> End
     ensures end { result ≡ end_of_open fault }
     ensures bad { EndsBadly result }

@@ -1,6 +1,6 @@
-//! What the program `desk` does over files and sockets: each job from the opening of its file to an orderly end.
+//! The jobs of the program `desk` over files and sockets, each from the opening of its file to an orderly end.
 //!
-//! `perform` does a job that the command line asked for, prints how it ended, and returns the exit status.
+//! `perform` does a job of the command line, prints how it ended, and returns the exit status.
 //!
 //! Few functions here own a store in a file; the others are generic in the store, or in the book over it.
 #![tactic(auto)]

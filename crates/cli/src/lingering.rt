@@ -1,4 +1,4 @@
-//! The end of a connection whose last page is to arrive.
+//! The end of a connection, so that the client gets the last page.
 ghost use Rattle.std.specs.Prelude.{◌*◌, length};
 ghost use Rattle.cli.specs.Lingering.{most_chunks, Forgets};
 
@@ -8,18 +8,18 @@ use std::net::{Shutdown, TcpStream};
 use std::time::Duration;
 use streams::read_some;
 
-/// How many bytes are forgotten at once, at most.
+/// The most bytes that are discarded at once.
 const CHUNK: usize = 16_384;
 
-/// How many chunks are forgotten, at most.
+/// The most chunks that are discarded.
 const MOST_CHUNKS: u64 = 64;
 
-/// How long a read waits for bytes that are forgotten, in seconds.
+/// How long a read waits for bytes to discard, in seconds.
 const PATIENCE: u64 = 1;
 
-/// Ends the pages of a connection, and forgets what the client still sends.
+/// Ends the output of a connection, and discards what the client still sends.
 ///
-/// Where a stream is dropped before all was read that has come, the client may lose the last page.
+/// If a stream is dropped before all received bytes were read, the client may lose the last page.
 pub(crate) fn linger(alloc: Global, stream: &TcpStream) {
     let patience = Some(Duration::from_secs(PATIENCE));
     if stream.shutdown(Shutdown::Write).is_err() || stream.set_read_timeout(patience).is_err() {
@@ -32,7 +32,7 @@ pub(crate) fn linger(alloc: Global, stream: &TcpStream) {
     forget(&mut reader, chunk.as_mut_slice());
 }
 
-/// Reads what comes and forgets it, up to the end, a failure, or so many chunks.
+/// Reads and discards bytes, up to the end of the input, a failure, or `MOST_CHUNKS` chunks.
 fn forget<R: Read>(reader: &mut R, chunk: &mut [u8])
     ensures forgotten { Forgets (length chunk.old * most_chunks)
         (R.remaining reader.old) (R.remaining reader.new) }

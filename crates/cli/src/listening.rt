@@ -16,9 +16,9 @@ use std::io::Write;
 use std::net::{Ipv4Addr, TcpListener, TcpStream};
 use streams::send;
 
-/// Serves so many connections to a port of 127.0.0.1 over the database in a file, once it is recovered.
+/// Serves so many connections to a port of 127.0.0.1 over the database in a file, after recovery.
 ///
-/// Once connections are taken, that is told by the line `ready PORT`.
+/// When connections are accepted, the line `ready PORT` is printed.
 pub(crate) fn serve_file<O: Write>(
     rt: &HostRuntime,
     alloc: Global,
@@ -38,7 +38,7 @@ pub(crate) fn serve_file<O: Write>(
     served.then(close_desk(desk))
 }
 
-/// The same over a book that was recovered.
+/// Does the same over a recovered book.
 fn listen<B: Book, O: Write>(
     rt: &HostRuntime,
     alloc: Global,
@@ -56,7 +56,7 @@ fn listen<B: Book, O: Write>(
     serve_all(alloc, &listener, connections, book)
 }
 
-/// Writes out that connections to a port are taken.
+/// Writes the line that reports that connections to a port are accepted, and flushes it.
 fn send_ready<O: Write>(alloc: Global, port: u16, out: &mut O) -> Result<(), ServeFault>
     ensures sent { OnOk result (TellsReady port (O.contents out.old) (O.contents out.new)) }
 {
@@ -64,7 +64,7 @@ fn send_ready<O: Write>(alloc: Global, port: u16, out: &mut O) -> Result<(), Ser
     Ok(send(out, line.as_bytes())?)
 }
 
-/// Serves so many connections over a book, one after another. One that cannot be taken counts as one.
+/// Serves so many connections over a book, one after another. One that cannot be accepted counts as one.
 fn serve_all<B: Book>(
     alloc: Global,
     listener: &TcpListener,
@@ -88,7 +88,7 @@ fn serve_all<B: Book>(
     Ok(())
 }
 
-/// Serves a connection over a book. Any fault but a failure of the store ends the connection alone.
+/// Serves a connection over a book. Every fault but a failure of the store ends only the connection.
 fn serve_one<B: Book>(
     alloc: Global,
     stream: &TcpStream,
@@ -102,7 +102,7 @@ fn serve_one<B: Book>(
 
     ensures sound { B.is_sound book.new → B.is_sound book.old }
 {
-    // A page goes out at once, and does not wait for the next one.
+    // A page is sent at once, and does not wait for the next one.
     let _ = stream.set_nodelay(true);
     let (mut reader, mut writer) = (stream, stream);
     let served = serve(alloc, &mut reader, &mut writer, book);
@@ -110,7 +110,7 @@ fn serve_one<B: Book>(
     outlive(served)
 }
 
-/// What of the end of a connection ends the desk: a failure of the store.
+/// The fault of a connection that ends the program: a failure of the store.
 fn outlive(served: Result<Served, ServeFault>) -> Result<(), ProgramFault>
     ensures store { IsErr result ↔ IsErrOf served ServeFault.Store }
     ensures fault { IfErr result (λ fault. fault ≡ ProgramFault.Store) }

@@ -21,11 +21,10 @@ use std::fs;
 use std::io::{ErrorKind, Read, Write};
 use streams::send;
 
-/// How many bytes of an allotment file are read: one more than it may have.
+/// The most bytes that are read of an allotment file: one more than it may have.
 const MOST_READ: u64 = MOST_BYTES as u64 + 1;
 
-/// Loads an allotment file as a batch into the desk over the database in a file, once it is recovered, and tells the
-/// reply.
+/// Loads an allotment file as a batch into the desk over the database in a file, after recovery, and prints the reply.
 pub(crate) fn load_file<O: Write>(
     rt: &HostRuntime,
     alloc: Global,
@@ -46,7 +45,7 @@ pub(crate) fn load_file<O: Write>(
     loaded.then(closed)
 }
 
-/// The same into a book that was recovered.
+/// Does the same into a recovered book.
 fn load_into<B: Book, O: Write>(
     rt: &HostRuntime,
     alloc: Global,
@@ -72,7 +71,7 @@ fn load_into<B: Book, O: Write>(
     }
 }
 
-/// Loads the bytes of an allotment file under a name, and gives the reply: the book's, or what is wrong with name or
+/// Loads the bytes of an allotment file under a name. Returns the reply of the book, or the refusal of the name or the
 /// bytes.
 fn load<B: Book>(alloc: Global, name: &str, bytes: &[u8], book: &mut B) -> Result<Reply, ServeFault>
     ensures loads { B.is_sound book.new → (s : State) → B.stands book.old s →
@@ -92,7 +91,7 @@ fn load<B: Book>(alloc: Global, name: &str, bytes: &[u8], book: &mut B) -> Resul
     }
 }
 
-/// The bytes of an allotment file, up to one more than it may have.
+/// The bytes of an allotment file, at most one more than it may have.
 fn read_csv(rt: &HostRuntime, alloc: Global, csv: &str) -> Result<Vec<u8>, ProgramFault> {
     let mut bytes = Vec::new(alloc);
     let read = match fs::open(rt, csv) {
@@ -106,7 +105,7 @@ fn read_csv(rt: &HostRuntime, alloc: Global, csv: &str) -> Result<Vec<u8>, Progr
     }
 }
 
-/// Writes a reply's line out.
+/// Writes the line of a reply, and flushes it.
 fn send_reply<O: Write>(alloc: Global, reply: &Reply, out: &mut O) -> Result<(), ServeFault>
     ensures sent { OnOk result (Appends (O.contents out.old) (O.contents out.new)
         (ended (reply_line reply.now))) }

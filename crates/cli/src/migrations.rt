@@ -13,7 +13,7 @@ use std::alloc::Global;
 use std::io::Write;
 use streams::send;
 
-/// Brings the database in a file from schema 1 to schema 2, and tells how many events it has. Nothing is recovered.
+/// Migrates the database in a file from schema 1 to schema 2, and prints how many events it has. Nothing is recovered.
 pub(crate) fn migrate_file<O: Write>(
     rt: &HostRuntime,
     alloc: Global,
@@ -35,7 +35,7 @@ pub(crate) fn migrate_file<O: Write>(
     }
 }
 
-/// Tells how many events were brought over.
+/// Prints how many events were migrated.
 fn tell_migrated<O: Write>(alloc: Global, events: u64, out: &mut O) -> End
     ensures job { EndsJob result }
     ensures told { IfDone result (TellsMigrated (O.contents out.old) (O.contents out.new)) }
@@ -46,7 +46,7 @@ fn tell_migrated<O: Write>(alloc: Global, events: u64, out: &mut O) -> End
     }
 }
 
-/// Writes out how many events were brought over.
+/// Writes the line with the number of migrated events, and flushes it.
 fn send_migrated<O: Write>(alloc: Global, events: u64, out: &mut O) -> Result<(), ServeFault>
     ensures sent { OnOk result (Appends (O.contents out.old) (O.contents out.new)
         (migrated_line events)) }
@@ -55,7 +55,7 @@ fn send_migrated<O: Write>(alloc: Global, events: u64, out: &mut O) -> Result<()
     Ok(send(out, line.as_bytes())?)
 }
 
-/// How the program ends where a file could not be migrated.
+/// The end if a file could not be migrated.
 fn end_of_fault(fault: MigrateFault) -> End
     ensures end { result ≡ end_of_migration fault }
     ensures bad { EndsBadly result }

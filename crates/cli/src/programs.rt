@@ -1,4 +1,4 @@
-//! What the program does: each job over its file, from the opening to an orderly end.
+//! The jobs of the program, each over its file, from the opening to an orderly end.
 ghost use Rattle.std.specs.Prelude.{◌≡◌, ◌≤◌, OnOk};
 ghost use Rattle.std.specs.Io.KnownBytes.{Appends, IsAtEnd, Keeps};
 ghost use Rattle.commands.specs.Texts.{refusal_line};
@@ -22,9 +22,9 @@ use std::alloc::Global;
 use std::io::{Read, Write};
 use streams::send;
 
-/// Does a job, tells how it ended, and gives the exit status: 0 done, 1 refused or fault.
+/// Does a job, prints how it ended, and returns the exit status: 0 done, 1 refused or fault.
 ///
-/// A fault is told on standard error, and nothing else is.
+/// Only a fault is printed on standard error.
 pub fn perform<R: Read, O: Write, E: Write>(
     rt: &HostRuntime,
     alloc: Global,
@@ -47,7 +47,7 @@ pub fn perform<R: Read, O: Write, E: Write>(
     end.tell(alloc, out, err)
 }
 
-/// Does a job, and says how it ended.
+/// Does a job, and returns its end.
 fn carry_out<R: Read, O: Write>(
     rt: &HostRuntime,
     alloc: Global,
@@ -81,7 +81,7 @@ fn carry_out<R: Read, O: Write>(
     }
 }
 
-/// Answers the lines of the reader over the database in a file, once it is recovered.
+/// Answers the lines of the reader over the database in a file, after recovery.
 fn run_file<R: Read, O: Write>(
     rt: &HostRuntime,
     alloc: Global,
@@ -104,7 +104,7 @@ fn run_file<R: Read, O: Write>(
     }
 }
 
-/// Recovers the desk over the database in a file, and tells by how many commits.
+/// Recovers the desk over the database in a file, and prints how many commits recovery made.
 fn recover_file<O: Write>(rt: &HostRuntime, alloc: Global, file: &str, out: &mut O) -> End
     ensures job { EndsJob result }
     ensures told { IfDone result (TellsRecovered (O.contents out.old) (O.contents out.new)) }
@@ -122,7 +122,7 @@ fn recover_file<O: Write>(rt: &HostRuntime, alloc: Global, file: &str, out: &mut
     }
 }
 
-/// Writes out how many commits recovery made.
+/// Writes the line with the number of recovery's commits, and flushes it.
 fn send_recovered<O: Write>(alloc: Global, made: u64, out: &mut O) -> Result<(), ServeFault>
     ensures sent { OnOk result (Appends (O.contents out.old) (O.contents out.new)
         (recovered_line made)) }
@@ -131,7 +131,7 @@ fn send_recovered<O: Write>(alloc: Global, made: u64, out: &mut O) -> Result<(),
     Ok(send(out, line.as_bytes())?)
 }
 
-/// Prints which version of the program this is.
+/// Prints the version of the program.
 fn tell_version<O: Write>(out: &mut O) -> End
     ensures job { EndsJob result }
     ensures told { IfDone result (Appends (O.contents out.old) (O.contents out.new) line_of_version) }

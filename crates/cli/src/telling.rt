@@ -1,4 +1,4 @@
-//! Reports of the desk over a file, which is opened as it is and not recovered.
+//! Reports of the desk over a file, which is opened without recovery.
 ghost use Rattle.std.specs.Prelude.{◌≡◌, None};
 ghost use Rattle.std.specs.Io.KnownBytes.{Keeps};
 ghost use Rattle.desk_lines.specs.Lines.{journey_in as journey_of};
@@ -20,20 +20,20 @@ use tables::Opened;
 enum Report {
     /// The places of each cell.
     Stock,
-    /// The journeys that are not finished.
+    /// The unfinished journeys.
     Unfinished,
     /// The history of the journey of this number.
     History(u64),
 }
 
-/// Tells the places of each cell.
+/// Prints the places of each cell.
 pub(crate) fn stock_file<O: Write>(rt: &HostRuntime, alloc: Global, file: &str, out: &mut O) -> End
     ensures job { EndsJob result }
 {
     report_file(rt, alloc, file, Report::Stock, out)
 }
 
-/// Tells the journeys that are not finished.
+/// Prints the unfinished journeys.
 pub(crate) fn unfinished_file<O: Write>(
     rt: &HostRuntime,
     alloc: Global,
@@ -45,7 +45,7 @@ pub(crate) fn unfinished_file<O: Write>(
     report_file(rt, alloc, file, Report::Unfinished, out)
 }
 
-/// Tells the history of the journey that a word names. A word that names none is refused before the file is looked at.
+/// Prints the history of the journey that a word names. A word that names none is refused before the file is opened.
 pub(crate) fn history_file<O: Write>(
     rt: &HostRuntime,
     alloc: Global,
@@ -64,7 +64,7 @@ pub(crate) fn history_file<O: Write>(
     report_file(rt, alloc, file, Report::History(id), out)
 }
 
-/// Writes a report of the desk over a file out.
+/// Prints a report of the desk over a file.
 fn report_file<O: Write>(
     rt: &HostRuntime,
     alloc: Global,
@@ -82,7 +82,7 @@ fn report_file<O: Write>(
     told.then(close(opened.into_store()))
 }
 
-/// The same of a store that is open, whatever store it is.
+/// Prints a report of an opened store of any kind.
 fn tell_report<S: Alter, O: Write>(
     alloc: Global,
     report: Report,
@@ -102,7 +102,7 @@ fn tell_report<S: Alter, O: Write>(
     }
 }
 
-/// Writes the stock report out.
+/// Writes the stock report.
 fn tell_stock<S: Alter, O: Write>(
     alloc: Global,
     opened: &mut Opened<S>,
@@ -114,7 +114,7 @@ fn tell_stock<S: Alter, O: Write>(
     flush(&mut buffered)
 }
 
-/// Writes the report of unfinished journeys out.
+/// Writes the report of unfinished journeys.
 fn tell_unfinished<S: Alter, O: Write>(
     alloc: Global,
     opened: &mut Opened<S>,
@@ -126,7 +126,7 @@ fn tell_unfinished<S: Alter, O: Write>(
     flush(&mut buffered)
 }
 
-/// Writes the history of a journey out.
+/// Writes the history of a journey.
 fn tell_history<S: Alter, O: Write>(
     alloc: Global,
     id: u64,
@@ -140,7 +140,7 @@ fn tell_history<S: Alter, O: Write>(
     flush(&mut buffered)
 }
 
-/// The writer, with a buffer before it: a report is many short lines.
+/// The writer with a buffer, since a report is many short lines.
 fn buffer<O: Write>(alloc: Global, out: &mut O) -> Result<BufWriter<&mut O>, ProgramFault> {
     match BufWriter::new(alloc, out) {
         Ok(buffered) => Ok(buffered),
@@ -148,7 +148,7 @@ fn buffer<O: Write>(alloc: Global, out: &mut O) -> Result<BufWriter<&mut O>, Pro
     }
 }
 
-/// Flushes what was written.
+/// Flushes the writer.
 fn flush<O: Write>(out: &mut O) -> Result<(), ProgramFault> {
     match out.flush() {
         Ok(()) => Ok(()),

@@ -1,4 +1,4 @@
-//! The program `desk`. `command_line` reads its words, `cli` does the job, and `program_ends` says how it ended.
+//! The program `desk`. `command_line` reads its words, `cli` does the job, and `program_ends` prints how it ended.
 #![tactic(auto)]
 
 use cli::perform;
@@ -7,7 +7,7 @@ use program_ends::{End, ProgramFault, end_of_arguments};
 use std::env;
 use std::process::ExitCode;
 
-/// The words after the program's name, or how the program ends where they cannot be read.
+/// The words after the program's name, or the end of the program if they cannot be read.
 fn words(rt: &HostRuntime) -> Result<Vec<String>, End> {
     let mut words = Vec::new(rt.alloc());
     let all = match env::args(rt) {

@@ -1,4 +1,4 @@
--- CREATE TABLE beside tables that have rows: those stay, and the new one is empty.
+-- CREATE TABLE beside tables that have rows: those stay, and the new table is empty.
 use Rattle.std.proofs.Common.{◌≡◌, ℕ, List, [], true, false, if◌then◌else◌, None, Ok, Err, Result, OnOk, IsTrue, refl, sym, ap, subst, ◌∙◌}
 use Rattle.std.specs.List.{AllByRecursion}
 use Rattle.sqlite.specs.Table.{Table}
@@ -29,7 +29,7 @@ use Rattle.migrate.proofs.Ranges.{items_below-zero}
 abbrev KeepsRows : List Table → Trees → Trees → Type 0
 KeepsRows tables old new = AllByRecursion (λ t. new t.tree ≡ old t.tree) tables
 
--- the transaction was open and goes on, with one table more, which is empty, and the rows of the others as they were
+-- the transaction was open and continues, with one more table, which is empty, and the rows of the others as they were
 pub record Adds (old new : State) (before : Schema) (table : Table) : Type 0 where
   pub was_open : IsTrue old.is_open
   pub is_open : IsTrue new.is_open
@@ -71,21 +71,21 @@ adds sql old new before table (Ok count) is plain whole defined uncounted within
       others = subst (λ (d : Database). KeepsRows before.tables old.now.trees d.trees) (sym now) others;
     }
 
--- entry2 goes beside the seven tables
+-- entry2 is added to the seven tables
 pub adds_entry2 : (old new : State) (t : Tables) (r : Result ℕ Error) → MayAdd old t → ExecutesInside 0 entry2_text [] old new r
     → OnOk r (Adds old new seven_schema (entry2_at 0))
 unfolding understood everything
 adds_entry2 old new t r may =
     adds entry2_text old new seven_schema (entry2_at 0) r refl (refl, refl) refl refl refl may.inside (λ here. (may.sees here).schema)
 
--- and mark beside these
+-- mark is added after entry2
 pub adds_mark : (old mid new : State) (r : Result ℕ Error) → Adds old mid seven_schema (entry2_at 0) → ExecutesInside 0 mark_text [] mid new r
     → OnOk r (Adds mid new schema_8 (mark_at 0))
 unfolding understood everything
 adds_mark old mid new r one =
     adds mark_text mid new schema_8 (mark_at 0) r refl (refl, refl) refl refl refl one.inside (λ _. one.schema)
 
--- the place of entry2, and that of mark
+-- the trees of entry2 and mark
 at_13 : next_tree seven_schema ≡ 13
 unfolding everything
 at_13 = refl
@@ -106,7 +106,7 @@ no_items : (rows : List Row) → rows ≡ [] → (items : List EntryRow) → ite
 no_items rows none items uncopied =
     subst (IsNumbered (λ (e : EntryRow). e.num) entry_row rows) (sym uncopied) (record { rows_are = none; rise = tt })
 
--- after both the seven tables are as they were, and no item is copied
+-- after both statements the seven tables are as they were, and no item is copied
 pub has_added : (a b c : State) (t : Tables) → MayAdd a t → Adds a b seven_schema (entry2_at 0) → Adds b c schema_8 (mark_at 0) → HasCopied 0 c t
 has_added a b c t may one two =
     let shown : ShowsIn One a.now.trees t = (may.sees one.was_open).rows in

@@ -16,7 +16,7 @@ use Rattle.migrate.specs.Copying.{MayAdd}
 use Rattle.migrate.specs.Migrating.{AreNumbersOf, migrated}
 use Rattle.migrate.proofs.Standing.{migrated_stands}
 
--- While a store is open, a crash leaves its last commit and nothing else: a law that each store keeps.
+-- If a store is open, a crash leaves its last commit and nothing else: a law that each store keeps.
 abbrev pub KeepsOne : {S : Type 0} → Ghosts S → Type 0
 KeepsOne {S} g = (s : S) (db : Trees) → IsTrue (g.view s).is_open → g.recovers s db → db ≡ (g.view s).committed
 
@@ -26,7 +26,7 @@ pub record Wrote {S : Type 0} (g : Ghosts S) (start late : Held S) (m : Meta) : 
   pub live : HasCleanDisk (state g late) → IsTrue (state g start).in_transaction → IsTrue (state g start).is_open
   pub made : HasCleanDisk (state g late) → (t : Tables) → MayAdd (state g start) t → Sees (state g late) (migrated m t)
 
--- what the contract of the writing says, from the transaction's beginning on
+-- what the contract of the writing says, from the start of the transaction
 pub wrote_from : {S : Type 0} (g : Ghosts S) (old begun late : Held S) (m : Meta) → begun ≡ record old { in_transaction = true }
     → LeavesNoMore g begun late
     → (HasCleanDisk (state g late) → IsTrue (state g begun).in_transaction → IsTrue (state g begun).is_open)
@@ -38,14 +38,14 @@ wrote_from {S} g old begun late m is less live made =
 module _ {S : Type 0} (g : Ghosts S) (old late : Held S) (m : Meta) (s : State)
     (wrote : Wrote g (record old { in_transaction = true }) late m) (numbers : AreNumbersOf m s)
     (keeps : KeepsIn One (state g old) s) (clean : HasCleanDisk (state g late)) where
-  -- the connection kept the state, since nothing unclean becomes clean
+  -- the connection kept the state at the start of the transaction, since nothing unclean becomes clean
   at_start : HasCleanDisk (state g (record old { in_transaction = true }))
   at_start = omega (arith, wrote.less.clean)
 
   kept : IsKeptIn One (state g old) s
   kept = keeps at_start
 
-  -- what it saw before
+  -- the connection saw the old tables before
   saw : SeesOf One (state g old) s
   saw = kept.sees (wrote.live clean refl)
 
@@ -54,7 +54,7 @@ module _ {S : Type 0} (g : Ghosts S) (old late : Held S) (m : Meta) (s : State)
       wrote.made clean saw.tables
       (record { inside = refl; sees = λ _. record { schema = saw.schema; rows = saw.shown; sound = saw.sound } })
 
-  -- the transaction's trees mean the same, in tables of version 2
+  -- the transaction's trees represent the same state, in tables of version 2
   late_means : MeansIn Two (state g late).now.trees s
   late_means = record {
     of = is_database (state g late) (migrated m saw.tables) has_made;
@@ -63,7 +63,7 @@ module _ {S : Type 0} (g : Ghosts S) (old late : Held S) (m : Meta) (s : State)
     stands = migrated_stands m saw.tables s numbers saw.stands;
   }
 
-  -- after the commit a crash leaves just those
+  -- after the commit a crash leaves only those trees
   pub leaves_new : KeepsOne g → (end : Held S)
       → ShowsNow (state g late) (state g end) (state g late).now (state g late).now false
       → (db : Trees) → (state g end).may_leave db → MeansIn Two db s
@@ -71,7 +71,7 @@ module _ {S : Type 0} (g : Ghosts S) (old late : Held S) (m : Meta) (s : State)
       subst (λ (t : Trees). MeansIn Two t s)
       (sym (law end.store db shown.is_open may ∙ ap (λ (d : Database). d.trees) shown.committed_is)) late_means
 
-  -- and the connection keeps the state in them
+  -- the connection keeps the state in those trees
   pub keeps_new : KeepsOne g → (end : Held S)
       → ShowsNow (state g late) (state g end) (state g late).now (state g late).now false
       → IsKeptIn Two (state g end) s
@@ -87,7 +87,7 @@ module _ {S : Type 0} (g : Ghosts S) (old late : Held S) (m : Meta) (s : State)
     leaves = λ db may. inl (leaves_new law end shown db may);
   }
 
-  -- whatever the commit came to, trees that were left before or the new ones are left
+  -- whether the commit succeeded or not, a crash leaves trees that it could leave before, or the new ones
   pub either_left : (db : Trees) → (state g late).may_leave db ⊎ (db ≡ (state g late).now.trees)
       → (state g old).may_leave db ⊎ MeansIn Two db s
   either_left db (inl before) =

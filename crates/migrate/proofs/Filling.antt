@@ -1,4 +1,4 @@
--- What the statement that copies a range of items makes of entry2.
+-- How the statement that copies a range of items changes entry2.
 use Rattle.std.proofs.Common.{◌≡◌, ◌<ℤ◌, ◌<◌, ◌≤◌, ◌+◌, ℕ, pos, List, [], ◌∷◌, ◌++◌, map, filter, fold, drop, false, if◌then◌else◌, None, MatchBool, Ok, Err, Result, OnOk, refl, sym, ap, subst, subst₂, ◌∙◌, inl, inr, arith}
 use Rattle.std.proofs.lemmas.Int.{ints}
 use Rattle.std.specs.List.{AllByRecursion}
@@ -60,7 +60,7 @@ copy_items_plain = (refl, refl)
 abbrev program_edit : Table → Trees → List Row → Edit
 program_edit table db rows = edit_of db table [] Chosen 0 rows
 
--- the rows of a query go in by one edit
+-- one edit inserts all rows of a query
 query_edits : (task : Task) (q : Query) (db : Trees) (w : Written) → task.table.is_counted ≡ false → stamped task.table task.params ≡ task.params
     → Inserts task (source.Query (record { lets = []; body = q })) db (Ok w)
     → (rows : List Row) × IsAnswer q (overlay db []) task.params rows × Edited task.schema task.keys db (program_edit task.table db rows) (Ok w.trees)
@@ -124,7 +124,7 @@ as_plain db params rows a = record {
   shown = a.shown;
 }
 
--- what the query gives are the items of the range, in their order
+-- the rows of the query are the items of the range, in their order
 range_rows : (first last : ℕ) (db : Trees) (items : List EntryRow) (rows : List Row) → IsNumbered (λ (e : EntryRow). e.num) entry_row (db 10) items
     → IsAnswer copy_items_query (overlay db []) (range_params first last) rows
     → rows ≡ map (λ e. (item_out e).1) (filter (is_between first last) items)
@@ -148,7 +148,7 @@ own_rowids : (rows : List Row) (items : List EntryRow) → numbered Chosen rows 
 own_rowids rows [] = refl
 own_rowids rows (e ∷ items) = ap (λ r. entry_row e ∷ r) (own_rowids (put_row (entry_row e) rows) items)
 
--- of a rising list the first are below what follows
+-- in a rising list the first elements are below the later ones
 first_below : (xs : List EntryRow) (y : EntryRow) (ys : List EntryRow) → Rises (xs ++ y ∷ ys) → AllByRecursion (λ (x : EntryRow). pos x.num <ℤ pos y.num) xs
 first_below [] y ys rise = tt
 first_below (x ∷ xs) y ys rise =
@@ -166,7 +166,7 @@ nothing_more : (xs : List EntryRow) → xs ++ [] ≡ xs
 nothing_more [] = refl
 nothing_more (x ∷ xs) = ap (λ r. x ∷ r) (nothing_more xs)
 
--- rows that rise above those that are there go to the end
+-- rows that rise above those already there are appended
 put_after : (xs ys : List EntryRow) → Rises (xs ++ ys) → put_all (map entry_row xs) (map entry_row ys) ≡ map entry_row (xs ++ ys)
 put_after xs [] rise = ap (map entry_row) (sym (nothing_more xs))
 put_after xs (y ∷ ys) rise =
@@ -174,7 +174,7 @@ put_after xs (y ∷ ys) rise =
     ∙ put_after (xs ++ y ∷ []) ys (subst Rises (sym (together xs y ys)) rise)
     ∙ ap (map entry_row) (together xs y ys)
 
--- the range goes behind the items that are there
+-- the range is appended to the items already there
 filled : (first last : ℕ) → first ≤ last → (db : Trees) (items : List EntryRow) (rows : List Row) → IsNumbered (λ (e : EntryRow). e.num) entry_row (db 10) items
     → db 13 ≡ map entry_row (items_below first items)
     → IsAnswer copy_items_query (overlay db []) (range_params first last) rows
@@ -191,7 +191,7 @@ filled first last order db items rows table there answer =
     ∙ put_after (items_below first items) some rise
     ∙ ap (map entry_row) next
 
--- one range more is copied, and the other rows are as they were
+-- one more range is copied, and the other rows are as they were
 pub copies_range : (first last : ℕ) (old new : State) (t : Tables) (r : Result ℕ Error) → first ≤ last → HasCopied first old t
     → ExecutesInside 0 copy_items_text (range_params first last) old new r → OnOk r (HasCopied (last + 1) new t)
 copies_range first last old new t (Err e) order has ran = tt

@@ -1,4 +1,4 @@
--- A call that writes nothing leaves what the connection stood for. For read_old.
+-- A call that writes nothing leaves the state that the connection represented. For read_old.
 use Rattle.std.proofs.Common.{◌≡◌, ◌⊎◌, inl, inr, IsTrue, sym, ap, subst, ◌∙◌, arith}
 use Rattle.sqlite.specs.Store.{Ghosts}
 use Rattle.sqlite.specs.Held.{Held, state}
@@ -13,20 +13,20 @@ use Rattle.sql_model.specs.Keeping.{SeesOf, SeesNew, Sees, IsFound}
 use Rattle.sql_model.proofs.KeepLemmas.{left_before}
 use Rattle.migrate.specs.Migrating.{IsAsBefore}
 
--- as far as it is open a connection was so before, and sees what was committed then, and still is
+-- if the connection is open it was open before, and sees its old view or the last commit, which is the same
 pub record SeesTheSame (a b : Connected) : Type 0 where
   pub was_open : IsTrue b.is_open → IsTrue a.is_open
   pub now : IsTrue b.is_open → (b.now ≡ a.now) ⊎ (b.now ≡ a.committed)
   pub committed : IsTrue b.is_open → b.committed ≡ a.committed
 
--- a call that changed nothing, or was rolled back
+-- the call changed nothing, or was rolled back
 pub quiet_same : (a b : Connected) → IsUnchanged a b ⊎ IsRolledBack a b → SeesTheSame a b
 quiet_same a b (inl same) =
     record { was_open = λ _. same.0.was_open; now = λ _. inl same.0.now_is; committed = λ _. same.0.committed_is }
 quiet_same a b (inr back) =
     record { was_open = back.was_open; now = λ h. inr (back.undone h).0; committed = λ h. (back.undone h).1 }
 
--- whichever of the two it sees, where they were the same
+-- where the old view was the last commit, the new view is the old one
 settled : (a b : Connected) → a.now ≡ a.committed → (b.now ≡ a.now) ⊎ (b.now ≡ a.committed) → b.now ≡ a.now
 settled a b both (inl is) = is
 settled a b both (inr is) = is ∙ sym both
@@ -57,7 +57,7 @@ sees_same One a b s same live saw = of_same One a b s same live saw
 sees_same Two a b s same live (inl saw) = inl (of_same Two a b s same live saw)
 sees_same Two a b s same live (inr saw) = inr (new_same a b s same live saw)
 
--- such a call leaves what the connection stood for
+-- such a call leaves the state that the connection represented
 pub as_before : {S : Type 0} (g : Ghosts S) (old new : Held S)
     → LeavesNoMore g old new → (HasCleanDisk (state g new) → SeesTheSame (state g old) (state g new)) → IsAsBefore g old new
 as_before g old new less same = record {

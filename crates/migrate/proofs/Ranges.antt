@@ -34,7 +34,7 @@ tests_high a b h = grind (arith, nat_tests, h)
 outside : (n first last : ℕ) → n < first → (nat_le first n && nat_le n last) ≡ false
 outside n first last low = let no : nat_le first n ≡ false = grind (arith, nat_tests, low) in rw no refl
 
--- from the first number on, to be in the range is to be below its end
+-- from the first number on, a number is in the range exactly if it is below its end
 within : (n first last : ℕ) → first ≤ n → (nat_le first n && nat_le n last) ≡ nat_lt n (last + 1)
 within n first last high =
     let yes : nat_le first n ≡ true = grind (arith, nat_tests, high) in
@@ -58,20 +58,20 @@ pub items_below-zero : (items : List EntryRow) → items_below 0 items ≡ []
 items_below-zero items =
     none_pass (λ (e : EntryRow). nat_lt e.num 0) items (all_from _ items (λ e h. tests_high e.num 0 (omega arith)))
 
--- all items are below a number above theirs
+-- all items are below a number that is above theirs
 pub items_below-all : (n : ℕ) (items : List EntryRow) → AllByRecursion (λ (e : EntryRow). e.num < n) items → items_below n items ≡ items
 items_below-all n items low =
     all_pass (λ (e : EntryRow). nat_lt e.num n) items
     (all_from _ items (λ e h. tests_low e.num n (all_has (λ (x : EntryRow). x.num < n) items e low h)))
 
--- no later item is below the first number, where this one is not
+-- where this item is not below the first number, no later item is
 above_first : (first : ℕ) (x : EntryRow) (xs : List EntryRow) → AllByRecursion (λ (z : EntryRow). x.num < z.num) xs → first ≤ x.num
     → (y : EntryRow) → Has (x ∷ xs) y → first ≤ y.num
 above_first first x xs rise high y (inl same) = rw same high
 above_first first x xs rise high y (inr later) =
     let up = all_has (λ (z : EntryRow). x.num < z.num) xs y rise later in omega arith
 
--- those below a range and those in it are those below its end
+-- the items below a range, and those in it, are the items below its end
 pub items_below-next : (first last : ℕ) → first ≤ last → (items : List EntryRow) → Rises items
     → items_below first items ++ filter (is_between first last) items ≡ items_below (last + 1) items
 items_below-next first last order [] rise = refl

@@ -13,7 +13,7 @@ use Rattle.sql_model.specs.Keeping.{SeesOf, IsFound, IsKeptIn}
 use Rattle.migrate.specs.Migrating.{AreNumbersOf}
 
 module _ (old new : Connected) (m : Meta) (seen : (v : Version) (t : Tables) → MaySeeIn v old t → IsUnchanged old new × IsMeta t m) where
-  -- a version that was read tells that the connection was open
+  -- a version that was read shows that the connection was open
   was_open : IsTrue old.is_open
   was_open = go old.is_open refl
     where
@@ -21,7 +21,7 @@ module _ (old new : Connected) (m : Meta) (seen : (v : Version) (t : Tables) →
       go true e = e
       go false e = (seen Two no_rows (λ here. absurd (let never : true ≡ false = sym here ∙ e in cc))).0.0.was_open
 
-  -- the numbers that were read are those of the state for which the tables stand
+  -- the numbers that were read are those of the state that the tables represent
   pub numbers_read : (s : State) → IsFound One old s → AreNumbersOf m s
   numbers_read s found =
       let desk : SeesOf One old s = found.sees was_open in
@@ -29,11 +29,11 @@ module _ (old new : Connected) (m : Meta) (seen : (v : Version) (t : Tables) →
       let same : meta_of m ∷ [] ≡ meta_in One s.ledger ∷ [] = sym read.1 ∙ desk.stands.meta in
       cc
 
--- a fact that holds whatever the result is
+-- a fact that holds for any result
 pub on_err : {V E : Type 0} (P : Type 0) (r : Result V E) → P → OnErr r P
 on_err P (Ok v) h = tt
 on_err P (Err e) h = h
 
--- in tables of version 1 what is found is kept
+-- a state that is found in tables of version 1 is kept in them
 pub found_keeps : (c : Connected) (s : State) → IsFound One c s → IsKeptIn One c s
 found_keeps c s found = record { sees = found.sees; leaves = found.leaves }

@@ -1,4 +1,4 @@
--- The rows of a migrated desk stand for what the old ones stood for. For bring_over.
+-- The rows of a migrated desk represent the state that the old rows represented. For bring_over.
 use Rattle.std.proofs.Common.{◌≡◌, ℕ, suc, ◌+◌, ◌<◌, List, [], ◌∷◌, length, map, refl, sym, ap, subst, ◌∙◌, arith}
 use Rattle.std.specs.Prelude.{filter_map}
 use Rattle.std.specs.List.{AllByRecursion}
@@ -24,7 +24,7 @@ entry_num num journey (Compensation step option) = refl
 entry_num num journey (Turn target cause) = refl
 entry_num num journey (Save position) = refl
 
--- numbers below the end of the later events are below the end of all
+-- numbers below the end of the later events are below the end of all events
 later : (n m : ℕ) (rows : List EntryRow) → AllByRecursion (λ (e : EntryRow). e.num < suc n + m) rows
     → AllByRecursion (λ (e : EntryRow). e.num < n + suc m) rows
 later n m rows below =
@@ -49,7 +49,7 @@ all_below l items same =
     (let e : 1 + length l ≡ length l + 1 = omega arith in e)
     (all-permutation (λ (e : EntryRow). e.num < 1 + length l) (entries_called l) items same (entries_from-below 1 l))
 
--- the migrated rows stand for the same state, as those of version 2
+-- the migrated rows represent the same state, as rows of version 2
 pub migrated_stands : (m : Meta) (t : Tables) (s : State) → AreNumbersOf m s → StandsIn One t s → StandsIn Two (migrated m t) s
 migrated_stands m t s numbers stands =
     let events : m.events ≡ length s.ledger = ap (λ (r : MetaRow). r.events) numbers in

@@ -1,4 +1,4 @@
--- What a crash leaves, and what the connection shows, where a migration did not come to its end. For migrate.
+-- What a crash leaves, and what the connection shows, if a migration did not complete. For migrate.
 use Rattle.std.proofs.Common.{◌≡◌, ◌≢◌, inl, inr, ℕ, suc, List, [], ◌∷◌, length, Bool, true, false, IsTrue, refl, sym, ap, subst, ◌∙◌, arith}
 use Rattle.std.specs.List.{AllByRecursion}
 use Rattle.sqlite.specs.Store.{Ghosts}
@@ -20,17 +20,17 @@ use Rattle.migrate.specs.declared.faults.MigrateFault.TheVariants.{AlreadyNew, U
 use Rattle.migrate.specs.Migrating.{IsAsBefore, IsRefusal, LeavesEither, LeavesOneOf, NumbersOld, ShowsAsBefore, ShowsOld, Tells, WasNotOld}
 use Rattle.migrate.proofs.Reading.{found_keeps}
 
--- the tables of version 1 are some
+-- version 1 has tables
 not_bare : seven_schema ≡ no_schema → ⊥
 not_bare e = let n : ◌≡◌ {A = ℕ} 7 0 = ap (λ (s : Schema). length s.tables) e in omega arith
 
--- rows that stand for a state have the number of their version
+-- rows that represent a state have the number of their version
 has_number : (v : Version) (n : ℕ) (t : Tables) (s : State) → StandsIn v t s → AreOfVersion n t → number_of v ≡ n
 has_number v n t s stands all =
     (subst (λ (rows : List MetaRow). AllByRecursion (λ (m : MetaRow). m.version ≡ n) rows) stands.meta all).0
 
 module _ {S : Type 0} (g : Ghosts S) (old mid : Held S) where
-  -- a version that was seen shows that the connection was open: a shut one may be said to see any rows
+  -- a version that was seen shows that the connection was open: a closed one may be said to see any rows
   saw_open : (n : ℕ) → SawVersion g old mid n → HasCleanDisk (state g mid) → IsTrue (state g old).is_open
   saw_open n saw clean = go (state g old).is_open refl
     where
@@ -51,7 +51,7 @@ module _ {S : Type 0} (g : Ghosts S) (old mid : Held S) where
       has_number v n desk.tables s desk.stands
       (saw clean v desk.tables (λ _. record { schema = desk.schema; rows = desk.shown; sound = desk.sound }))
 
-  -- where the tables have version 1, the connection did not stand for a state in tables of version 2
+  -- where the tables have version 1, the connection represented no state in tables of version 2
   not_new : (s : State) → SawVersion g old mid 1 → (old.schema ≡ no_schema → ⊥) → HasCleanDisk (state g mid) → HasCleanDisk (state g old)
       → StoodFor Two (state g old) s → ⊥
   not_new s saw filled clean at_old stood =
@@ -62,34 +62,34 @@ module _ {S : Type 0} (g : Ghosts S) (old mid : Held S) where
       ]
 
   module _ (same : IsAsBefore g old mid) where
-    -- what was clean after a call that changed nothing was clean before it
+    -- a disk that is clean after a call that changed nothing was clean before it
     at_first : HasCleanDisk (state g mid) → HasCleanDisk (state g old)
     at_first clean = omega (arith, same.leaves.clean)
 
-    -- after a call that changed nothing a crash leaves what it left before
+    -- after a call that changed nothing a crash leaves what it could leave before
     pub left_as_before : LeavesEither g old mid
     left_as_before clean v s stood db may =
         let before = left_before (state g old) (state g mid) same.leaves clean db may in
         inl (before, (stood (at_first clean)).leaves db before)
 
-    -- and the connection shows what it showed
+    -- after such a call the connection shows what it showed
     pub shows_as_before : ShowsAsBefore g old mid
     shows_as_before clean v s stood live = (same.stands v s stood clean).sees live
 
-    -- where the tables have another version than 1, the connection did not stand for a state in tables of version 1
+    -- where the tables have a version other than 1, the connection represented no state in tables of version 1
     not_old : (n : ℕ) → n ≢ 1 → SawVersion g old mid n → WasNotOld g old mid
     not_old n other saw clean live s stood =
         let found : IsFound One (state g old) s = stood (at_first clean) in
         other (sym (saw_number One n s saw clean (found.sees live)))
 
-    -- nor did it where the store has no tables
+    -- where the store has no tables, the connection represented no state in tables of version 1
     bare_not_old : old.schema ≡ no_schema → WasNotOld g old mid
     bare_not_old bare clean live s stood =
         let found : IsFound One (state g old) s = stood (at_first clean) in
         let desk : SeesOf One (state g old) s = found.sees live in
         not_bare (sym desk.schema ∙ bare)
 
-  -- so a refusal does not come on tables of version 1
+  -- so no refusal comes on tables of version 1
   pub refuses_others : (why : MigrateFault) → Tells g old mid why → IsRefusal why → WasNotOld g old mid
   refuses_others AlreadyNew told is = not_old told.1 2 (λ e. omega (arith, e)) told.0
   refuses_others (UnknownSchema n) told is = elim told.0.2 [
@@ -99,14 +99,14 @@ module _ {S : Type 0} (g : Ghosts S) (old mid : Held S) where
   refuses_others Store told is = absurd is
   refuses_others Memory told is = absurd is
 
-  -- After tables of version 1 were read the migration failed.
+  -- A migration that failed after tables of version 1 were read.
   module _ (new : Held S) (m : Meta) (same : IsAsBefore g old mid) (saw : SawVersion g old mid 1) (filled : old.schema ≡ no_schema → ⊥)
       (sound : WasClean g mid new) where
     -- the connection kept the state when the transaction began
     kept_there : (s : State) → StoodFor One (state g old) s → KeepsIn One (state g mid) s
     kept_there s stood still = found_keeps (state g mid) s (same.stands One s stood still)
 
-    -- a crash leaves what it left at first, or the new tables
+    -- a crash leaves what it could leave at first, or the new tables
     pub left_either : NumbersOld g old mid m → LeavesOneOf g mid new m → LeavesEither g old new
     left_either numbers left clean One s stood db may =
         let at_mid = sound clean in
@@ -117,7 +117,7 @@ module _ {S : Type 0} (g : Ghosts S) (old mid : Held S) where
     left_either numbers left clean Two s stood db may =
         absurd (not_new s saw filled (sound clean) (at_first same (sound clean)) stood)
 
-    -- and the connection shows the old tables
+    -- the connection shows the old tables
     pub shows_either : ShowsOld g mid new → ShowsAsBefore g old new
     shows_either shows clean One s stood live = shows clean s (kept_there s stood) live
     shows_either shows clean Two s stood live =

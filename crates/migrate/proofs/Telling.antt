@@ -1,4 +1,4 @@
--- What a refusal or a fault of the reading says of what was there. For read_old.
+-- What a refusal or a fault of the read reports of the old store. For read_old.
 use Rattle.std.proofs.Common.{◌≡◌, ◌↔◌, inr, List, Ok, Err, Result, IfOk, IfErr, OnOk, refl, sym, subst}
 use Rattle.std.specs.List.{AllByRecursion}
 use Rattle.sqlite.specs.Store.{Ghosts}
@@ -13,12 +13,12 @@ use Rattle.migrate.specs.declared.faults.MigrateFault.{MigrateFault}
 use Rattle.migrate.specs.declared.faults.MigrateFault.TheVariants.{AlreadyNew, UnknownSchema, Store, Memory}
 use Rattle.migrate.specs.Migrating.{IsAsBefore, RefusesNumbers, Tells}
 
--- what follows from a fact of each success follows of a success
+-- what follows from a fact of each success holds for a success
 pub on_ok : {V E : Type 0} (C : Type 0) (P : V → Type 0) (r : Result V E) → ((v : V) → P v → C) → IfOk r P → OnOk r C
 on_ok C P (Ok v) step h = step v h
 on_ok C P (Err e) step h = tt
 
--- what follows from a fact of each failure holds of a failure
+-- what follows from a fact of each failure holds for a failure
 pub on_errors : {V E : Type 0} (P Q : E → Type 0) (r : Result V E) → ((e : E) → P e → Q e) → IfErr r P → IfErr r Q
 on_errors P Q (Ok v) step h = tt
 on_errors P Q (Err e) step h = step e h

@@ -1,4 +1,4 @@
--- What a migration makes of a connection, and what a crash leaves of it.
+-- The state of a connection after a migration, and what a crash may leave of it.
 use Rattle.std.specs.Prelude.{◌≡◌, ◌≢◌, ◌⊎◌, ◌+◌, ◌≤◌, ◌^◌, ℕ, ⊤, length, Result, OnOk, IsTrue}
 use Rattle.sqlite.specs.Store.{Ghosts}
 use Rattle.sqlite.specs.Tree.{Trees}
@@ -31,7 +31,7 @@ migrated m t =
     counts (record { version = 2; events = m.events; journeys = m.journeys })
     (with_items_below (m.events + 1) t)
 
--- a refusal changes nothing, and a fault may come before the commit or at it
+-- the fault is a refusal, which changes nothing; the other faults come before the commit or at it
 abbrev pub IsRefusal : MigrateFault → Type 0
 IsRefusal AlreadyNew = ⊤
 IsRefusal (UnknownSchema n) = ⊤
@@ -41,11 +41,11 @@ IsRefusal Memory = ⊥
 abbrev pub IsFault : MigrateFault → Type 0
 IsFault why = (why ≡ Store) ⊎ (why ≡ Memory)
 
--- more events, or more journeys, than a file can have
+-- more events, or more journeys, than a file may have
 abbrev pub too_many : ℕ
 too_many = 2 ^ 62
 
--- a version that is not migrated is refused as what it is, and Store is for numbers that no file has
+-- a version that is not migrated is refused by its number, and Store reports numbers that no file has
 abbrev pub RefusesNumbers : Meta → MigrateFault → Type 0
 RefusesNumbers m AlreadyNew = m.version ≡ 2
 RefusesNumbers m (UnknownSchema n) = (n ≡ m.version) × (n ≢ 1) × (n ≢ 2)
@@ -53,86 +53,86 @@ RefusesNumbers m Store = (m.version ≡ 1) × ((too_many ≤ m.events) ⊎ (too_
 RefusesNumbers m Memory = ⊥
 
 module _ {S : Type 0} (g : Ghosts S) (old new : Held S) where
-  -- what the connection stood for in tables of version 1, it keeps in those of version 2
+  -- the state that the connection represented in tables of version 1 is kept in tables of version 2
   abbrev pub BringsOver : Type 0
   BringsOver =
       HasCleanDisk (state g new) → (s : State) → StoodFor One (state g old) s → IsKeptIn Two (state g new) s
 
-  -- the number is that of the events of each state for which the connection stood in tables of version 1
+  -- the number is that of the events of each state that the connection represented in tables of version 1
   abbrev pub CountsEvents : ℕ → Type 0
   CountsEvents n = HasCleanDisk (state g new) → (s : State) → StoodFor One (state g old) s → n ≡ length s.ledger
 
-  -- what the connection stood for it stands for, in tables of the same version, and a crash leaves nothing new
+  -- the connection represents what it represented, in tables of the same version, and a crash leaves nothing new
   pub record IsAsBefore : Type 0 where
     pub stands : (v : Version) (s : State) → StoodFor v (state g old) s → StoodFor v (state g new) s
     pub leaves : LeavesNoMore g old new
 
-  -- whatever a crash leaves stands for the same in tables of version 2
+  -- whatever a crash leaves represents the same state in tables of version 2
   abbrev pub LeavesNew : Type 0
   LeavesNew =
       HasCleanDisk (state g new) → (s : State) → StoodFor One (state g old) s
       → (db : Trees) → (state g new).may_leave db → MeansIn Two db s
 
-  -- whatever a crash leaves, it left before, and that still stands for the same; or it stands for the same in
-  -- tables of version 2, where the connection stood for it in tables of version 1
+  -- whatever a crash leaves could be left before, and still represents the same state; or the connection represented
+  -- the state in tables of version 1, and the trees represent it in tables of version 2
   abbrev pub LeavesEither : Type 0
   LeavesEither =
       HasCleanDisk (state g new) → (v : Version) (s : State) → StoodFor v (state g old) s
       → (db : Trees) → (state g new).may_leave db
       → ((state g old).may_leave db × MeansOf v db s) ⊎ ((v ≡ One) × MeansIn Two db s)
 
-  -- as far as it is open the connection shows what it stood for, in tables of the same version
+  -- if the connection is open, it shows the state that it represented, in tables of the same version
   abbrev pub ShowsAsBefore : Type 0
   ShowsAsBefore =
       HasCleanDisk (state g new) → (v : Version) (s : State) → StoodFor v (state g old) s
       → IsTrue (state g new).is_open → Shows v (state g new) s
 
-  -- no open connection stood for a state in tables of version 1
+  -- no open connection represented a state in tables of version 1
   abbrev pub WasNotOld : Type 0
   WasNotOld =
       HasCleanDisk (state g new) → IsTrue (state g old).is_open → (s : State) → StoodFor One (state g old) s → ⊥
 
-  -- the version is not known: the store has no tables and it is 0, or the tables have it
+  -- the version is unknown: it is 0 and the store has no tables, or the tables have that version
   abbrev pub SawUnknown : ℕ → Type 0
   SawUnknown n =
       (n ≢ 1) × (n ≢ 2) × (((n ≡ 0) × ((state g old).now.schema ≡ no_schema)) ⊎ SawVersion g old new n)
 
-  -- What a fault or a refusal says of what was there.
+  -- What a fault or a refusal reports of the old store.
   abbrev pub Tells : MigrateFault → Type 0
   Tells AlreadyNew = SawVersion g old new 2 × IsAsBefore
   Tells (UnknownSchema n) = SawUnknown n × IsAsBefore
   Tells Store = ⊤
   Tells Memory = IsAsBefore
 
-  -- the numbers are those of each state for which the connection stood in tables of version 1
+  -- the numbers are those of each state that the connection represented in tables of version 1
   abbrev pub NumbersOld : Meta → Type 0
   NumbersOld m =
       HasCleanDisk (state g new) → (s : State) → StoodFor One (state g old) s → AreNumbersOf m s
 
-  -- on tables of version 1 a success leaves them as tables of version 2
+  -- on tables of version 1 a success makes them tables of version 2
   abbrev pub WritesNew : {V : Type 0} → Result V Error → Meta → Type 0
   WritesNew result m =
       HasCleanDisk (state g new) → (t : Tables) → MayAdd (state g old) t
       → OnOk result (Sees (state g new) (migrated m t))
 
-  -- on tables of version 1 with these numbers a success leaves the same state in tables of version 2
+  -- on tables of version 1 with these numbers a success keeps the same state in tables of version 2
   abbrev pub BringsAll : {V E : Type 0} → Result V E → Meta → Type 0
   BringsAll result m =
       (s : State) → AreNumbersOf m s → KeepsIn One (state g old) s → OnOk result (KeepsIn Two (state g new) s)
 
-  -- whatever a crash leaves of tables of version 1 with these numbers is the new tables
+  -- whatever a crash leaves, from tables of version 1 with these numbers, is the new tables
   abbrev pub LeavesNewOf : Meta → Type 0
   LeavesNewOf m =
       HasCleanDisk (state g new) → (s : State) → AreNumbersOf m s → KeepsIn One (state g old) s
       → (db : Trees) → (state g new).may_leave db → MeansIn Two db s
 
-  -- whatever a crash leaves of tables of version 1 with these numbers, it left before; or it is the new tables
+  -- whatever a crash leaves, from tables of version 1 with these numbers, could be left before or is the new tables
   abbrev pub LeavesOneOf : Meta → Type 0
   LeavesOneOf m =
       HasCleanDisk (state g new) → (s : State) → AreNumbersOf m s → KeepsIn One (state g old) s
       → (db : Trees) → (state g new).may_leave db → (state g old).may_leave db ⊎ MeansIn Two db s
 
-  -- as far as it is open the connection shows the state that it kept in tables of version 1
+  -- if the connection is open, it shows the state that it kept in tables of version 1
   abbrev pub ShowsOld : Type 0
   ShowsOld =
       HasCleanDisk (state g new) → (s : State) → KeepsIn One (state g old) s

@@ -1,4 +1,4 @@
--- The statement that only migration runs, and what it means under the newest schema.
+-- The statement that only migration runs, and its meaning under the newest schema.
 use Rattle.std.specs.Prelude.{ℕ, List, [], ◌∷◌, codes}
 use Rattle.sqlite.specs.declared.types.Value.TheVariants.{Null}
 use Rattle.sqlite.specs.Term.{lit, col, op2}
@@ -21,10 +21,10 @@ range_query =
     sorted_rows 10 (op2 (Compare Ge Binary) (col 1 0) (col 0 0) ∷ op2 (Compare Le Binary) (col 1 0) (col 0 1) ∷ [])
     (col 1 0 ∷ lit Null ∷ col 1 2 ∷ col 1 3 ∷ col 1 4 ∷ col 1 5 ∷ []) ((col 1 0, rising) ∷ [])
 
--- the same, as it stands in the command; collations are for DISTINCT, which it has not
+-- the same query in the command; collations matter for DISTINCT only, which it has not
 abbrev pub copy_items_query : Query
 copy_items_query = record range_query { collations = Binary ∷ Binary ∷ Binary ∷ Binary ∷ Binary ∷ Binary ∷ [] }
 
--- they are put into entry2
+-- the command inserts these rows into entry2
 abbrev pub copy_items_command : Command
 copy_items_command = Insert 7 (source.Query (record { lets = []; body = copy_items_query }))

@@ -8,15 +8,15 @@ use sqlite::{Error, ErrorCode};
 pub enum MigrateFault {
     /// The tables are of the newest version.
     AlreadyNew,
-    /// The tables are of a version that is not known, or 0 where there are no tables.
+    /// The tables are of an unknown version, or 0 if there are no tables.
     UnknownSchema(u64),
-    /// The store failed, or has tables without a readable version.
+    /// The store failed, its tables have no readable version, or they have numbers that no file has.
     Store,
-    /// Memory ran out before the commit.
+    /// Out of memory before the commit.
     Memory,
 }
 
-/// The fault of an error that came before the commit. Nothing was committed, so out of memory is reported as such.
+/// The fault of an error before the commit. Nothing was committed, so out of memory is reported as such.
 pub(crate) fn fault_of(error: &Error) -> MigrateFault
     ensures memory { result ≡ MigrateFault.Memory ↔ error.now ≡ Error.SqliteFailure ErrorCode.OutOfMemory }
     ensures store { result ≡ MigrateFault.Store ↔ (error.now ≢ Error.SqliteFailure ErrorCode.OutOfMemory) }

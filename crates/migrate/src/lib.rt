@@ -1,9 +1,9 @@
-//! Migration: the tables of an older file are brought to the newest version, in one commit.
+//! Migration of the tables of an older file to the newest version, in one commit.
 //!
-//! The ledger and the kept replies stay as they are. After a crash at any moment the file has its old tables or the
-//! new ones. A file that cannot be migrated is refused, and nothing is written.
+//! The ledger and the kept replies stay as they are. After a crash at any moment the file has its old tables or the new
+//! ones. A file that cannot be migrated is refused, and nothing is written.
 //!
-//! Words: the *items* of version 1 stand in `entry`, and those of version 2 in `entry2`; migration *copies* them.
+//! Words: the *items* of version 1 are in `entry`, and those of version 2 in `entry2`; migration *copies* them.
 #![tactic(auto)]
 
 mod faults;

@@ -1,7 +1,7 @@
-//! The migration: the version is read, and tables of version 1 are brought over in one transaction.
+//! The migration: it reads the version, and migrates tables of version 1 in one transaction.
 //!
-//! Every refusal comes before the transaction begins. Until the commit, which is the last call of the store, nothing
-//! is on the disk but the old tables.
+//! Every refusal comes before the transaction begins. Until the commit, which is the last call of the store, the disk
+//! has only the old tables.
 
 ghost use Rattle.std.specs.Prelude.{◌≡◌, ◌≢◌, ◌<◌, ◌^◌, ℕ, false, None, Err, IfOk, IfErr, OnOk, OnErr};
 ghost use Rattle.sqlite.specs.Held.{state};
@@ -16,13 +16,13 @@ use crate::statements::{add_tables, copy_all};
 use desk_sql::{Meta, has_no_tables, read_meta, update_meta};
 use sqlite::{Alter, Connection, Error, Transaction};
 
-/// More events, and more journeys, than a file can have.
+/// More events, and more journeys, than a file may have.
 const LIMIT: u64 = 1 << 62;
 
-/// What migration brought over.
+/// The result of a migration.
 #[derive(Clone, Copy, Debug, PartialEq, Eq)]
 pub struct Migrated {
-    /// How many events the ledger has.
+    /// The number of events in the ledger.
     pub events: u64,
 }
 
@@ -50,7 +50,7 @@ fn read_old<S: Alter>(conn: &mut Connection<S>) -> Result<Meta, MigrateFault>
     }
 }
 
-/// The numbers that were read, if they are of version 1.
+/// The numbers that were read, if they are of version 1 and below the limit.
 fn old_only(meta: Meta) -> Result<Meta, MigrateFault>
     ensures ok { IfOk result (λ m. (m ≡ meta) × (m.version ≡ 1) × (m.events < 2 ^ 62) × (m.journeys < 2 ^ 62)) }
 
@@ -82,7 +82,7 @@ fn write_new<S: Alter>(tx: &mut Transaction<'_, S>, meta: Meta) -> Result<(), Er
     Ok(())
 }
 
-/// Brings the tables over in one commit, which is the last call of the store.
+/// Migrates the tables in one commit, which is the last call of the store.
 fn bring_over<S: Alter>(conn: &mut Connection<S>, meta: Meta) -> Result<(), MigrateFault>
     requires outside { conn.old.in_transaction ≡ false }
     requires events { meta.events < 2 ^ 62 }
@@ -111,11 +111,11 @@ fn bring_over<S: Alter>(conn: &mut Connection<S>, meta: Meta) -> Result<(), Migr
     }
 }
 
-/// Brings tables of version 1 to version 2, in one commit. The ledger and the kept replies stay as they are. The table
-/// `entry` stays in the file, and is no longer read.
+/// Migrates tables of version 1 to version 2, in one commit. The ledger and the kept replies stay as they are. The
+/// table `entry` stays in the file, and is no longer read.
 ///
 /// A store without tables and tables of another version are refused, and nothing changes. After a fault a crash leaves
-/// the old tables or the new ones; the connection itself still shows the old ones, as far as it is open.
+/// the old tables or the new ones; the connection itself, if it is open, still shows the old ones.
 pub fn migrate<S: Alter>(conn: &mut Connection<S>) -> Result<Migrated, MigrateFault>
     requires outside { conn.old.in_transaction ≡ false }
     requires unlimited { conn.old.step_limit ≡ None }

@@ -7,7 +7,7 @@ ghost use Rattle.migrate.specs.Copying.{AddsTables, CopiesItems};
 use sqlite::types::ValueRef;
 use sqlite::{Alter, Error, Transaction};
 
-/// One statement copies the items of at most so many events, so that its memory does not grow with the file.
+/// The most events whose items one statement copies, so that its memory does not grow with the file.
 const RANGE: u64 = 4096;
 
 /// Makes `entry2` and `mark`, without rows, beside the tables of version 1.
@@ -30,7 +30,7 @@ pub(crate) fn add_tables<S: Alter>(tx: &mut Transaction<'_, S>) -> Result<(), Er
     Ok(())
 }
 
-/// Copies the items of a range of events, the first and the last included. Those before it are there already.
+/// Copies the items of a range of events, the first and the last included. Those of earlier events are copied already.
 fn copy_items<S: Alter>(tx: &mut Transaction<'_, S>, first: u64, last: u64) -> Result<(), Error>
     requires order { first ≤ last }
     requires last { last < 2 ^ 63 }

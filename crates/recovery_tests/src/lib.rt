@@ -1,5 +1,5 @@
-//! Tests of recovery over a desk in memory: what it makes of worked journeys, how often it looks, and a store that fails
-//! after any number of its commands.
+//! Tests of recovery over a desk in memory: its result for worked journeys, how often it reads an unfinished journey,
+//! and a store that fails after any number of its commands.
 #![tactic(auto)]
 
 #[cfg(test)]

@@ -1,5 +1,5 @@
-// What no clause says: that recovery comes through where memory is ample, and what it makes of worked journeys, whose
-// items are told by hand from the rules.
+// What no clause says: recovery succeeds given enough memory, and its result for worked journeys. The expected items
+// are computed by hand from the rules.
 use allotment::{Cell, Row};
 use commands::{Batch, Command, Fault, Name, Phase};
 use memory_book::MemBook;
@@ -16,7 +16,7 @@ mod failing;
 use counting::CountingBook;
 use failing::FailingBook;
 
-/// The rows that stand between commas, each a cell and its places.
+/// The rows in a text, separated by commas, each a cell and its places.
 fn rows_of(alloc: Global, text: &str) -> Result<Vec<Row>, Fail> {
     let mut rows = Vec::new(alloc);
     for part in text.split(", ") {
@@ -91,8 +91,8 @@ fn recovered(rt: &impl Abort, book: MemBook, events: u64) -> Result<Ready<MemBoo
     }
 }
 
-/// Journeys come to these items: what was done on a new desk, how many events recovery makes of it, and each journey's
-/// items and whether it ended.
+/// A case: the lines on a new desk, how many events recovery makes after them, and then each journey's items and
+/// whether it ended.
 #[derive(Drop)]
 struct Case<'a> {
     lines: &'a [&'a str],
@@ -100,7 +100,7 @@ struct Case<'a> {
     journeys: &'a [(&'a str, Phase)],
 }
 
-/// The desk of a case is recovered, and a second time there is nothing to do.
+/// Recovers the desk of a case. A second recovery has nothing to do.
 fn comes_to(rt: &impl Abort, alloc: Global, case: &Case) -> Result<Ready<MemBook>, Fail> {
     let book = after(alloc, case.lines)?;
     let mut ready = recovered(rt, book, case.events)?;
@@ -166,7 +166,7 @@ const MARKED_2_4: &str =
     "begin F/AL/A1/2030-06-01/1/1;F/AL/A2/2030-06-01/1/1*;F/AL/A3/2030-06-01/1/1;\
      F/AL/A4/2030-06-01/1/1*;F/AL/A5/2030-06-01/1/1;F/AL/A6/2030-06-01/1/1!0";
 
-/// The desk that a recovery leaves whose store failed.
+/// The desk after a recovery whose store failed.
 fn stopped(book: FailingBook) -> Result<MemBook, Fail> {
     match recover(book) {
         Err((stopped, Fault::Store)) => Ok(stopped.into_inner()),
@@ -238,7 +238,7 @@ fn all_journeys_go_back_before_one_goes_on(rt: HostRuntime) -> Result<(), Fail> 
     Ok(())
 }
 
-/// A journey of three steps that takes its first save-point when it has done the first.
+/// A journey of three steps that takes its first save-point after its first step.
 const SAVED_AT_1: [&str; 4] = [
     "load F/AL/A1/2030-06-01 10, T/BUS/X/2030-06-01 10, R/INN/DBL/2030-06-01 10",
     "begin F/AL/A1/2030-06-01/1/1;T/BUS/X/2030-06-01/1/1;R/INN/DBL/2030-06-01/1/1!0",
@@ -246,7 +246,7 @@ const SAVED_AT_1: [&str; 4] = [
     "save 1",
 ];
 
-/// After its first save-point: what is done, how many events recovery makes then, and the items that come of it.
+/// What follows the first save-point: the lines, how many events recovery makes after them, and then the items.
 #[rattlefmt::skip]
 const SAVED: [(&[&str], u64, &str); 4] = [
     (&["save 1", "step 1"], 4,

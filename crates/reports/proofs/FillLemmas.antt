@@ -1,4 +1,4 @@
--- What a format writes of a number or a text that it pads with blanks. For the lines of reports.
+-- What a format writes for a number or a text that it pads with blanks. For the lines of reports.
 use Rattle.std.proofs.Common.{◌≡◌, ◌∙◌, ℕ, ◌^◌, ◌-◌, ◌≤◌, Bool, cond, List, [], ◌∷◌, true, false, refl, arith, length, zero, suc, replicate, append-nil, ap, lit<, lit≤, leb-true}
 use Rattle.std.specs.Prelude.{encode_utf8, ◌==◌, ◌||◌, nat_le, IsTrue}
 use Rattle.std.specs.Fmt.{padded_integral, padded, take_chars, char_count, format_spec, is_char_start}
@@ -13,12 +13,12 @@ use Rattle.allotment.specs.declared.kinds.Kind.TheVariants.{Flight, Room, Transf
 use Rattle.commands.specs.Names.{is_agent, is_agent_byte}
 use Rattle.reports.specs.Columns.{left, right}
 
--- a text of one blank so many times
+-- a text of one blank, repeated n times
 blank_repeated : (n : ℕ) → repeat {A = ℕ} n (32 ∷ []) ≡ replicate {A = ℕ} n 32
 blank_repeated zero = refl
 blank_repeated (suc n) = ap (λ later. 32 ∷ later) (blank_repeated n)
 
--- the padding blank, repeated so many times
+-- the padding blank, repeated n times
 fill_repeated : (n : ℕ) → repeat n (encode_utf8 32) ≡ replicate n 32
 fill_repeated n = ap (repeat n) (encode_ascii 32 (lit< tt)) ∙ blank_repeated n
 
@@ -32,7 +32,7 @@ number_right width digits =
     let none : room - room ≡ 0 = omega arith in
     rw (same, none, fill_repeated room) (simp append-nil)
 
--- a text whose bytes each begin a character has as many characters as bytes
+-- a text in which each byte begins a character has as many characters as bytes
 chars_are_bytes : (passes : ℕ → Bool) → ((b : ℕ) → passes b ≡ true → is_char_start b ≡ true)
     → (text : List ℕ) → list_all passes text ≡ true → char_count text ≡ length text
 unfolding char_count
@@ -41,7 +41,7 @@ chars_are_bytes passes starts (b ∷ text) all =
     let parts = and_parts (passes b) (list_all passes text) all in
     rw (starts b parts.0, chars_are_bytes passes starts text parts.1) (omega arith)
 
--- a text with at most so many characters is not cut at that many
+-- a text with at most n characters is not cut at n
 not_cut : (n : ℕ) (text : List ℕ) → length text ≤ n → take_chars n text ≡ text
 unfolding take_chars
 not_cut n [] short = refl
@@ -63,7 +63,7 @@ text_left width text chars short =
     let same : width - length text - 0 ≡ width - length text = omega arith in
     rw (not_cut (2 ^ 64 - 1) text short, chars, same, fill_repeated)
 
--- a word of bytes that each begin a character, in a left column
+-- a word in which each byte begins a character, in a left column
 word_left : (passes : ℕ → Bool) → ((b : ℕ) → passes b ≡ true → is_char_start b ≡ true)
     → (width most : ℕ) (text : List ℕ) → most ≤ 2 ^ 64 - 1 → is_word passes most text ≡ true
     → padded (format_spec 32 1 0 width (2 ^ 64 - 1)) text ≡ left width text

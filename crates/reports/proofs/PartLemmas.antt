@@ -6,14 +6,14 @@ use Rattle.streams.specs.Written.{WroteFront}
 use Rattle.streams.proofs.ByteLemmas.{appends_more}
 use Rattle.reports.proofs.FrontLemmas.{front_after, front_before}
 
--- the head was written in part
+-- a prefix of the head was written
 pub head_begun : (x y : Option (List ℕ)) (head rows ending : List ℕ)
     → WroteFront x y head
     → WroteFront x y (head ++ rows ++ ending)
 head_begun x y head rows ending front =
     front_before x y (head ++ rows) ending (front_before x y head rows front)
 
--- the head was written, and the rows in part
+-- the head was written, and a prefix of the rows
 pub rows_begun : (x y z : Option (List ℕ)) (head rows ending : List ℕ)
     → Appends x y head
     → WroteFront y z rows
@@ -21,7 +21,7 @@ pub rows_begun : (x y z : Option (List ℕ)) (head rows ending : List ℕ)
 rows_begun x y z head rows ending sent front =
     front_before x z (head ++ rows) ending (front_after x y z head rows sent front)
 
--- the head and the rows were written, and the ending in part
+-- the head and the rows were written, and a prefix of the ending
 pub ending_begun : (x y z w : Option (List ℕ)) (head rows ending : List ℕ)
     → Appends x y head
     → Appends y z rows

@@ -9,7 +9,7 @@ use Rattle.streams.specs.Written.{WroteFront}
 use Rattle.streams.proofs.ByteLemmas.{appends_more}
 use Rattle.reports.proofs.FrontLemmas.{appends_none, front_after, front_before, front_whole}
 
--- the first so many rows were written, and the others are still to come
+-- the first `count` rows were written, and the others remain
 pub record SoFar {T : Type 0} (shown : T → List ℕ) (rests : List T → Type 0)
     (held holds : Option (List ℕ)) (all : List T) (count : ℕ) : Type 0 where
   pub gone : List T
@@ -19,14 +19,14 @@ pub record SoFar {T : Type 0} (shown : T → List ℕ) (rests : List T → Type 
   pub sent : Appends held holds (flat_map shown gone)
   pub counted : count ≡ length gone
 
--- at first none was written
+-- at first no row was written
 pub starts : {T : Type 0} (shown : T → List ℕ) (rests : List T → Type 0)
     (held : Option (List ℕ)) (all : List T)
     → rests all → SoFar shown rests held held all 0
 starts shown rests held all rest =
     record { gone = []; later = all; cut = refl; rest = rest; sent = appends_none held; counted = refl }
 
--- a row was returned: it is the first of those that were to come
+-- a row was returned: it is the first of those that remained
 pub record Next {T : Type 0} (rests : List T → Type 0) (rows : List T) (row : T) : Type 0 where
   pub later : List T
   pub is : rows ≡ row ∷ later
@@ -65,7 +65,7 @@ goes_on shown rested rests held holds now all count row text so_far hands is sen
       counted = ap (λ n. n + 1) so_far.counted ∙ sym (length-append gone (row ∷ []));
     }
 
--- no row is left: all were written
+-- no row remains: all rows were written
 pub record Ended {T : Type 0} (shown : T → List ℕ) (rests : List T → Type 0)
     (held holds : Option (List ℕ)) (all : List T) (count : ℕ) : Type 0 where
   pub sent : Appends held holds (flat_map shown all)
@@ -103,7 +103,7 @@ front_of shown rests held holds all count so_far =
     (front_before held holds (flat_map shown so_far.gone) (flat_map shown so_far.later)
     (front_whole held holds (flat_map shown so_far.gone) so_far.sent))
 
--- what was written stays a prefix where the next row was written in part
+-- what was written stays a prefix where a prefix of the next row was written
 pub front_with : {T : Type 0} (shown : T → List ℕ) (rested rests : List T → Type 0)
     (held holds now : Option (List ℕ)) (all : List T) (count : ℕ) (row : T) (text : List ℕ)
     → SoFar shown rested held holds all count → Hands rested rests (Some row)

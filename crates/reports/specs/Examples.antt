@@ -23,7 +23,7 @@ flight = record { kind = Flight; supplier = codes "AL"; product = codes "A1"; ni
 abbrev pub ten_places : Held
 ten_places = record { allot = 10; free = 9; within = lit≤ tt; bounded = lit≤ tt }
 
--- the heading
+-- the heading of the stock report
 pub names_the_columns :
     stock_heading ≡ codes "kind     supplier product  night       allot   held   free\n"
 names_the_columns = refl
@@ -59,7 +59,7 @@ pub shows_an_unfinished_journey :
 unfolding digits
 shows_an_unfinished_journey = refl
 
--- none
+-- no journey
 pub shows_no_journey : unfinished_report [] ≡ codes "unfinished 0\n"
 unfolding digits
 shows_no_journey = refl

@@ -4,7 +4,7 @@ use Rattle.commands.specs.declared.faults.Fault.TheVariants as fault
 use Rattle.reports.specs.declared.faults.ReportFault.{ReportFault}
 use Rattle.reports.specs.declared.faults.ReportFault.TheVariants.{Memory, Store}
 
--- a fault of the source as a fault of the report
+-- the fault of a report that represents a fault of its source
 abbrev pub report_fault : Fault → ReportFault
 report_fault fault.Memory = Memory
 report_fault fault.Store = Store

@@ -14,13 +14,13 @@ use Rattle.saga_core.specs.declared.records.Brief.{Brief}
 use Rattle.saga_core.specs.declared.records.Record.{Record}
 use Rattle.reports.specs.Columns.{left, right, line}
 
--- the last line of a list: what its rows are, and how many
+-- the last line of a list: a word for its rows, and how many there are
 abbrev pub count_line : List ℕ → ℕ → List ℕ
 count_line what count = line (what ∷ decimal count ∷ [])
 
 -- Stock.
 
--- seven columns: kind, supplier, product and night at the left, places at the right
+-- seven columns: kind, supplier, product and night on the left, places on the right
 abbrev pub stock_columns :
     List ℕ → List ℕ → List ℕ → List ℕ → List ℕ → List ℕ → List ℕ → List ℕ
 stock_columns kind supplier product night allot held free =
@@ -34,7 +34,7 @@ stock_heading =
     stock_columns (codes "kind") (codes "supplier") (codes "product") (codes "night")
     (codes "allot") (codes "held") (codes "free")
 
--- the line of a cell, with its places that are allotted, held and free
+-- the line of a cell, with its allotted, held and free places
 abbrev pub stock_line : Cell × Held → List ℕ
 stock_line row =
     let cell = row.0 in
@@ -49,7 +49,7 @@ stock_report rows =
 
 -- Unfinished journeys.
 
--- the line of a journey: its number, its agent and where it is
+-- the line of a journey: its number, its agent, and its position and phase
 abbrev pub journey_line : Brief → List ℕ
 journey_line brief =
     line (right 12 (decimal brief.id) ∷ left 16 brief.agent ∷ cursor_text brief.cursor ∷ [])
@@ -66,11 +66,11 @@ history_heading id journey =
     line (codes "journey" ∷ decimal id ∷ codes "agent" ∷ journey.agent ∷ [])
     ++ line (codes "plan" ∷ plan_line journey.plan ∷ [])
 
--- its last line: where the journey is
+-- the last line of a history: the journey's position and phase
 abbrev pub history_ending : Cursor → List ℕ
 history_ending cursor = line (codes "state" ∷ cursor_text cursor ∷ [])
 
--- the history of a journey: its agent and plan, one line with all its items, and where it is
+-- the history of a journey: its agent and plan, one line with all its items, and its position and phase
 abbrev pub history_report : ℕ → Record → List Item → List ℕ
 history_report id journey items =
     history_heading id journey ++ line (codes "items" ∷ map item_text items)

@@ -13,22 +13,22 @@ use Rattle.reports.specs.Layouts.{count_line, history_heading, history_ending}
 use Rattle.reports.specs.declared.endings.Ending.{Ending}
 use Rattle.reports.specs.declared.endings.Ending.TheVariants.{Count, Text}
 
--- what is written of a cell: its kind, supplier, product and night, each in its column
+-- the text of a cell: its kind, supplier, product and night, each in its column
 abbrev pub cell_columns : Cell → List ℕ
 cell_columns cell =
     sentence
     (left 8 (kind_word cell.kind) ∷ left 8 cell.supplier ∷ left 8 cell.product
     ∷ left 10 (night_text cell.night) ∷ [])
 
--- what is written of an item: its text after one blank
+-- the text of an item in a history: the item after one blank
 abbrev pub item_word : Item → List ℕ
 item_word item = blank ∷ item_text item
 
--- what is written before the items of a history
+-- the text before the items of a history
 abbrev pub history_head : ℕ → Record → List ℕ
 history_head id journey = history_heading id journey ++ codes "items"
 
--- what is written after the items of a history
+-- the text after the items of a history
 abbrev pub history_tail : Cursor → List ℕ
 history_tail cursor = line_feed ∷ history_ending cursor
 

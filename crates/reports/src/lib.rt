@@ -4,7 +4,7 @@
 //! written at once, so a report needs no more memory for more rows. After a fault, what was written is a prefix of the
 //! report. Flushing the writer is left to the caller.
 //!
-//! Words: a *column* is a text that is padded with blanks up to its width; the *head* of a report stands before its
+//! Words: a *column* is a text that is padded with blanks up to its width; the *head* of a report comes before its
 //! rows, and its *ending* after them.
 #![tactic(auto)]
 

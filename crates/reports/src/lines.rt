@@ -54,7 +54,7 @@ pub(crate) fn item_word(alloc: Global, item: &Item) -> Result<String, AllocError
     format!(in alloc; " {word}")
 }
 
-/// What stands before the items of a history: who has the journey, its plan, and the word `items`.
+/// The text before the items of a history: the journey's number and agent, its plan, and the word `items`.
 pub(crate) fn history_head(alloc: Global, id: u64, journey: &Record) -> Result<String, AllocError>
     ensures head { IfOk result (λ text. string_bytes text ≡ history_head id journey.now) }
 {
@@ -63,7 +63,7 @@ pub(crate) fn history_head(alloc: Global, id: u64, journey: &Record) -> Result<S
     format!(in alloc; "journey {id} agent {agent}\nplan {plan}\nitems")
 }
 
-/// What is written after the items of a history: where the journey is.
+/// The text after the items of a history: the journey's position and phase.
 pub(crate) fn history_tail(alloc: Global, cursor: &Cursor) -> Result<String, AllocError>
     ensures line { IfOk result (λ text. string_bytes text ≡ history_tail cursor.now) }
 {

@@ -23,8 +23,8 @@ use std::io::Write;
 
 /// Writes the stock report, and returns how many cells it shows.
 ///
-/// Its first line is a heading. Each cell has a line with its kind, supplier, product and night, its places that are
-/// allotted, held and free; the last line is `cells` and their number. The lines stand in the order of the rows.
+/// The first line is a heading. Each cell has a line with its kind, supplier, product and night, and its allotted, held
+/// and free places. The last line is `cells` and their number. The lines are in the order of the rows.
 pub fn stock_text<R: RowSource<(Cell, Held)>, W: Write>(
     alloc: Global,
     rows: &mut R,
@@ -49,8 +49,8 @@ pub fn stock_text<R: RowSource<(Cell, Held)>, W: Write>(
 
 /// Writes the report of unfinished journeys, and returns how many there are.
 ///
-/// Each journey has a line with its number, its agent and where it is; the last line is `unfinished` and their number.
-/// The lines stand in the order of the rows.
+/// Each journey has a line with its number, its agent, and its position and phase. The last line is `unfinished` and
+/// their number. The lines are in the order of the rows.
 pub fn unfinished_text<R: RowSource<Brief>, W: Write>(
     alloc: Global,
     rows: &mut R,
@@ -75,8 +75,8 @@ pub fn unfinished_text<R: RowSource<Brief>, W: Write>(
 
 /// Writes the history of the journey of this number, and returns how many items it has.
 ///
-/// Its lines are `journey` with the number and the agent, `plan` with the plan's line, `items` with each item, and
-/// `state` with where the journey is. The items stand in the order of the rows.
+/// The lines are `journey` with the number and the agent, `plan` with the plan's line, `items` with each item, and
+/// `state` with the journey's position and phase. The items are in the order of the rows.
 pub fn history_text<R: RowSource<Item>, W: Write>(
     alloc: Global,
     id: u64,

@@ -1,4 +1,4 @@
-//! What no clause says: the texts, with values from outside, and what is written before a source or a writer fails.
+//! What no clause says: texts with values from outside, and what is written before a source or a writer fails.
 mod fakes;
 
 use crate::{ReportFault, history_text, stock_text, unfinished_text};
@@ -11,18 +11,18 @@ use savepoints::Marks;
 use std::alloc::{AllocError, Global};
 use std::process::Abort;
 
-/// What a report returns: how many rows it shows, or a fault.
+/// The result of a report: how many rows it shows, or a fault.
 type Answer = Result<u64, ReportFault>;
 
-/// Stops the test where a report returned another value, or wrote something else.
+/// Stops the test if a report returned another result, or wrote another text.
 fn is_told(rt: &impl Abort, case: &str, answer: Answer, expected: Answer, out: &[u8], text: &[u8]) {
     assert!(rt; answer == expected && out == text, "{case}: {answer:?}");
 }
 
-/// More than all that a test writes.
+/// More bytes than any test writes.
 const ROOM: usize = 1000;
 
-/// A writer that allocates nothing more, so that no write is out of memory.
+/// A writer with enough capacity, so that no write is out of memory.
 fn with_room(rt: &impl Abort, alloc: Global) -> Vec<u8> {
     Vec::with_capacity(alloc, ROOM).expect(rt, "memory")
 }
@@ -68,8 +68,8 @@ fn four_cells(rt: &impl Abort) -> [(Cell, Held); 4] {
     ]
 }
 
-/// Stops the test where a writer that takes so many bytes at a time, and no more than it has room for,
-/// gets another report of these rows.
+/// Stops the test if a writer that takes so many bytes at a time, and no more than its capacity, gets another report of
+/// these rows.
 fn is_written(
     rt: &impl Abort,
     alloc: Global,
@@ -194,7 +194,7 @@ const ONE_STEP: &str = "F/AL/A1/2030-06-01/1/1!0";
 
 const TWO_STEPS: &str = "R/INN/X/2030-06-01/1/1;T/BUS/Y/2030-06-01/1/1!0";
 
-// the journeys: their plans, where they are, their items, how many these are, and the report
+// the journeys: their plans, their phases, their items, how many these are, and the report
 #[rattlefmt::skip]
 const HISTORIES: [(u64, &str, Phase, &[Item], u64, &str); 3] = [
     (1, ONE_STEP,  Phase::Undone, &[STOP],                   1, STOPPED),
@@ -230,7 +230,7 @@ const FAULTS: [(Fault, ReportFault); 2] = [
     (Fault::Memory, ReportFault::Memory),
 ];
 
-/// Stops the test where a source that has these rows, and then this fault, has another report.
+/// Stops the test if a source that has these rows, and then this fault, gives another report.
 fn is_cut(
     rt: &impl Abort,
     alloc: Global,

@@ -1,4 +1,4 @@
-//! The desk that the tests answer from, and how they judge.
+//! The desk that the tests use, and their checks.
 ghost use Rattle.std.specs.Prelude.{IsTrue};
 
 use memory_book::MemBook;
@@ -15,14 +15,14 @@ pub fn new_desk(alloc: Global) -> Result<Ready<MemBook>, Fail> {
     }
 }
 
-/// Stops the test where this is false.
+/// Stops the test if this is false.
 pub fn holds(rt: &impl Abort, case: &str, is_so: bool)
     ensures { IsTrue is_so }
 {
     assert!(rt; is_so, "{case}");
 }
 
-/// Stops the test where other bytes were found than those of this text.
+/// Stops the test if the bytes are not those of this text.
 pub fn reads(rt: &impl Abort, case: &str, found: &[u8], expected: &str) {
     assert!(rt; found == expected.as_bytes(), "{case}: {found:?}");
 }

@@ -8,7 +8,7 @@ use std::alloc::Global;
 use std::process::Abort;
 use std::test::Fail;
 
-/// Stops the test where an end has another status, or writes something else on standard output or standard error.
+/// Stops the test if an end has another status, or prints other texts on standard output or standard error.
 fn tells(rt: &impl Abort, alloc: Global, end: &End, status: u8, on_out: &str, on_err: &str) {
     let mut out = Vec::new(alloc);
     let mut err = Vec::new(alloc);
@@ -17,7 +17,7 @@ fn tells(rt: &impl Abort, alloc: Global, end: &End, status: u8, on_out: &str, on
     reads(rt, "standard error", err.as_slice(), on_err);
 }
 
-// each fault with its number, its name and its line
+// each fault, with its number, its name and its line
 #[rattlefmt::skip]
 const FAULTS: [(ProgramFault, u8, &str, &str); 8] = [
     (ProgramFault::Memory,        17, "Memory", "fault 17 Memory\n"),

@@ -2,18 +2,19 @@
 use std::alloc::{AllocError, Global};
 use std::io::{self, ErrorKind, Read, Write};
 
-/// Returns its bytes in pieces, each after an interruption. After the last byte it reports the end, or fails.
+/// Returns its bytes in pieces, each after an interruption. After the last byte it reports the end of the input, or
+/// fails.
 #[derive(Drop)]
 pub struct Pieces<'a> {
     left: &'a [u8],
-    /// How many bytes a read returns, at most.
+    /// The most bytes that a read returns.
     step: usize,
     is_cut: bool,
     is_interrupted: bool,
 }
 
 impl<'a> Pieces<'a> {
-    /// All the bytes, and then the end.
+    /// All the bytes, and then the end of the input.
     pub fn of(bytes: &'a [u8], step: usize) -> Pieces<'a> {
         Pieces {
             left: bytes,
@@ -50,13 +51,13 @@ impl<'a> Read for Pieces<'a> {
     }
 }
 
-/// Takes bytes in pieces, each after an interruption, and fails at the first byte for which it has no room.
+/// Takes bytes in pieces, each after an interruption, and fails at the first byte over its capacity.
 ///
 /// It also fails at a byte that follows a line feed if the line was not flushed.
 #[derive(Drop)]
 pub struct Sink {
     taken: Vec<u8>,
-    /// How many bytes a write takes, at most.
+    /// The most bytes that a write takes.
     step: usize,
     room: usize,
     is_interrupted: bool,
@@ -64,7 +65,7 @@ pub struct Sink {
 }
 
 impl Sink {
-    /// Takes so many bytes and no more. It allocates nothing later.
+    /// A writer that takes at most `step` bytes at a time, and `room` in all. Later it allocates nothing.
     pub fn new(alloc: Global, step: usize, room: usize) -> Result<Sink, AllocError> {
         Ok(Sink {
             taken: Vec::with_capacity(alloc, room)?,
@@ -75,7 +76,7 @@ impl Sink {
         })
     }
 
-    /// What it took.
+    /// The bytes that were taken.
     pub fn taken(&self) -> &[u8] {
         self.taken.as_slice()
     }
@@ -108,12 +109,12 @@ impl Write for Sink {
 pub struct Stuck(Vec<u8>);
 
 impl Stuck {
-    /// Allocates room for so many bytes.
+    /// A writer with capacity for so many bytes.
     pub fn new(alloc: Global, room: usize) -> Result<Stuck, AllocError> {
         Ok(Stuck(Vec::with_capacity(alloc, room)?))
     }
 
-    /// What it took.
+    /// The bytes that were taken.
     pub fn taken(&self) -> &[u8] {
         self.0.as_slice()
     }

@@ -1,4 +1,4 @@
-//! Lines of good and bad forms, each on a new desk in memory.
+//! Well-formed and malformed lines, each on a new desk in memory.
 //!
 //! `@` and a letter or digit represents the cell, or the first four parts of a want, that `NAMES` has.
 use crate::tests::desks::{holds, new_desk, reads};
@@ -8,10 +8,10 @@ use std::alloc::Global;
 use std::process::Abort;
 use std::test::Fail;
 
-/// More than the longest answer here.
+/// More bytes than the longest answer here.
 const ROOM: usize = 200;
 
-// which sign represents which cell
+// signs, and the cells that they represent
 #[rattlefmt::skip]
 const NAMES: [(char, &str); 13] = [
     ('1', "F/AL/A1/2030-06-01"),
@@ -29,7 +29,7 @@ const NAMES: [(char, &str); 13] = [
     ('V', "C/CO/P/2030-06-01"),
 ];
 
-/// The line with its names written out, and a line feed.
+/// The line with its names replaced by what they represent, and a line feed.
 fn written_out(alloc: Global, line: &str) -> Result<String, Fail> {
     let mut written = String::new(alloc);
     for (i, part) in line.split('@').enumerate() {
@@ -47,7 +47,7 @@ fn written_out(alloc: Global, line: &str) -> Result<String, Fail> {
     Ok(written)
 }
 
-/// Goes through a table of lines and answers, each on a new desk.
+/// Checks a table of lines and answers, each on a new desk.
 fn each_on_a_new_desk(
     rt: &impl Abort,
     alloc: Global,
@@ -70,7 +70,7 @@ const BODY: &str = "refused 4 BadBody";
 
 const ABSENT: &str = "refused 9 NoJourney";
 
-// what it shows, the line, and the answer of a new desk, which has no journey of the number that is read
+// what the row shows, the line, and the answer of a new desk, which has no journey of that number
 #[rattlefmt::skip]
 const STEPS: [(&str, &str, &str); 23] = [
     ("the first number",             "step 1",                ABSENT),

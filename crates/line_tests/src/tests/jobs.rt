@@ -1,10 +1,10 @@
-//! What the words of the command line ask for.
+//! The jobs of the words of the command line.
 use crate::tests::desks::{holds, reads};
 use command_line::{Job, JobFault, job};
 use std::alloc::{AllocError, Global};
 use std::test::Fail;
 
-/// The words of a table, as the program gets them.
+/// The words of a text in a table, as the program gets them.
 fn words_of(alloc: Global, text: &str) -> Result<Vec<String>, AllocError> {
     let mut words = Vec::new(alloc);
     for word in text.split('|') {
@@ -13,7 +13,7 @@ fn words_of(alloc: Global, text: &str) -> Result<Vec<String>, AllocError> {
     Ok(words)
 }
 
-/// What words ask for, in words of the table: the job with its values, or the usage alone.
+/// The job of words as a text in the table: the job with its values, or only the usage.
 fn asked(alloc: Global, words: Vec<String>) -> Result<String, AllocError> {
     match job(alloc, words) {
         Ok(Job::Run { file }) => format!(in alloc; "run|{file}"),
@@ -36,7 +36,7 @@ fn asked(alloc: Global, words: Vec<String>) -> Result<String, AllocError> {
     }
 }
 
-// the words, with a bar between each two, and the job with its values; a bad number of a journey is no usage
+// the words, separated by bars, and the job with its values; a bad number of a journey is no usage
 #[rattlefmt::skip]
 const JOBS: [(&str, &str); 34] = [
     ("run|x.db",                    "run|x.db"),
@@ -84,7 +84,7 @@ fn words_name_a_job_with_its_values(rt: HostRuntime) -> Result<(), Fail> {
     Ok(())
 }
 
-// the words, and how the usage begins
+// what the row shows, the words, and the prefix of the usage
 #[rattlefmt::skip]
 const REFUSED: [(&str, &str, &str); 58] = [
     ("another subcommand",       "fly|x.db",       "error: unrecognized subcommand 'fly'"),

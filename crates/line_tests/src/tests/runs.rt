@@ -1,4 +1,4 @@
-//! How lines are answered over a new book in memory, however they arrive, and what was written after a fault.
+//! Answers to lines over a new book in memory, whatever pieces the lines arrive in, and what was written after a fault.
 use crate::tests::desks::{holds, new_desk, reads};
 use crate::tests::fakes::{Pieces, Sink, Stuck};
 use desk_lines::{ServeFault, run_lines};
@@ -7,13 +7,13 @@ use std::alloc::{AllocError, Global};
 use std::process::Abort;
 use std::test::Fail;
 
-/// More than all that a test writes.
+/// More bytes than any test writes.
 const ROOM: usize = 1000;
 
-/// More than all that a test reads.
+/// More bytes than any test reads.
 const ALL: usize = 100_000;
 
-// the input, what answers it, and how many lines it has
+// what the row shows, the input, the answers, and how many lines the input has
 #[rattlefmt::skip]
 const LINES: [(&str, &[u8], &str, u64); 15] = [
     ("no line",             b"",   "", 0),
@@ -39,7 +39,7 @@ const LINES: [(&str, &[u8], &str, u64); 15] = [
 // in one piece, and a few bytes at a time
 const STEPS: [usize; 4] = [ALL, 1, 2, 31];
 
-/// A new desk gives these answers to an input, read and written so many bytes at a time, and counts so many lines.
+/// Checks the answers of a new desk to an input, read and written so many bytes at a time, and the number of lines.
 fn answers(
     rt: &impl Abort,
     alloc: Global,
@@ -66,7 +66,7 @@ fn lines_are_answered_one_by_one(rt: HostRuntime) -> Result<(), Fail> {
     Ok(())
 }
 
-/// This many bytes that begin a journey without a plan, and then one more journey.
+/// A line of this many bytes that begins a journey without a plan, and then the line of one more journey.
 fn long_lines(alloc: Global, length: usize) -> Result<Vec<u8>, AllocError> {
     let mut text = b"begin ".to_vec(alloc)?;
     for _ in 6..length {
@@ -76,7 +76,7 @@ fn long_lines(alloc: Global, length: usize) -> Result<Vec<u8>, AllocError> {
     Ok(text)
 }
 
-// how long the first line is, and how it is answered
+// the length of the first line, and the answers
 #[rattlefmt::skip]
 const LENGTHS: [(usize, &str); 4] = [
     (8191,   "refused 5 BadPlan 0 tries\njourney 1 begun\n"),
@@ -96,14 +96,14 @@ fn a_line_has_8192_bytes_at_most(rt: HostRuntime) -> Result<(), Fail> {
     Ok(())
 }
 
-/// Three lines, and a part of a fourth. The line feeds stand at 30, 61 and 67.
+/// Three lines, and a part of a fourth. The line feeds are at 30, 61 and 67.
 const CUT: &[u8] =
     b"begin F/AL/A1/2030-06-01/1/1!0\nbegin F/AL/A1/2030-06-01/1/1!0\nhello\nbegin F";
 
-/// The answers to its three lines.
+/// The answers to the three lines.
 const ANSWERS: &str = "journey 1 begun\njourney 2 begun\nrefused 4 BadBody\n";
 
-/// The answers to the lines that end among so many bytes.
+/// The answers to the lines that end within so many bytes.
 fn answers_before(read: usize) -> &'static str {
     match read {
         0..=30 => "",
@@ -113,7 +113,7 @@ fn answers_before(read: usize) -> &'static str {
     }
 }
 
-/// If the input breaks off after so many bytes, the lines before are answered.
+/// If the input breaks off after so many bytes, the lines before that are answered.
 fn breaks_off(rt: &impl Abort, alloc: Global, read: usize, step: usize) -> Result<(), Fail> {
     let mut book = new_desk(alloc)?;
     let mut sink = Sink::new(alloc, ALL, ROOM)?;
@@ -134,8 +134,8 @@ fn a_failed_read_leaves_the_lines_before_it_answered(rt: HostRuntime) -> Result<
     Ok(())
 }
 
-/// If there is room for only so many bytes, what was written is a prefix of the answers. The line whose answer could
-/// not be written was executed, and no later one was.
+/// If there is room for only so many bytes, the written bytes are a prefix of the answers. The line whose answer could
+/// not be written was executed, and no later line was.
 fn fills_up(rt: &impl Abort, alloc: Global, room: usize, step: usize) -> Result<(), Fail> {
     let mut book = new_desk(alloc)?;
     let mut sink = Sink::new(alloc, step, room)?;
@@ -157,7 +157,7 @@ fn a_failed_write_leaves_a_beginning_of_the_answers(rt: HostRuntime) -> Result<(
     Ok(())
 }
 
-/// An answer that could not be flushed was not given, and the next line is not read.
+/// If an answer cannot be flushed, it is not given, and the next line is not read.
 #[test]
 fn a_failed_flush_ends_the_run(rt: HostRuntime) -> Result<(), Fail> {
     let alloc = rt.alloc();

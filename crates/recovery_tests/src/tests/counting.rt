@@ -1,10 +1,10 @@
-//! A book that counts the looks for an unfinished journey before its first command. It promises nothing: it is never
+//! A book that counts the reads of an unfinished journey before its first command. It promises nothing: it is never
 //! sound.
 use allotment::{Cell, Held, Night, Want};
 use commands::{Ask, Command, Fault, Item, Reply};
 use saga_core::{Book, Brief, Record};
 
-/// A book, and how many looks came before its first command.
+/// A book, and how many such reads came before its first command.
 #[derive(Drop)]
 pub struct CountingBook<B> {
     book: B,

@@ -4,7 +4,7 @@ use commands::{Ask, Command, Fault, Item, Reply};
 use memory_book::MemBook;
 use saga_core::{Book, Brief, Record};
 
-/// A desk in memory, and after how many replies the next call finds that its store failed.
+/// A desk in memory, and after how many replies its store fails at the next call.
 #[derive(Drop)]
 pub struct FailingBook {
     book: MemBook,

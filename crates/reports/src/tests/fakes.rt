@@ -6,7 +6,7 @@ use saga_core::RowSource;
 use std::alloc::{AllocError, Global};
 use std::io::{self, ErrorKind, Write};
 
-/// Returns its rows, and then fails. It promises nothing of what it returns.
+/// Returns its rows, and then fails. It promises nothing about the rows.
 #[derive(Drop)]
 pub(super) struct Failing<'a, T> {
     rows: &'a [T],
@@ -15,7 +15,7 @@ pub(super) struct Failing<'a, T> {
 }
 
 impl<'a, T: Copy> Failing<'a, T> {
-    /// These rows, and then this fault.
+    /// A source of these rows, and then this fault.
     pub(super) fn new(rows: &'a [T], fault: Fault) -> Failing<'a, T> {
         Failing {
             rows,
@@ -49,18 +49,18 @@ impl<T: Copy> RowSource<T> for Failing<'_, T> {
     }
 }
 
-/// Takes bytes in pieces, each after an interruption, and fails at the first byte for which it has no room.
+/// A writer that takes bytes in pieces, each after an interruption, and fails at the first byte over its capacity.
 #[derive(Drop)]
 pub(super) struct Sink {
     taken: Vec<u8>,
-    /// How many bytes a write takes, at most.
+    /// The most bytes that a write takes.
     step: usize,
     room: usize,
     is_interrupted: bool,
 }
 
 impl Sink {
-    /// Takes so many bytes and no more. It allocates nothing later.
+    /// A writer that takes at most `step` bytes at a time, and `room` in all. Later it allocates nothing.
     pub(super) fn new(alloc: Global, step: usize, room: usize) -> Result<Sink, AllocError> {
         Ok(Sink {
             taken: Vec::with_capacity(alloc, room)?,
@@ -70,7 +70,7 @@ impl Sink {
         })
     }
 
-    /// What it took.
+    /// The bytes that were taken.
     pub(super) fn taken(&self) -> &[u8] {
         self.taken.as_slice()
     }

@@ -1,4 +1,4 @@
--- A read that gave bytes forgot a chunk at most.
+-- A read discards at most one chunk.
 use Rattle.std.proofs.Common.{◌≡◌, arith, length}
 use Rattle.cli.proofs.LingerLemmas.{more}
 use Rattle.cli.proofs.lingering.forget.Goals as goal

@@ -4,7 +4,7 @@ use Rattle.sqlite.specs.Held.{state}
 use Rattle.migrate.proofs.CommitLemmas.{Wrote, wrote_from, keeps_new, leaves_new, either_left}
 use Rattle.migrate.proofs.migrating.bring_over.Goals as goal
 
--- the commit answered: the connection keeps the same state in the new tables
+-- the commit succeeded: the connection keeps the same state in the new tables
 pub returns-in-Ok-clause-done : goal.returns-in-Ok-clause-done
 returns-in-Ok-clause-done g c s numbers keeps clean =
     let old = c.args.conn.now in
@@ -18,7 +18,7 @@ returns-in-Ok-clause-done g c s numbers keeps clean =
     c.write_new.ensures.survives c.in_default.ensures.live c.in_default.ensures.made in
     rw (← same) (keeps_new g.S.Store old late c.args.meta s wrote numbers keeps at_late g.met.S.Store.settled end (c.in-Ok.ensures.ok at_end).1)
 
--- and a crash leaves just that
+-- a crash leaves only the new tables
 pub returns-in-Ok-clause-left : goal.returns-in-Ok-clause-left
 returns-in-Ok-clause-left g c clean s numbers keeps =
     let old = c.args.conn.now in

@@ -1,4 +1,4 @@
--- What a crash leaves where the migration did not come to its end, and what the connection shows.
+-- What a crash leaves, and what the connection shows, if the migration did not complete.
 use Rattle.std.proofs.Common.{◌≡◌, Ok, Err, sym, ◌∙◌, rules}
 use Rattle.desk_sql.specs.declared.versions.Version.TheVariants.{One}
 use Rattle.migrate.specs.Migrating.{LeavesEither, ShowsAsBefore}
@@ -8,7 +8,7 @@ use Rattle.migrate.proofs.Reading.{on_err, found_keeps}
 use Rattle.migrate.proofs.Stopping.{left_as_before, shows_as_before, refuses_others, left_either, shows_either}
 use Rattle.migrate.proofs.migrating.migrate.Goals as goal
 
--- a refusal, or a fault before the transaction: what was left before
+-- a refusal, or a fault before the transaction: a crash leaves what it could leave before
 pub returns-in_err-meta-clause-stop : goal.returns-in_err-meta-clause-stop
 returns-in_err-meta-clause-stop g c =
     on_err (LeavesEither g.S.Store c.args.conn.now c.read_old.new.conn) c.from_residual.result
@@ -26,7 +26,7 @@ returns-in_err-meta-clause-only_old g c =
     let same : c.from_residual.result ≡ Err why = search rules in
     rw same (refuses_others g.S.Store c.args.conn.now c.read_old.new.conn why c.in_err-meta.ensures.told)
 
--- a fault after the version was read: the old tables or the new ones
+-- a fault after the version was read: a crash leaves the old tables or the new ones
 pub returns-in_err-bring_over-clause-stop : goal.returns-in_err-bring_over-clause-stop
 returns-in_err-bring_over-clause-stop g c =
     on_err (LeavesEither g.S.Store c.args.conn.now c.bring_over.new.conn) c.from_residual-in_err-bring_over.result
@@ -39,7 +39,7 @@ returns-in_err-bring_over-clause-shows g c =
     (shows_either g.S.Store c.args.conn.now c.read_old.new.conn c.bring_over.new.conn c.in_ok-meta.meta c.read_old.ensures.same
     c.in_ok-meta.ensures.version (λ none. absurd (let never : Ok c.in_ok-meta.meta ≡ Err (UnknownSchema 0) = sym c.in_ok-meta.was ∙ c.read_old.ensures.bare none in cc)) c.bring_over.ensures.sound c.in_err-bring_over.ensures.shows)
 
--- the connection kept the state when the transaction began; so the same state is in the new tables
+-- the connection kept the state when the transaction began, so the new tables have the same state
 pub returns-clause-same_state : goal.returns-clause-same_state
 returns-clause-same_state g c clean s stood =
     let at_mid = c.bring_over.ensures.sound clean in
@@ -50,7 +50,7 @@ returns-clause-same_state g c clean s stood =
 pub returns-clause-version : goal.returns-clause-version
 returns-clause-version g c clean v t sees = c.in_ok-meta.ensures.version (c.bring_over.ensures.sound clean) v t sees
 
--- and a crash leaves just the new tables
+-- a crash leaves only the new tables
 pub returns-clause-left : goal.returns-clause-left
 returns-clause-left g c clean s stood db may =
     let at_mid = c.bring_over.ensures.sound clean in

@@ -41,7 +41,7 @@ returns-in-Ok-clause-version g c =
     (λ m is. subst (SawVersion g.S.Store old new) (ap (λ (n : Meta). n.version) (sym is.0) ∙ is.1) saw)
     c.old_only.ensures.ok
 
--- numbers that are refused changed nothing, and neither did a fault
+-- a refusal of the numbers changed nothing, and neither did a fault
 pub returns-in-Ok-clause-told : goal.returns-in-Ok-clause-told
 returns-in-Ok-clause-told g c =
     let old = c.args.conn.now in

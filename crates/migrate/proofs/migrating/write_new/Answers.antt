@@ -1,4 +1,4 @@
--- Each statement goes on where the one before it ended.
+-- Each statement starts in the state in which the last one ended.
 use Rattle.std.proofs.Common.{◌+◌, arith}
 use Rattle.sqlite.specs.State.{HasCleanDisk}
 use Rattle.sqlite.specs.Held.{state}

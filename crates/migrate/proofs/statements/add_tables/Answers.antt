@@ -1,4 +1,4 @@
--- The second table goes beside what the first text made.
+-- The second table is added to those that the first text made.
 use Rattle.std.proofs.Common.{Ok, arith}
 use Rattle.sqlite.specs.State.{HasCleanDisk}
 use Rattle.sqlite.specs.Held.{state}

@@ -1,4 +1,4 @@
--- So far the items below the next number are copied; each range takes that number on.
+-- So far the items below the next number are copied; each range raises that number.
 use Rattle.std.proofs.Common.{◌≡◌, ◌≤◌, ◌+◌, ◌-◌}
 use Rattle.migrate.specs.Copying.{CopiesSoFar}
 use Rattle.migrate.proofs.statements.copy_all.Given as goal

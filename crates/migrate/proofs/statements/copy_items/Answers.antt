@@ -1,4 +1,4 @@
--- Each number is passed as the integer that it is.
+-- Each number is passed as an integer of the same value.
 use Rattle.std.proofs.Common.{◌<◌, ◌^◌, Ok, arith}
 use Rattle.sqlite.specs.Held.{state}
 use Rattle.desk_sql.proofs.Writing.{pos_is}

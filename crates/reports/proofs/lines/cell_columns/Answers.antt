@@ -1,4 +1,4 @@
--- What the format writes is the columns.
+-- The format writes the columns.
 use Rattle.std.proofs.Common.{◌≡◌, ◌∙◌, ◌++◌, ◌∷◌, append-nil, append_assoc}
 use Rattle.std.specs.Prelude.{string_bytes}
 use Rattle.std.specs.Fmt.{styled_text}

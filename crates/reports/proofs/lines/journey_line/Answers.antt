@@ -1,4 +1,4 @@
--- What the format writes is the line.
+-- The format writes the line.
 use Rattle.std.proofs.Common.{◌≡◌, ◌∙◌, ◌++◌, ◌∷◌, [], append_assoc}
 use Rattle.std.specs.Prelude.{decimal, string_bytes}
 use Rattle.std.specs.Fmt.{styled_decimal, styled_text}

@@ -8,14 +8,14 @@ use Rattle.reports.proofs.FrontLemmas.{front_whole}
 use Rattle.reports.proofs.PartLemmas.{all_written, ending_begun, head_begun, rows_begun}
 use Rattle.reports.proofs.reports.send_report.Goals as goal
 
--- the head was written in part
+-- a prefix of the head was written
 pub returns-in_err-send-clause-front : goal.returns-in_err-send-clause-front
 returns-in_err-send-clause-front g c = λ sound all rest.
     let contents = g.W.Write.contents in
     head_begun (contents c.args.out.now) (contents c.send.new.out)
     c.args.head.now (flat_map g.T.Shown.shown all) (ending_text c.args.ending.now (length all)) c.send.ensures.front
 
--- the rows were written in part
+-- a prefix of the rows was written
 pub returns-in_err-count-clause-front : goal.returns-in_err-count-clause-front
 returns-in_err-count-clause-front g c = λ sound all rest.
     let contents = g.W.Write.contents in
@@ -31,7 +31,7 @@ returns-in_err-text-clause-front g c = λ sound all rest.
     c.args.head.now (flat_map g.T.Shown.shown all) (ending_text c.args.ending.now (length all))
     c.in_ok-send.ensures.sent (c.send_rows.ensures.front sound all rest)
 
--- the ending was written in part
+-- a prefix of the ending was written
 pub returns-in_err-send-2-clause-front : goal.returns-in_err-send-2-clause-front
 returns-in_err-send-2-clause-front g c = λ sound all rest.
     let contents = g.W.Write.contents in

@@ -1,4 +1,4 @@
--- The rows are written one after another, and the source is asked for the next one until it has none, or at a fault.
+-- The rows are written one after another, until the source has none left or a fault comes.
 use Rattle.std.proofs.Common.{◌≡◌, ◌+◌, arith, rules, subst}
 use Rattle.std.specs.Prelude.{Option, string_bytes}
 use Rattle.std.specs.Io.KnownBytes.{Appends}
@@ -43,7 +43,7 @@ returns-in_err-text-clause-front g c = λ sound all rest.
     front_of g.T.Shown.shown (g.R.RowSource.rests at.rows) (g.W.Write.contents c.args.out.now) (g.W.Write.contents at.out) all at.count
     (at.invariant.so_far (c.next_row.ensures.sound sound) all rest)
 
--- the text of a row was written in part
+-- a prefix of the text of a row was written
 pub returns-in_err-send-clause-front : goal.returns-in_err-send-clause-front
 returns-in_err-send-clause-front g c = λ sound all rest.
     let source = g.R.RowSource in

@@ -1,4 +1,4 @@
--- What the format writes is the ending.
+-- The format writes the ending.
 use Rattle.std.proofs.Common.{◌≡◌, ◌∙◌, ◌++◌, ◌∷◌, [], append_assoc}
 use Rattle.std.specs.Prelude.{decimal, string_bytes}
 use Rattle.std.proofs.lemmas.Result.{IfOk-weaker}
