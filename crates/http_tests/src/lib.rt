@@ -1,5 +1,5 @@
 //! Tests of the desk over HTTP, on a desk in memory: the pages of worked requests, whole or cut, good or hostile, and
-//! what was written and done after failed reads and writes.
+//! the state after failed reads and writes.
 #![tactic(auto)]
 
 #[cfg(test)]

@@ -1,4 +1,4 @@
-//! Pages after which a connection is closed: the bytes after them are not read.
+//! Pages after which the connection is closed: later bytes are not read.
 use crate::tests::desks::{is_as_new, new_desk};
 use crate::tests::orders::{
     FLIGHT, GET, NO_LENGTH, NOTHING_UNFINISHED, TOO_LARGE, ask_for, head_of,
@@ -7,7 +7,7 @@ use crate::tests::talks::{Page, STEPS, Talk, does_nothing_when_cut, is_answered,
 use std::alloc::Global;
 use std::process::Abort;
 
-/// A head gets this page. After it come a chunk and a good request for a journey, which get none.
+/// The head gets this page. A chunk and a good request for a journey follow it, and get no page.
 fn closed_with(rt: &impl Abort, alloc: Global, head: &[u8], page: Page) -> Talk {
     let mut talk = Talk::new(alloc);
     talk.send(rt, head);
@@ -17,7 +17,7 @@ fn closed_with(rt: &impl Abort, alloc: Global, head: &[u8], page: Page) -> Talk 
     talk
 }
 
-/// A desk closes a connection with this page, in one piece and byte by byte, and does nothing.
+/// Checks that a desk closes a connection with this page, in one piece and byte by byte, and changes nothing.
 pub fn closes_with(rt: &impl Abort, alloc: Global, case: &str, head: &[u8], page: Page) {
     let talk = closed_with(rt, alloc, head, page);
     for &step in &STEPS {
@@ -27,7 +27,7 @@ pub fn closes_with(rt: &impl Abort, alloc: Global, case: &str, head: &[u8], page
     }
 }
 
-/// If the bytes end before the head is whole, there is no page, and nothing is done either.
+/// Checks each proper prefix of the bytes: there is no page before the head is whole, and nothing changes.
 pub fn closes_when_cut(rt: &impl Abort, alloc: Global, case: &str, head: &[u8], page: Page) {
     let talk = closed_with(rt, alloc, head, page);
     does_nothing_when_cut(rt, alloc, case, &talk);
@@ -51,7 +51,7 @@ const BAD_HEAD_TO_HEAD: Page = ("400 Bad Request", "Connection: close\r\n", 30, 
 
 const TOO_LARGE_TO_HEAD: Page = ("413 Content Too Large", "Connection: close\r\n", 32, "");
 
-// what is asked for, further fields, and the page
+// the request, further fields, and the page
 #[rattlefmt::skip]
 const CLOSED: [(&str, &str, Page); 8] = [
     ("GET /unfinished",  "Connection: close\r\n",         SHOWN),

@@ -1,21 +1,22 @@
 //! Readers and writers for the tests: in small pieces, with interruptions, with a failure at a chosen byte, and a pair
-//! of which the reader fails if the writer was not yet given a page.
+//! of which the reader fails if the first page was not flushed.
 use std::alloc::{AllocError, Global};
 use std::cell::Cell;
 use std::io::{self, ErrorKind, Read, Write};
 
-/// Returns its bytes in pieces, each after an interruption. After the last byte it reports the end, or fails.
+/// Returns its bytes in pieces, each after an interruption. After the last byte it reports the end of the input, or
+/// fails.
 #[derive(Drop)]
 pub struct Pieces<'a> {
     left: &'a [u8],
-    /// How many bytes a read returns, at most.
+    /// The most bytes that a read returns.
     step: usize,
     is_cut: bool,
     is_interrupted: bool,
 }
 
 impl<'a> Pieces<'a> {
-    /// All the bytes, and then the end.
+    /// All the bytes, and then the end of the input.
     pub fn of(bytes: &'a [u8], step: usize) -> Pieces<'a> {
         Pieces {
             left: bytes,
@@ -52,18 +53,18 @@ impl<'a> Read for Pieces<'a> {
     }
 }
 
-/// Takes bytes in pieces, each after an interruption, and fails at the first byte for which it has no room.
+/// Takes bytes in pieces, each after an interruption, and fails at the first byte over its capacity.
 #[derive(Drop)]
 pub struct Sink {
     taken: Vec<u8>,
-    /// How many bytes a write takes, at most.
+    /// The most bytes that a write takes.
     step: usize,
     room: usize,
     is_interrupted: bool,
 }
 
 impl Sink {
-    /// Takes so many bytes and no more. It allocates nothing later.
+    /// A writer that takes at most `step` bytes at a time, and `room` in all. Later it allocates nothing.
     pub fn new(alloc: Global, step: usize, room: usize) -> Result<Sink, AllocError> {
         Ok(Sink {
             taken: Vec::with_capacity(alloc, room)?,
@@ -73,7 +74,7 @@ impl Sink {
         })
     }
 
-    /// What it took.
+    /// The bytes that were taken.
     pub fn taken(&self) -> &[u8] {
         self.taken.as_slice()
     }
@@ -107,7 +108,7 @@ pub struct Telling<'a> {
 }
 
 impl<'a> Telling<'a> {
-    /// Allocates room for so many bytes.
+    /// A writer with capacity for so many bytes.
     pub fn new(
         alloc: Global,
         room: usize,
@@ -117,7 +118,7 @@ impl<'a> Telling<'a> {
         Ok(Telling { taken, flushed })
     }
 
-    /// What it took.
+    /// The bytes that were taken.
     pub fn taken(&self) -> &[u8] {
         self.taken.as_slice()
     }
@@ -135,13 +136,13 @@ impl<'a> Write for Telling<'a> {
     }
 }
 
-/// Returns two requests in pieces. It fails if it is asked for the second before the first page was flushed.
+/// Returns two requests in pieces. It fails if the second one is read before the first page was flushed.
 #[derive(Drop)]
 pub struct Waiting<'a> {
     first: Pieces<'a>,
     second: Pieces<'a>,
     flushed: &'a Cell<usize>,
-    /// How long the first page is.
+    /// The length of the first page.
     page: usize,
 }
 

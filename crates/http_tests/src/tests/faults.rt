@@ -1,4 +1,4 @@
-//! Reads and writes that fail: what was written is a prefix of the pages, and what was done stays.
+//! Reads and writes that fail: a prefix of the pages was written, and executed commands stay in effect.
 use crate::tests::desks::{has_journeys, holds, new_desk, reads};
 use crate::tests::fakes::{Pieces, Sink, Telling, Waiting};
 use crate::tests::orders::{FLIGHT, GET, JOURNEY_1, JOURNEY_2, begin};
@@ -8,14 +8,14 @@ use std::alloc::Global;
 use std::cell::Cell;
 use std::process::Abort;
 
-/// A journey is begun.
+/// A talk that begins a journey.
 fn begun(rt: &impl Abort, alloc: Global) -> Talk {
     let mut talk = Talk::new(alloc);
     begin(rt, alloc, &mut talk, "ann", "k2", &[FLIGHT], JOURNEY_1);
     talk
 }
 
-/// Stops the test where serving ended otherwise.
+/// Stops the test if serving ended with another result.
 fn ends(
     rt: &impl Abort,
     case: &str,
@@ -25,7 +25,8 @@ fn ends(
     assert!(rt; found == expected, "{case}: {found:?}");
 }
 
-/// If a read fails after so many bytes, the pages of the requests before are written, and no more is done.
+/// If a read fails after so many bytes, the pages of the whole requests before are written, and nothing more is
+/// executed.
 fn breaks_off(rt: &impl Abort, alloc: Global, talk: &Talk, read: usize, step: usize, begun: u64) {
     let mut desk = new_desk(rt, alloc);
     let mut sink = Sink::new(alloc, step, ROOM).expect(rt, "memory");
@@ -63,8 +64,8 @@ fn a_request_that_is_cut_anywhere_does_nothing(rt: HostRuntime) {
     does_nothing_when_cut(&rt, rt.alloc(), "begun", &talk);
 }
 
-/// If there is room for only so many bytes, what was written is a prefix of the page. What was done stays, and a retry
-/// of the same bytes gets the whole page.
+/// If there is room for only so many bytes, a prefix of the page is written. The journey stays begun, and a retry of
+/// the same bytes gets the whole page.
 fn fills_up(rt: &impl Abort, alloc: Global, talk: &Talk, room: usize, step: usize) {
     let mut desk = new_desk(rt, alloc);
     let mut sink = Sink::new(alloc, step, room).expect(rt, "memory");
@@ -100,7 +101,7 @@ fn a_write_that_fails_anywhere_leaves_a_beginning_of_the_page(rt: HostRuntime) {
     }
 }
 
-/// The reader fails if it is asked for the second request before the first page was flushed.
+/// Checks that the first page is flushed before the second request is read.
 fn waits(rt: &impl Abort, alloc: Global, step: usize) {
     let mut talk = begun(rt, alloc);
     let (asked, page) = (talk.sent.len(), talk.told.len());

@@ -1,10 +1,10 @@
-//! Heads that are refused. The connection is closed and nothing is done.
+//! Heads that are refused. The connection is closed, and nothing changes.
 use crate::tests::closing::{closes_when_cut, closes_with};
 use crate::tests::orders::BAD_HEAD;
 use crate::tests::talks::{Talk, is_answered};
 use std::alloc::{AllocError, Global};
 
-// the fields of a head
+// what the row shows, and the fields of a head
 #[rattlefmt::skip]
 const FIELDS: [(&str, &[u8]); 13] = [
     ("no host",                  b""),
@@ -49,7 +49,7 @@ fn bad_fields_that_are_cut_are_not_looked_at(rt: HostRuntime) {
     }
 }
 
-// whole heads
+// what the row shows, and a whole head
 #[rattlefmt::skip]
 const HEADS: [(&str, &[u8]); 9] = [
     ("one byte in a line",       b"A\r\n\r\n"),
@@ -77,7 +77,7 @@ fn what_is_no_head_and_is_cut_gets_no_page(rt: HostRuntime) {
     }
 }
 
-/// Without an empty line nothing is a message.
+/// Bytes without an empty line are no message.
 #[test]
 fn bytes_without_an_empty_line_get_no_page(rt: HostRuntime) {
     for &sent in &[

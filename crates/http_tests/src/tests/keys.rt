@@ -1,4 +1,4 @@
-//! Keys: what is retried under one, by whom, and what leaves it free.
+//! Keys: requests that are retried under one, by whom, and what leaves a key free.
 use crate::tests::desks::{has_journeys, holds, new_desk, recovered};
 use crate::tests::fakes::{Pieces, Sink};
 use crate::tests::orders::{
@@ -18,7 +18,7 @@ const OF_BOTH: [Asked; 2] = [
     ("GET /unfinished", "bob", "", "", ("200 OK", "", 52, r#"{"unfinished":[{"journey":2,"pos":0,"state":"run"}]}"#)),
 ];
 
-// who asks under one key, for which steps, and the page
+// an agent, who uses one key, the steps of the plan, and the page
 #[rattlefmt::skip]
 const AGAIN: [(&str, &[Step], Page); 5] = [
     ("ann", &[FLIGHT],      JOURNEY_1),
@@ -83,7 +83,7 @@ const STEPPED_ONCE: [Asked; 3] = [
     ("GET /journeys/1",          "ann", "",   "", ("200 OK", "", 56, r#"{"history":["T1.1"],"journey":1,"pos":1,"state":"ended"}"#)),
 ];
 
-/// A desk where one journey is begun and then does its step, of which no page could be written.
+/// A desk on which a journey was begun and made a step, whose page could not be written.
 fn page_is_lost(rt: &impl Abort, alloc: Global) -> Ready<MemBook> {
     let mut desk = new_desk(rt, alloc);
     goes_on(
@@ -107,7 +107,7 @@ fn page_is_lost(rt: &impl Abort, alloc: Global) -> Ready<MemBook> {
     desk
 }
 
-/// A page that could not be written is written to the agent that retries, also after a recovery.
+/// A page that could not be written is sent when the agent retries, also after a recovery.
 #[test]
 fn a_lost_page_is_given_again(rt: HostRuntime) {
     let lost = page_is_lost(&rt, rt.alloc());

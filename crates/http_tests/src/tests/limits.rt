@@ -8,7 +8,7 @@ use crate::tests::talks::{Asked, Page, Talk, is_answered, put};
 use std::alloc::Global;
 use std::process::Abort;
 
-/// So many times a text between two others.
+/// A text, repeated so many times, between two others.
 fn filled(
     rt: &impl Abort,
     alloc: Global,
@@ -26,7 +26,7 @@ fn filled(
     bytes
 }
 
-/// A request gets this page, and so does a good one after it.
+/// Checks that a request gets this page, and that a good request after it gets its own.
 fn is_followed(rt: &impl Abort, alloc: Global, case: &str, sent: &[u8], page: Page) {
     let mut talk = Talk::new(alloc);
     talk.send(rt, sent);
@@ -78,7 +78,7 @@ fn a_head_has_8192_bytes_at_most(rt: HostRuntime) {
     }
 }
 
-/// A longer head is not parsed, and so its page has its body, whatever its method.
+/// A longer head is not parsed, so its page has a body for every method.
 #[test]
 fn a_longer_head_is_refused(rt: HostRuntime) {
     let alloc = rt.alloc();
@@ -150,12 +150,12 @@ fn a_larger_body_is_not_read(rt: HostRuntime) {
     }
 }
 
-/// 16 characters, and 32.
+/// An agent of 16 characters, and a key of 32.
 const LONG_AGENT: &str = "abcdefghijklmnop";
 
 const LONG_KEY: &str = "abcdefghijklmnopqrstuvwxyzABC-09";
 
-// agents and keys that are none
+// agents and keys that are not valid
 #[rattlefmt::skip]
 const TOO_LONG: [Asked; 6] = [
     ("GET /unfinished", "abcdefghijklmnopq", "", "", NO_AGENT),

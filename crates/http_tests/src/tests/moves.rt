@@ -1,4 +1,4 @@
-//! Journeys that agents sell over a connection: the answer to each request, and what is shown between.
+//! Journeys that agents sell over a connection: the answer to each request, and the views between them.
 use crate::tests::desks::new_desk;
 use crate::tests::orders::{
     BUS, FLIGHT, GET, JOURNEY_1, NO_JOURNEY, NO_KEY, NOTHING_UNFINISHED, ROOM_FOR_TWO, Step, begin,
@@ -9,7 +9,7 @@ use std::alloc::Global;
 use std::process::Abort;
 use std::slice;
 
-// what is asked for, of which agent, under which key, with which body, and its page
+// the request, its agent, key and body, and its page
 #[rattlefmt::skip]
 const TURNED: [Asked; 6] = [
     ("POST /journeys/1/step",    "ann", "k3", "", ("200 OK", "", 49, r#"{"item":"T1.1","journey":1,"pos":1,"state":"run"}"#)),
@@ -27,7 +27,7 @@ const BAD_NIGHT: Page = (
     r#"{"cause":"night","name":"BadPlan","refused":5,"step":1}"#,
 );
 
-/// A journey of two steps does one and goes back.
+/// A journey of two steps makes one and goes back.
 fn turned(rt: &impl Abort, alloc: Global) -> Talk {
     let mut talk = begun(rt, alloc, "k1", &[FLIGHT, BUS]);
     talk.go_on(rt, alloc, &TURNED);
@@ -56,7 +56,7 @@ fn a_cut_connection_gets_the_pages_of_what_was_whole(rt: HostRuntime) {
     is_answered_when_cut(&rt, rt.alloc(), "turned", &talk);
 }
 
-/// A new desk reports twice that nothing is unfinished.
+/// A new desk reports twice that no journey is unfinished.
 fn twice(rt: &impl Abort, alloc: Global) -> Talk {
     let mut talk = Talk::new(alloc);
     for _ in 0..2u8 {
@@ -104,7 +104,7 @@ const AT_TWO: [Asked; 6] = [
     ("POST /journeys/1/step",    "ann", "k7", "", ("200 OK", "", 49, r#"{"item":"T3.1","journey":1,"pos":3,"state":"run"}"#)),
 ];
 
-/// A journey is turned to a save-point where it stands, and goes on.
+/// A journey is turned to a save-point at its position, and goes on.
 fn at_two(rt: &impl Abort, alloc: Global) -> Talk {
     let mut talk = Talk::new(alloc);
     let loaded = ("POST /batches/b1", "ann", "k1", SIX_FLIGHTS, SIX_LOADED);
@@ -139,7 +139,7 @@ const OF_ANN: [Asked; 9] = [
     ("GET /unfinished",          "ann", "",   "", NOTHING_UNFINISHED),
 ];
 
-/// An agent asks for another one's journey, and then that one for it.
+/// An agent requests another agent's journey, and then the other agent requests it.
 fn of_ann(rt: &impl Abort, alloc: Global) -> Talk {
     let mut talk = begun(rt, alloc, "k1", &[FLIGHT]);
     talk.go_on(rt, alloc, &OF_ANN);
@@ -168,7 +168,7 @@ const SAVED: [Asked; 4] = [
     ("POST /journeys/1/save", "ann", "k6", "", NO_SAVE),
 ];
 
-/// A save-point is taken, and asked for again under another key.
+/// A save-point is taken, and requested once more under another key.
 fn saved(rt: &impl Abort, alloc: Global) -> Talk {
     let mut talk = begun(rt, alloc, "k1", &[FLIGHT, BUS, ROOM_FOR_TWO]);
     talk.go_on(rt, alloc, &SAVED);
@@ -218,7 +218,7 @@ fn the_stock_is_shown_as_text(rt: HostRuntime) {
     is_answered(&rt, alloc, "stock", &talk);
 }
 
-/// Each request comes over a connection of its own.
+/// Each request comes over its own connection.
 #[test]
 fn a_desk_serves_one_connection_after_another(rt: HostRuntime) {
     let alloc = rt.alloc();

@@ -1,4 +1,4 @@
-//! What agents send and what pages they get, so that tests can be tables.
+//! Requests of agents and their pages, for tests in tables.
 use crate::tests::talks::{Page, Talk, put};
 use std::alloc::Global;
 use std::process::Abort;
@@ -88,7 +88,7 @@ pub const NO_LENGTH: Page = (
     r#"{"name":"NoLength","refused":19}"#,
 );
 
-/// A request as it is sent, whole.
+/// A whole request.
 pub const GET: &[u8] = b"GET /unfinished HTTP/1.1\r\nHost: d\r\nDesk-Agent: ann\r\n\r\n";
 
 /// The plan of these steps, in JSON.
@@ -118,7 +118,7 @@ pub fn plan_of(rt: &impl Abort, alloc: Global, steps: &[Step]) -> Vec<u8> {
     text
 }
 
-/// An agent asks for a journey of these steps.
+/// Sends an agent's request for a journey of these steps.
 pub fn ask_for(
     rt: &impl Abort,
     alloc: Global,
@@ -131,7 +131,7 @@ pub fn ask_for(
     talk.ask(rt, alloc, "POST /journeys", agent, key, &plan);
 }
 
-/// An agent asks for a journey of these steps, and gets this page.
+/// Sends an agent's request for a journey of these steps, and expects this page.
 pub fn begin(
     rt: &impl Abort,
     alloc: Global,
@@ -145,7 +145,7 @@ pub fn begin(
     talk.page(rt, alloc, page);
 }
 
-/// Seats and rooms are loaded.
+/// Sends a load of seats and rooms, and expects its page.
 pub fn load(rt: &impl Abort, alloc: Global, talk: &mut Talk, key: &str) {
     talk.ask(
         rt,
@@ -158,7 +158,7 @@ pub fn load(rt: &impl Abort, alloc: Global, talk: &mut Talk, key: &str) {
     talk.page(rt, alloc, LOADED);
 }
 
-/// Seats and rooms are loaded under a key, and the first journey is begun under another.
+/// A talk that loads seats and rooms under a key, and begins the first journey under another.
 pub fn begun(rt: &impl Abort, alloc: Global, key: &str, steps: &[Step]) -> Talk {
     let mut talk = Talk::new(alloc);
     load(rt, alloc, &mut talk, key);

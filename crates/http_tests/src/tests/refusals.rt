@@ -1,4 +1,4 @@
-//! Requests with a good head that are refused. Each leaves its key free and the desk as it was.
+//! Requests with a good head that are refused. Each leaves its key free and changes nothing.
 use crate::tests::orders::{
     BAD_BODY, FLIGHT, JOURNEY_1, NO_AGENT, NO_JOURNEY, NO_KEY, NOTHING_UNFINISHED, UNKNOWN_PATH,
     begin,
@@ -57,7 +57,7 @@ const BAD_ORDERS: [Asked; 4] = [
     ("POST /batches/b1", "ann", "k1", "",                           ("400 Bad Request", "", 54, r#"{"cause":"header","name":"BadCsv","refused":6,"row":0}"#)),
 ];
 
-/// These requests are refused, and then the key begins the first journey.
+/// A talk in which these requests are refused, and then the key begins the first journey.
 fn refused(rt: &impl Abort, alloc: Global, rows: &[Asked]) -> Talk {
     let mut talk = Talk::new(alloc);
     talk.go_on(rt, alloc, rows);
@@ -67,7 +67,7 @@ fn refused(rt: &impl Abort, alloc: Global, rows: &[Asked]) -> Talk {
     talk
 }
 
-/// Stops the test where these requests are answered otherwise.
+/// Stops the test if these requests get other answers.
 fn are_refused(rt: &impl Abort, alloc: Global, rows: &[Asked]) {
     let talk = refused(rt, alloc, rows);
     is_answered(rt, alloc, "refused", &talk);
@@ -94,7 +94,7 @@ fn a_refused_request_that_is_cut_gets_no_page(rt: HostRuntime) {
     is_answered_when_cut(&rt, rt.alloc(), "refused", &talk);
 }
 
-// pages to HEAD are sent without their bodies
+// pages for HEAD requests are sent without their bodies
 #[rattlefmt::skip]
 const HEADS: [Asked; 4] = [
     ("HEAD /unfinished", "ann", "", "", ("405 Method Not Allowed", "Allow: GET\r\n",  34, "")),

@@ -1,4 +1,4 @@
-//! The bytes that are sent over a connection, the pages that are expected, and how a desk is tried on them.
+//! The bytes that are sent over a connection, the pages that are expected, and the checks of a desk on them.
 use crate::tests::desks::{holds, is_as_new, new_desk, reads};
 use crate::tests::fakes::{Pieces, Sink};
 use desk_http::serve;
@@ -7,20 +7,20 @@ use recovery::Ready;
 use std::alloc::Global;
 use std::process::Abort;
 
-/// More than all that a test writes.
+/// More bytes than any test writes.
 pub const ROOM: usize = 4000;
 
-/// More than all that a test reads.
+/// More bytes than any test reads.
 pub const ALL: usize = 1_000_000;
 
 // in one piece, and byte by byte
 pub const STEPS: [usize; 2] = [ALL, 1];
 
-/// A page in JSON: its status, the fields that not every page has, the length that it gives for its body, and the body
-/// that is sent.
+/// A page in JSON: its status, the fields that only some pages have, the length that it gives for its body, and the
+/// body that is sent.
 pub type Page = (&'static str, &'static str, usize, &'static str);
 
-/// What is asked for, of which agent, under which key if there is one, with which body, and the page of it.
+/// A request: its method and target, its agent, its key if there is one, its body, and its page.
 pub type Asked = (&'static str, &'static str, &'static str, &'static str, Page);
 
 /// The bytes that are sent over a connection, and the pages that are expected.
@@ -28,7 +28,7 @@ pub type Asked = (&'static str, &'static str, &'static str, &'static str, Page);
 pub struct Talk {
     pub sent: Vec<u8>,
     pub told: Vec<u8>,
-    /// After each request that gets a page: how much was sent by then, and how much is expected.
+    /// After each request that gets a page: the number of bytes sent, and the number of bytes expected.
     ends: Vec<(usize, usize)>,
 }
 
@@ -48,12 +48,12 @@ impl Talk {
         }
     }
 
-    /// These bytes are sent.
+    /// Sends these bytes.
     pub fn send(&mut self, rt: &impl Abort, bytes: &[u8]) {
         self.sent.extend_from_slice(bytes).expect(rt, "memory");
     }
 
-    /// A request is sent. A POST gives the length of its body.
+    /// Sends a request. A POST gives the length of its body.
     pub fn ask(
         &mut self,
         rt: &impl Abort,
@@ -76,14 +76,14 @@ impl Talk {
         self.send(rt, body);
     }
 
-    /// These texts are expected after what was sent last.
+    /// Expects these texts after the bytes sent so far.
     pub fn tell(&mut self, rt: &impl Abort, parts: &[&str]) {
         put(rt, &mut self.told, parts);
         let end = (self.sent.len(), self.told.len());
         self.ends.push(end).expect(rt, "memory");
     }
 
-    /// This page is expected after what was sent last.
+    /// Expects this page after the bytes sent so far.
     pub fn page(&mut self, rt: &impl Abort, alloc: Global, page: Page) {
         let (status, fields, length, body) = page;
         let length = length.to_string(alloc).expect(rt, "memory");
@@ -102,7 +102,7 @@ impl Talk {
         );
     }
 
-    /// These requests are sent, and get their pages.
+    /// Sends these requests, and expects their pages.
     pub fn go_on(&mut self, rt: &impl Abort, alloc: Global, rows: &[Asked]) {
         for &(asked, agent, key, body, page) in rows {
             self.ask(rt, alloc, asked, agent, key, body.as_bytes());
@@ -122,7 +122,7 @@ impl Talk {
     }
 }
 
-/// A desk is sent so many bytes of a talk, so many at a time, and answers as expected.
+/// Sends so many bytes of a talk to a desk, so many at a time, and checks its answers.
 pub fn is_served(
     rt: &impl Abort,
     alloc: Global,
@@ -141,12 +141,12 @@ pub fn is_served(
     holds(rt, case, served.pages == pages as u64);
 }
 
-/// A desk is sent a whole talk, in one piece.
+/// Sends a whole talk to a desk, in one piece, and checks its answers.
 pub fn goes_on(rt: &impl Abort, alloc: Global, case: &str, talk: &Talk, desk: &mut Ready<MemBook>) {
     is_served(rt, alloc, case, talk, desk, talk.sent.len(), ALL);
 }
 
-/// A new desk is sent a whole talk, in one piece, and another one byte by byte.
+/// Sends a whole talk to a new desk in one piece, and to another byte by byte, and checks their answers.
 pub fn is_answered(rt: &impl Abort, alloc: Global, case: &str, talk: &Talk) {
     for &step in &STEPS {
         let mut desk = new_desk(rt, alloc);
@@ -154,21 +154,21 @@ pub fn is_answered(rt: &impl Abort, alloc: Global, case: &str, talk: &Talk) {
     }
 }
 
-/// A new desk is sent so many bytes of a talk.
+/// Sends so many bytes of a talk to a new desk, and checks its answers.
 pub fn cut(rt: &impl Abort, alloc: Global, case: &str, talk: &Talk, read: usize) -> Ready<MemBook> {
     let mut desk = new_desk(rt, alloc);
     is_served(rt, alloc, case, talk, &mut desk, read, ALL);
     desk
 }
 
-/// A new desk is sent a talk up to any of its bytes.
+/// Sends each proper prefix of a talk to a new desk, and checks its answers.
 pub fn is_answered_when_cut(rt: &impl Abort, alloc: Global, case: &str, talk: &Talk) {
     for read in 0..talk.sent.len() {
         cut(rt, alloc, case, talk, read);
     }
 }
 
-/// A new desk is sent a talk up to any of its bytes, and does nothing.
+/// Sends each proper prefix of a talk to a new desk, and checks that nothing changes.
 pub fn does_nothing_when_cut(rt: &impl Abort, alloc: Global, case: &str, talk: &Talk) {
     for read in 0..talk.sent.len() {
         let mut desk = cut(rt, alloc, case, talk, read);

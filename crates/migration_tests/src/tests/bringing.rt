@@ -8,7 +8,7 @@ use std::alloc::Global;
 use std::process::Abort;
 use std::test::Fail;
 
-/// An old file holds this, and is migrated with so many events.
+/// Checks that an old file has these contents, and is migrated with so many events.
 #[derive(Drop)]
 struct BroughtOver<'a> {
     held: &'a Held<'a>,
@@ -33,7 +33,7 @@ impl Session for BroughtOver<'_> {
     }
 }
 
-/// A new file holds this, and is not migrated again.
+/// Checks that a new file has these contents, and is not migrated again.
 #[derive(Drop)]
 struct StaysNew<'a> {
     held: &'a Held<'a>,
@@ -54,7 +54,7 @@ impl Session for StaysNew<'_> {
     }
 }
 
-/// The file is migrated with so many events, and not again.
+/// Checks that the file is migrated with so many events, and not again.
 fn is_brought_over(
     rt: &impl Abort,
     alloc: Global,
@@ -74,7 +74,7 @@ fn is_brought_over(
     Ok(())
 }
 
-// rounds, and events: 35 a round, and two batches where there is one
+// what the row shows, rounds, and events: 35 a round, and two batches if there is a round
 #[rattlefmt::skip]
 static FILES: [(&str, u32, u64); 3] = [
     ("no event",                                0,   0),

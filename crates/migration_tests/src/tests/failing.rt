@@ -1,5 +1,5 @@
-//! Stores that fail from some call on while they are migrated: the file that is found after the crash is the old one or
-//! the new one, and the next migration completes it.
+//! Stores that fail from some call on while they are migrated: the file after the crash is the old one or the new one,
+//! and the next migration completes it.
 use crate::tests::helping::{Session, bring_over, disk_of, holds, open_failing, open_for};
 use crate::tests::old_files::{OldFile, old_file};
 use crate::tests::reporting::{desk_over, handed_back, shown};
@@ -18,7 +18,7 @@ const MOST_CALLS: u64 = 10_000;
 /// The result of migration, if the file was opened at all.
 type Answer = Option<Result<Migrated, MigrateFault>>;
 
-/// Where a disk fails from some call on, and whether the machine or the program ends then.
+/// The call from which a disk fails, and whether the machine or the program ends then.
 #[derive(Clone, Copy)]
 struct Stop {
     in_log: bool,
@@ -26,7 +26,7 @@ struct Stop {
     calls: u64,
 }
 
-/// What is left after a crash: the answer before it, the files, and whether a call failed.
+/// The state after a crash: the result before it, the files, and whether a call failed.
 #[derive(Drop)]
 struct Left {
     answer: Answer,
@@ -36,7 +36,7 @@ struct Left {
 }
 
 impl Left {
-    /// Opens what was left for a session, and closes it.
+    /// Opens the files after a crash for a session, and closes them.
     fn open_for<T: Session>(
         &self,
         rt: &impl Abort,
@@ -52,7 +52,7 @@ fn has_blown<D: Disk>(disk: &mut D) -> bool {
     !disk.may_be_used() || disk.len().is_err()
 }
 
-/// A file is migrated; the result of that.
+/// Migrates a file, and records the result.
 #[derive(Drop)]
 struct Migration {
     answer: Answer,
@@ -95,7 +95,7 @@ fn stop_once(rt: &impl Abort, alloc: Global, bytes: &[u8], stop: Stop) -> Result
     })
 }
 
-/// A file, and what it holds before it fails.
+/// A file, and its schema and events before it fails.
 #[derive(Drop)]
 struct Trial<'a> {
     bytes: &'a [u8],
@@ -105,7 +105,7 @@ struct Trial<'a> {
 }
 
 impl Trial<'_> {
-    /// The result is one that may come, and without a failed call the one that has to come.
+    /// Whether the result is possible; without a failed call it must be the expected one.
     fn may_answer(&self, left: &Left) -> bool {
         let sound = match self.before {
             Schema::Old => Ok(Migrated {
@@ -119,7 +119,7 @@ impl Trial<'_> {
         }
     }
 
-    /// What is found after a crash is what the result says of it.
+    /// Checks the schema of the file after a crash against the result.
     fn may_be_found(&self, rt: &impl Abort, left: &Left, found: Schema) {
         holds(rt, "the answer", self.may_answer(left));
         if self.before == Schema::New || matches!(left.answer, Some(Ok(_))) {
@@ -130,7 +130,7 @@ impl Trial<'_> {
         }
     }
 
-    /// The next migration completes what was found.
+    /// Checks that the next migration completes the file.
     fn is_completed(&self, rt: &impl Abort, found: Schema, next: Result<Migrated, MigrateFault>) {
         let events = self.events;
         match found {
@@ -139,7 +139,7 @@ impl Trial<'_> {
         }
     }
 
-    /// What is found after a crash: a file that is wholly old or wholly new, and that the next migration completes.
+    /// Checks the file after a crash: it is wholly old or wholly new, and the next migration completes it.
     fn check_left(&self, rt: &impl Abort, alloc: Global, left: &Left) -> Result<Schema, Fail> {
         let mut completion = Completion {
             trial: self,
@@ -151,7 +151,7 @@ impl Trial<'_> {
     }
 }
 
-/// What is left after a crash is completed; which schema was found before.
+/// Completes the file after a crash, and records the schema that it had before.
 #[derive(Drop)]
 struct Completion<'a> {
     trial: &'a Trial<'a>,
@@ -178,7 +178,7 @@ impl Session for Completion<'_> {
 }
 
 /// How often the file was not opened, how often a fault of migration left the old file and the new one, and how often
-/// it was answered.
+/// there was another result.
 #[derive(Clone, Copy, Debug, PartialEq, Eq)]
 struct Met {
     unopened: u32,
@@ -199,7 +199,7 @@ impl Met {
     }
 }
 
-/// Each call of one disk fails in turn, or one of so many, until a run ends without meeting the fault.
+/// Lets each call of one disk fail in turn, or one of so many, until a run ends without meeting the fault.
 fn stop_at_each_call_of(
     rt: &impl Abort,
     alloc: Global,
@@ -232,7 +232,7 @@ fn stop_at_each_call_of(
     Err(Fail::from("no run without a fault"))
 }
 
-/// The same for each disk, where the program ends and where the machine crashes.
+/// Does the same for each disk, where the program ends and where the machine crashes.
 fn stop_at_each_call(
     rt: &impl Abort,
     alloc: Global,
@@ -301,7 +301,7 @@ fn a_long_file_may_fail_at_any_call(rt: HostRuntime) -> Result<(), Fail> {
     stop_at_each_call(&rt, alloc, &trial, 7)
 }
 
-/// What is left where the last call that migration makes of the log fails, its commit, and the machine crashes.
+/// The state after a crash of the machine, where the last call of the log in a migration fails, which is its commit.
 fn without_commit(rt: &impl Abort, alloc: Global, bytes: &[u8]) -> Result<Left, Fail> {
     let mut last = None;
     for calls in 0..MOST_CALLS {
@@ -319,7 +319,7 @@ fn without_commit(rt: &impl Abort, alloc: Global, bytes: &[u8]) -> Result<Left, 
     Ok(last.ok_or("no call fails")?)
 }
 
-/// An old file of one round is shown, migrated, shown again, and used.
+/// Shows an old file of one round, migrates it, shows it again, and uses it.
 #[derive(Drop)]
 struct Shown;
 

@@ -1,6 +1,6 @@
-//! What the tests share: files in memory, which are opened, used and closed, and short ways to ask and to judge. The
-//! store over files is named here alone: the proof of each function that passes it on opens its whole layout, and takes
-//! a minute or more. What tests do with it is a `Session`, which is proved once, for any store.
+//! What the tests share: files in memory, which are opened, used and closed, and checks. Only this module names the
+//! store over files: the proof of each function that passes such a store on unfolds its whole layout, which takes a
+//! minute or more. What tests do with a store is a `Session`, which is proved once, for any store.
 ghost use Rattle.std.specs.Prelude.{◌≡◌, false, None, IsTrue, IfOk};
 ghost use Rattle.sqlite_disk.specs.Memory.{memory_is_usable};
 
@@ -24,14 +24,14 @@ pub trait Session {
     ) -> Result<Connection<S>, Fail>;
 }
 
-/// Stops the test where this is false.
+/// Stops the test if this is false.
 pub fn holds(rt: &impl Abort, case: &str, is_so: bool)
     ensures { IsTrue is_so }
 {
     assert!(rt; is_so, "{case}");
 }
 
-/// A disk with these bytes, on which nothing waits to be synced.
+/// A disk with these bytes, all of them synced.
 pub fn disk_of(alloc: Global, bytes: &[u8]) -> io::Result<Memory>
     ensures { IfOk result (λ m. IsTrue (memory_is_usable m)) }
 {
@@ -94,7 +94,7 @@ pub fn open_failing<T: Session>(
     })
 }
 
-/// The texts run in one transaction.
+/// Runs the texts in one transaction.
 pub fn run<S: Alter>(
     rt: &impl Abort,
     conn: &mut Connection<S>,
@@ -119,7 +119,7 @@ pub fn bring_over<S: Alter>(
     migrate(conn)
 }
 
-/// What the store of a connection holds, which has to be a desk's.
+/// The contents of a connection's store, which must be a desk's.
 pub fn open<S: Alter + Drop>(rt: &impl Abort, mut conn: Connection<S>) -> Result<Opened<S>, Fail> {
     conn.set_step_limit(None);
     holds(rt, "no transaction", conn.is_autocommit());
@@ -129,7 +129,7 @@ pub fn open<S: Alter + Drop>(rt: &impl Abort, mut conn: Connection<S>) -> Result
     }
 }
 
-/// The desk over the store of a connection, which has to be of the newest schema.
+/// The desk over a connection's store, which must be of the newest schema.
 pub fn book_over<S: Alter + Drop>(
     rt: &impl Abort,
     alloc: Global,

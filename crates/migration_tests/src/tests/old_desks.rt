@@ -1,5 +1,5 @@
-//! The desk that the old files hold: its cells, and the journeys of a round. A file has as many rounds as a test asks for.
-//! Each journey stands here twice: as its rows of schema 1, and as reports have to show it.
+//! The desk of the old files: its cells, and the journeys of a round. A file has as many rounds as a test needs. Each
+//! journey is given twice: as its rows of schema 1, and as reports must show it.
 
 /// A cell: its text; its kind, supplier, product and night; its allotment, and how many places a round holds.
 pub type CellRow = (&'static str, i64, &'static str, &'static str, i64, i64, i64);
@@ -30,7 +30,7 @@ pub struct OldJourney {
     pub numbers: [i64; 6],
     pub options: &'static [OptionRow],
     pub items: &'static [ItemRow],
-    /// Its items as text.
+    /// The items as text.
     pub told: &'static str,
     pub state: &'static str,
 }
@@ -60,7 +60,7 @@ static CELLS: [CellRow; 17] = [
 /// How many journeys a round has.
 pub const IN_A_ROUND: u64 = 8;
 
-/// How many items a journey has, at most.
+/// The most items that a journey has.
 pub const MOST_ITEMS: usize = 8;
 
 #[rattlefmt::skip]
@@ -71,7 +71,7 @@ static JOURNEYS: [OldJourney; 8] = [
         options: &[(1, 1, 0, 1, 0, "AL", "A1", 22066, 1, 2), (2, 1, 0, 1, 1, "INN", "DBL", 22066, 3, 1)],
         items: &[(0, 1, 1), (0, 2, 1)], told: "T1.1 T2.1", state: "ended 2",
     },
-    // turned back to its start, and there
+    // back at its start, after a turn
     OldJourney {
         agent: "ann", plan: "F/AL/A1/2030-06-01/1/1;T/BUS/X/2030-06-01/1/4!0", numbers: [2, 0, 0, 3, 0, 0],
         options: &[(1, 1, 0, 0, 0, "AL", "A1", 22066, 1, 1), (2, 1, 0, 0, 2, "BUS", "X", 22066, 1, 4)],
@@ -144,7 +144,7 @@ pub fn is_unfinished(journey: &OldJourney) -> bool {
     journey.state.starts_with("run") || journey.state.starts_with("back")
 }
 
-/// Its last item, if it has one.
+/// The last item of a journey. Returns `None` if it has no item.
 pub fn last_item(journey: &OldJourney) -> Option<&'static str> {
     if journey.told.is_empty() {
         return None;

@@ -1,4 +1,4 @@
-//! Files of schema 1, written by its own statements.
+//! Files of schema 1, written by statements of that schema.
 use crate::tests::helping::{Session, holds, open_for};
 use crate::tests::old_desks::{
     ItemRow, MOST_ITEMS, OldJourney, OptionRow, cells, journeys, last_item,
@@ -9,7 +9,7 @@ use std::alloc::{AllocError, Global};
 use std::process::Abort;
 use std::test::Fail;
 
-/// The tables of schema 1, of which none refers to a later one.
+/// The tables of schema 1. No table refers to a later one.
 #[rattlefmt::skip]
 static OLD_TABLES: [&str; 7] = [
     "CREATE TABLE meta(one INTEGER PRIMARY KEY CHECK(one = 1), version INTEGER NOT NULL, events INTEGER NOT NULL, journeys INTEGER NOT NULL) STRICT",
@@ -21,7 +21,7 @@ static OLD_TABLES: [&str; 7] = [
     "CREATE TABLE answer(agent TEXT NOT NULL, mark TEXT NOT NULL, ask BLOB NOT NULL, reply TEXT NOT NULL, PRIMARY KEY(agent, mark)) STRICT",
 ];
 
-/// What was written into a file: how many events and journeys, and the items, a line each.
+/// What was written to a file: the number of events and of journeys, and the items, a line each.
 #[derive(Drop)]
 pub struct Written {
     pub events: i64,
@@ -37,7 +37,7 @@ impl Written {
     }
 }
 
-/// A file of schema 1 that is closed, and what was written into it.
+/// A closed file of schema 1, and what was written to it.
 #[derive(Drop)]
 pub struct OldFile {
     db: Memory,
@@ -51,7 +51,7 @@ impl OldFile {
     }
 }
 
-/// A file of schema 1 in which so many rounds of journeys were begun; one without a round has no event at all.
+/// A file of schema 1 in which so many rounds of journeys have begun. Without a round it has no event.
 pub fn old_file(rt: &impl Abort, alloc: Global, rounds: u32) -> Result<OldFile, Fail> {
     let mut writing = Writing {
         rounds,
@@ -62,7 +62,7 @@ pub fn old_file(rt: &impl Abort, alloc: Global, rounds: u32) -> Result<OldFile, 
     Ok(OldFile { db, written })
 }
 
-/// The desk of so many rounds is written; returns what was written.
+/// Writes the desk of so many rounds, and records what was written.
 #[derive(Drop)]
 struct Writing {
     rounds: u32,
@@ -136,8 +136,8 @@ fn content(alloc: Global) -> Result<String, AllocError> {
     Ok(text)
 }
 
-/// Writes two batches, of which the second one has the first cell alone, and the stock after so many rounds. Ann asked for
-/// the first batch.
+/// Writes two batches, of which the second has only the first cell, and the stock after so many rounds. Ann loaded the
+/// first batch.
 fn write_loads<S: Alter>(
     tx: &mut Transaction<'_, S>,
     alloc: Global,
@@ -173,7 +173,7 @@ fn write_batch<S: Alter>(
     Ok(())
 }
 
-/// Keeps a reply of this agent under this key; the text of the ask was that of the key.
+/// Keeps a reply of this agent under this key. The text of the request is that of the key.
 fn write_answer<S: Alter>(
     tx: &mut Transaction<'_, S>,
     agent: &str,
@@ -209,7 +209,7 @@ fn write_round<S: Alter>(
     Ok(())
 }
 
-/// Writes the rows of a journey but for its items, and the replies that its agent got, if it is not the house.
+/// Writes the rows of a journey except its items, and the replies to its agent, if that is not the house.
 fn write_journey<S: Alter>(
     tx: &mut Transaction<'_, S>,
     alloc: Global,

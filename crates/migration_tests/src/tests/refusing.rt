@@ -1,4 +1,4 @@
-//! Stores that are not migrated: what each reports, and that nothing of it changes.
+//! Stores that are not migrated: what each reports, and that nothing in it changes.
 use crate::tests::helping::{Session, bring_over, holds, open_for, run};
 use crate::tests::old_files::old_file;
 use migrate::MigrateFault;
@@ -8,7 +8,7 @@ use std::alloc::Global;
 use std::process::Abort;
 use std::test::Fail;
 
-/// A store is refused with this fault, whether migration is asked for once or twice.
+/// Checks that a store is refused with this fault, at the first migration and at the second.
 #[derive(Drop)]
 struct Refused<'a> {
     case: &'a str,
@@ -31,7 +31,7 @@ impl Session for Refused<'_> {
     }
 }
 
-/// The store of these bytes is refused with this fault, and not a byte of it changes.
+/// Checks that the store of these bytes is refused with this fault, and that not a byte of it changes.
 fn is_refused(
     rt: &impl Abort,
     alloc: Global,
@@ -44,7 +44,7 @@ fn is_refused(
     Ok(())
 }
 
-/// These statements run.
+/// Runs these statements.
 #[derive(Drop)]
 struct Change<'a> {
     statements: &'a [&'a str],
@@ -62,7 +62,7 @@ impl Session for Change<'_> {
     }
 }
 
-/// The file of these statements, after others.
+/// The file after these statements, which are run after others.
 fn changed(
     rt: &impl Abort,
     alloc: Global,
@@ -72,7 +72,7 @@ fn changed(
     open_for(rt, alloc, &[], bytes, &mut Change { statements })
 }
 
-// what becomes of an old file, and what is reported then
+// what the row shows, the changes of an old file, and the fault that is reported
 #[rattlefmt::skip]
 static CHANGES: [(&str, &[&str], MigrateFault); 8] = [
     ("version 2",         &["UPDATE meta SET version = 2"], MigrateFault::AlreadyNew),
@@ -96,7 +96,7 @@ fn another_version_or_none_is_refused(rt: HostRuntime) -> Result<(), Fail> {
     Ok(())
 }
 
-// what makes a store that is no desk's, and what is reported
+// what the row shows, the statements that make a store of no desk, and the fault that is reported
 #[rattlefmt::skip]
 static FOREIGN: [(&str, &[&str], MigrateFault); 5] = [
     ("no tables",            &[], MigrateFault::UnknownSchema(0)),

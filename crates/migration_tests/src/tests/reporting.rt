@@ -1,5 +1,5 @@
-//! What is shown of an old file is what was written into it, and the same after the file was migrated. No desk is
-//! opened over an old file.
+//! An old file shows what was written to it, and shows the same after its migration. No desk is opened over an old
+//! file.
 use crate::tests::helping::{Session, bring_over, holds, open, open_for};
 use crate::tests::old_desks::{IN_A_ROUND, OldJourney, cells, is_unfinished, journeys};
 use crate::tests::old_files::old_file;
@@ -10,7 +10,7 @@ use std::process::Abort;
 use std::test::Fail;
 use tables::{OpenFault, Opened, TableBook};
 
-// more rows than a file here has of anything
+// more rows of any kind than a file here has
 const MOST_ROWS: u32 = 100_000;
 
 /// The report of the places of each cell.
@@ -26,7 +26,7 @@ pub fn stock_of<S: Alter>(alloc: Global, opened: &mut Opened<S>) -> Result<Strin
     Ok(text)
 }
 
-/// The report of the journeys that are not finished.
+/// The report of the unfinished journeys.
 pub fn unfinished_of<S: Alter>(alloc: Global, opened: &mut Opened<S>) -> Result<String, Fail> {
     let mut text = String::new(alloc);
     let mut rows = opened.unfinished_rows()?;
@@ -56,7 +56,7 @@ fn items_of<S: Alter>(alloc: Global, opened: &mut Opened<S>, id: u64) -> Result<
     Ok(text)
 }
 
-/// The report of a journey, which is empty where there is none.
+/// The report of a journey. It is empty if there is no such journey.
 pub fn journey_of<S: Alter>(
     alloc: Global,
     opened: &mut Opened<S>,
@@ -117,7 +117,7 @@ fn expected_unfinished(alloc: Global, rounds: u64) -> Result<String, AllocError>
     Ok(text)
 }
 
-/// What is shown of the journeys of one round, counted from 0, is what was written.
+/// Checks that the journeys of one round, counted from 0, are shown as they were written.
 fn shows_round<S: Alter>(
     rt: &impl Abort,
     alloc: Global,
@@ -134,8 +134,8 @@ fn shows_round<S: Alter>(
     Ok(())
 }
 
-/// All that is shown of a file of so many rounds is what was written: of the journeys those of the first round, those of the
-/// last, and numbers that none has.
+/// Checks that a file of so many rounds is shown as it was written: of the journeys those of the first and the last
+/// round, and numbers without a journey.
 pub fn shows_all<S: Alter>(
     rt: &impl Abort,
     alloc: Global,
@@ -160,7 +160,7 @@ pub fn shows_all<S: Alter>(
     Ok(())
 }
 
-/// What a store holds, all of which is shown.
+/// The contents of a store, all of which were checked.
 pub fn shown<S: Alter + Drop>(
     rt: &impl Abort,
     alloc: Global,
@@ -172,7 +172,7 @@ pub fn shown<S: Alter + Drop>(
     Ok(opened)
 }
 
-/// No desk is opened over what was found, which is returned.
+/// Checks that no desk is opened over this store, and returns it.
 pub fn handed_back<S: Alter + Drop>(
     rt: &impl Abort,
     alloc: Global,
@@ -187,7 +187,7 @@ pub fn handed_back<S: Alter + Drop>(
     }
 }
 
-/// The desk over what was found.
+/// The desk over this store.
 pub fn desk_over<S: Alter + Drop>(alloc: Global, opened: Opened<S>) -> Result<TableBook<S>, Fail> {
     match opened.into_book(alloc) {
         Ok(book) => Ok(book),
@@ -195,7 +195,7 @@ pub fn desk_over<S: Alter + Drop>(alloc: Global, opened: Opened<S>) -> Result<Ta
     }
 }
 
-/// An old file is shown before and after a refused opening of its desk, and after it was migrated.
+/// Shows an old file before and after a refused opening of its desk, and after its migration.
 #[derive(Drop)]
 struct ShownAlike {
     rounds: u64,

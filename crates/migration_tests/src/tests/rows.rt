@@ -1,4 +1,4 @@
-//! The rows of a file as text, and whether they are those that were written into it, under the old schema or the new one.
+//! The rows of a file as text, and whether they are those that were written to it, under the old schema or the new one.
 use crate::tests::helping::{Session, holds, open_for};
 use crate::tests::old_files::{OldFile, Written};
 use sqlite::types::ValueRef;
@@ -23,7 +23,7 @@ const OLD: &str = "answer\nbatch\nentry\njourney\nmeta\nstep\nstock\n";
 
 const NEW: &str = "answer\nbatch\nentry\nentry2\njourney\nmark\nmeta\nstep\nstock\n";
 
-/// The rows that a statement finds, a line each, with a bar between two values.
+/// The rows of a statement's result, a line each, with a bar between two values.
 pub fn rows<S: Alter>(
     alloc: Global,
     conn: &mut Connection<S>,
@@ -60,14 +60,14 @@ pub fn same_rows<S: Alter>(alloc: Global, conn: &mut Connection<S>) -> Result<St
     Ok(text)
 }
 
-/// Which schema a file has.
+/// The schema of a file.
 #[derive(Clone, Copy, Debug, PartialEq, Eq)]
 pub enum Schema {
     Old,
     New,
 }
 
-/// What a file has to hold, whichever schema it has.
+/// The contents that a file must have under either schema.
 #[derive(Drop)]
 pub struct Held<'a> {
     pub written: &'a Written,
@@ -76,7 +76,7 @@ pub struct Held<'a> {
 }
 
 impl Held<'_> {
-    /// The file holds all this under one of the schemas, and nothing else. Returns which one that is.
+    /// Checks that the file has these contents under one of the schemas, and nothing else. Returns that schema.
     pub fn is_found<S: Alter>(
         &self,
         rt: &impl Abort,
@@ -107,7 +107,7 @@ impl Held<'_> {
         Ok(schema)
     }
 
-    /// The items stand in the new table too, and no save-point was taken.
+    /// Checks that the items are in the new table too, and that no save-point was taken.
     fn has_new_items<S: Alter>(
         &self,
         rt: &impl Abort,
@@ -126,7 +126,7 @@ impl Held<'_> {
     }
 }
 
-/// The rows of the tables that migration does not change, once they are read.
+/// Reads the rows of the tables that migration does not change.
 #[derive(Drop)]
 struct SameRows {
     same: String,
@@ -144,7 +144,7 @@ impl Session for SameRows {
     }
 }
 
-/// What an old file holds, read before anything else is done with it.
+/// The contents of an old file, read before anything else is done with it.
 pub fn held_in<'a>(rt: &impl Abort, alloc: Global, file: &'a OldFile) -> Result<Held<'a>, Fail> {
     let mut rows = SameRows {
         same: String::new(alloc),

@@ -1,5 +1,5 @@
-//! A file that was migrated is used: its keys give their replies, recovery brings every journey to its end, and a
-//! journey takes a save-point while it runs.
+//! A migrated file is used: its keys give their replies, recovery brings every journey to its end, and a journey takes
+//! a save-point while it runs.
 use crate::tests::helping::{Session, book_over, bring_over, holds, open_for, run};
 use crate::tests::old_desks::{journeys, last_item};
 use crate::tests::old_files::old_file;
@@ -28,7 +28,7 @@ fn open_old<T: Session>(
     Ok(())
 }
 
-/// The desk over a store that is migrated now.
+/// Migrates a store, and returns the desk over it.
 fn brought_over<S: Alter + Drop>(
     rt: &impl Abort,
     alloc: Global,
@@ -38,21 +38,21 @@ fn brought_over<S: Alter + Drop>(
     book_over(rt, alloc, conn)
 }
 
-/// Stops the test where another line was answered.
+/// Stops the test if another line was answered.
 fn says(rt: &impl Abort, alloc: Global, reply: &Reply, expected: &str) -> Result<(), Fail> {
     let line = reply.line(alloc)?;
     assert_eq!(rt; line.as_str(), expected);
     Ok(())
 }
 
-/// What an agent asks for under a key, with this text.
+/// A request of an agent under a key, with this text.
 fn ask(alloc: Global, agent: &str, key: &str, text: &str) -> Result<Ask, Fail> {
     let agent = Agent::parse(agent).ok_or("no agent")?;
     let key = Key::parse(key).ok_or("no key")?;
     Ok(Ask::new(agent, key, Vec::from_slice(alloc, text.as_bytes())?))
 }
 
-/// Under the key that was used an agent gets this reply, and under another text a refusal; whatever the command.
+/// Checks that a used key gives its agent this reply, and a refusal for another text, whatever the command.
 fn is_kept<B: Book>(
     rt: &impl Abort,
     alloc: Global,
@@ -69,7 +69,7 @@ fn is_kept<B: Book>(
     says(rt, alloc, &reply, "refused 14 KeyReused")
 }
 
-/// Each kept key of a file of so many rounds gives its reply.
+/// Checks that each kept key of a file of so many rounds gives its reply.
 pub fn keeps_all<B: Book>(
     rt: &impl Abort,
     alloc: Global,
@@ -97,7 +97,7 @@ pub fn keeps_all<B: Book>(
     Ok(())
 }
 
-/// The kept keys of three rounds give their replies.
+/// Checks the kept keys of three rounds.
 #[derive(Drop)]
 struct KeptKeys;
 
@@ -122,7 +122,7 @@ fn each_kept_key_gives_its_reply(rt: HostRuntime) -> Result<(), Fail> {
     open_old(&rt, rt.alloc(), 3, &mut KeptKeys)
 }
 
-/// The items of a journey and its state.
+/// The items of a journey, and its state.
 fn history<B: Book>(alloc: Global, book: &mut B, id: u64) -> Result<String, Fail> {
     let mut line = String::new(alloc);
     for item in &book.history(id)? {
@@ -134,7 +134,7 @@ fn history<B: Book>(alloc: Global, book: &mut B, id: u64) -> Result<String, Fail
     Ok(line)
 }
 
-// what recovery makes of the journeys of a round
+// the journeys of a round after recovery
 #[rattlefmt::skip]
 static RECOVERED: [&str; 8] = [
     "T1.1 T2.1 ended 2",
@@ -147,10 +147,11 @@ static RECOVERED: [&str; 8] = [
     "T1.1 T2.1 T3.1 T4.1 T5.1 B4a B2a C5.1 C4.1 C3.1 T3.1 T4.1 T5.1 T6.1 ended 6",
 ];
 
-// how many events recovery makes of a round: 4, 3, 1 and 6
+// how many events recovery makes in a round: 4, 3, 1 and 6
 const RECOVERED_EVENTS: u64 = 14;
 
-/// Recovery brings each journey of so many rounds to its end, and the kept keys still give their replies.
+/// Checks that recovery brings each journey of so many rounds to its end, and that the kept keys still give their
+/// replies.
 fn is_recovered<B: Book + Drop>(
     rt: &impl Abort,
     alloc: Global,
@@ -169,7 +170,7 @@ fn is_recovered<B: Book + Drop>(
     Ok(ready.into_inner())
 }
 
-/// The journeys of so many rounds have ended as recovery ends them.
+/// Checks that the journeys of so many rounds have ended as recovery ends them.
 fn have_ended<B: Book>(
     rt: &impl Abort,
     alloc: Global,
@@ -187,7 +188,7 @@ fn have_ended<B: Book>(
     Ok(())
 }
 
-/// A file is migrated and recovered.
+/// Migrates a file, and recovers its desk.
 #[derive(Drop)]
 struct Recovered {
     rounds: u8,
@@ -218,7 +219,7 @@ fn recovery_brings_every_journey_to_its_end(rt: HostRuntime) -> Result<(), Fail>
     Ok(())
 }
 
-/// A file of one round is migrated, and its old items are deleted.
+/// Migrates a file of one round, and deletes its old items.
 #[derive(Drop)]
 struct WithoutOld;
 
@@ -242,7 +243,7 @@ fn the_old_items_are_not_read(rt: HostRuntime) -> Result<(), Fail> {
     open_old(&rt, rt.alloc(), 1, &mut WithoutOld)
 }
 
-/// What is asked of the desk over a file of one round: the ninth journey begins, is moved, or has a save-point taken.
+/// A request to the desk over a file of one round: the ninth journey begins, is moved, or has a save-point taken.
 #[derive(Clone, Copy)]
 enum Asked {
     Begin(&'static str),
@@ -268,7 +269,7 @@ static NEW_JOURNEY: [(Asked, &str); 13] = [
     (Asked::Step,     "journey 9 C2.1 run 1"),
 ];
 
-// what stands then: 37 events before, and ten more
+// what is stored then: the 37 events before, and ten more
 #[rattlefmt::skip]
 static AFTER_IT: [(&str, &str); 5] = [
     ("SELECT version, events, journeys FROM meta", "2|47|9\n"),
@@ -288,7 +289,7 @@ fn command_of(alloc: Global, asked: Asked) -> Result<Command, Fail> {
     })
 }
 
-/// The ninth journey gets these answers.
+/// Checks the answers to the ninth journey.
 fn is_answered<B: Book>(rt: &impl Abort, alloc: Global, book: &mut B) -> Result<(), Fail> {
     for &(asked, expected) in &NEW_JOURNEY {
         let reply = book.act(&command_of(alloc, asked)?, None)?;
@@ -297,7 +298,7 @@ fn is_answered<B: Book>(rt: &impl Abort, alloc: Global, book: &mut B) -> Result<
     Ok(())
 }
 
-/// The rows that stand then.
+/// Checks the rows that are stored then.
 fn has_rows<S: Alter>(
     rt: &impl Abort,
     alloc: Global,
@@ -309,7 +310,7 @@ fn has_rows<S: Alter>(
     Ok(())
 }
 
-/// The ninth journey, in a file of one round that is migrated.
+/// Makes the ninth journey, in a migrated file of one round.
 #[derive(Drop)]
 struct NewJourney;
 
@@ -333,7 +334,7 @@ fn a_new_journey_takes_a_save_point(rt: HostRuntime) -> Result<(), Fail> {
     open_old(&rt, rt.alloc(), 1, &mut NewJourney)
 }
 
-/// The batch of one cell, or of two.
+/// A batch of these cells with their places.
 fn batch(alloc: Global, name: &str, cells: &[(&str, u32)]) -> Result<Command, Fail> {
     let mut rows = Vec::new(alloc);
     for &(cell, places) in cells {
@@ -344,7 +345,8 @@ fn batch(alloc: Global, name: &str, cells: &[(&str, u32)]) -> Result<Command, Fa
     Ok(Command::Load(Batch::new(alloc, name, rows)?))
 }
 
-// a batch, and its answer: one that the old file has, with the same row and with another, and below what is held
+// a batch, its cells, and the answer: a batch of the old file, with the same row and with another, and one below what
+// is held
 #[rattlefmt::skip]
 static BATCHES: [(&str, &[(&str, u32)], &str); 4] = [
     ("one", &[("F/AL/A1/2030-06-01", 100_000)], "loaded one 1"),
@@ -353,7 +355,7 @@ static BATCHES: [(&str, &[(&str, u32)], &str); 4] = [
     ("two", &[("F/AL/A6/2030-06-01", 0), ("F/AL/A1/2030-06-01", 5)], "loaded two 2"),
 ];
 
-/// The batches get these answers.
+/// Checks the answers to the batches.
 fn are_loaded<B: Book>(rt: &impl Abort, alloc: Global, book: &mut B) -> Result<(), Fail> {
     for &(name, cells, expected) in &BATCHES {
         let reply = book.act(&batch(alloc, name, cells)?, None)?;
@@ -362,7 +364,7 @@ fn are_loaded<B: Book>(rt: &impl Abort, alloc: Global, book: &mut B) -> Result<(
     Ok(())
 }
 
-/// The batches, loaded into a file of one round that is migrated.
+/// Loads the batches into a migrated file of one round.
 #[derive(Drop)]
 struct Loads;
 

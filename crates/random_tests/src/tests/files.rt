@@ -1,6 +1,6 @@
-//! The desk over tables in a file, which is opened, used and closed. The store over files is named here alone: the
-//! proof of each function that passes it on opens its whole layout, and takes a minute or more. What a test does with
-//! the desk is a `Session`, which is proved once, for any book.
+//! The desk over tables in a file, which is opened, used and closed. Only this module names the store over files: the
+//! proof of each function that passes such a store on unfolds its whole layout, which takes a minute or more. What a
+//! test does with the desk is a `Session`, which is proved once, for any book.
 ghost use Rattle.std.specs.Prelude.{◌≡◌, false, None, IsTrue, IfOk};
 ghost use Rattle.sqlite_disk.specs.Memory.{memory_is_usable};
 
@@ -17,7 +17,7 @@ pub trait Session {
     fn run<B: Book, R: Abort>(&mut self, rt: &R, alloc: Global, book: &mut B) -> Result<(), Fail>;
 }
 
-/// The desk over the store of a connection is used for a session.
+/// Uses the desk over the store of a connection for a session.
 fn use_desk<S: Alter + Drop, T: Session>(
     rt: &impl Abort,
     alloc: Global,
@@ -78,7 +78,7 @@ impl ClosedFile {
         }
     }
 
-    /// The desk over this file is opened for a session, and closed.
+    /// Opens the desk over this file for a session, and closes the file.
     pub fn open_for<T: Session>(
         self,
         rt: &impl Abort,

@@ -1,5 +1,5 @@
-//! The desk as a slow, plain program: it keeps only its events and the kept replies, and computes all else from them,
-//! by the definitions.
+//! The desk as a slow, plain program: it keeps only its events and the kept replies, and computes everything else from
+//! them, by the definitions.
 use allotment::{Cell, Want};
 use commands::{Agent, Ask, Batch, Cause, Command, Item, Key, Phase, Refusal, Reply};
 use plan::Plan;
@@ -13,7 +13,7 @@ pub enum Event {
     Did(u64, Item),
 }
 
-/// A reply that is kept, under whom and with which text.
+/// A kept reply, with its agent, its key and its text.
 #[derive(Drop)]
 struct Kept {
     agent: Agent,
@@ -30,7 +30,7 @@ pub struct Plain {
     kept: Vec<Kept>,
 }
 
-/// The transactions after which no compensation of their step comes, each as step and option.
+/// The transactions that no compensation of their step follows, each as step and option.
 pub fn net(alloc: Global, items: &[Item]) -> Result<Vec<(usize, usize)>, AllocError> {
     let mut standing = Vec::new(alloc);
     for (i, item) in items.iter().enumerate() {
@@ -68,7 +68,7 @@ pub fn used(items: &[Item]) -> usize {
     count
 }
 
-/// Whether a save-point was taken at this position that stands.
+/// Whether a save-point was taken at this position and still stands.
 fn is_taken(items: &[Item], p: usize) -> bool {
     for (i, item) in items.iter().enumerate() {
         if *item == (Item::Save { position: p }) && !is_compensated(&items[i + 1..], p) {
@@ -78,7 +78,7 @@ fn is_taken(items: &[Item], p: usize) -> bool {
     false
 }
 
-/// Whether a save-point stands there.
+/// Whether a save-point stands at this position.
 fn is_save_point(plan: &Plan, items: &[Item], pos: usize, p: usize) -> bool {
     let marked = 1 <= p && p <= plan.steps() && plan.marked(p);
     (marked && p <= pos) || is_taken(items, p)
@@ -95,7 +95,7 @@ fn last_save(plan: &Plan, items: &[Item], pos: usize) -> usize {
     last
 }
 
-/// The phase of a journey with this plan, these items and so many steps that stand.
+/// The phase of a journey with this plan, these items and so many standing steps.
 pub fn phase(plan: &Plan, items: &[Item], pos: usize) -> Phase {
     let mut going = None;
     let mut was_sent_to_start = false;
@@ -132,7 +132,7 @@ fn want_of(plan: &Plan, step: usize, option: usize) -> Option<Want> {
     Some(plan.want(step, option))
 }
 
-/// How many places of a cell the want takes.
+/// How many places of a cell a want takes.
 fn places_in(want: &Want, cell: &Cell) -> u64 {
     for own in want.cells() {
         if own == *cell {
@@ -265,7 +265,7 @@ impl Plain {
         Ok((Some(Event::Loaded(batch.clone(self.alloc)?)), loaded))
     }
 
-    /// The item that a command makes of a journey, or why there is none.
+    /// The item that a command makes in a journey, or why there is none.
     fn item(
         &self,
         command: &Command,
@@ -388,7 +388,7 @@ impl Plain {
         }
     }
 
-    /// The reply to a command, for whoever asks, and its event.
+    /// The reply to a command of this asker, and its event.
     fn answer(
         &self,
         command: &Command,

@@ -1,4 +1,4 @@
-//! The desk in memory and the desk over tables beside the plain program, on random commands from fixed seeds.
+//! The desk in memory and the desk over tables, compared with the plain program on random commands from fixed seeds.
 use crate::tests::files::{ClosedFile, Session};
 use crate::tests::plain::{Plain, net, phase, used};
 use allotment::{Cell, Row};
@@ -17,7 +17,7 @@ struct Dice {
 }
 
 impl Dice {
-    /// A number from 0 on, below this one.
+    /// A number less than `below`.
     fn roll(&mut self, below: u64) -> u64 {
         self.state = self
             .state
@@ -37,7 +37,7 @@ impl Dice {
     }
 }
 
-// the plans that are begun
+// the plans of the journeys that begin
 #[rattlefmt::skip]
 const PLANS: [&str; 7] = [
     "F/AL/A1/2030-06-01/1/1*;T/BUS/X/2030-06-01/1/1;R/INN/DBL/2030-06-01/1/1!2",
@@ -51,7 +51,7 @@ const PLANS: [&str; 7] = [
         R/INN/X/2030-06-01/1/1!3",
 ];
 
-// the cells that are loaded, some of them consecutive
+// the cells; a load has some consecutive ones of this list
 const CELLS: [&str; 14] = [
     "F/AL/A1/2030-06-01",
     "T/BUS/X/2030-06-01",
@@ -69,7 +69,7 @@ const CELLS: [&str; 14] = [
     "F/AL/A6/2030-06-01",
 ];
 
-/// A load of some consecutive cells.
+/// A load of some consecutive cells of `CELLS`.
 fn load(alloc: Global, dice: &mut Dice) -> Result<Command, Fail> {
     let number = dice.roll(30);
     let name = format!(in alloc; "b{number}")?;
@@ -85,12 +85,12 @@ fn load(alloc: Global, dice: &mut Dice) -> Result<Command, Fail> {
     Ok(Command::Load(Batch::new(alloc, name, rows)?))
 }
 
-/// The number of one of the last journeys, or one that is not there yet.
+/// The number of one of the last journeys, or of one that does not exist yet.
 fn some_journey(dice: &mut Dice, journeys: u64) -> u64 {
     journeys.saturating_add(1).saturating_sub(dice.roll(6))
 }
 
-/// A command, where so many journeys were begun.
+/// A command, where so many journeys have begun.
 fn command(alloc: Global, dice: &mut Dice, journeys: u64) -> Result<Command, Fail> {
     let id = some_journey(dice, journeys);
     let position = dice.roll(5) as usize;
@@ -104,7 +104,7 @@ fn command(alloc: Global, dice: &mut Dice, journeys: u64) -> Result<Command, Fai
     })
 }
 
-/// Who asks, if it is not the house.
+/// The asker, if it is not the house.
 fn ask(alloc: Global, dice: &mut Dice) -> Result<Option<Ask>, Fail> {
     let agent = dice.pick(&["ann", "bob", "", "", ""]);
     let number = dice.roll(200);
@@ -117,7 +117,7 @@ fn ask(alloc: Global, dice: &mut Dice) -> Result<Option<Ask>, Fail> {
     }
 }
 
-/// A book shows of a journey what the plain program does.
+/// Checks that a book shows the same of a journey as the plain program.
 fn same_journey<B: Book>(
     rt: &impl Abort,
     alloc: Global,
@@ -152,7 +152,7 @@ fn same_journey<B: Book>(
     Ok(())
 }
 
-/// A book shows the places that the plain program counts.
+/// Checks that a book shows the places that the plain program counts.
 fn same_stock<B: Book>(rt: &impl Abort, book: &mut B, plain: &Plain) -> Result<(), Fail> {
     for (cell, held) in &book.stock()? {
         let places = plain.allotment(cell);
@@ -163,7 +163,7 @@ fn same_stock<B: Book>(rt: &impl Abort, book: &mut B, plain: &Plain) -> Result<(
     Ok(())
 }
 
-/// Two books show the same places of all cells, and the same unfinished journey above this number.
+/// Checks that two books show the same places of all cells, and the same unfinished journey above this number.
 fn same_shown<A: Book, B: Book>(
     rt: &impl Abort,
     one: &mut A,
@@ -189,7 +189,7 @@ fn same_shown<A: Book, B: Book>(
 
 const KINDS: usize = 15;
 
-/// The kind of this reply: one of those that a command may get while there is room for events.
+/// The kind of this reply. The kinds are those that a command may get while there is room for events.
 fn kind(reply: &Reply) -> usize {
     match reply {
         Reply::Loaded { .. } => 0,
@@ -217,12 +217,12 @@ fn kind(reply: &Reply) -> usize {
     }
 }
 
-/// Stops the test where a desk answered otherwise than the plain program.
+/// Stops the test if a desk gave another answer than the plain program.
 fn same_reply(rt: &impl Abort, desk: &str, seed: u64, turn: u64, found: &Reply, expected: &Reply) {
     assert_eq!(rt; found, expected, "seed {seed}, turn {turn}, {desk}");
 }
 
-/// The desk in memory and the plain program, and how far they are with the commands of a seed.
+/// The desk in memory and the plain program, and how many commands of a seed they have answered.
 #[derive(Drop)]
 struct Desks {
     seed: u64,
@@ -231,14 +231,14 @@ struct Desks {
     book: MemBook,
     /// How many commands were answered.
     turn: u64,
-    /// How many are to be answered.
+    /// How many commands are to be answered.
     commands: u64,
-    /// How many replies of each kind were answered.
+    /// How many replies of each kind were given.
     counts: [u32; KINDS],
 }
 
 impl Desks {
-    /// One more random command is answered by each desk, and the replies and what is shown are compared.
+    /// Sends one more random command to each desk, and compares the replies and what is shown.
     fn answer<B: Book>(
         &mut self,
         rt: &impl Abort,
@@ -261,7 +261,7 @@ impl Desks {
         self.compare(rt, alloc, tables, id)
     }
 
-    /// What is shown of a journey is the same, and of all now and then.
+    /// Compares what is shown of a journey each time, and of everything now and then.
     fn compare<B: Book>(
         &mut self,
         rt: &impl Abort,
@@ -280,7 +280,7 @@ impl Desks {
 }
 
 impl Session for Desks {
-    /// Goes on until the tables are to be closed, or all commands are answered.
+    /// Continues until the tables are to be closed, or all commands are answered.
     fn run<B: Book, R: Abort>(
         &mut self,
         rt: &R,
@@ -299,8 +299,8 @@ impl Session for Desks {
     }
 }
 
-/// Answers random commands by each desk, the one over tables being closed and opened again now and then, and compares
-/// the replies and what is shown. Returns how many replies of each kind there were.
+/// Sends random commands to each desk, and compares the replies and what is shown. The desk over tables is closed and
+/// opened again now and then. Returns how many replies of each kind there were.
 fn alike(
     rt: &impl Abort,
     alloc: Global,

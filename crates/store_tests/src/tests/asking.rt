@@ -1,4 +1,4 @@
-//! What is asked of a desk, so that tests can be tables.
+//! Requests to a desk, for tests in tables.
 use crate::tests::helping::says;
 use allotment::{Cell, Row};
 use commands::{Batch, Command, Name};
@@ -8,7 +8,7 @@ use std::alloc::Global;
 use std::process::Abort;
 use std::test::Fail;
 
-/// What is asked: a load of these cells with their places, a begin of this plan, or a move of this journey.
+/// A request: a load of these cells with their places, a begin of this plan, or a move of this journey.
 #[derive(Clone, Copy)]
 pub enum Asked {
     Load(&'static str, &'static [(&'static str, u32)]),
@@ -19,7 +19,7 @@ pub enum Asked {
     Save(u64),
 }
 
-/// The batch of this name; no cell here has more places than a cell may have.
+/// The batch of this name. No cell here has more places than a cell may have.
 fn batch_of(alloc: Global, name: &str, cells: &[(&str, u32)]) -> Result<Batch, Fail> {
     let mut rows = Vec::new(alloc);
     for &(cell, places) in cells {
@@ -41,7 +41,7 @@ pub fn command_of(alloc: Global, asked: Asked) -> Result<Command, Fail> {
     })
 }
 
-/// The house asks all this in order, and gets these answers.
+/// Sends these requests for the house in order, and checks the answers.
 pub fn is_answered<B: Book>(
     rt: &impl Abort,
     alloc: Global,

@@ -1,4 +1,4 @@
-//! Values from outside: moves that agents ask for under their keys.
+//! Values from outside: moves of agents under their keys.
 use crate::tests::asking::{Asked, command_of};
 use crate::tests::helping::{book_over, counts, opened, run, says, told};
 use sqlite::{Alter, Connection};
@@ -7,7 +7,7 @@ use std::process::Abort;
 use std::test::Fail;
 use tables::TableBook;
 
-// who asks, under which key and with which text, what is asked, and the line of the answer
+// agent, key and text, the request, and the line of the answer
 #[rattlefmt::skip]
 static AGENTS: [(&str, &str, &str, Asked, &str); 16] = [
     ("ann", "k1", "begin",  Asked::Begin("F/AL/A1/2030-06-01/1/1!0"), "journey 1 begun"),
@@ -41,7 +41,7 @@ static LEFT: [(&str, i64); 7] = [
     ("SELECT count(*) FROM answer", 6),
 ];
 
-/// The agents ask in order.
+/// Sends the agents' requests in order.
 fn agents_ask<S: Alter>(
     rt: &impl Abort,
     alloc: Global,

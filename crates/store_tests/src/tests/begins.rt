@@ -1,4 +1,4 @@
-//! Values from outside: journeys that begin are shown, found and counted, also once the desk is opened again.
+//! Values from outside: journeys that begin are shown, found and counted, also after the desk is opened again.
 use crate::tests::files::{ClosedFile, Session};
 use crate::tests::helping::{ANN, PLAN, begin, book_over, holds, opened, run, told};
 use allotment::{Kind, Want};
@@ -10,7 +10,7 @@ use std::process::Abort;
 use std::test::Fail;
 use tables::TableBook;
 
-/// The house and then ann begin a journey on a new desk.
+/// Begins a journey for the house, and then one for ann, on a new desk.
 fn begin_two<S: Alter>(
     rt: &impl Abort,
     alloc: Global,
@@ -24,7 +24,7 @@ fn begin_two<S: Alter>(
     Ok(())
 }
 
-/// The desk over a store in memory, with those journeys.
+/// The desk over a store in memory, with those two journeys.
 fn two_begun(rt: &impl Abort, alloc: Global) -> Result<TableBook<MemStore>, Fail> {
     let command = begin(alloc, PLAN)?;
     let mut book = book_over(alloc, Connection::open_in_memory(alloc)?)?;
@@ -87,7 +87,7 @@ fn unfinished_journeys_are_found_in_order(rt: HostRuntime) -> Result<(), Fail> {
     Ok(())
 }
 
-// a flight, and two nights of a room that do not follow one another
+// a flight, and two nights of a room that are not consecutive
 const STOCK: &str =
     "INSERT INTO stock VALUES (1, 'INN', 'A', 22068, 5, 4); INSERT INTO stock VALUES (1, 'INN', 'A', 22066, 6, 6); INSERT INTO stock VALUES (0, 'AL', 'A1', 22066, 9, 0)";
 
@@ -114,7 +114,7 @@ fn places_are_shown_by_cell(rt: HostRuntime) -> Result<(), Fail> {
     Ok(())
 }
 
-/// The house and ann begin their journeys.
+/// Begins the journeys of the house and of ann.
 #[derive(Drop)]
 struct Begun<'a> {
     command: &'a Command,

@@ -1,5 +1,5 @@
-//! Stores that fail from some call on and are opened again: what was answered stands, what was in progress wholly or
-//! not.
+//! Stores that fail from some call on and are opened again: what was answered is kept, and what was in progress is kept
+//! wholly or not at all.
 ghost use Rattle.std.specs.Prelude.{IsTrue, IfOk};
 ghost use Rattle.sqlite_disk.specs.Memory.{memory_is_usable};
 
@@ -16,7 +16,7 @@ use std::process::Abort;
 use std::test::Fail;
 use tables::{TableBook, open_from};
 
-/// A journey that is begun, by its number: by the house, or by an agent under a key.
+/// The begin of a journey, by its number: by the house, or by an agent under a key.
 type Turn = (u64, Option<Asking<'static>>);
 
 #[rattlefmt::skip]
@@ -46,7 +46,8 @@ static ROWS: [[(&str, i64); 3]; 5] = [
 // more calls than any run here makes of one disk
 const MOST_CALLS: u64 = 1_000;
 
-/// A disk after the program has ended: it has what was written, or after a crash of the machine only what was synced.
+/// A disk after the program has ended: it has all that was written, or after a crash of the machine only what was
+/// synced.
 fn left_of(alloc: Global, mut disk: Fuse<Memory>, crashes: bool) -> io::Result<Memory>
     ensures { IfOk result (λ m. IsTrue (memory_is_usable m)) }
 {
@@ -60,7 +61,7 @@ fn has_blown<D: Disk>(disk: &mut D) -> bool {
     !disk.may_be_used() || disk.len().is_err()
 }
 
-/// The reply to the house or to an agent.
+/// The reply to the house, or to an agent.
 fn answered<S: Alter>(
     alloc: Global,
     book: &mut TableBook<S>,
@@ -73,7 +74,7 @@ fn answered<S: Alter>(
     }
 }
 
-/// Begins journeys; returns the last that was answered. Once the store has failed, nothing is answered any more.
+/// Begins journeys, and returns the last one that was answered. After the store has failed, nothing more is answered.
 fn begin_in<S: Alter>(
     rt: &impl Abort,
     alloc: Global,
@@ -99,7 +100,7 @@ fn begin_in<S: Alter>(
     last
 }
 
-/// Journeys begin, as long as the store lets them; the last that was answered.
+/// Begins journeys until the store fails, and records the last one that was answered.
 #[derive(Drop)]
 struct Beginning<'a> {
     command: &'a Command,
@@ -127,7 +128,7 @@ impl Session for Beginning<'_> {
     }
 }
 
-/// Where a disk fails from some call on, and whether the machine or the program ends then.
+/// The call from which a disk fails, and whether the machine or the program ends then.
 #[derive(Drop)]
 struct Stop {
     log_calls: u64,
@@ -135,7 +136,7 @@ struct Stop {
     crashes: bool,
 }
 
-/// The rows of so many journeys are there, and no others.
+/// Checks that the rows of so many journeys are stored, and no others.
 fn check_rows<S: Alter>(
     rt: &impl Abort,
     conn: &mut Connection<S>,
@@ -145,7 +146,7 @@ fn check_rows<S: Alter>(
     counts(rt, conn, rows)
 }
 
-/// A retry gets the reply that was kept, and all others begin the journeys that are still to come.
+/// Checks that a retry gets the kept reply, and that the other requests begin the journeys that are missing.
 fn check_replies<S: Alter>(
     rt: &impl Abort,
     alloc: Global,
@@ -162,7 +163,8 @@ fn check_replies<S: Alter>(
     Ok(())
 }
 
-/// The rows of as many journeys are there as were answered, or of one more, which was in progress; returns how many.
+/// Checks that the rows of the answered journeys are stored, and perhaps of one more, which was in progress. Returns
+/// how many.
 fn check_meta<S: Alter>(
     rt: &impl Abort,
     conn: &mut Connection<S>,
@@ -180,7 +182,7 @@ fn check_meta<S: Alter>(
     Ok(found.journeys)
 }
 
-/// What has to stand after a crash, where so many journeys were answered: those, or one more, which was in progress.
+/// The check after a crash: the answered journeys are stored, and perhaps one more, which was in progress.
 #[derive(Drop)]
 struct Standing<'a> {
     command: &'a Command,
@@ -206,7 +208,7 @@ impl Session for Standing<'_> {
     }
 }
 
-/// One run over disks with this database, cut off and opened again; returns whether a call failed.
+/// One run over disks with this database, which is cut off and opened again. Returns whether a call failed.
 fn stop_once(
     rt: &impl Abort,
     alloc: Global,
@@ -239,7 +241,7 @@ fn stop_once(
     Ok(met)
 }
 
-/// Each call of one disk fails in turn, until a run ends without meeting the fault.
+/// Lets each call of one disk fail in turn, until a run ends without meeting the fault.
 fn stop_at_each_call_of(
     rt: &impl Abort,
     alloc: Global,
@@ -265,7 +267,7 @@ fn stop_at_each_call_of(
     Ok(())
 }
 
-/// The same for each disk, where the program ends and where the machine crashes.
+/// Does the same for each disk, where the program ends and where the machine crashes.
 fn stop_at_each_call(rt: &impl Abort, alloc: Global, bytes: &[u8], begun: u64) -> Result<(), Fail> {
     for &(in_log, crashes) in &[(false, false), (false, true), (true, false), (true, true)] {
         stop_at_each_call_of(rt, alloc, bytes, begun, in_log, crashes)?;
@@ -273,7 +275,7 @@ fn stop_at_each_call(rt: &impl Abort, alloc: Global, bytes: &[u8], begun: u64) -
     Ok(())
 }
 
-/// The first two journeys begin.
+/// Begins the first two journeys.
 #[derive(Drop)]
 struct FirstTwo<'a> {
     command: &'a Command,
@@ -295,7 +297,7 @@ impl Session for FirstTwo<'_> {
     }
 }
 
-/// A store with the first two journeys, closed in good order.
+/// A store with the first two journeys, closed in an orderly way.
 fn of_two_journeys(rt: &impl Abort, alloc: Global) -> Result<ClosedFile, Fail> {
     let command = &begin(alloc, PLAN)?;
     ClosedFile::new(alloc).open_for(rt, alloc, &mut FirstTwo { command })

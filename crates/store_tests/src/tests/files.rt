@@ -1,6 +1,6 @@
-//! The desk's tables in files, which are opened, used and closed again. The store over files is named here alone: the
-//! proof of each function that passes it on opens its whole layout, and takes a minute or more. What tests do with it
-//! is a `Session`, which is proved once, for any store.
+//! The desk's tables in files, which are opened, used and closed. Only this module names the store over files: the
+//! proof of each function that passes such a store on unfolds its whole layout, which takes a minute or more. What
+//! tests do with a store is a `Session`, which is proved once, for any store.
 ghost use Rattle.std.specs.Prelude.{◌≡◌, false, None, IsTrue, IfOk};
 ghost use Rattle.sqlite_disk.specs.Memory.{memory_is_usable};
 
@@ -24,7 +24,7 @@ pub trait Session {
         requires unlimited { conn.step_limit ≡ None };
 }
 
-/// A disk with these bytes, on which nothing waits to be synced.
+/// A disk with these bytes, all of them synced.
 pub fn disk_of(alloc: Global, bytes: &[u8]) -> io::Result<Memory>
     ensures { IfOk result (λ m. IsTrue (memory_is_usable m)) }
 {
@@ -109,7 +109,7 @@ impl ClosedFile {
     }
 }
 
-/// Opens files that may fail for a session, if they open. Returns the files as they were left; nothing closes them.
+/// Opens files that may fail for a session, if they open. Returns the files as they were left. Nothing closes them.
 pub fn open_failing<T: Session>(
     rt: &impl Abort,
     alloc: Global,

@@ -1,4 +1,4 @@
-//! What the tests share: a plan, and short ways to ask and to judge.
+//! What the tests share: a plan, requests, and checks.
 ghost use Rattle.std.specs.Prelude.{◌≡◌, false, None, IsTrue, IfOk, OnOk};
 
 use commands::{Agent, Ask, Command, Fault, Key, Reply};
@@ -16,24 +16,24 @@ pub const PLAN: &str = "F/AL/A1/2030-06-01/1/2*;R/INN/A/2030-06-01/2/3|R/INN/B/2
 /// An agent, a key and a text.
 pub type Asking<'a> = (&'a str, &'a str, &'a str);
 
-/// The first ask of an agent.
+/// The first request of an agent.
 pub const ANN: Asking<'static> = ("ann", "k1", "begin");
 
-/// Stops the test where this is false.
+/// Stops the test if this is false.
 pub fn holds(rt: &impl Abort, case: &str, is_so: bool)
     ensures { IsTrue is_so }
 {
     assert!(rt; is_so, "{case}");
 }
 
-/// Stops the test where another line was answered.
+/// Stops the test if another line was answered.
 pub fn says(rt: &impl Abort, alloc: Global, reply: &Reply, expected: &str) -> Result<(), Fail> {
     let line = reply.line(alloc)?;
     assert_eq!(rt; line.as_str(), expected);
     Ok(())
 }
 
-/// Stops the test where a number of rows is not the expected one.
+/// Stops the test if a number of rows is not the expected one.
 pub fn counts<S: Alter>(
     rt: &impl Abort,
     conn: &mut Connection<S>,
@@ -105,7 +105,7 @@ pub fn told<S: Alter>(
     book.act(command, Some(&Ask::new(agent, key, text)))
 }
 
-/// The texts run in one transaction.
+/// Runs the texts in one transaction.
 pub fn run<S: Alter>(conn: &mut Connection<S>, texts: &str) -> Result<(), Error>
     requires outside { conn.old.in_transaction ≡ false }
     requires unlimited { conn.old.step_limit ≡ None }

@@ -1,5 +1,5 @@
-//! Values from outside: worked rows of the desk, each on a new store. What is asked, the line of the answer, and the
-//! rows that the formats then show.
+//! Values from outside: worked rows of the desk, each on a new store: a request, the line of the answer, and the stored
+//! rows after all.
 use crate::tests::asking::{Asked, is_answered};
 use crate::tests::helping::{book_over, counts};
 use sqlite::Connection;
@@ -23,7 +23,7 @@ const BUS: &str = "T/BUS/X/2030-06-01";
 
 const ROOM: &str = "R/INN/DBL/2030-06-01";
 
-/// A new store gives these answers, and has these rows then.
+/// Checks that a new store gives these answers, and has these rows after them.
 fn leads_to(
     rt: &impl Abort,
     alloc: Global,
@@ -258,7 +258,7 @@ fn a_journey_goes_on_from_a_save_point(rt: HostRuntime) -> Result<(), Fail> {
     leads_to(&rt, rt.alloc(), &SAVE_POINTS, &SAVE_POINTS_LEFT)
 }
 
-// a stop turns the journey back to its last save-point, and leaves a journey that is going back
+// a stop turns the journey back to its last save-point, and does not change a journey that is going back
 #[rattlefmt::skip]
 static STOPS: [(Asked, &str); 9] = [
     (Asked::Load("a", SIX), "loaded a 6"),

@@ -24,7 +24,7 @@ static NEW: [(&str, i64); 10] = [
     ("SELECT count(*) FROM mark", 0),
 ];
 
-// a reply that is kept for an agent, and how it is found
+// a reply that is kept for an agent, and the query that finds it
 const KEPT: &str = "INSERT INTO answer VALUES ('ann', 'k1', x'626567696e', 'begun 1')";
 
 #[rattlefmt::skip]
@@ -40,7 +40,7 @@ fn a_new_store_gets_all_tables(rt: HostRuntime) -> Result<(), Fail> {
     counts(&rt, &mut conn, &NEW)
 }
 
-/// A reply is kept in the tables.
+/// Keeps a reply in the tables.
 #[derive(Drop)]
 struct Keeping;
 
@@ -57,7 +57,7 @@ impl Session for Keeping {
     }
 }
 
-/// The tables have these rows.
+/// Checks that the tables have these rows.
 #[derive(Drop)]
 struct Having(&'static [(&'static str, i64)]);
 
@@ -90,7 +90,7 @@ fn refused<S: Alter + Drop>(conn: Connection<S>) -> Option<(Connection<S>, OpenF
     open_from(conn).err()
 }
 
-// a version that is not known, how it is written, and what stands then
+// an unknown version, the statement that writes it, and the query of what is stored then
 #[rattlefmt::skip]
 static VERSIONS: [(u64, &str, &str); 2] = [
     (3, "UPDATE meta SET version = 3", "SELECT count(*) FROM meta WHERE version = 3 AND events = 0 AND journeys = 0"),
@@ -115,7 +115,7 @@ fn an_unknown_version_is_refused_and_left(rt: HostRuntime) -> Result<(), Fail> {
 // how many tables and views there are
 const TABLES: &str = "SELECT count(*) FROM sqlite_schema";
 
-// what makes a store that is no desk's, and a number that it shows, before it is refused and after
+// the statements that make a store of no desk, and a query with its result, before the refusal and after
 #[rattlefmt::skip]
 static FOREIGN: [(&str, &str, i64); 6] = [
     ("CREATE TABLE note(a INTEGER)", "SELECT count(*) FROM note", 0),

@@ -26,7 +26,7 @@ static DONE: [(Asked, &str); 7] = [
     (Asked::Step(2),    "journey 2 B0r back 1 to 0"),
 ];
 
-/// The two journeys.
+/// Makes the two journeys.
 #[derive(Drop)]
 struct TwoJourneys;
 
@@ -69,7 +69,7 @@ impl Shown for Item {
     }
 }
 
-/// What so many calls of a source return, each with a semicolon.
+/// The results of so many calls of a source, each with a semicolon.
 fn handed<T: Shown + Drop, R: RowSource<T>>(
     alloc: Global,
     source: &mut R,
@@ -102,7 +102,7 @@ const UNFINISHED: &str = "2 desk back 1 to 0;end;end;end;";
 
 const ITEMS: &str = "T1.1;B0r;end;end;";
 
-// a change of the tables, and what is then returned of stock, of unfinished journeys and of the second journey's items
+// a change of the tables, and what is returned then of stock, of unfinished journeys and of the second journey's items
 #[rattlefmt::skip]
 static TOLD: [(&str, [&str; 3]); 4] = [
     ("", [STOCK, UNFINISHED, ITEMS]),
@@ -112,12 +112,12 @@ static TOLD: [(&str, [&str; 3]); 4] = [
     ("UPDATE entry2 SET b = 9 WHERE journey = 2 AND item = 2", [STOCK, UNFINISHED, "T1.1;Store;Store;Store;"]),
 ];
 
-/// Stops the test where a source returns something else.
+/// Stops the test if a source returns another text.
 fn is_told(rt: &impl Abort, case: &str, found: &str, expected: &str) {
     assert!(rt; found == expected, "{case}: {found}");
 }
 
-/// The sources of a store return this, and again when they are opened anew.
+/// Checks what the sources of a store return, and that they return it again when they are opened anew.
 fn are_told<S: Alter>(
     rt: &impl Abort,
     alloc: Global,
@@ -136,7 +136,7 @@ fn are_told<S: Alter>(
     Ok(())
 }
 
-/// A change of the tables, and what the sources return then.
+/// A change of the tables, and what the sources return after it.
 #[derive(Drop)]
 struct Changed<'a> {
     change: &'a str,

@@ -1,4 +1,4 @@
-//! Recovery over a file whose log fails from some call on: what was committed stands, and the next recovery goes on
+//! Recovery over a file whose log fails from some call on: what was committed is kept, and the next recovery continues
 //! from there.
 use crate::tests::files::{ClosedFile, Session, disk_of, open_failing};
 use crate::tests::helping::{book_over, holds};
@@ -29,12 +29,12 @@ static CELLS: [&str; 6] = [
 const PLAN: &str = "F/AL/A1/2030-06-01/1/1*;F/AL/A2/2030-06-01/1/1;F/AL/A3/2030-06-01/1/1*;\
      F/AL/A4/2030-06-01/1/1;F/AL/A5/2030-06-01/1/1;F/AL/A6/2030-06-01/1/1!0";
 
-// what stands once the fifth step is done again, and what the next recovery makes of it
+// the items after the fifth step is made again, and those after the next recovery
 const AFTER_SIX: &str = "T1.1 T2.1 B1s C2.1 T2.1 T3.1 T4.1 T5.1";
 
 const IN_THE_END: &str = "T1.1 T2.1 B1s C2.1 T2.1 T3.1 T4.1 T5.1 B3s C5.1 C4.1 T4.1 T5.1 T6.1";
 
-/// Loads ten places of each cell, and begins a journey of six steps that does two of them.
+/// Loads ten places of each cell, and begins a journey of six steps that makes two of them.
 fn do_two_steps<B: Book>(alloc: Global, book: &mut B) -> Result<(), Fail> {
     let mut rows = Vec::new(alloc);
     for &cell in &CELLS {
@@ -48,7 +48,7 @@ fn do_two_steps<B: Book>(alloc: Global, book: &mut B) -> Result<(), Fail> {
     Ok(())
 }
 
-/// Those two steps.
+/// Makes those two steps.
 #[derive(Drop)]
 struct TwoSteps;
 
@@ -115,7 +115,7 @@ fn items<B: Book>(alloc: Global, book: &mut B) -> Result<String, Fail> {
     Ok(line)
 }
 
-/// Recovers the desk, whose journey ends then. Returns how many events that made.
+/// Recovers the desk, whose journey ends then. Returns how many events recovery made.
 fn recover_to_the_end<B: Book + Drop>(rt: &impl Abort, book: B) -> Result<(Ready<B>, u64), Fail> {
     match recover(book) {
         Ok((mut ready, made)) => {
@@ -132,7 +132,7 @@ fn recover_to_the_end<B: Book + Drop>(rt: &impl Abort, book: B) -> Result<(Ready
     }
 }
 
-/// Recovers the desk that is left after a crash. Returns whether six commits stood before.
+/// Recovers the desk after a crash. Returns whether six commits were kept before.
 fn check_left<B: Book + Drop>(
     rt: &impl Abort,
     alloc: Global,
@@ -154,7 +154,7 @@ fn check_left<B: Book + Drop>(
     Ok((ready.into_inner(), has_six))
 }
 
-/// The next recovery, and whether six commits stood before it.
+/// The next recovery, and whether six commits were kept before it.
 #[derive(Drop)]
 struct NextRecovery {
     has_six: bool,
@@ -174,7 +174,7 @@ impl Session for NextRecovery {
 }
 
 /// One recovery over a log that fails from this call on, and the next one if it failed. Returns whether the first
-/// succeeded, and whether six commits stood before the next one.
+/// succeeded, and whether six commits were kept before the next one.
 fn stop_once(
     rt: &impl Abort,
     alloc: Global,
