@@ -4,9 +4,9 @@
 //! read in a second, how often it is split, and the ratio of the two. With the word `steps` it prints how many steps a
 //! second the desk in memory executes, a row for each number of earlier events. With the word `file` it prints how long
 //! it takes to read an allotment file of 2,000 rows, and only its records. With `load FILE COUNT` it loads so many
-//! batches of 2,000 new rows into the database FILE, and prints the shortest time of a load. With `history FILE
-//! JOURNEY` it prints how long it takes to read a journey and its items from the database FILE. No time is promised.
-//! The program is proved safe, like every other.
+//! batches of 2,000 new rows into the database FILE, and prints the shortest time of a load. With
+//! `history FILE JOURNEY` it prints how long it takes to read a journey and its items from the database FILE. No time
+//! is promised. The program is proved safe, like every other.
 #![tactic(auto)]
 
 mod files;

@@ -66,7 +66,7 @@ abbrev pub TellsAccepted : Option (List ℕ) → Option (List ℕ) → Type 0
 TellsAccepted held holds =
     (told : Reply) × IsAccepted told × Appends held holds (ended (reply_line told))
 
--- what a job that is done prints on standard output. Nothing is promised of the answers of `run`, and of reports
+-- what a job that is done prints on standard output; nothing is said here of the answers of `run` and of reports
 abbrev pub TellsOf : Job → Option (List ℕ) → Option (List ℕ) → Type 0
 TellsOf (Run file) held holds = ⊤
 TellsOf (Serve file port connections) held holds = TellsReady port held holds

@@ -27,7 +27,7 @@ module _ (stands : State → Type 0) (leaves : State → State → Type 0) (s : 
   ComesTo asked (Err Store) = leaves s (outcome s None asked).state
   ComesTo asked (Err _) = ⊥
 
-  -- the fault of a name or a file is refused, and the book represents the same state; or memory ran out
+  -- the fault of a name or a file is refused, and the book represents the same state; or out of memory
   abbrev pub IsRefusedFor : CsvFault → Result Reply ServeFault → Type 0
   IsRefusedFor wrong (Ok (reply.Refused told)) = RefusesFor wrong told × stands s
   IsRefusedFor wrong (Ok _) = ⊥

@@ -93,7 +93,7 @@ abbrev pub IsJob : List Text → Job → Type 0
 IsJob [] job = ⊥
 IsJob (word ∷ others) job = IsVersionJob word job ⊎ IsSubcommandJob word others job
 
--- a value that must be a number is none
+-- the subcommand reads numbers, and one of them is missing or malformed
 abbrev pub lacks_number : Subcommand → (Text → Option Text) → Bool
 lacks_number sub.Serve value = is_none (port_in value) || is_none (connections_in value)
 lacks_number _ value = false

@@ -26,7 +26,7 @@ pub denied_says : (stands : State → Type 0) (s : State) (parts : Parts) (body 
     × stands (state_by s (command_unless (complaint_of parts) (demand_of parts body)))
 denied_says stands s parts body page denied none is said here = rw (none, is) (said, here)
 
--- the page was laid out as bytes, or memory ran out
+-- the page was laid out as bytes, or out of memory
 pub record LaidOut (result : Result Answer ServeFault) (page : Paged) (is_head ends : Bool) : Type 0 where
   pub bytes : IfOk result (λ answer. answer.bytes.items ≡ page_text is_head ends page)
   pub closes : IfOk result (λ answer. answer.closes ≡ ends)

@@ -36,13 +36,13 @@ demand_said (SeeJourney agent id) = sent.SeeJourney agent id
 demand_said (SeeUnfinished agent) = sent.SeeUnfinished agent
 demand_said SeeStock = sent.SeeStock
 
--- the value is the command of this request, or the refusal of it, or memory ran out
+-- the value is the command of this request, or the refusal of it, or out of memory
 abbrev pub AsksFor : Result Request Refusal → Result Command Unmet → Type 0
 AsksFor said (Ok command) = said ≡ Ok (request_of command)
 AsksFor said (Err (Refused denied)) = denied_by said ≡ Err denied
 AsksFor said (Err Memory) = ⊤
 
--- the value is this demand, or its denial, or memory ran out
+-- the value is this demand, or its denial, or out of memory
 abbrev pub Demands : Result sent.Demand Denied → Result Demand Unmet → Type 0
 Demands said (Ok demand) = said ≡ Ok (demand_said demand)
 Demands said (Err (Refused denied)) = said ≡ Err denied

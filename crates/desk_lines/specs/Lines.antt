@@ -62,8 +62,7 @@ save_line id = sentence (codes "save" ∷ decimal id ∷ [])
 abbrev pub is_named_position : ℕ → Bool
 is_named_position position = is_between 0 most_named_position position
 
--- the text is the line of this request, which keeps the limits. A load has a line only if it has one row, and a stop
--- has none
+-- the text is the line of this request, which keeps the limits. A load of one row has a line, and a stop has none
 abbrev pub IsLineOf : List ℕ → Request → Type 0
 IsLineOf text (Load name (row ∷ [])) =
     IsTrue (is_batch name (row ∷ [])) × (text ≡ set_line name row.cell row.places)

@@ -59,7 +59,7 @@ is_below_in stock row =
 abbrev pub with_allotment : ℕ → Places → Places
 with_allotment n p = record { allot = n; free = n - (p.allot - p.free) }
 
--- the places of a cell once it is allotted so many
+-- the places of a cell after it is allotted so many
 abbrev pub set_to : Stock → Cell → ℕ → Places
 set_to stock x n =
     unwrap_or (option_map (with_allotment n) (stock_at stock x)) (record { allot = n; free = n })

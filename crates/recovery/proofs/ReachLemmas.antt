@@ -110,7 +110,7 @@ reached-carried test passes before part more j r allowed items of_journey = reco
       ∙ r.done k below;
 }
 
--- the pass is past the journey once it is done with it
+-- the pass is past the journey when it is done with it
 pub reached-past : (test : Item → Bool) (passes : Phase → Bool) (before part : List Event) (j : ℕ)
     → HasReached test passes before part j → is_in passes (before ++ part) j ≡ false
     → HasReached test passes before part (suc j)

@@ -38,7 +38,7 @@ kinds_there : (kind : ErrorKind) (kinds : Kinds) → IsAmong kind kinds → has_
 kinds_there kind [] none = absurd none
 kinds_there kind (k ∷ more) among = refl
 
--- unless memory ran out, an error of clap has one of the kinds
+-- unless it is out of memory, an error of clap has one of the kinds
 kinds_of_error : (e : Error) (kinds : Kinds) → HasKind kinds e → kind_of e ≢ OutOfMemory → has_any kinds ≡ true
 kinds_of_error e kinds (inl memory) other = absurd (other memory)
 kinds_of_error e kinds (inr among) other = kinds_there (kind_of e) kinds among
