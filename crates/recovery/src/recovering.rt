@@ -38,8 +38,8 @@ fn recover_all<B: Book>(book: &mut B) -> Result<u64, Fault>
     }
 }
 
-/// Takes every unfinished journey back to its last save-point, or to its start, and from there to its end. Recovery ends
-/// early if the ledger becomes full.
+/// Takes every unfinished journey back to its last save-point, or to its start, and from there to its end. Recovery
+/// ends early if the ledger becomes full.
 ///
 /// Returns the book, ready for commands, and how many events recovery made. At a fault, returns the book as it is then,
 /// and the fault.
