@@ -1,103 +1,8 @@
-//! Readers and writers for the tests: in small pieces, with interruptions, with a failure at a chosen byte, and a pair
-//! of which the reader fails if the writer was not yet given a page.
+//! A writer and a reader for the tests: the reader fails if the writer was not given a page before.
+use failing_streams::Pieces;
 use std::alloc::{AllocError, Global};
 use std::cell::Cell;
 use std::io::{self, ErrorKind, Read, Write};
-
-/// Returns its bytes in pieces, each after an interruption. After the last byte it reports the end, or fails.
-#[derive(Drop)]
-pub struct Pieces<'a> {
-    left: &'a [u8],
-    /// How many bytes a read returns, at most.
-    step: usize,
-    is_cut: bool,
-    is_interrupted: bool,
-}
-
-impl<'a> Pieces<'a> {
-    /// All the bytes, and then the end.
-    pub fn of(bytes: &'a [u8], step: usize) -> Pieces<'a> {
-        Pieces {
-            left: bytes,
-            step,
-            is_cut: false,
-            is_interrupted: false,
-        }
-    }
-
-    /// All the bytes, and then a failure.
-    pub fn cut(bytes: &'a [u8], step: usize) -> Pieces<'a> {
-        Pieces {
-            left: bytes,
-            step,
-            is_cut: true,
-            is_interrupted: false,
-        }
-    }
-}
-
-impl<'a> Read for Pieces<'a> {
-    fn read(&mut self, buffer: &mut [u8]) -> io::Result<usize> {
-        self.is_interrupted = !self.is_interrupted;
-        if self.is_interrupted {
-            return Err(io::Error::from(ErrorKind::Interrupted));
-        }
-        if self.left.is_empty() && self.is_cut {
-            return Err(io::Error::from(ErrorKind::TimedOut));
-        }
-        let count = self.step.min(self.left.len()).min(buffer.len());
-        buffer[..count].copy_from_slice(&self.left[..count]);
-        self.left = &self.left[count..];
-        Ok(count)
-    }
-}
-
-/// Takes bytes in pieces, each after an interruption, and fails at the first byte for which it has no room.
-#[derive(Drop)]
-pub struct Sink {
-    taken: Vec<u8>,
-    /// How many bytes a write takes, at most.
-    step: usize,
-    room: usize,
-    is_interrupted: bool,
-}
-
-impl Sink {
-    /// Takes so many bytes and no more. It allocates nothing later.
-    pub fn new(alloc: Global, step: usize, room: usize) -> Result<Sink, AllocError> {
-        Ok(Sink {
-            taken: Vec::with_capacity(alloc, room)?,
-            step,
-            room,
-            is_interrupted: false,
-        })
-    }
-
-    /// What it took.
-    pub fn taken(&self) -> &[u8] {
-        self.taken.as_slice()
-    }
-}
-
-impl Write for Sink {
-    fn write(&mut self, bytes: &[u8]) -> io::Result<usize> {
-        self.is_interrupted = !self.is_interrupted;
-        if self.is_interrupted {
-            return Err(io::Error::from(ErrorKind::Interrupted));
-        }
-        let room = self.room.saturating_sub(self.taken.len());
-        let count = self.step.min(bytes.len()).min(room);
-        if count == 0 {
-            return Err(io::Error::from(ErrorKind::TimedOut));
-        }
-        self.taken.extend_from_slice(&bytes[..count])?;
-        Ok(count)
-    }
-
-    fn flush(&mut self) -> io::Result<()> {
-        Ok(())
-    }
-}
 
 /// Takes all bytes, and reports how many were flushed.
 #[derive(Drop)]
@@ -163,7 +68,7 @@ impl<'a> Waiting<'a> {
 
 impl<'a> Read for Waiting<'a> {
     fn read(&mut self, buffer: &mut [u8]) -> io::Result<usize> {
-        if !self.first.left.is_empty() {
+        if !self.first.is_empty() {
             return self.first.read(buffer);
         }
         if self.flushed.get() < self.page {

@@ -1,14 +1,16 @@
 //! The desk in memory and the desk over tables beside the plain program, on random commands from fixed seeds.
-use crate::tests::files::{ClosedFile, Session};
 use crate::tests::plain::{Plain, net, phase, used};
 use allotment::{Cell, Row};
 use commands::{Agent, Ask, Batch, Cause, Command, Item, Key, Name, Refusal, Reply};
 use memory_book::MemBook;
+use memory_files::{ClosedFile, Session};
 use plan::Plan;
 use saga_core::Book;
+use sqlite::{Alter, Connection};
 use std::alloc::Global;
 use std::process::Abort;
 use std::test::Fail;
+use tables::open_from;
 
 /// Pseudo-random numbers, the same in each run.
 #[derive(Drop)]
@@ -279,9 +281,9 @@ impl Desks {
     }
 }
 
-impl Session for Desks {
+impl Desks {
     /// Goes on until the tables are to be closed, or all commands are answered.
-    fn run<B: Book, R: Abort>(
+    fn go_on<B: Book, R: Abort>(
         &mut self,
         rt: &R,
         alloc: Global,
@@ -296,6 +298,26 @@ impl Session for Desks {
             }
         }
         Ok(())
+    }
+}
+
+impl<R: Abort> Session<R> for Desks {
+    fn run<S: Alter + Drop>(
+        &mut self,
+        rt: &R,
+        alloc: Global,
+        conn: Connection<S>,
+    ) -> Result<Connection<S>, Fail> {
+        let opened = match open_from(conn) {
+            Ok(opened) => opened,
+            Err(_) => return Err(Fail::from("the desk is not opened")),
+        };
+        let mut book = match opened.into_book(alloc) {
+            Ok(book) => book,
+            Err(_) => return Err(Fail::from("no book is made")),
+        };
+        self.go_on(rt, alloc, &mut book)?;
+        Ok(book.into_store())
     }
 }
 
