@@ -25,8 +25,8 @@ refuses_each() {
 }
 
 runs=0
-for crate in allotment plan savepoints commands saga_core memory_book allotment_csv http_messages http_pages reports \
-  http_tests; do
+for crate in allotment plan savepoints commands saga_core memory_book allotment_csv message_tests http_pages \
+  report_tests http_tests; do
   program=$tests/../crates/$crate/out/${crate}_tests
   if [ ! -x "$program" ]; then
     same "the tests of $crate, which ./check leaves" built absent

@@ -16,8 +16,6 @@ mod laws;
 mod lengths;
 mod places;
 mod requests;
-#[cfg(test)]
-mod tests;
 mod words;
 
 pub use faults::ReadFault;

@@ -1,3 +1,2 @@
-mod files;
 mod plain;
 mod random;

@@ -14,8 +14,6 @@ mod lines;
 mod outputs;
 mod reports;
 mod rows;
-#[cfg(test)]
-mod tests;
 
 pub use faults::ReportFault;
 pub use reports::{history_text, stock_text, unfinished_text};

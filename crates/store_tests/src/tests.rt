@@ -2,7 +2,6 @@ mod asking;
 mod asks;
 mod begins;
 mod faults;
-mod files;
 mod helping;
 mod moves;
 mod opening;

@@ -1,104 +1,8 @@
-//! Readers and writers for the tests: in small pieces, with interruptions, with a failure at a chosen byte, and a pair
-//! of which the reader fails if the first page was not flushed.
+//! A writer and a reader for the tests: the reader fails if the writer was not given a page before.
+use failing_streams::Pieces;
 use std::alloc::{AllocError, Global};
 use std::cell::Cell;
 use std::io::{self, ErrorKind, Read, Write};
-
-/// Returns its bytes in pieces, each after an interruption. After the last byte it reports the end of the input, or
-/// fails.
-#[derive(Drop)]
-pub struct Pieces<'a> {
-    left: &'a [u8],
-    /// The most bytes that a read returns.
-    step: usize,
-    is_cut: bool,
-    is_interrupted: bool,
-}
-
-impl<'a> Pieces<'a> {
-    /// All the bytes, and then the end of the input.
-    pub fn of(bytes: &'a [u8], step: usize) -> Pieces<'a> {
-        Pieces {
-            left: bytes,
-            step,
-            is_cut: false,
-            is_interrupted: false,
-        }
-    }
-
-    /// All the bytes, and then a failure.
-    pub fn cut(bytes: &'a [u8], step: usize) -> Pieces<'a> {
-        Pieces {
-            left: bytes,
-            step,
-            is_cut: true,
-            is_interrupted: false,
-        }
-    }
-}
-
-impl<'a> Read for Pieces<'a> {
-    fn read(&mut self, buffer: &mut [u8]) -> io::Result<usize> {
-        self.is_interrupted = !self.is_interrupted;
-        if self.is_interrupted {
-            return Err(io::Error::from(ErrorKind::Interrupted));
-        }
-        if self.left.is_empty() && self.is_cut {
-            return Err(io::Error::from(ErrorKind::TimedOut));
-        }
-        let count = self.step.min(self.left.len()).min(buffer.len());
-        buffer[..count].copy_from_slice(&self.left[..count]);
-        self.left = &self.left[count..];
-        Ok(count)
-    }
-}
-
-/// Takes bytes in pieces, each after an interruption, and fails at the first byte over its capacity.
-#[derive(Drop)]
-pub struct Sink {
-    taken: Vec<u8>,
-    /// The most bytes that a write takes.
-    step: usize,
-    room: usize,
-    is_interrupted: bool,
-}
-
-impl Sink {
-    /// A writer that takes at most `step` bytes at a time, and `room` in all. Later it allocates nothing.
-    pub fn new(alloc: Global, step: usize, room: usize) -> Result<Sink, AllocError> {
-        Ok(Sink {
-            taken: Vec::with_capacity(alloc, room)?,
-            step,
-            room,
-            is_interrupted: false,
-        })
-    }
-
-    /// The bytes that were taken.
-    pub fn taken(&self) -> &[u8] {
-        self.taken.as_slice()
-    }
-}
-
-impl Write for Sink {
-    fn write(&mut self, bytes: &[u8]) -> io::Result<usize> {
-        self.is_interrupted = !self.is_interrupted;
-        if self.is_interrupted {
-            return Err(io::Error::from(ErrorKind::Interrupted));
-        }
-        let room = self.room.saturating_sub(self.taken.len());
-        let count = self.step.min(bytes.len()).min(room);
-        if count == 0 {
-            return Err(io::Error::from(ErrorKind::TimedOut));
-        }
-        self.taken.extend_from_slice(&bytes[..count])?;
-        Ok(count)
-    }
-
-    fn flush(&mut self) -> io::Result<()> {
-        Ok(())
-    }
-}
 
 /// Takes all bytes, and reports how many were flushed.
 #[derive(Drop)]
@@ -164,7 +68,7 @@ impl<'a> Waiting<'a> {
 
 impl<'a> Read for Waiting<'a> {
     fn read(&mut self, buffer: &mut [u8]) -> io::Result<usize> {
-        if !self.first.left.is_empty() {
+        if !self.first.is_empty() {
             return self.first.read(buffer);
         }
         if self.flushed.get() < self.page {

@@ -1,9 +1,10 @@
 //! Reads and writes that fail: a prefix of the pages was written, and executed commands stay in effect.
 use crate::tests::desks::{has_journeys, holds, new_desk, reads};
-use crate::tests::fakes::{Pieces, Sink, Telling, Waiting};
+use crate::tests::fakes::{Telling, Waiting};
 use crate::tests::orders::{FLIGHT, GET, JOURNEY_1, JOURNEY_2, begin};
 use crate::tests::talks::{ALL, ROOM, STEPS, Talk, does_nothing_when_cut, goes_on};
 use desk_http::{ServeFault, Served, serve};
+use failing_streams::{Pieces, Sink};
 use std::alloc::Global;
 use std::cell::Cell;
 use std::process::Abort;

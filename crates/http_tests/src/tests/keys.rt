@@ -1,12 +1,12 @@
 //! Keys: requests that are retried under one, by whom, and what leaves a key free.
 use crate::tests::desks::{has_journeys, holds, new_desk, recovered};
-use crate::tests::fakes::{Pieces, Sink};
 use crate::tests::orders::{
     BUS, FLIGHT, JOURNEY_1, JOURNEY_2, KEY_REUSED, LOADED, NO_JOURNEY, SEATS_AND_ROOMS, Step,
     begin, begun, load,
 };
 use crate::tests::talks::{ALL, Asked, Page, Talk, goes_on, is_answered};
 use desk_http::{ServeFault, serve};
+use failing_streams::{Pieces, Sink};
 use memory_book::MemBook;
 use recovery::Ready;
 use std::alloc::Global;

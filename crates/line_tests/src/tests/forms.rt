@@ -2,8 +2,8 @@
 //!
 //! `@` and a letter or digit represents the cell, or the first four parts of a want, that `NAMES` has.
 use crate::tests::desks::{holds, new_desk, reads};
-use crate::tests::fakes::{Pieces, Sink};
 use desk_lines::run_lines;
+use failing_streams::{Pieces, Sink};
 use std::alloc::Global;
 use std::process::Abort;
 use std::test::Fail;
@@ -55,7 +55,7 @@ fn each_on_a_new_desk(
 ) -> Result<(), Fail> {
     for &(case, line, expected) in rows {
         let mut book = new_desk(alloc)?;
-        let mut sink = Sink::new(alloc, ROOM, ROOM)?;
+        let mut sink = Sink::of_flushed_lines(alloc, ROOM, ROOM)?;
         let input = written_out(alloc, line)?;
         let mut reader = Pieces::of(input.as_bytes(), 7);
         let count = run_lines(alloc, &mut reader, &mut sink, &mut book)?;

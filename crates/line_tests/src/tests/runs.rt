@@ -1,7 +1,8 @@
 //! Answers to lines over a new book in memory, whatever pieces the lines arrive in, and what was written after a fault.
 use crate::tests::desks::{holds, new_desk, reads};
-use crate::tests::fakes::{Pieces, Sink, Stuck};
+use crate::tests::fakes::Stuck;
 use desk_lines::{ServeFault, run_lines};
+use failing_streams::{Pieces, Sink};
 use saga_core::Book;
 use std::alloc::{AllocError, Global};
 use std::process::Abort;
@@ -49,7 +50,7 @@ fn answers(
     lines: u64,
 ) -> Result<(), Fail> {
     let mut book = new_desk(alloc)?;
-    let mut sink = Sink::new(alloc, step, ROOM)?;
+    let mut sink = Sink::of_flushed_lines(alloc, step, ROOM)?;
     let count = run_lines(alloc, &mut Pieces::of(input, step), &mut sink, &mut book)?;
     reads(rt, expected, sink.taken(), expected);
     holds(rt, expected, count == lines);
@@ -116,7 +117,7 @@ fn answers_before(read: usize) -> &'static str {
 /// If the input breaks off after so many bytes, the lines before that are answered.
 fn breaks_off(rt: &impl Abort, alloc: Global, read: usize, step: usize) -> Result<(), Fail> {
     let mut book = new_desk(alloc)?;
-    let mut sink = Sink::new(alloc, ALL, ROOM)?;
+    let mut sink = Sink::of_flushed_lines(alloc, ALL, ROOM)?;
     let mut reader = Pieces::cut(CUT.get(..read).ok_or("a cut")?, step);
     let ended = run_lines(alloc, &mut reader, &mut sink, &mut book);
     let expected = answers_before(read);
@@ -138,7 +139,7 @@ fn a_failed_read_leaves_the_lines_before_it_answered(rt: HostRuntime) -> Result<
 /// not be written was executed, and no later line was.
 fn fills_up(rt: &impl Abort, alloc: Global, room: usize, step: usize) -> Result<(), Fail> {
     let mut book = new_desk(alloc)?;
-    let mut sink = Sink::new(alloc, step, room)?;
+    let mut sink = Sink::of_flushed_lines(alloc, step, room)?;
     let ended = run_lines(alloc, &mut Pieces::of(CUT, step), &mut sink, &mut book);
     let front = ANSWERS.get(..room).ok_or("a front")?;
     holds(rt, front, ended == Err(ServeFault::Write));

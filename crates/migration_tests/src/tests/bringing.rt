@@ -1,7 +1,8 @@
 //! Files with thousands of items, and without one, are migrated: every row is there as before, once.
-use crate::tests::helping::{Session, bring_over, holds, open_for};
+use crate::tests::helping::{bring_over, holds, open_for};
 use crate::tests::old_files::{OldFile, old_file};
 use crate::tests::rows::{Held, Schema, held_in};
+use memory_files::Session;
 use migrate::{MigrateFault, Migrated};
 use sqlite::{Alter, Connection};
 use std::alloc::Global;
@@ -15,8 +16,8 @@ struct BroughtOver<'a> {
     events: u64,
 }
 
-impl Session for BroughtOver<'_> {
-    fn run<S: Alter + Drop, R: Abort>(
+impl<R: Abort> Session<R> for BroughtOver<'_> {
+    fn run<S: Alter + Drop>(
         &mut self,
         rt: &R,
         alloc: Global,
@@ -39,8 +40,8 @@ struct StaysNew<'a> {
     held: &'a Held<'a>,
 }
 
-impl Session for StaysNew<'_> {
-    fn run<S: Alter + Drop, R: Abort>(
+impl<R: Abort> Session<R> for StaysNew<'_> {
+    fn run<S: Alter + Drop>(
         &mut self,
         rt: &R,
         alloc: Global,

@@ -1,10 +1,11 @@
-//! Stores that fail from some call on while they are migrated: the file after the crash is the old one or the new one,
-//! and the next migration completes it.
-use crate::tests::helping::{Session, bring_over, disk_of, holds, open_failing, open_for};
+//! Stores that fail from some call on while they are migrated: the file that is found after the crash is the old one or
+//! the new one, and the next migration completes it.
+use crate::tests::helping::{bring_over, holds, open_for};
 use crate::tests::old_files::{OldFile, old_file};
 use crate::tests::reporting::{desk_over, handed_back, shown};
 use crate::tests::rows::{Held, Schema, held_in};
 use crate::tests::using::keeps_all;
+use memory_files::{ClosedFile, Session, close_failing, disk_of};
 use migrate::{MigrateFault, Migrated};
 use sqlite::{Alter, Connection, Files};
 use sqlite_disk::{Crash, Disk, Fuse, Memory};
@@ -36,10 +37,10 @@ struct Left {
 }
 
 impl Left {
-    /// Opens the files after a crash for a session, and closes them.
-    fn open_for<T: Session>(
+    /// Opens what was left for a session, and closes it.
+    fn open_for<R: Abort, T: Session<R>>(
         &self,
-        rt: &impl Abort,
+        rt: &R,
         alloc: Global,
         session: &mut T,
     ) -> Result<(), Fail> {
@@ -58,8 +59,8 @@ struct Migration {
     answer: Answer,
 }
 
-impl Session for Migration {
-    fn run<S: Alter + Drop, R: Abort>(
+impl<R: Abort> Session<R> for Migration {
+    fn run<S: Alter + Drop>(
         &mut self,
         rt: &R,
         _alloc: Global,
@@ -80,7 +81,7 @@ fn stop_once(rt: &impl Abort, alloc: Global, bytes: &[u8], stop: Stop) -> Result
     let log = Fuse::new(Memory::new(alloc), log_calls);
     let db = Fuse::new(disk_of(alloc, bytes)?, db_calls);
     let mut migration = Migration { answer: None };
-    let files = open_failing(rt, alloc, Files { log, db }, &mut migration)?;
+    let files = close_failing(rt, alloc, Files { log, db }, &mut migration)?;
     let Files { mut log, mut db } = files;
     let met = has_blown(&mut log) || has_blown(&mut db);
     if stop.crashes {
@@ -159,8 +160,8 @@ struct Completion<'a> {
     found: Option<Schema>,
 }
 
-impl Session for Completion<'_> {
-    fn run<S: Alter + Drop, R: Abort>(
+impl<R: Abort> Session<R> for Completion<'_> {
+    fn run<S: Alter + Drop>(
         &mut self,
         rt: &R,
         alloc: Global,
@@ -250,7 +251,7 @@ fn stop_at_each_call(
 }
 
 /// The old file, migrated and closed.
-fn migrated(rt: &impl Abort, alloc: Global, file: &OldFile) -> Result<Memory, Fail> {
+fn migrated(rt: &impl Abort, alloc: Global, file: &OldFile) -> Result<ClosedFile, Fail> {
     let mut migration = Migration { answer: None };
     let db = open_for(rt, alloc, &[], file.bytes(), &mut migration)?;
     migration.answer.ok_or("nothing is answered")??;
@@ -323,8 +324,8 @@ fn without_commit(rt: &impl Abort, alloc: Global, bytes: &[u8]) -> Result<Left, 
 #[derive(Drop)]
 struct Shown;
 
-impl Session for Shown {
-    fn run<S: Alter + Drop, R: Abort>(
+impl<R: Abort> Session<R> for Shown {
+    fn run<S: Alter + Drop>(
         &mut self,
         rt: &R,
         alloc: Global,

@@ -1,10 +1,10 @@
-//! Files of schema 1, written by statements of that schema.
-use crate::tests::helping::{Session, holds, open_for};
+//! Files of schema 1, written by its own statements.
+use crate::tests::helping::{holds, open_for};
 use crate::tests::old_desks::{
     ItemRow, MOST_ITEMS, OldJourney, OptionRow, cells, journeys, last_item,
 };
+use memory_files::{ClosedFile, Session};
 use sqlite::{Alter, Connection, Transaction, params};
-use sqlite_disk::Memory;
 use std::alloc::{AllocError, Global};
 use std::process::Abort;
 use std::test::Fail;
@@ -40,7 +40,7 @@ impl Written {
 /// A closed file of schema 1, and what was written to it.
 #[derive(Drop)]
 pub struct OldFile {
-    db: Memory,
+    db: ClosedFile,
     pub written: Written,
 }
 
@@ -69,8 +69,8 @@ struct Writing {
     written: Option<Written>,
 }
 
-impl Session for Writing {
-    fn run<S: Alter + Drop, R: Abort>(
+impl<R: Abort> Session<R> for Writing {
+    fn run<S: Alter + Drop>(
         &mut self,
         rt: &R,
         alloc: Global,

@@ -1,9 +1,9 @@
-//! Stores that are not migrated: what each reports, and that nothing in it changes.
-use crate::tests::helping::{Session, bring_over, holds, open_for, run};
+//! Stores that are not migrated: what each reports, and that nothing of it changes.
+use crate::tests::helping::{bring_over, holds, open_for, run};
 use crate::tests::old_files::old_file;
+use memory_files::{ClosedFile, Session};
 use migrate::MigrateFault;
 use sqlite::{Alter, Connection};
-use sqlite_disk::Memory;
 use std::alloc::Global;
 use std::process::Abort;
 use std::test::Fail;
@@ -15,8 +15,8 @@ struct Refused<'a> {
     expected: MigrateFault,
 }
 
-impl Session for Refused<'_> {
-    fn run<S: Alter + Drop, R: Abort>(
+impl<R: Abort> Session<R> for Refused<'_> {
+    fn run<S: Alter + Drop>(
         &mut self,
         rt: &R,
         _alloc: Global,
@@ -50,8 +50,8 @@ struct Change<'a> {
     statements: &'a [&'a str],
 }
 
-impl Session for Change<'_> {
-    fn run<S: Alter + Drop, R: Abort>(
+impl<R: Abort> Session<R> for Change<'_> {
+    fn run<S: Alter + Drop>(
         &mut self,
         rt: &R,
         _alloc: Global,
@@ -68,7 +68,7 @@ fn changed(
     alloc: Global,
     bytes: &[u8],
     statements: &[&str],
-) -> Result<Memory, Fail> {
+) -> Result<ClosedFile, Fail> {
     open_for(rt, alloc, &[], bytes, &mut Change { statements })
 }
 

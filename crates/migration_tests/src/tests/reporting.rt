@@ -1,8 +1,9 @@
-//! An old file shows what was written to it, and shows the same after its migration. No desk is opened over an old
-//! file.
-use crate::tests::helping::{Session, bring_over, holds, open, open_for};
+//! What is shown of an old file is what was written into it, and the same after the file was migrated. No desk is
+//! opened over an old file.
+use crate::tests::helping::{bring_over, holds, open, open_for};
 use crate::tests::old_desks::{IN_A_ROUND, OldJourney, cells, is_unfinished, journeys};
 use crate::tests::old_files::old_file;
+use memory_files::Session;
 use saga_core::RowSource;
 use sqlite::{Alter, Connection};
 use std::alloc::{AllocError, Global};
@@ -201,8 +202,8 @@ struct ShownAlike {
     rounds: u64,
 }
 
-impl Session for ShownAlike {
-    fn run<S: Alter + Drop, R: Abort>(
+impl<R: Abort> Session<R> for ShownAlike {
+    fn run<S: Alter + Drop>(
         &mut self,
         rt: &R,
         alloc: Global,

@@ -1,6 +1,7 @@
-//! The rows of a file as text, and whether they are those that were written to it, under the old schema or the new one.
-use crate::tests::helping::{Session, holds, open_for};
+//! The rows of a file as text, and whether they are those that were written into it, under the old schema or the new one.
+use crate::tests::helping::{holds, open_for};
 use crate::tests::old_files::{OldFile, Written};
+use memory_files::Session;
 use sqlite::types::ValueRef;
 use sqlite::{Alter, Connection, Row};
 use std::alloc::Global;
@@ -132,8 +133,8 @@ struct SameRows {
     same: String,
 }
 
-impl Session for SameRows {
-    fn run<S: Alter + Drop, R: Abort>(
+impl<R: Abort> Session<R> for SameRows {
+    fn run<S: Alter + Drop>(
         &mut self,
         _rt: &R,
         alloc: Global,

@@ -1,12 +1,13 @@
-//! A migrated file is used: its keys give their replies, recovery brings every journey to its end, and a journey takes
-//! a save-point while it runs.
-use crate::tests::helping::{Session, book_over, bring_over, holds, open_for, run};
+//! A file that was migrated is used: its keys give their replies, recovery brings every journey to its end, and a
+//! journey takes a save-point while it runs.
+use crate::tests::helping::{book_over, bring_over, holds, open_for, run};
 use crate::tests::old_desks::{journeys, last_item};
 use crate::tests::old_files::old_file;
 use crate::tests::reporting::shown;
 use crate::tests::rows::rows;
 use allotment::{Cell, Row};
 use commands::{Agent, Ask, Batch, Command, Key, Name, Reply};
+use memory_files::Session;
 use plan::Plan;
 use recovery::recover;
 use saga_core::Book;
@@ -17,8 +18,8 @@ use std::test::Fail;
 use tables::TableBook;
 
 /// Opens an old file of so many rounds for a session.
-fn open_old<T: Session>(
-    rt: &impl Abort,
+fn open_old<R: Abort, T: Session<R>>(
+    rt: &R,
     alloc: Global,
     rounds: u32,
     session: &mut T,
@@ -101,8 +102,8 @@ pub fn keeps_all<B: Book>(
 #[derive(Drop)]
 struct KeptKeys;
 
-impl Session for KeptKeys {
-    fn run<S: Alter + Drop, R: Abort>(
+impl<R: Abort> Session<R> for KeptKeys {
+    fn run<S: Alter + Drop>(
         &mut self,
         rt: &R,
         alloc: Global,
@@ -194,8 +195,8 @@ struct Recovered {
     rounds: u8,
 }
 
-impl Session for Recovered {
-    fn run<S: Alter + Drop, R: Abort>(
+impl<R: Abort> Session<R> for Recovered {
+    fn run<S: Alter + Drop>(
         &mut self,
         rt: &R,
         alloc: Global,
@@ -223,8 +224,8 @@ fn recovery_brings_every_journey_to_its_end(rt: HostRuntime) -> Result<(), Fail>
 #[derive(Drop)]
 struct WithoutOld;
 
-impl Session for WithoutOld {
-    fn run<S: Alter + Drop, R: Abort>(
+impl<R: Abort> Session<R> for WithoutOld {
+    fn run<S: Alter + Drop>(
         &mut self,
         rt: &R,
         alloc: Global,
@@ -314,8 +315,8 @@ fn has_rows<S: Alter>(
 #[derive(Drop)]
 struct NewJourney;
 
-impl Session for NewJourney {
-    fn run<S: Alter + Drop, R: Abort>(
+impl<R: Abort> Session<R> for NewJourney {
+    fn run<S: Alter + Drop>(
         &mut self,
         rt: &R,
         alloc: Global,
@@ -368,8 +369,8 @@ fn are_loaded<B: Book>(rt: &impl Abort, alloc: Global, book: &mut B) -> Result<(
 #[derive(Drop)]
 struct Loads;
 
-impl Session for Loads {
-    fn run<S: Alter + Drop, R: Abort>(
+impl<R: Abort> Session<R> for Loads {
+    fn run<S: Alter + Drop>(
         &mut self,
         rt: &R,
         alloc: Global,

@@ -1,14 +1,16 @@
-//! The desk in memory and the desk over tables, compared with the plain program on random commands from fixed seeds.
-use crate::tests::files::{ClosedFile, Session};
+//! The desk in memory and the desk over tables beside the plain program, on random commands from fixed seeds.
 use crate::tests::plain::{Plain, net, phase, used};
 use allotment::{Cell, Row};
 use commands::{Agent, Ask, Batch, Cause, Command, Item, Key, Name, Refusal, Reply};
 use memory_book::MemBook;
+use memory_files::{ClosedFile, Session};
 use plan::Plan;
 use saga_core::Book;
+use sqlite::{Alter, Connection};
 use std::alloc::Global;
 use std::process::Abort;
 use std::test::Fail;
+use tables::open_from;
 
 /// Pseudo-random numbers, the same in each run.
 #[derive(Drop)]
@@ -279,9 +281,9 @@ impl Desks {
     }
 }
 
-impl Session for Desks {
-    /// Continues until the tables are to be closed, or all commands are answered.
-    fn run<B: Book, R: Abort>(
+impl Desks {
+    /// Goes on until the tables are to be closed, or all commands are answered.
+    fn go_on<B: Book, R: Abort>(
         &mut self,
         rt: &R,
         alloc: Global,
@@ -299,8 +301,28 @@ impl Session for Desks {
     }
 }
 
-/// Sends random commands to each desk, and compares the replies and what is shown. The desk over tables is closed and
-/// opened again now and then. Returns how many replies of each kind there were.
+impl<R: Abort> Session<R> for Desks {
+    fn run<S: Alter + Drop>(
+        &mut self,
+        rt: &R,
+        alloc: Global,
+        conn: Connection<S>,
+    ) -> Result<Connection<S>, Fail> {
+        let opened = match open_from(conn) {
+            Ok(opened) => opened,
+            Err(_) => return Err(Fail::from("the desk is not opened")),
+        };
+        let mut book = match opened.into_book(alloc) {
+            Ok(book) => book,
+            Err(_) => return Err(Fail::from("no book is made")),
+        };
+        self.go_on(rt, alloc, &mut book)?;
+        Ok(book.into_store())
+    }
+}
+
+/// Answers random commands by each desk, the one over tables being closed and opened again now and then, and compares
+/// the replies and what is shown. Returns how many replies of each kind there were.
 fn alike(
     rt: &impl Abort,
     alloc: Global,

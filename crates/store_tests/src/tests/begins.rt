@@ -1,8 +1,8 @@
-//! Values from outside: journeys that begin are shown, found and counted, also after the desk is opened again.
-use crate::tests::files::{ClosedFile, Session};
+//! Values from outside: journeys that begin are shown, found and counted, also once the desk is opened again.
 use crate::tests::helping::{ANN, PLAN, begin, book_over, holds, opened, run, told};
 use allotment::{Kind, Want};
 use commands::{Command, Phase, Reply};
+use memory_files::{ClosedFile, Session};
 use saga_core::{Book, Brief, Record};
 use sqlite::{Alter, Connection, MemStore};
 use std::alloc::Global;
@@ -120,8 +120,8 @@ struct Begun<'a> {
     command: &'a Command,
 }
 
-impl Session for Begun<'_> {
-    fn run<S: Alter + Drop, R: Abort>(
+impl<R: Abort> Session<R> for Begun<'_> {
+    fn run<S: Alter + Drop>(
         &mut self,
         rt: &R,
         alloc: Global,
@@ -139,8 +139,8 @@ struct Again<'a> {
     command: &'a Command,
 }
 
-impl Session for Again<'_> {
-    fn run<S: Alter + Drop, R: Abort>(
+impl<R: Abort> Session<R> for Again<'_> {
+    fn run<S: Alter + Drop>(
         &mut self,
         rt: &R,
         alloc: Global,

@@ -3,10 +3,10 @@
 ghost use Rattle.std.specs.Prelude.{IsTrue, IfOk};
 ghost use Rattle.sqlite_disk.specs.Memory.{memory_is_usable};
 
-use crate::tests::files::{ClosedFile, Session, disk_of, open_failing};
 use crate::tests::helping::{ANN, Asking, PLAN, begin, book_over, counts, holds, opened, told};
 use commands::{Command, Fault, Reply};
 use desk_sql::read_meta;
+use memory_files::{ClosedFile, Session, disk_of, leave_failing};
 use saga_core::Book;
 use sqlite::{Alter, Connection, Files};
 use sqlite_disk::{Crash, Disk, Fuse, Memory};
@@ -108,8 +108,8 @@ struct Beginning<'a> {
     last: Option<u64>,
 }
 
-impl Session for Beginning<'_> {
-    fn run<S: Alter + Drop, R: Abort>(
+impl<R: Abort> Session<R> for Beginning<'_> {
+    fn run<S: Alter + Drop>(
         &mut self,
         rt: &R,
         alloc: Global,
@@ -189,8 +189,8 @@ struct Standing<'a> {
     answered: u64,
 }
 
-impl Session for Standing<'_> {
-    fn run<S: Alter + Drop, R: Abort>(
+impl<R: Abort> Session<R> for Standing<'_> {
+    fn run<S: Alter + Drop>(
         &mut self,
         rt: &R,
         alloc: Global,
@@ -225,7 +225,7 @@ fn stop_once(
         turns,
         last: None,
     };
-    let files = open_failing(rt, alloc, Files { log, db }, &mut beginning)?;
+    let files = leave_failing(rt, alloc, Files { log, db }, &mut beginning)?;
     let last = beginning.last;
     let Files { mut log, mut db } = files;
     let met = has_blown(&mut log) || has_blown(&mut db);
@@ -281,8 +281,8 @@ struct FirstTwo<'a> {
     command: &'a Command,
 }
 
-impl Session for FirstTwo<'_> {
-    fn run<S: Alter + Drop, R: Abort>(
+impl<R: Abort> Session<R> for FirstTwo<'_> {
+    fn run<S: Alter + Drop>(
         &mut self,
         rt: &R,
         alloc: Global,

@@ -1,8 +1,8 @@
 //! What opening finds and makes, and that a store which it refuses is unchanged.
 ghost use Rattle.std.specs.Prelude.{◌≡◌, false, None};
 
-use crate::tests::files::{ClosedFile, Session};
 use crate::tests::helping::{counts, holds, opened, run};
+use memory_files::{ClosedFile, Session};
 use sqlite::{Alter, Connection};
 use std::alloc::Global;
 use std::process::Abort;
@@ -44,8 +44,8 @@ fn a_new_store_gets_all_tables(rt: HostRuntime) -> Result<(), Fail> {
 #[derive(Drop)]
 struct Keeping;
 
-impl Session for Keeping {
-    fn run<S: Alter + Drop, R: Abort>(
+impl<R: Abort> Session<R> for Keeping {
+    fn run<S: Alter + Drop>(
         &mut self,
         _rt: &R,
         alloc: Global,
@@ -61,8 +61,8 @@ impl Session for Keeping {
 #[derive(Drop)]
 struct Having(&'static [(&'static str, i64)]);
 
-impl Session for Having {
-    fn run<S: Alter + Drop, R: Abort>(
+impl<R: Abort> Session<R> for Having {
+    fn run<S: Alter + Drop>(
         &mut self,
         rt: &R,
         alloc: Global,

@@ -1,10 +1,10 @@
 //! Rows of an opened store, returned one at a time: what each source returns, that it returns no more after a malformed
 //! row, and that the next source starts anew.
 use crate::tests::asking::{Asked, is_answered};
-use crate::tests::files::{ClosedFile, Session};
 use crate::tests::helping::{book_over, run};
 use allotment::{Cell, Held};
 use commands::{Fault, Item};
+use memory_files::{ClosedFile, Session};
 use saga_core::{Brief, RowSource};
 use sqlite::{Alter, Connection};
 use std::alloc::{AllocError, Global};
@@ -30,8 +30,8 @@ static DONE: [(Asked, &str); 7] = [
 #[derive(Drop)]
 struct TwoJourneys;
 
-impl Session for TwoJourneys {
-    fn run<S: Alter + Drop, R: Abort>(
+impl<R: Abort> Session<R> for TwoJourneys {
+    fn run<S: Alter + Drop>(
         &mut self,
         rt: &R,
         alloc: Global,
@@ -143,8 +143,8 @@ struct Changed<'a> {
     expected: [&'a str; 3],
 }
 
-impl Session for Changed<'_> {
-    fn run<S: Alter + Drop, R: Abort>(
+impl<R: Abort> Session<R> for Changed<'_> {
+    fn run<S: Alter + Drop>(
         &mut self,
         rt: &R,
         alloc: Global,

@@ -1,9 +1,9 @@
 //! Recovery over a file whose log fails from some call on: what was committed is kept, and the next recovery continues
 //! from there.
-use crate::tests::files::{ClosedFile, Session, disk_of, open_failing};
 use crate::tests::helping::{book_over, holds};
 use allotment::{Cell, Row};
 use commands::{Batch, Command, Fault, Name, Phase};
+use memory_files::{ClosedFile, Session, disk_of, leave_failing};
 use plan::Plan;
 use recovery::{Ready, recover};
 use saga_core::Book;
@@ -52,8 +52,8 @@ fn do_two_steps<B: Book>(alloc: Global, book: &mut B) -> Result<(), Fail> {
 #[derive(Drop)]
 struct TwoSteps;
 
-impl Session for TwoSteps {
-    fn run<S: Alter + Drop, R: Abort>(
+impl<R: Abort> Session<R> for TwoSteps {
+    fn run<S: Alter + Drop>(
         &mut self,
         _rt: &R,
         alloc: Global,
@@ -82,8 +82,8 @@ struct Recovery {
     came_through: bool,
 }
 
-impl Session for Recovery {
-    fn run<S: Alter + Drop, R: Abort>(
+impl<R: Abort> Session<R> for Recovery {
+    fn run<S: Alter + Drop>(
         &mut self,
         rt: &R,
         alloc: Global,
@@ -160,8 +160,8 @@ struct NextRecovery {
     has_six: bool,
 }
 
-impl Session for NextRecovery {
-    fn run<S: Alter + Drop, R: Abort>(
+impl<R: Abort> Session<R> for NextRecovery {
+    fn run<S: Alter + Drop>(
         &mut self,
         rt: &R,
         alloc: Global,
@@ -188,7 +188,7 @@ fn stop_once(
     let mut first = Recovery {
         came_through: false,
     };
-    let left = open_failing(rt, alloc, files, &mut first)?;
+    let left = leave_failing(rt, alloc, files, &mut first)?;
     if first.came_through {
         return Ok((true, false));
     }

@@ -1,6 +1,6 @@
 //! The text of messages in a test.
-use crate::{Incoming, Message, ReadFault, Request};
 use commands::Refusal;
+use http_messages::{Incoming, Message, ReadFault, Request};
 use std::alloc::{AllocError, Global};
 use std::io::Read;
 use std::str;

@@ -1,11 +1,12 @@
 //! What no clause says: texts with values from outside, and what is written before a source or a writer fails.
 mod fakes;
 
-use crate::{ReportFault, history_text, stock_text, unfinished_text};
 use allotment::{Cell, Held};
 use commands::{Agent, Cause, Cursor, Fault, Item, Phase};
-use fakes::{Failing, Sink};
+use failing_streams::Sink;
+use fakes::Failing;
 use plan::{Plan, PlanFault};
+use reports::{ReportFault, history_text, stock_text, unfinished_text};
 use saga_core::{Brief, Listed, Record};
 use savepoints::Marks;
 use std::alloc::{AllocError, Global};

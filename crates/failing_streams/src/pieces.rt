@@ -1,9 +1,9 @@
-//! A reader for the tests: in small pieces, with interruptions, and with a failure after the last byte.
+//! A reader that returns its bytes in pieces.
 use std::io::{self, ErrorKind, Read};
 
 /// Returns its bytes in pieces, each after an interruption. After the last byte it reports the end, or fails.
 #[derive(Drop)]
-pub(super) struct Pieces<'a> {
+pub struct Pieces<'a> {
     left: &'a [u8],
     /// How many bytes a read returns, at most.
     step: usize,
@@ -13,7 +13,7 @@ pub(super) struct Pieces<'a> {
 
 impl<'a> Pieces<'a> {
     /// All the bytes, and then the end.
-    pub(super) fn of(bytes: &'a [u8], step: usize) -> Pieces<'a> {
+    pub fn of(bytes: &'a [u8], step: usize) -> Pieces<'a> {
         Pieces {
             left: bytes,
             step,
@@ -23,7 +23,7 @@ impl<'a> Pieces<'a> {
     }
 
     /// All the bytes, and then a failure.
-    pub(super) fn cut(bytes: &'a [u8], step: usize) -> Pieces<'a> {
+    pub fn cut(bytes: &'a [u8], step: usize) -> Pieces<'a> {
         Pieces {
             left: bytes,
             step,
@@ -33,12 +33,17 @@ impl<'a> Pieces<'a> {
     }
 
     /// How many bytes are left.
-    pub(super) fn len(&self) -> usize {
+    pub fn len(&self) -> usize {
         self.left.len()
     }
 
+    /// Whether none is left.
+    pub fn is_empty(&self) -> bool {
+        self.left.is_empty()
+    }
+
     /// How many bytes a read returns, at most.
-    pub(super) fn step(&self) -> usize {
+    pub fn step(&self) -> usize {
         self.step
     }
 }

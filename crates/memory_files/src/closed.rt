@@ -1,30 +1,15 @@
-//! The desk's tables in files, which are opened, used and closed. Only this module names the store over files: the
-//! proof of each function that passes such a store on unfolds its whole layout, which takes a minute or more. What
-//! tests do with a store is a `Session`, which is proved once, for any store.
+//! The files of a database that is not open.
 ghost use Rattle.std.specs.Prelude.{◌≡◌, false, None, IsTrue, IfOk};
 ghost use Rattle.sqlite_disk.specs.Memory.{memory_is_usable};
 
-use sqlite::{Alter, Connection, Error, FileStore, Files, Options};
-use sqlite_disk::{Disk, Fuse, Memory};
+use crate::sessions::Session;
+use sqlite::{Connection, Error, FileStore, Files, Options};
+use sqlite_disk::{Disk, Memory};
 use std::alloc::Global;
 use std::io;
-use std::process::Abort;
 use std::test::Fail;
 
-/// What a test does between the opening of a database and its closing.
-pub trait Session {
-    /// Uses the connection, and returns it.
-    fn run<S: Alter + Drop, R: Abort>(
-        &mut self,
-        rt: &R,
-        alloc: Global,
-        conn: Connection<S>,
-    ) -> Result<Connection<S>, Fail>
-        requires outside { conn.in_transaction ≡ false }
-        requires unlimited { conn.step_limit ≡ None };
-}
-
-/// A disk with these bytes, all of them synced.
+/// A disk with these bytes, on which nothing waits to be synced.
 pub fn disk_of(alloc: Global, bytes: &[u8]) -> io::Result<Memory>
     ensures { IfOk result (λ m. IsTrue (memory_is_usable m)) }
 {
@@ -84,15 +69,23 @@ impl ClosedFile {
         ClosedFile { log, db }
     }
 
+    /// Files with these bytes.
+    pub fn of(alloc: Global, log: &[u8], db: &[u8]) -> io::Result<ClosedFile> {
+        Ok(ClosedFile {
+            log: disk_of(alloc, log)?,
+            db: disk_of(alloc, db)?,
+        })
+    }
+
     /// The bytes of the database.
     pub fn bytes(&self) -> &[u8] {
         self.db.bytes()
     }
 
     /// Opens the files for a session, and closes them.
-    pub fn open_for<T: Session>(
+    pub fn open_for<R, T: Session<R>>(
         self,
-        rt: &impl Abort,
+        rt: &R,
         alloc: Global,
         session: &mut T,
     ) -> Result<ClosedFile, Fail> {
@@ -106,21 +99,5 @@ impl ClosedFile {
             log: Memory::new(alloc),
             db,
         })
-    }
-}
-
-/// Opens files that may fail for a session, if they open. Returns the files as they were left. Nothing closes them.
-pub fn open_failing<T: Session>(
-    rt: &impl Abort,
-    alloc: Global,
-    files: Files<Fuse<Memory>>,
-    session: &mut T,
-) -> Result<Files<Fuse<Memory>>, Fail> {
-    if !files.log.may_be_used() || !files.db.may_be_used() {
-        return Ok(files);
-    }
-    match Connection::open_files(alloc, files, Options::new(1)) {
-        Ok(conn) => Ok(session.run(rt, alloc, conn)?.into_store().close()),
-        Err((_, left)) => Ok(left.into_files()),
     }
 }

@@ -1,9 +1,8 @@
 //! Which messages are read from streams, however they arrive.
-mod fakes;
 mod texts;
 
-use crate::Incoming;
-use fakes::Pieces;
+use failing_streams::Pieces;
+use http_messages::Incoming;
 use std::alloc::{AllocError, Global};
 use std::process::Abort;
 use texts::told;
