@@ -1,4 +1,4 @@
--- A sorted list: no element is above a later one, for each ORDER BY.
+-- A sorted list: no element is above a later one, for each ORDER BY. For Answering.
 use Rattle.std.proofs.Common.{◌≡◌, ◌⊎◌, inl, inr, ℕ, suc, ◌+◌, List, [], ◌∷◌, map, get_or, false, Ordering, Less, Equal, Greater, is_lt, refl, sym, ap, subst, ◌∙◌, arith}
 use Rattle.std.specs.Ordering.{ordering_reverse}
 use Rattle.std.specs.Cmp.{IsTotalOrder}

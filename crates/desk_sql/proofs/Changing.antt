@@ -1,4 +1,4 @@
--- The statements that update or delete rows.
+-- The statements that update or delete rows. For the functions that write.
 use Rattle.std.proofs.Common.{to_z, of_z, w64, ◌≡◌, ◌<◌, ◌≤◌, ◌^◌, ◌+◌, ◌-◌, ◌-ℤ◌, neg_ℤ, ℕ, ℤ, pos, [], ◌∷◌, filter, not, true, Ok, Err, Result, OnOk, refl, ◌∙◌, arith}
 use Rattle.std.proofs.lemmas.Int.{ints}
 use Rattle.std.proofs.lemmas.Bool.Decides.{nat_tests}

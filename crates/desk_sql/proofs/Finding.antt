@@ -1,4 +1,4 @@
--- The rows that a query on one table of the desk finds.
+-- The rows that a query on one table of the desk finds. For the lemmas of each query.
 use Rattle.std.proofs.Common.{◌≡◌, ◌≢◌, inl, inr, ℕ, List, [], ◌∷◌, Option, Ok, Err, IsTrue, sym, ap, subst, ◌∙◌}
 use Rattle.sqlite.specs.declared.types.Value.TheVariants.{Null}
 use Rattle.sqlite.specs.declared.error.Error.{Error}

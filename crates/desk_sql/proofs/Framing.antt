@@ -1,4 +1,4 @@
--- An edit of one table leaves all other tables as they are.
+-- An edit of one table leaves all other tables as they are. For the lemmas of each statement that writes.
 use Rattle.std.proofs.Common.{◌≡◌, ◌≢◌, ◌==◌, if◌then◌else◌, eqb-true, ℕ, List, Bool, true, false, IsTrue, refl, sym, ap, subst, ◌∙◌}
 use Rattle.std.proofs.lemmas.Bool.{eqb-false}
 use Rattle.sqlite.specs.Order.{Row}

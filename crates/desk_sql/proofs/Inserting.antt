@@ -1,4 +1,4 @@
--- The statements that insert a row.
+-- The statements that insert a row. For the functions that write.
 use Rattle.std.proofs.Common.{◌≡◌, ◌<◌, ℕ, ℤ, [], ◌∷◌, ◌++◌, Bool, true, false, cond, Ok, Err, Result, OnOk, refl}
 use Rattle.std.specs.List.{AllByRecursion}
 use Rattle.sqlite.specs.declared.types.Value.TheVariants.{Int, Text, Blob}

@@ -1,4 +1,4 @@
--- The queries on journeys.
+-- The queries on journeys. For `find_journey` and `first_unfinished`.
 use Rattle.std.proofs.Common.{◌≡◌, inl, inr, ℕ, ◌≤◌, List, [], ◌∷◌, filter, Some, None, IsTrue, refl, sym, ap, subst, ◌∙◌, arith}
 use Rattle.std.specs.Prelude.{string_bytes}
 use Rattle.sqlite.specs.declared.types.Value.TheVariants.{Text}

@@ -1,4 +1,4 @@
--- The reply that is kept under an agent's key.
+-- The reply that is kept under an agent's key. For `find_answer`.
 use Rattle.std.proofs.Common.{◌≡◌, ℕ, ℤ, List, [], ◌∷◌, filter, true, Some, None, IsTrue, refl, sym, ap, subst, ◌∙◌}
 use Rattle.std.specs.Prelude.{string_bytes}
 use Rattle.std.proofs.lemmas.Bool.{and_parts}

@@ -1,4 +1,4 @@
--- Tables as lists of values, each with its rowid, in ascending order of rowid.
+-- Tables as lists of values, each with its rowid, in ascending order of rowid. For Tables and Updating.
 use Rattle.std.proofs.Common.{◌≡◌, ◌+ℤ◌, ◌<ℤ◌, ℤ, pos, fold, List, [], ◌∷◌, ◌++◌, map, filter, cond, Bool, true, false, if◌then◌else◌, Less, refl, sym, ap, ap₂, ◌∙◌, arith, inl, inr}
 use Rattle.std.proofs.lemmas.Int.{ints}
 use Rattle.std.proofs.lemmas.Bool.{cases_Bool}

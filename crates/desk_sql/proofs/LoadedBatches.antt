@@ -1,4 +1,4 @@
--- The batch with a name.
+-- The batch with a name. For `find_batch`.
 use Rattle.std.proofs.Common.{◌≡◌, ℕ, ℤ, List, [], ◌∷◌, filter, true, Some, None, IsTrue, refl, sym, ap, subst, ◌∙◌}
 use Rattle.std.proofs.lemmas.Slice.Eq.{bytes_eq-Decides}
 use Rattle.sqlite.specs.declared.types.Value.TheVariants.{Text, Blob}

@@ -1,4 +1,4 @@
--- The meaning of each text that creates a table, in order.
+-- The meaning of each text that creates a table, in order. For `make_tables` and its parts.
 use Rattle.std.proofs.Common.{◌≡◌, ℕ, List, [], refl, Result, OnOk, ◌∙◌}
 use Rattle.sqlite_schema.specs.declared.schema.Schema.{Schema}
 use Rattle.sqlite.specs.Change.{created}

@@ -1,4 +1,4 @@
--- Each text has under the desk's schema the meaning that Meanings gives it.
+-- Each text has under the desk's schema the meaning that Meanings gives it. For the lemmas of each statement.
 use Rattle.std.proofs.Common.{◌≡◌, ℕ, List, false, refl}
 use Rattle.sqlite.specs.Command.{Command}
 use Rattle.sqlite.specs.Command.TheVariants.{Insert}

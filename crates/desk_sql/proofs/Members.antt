@@ -1,4 +1,4 @@
--- Lists with the same elements.
+-- Lists with the same elements. For the lemmas on lists.
 use Rattle.std.proofs.Common.{inl, inr, ℕ, zero, suc, ◌<◌, List, [], ◌∷◌, length, All, get_or, refl, sym, subst, arith}
 use Rattle.std.specs.List.Sorted.{IsPermutation}
 use Rattle.std.proofs.lemmas.List.Sorted.{All-permutation, IsPermutation-sym}

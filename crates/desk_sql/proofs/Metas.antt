@@ -1,4 +1,4 @@
--- The statements on meta.
+-- The statements on meta. For the functions of `meta`.
 use Rattle.std.proofs.Common.{◌≡◌, ◌<◌, inl, inr, ℕ, pos, List, [], ◌∷◌, ◌++◌, map, filter, true, Some, arith, Ok, Err, Result, OnOk, refl, sym, ap, subst, ◌∙◌}
 use Rattle.sqlite.specs.declared.error.Error.{Error}
 use Rattle.sqlite.specs.Ops.{binary}

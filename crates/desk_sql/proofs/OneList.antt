@@ -1,4 +1,4 @@
--- A list whose numbers differ has just one ascending order.
+-- A list whose numbers differ has just one ascending order. For Listings and HandedJourneys.
 use Rattle.std.proofs.Common.{◌≡◌, ◌≢◌, inl, inr, ℕ, ◌<◌, ◌≤◌, ◌==◌, List, [], ◌∷◌, if◌then◌else◌, eq-eqb, eqb-true, refl, sym, ap, ap₂, subst, ◌∙◌, arith}
 use Rattle.std.specs.Prelude.{sum_by}
 use Rattle.std.proofs.lemmas.Bool.{cases_Bool, eqb-false}

@@ -1,4 +1,4 @@
--- The order that ORDER BY gives to columns of numbers or texts.
+-- The order that ORDER BY gives to columns of numbers or texts. For the lemmas of each query.
 use Rattle.std.proofs.Common.{◌≡◌, ◌⊎◌, inl, inr, ℕ, ◌<◌, ◌≤◌, pos, false, Ordering, Less, Equal, Greater, is_lt, refl, arith}
 use Rattle.std.specs.Ordering.{ordering_then, int_cmp}
 use Rattle.std.proofs.lemmas.Int.{ints}

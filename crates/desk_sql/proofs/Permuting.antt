@@ -1,4 +1,4 @@
--- A permutation of images is a permutation of values.
+-- A permutation of images is a permutation of values. For Answering.
 use Rattle.std.proofs.Common.{◌≡◌, ◌<◌, ℕ, List, [], ◌∷◌, map, length, get_or, refl, sym, ap, ◌∙◌, arith}
 use Rattle.std.specs.Prelude.{swap}
 use Rattle.std.specs.List.Sorted.{IsPermutation}

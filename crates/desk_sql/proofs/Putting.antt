@@ -1,4 +1,4 @@
--- The upsert of a cell.
+-- The upsert of a cell. For `put_cell`.
 use Rattle.std.proofs.Common.{◌≡◌, inl, inr, ℕ, ℤ, eq-eqb, eqb-true, List, [], ◌∷◌, ◌++◌, map, Bool, true, false, if◌then◌else◌, Some, Ok, Err, Result, OnOk, is_eq, refl, sym, ap, ap₂, subst, ◌∙◌, arith}
 use Rattle.std.specs.Prelude.{bytes_eq}
 use Rattle.std.specs.List.{list_any}

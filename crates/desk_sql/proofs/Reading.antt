@@ -1,4 +1,4 @@
--- The answer of a query over one table.
+-- The answer of a query over one table. For Answering and Updating.
 use Rattle.std.proofs.Common.{◌≡◌, ℕ, List, [], ◌∷◌, ◌++◌, map, Bool, true, false, cond, refl, sym, ap, subst, ◌∙◌}
 use Rattle.std.specs.List.{flat_map, filter, list_all}
 use Rattle.std.specs.List.Sorted.{IsPermutation, IsSorted}

@@ -1,4 +1,4 @@
--- The rows of a table after an UPDATE or a DELETE.
+-- The rows of a table after an UPDATE or a DELETE. For Updating.
 use Rattle.std.proofs.Common.{◌≡◌, inl, inr, ℤ, List, [], ◌∷◌, map, Bool, true, false, not, if◌then◌else◌, filter, Less, is_eq, refl, sym, ap, ap₂, subst, ◌∙◌}
 use Rattle.std.specs.List.{AllByRecursion}
 use Rattle.std.specs.List.Sorted.{IsPermutation}

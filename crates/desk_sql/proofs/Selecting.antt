@@ -1,4 +1,4 @@
--- A SELECT commits nothing and changes nothing, under any schema, so also on a connection that is closed.
+-- A SELECT commits and changes nothing, under any schema, so also on a closed connection. For the functions that read.
 use Rattle.std.proofs.Common.{◌≡◌, ◌≢◌, ◌⊎◌, inl, inr, ℕ, ◌+◌, List, [], true, Some, None, Option, Ok, Err, Result, IfOk, IfErr, refl, sym, ap, subst, ◌∙◌}
 use Rattle.std.proofs.lemmas.Bool.{cases_Bool}
 use Rattle.sqlite_ast.specs.declared.Statement.{Statement}

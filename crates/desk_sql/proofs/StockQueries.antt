@@ -1,4 +1,4 @@
--- The queries on cells.
+-- The queries on cells. For `find_nights` and `find_stock`.
 use Rattle.std.proofs.Common.{◌≡◌, ℕ, ℤ, eqb-true, pos, List, [], ◌∷◌, map, filter, true, false, is_lt, nat_cmp, refl, ap, subst, ◌∙◌, arith}
 use Rattle.std.specs.Prelude.{string_bytes}
 use Rattle.std.specs.Ordering.{int_cmp}

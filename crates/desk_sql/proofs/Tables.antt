@@ -1,4 +1,4 @@
--- A table of typed rows after one more row, or after a change.
+-- A table of typed rows after one more row, or after a change. For the lemmas of each statement that writes.
 use Rattle.std.proofs.Common.{◌≡◌, ◌<ℤ◌, ℕ, ℤ, ◌<◌, pos, List, [], ◌∷◌, ◌++◌, map, filter, cond, Bool, true, false, if◌then◌else◌, refl, sym, ap, ap₂, ◌∙◌, arith}
 use Rattle.std.proofs.lemmas.Int.{ints}
 use Rattle.std.specs.List.{AllByRecursion}

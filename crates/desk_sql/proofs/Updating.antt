@@ -1,4 +1,4 @@
--- A table of values after an UPDATE or a DELETE.
+-- A table of values after an UPDATE or a DELETE. For Changing, Putting and Metas.
 use Rattle.std.proofs.Common.{◌≡◌, ◌<ℤ◌, ℕ, ℤ, pos, List, [], map, filter, drop, Bool, true, not, refl, sym, ap, subst, ◌∙◌}
 use Rattle.std.specs.List.Sorted.{IsPermutation}
 use Rattle.sqlite_value.specs.declared.value.Value.TheVariants.{Int}

@@ -1,4 +1,4 @@
--- The effect of an upsert on stock, for any query of its DO UPDATE.
+-- The effect of an upsert on stock, for any query of its DO UPDATE. For Putting.
 use Rattle.std.proofs.Common.{◌≡◌, ℤ, if◌then◌else◌, ◌⊎◌, inl, inr, ℕ, ◌/◌, List, [], ◌∷◌, ◌++◌, length, Some, None, Option, Ok, Err, Result, refl, sym, ap, subst, ◌∙◌}
 use Rattle.sqlite.specs.declared.types.Value.TheVariants.{Null}
 use Rattle.sqlite.specs.Order.{Row}

@@ -1,4 +1,4 @@
--- The effect of a statement that writes on the desk's tables, by its meaning.
+-- The effect of a statement that writes on the desk's tables, by its meaning. For the lemmas of each statement.
 use Rattle.std.proofs.Common.{◌≡◌, ◌<◌, ◌^◌, pos, to_z, w64, fold, MatchBool, if◌then◌else◌, subst₂, ◌⊎◌, inl, inr, ℕ, ◌/◌, List, [], length, slice_get, Bool, true, false, cond, Some, None, Ok, Err, Result, refl, sym, ap, subst, ◌∙◌, arith}
 use Rattle.sqlite.specs.declared.types.Value.{Value}
 use Rattle.sqlite.specs.declared.types.Value.TheVariants.{Null}

@@ -1,4 +1,4 @@
--- The rows that each statement which reads finds.
+-- The rows that each read finds.
 use Rattle.std.specs.Prelude.{◌≡◌, ◌<◌, ◌≤◌, ◌==◌, ◌⊎◌, ◌&&◌, nat_lt, nat_le, Bool, ℕ, List, [], ◌∷◌, map, filter, bytes_eq, string_bytes, Option, option_map}
 use Rattle.sqlite.specs.Order.{Row, column}
 use Rattle.desk_sql.specs.Lists.{IsOneOf, IsListed, IsLeastOf}

@@ -1,7 +1,7 @@
 //! The SQL statements of the desk: one function for each, whose contract names the rows that it reads or changes.
 //!
-//! Each statement runs over any store. A write runs in a transaction, and says what the rows are afterwards. A read
-//! runs outside of one, changes nothing and returns typed rows. The tables are created here too.
+//! Each statement runs over any store. A write runs in a transaction, and its contract says what the rows are
+//! afterwards. A read runs outside of one, changes nothing and returns typed rows. The tables are created here too.
 //!
 //! Words: a *row* is a row of a table, as a typed value; a connection *sees* rows if its tables show them.
 #![tactic(auto)]

@@ -44,12 +44,12 @@ pub record IsReopened (w : List Moment) : Type 0 where
 abbrev pub Reopens : Type 0
 Reopens = (w : List Moment) → IsWorld w → IsReopened w
 
--- asks that were all answered, followed by a run of more asks, are a run of both lists in a row
+-- asks that were all answered, followed by a run of more asks, are a run of the two lists appended
 abbrev pub Adds : Type 0
 Adds = (w : List Moment) (first second : Asks) (v : List Moment) → KeepLimits first
     → GoesOnTo (continued w first []) second v → GoesOnTo w (first ++ second) v
 
--- a run of the first asks is a run of any list that they begin
+-- a run of a prefix of the asks is a run of all of them
 abbrev pub Begins : Type 0
 Begins = (w : List Moment) (first second : Asks) (v : List Moment) → GoesOnTo w first v
     → GoesOnTo w (first ++ second) v

@@ -85,7 +85,7 @@ most_under_way true = 1
 most_under_way false = 0
 
 -- A prefix of the asks was answered, and if the store failed, the next one may be in progress. Whatever a crash leaves
--- represents the final state of the execution that went on with that prefix, without or with the next one cut off.
+-- represents the final state of the execution that went on with that prefix, and with the next one cut off.
 pub record EndsAmong (stands : State → Type 0) (leaves : State → State → Type 0) (w : List Moment) (asks : Asks)
     (store_failed : Bool) : Type 0 where
   pub progress : Progress asks

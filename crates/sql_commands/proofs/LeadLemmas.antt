@@ -1,4 +1,4 @@
--- The rows of each event of a journey lead to the state with it. For `make` and `commit_answered`.
+-- The rows of each event of a journey lead to the state with it. For DueLemmas, `commit_kept` and `commit_answered`.
 use Rattle.std.proofs.Common.{◌≡◌, ℕ, ◌+◌, length, Option, Some, None, IsTrue, sym, ap, subst, ◌∙◌}
 use Rattle.allotment.specs.Want.{Wanted}
 use Rattle.plan.specs.PlanModel.{want_at}

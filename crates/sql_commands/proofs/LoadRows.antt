@@ -1,4 +1,4 @@
--- What is read of the rows of a batch, in order. For `read_held`, `read_places` and `cells_of`.
+-- What is read of the rows of a batch, in order. For `content_of`, `cells_of` and LoadComes.
 use Rattle.std.proofs.Common.{◌≡◌, ℕ, zero, suc, ◌+◌, ◌<◌, List, [], ◌∷◌, ◌++◌, length, map, take, get_or, cond, Bool, true, false, Some, None, refl, sym, ap, ap₂, ◌∙◌, arith, append_assoc, append-nil}
 use Rattle.std.specs.Prelude.{position, not, nat_lt}
 use Rattle.std.specs.List.{list_all, position_or_len}

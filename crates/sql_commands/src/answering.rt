@@ -87,7 +87,7 @@ fn answer_new<S: Alter>(
     }
 }
 
-/// Executes a command of an agent. A known key gets its kept reply, or a refusal of another text, and nothing changes.
+/// Executes a command of an agent. A retry under its key gets the kept reply, or a refusal if its text differs.
 fn answer_for<S: Alter>(
     alloc: Global,
     conn: &mut Connection<S>,

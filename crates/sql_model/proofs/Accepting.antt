@@ -1,5 +1,5 @@
--- Each reply to an event accepts, and its parts keep the limits; so after any request a desk's state
--- is a desk's state. For Worlds and Beginning.
+-- Each reply to an event accepts, and its parts keep the limits; so each request within the limits
+-- takes a desk's state to a desk's state. For Worlds, and for books over tables.
 use Rattle.std.proofs.Common.{◌≡◌, inl, inr, ℕ, zero, suc, ◌+◌, ◌<◌, ◌≤◌, ◌==◌, List, [], ◌∷◌, ◌++◌, length, Bool, true, false, if◌then◌else◌, Option, Some, None, IsTrue, refl, sym, ap, subst, ◌∙◌, arith, eqb-true, eq-eqb, add-one}
 use Rattle.std.specs.Prelude.{slice_get, find, position, option_map, option_and_then, unwrap_or, is_some, nat_lt, nat_le, ◌&&◌, not}
 use Rattle.std.specs.List.{AllByRecursion, list_any, list_all}
@@ -370,7 +370,7 @@ limited-good l a good = go (is_some a.event && nat_le most_events (length l)) re
     go true e = tt
     go false e = by_event a.event refl e
 
--- after any request within the limits, a desk's state is a desk's state
+-- each request within the limits takes a desk's state to a desk's state
 pub outcome_keeps : (s : State) (ask : Option Asked) (asked : Request) → IsDesk s
     → is_request asked ≡ true → IsDesk (outcome s ask asked).state
 outcome_keeps s ask asked desk ok = record {

@@ -1,4 +1,4 @@
--- The row found under an agent's key is the reply that is kept there.
+-- The row found under an agent's key is the reply that is kept there. For Readings, and for commands.
 use Rattle.std.proofs.Common.{◌≡◌, ℕ, List, true, filter, find, Option, Some, None, IsTrue, refl, sym, ap, ◌∙◌}
 use Rattle.std.specs.Prelude.{option_map, if◌then◌else◌, IfSome, ◌≤◌, length}
 use Rattle.std.proofs.lemmas.Bool.{and_parts, and_from, le-leb}

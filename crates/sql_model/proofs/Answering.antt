@@ -1,4 +1,4 @@
--- A reply that is kept adds its row.
+-- A reply that is kept adds its row. For the lemmas of each event.
 use Rattle.std.proofs.Common.{◌≡◌, ℕ, List, [], ◌∷◌, ◌++◌, Bool, true, false, cond, if◌then◌else◌, Option, Some, None, find, refl, sym, ap, ◌∙◌}
 use Rattle.std.specs.Prelude.{option_map, bytes_eq, ◌&&◌, IfSome, IsTrue}
 use Rattle.std.proofs.lemmas.Bool.{and_parts, and_from}

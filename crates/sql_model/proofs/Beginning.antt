@@ -1,4 +1,4 @@
--- The rows that the begin of a journey writes represent its outcome.
+-- The rows that the begin of a journey writes represent its outcome. For the begin of a journey over tables.
 use Rattle.std.proofs.Common.{◌≡◌, ℕ, suc, ◌+◌, ◌-◌, ◌<◌, ◌≤◌, List, [], ◌∷◌, ◌++◌, length, map, true, false, if◌then◌else◌, Option, None, IsTrue, refl, sym, ap, subst, ◌∙◌, arith, append-nil, length-append}
 use Rattle.std.specs.Prelude.{option_map, unwrap_or, nat_le, ◌==◌, flat_map}
 use Rattle.std.specs.List.Sorted.{IsPermutation}

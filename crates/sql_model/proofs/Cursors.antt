@@ -1,4 +1,4 @@
--- A cursor as it is stored and read.
+-- A cursor as it is stored and read. For RecordRows, and for reads of journeys.
 use Rattle.std.proofs.Common.{◌≡◌, Some, refl, sym, ap, ◌∙◌}
 use Rattle.std.specs.Prelude.{option_map}
 use Rattle.commands.specs.declared.items.Cursor.{Cursor}

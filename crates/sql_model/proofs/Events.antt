@@ -1,4 +1,4 @@
--- What one more event adds to the rows that are expected of a ledger.
+-- What one more event adds to the rows that are expected of a ledger. For the lemmas of each event.
 use Rattle.std.proofs.Common.{◌≡◌, ℕ, suc, ◌+◌, List, [], ◌∷◌, ◌++◌, length, map, refl, ap, sym, ◌∙◌, arith}
 use Rattle.std.proofs.lemmas.List.{length-map}
 use Rattle.std.proofs.lemmas.List.Elements.{filter_map-append}

@@ -1,4 +1,4 @@
--- The first element of a list that passes a test, and lists without two elements that are the same.
+-- The first element that passes a test, and lists without two elements that are the same. For Orders and Answering.
 use Rattle.std.proofs.Common.{◌≡◌, List, [], ◌∷◌, ◌++◌, Bool, true, false, cond, Some, None, find, refl, ap}
 use Rattle.std.specs.List.{AllByRecursion}
 use Rattle.sqlite_trees.proofs.ListLemmas.{ascending-append, all_weaker}

@@ -1,4 +1,4 @@
--- Tables that were just created represent a new desk.
+-- Tables that were just created represent a new desk. For Worlds, and for the opening of a store.
 use Rattle.std.proofs.Common.{[], refl}
 use Rattle.std.proofs.lemmas.List.Sorted.{IsPermutation-refl}
 use Rattle.ledger.specs.Answer.{start}

@@ -1,4 +1,4 @@
--- Lists whose elements have numbers, and maps of functions that agree.
+-- Lists whose elements have numbers, and maps of functions that agree. For the lemmas on plans and events.
 use Rattle.std.proofs.Common.{◌≡◌, ℕ, suc, ◌+◌, List, [], ◌∷◌, ◌++◌, length, map, refl, ap, ap₂, ◌∙◌, arith}
 use Rattle.std.specs.Prelude.{flat_map}
 use Rattle.sql_model.specs.ExpectedRows.{counted_from}

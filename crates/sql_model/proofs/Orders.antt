@@ -1,4 +1,4 @@
--- Rows in another order: they still differ from each other, and just one of their orders rises.
+-- Rows in another order: they still differ from each other, and just one of their orders rises. For Readings.
 use Rattle.std.proofs.Common.{◌≡◌, ◌≢◌, ◌⊎◌, inl, inr, ℕ, ◌<◌, ◌≤◌, List, [], ◌∷◌, Bool, true, false, filter, find, cond, Option, Some, None, refl, sym, ap, ap₂, subst, ◌∙◌, arith}
 use Rattle.std.specs.List.{AllByRecursion}
 use Rattle.std.specs.List.Sorted.{IsPermutation}

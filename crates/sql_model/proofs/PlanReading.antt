@@ -1,4 +1,4 @@
--- A plan is read back from its rows, and written row by row.
+-- A plan is read back from its rows, and written row by row. For RecordRows, and for reads of plans.
 use Rattle.std.proofs.Common.{◌≡◌, ℕ, zero, suc, ◌<◌, ◌≤◌, ◌==◌, List, [], ◌∷◌, ◌++◌, map, filter, length, Bool, true, false, IsTrue, refl, sym, ap, ap₂, ◌∙◌, arith, append-nil, eq-eqb}
 use Rattle.std.specs.Prelude.{flat_map, not}
 use Rattle.std.specs.List.{AllByRecursion}

@@ -1,4 +1,4 @@
--- What each read of the tables says of the state that they represent.
+-- What each read of the tables says of the state that they represent. For the functions that read.
 use Rattle.std.proofs.Common.{◌≡◌, ℕ, ◌+◌, ◌≤◌, ◌==◌, List, [], ◌∷◌, map, filter, length, take, Option, Some, IsTrue, refl, sym, ap, subst, ◌∙◌}
 use Rattle.std.specs.Prelude.{option_map, bytes_eq, nat_le, ◌&&◌}
 use Rattle.std.specs.List.{list_any}

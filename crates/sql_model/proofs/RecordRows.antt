@@ -1,4 +1,4 @@
--- The row of a journey and the rows of its steps give its record.
+-- The row of a journey and the rows of its steps give its record. For Readings, and for reads of journeys.
 use Rattle.std.proofs.Common.{◌≡◌, ℕ, zero, suc, ◌+◌, ◌<◌, ◌≤◌, ◌==◌, List, [], ◌∷◌, ◌++◌, map, filter, Bool, true, false, Some, IsTrue, refl, sym, ap, ap₂, subst, ◌∙◌, arith, eqb-true}
 use Rattle.std.specs.Prelude.{option_map, nat_eq, nat_le, ◌&&◌, ◌||◌}
 use Rattle.std.specs.FinSet as set

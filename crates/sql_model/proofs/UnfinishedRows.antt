@@ -1,4 +1,4 @@
--- The first row of an unfinished journey is that of the first unfinished journey.
+-- The first row of an unfinished journey is that of the first unfinished journey. For Readings.
 use Rattle.std.proofs.Common.{◌≡◌, ℕ, suc, ◌+◌, List, [], ◌∷◌, map, find, cond, length, Bool, true, false, Option, Some, refl, sym, ap, subst, ◌∙◌, arith}
 use Rattle.std.specs.Prelude.{slice_get, filter_map, option_map, nat_lt, not, ◌&&◌}
 use Rattle.std.specs.List.{cons_option}

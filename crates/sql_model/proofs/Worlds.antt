@@ -1,4 +1,4 @@
--- A desk's state is a desk's state after each execution. For `desks`.
+-- Each moment of an execution takes a desk's state to a desk's state. For `desks`.
 use Rattle.std.proofs.Common.{◌≡◌, List, [], ◌∷◌, refl, sym, ap, subst}
 use Rattle.std.specs.Prelude.{true, false, Option, Some, None, is_some}
 use Rattle.commands.specs.Asks.{Asked}

@@ -1,4 +1,4 @@
-//! The desk's values of rows. A row with a value out of range has none.
+//! The desk's values for the rows of the tables. A row with a value out of range has none.
 ghost use Rattle.std.specs.Prelude.{◌≡◌, ◌==◌, ℕ, IfOk, IfSome};
 ghost use Rattle.std.specs.List.{list_any};
 ghost use Rattle.allotment.specs.Cells.{kind_number};

@@ -1,4 +1,4 @@
--- The row found with a batch's name is that of the batch that was loaded under it; there is at most one.
+-- The row found with a batch's name is that of the only batch that was loaded under it. For loads.
 use Rattle.std.proofs.Common.{◌≡◌, ℕ, suc, ◌≤◌, ◌==◌, List, [], ◌∷◌, ◌++◌, length, map, filter, cond, Bool, true, false, if◌then◌else◌, Option, Some, None, IsTrue, inl, inr, refl, sym, ap, subst, ◌∙◌, arith, eqb-true, append-nil, length-append}
 use Rattle.std.specs.Prelude.{filter_map, option_map, bytes_eq, ◌&&◌}
 use Rattle.std.specs.List.{list_all, cons_option}

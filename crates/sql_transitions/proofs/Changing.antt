@@ -1,4 +1,4 @@
--- Rows of stock after a change of some of them that leaves each row to its cell.
+-- Rows of stock after a change of some of them that leaves each row to its cell. For Puts and Wants.
 use Rattle.std.proofs.Common.{◌≡◌, List, [], ◌∷◌, find, cond, Bool, true, false, if◌then◌else◌, Some, refl, ap₂, ◌∙◌}
 use Rattle.std.specs.Prelude.{option_map}
 use Rattle.std.specs.List.{AllByRecursion}

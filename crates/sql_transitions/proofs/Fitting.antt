@@ -1,4 +1,4 @@
--- The nights found of a want determine whether it fits, and the night found of a cell how many of its places are held.
+-- The nights found of a want determine whether it fits, and those of a cell its held places. For steps and loads.
 use Rattle.std.proofs.Common.{◌≡◌, ℕ, ◌+◌, ◌-◌, ◌<◌, ◌≤◌, ◌==◌, List, [], ◌∷◌, map, Bool, true, false, Option, Some, None, refl, sym, ap, ap₂, ◌∙◌, arith, eqb-true, eq-eqb, inl, inr}
 use Rattle.std.specs.Prelude.{option_map, unwrap_or, nat_le, ◌&&◌}
 use Rattle.std.specs.List.{list_any, list_all, cons_option}

@@ -1,4 +1,4 @@
--- The rows that a compensation writes represent the ledger with it.
+-- The rows that a compensation writes represent the ledger with it. For the functions that write an item.
 use Rattle.std.proofs.Common.{◌≡◌, ℕ, ◌+◌, [], ◌∷◌, ◌++◌, length, false, Option, Some, None, IsTrue, refl, ap, ◌∙◌}
 use Rattle.allotment.specs.Want.{Wanted}
 use Rattle.plan.specs.PlanModel.{want_at}

@@ -1,4 +1,4 @@
--- What one item of a journey changes in the rows that are expected of a ledger, for items of every kind.
+-- What an item of a journey changes in the rows that are expected of a ledger. For the lemmas of each item.
 use Rattle.std.proofs.Common.{◌≡◌, ℕ, suc, ◌+◌, ◌==◌, List, [], ◌∷◌, ◌++◌, length, map, Bool, true, false, if◌then◌else◌, Some, refl, sym, ap, ap₂, ◌∙◌, arith, append-nil, length-append, eqb-true, inl, inr}
 use Rattle.std.specs.Prelude.{flat_map, ◌&&◌}
 use Rattle.std.specs.List.Sorted.{IsPermutation}

@@ -1,4 +1,4 @@
--- An allowed event whose reply accepts leaves a desk's state. The outcome of a request, by its answer.
+-- An allowed event whose reply accepts leaves a desk's state; the outcome of a request, by its answer. For commands.
 use Rattle.std.proofs.Common.{◌≡◌, ℕ, ◌<◌, ◌≤◌, List, length, Bool, true, false, if◌then◌else◌, Option, Some, None, IsTrue, refl, sym, ap, subst, ◌∙◌, arith}
 use Rattle.std.specs.Prelude.{◌&&◌, ◌==◌, nat_le, is_some}
 use Rattle.std.specs.List.{list_all}
@@ -69,7 +69,7 @@ module _ (s : State) (ask : Option Asked) (asked : Request) (new : kept_for s as
       → outcome s ask asked ≡ carried_out s ask (by_test v)
   by_limit v e = ap (outcome_for s ask asked) new ∙ ap (λ b. carried_out s ask (by_test b)) e
 
-  -- the answer is the rules' if the ledger has room
+  -- if the ledger has room, the outcome is that of the rules' answer
   pub outcome-room : length s.ledger < most_events → outcome s ask asked ≡ carried_out s ask within
   outcome-room room = by_limit false (none (is_some within.event))
     where
@@ -80,12 +80,12 @@ module _ (s : State) (ask : Option Asked) (asked : Request) (new : kept_for s as
       none true = off
       none false = refl
 
-  -- the answer is the rules' if it makes no event
+  -- if the rules make no event, the outcome is that of the rules' answer
   pub outcome-no_event : within.event ≡ None → outcome s ask asked ≡ carried_out s ask within
   outcome-no_event none =
       by_limit false (ap (λ o. is_some o && nat_le most_events (length s.ledger)) none)
 
-  -- the answer is the refusal of a full ledger if the rules make an event
+  -- if the rules make an event and the ledger is full, the outcome is a refusal
   pub outcome-full : (e : Event) → within.event ≡ Some e → most_events ≤ length s.ledger
       → outcome s ask asked ≡ carried_out s ask (refused Limit)
   outcome-full e some full =

@@ -1,4 +1,4 @@
--- Good rows have different texts, without line feeds: their five parts lack the bytes that separate them.
+-- Good rows have different texts, without line feeds, since their parts lack the separators. For loads.
 use Rattle.std.proofs.Common.{◌≡◌, ℕ, ◌+◌, ◌-◌, ◌/◌, ◌%◌, ◌<◌, ◌≤◌, ◌^◌, ◌==◌, List, [], ◌∷◌, ◌++◌, Bool, true, Some, refl, sym, ap, ◌∙◌, arith, inl, inr, append_assoc}
 use Rattle.std.specs.Prelude.{decimal, nat_le, length, bytes_eq, ◌&&◌, ◌||◌, not}
 use Rattle.std.specs.List.{list_all}

@@ -1,4 +1,4 @@
--- The save-points that stand, after one more row of a save-point or one less.
+-- The save-points that stand, after one more row of a save-point or one less. For Saving and GivingBack.
 use Rattle.std.proofs.Common.{◌≡◌, ℕ, ◌==◌, List, [], ◌∷◌, ◌++◌, Bool, true, false, filter, eqb-true, refl, sym, ap, ap₂, ◌∙◌, arith}
 use Rattle.std.specs.Prelude.{◌&&◌, ◌||◌, not}
 use Rattle.std.specs.List.{list_any}

@@ -78,7 +78,7 @@ module _ (t u : Tables) (s : State) (j : ℕ) (item : Item) (st : StandsFor t s)
       (record { ledger = l ++ Did j item ∷ []; kept = s.kept }) ask reply item_stands new
 
 module _ (l : List Event) (j : ℕ) (item : Item) where
-  -- what an item leaves of its own journey's history, it leaves of all journeys' histories
+  -- what an item leaves unchanged for its own journey's history, it leaves unchanged for all journeys
   histories_same : {Y : Type 0} (f : List Item → Y) → f (history l j ++ item ∷ []) ≡ f (history l j)
       → (k : ℕ) → f (history (l ++ Did j item ∷ []) k) ≡ f (history l k)
   histories_same f same k = go (k == j) refl

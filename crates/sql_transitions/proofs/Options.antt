@@ -1,4 +1,4 @@
--- The rows of steps after a change of the taken options: one more by a transaction, one less by a compensation.
+-- The rows of steps after one more option is taken, or one is given up. For Taking and GivingBack.
 use Rattle.std.proofs.Common.{◌≡◌, ℕ, ◌==◌, List, [], ◌∷◌, ◌++◌, Bool, true, false, if◌then◌else◌, IsTrue, eqb-true, refl, sym, ap, ap₂, subst, ◌∙◌}
 use Rattle.std.specs.Prelude.{◌&&◌, ◌||◌, not}
 use Rattle.std.specs.List.{list_any}

@@ -1,4 +1,4 @@
--- The range of nights that a statement takes is that of a want.
+-- The range of nights that a statement takes is that of a want. For the functions that write a want.
 use Rattle.std.proofs.Common.{◌≡◌, ◌==◌, map, if◌then◌else◌}
 use Rattle.std.specs.Prelude.{bytes_eq, nat_le, ◌&&◌}
 use Rattle.allotment.specs.Want.{Wanted}

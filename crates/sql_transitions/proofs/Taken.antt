@@ -1,4 +1,4 @@
--- The rows found of a journey's steps give the wants of its plan, and which options are taken.
+-- The rows found of a journey's steps give the wants of its plan, and the taken options. For the choice of an option.
 use Rattle.std.proofs.Common.{◌≡◌, inl, inr, ℕ, zero, suc, ◌+◌, ◌≤◌, ◌==◌, List, [], ◌∷◌, length, map, Bool, true, false, Option, Some, None, refl, sym, ap, subst, ◌∙◌, arith, eqb-true, eq-eqb}
 use Rattle.std.specs.Prelude.{flat_map, slice_get, option_map, option_and_then, unwrap_or, ◌&&◌}
 use Rattle.std.proofs.lemmas.Bool.{and_parts, and_from}

@@ -1,4 +1,4 @@
--- The rows that a turn writes represent the ledger with it.
+-- The rows that a turn writes represent the ledger with it. For the functions that write an item.
 use Rattle.std.proofs.Common.{◌≡◌, ℕ, ◌+◌, length, Option, Some, None, IsTrue, refl}
 use Rattle.commands.specs.Asks.{Asked}
 use Rattle.commands.specs.declared.items.Cause.{Cause}

@@ -30,7 +30,7 @@ unfolding puts
 put_rows-puts holds [] rows = refl
 put_rows-puts holds (r ∷ batch) rows = put_rows-puts holds batch (put (loaded_row (holds r.cell) r) rows)
 
--- if the text and the places are those of a batch, all rows are
+-- if the text and the places are those of a batch, all rows are those of the batch
 pub load_rows-batch : (n : Numbers) (b : BatchLoaded) (batch : List Row) (holds : Cell → ℕ) (t : Tables)
     → b.content.now ≡ batch_text batch
     → map stock_row_of b.cells.now ≡ map (λ (r : Row). loaded_row (holds r.cell) r) batch

@@ -8,7 +8,7 @@ use Rattle.ledger.specs.Answer.{State}
 use Rattle.saga_core.specs.Books as books
 use Rattle.tables.specs.Keeping.{Keeps, Stands}
 
--- unless the store failed, the book represents what it did: out of memory, both reads have changed nothing
+-- unless the store failed, the book represents what it represented: out of memory, both reads have changed nothing
 pub uncounted : {W : Type 0} (failed : Bool) (finished : ℕ) (old first end : Connected) (f : Fault)
     → ((s : State) → Keeps old s → Keeps first s)
     → ((s : State) → Keeps first s → f ≡ Memory → Keeps end s)

@@ -65,7 +65,7 @@ impl<S: Alter> Opened<S> {
         self.version
     }
 
-    /// Whether its connection is outside of a transaction, as the connection of each `Opened` of `open_from` is.
+    /// Whether its connection is outside of a transaction, as it is after `open_from`.
     pub(crate) fn is_outside(&self) -> bool
         ensures outside { IsTrue result ↔ (self.now.conn.in_transaction ≡ false) }
     {
