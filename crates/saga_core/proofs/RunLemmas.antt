@@ -58,8 +58,7 @@ pub state_after-more : {cs : Asks} {i : ℕ} {c : Request × Option Asked} (s : 
     → state_after s (take (i + 1) cs) ≡ (outcome_at s cs i c).state
 state_after-more {cs} {i} {c} s at = ap (state_after s) (took at) ∙ state_after-append s (take i cs) (c ∷ [])
 
--- the next command failed: at Memory the book stays at the state before it, and at Store a crash leaves that or the
--- next
+-- the next command failed: at Memory the book keeps the state before it; at Store a crash leaves that state or the next
 pub stops : {cs : Asks} {i : ℕ} {c : Request × Option Asked}
     (stood stands : State → Type 0) (leaves : State → State → Type 0)
     (s : State) (replies : List Reply) (fault : Fault) → IsAt cs i c → replies ≡ replies_to s (take i cs)
