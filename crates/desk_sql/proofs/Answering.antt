@@ -1,4 +1,4 @@
--- What a query over a table of values answers, as values.
+-- The answer of a query over a table of values, as values. For the lemmas of each query.
 use Rattle.std.proofs.Common.{◌≡◌, ◌⊎◌, inl, inr, ℕ, ℤ, List, [], ◌∷◌, map, filter, cond, Bool, true, false, refl, sym, ap, ap₂, subst, ◌∙◌}
 use Rattle.std.specs.List.Sorted.{IsPermutation}
 use Rattle.std.proofs.lemmas.List.Sorted.{IsPermutation-map}
@@ -23,7 +23,7 @@ map_map : {A B C : Type 0} (f : A → B) (g : B → C) (h : A → C) → ((x : A
 map_map f g h same [] = refl
 map_map f g h same (x ∷ xs) = rw (same x, map_map f g h same xs) refl
 
--- the rows are those of these values, which are those of the table that pass, in the order that was asked for
+-- the rows are those of these values: the values of the table that pass, in the order of the query
 pub record Answers {X : Type 0} (q : Query) (out : X → Output) (passing : List X) (rows : List Row) : Type 0 where
   pub values : List X
   pub same : IsPermutation passing values
@@ -38,7 +38,7 @@ module _ (tree : ℕ) (tests project : List Term) (order : List (Term × Key)) (
 
   module _ {X : Type 0} (f : X → Row) (xs : List X) (has : db tree ≡ map f xs) (test : X → Bool)
       (test_is : (x : X) → passes tests params (f x) ≡ test x) where
-    -- what the query makes of a value
+    -- the output of the query for a value
     abbrev pub out_of : X → Output
     out_of x = output q (env_of params (f x))
 
@@ -73,7 +73,7 @@ module _ (tree : ℕ) (tests project : List Term) (order : List (Term × Key)) (
     pub numbered_answers : Answers q (λ x. output q (env_of params (row_of x))) (filter test xs) rows
     numbered_answers = answers row_of xs table.rows_are test test_is
 
-  -- a table whose rowids are free; nothing that the query shows is one
+  -- a table whose rowids are free, for a query that shows none of them
   module _ {X : Type 0} (columns : X → Row) (xs : List X) (table : IsTableOf columns (db tree) xs) (out : X → Output)
       (out_is : (p : ℤ × X) → output q (env_of params (numbered_row columns p)) ≡ out p.1)
       (test : X → Bool) (test_is : (p : ℤ × X) → passes tests params (numbered_row columns p) ≡ test p.1) where
@@ -99,7 +99,7 @@ module _ (tree : ℕ) (tests project : List Term) (order : List (Term × Key)) (
         }
 
 module _ {X : Type 0} (q : Query) (out : X → Output) (passing : List X) where
-  -- the first row is that of a value that passes, and of no other before it
+  -- the first row is that of a value that passes, and no value that passes is before it
   pub first_of : (row : Row) (tail : List Row) → Answers q out passing (row ∷ tail)
       → (x : X) × Has passing x × (row ≡ (out x).1)
       × ((y : X) → Has passing y → (y ≡ x) ⊎ IsUpTo (output_cmp q) (output_total q) (out x) (out y))
@@ -119,7 +119,7 @@ module _ {X : Type 0} (q : Query) (out : X → Output) (passing : List X) where
         ],
       )
 
-  -- no row is given where nothing passes
+  -- if there is no row, no value passes
   pub none_of : Answers q out passing [] → passing ≡ []
   none_of it = go it.values it.same it.rows_are
     where
@@ -137,7 +137,7 @@ first_same e = cc
 rest_same : {C : Type 0} {a b : C} {cs ds : List C} → a ∷ cs ≡ b ∷ ds → cs ≡ ds
 rest_same e = cc
 
--- What was read of the rows is the values themselves.
+-- The values that were read of the rows are the values of the table.
 module _ {X V C : Type 0} (q : Query) (out : X → Output) (passing : List X) (rows : List Row) (it : Answers q out passing rows)
     (row_of : V → X) (show : V → C) (read : Row → C) (found : List V) (was : map show found ≡ map read rows)
     (back : (v : V) (x : X) → Has passing x → show v ≡ read ((out x).1) → row_of v ≡ x) where

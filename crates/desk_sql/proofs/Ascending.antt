@@ -1,4 +1,4 @@
--- A sorted list: no element is above a later one, whatever ORDER BY names.
+-- A sorted list: no element is above a later one, for each ORDER BY. For Answering.
 use Rattle.std.proofs.Common.{◌≡◌, ◌⊎◌, inl, inr, ℕ, suc, ◌+◌, List, [], ◌∷◌, map, get_or, false, Ordering, Less, Equal, Greater, is_lt, refl, sym, ap, subst, ◌∙◌, arith}
 use Rattle.std.specs.Ordering.{ordering_reverse}
 use Rattle.std.specs.Cmp.{IsTotalOrder}
@@ -60,6 +60,6 @@ key_cmp_total : (at : ℕ) (ks : List Key) → IsTotalOrder (key_cmp at ks)
 key_cmp_total at [] = always_tied
 key_cmp_total at (k ∷ ks) = then_total (on_total (λ (r : Row). column r at) (by_key_total k)) (key_cmp_total (suc at) ks)
 
--- whatever ORDER BY names, outputs are ordered by it
+-- the order of outputs is total, for each ORDER BY
 pub output_total : (q : Query) → IsTotalOrder (output_cmp q)
 output_total q = on_total (λ (o : Output). o.0) (key_cmp_total 0 (map (λ k. k.1) q.order))

@@ -1,4 +1,4 @@
--- The statements that change rows, or take one out.
+-- The statements that update or delete rows. For the functions that write.
 use Rattle.std.proofs.Common.{to_z, of_z, w64, ◌≡◌, ◌<◌, ◌≤◌, ◌^◌, ◌+◌, ◌-◌, ◌-ℤ◌, neg_ℤ, ℕ, ℤ, pos, [], ◌∷◌, filter, not, true, Ok, Err, Result, OnOk, refl, ◌∙◌, arith}
 use Rattle.std.proofs.lemmas.Int.{ints}
 use Rattle.std.proofs.lemmas.Bool.Decides.{nat_tests}
@@ -37,7 +37,7 @@ use Rattle.desk_sql.proofs.Updating.{table_updated, numbered_updated, table_dele
 abbrev pub cursor_params : ℕ → Cursor → Row
 cursor_params id c = whole id ∷ whole c.pos ∷ whole c.phase ∷ whole c.target ∷ whole c.used ∷ []
 
--- the journey's row keeps its place, since its number stays
+-- the journey's row keeps its place, since its number is the same
 pub changes_journey : (old new : State) (t : Tables) (id : ℕ) (c : Cursor) (r : Result ℕ Error) → MayRun old t
     → ExecutesInside 0 move_journey_text (cursor_params id c) old new r → OnOk r (Makes old new (moves_journey id c t))
 changes_journey old new t id c (Err e) may ran = tt
@@ -99,7 +99,7 @@ int_minus a b low = omega (arith, ints)
 int_plus : (a b : ℕ) → pos a -ℤ neg_ℤ (pos b) ≡ pos (a + b)
 int_plus a b = omega (arith, ints)
 
--- what is taken from a number of free places, and what is given back
+-- the free places after places are taken or given back
 sub_fewer : (a b : ℕ) → b ≤ a → a < 2 ^ 63 → binary (Arith Sub) (whole a) (whole b) ≡ whole (a - b)
 unfolding binary
 sub_fewer a b low high = rw (int_minus a b low, fits (a - b) (omega arith)) refl
@@ -144,7 +144,7 @@ changes_more old new t w count (Ok n) room may ran =
     (λ p there is. let enough = all_has _ t.stock p.1 room there is in simp (sub_more p.1.free count enough, cast_int))
     it.1 it.2.applies.fresh))
 
--- One save-point less.
+-- One save-point fewer.
 
 abbrev pub place_params : ℕ → ℕ → Row
 place_params journey at = whole journey ∷ whole at ∷ []
@@ -169,6 +169,6 @@ drops old new t journey at (Ok count) may ran =
     (table_deleted mark_columns db (mark_at 14) t.mark shown.mark refl delete_mark_query.filter delete_mark_query.project params it.0
     (is_mark_at journey at) (place_test journey at) (λ _. refl) it.1))
 
--- A signed number that is passed is stored as it is.
+-- A signed number that is passed as a parameter is stored as it is.
 pub kept_signed : (n : ℕ) → n < 2 ^ 63 → to_z w64 (of_z w64 (neg_ℤ (pos n))) ≡ neg_ℤ (pos n)
 kept_signed n low = omega (arith, ints, low)

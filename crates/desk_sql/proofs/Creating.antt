@@ -1,4 +1,4 @@
--- What CREATE TABLE does, where no table has a row.
+-- The effect of CREATE TABLE, if no table has a row. For Making.
 use Rattle.std.proofs.Common.{◌≡◌, ℕ, List, [], ◌∷◌, ◌++◌, true, false, if◌then◌else◌, None, Ok, Err, Result, OnOk, sym, ap, subst, ◌∙◌}
 use Rattle.std.specs.List.{AllByRecursion}
 use Rattle.sqlite.specs.Table.{Table}

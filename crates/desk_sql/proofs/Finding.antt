@@ -1,4 +1,4 @@
--- What a query on one table of the desk finds.
+-- The rows that a query on one table of the desk finds. For the lemmas of each query.
 use Rattle.std.proofs.Common.{◌≡◌, ◌≢◌, inl, inr, ℕ, List, [], ◌∷◌, Option, Ok, Err, IsTrue, sym, ap, subst, ◌∙◌}
 use Rattle.sqlite.specs.declared.types.Value.TheVariants.{Null}
 use Rattle.sqlite.specs.declared.error.Error.{Error}
@@ -28,7 +28,7 @@ not_store Full e = cc
 not_store Broken e = cc
 not_store Unstorable e = cc
 
--- a statement that was not run gives another error than that it found no row
+-- a statement that was not run fails with another error than that of a missing row
 not_run : (old new : State) (text : List ℕ) (params : Row) (e : Error) → e ≡ QueryReturnedNoRows → ¬ IsNotRun old new text params e
 unfolding IsNotRun
 not_run old new text params e is (inl (inl h, _)) = let other = sym is ∙ h.2 in absurd cc
@@ -37,7 +37,7 @@ not_run old new text params e is (inl (inr (c, known, inr (inl h)), _)) = let ot
 not_run old new text params e is (inl (inr (c, known, inr (inr h)), _)) = let other = sym is ∙ h.1 in absurd cc
 not_run old new text params e is (inr h) = not_store h.0 (sym h.1 ∙ is)
 
--- nor does a query that was stopped
+-- a query that was stopped fails with another error too
 not_refused : (q : Program) (names : List (List ℕ)) (limit : Option ℕ) (db : Database) (params : Row) (e : Error)
     → e ≡ QueryReturnedNoRows → ¬ RefusesToRead limit (Select q names) db params e
 not_refused q names limit db params e is (inl h) = let other = sym is ∙ h.0 in absurd cc
@@ -49,7 +49,7 @@ module _ {v : Version} (text : List ℕ) (q : Query) (names : List (List ℕ)) (
   abbrev program : Program
   program = record { lets = []; body = q }
 
-  -- the row that was given begins an answer, and nothing has changed
+  -- the row that was returned starts an answer, and nothing has changed
   pub first_row : (row : Row) → QueriesRow text params old new (Ok row)
       → IsUnchanged old new × ((tail : List Row) × IsAnswer q (overlay old.now.trees []) params (row ∷ tail))
   first_row row h =
@@ -57,7 +57,7 @@ module _ {v : Version} (text : List ℕ) (q : Query) (names : List (List ℕ)) (
       let got = (first_as text params old new (schema_of v) (has same.0.was_open) (Select program names) m.is m.plain m.unlisted row h).1 in
       (same, (got.0, got.1 Null))
 
-  -- the rows that were given are an answer, and nothing has changed
+  -- the rows that were returned are an answer, and nothing has changed
   pub whole_answer : (rows : List Row) → Shown text params old new rows
       → IsUnchanged old new × IsAnswer q (overlay old.now.trees []) params rows
   whole_answer rows h =

@@ -1,4 +1,4 @@
--- An edit of one table leaves all others as they are.
+-- An edit of one table leaves all other tables as they are. For the lemmas of each statement that writes.
 use Rattle.std.proofs.Common.{◌≡◌, ◌≢◌, ◌==◌, if◌then◌else◌, eqb-true, ℕ, List, Bool, true, false, IsTrue, refl, sym, ap, subst, ◌∙◌}
 use Rattle.std.proofs.lemmas.Bool.{eqb-false}
 use Rattle.sqlite.specs.Order.{Row}
@@ -14,7 +14,7 @@ use Rattle.desk_sql.proofs.Writing.{Edits}
 pub ready_of : (s : State) (t : Tables) → MayRun s t → IsTrue s.is_open → IsReady s
 ready_of s t may here = record { inside = may.inside; schema = (may.sees here).schema }
 
--- rows are shown alike where trees are the same
+-- trees that are the same show the same rows
 pub shows_same : (f g : Trees) (t : Tables) → f 0 ≡ g 0 → f 1 ≡ g 1 → f 3 ≡ g 3 → f 6 ≡ g 6 → f 8 ≡ g 8 → f 11 ≡ g 11 → f 13 ≡ g 13
     → f 14 ≡ g 14 → Shows g t → Shows f t
 shows_same f g t m s b j p a e k it = record {
@@ -35,7 +35,7 @@ module _ (old new : State) (edit : Edit) (it : Edits old new edit) where
   abbrev db : Trees
   db = old.now.trees
 
-  -- a tree of another table is as it was
+  -- each tree is as it was, except that of the edited table
   tree_is : (t : ℕ) (rows : List Row) → edited db edit ≡ rows → (t ≢ edit.table.tree → next t ≡ db t)
       → next t ≡ with_tree db edit.table.tree rows t
   tree_is t rows is other = go (t == edit.table.tree) refl
@@ -53,7 +53,7 @@ module _ (old new : State) (edit : Edit) (it : Edits old new edit) where
       (tree_is 11 rows is o.1.1.1.1.1.1.0) (tree_is 13 rows is o.1.1.1.1.1.1.1.0)
       (tree_is 14 rows is o.1.1.1.1.1.1.1.1.0)
 
-  -- of all tables the one that was edited has these rows
+  -- of all tables, just the edited one has these rows
   pub makes_at : (tree : ℕ) (rows : List Row) (after : Tables) → edit.table.tree ≡ tree → edited db edit ≡ rows
       → Shows (with_tree db tree rows) after → Makes old new after
   makes_at tree rows after at is shown = record {

@@ -1,4 +1,4 @@
--- The cells in their one order are the answer of their query. For `hand_stock`.
+-- The cells in their only order are the answer of their query. For `hand_stock`.
 use Rattle.std.proofs.Common.{◌≡◌, ℕ, pos, List, [], ◌∷◌, map, filter, true, false, is_lt, nat_cmp, Some, refl, ap, subst, ◌∙◌, arith}
 use Rattle.std.specs.Prelude.{string_bytes}
 use Rattle.std.specs.Ordering.{int_cmp}
@@ -21,7 +21,7 @@ use Rattle.desk_sql.specs.Meanings.{find_stock_query}
 use Rattle.desk_sql.specs.declared.stock.CellFound.{CellFound}
 use Rattle.desk_sql.proofs.Answering.{table_answers}
 
--- what the query makes of a cell
+-- the output of the query for a cell
 abbrev cell_out : StockRow → Output
 cell_out s = (whole s.kind ∷ Text s.supplier ∷ Text s.product ∷ whole s.night ∷ [], stock_shown s)
 
@@ -50,7 +50,7 @@ stock_answer db cells later table one rows a =
     }) in
     it.rows_are ∙ ap (map stock_shown) values
 
--- a cell that was read of a row is the one that the row shows
+-- the cell that was read of a row is the one that the row shows
 pub cell_back : (row : Row) (c : CellFound) (s : StockRow) → shows_cell c ≡ six_of row → row ≡ stock_shown s
     → Some (stock_of c) ≡ Some s
 cell_back row c s read is =

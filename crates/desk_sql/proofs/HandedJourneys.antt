@@ -1,4 +1,4 @@
--- The unfinished journeys are the one answer of their query. For `hand_unfinished`.
+-- The unfinished journeys are the only answer of their query. For `hand_unfinished`.
 use Rattle.std.proofs.Common.{◌≡◌, ℕ, ◌<◌, List, [], ◌∷◌, map, filter, Some, refl, sym, ap, ◌∙◌}
 use Rattle.std.specs.Prelude.{string_bytes}
 use Rattle.sqlite.specs.Order.{Row}
@@ -38,7 +38,7 @@ unfinished_answer after db journeys later table is rows a =
     let shown : rows ≡ map journey_shown it.values = it.rows_are in
     shown ∙ ap (map journey_shown) (values ∙ sym listed)
 
--- a journey that was read of a row is the one that the row shows
+-- the journey that was read of a row is the one that the row shows
 pub journey_back : (row : Row) (f : JourneyFound) (j : JourneyRow) → shows_journey f ≡ nine_of row → row ≡ journey_shown j
     → Some (journey_of f) ≡ Some j
 journey_back row f j read is =

@@ -1,4 +1,4 @@
--- A query that hands out its rows one at a time. For the functions of `handing`.
+-- A query whose rows are read one at a time. For the functions of `handing`.
 use Rattle.std.proofs.Common.{◌≡◌, inl, inr, ℕ, List, [], ◌∷◌, ◌++◌, map, Bool, true, false, Some, None, Option, Ok, Err, Result, IsTrue, refl, sym, ap, subst, ◌∙◌, append_assoc}
 use Rattle.sqlite.specs.Order.{Row}
 use Rattle.sqlite.specs.Query.{Query, IsAnswer}
@@ -22,7 +22,7 @@ use Rattle.desk_sql.proofs.Meaning.{MeansEach}
 use Rattle.desk_sql.proofs.Selecting.{understood_bare}
 use Rattle.desk_sql.proofs.Finding.{whole_answer}
 
--- what comes behind the same front is the same
+-- two lists with the same prefix have the same suffix
 same_rest : {X : Type 0} (front xs ys : List X) → front ++ xs ≡ front ++ ys → xs ≡ ys
 same_rest [] xs ys e = e
 same_rest {X} (x ∷ front) xs ys e = let both : x ∷ (front ++ xs) ≡ x ∷ (front ++ ys) = e in
@@ -33,13 +33,13 @@ nothing_behind [] xs e = sym e
 nothing_behind {X} (x ∷ front) xs e = let both : x ∷ front ≡ x ∷ (front ++ xs) = e in
     let rest : front ≡ front ++ xs = cc in nothing_behind front xs rest
 
--- no SELECT shows what it writes
+-- no SELECT returns rows that it writes
 never_returns : (r : Result Compiled CompileError) → ((c : Compiled) → r ≡ Ok c → c.returning ≡ None) → ¬ Returns r
 never_returns (Ok c) bare some = absurd (let none = rw (bare c refl) at some in cc)
 never_returns (Err e) bare some = some
 
 module _ {S : Type 0} (g : Ghosts S) (text : List ℕ) (q : Query) (names : List (List ℕ)) (m : MeansEach text q names) (params : Row) where
-  -- a connection that gave rows is open, and is as it is
+  -- a connection that returned rows is open, and is as it is
   itself : (h : Held S) (given : List Row) → HasGiven g text params h given → IsUnchanged (state g h) (state g h)
   unfolding HasGiven
   itself h given it = (
@@ -48,14 +48,14 @@ module _ {S : Type 0} (g : Ghosts S) (text : List ℕ) (q : Query) (names : List
     refl,
   )
 
-  -- a query with no WITH can always end
+  -- a query without WITH can always end
   ends : (v : Version) (h : Held S) → h.schema ≡ schema_of v → (c : Compiled) (db : Database) (it : IsStatement (state g h) text params c)
       → IsSourceOf (reads_listing h.schema text) (state g h).now db → EndsIn c.command db (timed params c.formats it.now)
   ends v h schema c db it source =
       let known : c.command ≡ select q names = ap command_of (sym it.is ∙ ap (λ s. understood s text) schema) ∙ (m v).is in
       subst (λ k. EndsIn k db (timed params c.formats it.now)) (sym known) tt
 
-  -- the rows that were given begin an answer
+  -- the rows that were returned start an answer
   begin_answer : (v : Version) (h : Held S) (given : List Row) → h.schema ≡ schema_of v → HasGiven g text params h given
       → (tail : List Row) × IsAnswer q (overlay (state g h).now.trees []) params (given ++ tail)
   begin_answer v h given schema it =
@@ -63,7 +63,7 @@ module _ {S : Type 0} (g : Ghosts S) (text : List ℕ) (q : Query) (names : List
       let got = begins_shown text params s s given (given_begin g text params h given it) (itself h given it) (ends v h schema) in
       (got.0, (whole_answer text q names (m v) params s s (λ _. schema) (given ++ got.0) got.1).1)
 
-  -- a query that has begun has its one answer to hand out
+  -- the rows that remain of a query that has started are its only answer
   pub starts : (v : Version) (old new : Held S) (later : List Row) → (IsTrue (state g old).is_open → old.schema ≡ schema_of v) → HasBegun g text params old new
       → (IsTrue (state g old).is_open → (rows : List Row) → IsAnswer q (overlay (state g old).now.trees []) params rows → rows ≡ later)
       → RunsOn g text q params new later
@@ -77,12 +77,12 @@ module _ {S : Type 0} (g : Ghosts S) (text : List ℕ) (q : Query) (names : List
       }
   starts v old new later schema (inr h) one = absurd (never_returns (understood old.schema text) (understood_bare text (m Two).selects old.schema) h.0)
 
-  -- and nothing has changed
+  -- the start of a query changes nothing
   pub begun_same : (old new : Held S) → HasBegun g text params old new → IsUnchanged (state g old) (state g new)
   begun_same old new (inl begun) = begun.1
   begun_same old new (inr h) = absurd (never_returns (understood old.schema text) (understood_bare text (m Two).selects old.schema) h.0)
 
-  -- one more row is the first of those to come
+  -- one more row is the first that remained
   steps : (old new : Held S) (later : List Row) (row : Row) → RunsOn g text q params old later → Advances g old new (Some row)
       → IsUnchanged (state g old) (state g new) → (more : List Row) × (later ≡ row ∷ more) × RunsOn g text q params new more
   steps old new later row runs advances same =
@@ -107,14 +107,14 @@ module _ {S : Type 0} (g : Ghosts S) (text : List ℕ) (q : Query) (names : List
         },
       )
 
-  -- where the answer ends no row is to come
+  -- if the answer ends, no row remained
   stops : (old new : Held S) (later : List Row) → RunsOn g text q params old later → Advances g old new None → later ≡ []
   stops old new later runs advances =
       let shown = advances text params runs.given runs.gave in
       let answer = (whole_answer text q names (m runs.version) params (state g old) (state g new) (λ _. runs.schema) runs.given shown).1 in
       nothing_behind runs.given later (runs.whole runs.given answer)
 
--- a row stands there, or none does
+-- the query has a current row, or none
 stands_at : {S : Type 0} (h : Held S) (has : Bool) (row : Row) → row_if has h ≡ Some row → has ≡ true
 stands_at h true row e = refl
 stands_at h false row e = absurd (cc)
@@ -131,7 +131,7 @@ module _ {S X : Type 0} (g : Ghosts S) (text : List ℕ) (q : Query) (names : Li
   abbrev After : List X → Type 0
   After later = Rests g text q new (map shows later)
 
-  -- the row at which the query stands is the first of those to come
+  -- the current row of the query is the first that remained
   pub hands_row : (row : Row) (found : Option X) → row_if has new ≡ Some row → IsUnchanged (state g old) (state g new)
       → (IsEnded old → has ≡ false) → ((x : X) → row ≡ shows x → found ≡ Some x) → Hands Before After found
   hands_row row found stands same ended back later (inr over) =
@@ -148,7 +148,7 @@ module _ {S X : Type 0} (g : Ghosts S) (text : List ℕ) (q : Query) (names : Li
           let others : more ≡ map shows later = cc in
           (back x first, inl (runs.0, subst (RunsOn g text q runs.0 new) others rest))
 
-  -- where it stands at none, none was to come
+  -- if the query has no current row, none remained
   pub hands_none : row_if has new ≡ None → (has ≡ false → IsEnded new) → Hands Before After None
   hands_none none over later rests = go later (empty rests)
     where

@@ -1,4 +1,4 @@
--- The statements that add a row.
+-- The statements that insert a row. For the functions that write.
 use Rattle.std.proofs.Common.{◌≡◌, ◌<◌, ℕ, ℤ, [], ◌∷◌, ◌++◌, Bool, true, false, cond, Ok, Err, Result, OnOk, refl}
 use Rattle.std.specs.List.{AllByRecursion}
 use Rattle.sqlite.specs.declared.types.Value.TheVariants.{Int, Text, Blob}
@@ -42,7 +42,7 @@ journey_put : (db : Trees) (j : JourneyRow)
     → edited db (source_edit (journey_at 6) insert_journey_terms 10 (journey_params j) db) ≡ put_row (journey_row j) (db 6)
 journey_put db j = simp (cast_int, cast_null)
 
--- the journey goes to the end, since its number is above all others
+-- the journey is appended, since its number is above all others
 pub inserts_journey : (old new : State) (t : Tables) (j : JourneyRow) (r : Result ℕ Error)
     → AllByRecursion (λ (k : JourneyRow). k.id < j.id) t.journey → MayRun old t
     → ExecutesInside 0 insert_journey_text (journey_params j) old new r → OnOk r (Makes old new (adds_journey j t))
@@ -71,7 +71,7 @@ step_put : (db : Trees) (s : StepRow) → edited db (source_edit (step_at 8) ins
     ≡ put_row (numbered_row step_columns (next_rowid (db 8), untouched s)) (db 8)
 step_put db s = simp (cast_int, cast_null)
 
--- the option goes to the end, since its rowid is the next
+-- the option is appended, since its rowid is the next
 pub inserts_step : (old new : State) (t : Tables) (s : StepRow) (r : Result ℕ Error) → MayRun old t
     → ExecutesInside 0 insert_step_text (step_params s) old new r → OnOk r (Makes old new (adds_step (record s { taken = 0 }) t))
 inserts_step old new t s (Err e) may ran = tt
@@ -92,7 +92,7 @@ answer_put : (db : Trees) (a : AnswerRow) → edited db (source_edit (answer_at 
     ≡ put_row (numbered_row answer_columns (next_rowid (db 11), a)) (db 11)
 answer_put db a = simp (cast_int, cast_null)
 
--- the reply goes to the end, since its rowid is the next
+-- the reply is appended, since its rowid is the next
 pub inserts_answer : (old new : State) (t : Tables) (a : AnswerRow) (r : Result ℕ Error) → MayRun old t
     → ExecutesInside 0 insert_answer_text (answer_params a) old new r → OnOk r (Makes old new (adds_answer a t))
 inserts_answer old new t a (Err e) may ran = tt
@@ -113,7 +113,7 @@ item_put : (db : Trees) (journey : ℕ) (i : ItemFound)
     → edited db (source_edit (entry2_at 13) insert_item_terms 6 (item_params journey i) db) ≡ put_row (entry_row (item_of journey i)) (db 13)
 item_put db journey i = simp (cast_int, cast_null)
 
--- the item goes to the end, since its number is above all others
+-- the item is appended, since its number is above all others
 pub inserts_item : (old new : State) (t : Tables) (journey : ℕ) (i : ItemFound) (r : Result ℕ Error)
     → AllByRecursion (λ (e : EntryRow). e.num < i.num) t.entries → MayRun old t
     → ExecutesInside 0 insert_item_text (item_params journey i) old new r → OnOk r (Makes old new (adds_item journey i t))
@@ -137,7 +137,7 @@ batch_put : (db : Trees) (b : BatchRow) → edited db (source_edit (batch_at 3) 
     ≡ put_row (numbered_row batch_columns (next_rowid (db 3), b)) (db 3)
 batch_put db b = simp (cast_int, cast_null)
 
--- the batch goes to the end, since its rowid is the next
+-- the batch is appended, since its rowid is the next
 pub inserts_batch : (old new : State) (t : Tables) (b : BatchRow) (r : Result ℕ Error) → MayRun old t
     → ExecutesInside 0 insert_batch_text (batch_params b) old new r → OnOk r (Makes old new (adds_batch b t))
 inserts_batch old new t b (Err e) may ran = tt
@@ -158,7 +158,7 @@ mark_put : (db : Trees) (journey at : ℕ) → edited db (source_edit (mark_at 1
     ≡ put_row (numbered_row mark_columns (next_rowid (db 14), mark_at_pos journey at)) (db 14)
 mark_put db journey at = simp (cast_int, cast_null)
 
--- the save-point goes to the end, since its rowid is the next
+-- the save-point is appended, since its rowid is the next
 pub inserts_mark : (old new : State) (t : Tables) (journey at : ℕ) (r : Result ℕ Error) → MayRun old t
     → ExecutesInside 0 insert_mark_text (mark_params journey at) old new r → OnOk r (Makes old new (adds_mark journey at t))
 inserts_mark old new t journey at (Err e) may ran = tt

@@ -1,4 +1,4 @@
--- The queries on journeys.
+-- The queries on journeys. For `find_journey` and `first_unfinished`.
 use Rattle.std.proofs.Common.{◌≡◌, inl, inr, ℕ, ◌≤◌, List, [], ◌∷◌, filter, Some, None, IsTrue, refl, sym, ap, subst, ◌∙◌, arith}
 use Rattle.std.specs.Prelude.{string_bytes}
 use Rattle.sqlite.specs.declared.types.Value.TheVariants.{Text}
@@ -29,7 +29,7 @@ shown j =
     whole j.id ∷ whole j.num ∷ Text j.agent ∷ whole j.steps ∷ whole j.tries ∷ whole j.cursor.pos ∷ whole j.cursor.phase
     ∷ whole j.cursor.target ∷ whole j.cursor.used ∷ []
 
--- what was read of a journey's row is that journey
+-- the journey that was read of a row is that of the row
 same_journey : (f : JourneyFound) (j : JourneyRow) → shows_journey f ≡ shown j → journey_of f ≡ j
 same_journey f j e =
     let id : f.id ≡ j.id = cc in

@@ -1,4 +1,4 @@
--- What is kept under an agent's key.
+-- The reply that is kept under an agent's key. For `find_answer`.
 use Rattle.std.proofs.Common.{◌≡◌, ℕ, ℤ, List, [], ◌∷◌, filter, true, Some, None, IsTrue, refl, sym, ap, subst, ◌∙◌}
 use Rattle.std.specs.Prelude.{string_bytes}
 use Rattle.std.proofs.lemmas.Bool.{and_parts}
@@ -41,7 +41,7 @@ found_as s t agent mark rows sees here a =
     table_answers 11 find_answer_query.filter find_answer_query.project [] s.now.trees (answer_key agent mark) rows a refl
     answer_columns t.answer (sees here).rows.answer out (λ _. refl) (is_for agent mark) (answer_test agent mark)
 
--- what was read of a row that passes is that row
+-- the reply that was read of a row that passes is that of the row
 same_answer : (agent mark : List ℕ) (k : KeptAnswer) (a : AnswerRow) → is_for agent mark a ≡ true
     → shows_answer k ≡ Blob a.ask ∷ Text a.reply ∷ [] → answer_of agent mark k ≡ a
 same_answer agent mark k a is shown =

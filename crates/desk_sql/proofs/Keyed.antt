@@ -1,4 +1,4 @@
--- Tables as lists of values, each with its rowid, which rise.
+-- Tables as lists of values, each with its rowid, in ascending order of rowid. For Tables and Updating.
 use Rattle.std.proofs.Common.{◌≡◌, ◌+ℤ◌, ◌<ℤ◌, ℤ, pos, fold, List, [], ◌∷◌, ◌++◌, map, filter, cond, Bool, true, false, if◌then◌else◌, Less, refl, sym, ap, ap₂, ◌∙◌, arith, inl, inr}
 use Rattle.std.proofs.lemmas.Int.{ints}
 use Rattle.std.proofs.lemmas.Bool.{cases_Bool}
@@ -29,12 +29,12 @@ module _ {X : Type 0} (f : X → Row) (id : X → ℤ) (keyed : (x : X) → rowi
   rows_above x [] above = tt
   rows_above x (y ∷ xs) above = (rw (keyed x, keyed y) (int_below (id x) (id y) above.0), rows_above x xs above.1)
 
-  -- rows of values whose rowids rise are a table
+  -- the rows of values whose rowids ascend are a table
   pub is_table : (xs : List X) → Rises xs → IsTable (map f xs)
   is_table [] rise = tt
   is_table (x ∷ xs) rise = (rows_above x xs rise.0, is_table xs rise.1)
 
-  -- a row whose rowid is above all others goes to the end
+  -- a row whose rowid is above all others is appended
   pub put_last : (xs : List X) (x : X) → AreBelow (id x) xs → put_row (f x) (map f xs) ≡ map f (xs ++ x ∷ [])
   put_last [] x below = refl
   put_last (y ∷ xs) x below =
@@ -66,11 +66,11 @@ module _ {X : Type 0} (f : X → Row) (id : X → ℤ) (keyed : (x : X) → rowi
       let next = id_in (rowid (f x)) +ℤ pos 1 in
       (stays_below (id x) next xs rise.0 (omega (arith, ints, own)), all_below next xs rise.1)
 
-  -- the next rowid is above all
+  -- the next rowid is above all others
   pub next_above : (xs : List X) → Rises xs → AreBelow (next_rowid (map f xs)) xs
   next_above xs rise = all_below (pos 1) xs rise
 
-  -- a test on rows is one on values
+  -- a test of rows is a test of values
   pub filter_rows : (p : Row → Bool) (q : X → Bool) → ((x : X) → p (f x) ≡ q x) → (xs : List X)
       → filter p (map f xs) ≡ map f (filter q xs)
   filter_rows p q tests [] = refl
@@ -81,7 +81,7 @@ module _ {X : Type 0} (f : X → Row) (id : X → ℤ) (keyed : (x : X) → rowi
       one rest true = ap (λ rows. f x ∷ rows) rest
       one rest false = rest
 
-  -- a change of rows is one of values
+  -- a change of rows is a change of values
   pub changed_rows : (p : Row → Bool) (q : X → Bool) (g : Row → Row) (h : X → X) → ((x : X) → p (f x) ≡ q x)
       → (xs : List X) → ((x : X) → Has xs x → q x ≡ true → g (f x) ≡ f (h x))
       → changed p g (map f xs) ≡ map f (changed q h xs)
@@ -93,7 +93,7 @@ module _ {X : Type 0} (f : X → Row) (id : X → ℤ) (keyed : (x : X) → rowi
       one true is = is refl
       one false is = refl
 
-  -- a change that keeps rowids keeps them rising
+  -- a change that keeps rowids keeps their order
   pub changed_rises : (q : X → Bool) (h : X → X) → ((x : X) → id (h x) ≡ id x) → (xs : List X) → Rises xs
       → Rises (changed q h xs)
   changed_rises q h same [] rise = tt

@@ -1,4 +1,4 @@
--- The queries that list what belongs to a journey.
+-- The queries for the rows of a journey. For `find_items`, `find_marks`, `find_steps` and `find_options`.
 use Rattle.std.proofs.Common.{◌≡◌, ◌⊎◌, inl, inr, ℕ, ℤ, ◌<◌, ◌≤◌, ◌==◌, eqb-true, List, [], ◌∷◌, map, filter, false, Equal, is_lt, refl, ◌∙◌}
 use Rattle.std.specs.Prelude.{string_bytes, nat_lt}
 use Rattle.std.proofs.lemmas.Bool.{and_parts}

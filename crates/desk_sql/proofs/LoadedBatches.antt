@@ -1,4 +1,4 @@
--- The batch with a name.
+-- The batch with a name. For `find_batch`.
 use Rattle.std.proofs.Common.{◌≡◌, ℕ, ℤ, List, [], ◌∷◌, filter, true, Some, None, IsTrue, refl, sym, ap, subst, ◌∙◌}
 use Rattle.std.proofs.lemmas.Slice.Eq.{bytes_eq-Decides}
 use Rattle.sqlite.specs.declared.types.Value.TheVariants.{Text, Blob}
@@ -28,7 +28,7 @@ out b = ([], whole b.num ∷ Blob b.content ∷ [])
 name_test : (name : List ℕ) (p : ℤ × BatchRow) → passes find_batch_query.filter (Text name ∷ []) (numbered_row batch_columns p) ≡ is_named name p.1
 name_test name p = and_true _ ∙ eq_text p.1.name name
 
--- what was read of a row that passes is that row
+-- the batch that was read of a row that passes is that of the row
 same_batch : (name : List ℕ) (f : BatchFound) (b : BatchRow) → is_named name b ≡ true → shows_batch f ≡ (out b).1 → batch_of name f ≡ b
 same_batch name f b is e =
     let name_is : b.name ≡ name = (bytes_eq-Decides _ _).0 is in

@@ -1,4 +1,4 @@
--- What the texts that make the tables mean, one after another.
+-- The meaning of each text that creates a table, in order. For `make_tables` and its parts.
 use Rattle.std.proofs.Common.{◌≡◌, ℕ, List, [], refl, Result, OnOk, ◌∙◌}
 use Rattle.sqlite_schema.specs.declared.schema.Schema.{Schema}
 use Rattle.sqlite.specs.Change.{created}
@@ -81,7 +81,7 @@ pub makes_mark : (old new : State) (r : Result ℕ Error) → MayBuild schema_8 
 unfolding understood everything
 makes_mark old new r = creates mark_text old new schema_8 (mark_at 0) r refl (refl, refl) refl refl refl
 
--- what one text made another may build on
+-- a text may build on what the text before it created
 pub then_build : (a b : State) (s : Schema) → Builds a b s → MayBuild s b
 then_build a b s it = record { inside = it.inside; empty = λ _. it.made }
 
@@ -102,7 +102,7 @@ no_rows_of columns rows none = record { numbered = []; values_are = refl; rows_a
 no_values_of : {X : Type 0} (number : X → ℕ) (row_of : X → Row) (rows : List Row) → rows ≡ [] → IsNumbered number row_of rows []
 no_values_of number row_of rows none = record { rows_are = none; rise = tt }
 
--- empty tables show no rows
+-- tables without rows show no rows
 pub sees_none : (s : State) → IsEmptyWith desk_schema s → IsDatabase s.now → Sees s no_rows
 sees_none s it sound =
     let e = it.empty in

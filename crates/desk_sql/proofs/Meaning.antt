@@ -1,4 +1,4 @@
--- Each text means under the desk's schema what Meanings says of it.
+-- Each text has under the desk's schema the meaning that Meanings gives it. For the lemmas of each statement.
 use Rattle.std.proofs.Common.{◌≡◌, ℕ, List, false, refl}
 use Rattle.sqlite.specs.Command.{Command}
 use Rattle.sqlite.specs.Command.TheVariants.{Insert}
@@ -27,7 +27,7 @@ pub record MeansIn (v : Version) (text : List ℕ) (query : Query) (names : List
   pub unlisted : reads_listing (schema_of v) text ≡ false
   pub selects : IsSelect text
 
--- the same of the newest version, and of each
+-- the same, for the newest version, and for each version
 abbrev pub MeansQuery : List ℕ → Query → List (List ℕ) → Type 0
 MeansQuery text query names = MeansIn Two text query names
 

@@ -1,4 +1,4 @@
--- Lists with the same elements.
+-- Lists with the same elements. For the lemmas on lists.
 use Rattle.std.proofs.Common.{inl, inr, ℕ, zero, suc, ◌<◌, List, [], ◌∷◌, length, All, get_or, refl, sym, subst, arith}
 use Rattle.std.specs.List.Sorted.{IsPermutation}
 use Rattle.std.proofs.lemmas.List.Sorted.{All-permutation, IsPermutation-sym}
@@ -14,7 +14,7 @@ each_has P [] x all h = absurd h
 each_has P (y ∷ xs) x all (inl same) = subst P (sym same) (all 0 y (omega arith))
 each_has P (y ∷ xs) x all (inr later) = each_has P xs x (λ i d low. all (suc i) d (omega arith)) later
 
--- a permutation has no other elements
+-- a permutation has no further elements
 pub permutation_from : {X : Type 0} (xs ys : List X) (x : X) → IsPermutation xs ys → Has ys x → Has xs x
 permutation_from xs ys x same h = each_has (Has xs) ys x (All-permutation (Has xs) xs ys same (λ i d low. has_at xs i d low)) h
 

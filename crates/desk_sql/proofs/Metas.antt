@@ -1,4 +1,4 @@
--- The statements on meta.
+-- The statements on meta. For the functions of `meta`.
 use Rattle.std.proofs.Common.{◌≡◌, ◌<◌, inl, inr, ℕ, pos, List, [], ◌∷◌, ◌++◌, map, filter, true, Some, arith, Ok, Err, Result, OnOk, refl, sym, ap, subst, ◌∙◌}
 use Rattle.sqlite.specs.declared.error.Error.{Error}
 use Rattle.sqlite.specs.Ops.{binary}
@@ -70,7 +70,7 @@ updates_meta old new t m (Ok count) may ran =
 abbrev out : MetaRow → Output
 out m = ([], whole m.version ∷ whole m.events ∷ whole m.journeys ∷ [])
 
--- at most one value has the rowid 1
+-- at most one value has rowid 1
 one_at_most : (m : MetaRow) (ms : List MetaRow) → IsAscending (λ (x y : MetaRow). 1 < 1) (m ∷ ms) → m ∷ ms ≡ m ∷ []
 one_at_most m [] rise = refl
 one_at_most m (n ∷ ms) rise = absurd (let low = rise.0.0 in omega (arith, low))

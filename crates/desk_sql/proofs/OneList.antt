@@ -1,4 +1,4 @@
--- Of the orders of a list whose numbers differ one alone rises.
+-- A list whose numbers differ has just one ascending order. For Listings and HandedJourneys.
 use Rattle.std.proofs.Common.{◌≡◌, ◌≢◌, inl, inr, ℕ, ◌<◌, ◌≤◌, ◌==◌, List, [], ◌∷◌, if◌then◌else◌, eq-eqb, eqb-true, refl, sym, ap, ap₂, subst, ◌∙◌, arith}
 use Rattle.std.specs.Prelude.{sum_by}
 use Rattle.std.proofs.lemmas.Bool.{cases_Bool, eqb-false}
@@ -16,7 +16,7 @@ module _ {X : Type 0} (key : X → ℕ) where
   abbrev Rises : List X → Type 0
   Rises xs = IsAscending (λ a b. key a < key b) xs
 
-  -- two rising lists with the same elements are one
+  -- two ascending lists with the same elements are equal
   one_rising : (xs ys : List X) → Rises xs → Rises ys → ((x : X) → Has xs x → Has ys x) → ((x : X) → Has ys x → Has xs x) → xs ≡ ys
   one_rising [] [] p q a b = refl
   one_rising [] (y ∷ ys) p q a b = absurd (b y (inl refl))
@@ -50,7 +50,7 @@ module _ {X : Type 0} (key : X → ℕ) where
         let rest = none_of n xs all.1 in omega arith)
   ]
 
-  -- where numbers differ, each comes once at most
+  -- if numbers differ, each occurs at most once
   once : (n : ℕ) (xs : List X) → IsAscending (λ a b. key a ≢ key b) xs → sum_by (only n) xs ≤ 1
   unfolding only
   once n [] apart = omega arith
@@ -75,7 +75,7 @@ module _ {X : Type 0} (key : X → ℕ) where
   counted (y ∷ xs) x (inr later) =
       let one = sum_by-cons (only (key x)) y xs in let rest = counted xs x later in omega arith
 
-  -- a list that does not fall, and has each number once at most, rises
+  -- a list that does not descend, and has each number at most once, ascends
   strict : (ys : List X) → IsAscending (λ a b. key a ≤ key b) ys → ((n : ℕ) → sum_by (only n) ys ≤ 1) → Rises ys
   unfolding only
   strict [] up few = tt
@@ -92,7 +92,7 @@ module _ {X : Type 0} (key : X → ℕ) where
     strict ys up.1 (λ n. let one = sum_by-cons (only n) y ys in let all = few n in omega arith),
   )
 
-  -- a rising list is the only order of its elements that does not fall
+  -- an ascending list is the only order of its elements that does not descend
   pub one_list : (xs ys : List X) → Rises xs → IsPermutation xs ys → IsAscending (λ a b. key a ≤ key b) ys → ys ≡ xs
   one_list xs ys rise same up =
       let apart = ascending_weaker (λ (a b : X). key a < key b) (λ (a b : X). key a ≢ key b) (λ a b low e. omega (arith, low, e)) xs rise in

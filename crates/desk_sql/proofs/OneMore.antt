@@ -1,4 +1,4 @@
--- One row more was read.
+-- One more row was read. For the loops that read rows.
 use Rattle.std.proofs.Common.{◌≡◌, ◌+◌, ◌<◌, ℕ, List, [], ◌∷◌, ◌++◌, map, length, get_or, take, refl, sym, ap, ◌∙◌}
 use Rattle.std.proofs.lemmas.List.{take_more}
 
@@ -6,7 +6,7 @@ map-last : {A B : Type 0} (f : A → B) (xs : List A) (x : A) → map f (xs ++ x
 map-last f [] x = refl
 map-last f (y ∷ xs) x = ap (λ rest. f y ∷ rest) (map-last f xs x)
 
--- what was read so far, and one row more
+-- the values that were read so far, and one more
 pub one_more : {V R C : Type 0} (show : V → C) (read : R → C) (found : List V) (rows : List R) (i : ℕ) (v : V) (row : R)
     → i < length rows → row ≡ get_or rows i row → map show found ≡ map read (take i rows) → show v ≡ read row
     → map show (found ++ v ∷ []) ≡ map read (take (i + 1) rows)

@@ -1,4 +1,4 @@
--- What ORDER BY says of columns that are numbers or texts.
+-- The order that ORDER BY gives to columns of numbers or texts. For the lemmas of each query.
 use Rattle.std.proofs.Common.{◌≡◌, ◌⊎◌, inl, inr, ℕ, ◌<◌, ◌≤◌, pos, false, Ordering, Less, Equal, Greater, is_lt, refl, arith}
 use Rattle.std.specs.Ordering.{ordering_then, int_cmp}
 use Rattle.std.proofs.lemmas.Int.{ints}
@@ -16,7 +16,7 @@ number_then a b rest e = go (int_cmp (pos b) (pos a)) refl e
     go Equal f g = inr (grind (arith, ints, nat_tests, f), g)
     go Greater f g = inl (grind (arith, ints, nat_tests, f))
 
--- first by a number, then by the rest
+-- first by a number, then by the other columns
 pub whole_then : (a b : ℕ) (rest : Ordering) → is_lt (ordering_then (value_cmp (whole b) (whole a)) rest) ≡ false
     → (a < b) ⊎ ((a ≡ b) × (is_lt rest ≡ false))
 whole_then a b rest e = number_then a b rest (rw (value_cmp-Int (pos b) (pos a)) at e)

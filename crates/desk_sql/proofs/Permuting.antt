@@ -1,4 +1,4 @@
--- A list in another order, as values.
+-- A permutation of images is a permutation of values. For Answering.
 use Rattle.std.proofs.Common.{◌≡◌, ◌<◌, ℕ, List, [], ◌∷◌, map, length, get_or, refl, sym, ap, ◌∙◌, arith}
 use Rattle.std.specs.Prelude.{swap}
 use Rattle.std.specs.List.Sorted.{IsPermutation}
@@ -9,7 +9,7 @@ use lib.ListN.{set, get_or-map}
 use lib.Seq.{map-set}
 
 module _ {X Y : Type 0} (f : X → Y) where
-  -- an exchange among images is one among values
+  -- a swap of images is a swap of values
   map-swap : (l : List X) (i j : ℕ) → i < length l → j < length l → map f (swap l i j) ≡ swap (map f l) i j
   map-swap [] i j p q = absurd (omega arith)
   map-swap (d ∷ more) i j p q =
@@ -19,7 +19,7 @@ module _ {X Y : Type 0} (f : X → Y) where
       ∙ (λ t. set ((map-set f l i (get_or l j d) ∙ ap (set (map f l) i) (sym (get_or-map f l j d))) t) j (sym (get_or-map f l i d) t))
       ∙ swap_is (map f l) i j (f d) (omega arith) (omega arith)
 
-  -- images in another order are those of the values in another order
+  -- a permutation of images is that of a permutation of the values
   pub permuted : (xs : List X) (ys : List Y) → IsPermutation (map f xs) ys → (zs : List X) × (ys ≡ map f zs) × IsPermutation xs zs
   permuted xs ys same =
       IsPermutation-keeps (map f xs) (λ l. (zs : List X) × (l ≡ map f zs) × IsPermutation xs zs) (xs, refl, IsPermutation-refl xs)

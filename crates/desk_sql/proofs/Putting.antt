@@ -1,4 +1,4 @@
--- The upsert of a cell.
+-- The upsert of a cell. For `put_cell`.
 use Rattle.std.proofs.Common.{◌≡◌, inl, inr, ℕ, ℤ, eq-eqb, eqb-true, List, [], ◌∷◌, ◌++◌, map, Bool, true, false, if◌then◌else◌, Some, Ok, Err, Result, OnOk, is_eq, refl, sym, ap, ap₂, subst, ◌∙◌, arith}
 use Rattle.std.specs.Prelude.{bytes_eq}
 use Rattle.std.specs.List.{list_any}
@@ -76,7 +76,7 @@ cell_of a b k =
     and_from _ _ (eq-eqb _ _ k.kind) (and_from _ _ ((bytes_eq-Decides _ _).1 k.supplier)
     (and_from _ _ ((bytes_eq-Decides _ _).1 k.product) (eq-eqb _ _ k.night)))
 
--- two rows of a third one's cell are of one cell
+-- two rows of the cell of a third row are of one cell
 both_cells : (s a b : StockRow) → is_cell s a ≡ true → is_cell s b ≡ true → is_cell a b ≡ true
 both_cells s a b e f =
     let k = key_of s a e in
@@ -88,9 +88,9 @@ both_cells s a b e f =
       night = l.night ∙ sym k.night;
     })
 
--- Rows apart.
+-- Rows that are apart.
 
--- where of two elements of a list the first is never apart from the second, they are one
+-- two elements of a list that are apart in neither order are equal
 one_element : {X : Type 0} (R : X → X → Type 0) (xs : List X) (x y : X) → IsAscending R xs → Has xs x → Has xs y → ¬ R x y → ¬ R y x → x ≡ y
 one_element R [] x y up h g not_xy not_yx = absurd h
 one_element R (z ∷ xs) x y up (inl e) (inl f) not_xy not_yx = e ∙ sym f
@@ -112,7 +112,7 @@ has_none s (c ∷ cells) none = rw (none c (inl refl)) (has_none s cells (λ x h
 abbrev pub put_params : StockRow → Row
 put_params s = whole s.kind ∷ Text s.supplier ∷ Text s.product ∷ whole s.night ∷ whole s.allot ∷ whole s.free ∷ []
 
--- a row conflicts where it is the cell's
+-- a row conflicts if it is the cell's
 conflict_is : (id : ℤ) (s : StockRow) (p : ℤ × StockRow)
     → conflicts (Some target) desk_schema.indexes (stock_at 1) (numbered_row stock_columns (id, s)) (numbered_row stock_columns p) ≡ is_cell s p.1
 conflict_is id s p = rw first_key-plain (simp (eq_whole, eq_text) (simp (and_true, or_false)))
@@ -146,7 +146,7 @@ module _ (db : Trees) (cells : List StockRow) (it : IsTableOf stock_columns (db 
 
   module _ (apart : IsAscending (λ (a b : StockRow). is_cell a b ≡ false) cells) (q : ℤ × StockRow) (there : Has it.numbered q)
       (here : is_cell s q.1 ≡ true) where
-    -- the row of the cell is the one under this rowid
+    -- the row of the cell is the one with this rowid
     one_row : (p : ℤ × StockRow) → Has it.numbered p → is_eq (int_cmp p.0 q.0) ≡ is_cell s p.1
     one_row p h = elim (cases_Bool (is_cell s p.1)) [
       | inl e ↦ (
@@ -174,7 +174,7 @@ module _ (db : Trees) (cells : List StockRow) (it : IsTableOf stock_columns (db 
         replaced_values stock_columns (db 1) _ cells (is_cell s) (with_places s) it
         (all ∙ ap (map (numbered_row stock_columns)) (same_changed test (λ p. is_cell s p.1) change it.numbered one_row))
 
--- what the upsert makes of the cells
+-- the cells after the upsert
 puts_table : (db : Trees) (cells : List StockRow) (s : StockRow) (edit : Edit) → IsTableOf stock_columns (db 1) cells
     → IsAscending (λ (a b : StockRow). is_cell a b ≡ false) cells
     → IsPut db (put_params s) put_cell_query (numbered_row stock_columns (next_rowid (db 1), s)) edit

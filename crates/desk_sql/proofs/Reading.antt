@@ -1,4 +1,4 @@
--- What a query over one table answers.
+-- The answer of a query over one table. For Answering and Updating.
 use Rattle.std.proofs.Common.{◌≡◌, ℕ, List, [], ◌∷◌, ◌++◌, map, Bool, true, false, cond, refl, sym, ap, subst, ◌∙◌}
 use Rattle.std.specs.List.{flat_map, filter, list_all}
 use Rattle.std.specs.List.Sorted.{IsPermutation, IsSorted}
@@ -37,7 +37,7 @@ map_shown : (q : Query) (params : Row) (rows : List Row) → map (λ (o : Output
 map_shown q params [] = refl
 map_shown q params (r ∷ rows) = ap (λ more. shown_of q.project params r ∷ more) (map_shown q params rows)
 
--- what the query shows of the rows that pass, in an order that ORDER BY allows
+-- the rows that the query shows of those that pass, in an order that ORDER BY allows
 pub record Lists (q : Query) (params : Row) (found : List Row) (rows : List Row) : Type 0 where
   pub ordered : List Output
   pub same : IsPermutation (outputs_of q params found) ordered

@@ -1,4 +1,4 @@
--- What an UPDATE or a DELETE makes of the rows of a table.
+-- The rows of a table after an UPDATE or a DELETE. For Updating.
 use Rattle.std.proofs.Common.{◌≡◌, inl, inr, ℤ, List, [], ◌∷◌, map, Bool, true, false, not, if◌then◌else◌, filter, Less, is_eq, refl, sym, ap, ap₂, subst, ◌∙◌}
 use Rattle.std.specs.List.{AllByRecursion}
 use Rattle.std.specs.List.Sorted.{IsPermutation}
@@ -24,7 +24,7 @@ use Rattle.desk_sql.proofs.Members.{permutation_from, permutation_to}
 never_both : (a b : Row) → value_cmp (rowid a) (rowid b) ≡ Less → value_cmp (rowid b) (rowid a) ≡ Less → ⊥
 never_both a b p q = let e = value_cmp_total.antisymm (rowid a) (rowid b) ∙ ap ordering_reverse q in cc
 
--- two tables with the same rows are one
+-- two tables with the same rows are equal
 same_rows : (xs ys : List Row) → IsTable xs → IsTable ys → ((r : Row) → Has xs r → Has ys r) → ((r : Row) → Has ys r → Has xs r) → xs ≡ ys
 same_rows [] [] p q a b = refl
 same_rows [] (y ∷ ys) p q a b = absurd (b y (inl refl))
@@ -51,7 +51,7 @@ without_all_table : (ids : List ℤ) (rows : List Row) → IsTable rows → IsTa
 without_all_table [] rows up = up
 without_all_table (id ∷ ids) rows up = without_all_table ids (without_rowid id rows) (ascending-filter _ _ rows up)
 
--- what is left has none of the rowids
+-- the rows that are left have none of the rowids
 left_lacks : (ids : List ℤ) (rows : List Row) (x : Row) (id : ℤ) → Has (without_all rows ids) x → Has ids id → has_rowid id x ≡ true → ⊥
 left_lacks [] rows x id left none here = none
 left_lacks (i ∷ ids) rows x id left (inl same) here =
@@ -75,7 +75,7 @@ not_false : (b : Bool) → not b ≡ true → b ≡ false
 not_false true e = absurd (cc)
 not_false false e = refl
 
--- the rows that a query answers, each of which shows its rowid first, are taken out
+-- the rows that a query answers, each of which shows its rowid first, are deleted
 module _ (rows : List Row) (p : Row → Bool) (shows : Row → Row) (answer : List Row) (up : IsTable rows)
     (id_shown : (r : Row) → Has rows r → p r ≡ true → rowid r ≡ Int (id_in (rowid (shows r))))
     (same : IsPermutation (map shows (filter p rows)) answer) where
@@ -97,14 +97,14 @@ module _ (rows : List Row) (p : Row → Bool) (shows : Row → Row) (answer : Li
   named : (r : Row) → Has rows r → p r ≡ true → has_rowid (id_in (rowid (shows r))) r ≡ true
   named r h passes = rw (id_shown r h passes) (ap is_eq (tied_itself value_cmp_total (Int (id_in (rowid (shows r))))))
 
-  -- what is left does not pass
+  -- the rows that are left do not pass
   left_fails : (x : Row) → Has left x → p x ≡ false
   left_fails x old =
       let was = without_all_has ids rows x old in
       false_from_ne_true (p x) (λ e.
       left_lacks ids rows x (id_in (rowid (shows x))) old (mapped_has (λ r. id_in (rowid r)) answer (shows x) (answers x was e)) (named x was e))
 
-  -- what does not pass is left
+  -- the rows that do not pass are left
   fails_left : (x : Row) → Has rows x → p x ≡ false → Has left x
   fails_left x h e = elim (left_or_taken rows ids x up h) [
     | inl stays ↦ stays
@@ -123,7 +123,7 @@ module _ (rows : List Row) (p : Row → Bool) (shows : Row → Row) (answer : Li
       (λ x h. has_kept (λ r. not (p r)) rows x (without_all_has ids rows x h) (rw (left_fails x h) refl))
       (λ x h. let k = has_filtered (λ r. not (p r)) rows x h in fails_left x k.0 (not_false (p x) k.1))
 
-  -- and what each shows goes in under its rowid
+  -- the rows that the query shows are inserted under their rowids
   module _ (write : Row → Row) (id_kept : (r : Row) → Has rows r → p r ≡ true → rowid (write (shows r)) ≡ rowid r) where
     abbrev gives : Row → Row
     gives r = write (shows r)

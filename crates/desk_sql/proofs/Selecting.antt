@@ -1,4 +1,4 @@
--- A SELECT commits nothing and changes nothing, whatever the schema is, so also on a connection that is shut.
+-- A SELECT commits and changes nothing, under any schema, so also on a closed connection. For the functions that read.
 use Rattle.std.proofs.Common.{◌≡◌, ◌≢◌, ◌⊎◌, inl, inr, ℕ, ◌+◌, List, [], true, Some, None, Option, Ok, Err, Result, IfOk, IfErr, refl, sym, ap, subst, ◌∙◌}
 use Rattle.std.proofs.lemmas.Bool.{cases_Bool}
 use Rattle.sqlite_ast.specs.declared.Statement.{Statement}
@@ -58,7 +58,7 @@ listed_bare text is (Ok k) none c e = elim (cases_Bool (is_select k.command)) [
   | inr other ↦ absurd (let bad : Err NoSuchTable ≡ Ok c = rw other at e in cc)
 ]
 
--- no schema makes it a statement that shows what it writes
+-- under no schema does it return rows that it writes
 pub understood_bare : (text : List ℕ) → reads (first text) ≡ true → (schema : Schema) (c : Compiled) → understood schema text ≡ Ok c
     → c.returning ≡ None
 unfolding understood
@@ -72,7 +72,7 @@ module _ (text : List ℕ) (selects : reads (first text) ≡ true) (params : Row
   unfolding CommitsShowing
   commits_never db may = let bare = understood_bare text selects old.now.schema may.0 may.1.is in absurd (let some = rw bare at may.2 in cc)
 
-  -- it never commits
+  -- a SELECT never commits
   pub leaves_no_more : Survives old new (CommitsShowing text params old) → Survives old new (λ _. ⊥)
   leaves_no_more = survives_weaker old new _ _ (λ _ db may. commits_never db may)
 
@@ -93,7 +93,7 @@ module _ (text : List ℕ) (selects : reads (first text) ≡ true) (params : Row
   not_run_quiet e (inl h) = inl h.1
   not_run_quiet e (inr h) = inr h.3
 
-  -- a query that fails changes nothing, or rolls back
+  -- a query that fails changes nothing, or is rolled back
   pub fails_quietly : (e : Error) → FailsToQuery text params old new e → IsUnchanged old new ⊎ IsRolledBack old new
   unfolding FailsToQuery
   fails_quietly e (inl h) = not_run_quiet e h
@@ -142,17 +142,17 @@ module _ (text : List ℕ) (selects : IsSelect text) (params : Row) (old new : S
   pub gives_rows : (rows : List Row) → Shown text params old new rows → GivesRows text params old new rows
   gives_rows rows h = (shown_same text selects params old new rows h, h)
 
--- what was given is what was found of it
+-- the row that was returned is the row that was found
 pub given_as : (text : List ℕ) (params : Row) (old new : State) (found row : Option Row) → found ≡ row
     → GivesRow text params old new found → GivesRow text params old new row
 given_as text params old new found row is given = subst (GivesRow text params old new) is given
 
--- from one fact of a value to another
+-- the postcondition of a success may be replaced by a weaker one
 pub ok_then : {V E : Type 0} (P Q : V → Type 0) (r : Result V E) → ((v : V) → P v → Q v) → IfOk r P → IfOk r Q
 ok_then P Q (Ok v) step h = step v h
 ok_then P Q (Err e) step h = h
 
--- a fact of a success and one of a failure lead to the same
+-- what follows from the postcondition of a success and from that of a failure follows in each case
 pub either_way : {V E : Type 0} (C : Type 0) (P : V → Type 0) (Q : E → Type 0) (r : Result V E) → ((v : V) → P v → C) → ((e : E) → Q e → C)
     → IfOk r P → IfErr r Q → C
 either_way C P Q (Ok v) done failed h k = done v h

@@ -1,4 +1,4 @@
--- The queries on cells.
+-- The queries on cells. For `find_nights` and `find_stock`.
 use Rattle.std.proofs.Common.{◌≡◌, ℕ, ℤ, eqb-true, pos, List, [], ◌∷◌, map, filter, true, false, is_lt, nat_cmp, refl, ap, subst, ◌∙◌, arith}
 use Rattle.std.specs.Prelude.{string_bytes}
 use Rattle.std.specs.Ordering.{int_cmp}
@@ -41,7 +41,7 @@ range_test : (r : NightRange) (p : ℤ × StockRow)
     → passes find_nights_query.filter (range_params r) (numbered_row stock_columns p) ≡ is_within r p.1
 range_test r p = simp (eq_whole, eq_text, ge_whole, le_whole) (simp and_true)
 
--- a cell that passes is of the product, so its night and places tell it
+-- a cell that passes is of the product, so its night and places determine it
 same_night : (r : NightRange) (n : NightFound) (s : StockRow) → is_within r s ≡ true → shows_night n ≡ (night_out s).1 → night_of r n ≡ s
 same_night r n s is e =
     let one = and_parts _ _ is in

@@ -1,4 +1,4 @@
--- What a table of typed rows is after a row more, or after a change.
+-- A table of typed rows after one more row, or after a change. For the lemmas of each statement that writes.
 use Rattle.std.proofs.Common.{◌≡◌, ◌<ℤ◌, ℕ, ℤ, ◌<◌, pos, List, [], ◌∷◌, ◌++◌, map, filter, cond, Bool, true, false, if◌then◌else◌, refl, sym, ap, ap₂, ◌∙◌, arith}
 use Rattle.std.proofs.lemmas.Int.{ints}
 use Rattle.std.specs.List.{AllByRecursion}
@@ -21,7 +21,7 @@ module _ {X : Type 0} where
   values_last [] p = refl
   values_last (q ∷ ps) p = ap (λ xs. q.1 ∷ xs) (values_last ps p)
 
-  -- a row under the next rowid is the last
+  -- a row under the next rowid is appended
   pub appended : (columns : X → Row) (rows : List Row) (xs : List X) (x : X) → IsTableOf columns rows xs
       → IsTableOf columns (put_row (numbered_row columns (next_rowid rows, x)) rows) (xs ++ x ∷ [])
   appended columns rows xs x it =
@@ -69,7 +69,7 @@ module _ {X : Type 0} where
       one rest true = ap (λ ys. p.1 ∷ ys) rest
       one rest false = rest
 
-  -- the rows that are kept stand under their rowids
+  -- the rows that are kept are under their rowids
   pub kept_values : (columns : X → Row) (rows new : List Row) (xs : List X) (test : X → Bool) → (it : IsTableOf columns rows xs)
       → new ≡ map (numbered_row columns) (filter (λ p. test p.1) it.numbered) → IsTableOf columns new (filter test xs)
   kept_values columns rows new xs test it is = record {
@@ -93,7 +93,7 @@ module _ {X : Type 0} where
     back : (xs : List X) → IsAscending (λ x y. own_id x <ℤ own_id y) xs → IsAscending (λ x y. number x < number y) xs
     back xs = ascending_weaker (λ (x y : X). own_id x <ℤ own_id y) (λ (x y : X). number x < number y) (λ x y low. omega (arith, ints)) xs
 
-    -- a row with a greater number is the last
+    -- a row with a greater number is appended
     pub numbered_last : (rows : List Row) (xs : List X) (x : X) → IsNumbered number row_of rows xs
         → AllByRecursion (λ y. number y < number x) xs → IsNumbered number row_of (put_row (row_of x) rows) (xs ++ x ∷ [])
     numbered_last rows xs x it below = record {
@@ -101,7 +101,7 @@ module _ {X : Type 0} where
       rise = back (xs ++ x ∷ []) (rises_last row_of own_id keyed xs x (own_rise xs it.rise) (own_below (number x) xs below));
     }
 
-    -- a change that keeps numbers leaves each row under its own
+    -- a change that keeps numbers leaves each row under its own number
     pub numbered_changed : (rows new : List Row) (xs : List X) (q : X → Bool) (h : X → X) → ((x : X) → number (h x) ≡ number x)
         → IsNumbered number row_of rows xs → new ≡ map row_of (changed q h xs) → IsNumbered number row_of new (changed q h xs)
     numbered_changed rows new xs q h same it is = record {

@@ -1,4 +1,4 @@
--- What an UPDATE makes of a table of values.
+-- A table of values after an UPDATE or a DELETE. For Changing, Putting and Metas.
 use Rattle.std.proofs.Common.{◌≡◌, ◌<ℤ◌, ℕ, ℤ, pos, List, [], map, filter, drop, Bool, true, not, refl, sym, ap, subst, ◌∙◌}
 use Rattle.std.specs.List.Sorted.{IsPermutation}
 use Rattle.sqlite_value.specs.declared.value.Value.TheVariants.{Int}
@@ -27,7 +27,7 @@ use Rattle.desk_sql.proofs.Replacing.{removed, replaced}
 module _ {X : Type 0} (f : X → Row) (id : X → ℤ) (keyed : (x : X) → rowid (f x) ≡ Int (id x)) (db : Trees) (table : Table)
     (xs : List X) (rise : IsAscending (λ (x y : X). id x <ℤ id y) xs) (has : db table.tree ≡ map f xs)
     (seen : overlay db [] table.tree ≡ db table.tree) (tests project : List Term) (params : Row) (answer : List Row)
-    -- the test of WHERE, and what SET makes of a value
+    -- the test of WHERE, and the change of a value by SET
     (test : X → Bool) (change : X → X) (test_is : (x : X) → passes tests params (f x) ≡ test x)
     (id_shown : (x : X) → rowid (shown_of project params (f x)) ≡ Int (id x)) (id_kept : (x : X) → id (change x) ≡ id x)
     (change_is : (x : X) → Has xs x → test x ≡ true → cast_row table (drop 1 (shown_of project params (f x))) ≡ f (change x)) where
@@ -67,7 +67,7 @@ module _ {X : Type 0} (f : X → Row) (id : X → ℤ) (keyed : (x : X) → rowi
       fresh_too in
       rw (has, news_are) (it ∙ changed_rows f id keyed test_of test (λ z. write (shows z)) change test_is xs change_is)
 
--- What an UPDATE makes of a table whose rowids are free.
+-- A table whose rowids are free, after an UPDATE.
 module _ {X : Type 0} (columns : X → Row) (db : Trees) (table : Table) (xs : List X) (it : IsTableOf columns (db table.tree) xs)
     (seen : overlay db [] table.tree ≡ db table.tree) (tests project : List Term) (params : Row) (answer : List Row)
     (test : X → Bool) (change : X → X)
@@ -86,7 +86,7 @@ module _ {X : Type 0} (columns : X → Row) (db : Trees) (table : Table) (xs : L
       (updated (numbered_row columns) id_of (λ _. refl) db table it.numbered it.rise it.rows_are seen tests project params answer
       (λ p. test p.1) (λ p. (p.0, change p.1)) test_is id_shown (λ _. refl) (λ p h passed. change_is p (value_has p h) passed) a fresh)
 
--- What an UPDATE makes of a table whose rowids are its values' own numbers.
+-- A table whose rowids are its values' own numbers, after an UPDATE.
 module _ {X : Type 0} (number : X → ℕ) (row_of : X → Row) (keyed : (x : X) → rowid (row_of x) ≡ whole (number x)) (db : Trees)
     (table : Table) (xs : List X) (it : IsNumbered number row_of (db table.tree) xs)
     (seen : overlay db [] table.tree ≡ db table.tree) (tests project : List Term) (params : Row) (answer : List Row)
@@ -103,7 +103,7 @@ module _ {X : Type 0} (number : X → ℕ) (row_of : X → Row) (keyed : (x : X)
       (updated row_of (λ x. pos (number x)) keyed db table xs (own_rise number row_of keyed xs it.rise) it.rows_are seen tests project
       params answer test change test_is id_shown (λ x. ap pos (same_number x)) change_is a fresh)
 
--- What a DELETE makes of a table whose rowids are free.
+-- A table whose rowids are free, after a DELETE.
 module _ {X : Type 0} (columns : X → Row) (db : Trees) (table : Table) (xs : List X) (it : IsTableOf columns (db table.tree) xs)
     (seen : overlay db [] table.tree ≡ db table.tree) (tests project : List Term) (params : Row) (answer : List Row)
     (test : X → Bool) (test_is : (p : ℤ × X) → passes tests params (numbered_row columns p) ≡ test p.1)

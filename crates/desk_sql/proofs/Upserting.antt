@@ -1,4 +1,4 @@
--- What an upsert on stock does, for any query of its DO UPDATE.
+-- The effect of an upsert on stock, for any query of its DO UPDATE. For Putting.
 use Rattle.std.proofs.Common.{◌≡◌, ℤ, if◌then◌else◌, ◌⊎◌, inl, inr, ℕ, ◌/◌, List, [], ◌∷◌, ◌++◌, length, Some, None, Option, Ok, Err, Result, refl, sym, ap, subst, ◌∙◌}
 use Rattle.sqlite.specs.declared.types.Value.TheVariants.{Null}
 use Rattle.sqlite.specs.Order.{Row}
@@ -33,14 +33,14 @@ use Rattle.desk_sql.proofs.Writing.{went, same_value, on_rows, task_for, idle, E
 abbrev pub target : List ℕ
 target = 1 ∷ 2 ∷ 3 ∷ 4 ∷ []
 
--- the row that is there, by its rowid, is replaced by what the query shows
+-- the existing row is replaced, under its rowid, by the row that the query shows
 abbrev pub Replaces : Trees → Row → Query → Row → List Row → Edit → Type 0
 Replaces db params q new found edit =
     (there : Row) × (more : List Row) × (found ≡ there ∷ more) × (rows : List Row)
     × IsAnswer q (overlay db []) (params ++ rowid there ∷ shown (stock_at 1) new) rows
     × (edit ≡ edit_of db (stock_at 1) (ids_of rows) Given 1 rows)
 
--- the row goes in, or replaces what has its key
+-- the row is inserted, or replaces the row with its key
 abbrev pub IsPut : Trees → Row → Query → Row → Edit → Type 0
 IsPut db params q new edit =
     (found : List Row) × AreConflicts (Some target) desk_schema.indexes (stock_at 1) (db 1) new found
@@ -53,7 +53,7 @@ module _ (old : State) (params : Row) (q : Program) where
   abbrev clause : Upsert
   clause = record { target = Some target; update = Some q }
 
-  -- the row goes in, or the query's rows do in place of those that have its key
+  -- the row is inserted, or the rows of the query replace those with its key
   abbrev pub Ends : Row → Trees → Part Written
   Ends new db out =
       (found : List Row) × AreConflicts (Some target) desk_schema.indexes (stock_at 1) (db 1) new found

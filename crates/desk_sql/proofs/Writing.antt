@@ -1,4 +1,4 @@
--- What a statement that writes does to the desk's tables, from its meaning on.
+-- The effect of a statement that writes on the desk's tables, by its meaning. For the lemmas of each statement.
 use Rattle.std.proofs.Common.{◌≡◌, ◌<◌, ◌^◌, pos, to_z, w64, fold, MatchBool, if◌then◌else◌, subst₂, ◌⊎◌, inl, inr, ℕ, ◌/◌, List, [], length, slice_get, Bool, true, false, cond, Some, None, Ok, Err, Result, refl, sym, ap, subst, ◌∙◌, arith}
 use Rattle.sqlite.specs.declared.types.Value.{Value}
 use Rattle.sqlite.specs.declared.types.Value.TheVariants.{Null}
@@ -36,16 +36,16 @@ either : (b : Bool) (x : Value) → cond b x x ≡ x
 either true x = refl
 either false x = refl
 
--- an integer is stored as it is, whatever its sign
+-- NULL is stored as it is
 pub cast_null : cast Integer Null ≡ Null
 unfolding unary
 cast_null = either _ Null
 
--- an unsigned number as the signed one that it is passed as
+-- an unsigned number that is passed as a signed one is the same number
 pub pos_is : (n : ℕ) → n < 2 ^ 63 → to_z w64 n ≡ pos n
 pos_is n low = omega (arith, ints)
 
--- a part that gave a value did not stop on the way
+-- a part that returned a value was not stopped
 pub went : {B E R : Type 0} {b : B} {Stops : E → Type 0} → ((stop : E) × Stops stop × (Ok b ≡ Err stop)) ⊎ R → R
 went (inl stopped) = absurd (let e = stopped.2 in cc)
 went (inr on) = on
@@ -53,7 +53,7 @@ went (inr on) = on
 pub same_value : {B E : Type 0} {a b : B} → ◌≡◌ {A = Result B E} (Ok a) (Ok b) → a ≡ b
 same_value e = cc
 
--- one table was edited, and no other
+-- one table was edited, and no other table
 pub record Edits (old new : State) (edit : Edit) : Type 0 where
   pub schema : new.now.schema ≡ desk_schema
   pub applies : Applies desk_schema Enforced old.now.trees edit new.now.trees
@@ -69,13 +69,13 @@ task_for old table params = record { limit = old.step_limit; keys = Enforced; sc
 concludes : (task : Task) (mode : Mode) (w : Written) (tally : Tally) (after : Database) → Concludes task mode None w (Ok (tally, after)) → after ≡ record { schema = task.schema; trees = w.trees }
 concludes task mode w tally after h = ap (λ (p : Tally × Database). p.1) (same_value (went (went h).2).2)
 
--- a statement on the rows of a table writes them, and then nothing
+-- a statement on the rows of a table writes the rows, and nothing more
 pub on_rows : (old : State) (params : Row) (text : List ℕ) (table : Table) (tally : Tally) (after : Database) (command : Command)
     → OnRows (task_for old table params) (mode_of old) None command old.now.trees (Ok (tally, after))
     → (w : Written) × WritesRows (task_for old table params) old.now.trees command (Ok w) × (after ≡ record { schema = desk_schema; trees = w.trees })
 on_rows old params text table tally after command h = let all = went h in (all.0, all.1, concludes (task_for old table params) (mode_of old) all.0 tally after all.2)
 
--- the rows of VALUES go in by one edit
+-- the rows of VALUES are inserted by one edit
 insert_edits : (task : Task) (terms : List Term) (width : ℕ) (db : Trees) (w : Written) → task.table.is_counted ≡ false → stamped task.table task.params ≡ task.params
     → Inserts task (Values terms width) db (Ok w) → Edited task.schema task.keys db (source_edit task.table terms width task.params db) (Ok w.trees)
 insert_edits task terms width db w uncounted unstamped h =
@@ -116,11 +116,11 @@ no_action : (b : Bool) → (if b then NoAction else NoAction) ≡ NoAction
 no_action true = refl
 no_action false = refl
 
--- no foreign key of the desk acts
+-- no foreign key of the desk has an action
 pub idle : (depth tree : ℕ) (olds news : List Row) → works desk_schema Enforced depth tree olds news ≡ []
 idle depth tree olds news = simp no_action
 
--- an UPDATE takes out the rows that its query names, and puts in those that it shows
+-- an UPDATE deletes the rows that its query names, and inserts those that it shows
 pub updates : (sql : List ℕ) (params : Row) (old new : State) (at : ℕ) (table : Table) (q : Query) (count : ℕ)
     → command_of (understood desk_schema sql) ≡ Update at (record { lets = []; body = q }) → IsPlain (understood desk_schema sql)
     → slice_get desk_schema.tables at ≡ Some table
@@ -149,7 +149,7 @@ updates sql params old new at table q count is plain there ready h =
       },
     )
 
--- a DELETE takes out the rows that its query names
+-- a DELETE deletes the rows that its query names
 pub deletes : (sql : List ℕ) (params : Row) (old new : State) (at : ℕ) (table : Table) (q : Query) (count : ℕ)
     → command_of (understood desk_schema sql) ≡ Delete at (record { lets = []; body = q }) → IsPlain (understood desk_schema sql)
     → slice_get desk_schema.tables at ≡ Some table

@@ -1,4 +1,4 @@
--- What a statement may say of the connection that it ran on.
+-- What the contract of a statement may say of the connection that it ran on.
 use Rattle.std.specs.Prelude.{◌≡◌, ◌⊎◌, ℕ, [], Result, OnOk, IfOk, IsTrue, ⊤}
 use Rattle.std.specs.List.{AllByRecursion}
 use Rattle.sqlite_schema.specs.declared.schema.Schema.{Schema}
@@ -22,7 +22,7 @@ pub record SeesIn (v : Version) (s : State) (t : Tables) : Type 0 where
 abbrev pub Sees : State → Tables → Type 0
 Sees s t = SeesIn Two s t
 
--- the same, as far as the connection is open: a shut one shows nothing, and each call on it fails
+-- the same, if the connection is open: a closed one shows nothing, and each call on it fails
 abbrev pub MaySeeIn : Version → State → Tables → Type 0
 MaySeeIn v s t = IsTrue s.is_open → SeesIn v s t
 
@@ -34,7 +34,7 @@ pub record IsReady (s : State) : Type 0 where
   pub inside : IsTrue s.in_transaction
   pub schema : s.now.schema ≡ desk_schema
 
--- the connection is in a transaction, and sees these rows as far as it is open
+-- the connection is in a transaction, and sees these rows if it is open
 pub record MayRun (s : State) (t : Tables) : Type 0 where
   pub inside : IsTrue s.in_transaction
   pub sees : MaySee s t
@@ -47,17 +47,17 @@ pub record Makes (old new : State) (after : Tables) : Type 0 where
   pub sees : Sees new after
   pub committed : new.committed ≡ old.committed
 
--- the database has these tables, none of which has a row
+-- the database has these tables, and none of them has a row
 pub record IsEmptyWith (schema : Schema) (s : State) : Type 0 where
   pub is : s.now.schema ≡ schema
   pub empty : AllByRecursion (λ t. s.now.trees t.tree ≡ []) schema.tables
 
--- the connection is in a transaction, and as far as it is open it has these tables, empty
+-- the connection is in a transaction, and has these tables, without rows, if it is open
 pub record MayBuild (schema : Schema) (s : State) : Type 0 where
   pub inside : IsTrue s.in_transaction
   pub empty : IsTrue s.is_open → IsEmptyWith schema s
 
--- the transaction was open, goes on, and has these tables, empty; nothing was committed
+-- the transaction was open, goes on, and has these tables, without rows; nothing was committed
 pub record Builds (old new : State) (after : Schema) : Type 0 where
   pub was_open : IsTrue old.is_open
   pub is_open : IsTrue new.is_open
@@ -67,7 +67,7 @@ pub record Builds (old new : State) (after : Schema) : Type 0 where
   pub committed : new.committed ≡ old.committed
 
 module _ {S : Type 0} (g : Ghosts S) (old new : Held S) where
-  -- A write in a transaction: where the rows fit, a success leaves what it makes of them.
+  -- A write in a transaction: if the rows fit, a success changes them by `after`.
   abbrev pub WritesWhere : (Tables → Type 0) → Result ℕ Error → (Tables → Tables) → Type 0
   WritesWhere Fits result after =
       HasCleanDisk (state g new) → (t : Tables) → MayRun (state g old) t → Fits t
@@ -77,7 +77,7 @@ module _ {S : Type 0} (g : Ghosts S) (old new : Held S) where
   abbrev pub Writes : Result ℕ Error → (Tables → Tables) → Type 0
   Writes result after = WritesWhere (λ _. ⊤) result after
 
-  -- texts that make tables: on these tables, empty, a success leaves those, empty
+  -- texts that create tables: from these tables, without rows, a success leads to those, without rows
   abbrev pub BuildsOn : Schema → {V : Type 0} → Result V Error → Schema → Type 0
   BuildsOn before result after =
       HasCleanDisk (state g new) → MayBuild before (state g old)
@@ -89,13 +89,13 @@ module _ {S : Type 0} (g : Ghosts S) (old new : Held S) where
       HasCleanDisk (state g new) → MayBuild no_schema (state g old)
       → OnOk result (Makes (state g old) (state g new) rows)
 
-  -- after a success the transaction goes on
+  -- the transaction goes on after a success
   abbrev pub StaysInside : {V : Type 0} → Result V Error → Type 0
   StaysInside result =
       HasCleanDisk (state g new) → IsTrue (state g old).in_transaction
       → OnOk result (IsTrue (state g new).in_transaction)
 
-  -- a success tells that the connection was open
+  -- a success implies that the connection was open
   abbrev pub WasOpen : {V : Type 0} → Result V Error → Type 0
   WasOpen result =
       HasCleanDisk (state g new) → IsTrue (state g old).in_transaction
@@ -107,25 +107,25 @@ module _ {S : Type 0} (g : Ghosts S) (old new : Held S) where
       HasCleanDisk (state g new) → IsTrue (state g old).in_transaction
       → KeepsCommit (state g old) (state g new)
 
-  -- what a stop may leave does not grow
+  -- what a crash may leave does not grow
   abbrev pub LeavesNoMore : Type 0
   LeavesNoMore = Survives (state g old) (state g new) (λ _. ⊥)
 
-  -- A read: on tables of this version a success changes nothing, and what it found fits the rows.
+  -- A read: on tables of this version a success changes nothing, and what it found matches the rows.
   abbrev pub ReadsIn : Version → {V : Type 0} → Result V Error → (Tables → V → Type 0) → Type 0
   ReadsIn v result Finds =
       HasCleanDisk (state g new) → (t : Tables) → MaySeeIn v (state g old) t
       → IfOk result (λ found. IsUnchanged (state g old) (state g new) × Finds t found)
 
-  -- on tables of the newest version
+  -- the same, on tables of the newest version
   abbrev pub Reads : {V : Type 0} → Result V Error → (Tables → V → Type 0) → Type 0
   Reads result Finds = ReadsIn Two result Finds
 
-  -- on tables of each version
+  -- the same, on tables of each version
   abbrev pub ReadsEach : {V : Type 0} → Result V Error → (Tables → V → Type 0) → Type 0
   ReadsEach result Finds = (v : Version) → ReadsIn v result Finds
 
-  -- nothing changes; after a fault the transaction may be rolled back that the call stood in
+  -- nothing changes, or the transaction of the call is rolled back
   abbrev pub ChangesNothing : Type 0
   ChangesNothing =
       HasCleanDisk (state g new)

@@ -1,4 +1,4 @@
--- What each statement that writes makes of the rows.
+-- The change of the rows by each statement that writes.
 use Rattle.std.specs.Prelude.{◌≡◌, ℕ, ◌<◌, ◌^◌, ◌==◌, ◌&&◌, not, Bool, List, [], ◌∷◌, ◌++◌, map, filter}
 use Rattle.std.specs.List.{AllByRecursion}
 use Rattle.desk_sql.specs.Lists.{changed}
@@ -12,7 +12,7 @@ use Rattle.desk_sql.specs.declared.items.ItemFound.{ItemFound}
 abbrev pub counts : MetaRow → Tables → Tables
 counts m t = record t { meta = map (λ _. m) t.meta }
 
--- no row of meta is there yet
+-- meta has no row yet
 abbrev pub LacksMeta : Tables → Type 0
 LacksMeta t = t.meta ≡ []
 
@@ -20,11 +20,11 @@ LacksMeta t = t.meta ≡ []
 abbrev pub at_first : ℕ → MetaRow
 at_first version = record { version = version; events = 0; journeys = 0 }
 
--- a row of meta more
+-- one more row of meta
 abbrev pub adds_meta : MetaRow → Tables → Tables
 adds_meta m t = record t { meta = t.meta ++ m ∷ [] }
 
--- a desk that has no event yet
+-- the tables of a desk that has no event yet
 abbrev pub founded : Tables
 founded = record no_rows { meta = at_first 2 ∷ [] }
 
@@ -32,7 +32,7 @@ founded = record no_rows { meta = at_first 2 ∷ [] }
 abbrev pub at_start : CursorRow
 at_start = record { pos = 0; phase = 0; target = 0; used = 0 }
 
--- a journey that begins
+-- the row of a new journey
 abbrev pub begun : ℕ → ℕ → List ℕ → ℕ → ℕ → JourneyRow
 begun id num agent steps tries =
     record { id = id; num = num; agent = agent; steps = steps; tries = tries; cursor = at_start }
@@ -41,11 +41,11 @@ begun id num agent steps tries =
 abbrev pub AreJourneysBelow : ℕ → Tables → Type 0
 AreJourneysBelow id t = AllByRecursion (λ (j : JourneyRow). j.id < id) t.journey
 
--- one journey more, the last
+-- one more journey, appended
 abbrev pub adds_journey : JourneyRow → Tables → Tables
 adds_journey j t = record t { journey = t.journey ++ j ∷ [] }
 
--- the option's row, which no transaction has taken yet
+-- the row of the option, which no transaction has taken yet
 abbrev pub untaken : StepOption → StepRow
 untaken o = record {
   journey = o.journey;
@@ -66,15 +66,15 @@ abbrev pub IsSmallOption : StepOption → Type 0
 IsSmallOption o = AllByRecursion (λ n. n < 2 ^ 63)
     (o.journey ∷ o.place ∷ o.opt ∷ o.save ∷ o.kind ∷ o.night ∷ o.nights ∷ o.places ∷ [])
 
--- one option more, the last
+-- one more option, appended
 abbrev pub adds_step : StepRow → Tables → Tables
 adds_step s t = record t { step = t.step ++ s ∷ [] }
 
--- one kept reply more, the last
+-- one more kept reply, appended
 abbrev pub adds_answer : AnswerRow → Tables → Tables
 adds_answer a t = record t { answer = t.answer ++ a ∷ [] }
 
--- a kept reply
+-- the row of a kept reply
 abbrev pub kept : List ℕ → List ℕ → List ℕ → List ℕ → AnswerRow
 kept agent mark ask reply = record { agent = agent; mark = mark; ask = ask; reply = reply }
 
@@ -88,11 +88,11 @@ with_cursor c j = record j {
   cursor = record { pos = c.pos; phase = c.phase; target = c.target; used = c.used };
 }
 
--- the journey with the number stands at this cursor
+-- the journey with the number moves to this cursor
 abbrev pub moves_journey : ℕ → Cursor → Tables → Tables
 moves_journey id c t = record t { journey = changed (is_numbered id) (with_cursor c) t.journey }
 
--- the option is this one of this step
+-- the row is that of this option of this step
 abbrev pub is_option : ℕ → ℕ → ℕ → StepRow → Bool
 is_option journey place opt s = (s.journey == journey) && ((s.place == place) && (s.opt == opt))
 
@@ -114,22 +114,22 @@ IsSmallItem i = AllByRecursion (λ n. n < 2 ^ 63) (i.num ∷ i.item ∷ i.a ∷ 
 abbrev pub AreItemsBelow : ℕ → Tables → Type 0
 AreItemsBelow num t = AllByRecursion (λ (e : EntryRow). e.num < num) t.entries
 
--- one item of the journey more, the last
+-- one more item of the journey, appended
 abbrev pub adds_item : ℕ → ItemFound → Tables → Tables
 adds_item journey i t = record t { entries = t.entries ++ item_of journey i ∷ [] }
 
--- one batch more, the last
+-- one more batch, appended
 abbrev pub adds_batch : BatchRow → Tables → Tables
 adds_batch b t = record t { batch = t.batch ++ b ∷ [] }
 
--- one save-point more, the last
+-- one more save-point, appended
 abbrev pub adds_mark : ℕ → ℕ → Tables → Tables
 adds_mark journey at t = record t { mark = t.mark ++ mark_at_pos journey at ∷ [] }
 
--- the save-point is the one of this journey at this position
+-- the row is that of the save-point of this journey at this position
 abbrev pub is_mark_at : ℕ → ℕ → MarkRow → Bool
 is_mark_at journey at m = (m.journey == journey) && (m.pos == at)
 
--- the save-point is gone
+-- the save-point is deleted
 abbrev pub drops_mark : ℕ → ℕ → Tables → Tables
 drops_mark journey at t = record t { mark = filter (λ m. not (is_mark_at journey at m)) t.mark }

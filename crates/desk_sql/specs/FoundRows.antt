@@ -1,4 +1,4 @@
--- What each statement that reads finds.
+-- The rows that each read finds.
 use Rattle.std.specs.Prelude.{◌≡◌, ◌<◌, ◌≤◌, ◌==◌, ◌⊎◌, ◌&&◌, nat_lt, nat_le, Bool, ℕ, List, [], ◌∷◌, map, filter, bytes_eq, string_bytes, Option, option_map}
 use Rattle.sqlite.specs.Order.{Row, column}
 use Rattle.desk_sql.specs.Lists.{IsOneOf, IsListed, IsLeastOf}
@@ -12,7 +12,7 @@ use Rattle.desk_sql.specs.declared.steps.StepFound.{StepFound}
 use Rattle.desk_sql.specs.declared.batches.BatchFound.{BatchFound}
 use Rattle.desk_sql.specs.declared.items.ItemFound.{ItemFound}
 
--- the row of meta that these numbers are
+-- the row of meta with these numbers
 abbrev pub meta_of : Meta → MetaRow
 meta_of m = record { version = m.version; events = m.events; journeys = m.journeys }
 
@@ -43,7 +43,7 @@ abbrev pub answer_of : List ℕ → List ℕ → KeptAnswer → AnswerRow
 answer_of agent mark k =
     record { agent = agent; mark = mark; ask = k.ask.items; reply = string_bytes k.reply }
 
--- what is kept under the agent's key, or nothing where none is
+-- what is kept under the agent's key, or nothing if nothing is kept
 abbrev pub FindsAnswer : List ℕ → List ℕ → Tables → Option KeptAnswer → Type 0
 FindsAnswer agent mark t found =
     IsOneOf (filter (is_for agent mark) t.answer) (option_map (answer_of agent mark) found)
@@ -72,7 +72,7 @@ journey_of j = record {
 abbrev pub is_numbered : ℕ → JourneyRow → Bool
 is_numbered id j = j.id == id
 
--- the journey with the number, or nothing where none has it
+-- the journey with the number, or none if no journey has it
 abbrev pub FindsJourney : ℕ → Tables → Option JourneyFound → Type 0
 FindsJourney id t found = IsOneOf (filter (is_numbered id) t.journey) (option_map journey_of found)
 
@@ -80,13 +80,13 @@ FindsJourney id t found = IsOneOf (filter (is_numbered id) t.journey) (option_ma
 abbrev pub is_unfinished_after : ℕ → JourneyRow → Bool
 is_unfinished_after after j = nat_lt after j.id && nat_le j.cursor.phase 1
 
--- the first unfinished journey above a number, or nothing where all there have ended
+-- the unfinished journey with the least number above this one, or none if all above it are finished
 abbrev pub FindsUnfinished : ℕ → Tables → Option JourneyFound → Type 0
 FindsUnfinished after t found =
     IsLeastOf (λ (j : JourneyRow). j.id) (filter (is_unfinished_after after) t.journey)
     (option_map journey_of found)
 
--- a query shows the cursor of a journey in this order, and all of it
+-- a query shows the cursor of a journey, and the whole journey, in this order
 abbrev pub shows_cursor : Cursor → Row
 shows_cursor c = whole c.pos ∷ whole c.phase ∷ whole c.target ∷ whole c.used ∷ []
 
@@ -125,7 +125,7 @@ is_step_of journey s = s.journey == journey
 abbrev pub IsByPlace : StepRow → StepRow → Type 0
 IsByPlace a b = (a.place < b.place) ⊎ ((a.place ≡ b.place) × (a.opt ≤ b.opt))
 
--- the options of the journey, by step and option
+-- the options of the journey, in order of step and option
 abbrev pub FindsSteps : ℕ → Tables → List StepFound → Type 0
 FindsSteps journey t found =
     IsListed IsByPlace (filter (is_step_of journey) t.step) (map (step_of journey) found)
@@ -134,7 +134,7 @@ FindsSteps journey t found =
 abbrev pub is_option_of : ℕ → ℕ → StepRow → Bool
 is_option_of journey place s = is_step_of journey s && (s.place == place)
 
--- the options of the step, by their numbers
+-- the options of the step, in order of their numbers
 abbrev pub FindsOptions : ℕ → ℕ → Tables → List StepFound → Type 0
 FindsOptions journey place t found =
     IsListed IsByPlace (filter (is_option_of journey place) t.step) (map (step_of journey) found)
@@ -167,7 +167,7 @@ abbrev pub FindsItems : ℕ → ℕ → Tables → List ItemFound → Type 0
 FindsItems journey after t found =
     map (item_of journey) found ≡ filter (is_item_after journey after) t.entries
 
--- the first item of the journey above a number, or nothing where none is there
+-- the first item of the journey above a number, or none if there is none
 abbrev pub FindsNextItem : ℕ → ℕ → Tables → Option ItemFound → Type 0
 FindsNextItem journey after t found =
     IsLeastOf (λ (e : EntryRow). e.num) (filter (is_item_after journey after) t.entries)
@@ -205,7 +205,7 @@ batch_of name b = record { name = name; num = b.num; content = b.content.items }
 abbrev pub is_named : List ℕ → BatchRow → Bool
 is_named name b = bytes_eq b.name name
 
--- the batch with the name, or nothing where none has it
+-- the batch with the name, or none if no batch has it
 abbrev pub FindsBatch : List ℕ → Tables → Option BatchFound → Type 0
 FindsBatch name t found =
     IsOneOf (filter (is_named name) t.batch) (option_map (batch_of name) found)

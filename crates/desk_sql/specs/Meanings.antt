@@ -1,4 +1,4 @@
--- What the texts of the statements mean under the desk's schema.
+-- The meaning of the text of each statement under the desk's schema.
 use Rattle.std.specs.Prelude.{ℕ, pos, negsuc, List, [], ◌∷◌, Some, None, codes, false}
 use Rattle.sqlite.specs.declared.types.Value.TheVariants.{Null, Int}
 use Rattle.sqlite.specs.Term.{Term, lit, col, op2}
@@ -16,7 +16,7 @@ use Rattle.desk_sql.specs.declared.versions.Version.{Version}
 use Rattle.desk_sql.specs.declared.versions.Version.TheVariants.{Two}
 use Rattle.desk_sql.specs.Rows.{items_tree}
 
--- the rows of a tree that pass the tests, in the order that is asked for
+-- the rows of a tree that pass the tests, in the order of the terms
 abbrev pub sorted_rows : ℕ → List Term → List Term → List (Term × Key) → Query
 sorted_rows tree filter project order = record {
   from = inner tree end;
@@ -30,7 +30,7 @@ sorted_rows tree filter project order = record {
   offset = lit (Int (pos 0));
 }
 
--- rising in one column of ORDER BY
+-- ascending in one column of ORDER BY
 abbrev pub rising : Key
 rising = record { collation = Binary; descending = false }
 
@@ -198,7 +198,7 @@ abbrev pub delete_mark_query : Query
 delete_mark_query =
     every_row 14 (is_equal (col 1 1) (col 0 0) ∷ is_equal (col 1 2) (col 0 1) ∷ []) (col 1 0 ∷ [])
 
--- the rows that a query names are taken out
+-- the rows that a query names are deleted
 abbrev pub delete : ℕ → Query → Command
 delete at query = Delete at (record { lets = []; body = query })
 

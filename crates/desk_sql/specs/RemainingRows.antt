@@ -1,4 +1,4 @@
--- What a query has still to hand out.
+-- The rows of a query that remain to be returned.
 use Rattle.std.specs.Prelude.{◌≡◌, ◌⊎◌, ℕ, List, [], ◌∷◌, ◌++◌, map, filter, ◌≤◌, Option, Some, None}
 use Rattle.sqlite.specs.Order.{Row}
 use Rattle.sqlite.specs.Query.{Query, IsAnswer}
@@ -18,12 +18,12 @@ use Rattle.desk_sql.specs.Stock.{IsByCell}
 use Rattle.desk_sql.specs.Texts.{find_stock_text, first_unfinished_text}
 use Rattle.desk_sql.specs.Meanings.{find_stock_query, first_unfinished_query}
 
--- the first of these was handed out, and the later ones are still to come; or there was none
+-- the first of these was returned, and the later ones remain; or there was none
 abbrev pub HandsFirst : {X : Type 0} → (List X → Type 0) → Option X → List X → Type 0
 HandsFirst rests found [] = (found ≡ None) × rests []
 HandsFirst rests found (x ∷ later) = (found ≡ Some x) × rests later
 
--- of what was to come the first was handed out
+-- of the values that remained, the first was returned
 abbrev pub Hands : {X : Type 0} → (List X → Type 0) → (List X → Type 0) → Option X → Type 0
 Hands {X} rested rests found = (later : List X) → rested later → HandsFirst rests found later
 
@@ -31,7 +31,7 @@ Hands {X} rested rests found = (later : List X) → rested later → HandsFirst 
 abbrev pub IsOnlyOrder : {X : Type 0} → (X → X → Type 0) → List X → List X → Type 0
 IsOnlyOrder {X} IsUpTo values listed = (other : List X) → IsListed IsUpTo values other → other ≡ listed
 
--- the cells in their one order
+-- the cells in their only order
 abbrev pub IsStockInOrder : Tables → List StockRow → Type 0
 IsStockInOrder t listed = IsOnlyOrder IsByCell t.stock listed
 
@@ -54,8 +54,8 @@ journey_shown j =
     ∷ whole j.cursor.phase ∷ whole j.cursor.target ∷ whole j.cursor.used ∷ []
 
 module _ {S : Type 0} (g : Ghosts S) where
-  -- The connection runs this query on the desk's tables, and each answer to it begins with the rows
-  -- that were given, and goes on with these.
+  -- The connection runs this query on the desk's tables, and each answer of the query is the rows that
+  -- were returned, followed by these.
   pub record RunsOn (text : List ℕ) (q : Query) (params : Row) (h : Held S) (later : List Row) : Type 0 where
     pub version : Version
     pub schema : h.schema ≡ schema_of version
@@ -64,11 +64,11 @@ module _ {S : Type 0} (g : Ghosts S) where
     pub whole : (rows : List Row) → IsAnswer q (overlay (state g h).now.trees []) params rows
         → rows ≡ given ++ later
 
-  -- these rows of the query are still to come; none is, where the query has ended
+  -- these rows of the query remain; none remains if the query has ended
   abbrev pub Rests : List ℕ → Query → Held S → List Row → Type 0
   Rests text q h later = ((params : Row) × RunsOn text q params h later) ⊎ (IsEnded h × (later ≡ []))
 
-  -- these cells, or these journeys, are still to come
+  -- these cells, or these journeys, remain
   abbrev pub CellsRest : Held S → List StockRow → Type 0
   CellsRest h later = Rests find_stock_text find_stock_query h (map stock_shown later)
 
@@ -76,7 +76,7 @@ module _ {S : Type 0} (g : Ghosts S) where
   JourneysRest h later = Rests first_unfinished_text first_unfinished_query h (map journey_shown later)
 
   module _ (old new : Held S) where
-    -- of the tables as they are, these are still to come
+    -- of the tables as they are, these values remain to be returned
     abbrev pub Begins : {X : Type 0} → (Tables → List X → Type 0) → (Held S → List X → Type 0) → Type 0
     Begins {X} IsList RestsOn =
         HasCleanDisk (state g new) → (v : Version) (t : Tables) → MaySeeIn v (state g old) t → (later : List X)

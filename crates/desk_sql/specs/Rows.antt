@@ -8,11 +8,11 @@ use Rattle.desk_sql.specs.declared.versions.Version.{Version}
 use Rattle.desk_sql.specs.declared.versions.Version.TheVariants.{One, Two}
 use Rattle.desk_sql.specs.Lists.{IsTableOf, IsNumbered}
 
--- a number as the integer that is stored
+-- a number as the stored integer
 abbrev pub whole : ℕ → Value
 whole n = Int (pos n)
 
--- the schema's version, how many events there are, and the last journey's number
+-- the version of the schema, the number of events, and the number of the last journey
 pub record MetaRow : Type 0 where
   pub version : ℕ
   pub events : ℕ
@@ -37,7 +37,7 @@ stock_columns s =
     whole s.kind ∷ Text s.supplier ∷ Text s.product ∷ whole s.night ∷ whole s.allot ∷ whole s.free
     ∷ []
 
--- a batch that was loaded: its name, the number of its event, and its text
+-- a loaded batch: its name, the number of its event, and its text
 pub record BatchRow : Type 0 where
   pub name : List ℕ
   pub num : ℕ
@@ -47,15 +47,15 @@ pub record BatchRow : Type 0 where
 abbrev pub batch_columns : BatchRow → Row
 batch_columns b = Text b.name ∷ whole b.num ∷ Blob b.content ∷ []
 
--- where a journey stands: its position and phase, the target of its turn, the tries that it used
+-- the cursor of a journey: its position and phase, the target of its turn, the tries that it used
 pub record CursorRow : Type 0 where
   pub pos : ℕ
   pub phase : ℕ
   pub target : ℕ
   pub used : ℕ
 
--- a journey: its number and that of its event, its agent, how many steps and tries its plan has,
--- its cursor
+-- a journey: its number and that of its event, its agent, the numbers of steps and tries in its plan,
+-- and its cursor
 pub record JourneyRow : Type 0 where
   pub id : ℕ
   pub num : ℕ
@@ -70,8 +70,8 @@ journey_row j =
     whole j.id ∷ Null ∷ whole j.num ∷ Text j.agent ∷ whole j.steps ∷ whole j.tries
     ∷ whole j.cursor.pos ∷ whole j.cursor.phase ∷ whole j.cursor.target ∷ whole j.cursor.used ∷ []
 
--- an option of a step: the journey, the step's number, the option's, the marks of a save-point and
--- of a taken option, and the want
+-- an option of a step: the numbers of the journey, the step and the option, the marks of a save-point
+-- and of a taken option, and the want
 pub record StepRow : Type 0 where
   pub journey : ℕ
   pub place : ℕ
@@ -91,7 +91,7 @@ step_columns s =
     whole s.journey ∷ whole s.place ∷ whole s.opt ∷ whole s.save ∷ whole s.taken ∷ whole s.kind
     ∷ Text s.supplier ∷ Text s.product ∷ whole s.night ∷ whole s.nights ∷ whole s.places ∷ []
 
--- an item of a journey, with the number of its event: what it is, and its two numbers
+-- an item of a journey, with the number of its event: its kind, and its two numbers
 pub record EntryRow : Type 0 where
   pub num : ℕ
   pub journey : ℕ
@@ -112,7 +112,7 @@ pub record MarkRow : Type 0 where
 abbrev pub mark_columns : MarkRow → Row
 mark_columns m = whole m.journey ∷ whole m.pos ∷ []
 
--- what was asked under an agent's key, and the reply
+-- the text of an ask under an agent's key, and the reply
 pub record AnswerRow : Type 0 where
   pub agent : List ℕ
   pub mark : List ℕ
@@ -123,7 +123,7 @@ pub record AnswerRow : Type 0 where
 abbrev pub answer_columns : AnswerRow → Row
 answer_columns a = Text a.agent ∷ Text a.mark ∷ Blob a.ask ∷ Text a.reply ∷ []
 
--- all rows of the desk; the items stand in the table that the version has for them
+-- all rows of the desk; the items are in the table that the version has for them
 pub record Tables : Type 0 where
   pub meta : List MetaRow
   pub stock : List StockRow
@@ -134,12 +134,12 @@ pub record Tables : Type 0 where
   pub entries : List EntryRow
   pub mark : List MarkRow
 
--- the tree with the items: that of entry2, and before it there was one that of entry
+-- the tree with the items: that of entry2, in version 1 that of entry
 abbrev pub items_tree : Version → ℕ
 items_tree One = 10
 items_tree Two = 13
 
--- the tree of mark is the table of these save-points; before there was one no save-point was taken
+-- the tree of mark is the table of these save-points; in version 1 no save-point was taken
 abbrev pub ShowsMarks : Version → Trees → List MarkRow → Type 0
 ShowsMarks One db marks = marks ≡ []
 ShowsMarks Two db marks = IsTableOf mark_columns (db 14) marks
@@ -155,11 +155,11 @@ pub record ShowsIn (v : Version) (db : Trees) (t : Tables) : Type 0 where
   pub entries : IsNumbered (λ (e : EntryRow). e.num) entry_row (db (items_tree v)) t.entries
   pub mark : ShowsMarks v db t.mark
 
--- the same, of the newest version, where nothing is said of the table entry
+-- the same, for the newest version; nothing is said of the table entry
 abbrev pub Shows : Trees → Tables → Type 0
 Shows db t = ShowsIn Two db t
 
--- no rows at all
+-- tables without rows
 abbrev pub no_rows : Tables
 no_rows = record {
   meta = [];

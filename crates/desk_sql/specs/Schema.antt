@@ -1,4 +1,4 @@
--- The tables of the desk, and the schemas on the way to them.
+-- The tables of the desk, and the schemas in which they are created step by step.
 use Rattle.std.specs.Prelude.{ℕ, pos, List, [], ◌∷◌, ◌++◌, codes, true, false, Some, None}
 use Rattle.sqlite_value.specs.declared.keys.Collation.TheVariants.{Binary}
 use Rattle.sqlite_value.specs.declared.keys.Order.{Order}
@@ -27,22 +27,22 @@ abbrev pub rowid_column : List ℕ → Column
 rowid_column name =
     record { name = name; kind = Integer; is_strict = true; not_null = false; default = Null; collation = Binary }
 
--- rising in each column
+-- ascending in each column
 abbrev pub plain_order : Order
 plain_order = record { digits = 0 }
 
--- the column is at least, or at most, what the term gives
+-- the column is at least, or at most, the value of the term
 abbrev pub at_least : ℕ → Term → Term
 at_least at low = op2 (Compare Ge Binary) (col 1 at) low
 
 abbrev pub at_most : ℕ → Term → Term
 at_most at high = op2 (Compare Le Binary) (col 1 at) high
 
--- a number that stands in a text
+-- a number in a text
 abbrev pub number : ℕ → Term
 number n = lit (Int (pos n))
 
--- the column lies between two numbers, both included
+-- the column is between two numbers, both included
 abbrev pub between : ℕ → ℕ → ℕ → Term
 between at low high = op2 And (at_least at (number low)) (at_most at (number high))
 
@@ -65,7 +65,7 @@ to_journey at = record {
   is_deferred = false;
 }
 
--- a table with these columns and no rule
+-- a table with these columns and no constraint
 abbrev pub table_with : List ℕ → ℕ → List Column → Table
 table_with name tree columns = record {
   name = name;
@@ -128,7 +128,7 @@ step_at tree = record (keyed_by (1 ∷ 2 ∷ 3 ∷ []) (table_with (codes "step"
     ∷ filled Integer (codes "nights") ∷ filled Integer (codes "places") ∷ [])))
     { checks = zero_or_one 4 ∷ zero_or_one 5 ∷ []; references = to_journey 1 ∷ [] }
 
--- a table of items, each under the number of its event; kinds of items go up to the last
+-- a table of items, each under the number of its event; the kinds of items go up to the last
 abbrev pub items_at : List ℕ → ℕ → ℕ → Table
 items_at name last tree = record (numbered (table_with name tree (
     rowid_column (codes "num") ∷ filled Integer (codes "journey") ∷ filled Integer (codes "item")
@@ -163,7 +163,7 @@ unique_index name tree table columns =
 abbrev pub no_schema : Schema
 no_schema = record { tables = []; indexes = []; views = [] }
 
--- the first four tables, at 0, 1, 3 and 6, with the indexes of their keys behind each
+-- the first four tables, at 0, 1, 3 and 6, each followed by the indexes of its keys
 abbrev pub first_schema : Schema
 first_schema = record {
   tables = meta_at 0 ∷ stock_at 1 ∷ batch_at 3 ∷ journey_at 6 ∷ [];
@@ -183,7 +183,7 @@ seven_schema = record {
   views = [];
 }
 
--- all nine: two more, at 13 and 14
+-- all nine tables: two more, at 13 and 14
 abbrev pub desk_schema : Schema
 desk_schema = record {
   tables = seven_schema.tables ++ entry2_at 13 ∷ mark_at 14 ∷ [];

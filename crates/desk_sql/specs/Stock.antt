@@ -1,4 +1,4 @@
--- Cells, the nights of a range, and what is found of them.
+-- Cells, the nights of a range, and what statements find of them.
 use Rattle.std.specs.Prelude.{◌≡◌, ◌<◌, ◌≤◌, ◌^◌, ◌==◌, ◌&&◌, Bool, true, false, ◌+◌, ◌-◌, ℕ, List, [], ◌∷◌, ◌++◌, if◌then◌else◌, map, filter, bytes_eq, nat_le, string_bytes}
 use Rattle.std.specs.List.{AllByRecursion, list_any}
 use Rattle.sqlite_trees.specs.Tree.{IsAscending}
@@ -58,7 +58,7 @@ stock_of c = record {
   free = c.free;
 }
 
--- cells by kind, supplier, product and night, texts by their bytes
+-- cells in order of kind, supplier, product and night, texts in order of their bytes
 abbrev pub cell_cmp : StockRow → StockRow → Ordering
 cell_cmp a b =
     ordering_then (nat_cmp a.kind b.kind) (ordering_then (slice_cmp nat_cmp a.supplier b.supplier)
@@ -78,20 +78,20 @@ shows_cell c =
     whole c.kind ∷ Text (string_bytes c.supplier) ∷ Text (string_bytes c.product) ∷ whole c.night
     ∷ whole c.allot ∷ whole c.free ∷ []
 
--- a cell of the range, with so many free places fewer, or more
+-- a cell of the range, with so many fewer free places, or more
 abbrev pub with_fewer : ℕ → StockRow → StockRow
 with_fewer count s = record s { free = s.free - count }
 
 abbrev pub with_more : ℕ → StockRow → StockRow
 with_more count s = record s { free = s.free + count }
 
--- each night of the range has so many free places, and none more than the store's integers reach
+-- each night of the range has so many free places, and no number exceeds the store's integers
 abbrev pub HaveFree : NightRange → ℕ → Tables → Type 0
 HaveFree r count t =
     AllByRecursion
     (λ (s : StockRow). is_within r s ≡ true → (count ≤ s.free) × (s.free < 2 ^ 63)) t.stock
 
--- each night of the range has room for so many free places more
+-- each night of the range has room for so many more free places
 abbrev pub HaveRoom : NightRange → ℕ → Tables → Type 0
 HaveRoom r count t =
     AllByRecursion (λ (s : StockRow). is_within r s ≡ true → s.free + count < 2 ^ 63) t.stock
@@ -124,7 +124,7 @@ is_cell a b =
     (b.kind == a.kind)
     && (bytes_eq b.supplier a.supplier && (bytes_eq b.product a.product && (b.night == a.night)))
 
--- each cell has one row at most
+-- each cell has at most one row
 abbrev pub AreApart : Tables → Type 0
 AreApart t = IsAscending (λ (a b : StockRow). is_cell a b ≡ false) t.stock
 
@@ -132,12 +132,12 @@ AreApart t = IsAscending (λ (a b : StockRow). is_cell a b ≡ false) t.stock
 abbrev pub with_places : StockRow → StockRow → StockRow
 with_places s x = record x { allot = s.allot; free = s.free }
 
--- the cell gets these places: in its own row, or in a new one, the last
+-- the cell gets these places: in its own row, or in a new one, which is appended
 abbrev pub put : StockRow → List StockRow → List StockRow
 put s cells =
     if list_any (is_cell s) cells then changed (is_cell s) (with_places s) cells
     else cells ++ s ∷ []
 
--- the same, of all rows
+-- the same, in the tables
 abbrev pub puts_cell : StockRow → Tables → Tables
 puts_cell s t = record t { stock = put s t.stock }

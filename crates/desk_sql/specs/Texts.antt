@@ -1,7 +1,7 @@
 -- The texts of the statements.
 use Rattle.std.specs.Prelude.{ℕ, List, codes}
 
--- the texts that make the tables
+-- the texts that create the tables
 
 abbrev pub meta_text : List ℕ
 meta_text = codes "CREATE TABLE meta(one INTEGER PRIMARY KEY CHECK(one = 1), version INTEGER NOT NULL, events INTEGER NOT NULL, journeys INTEGER NOT NULL) STRICT"

@@ -9,7 +9,7 @@ use Rattle.desk_sql.specs.declared.versions.Version.TheVariants.{One, Two}
 use Rattle.desk_sql.specs.Calls.{MaySeeIn}
 use Rattle.desk_sql.specs.Rows.{Tables, MetaRow}
 
--- the number that meta has for a version
+-- the number of a version in meta
 abbrev pub number_of : Version → ℕ
 number_of One = 1
 number_of Two = 2
@@ -19,7 +19,7 @@ abbrev pub AreOfVersion : ℕ → Tables → Type 0
 AreOfVersion n t = AllByRecursion (λ (m : MetaRow). m.version ≡ n) t.meta
 
 module _ {S : Type 0} (g : Ghosts S) (old new : Held S) where
-  -- the tables that the connection saw have this version, whichever tables they are
+  -- the tables that the connection saw have this version, whatever tables they are
   abbrev pub SawVersion : ℕ → Type 0
   SawVersion n =
       HasCleanDisk (state g new) → (v : Version) (t : Tables) → MaySeeIn v (state g old) t

@@ -9,12 +9,12 @@ use crate::queries::first_row;
 use sqlite::types::ValueRef;
 use sqlite::{Alter, Connection, Error, Row, Transaction};
 
-/// A reply that is kept, and what was asked for it.
+/// A kept reply, with the text of its ask.
 #[derive(Debug, Drop)]
 pub struct KeptAnswer {
-    /// The bytes that were asked under the key.
+    /// The text of the ask: the bytes that a retry under the key must repeat.
     pub ask: Vec<u8>,
-    /// The reply's line.
+    /// The line of the reply.
     pub reply: String,
 }
 
@@ -26,7 +26,7 @@ fn answer_of(row: &Row) -> Result<KeptAnswer, Error>
     Ok(KeptAnswer { ask, reply })
 }
 
-/// What is kept under an agent's key, if anything is.
+/// Returns what is kept under an agent's key, if anything is.
 pub fn find_answer<'x, S: Alter>(
     conn: &mut Connection<S>,
     agent: &'x str,
@@ -53,7 +53,7 @@ pub fn find_answer<'x, S: Alter>(
     }
 }
 
-/// Keeps a reply: `mark` is the key that the agent gave, `ask` what was asked under it. Answers how many rows.
+/// Keeps a reply: `mark` is the agent's key, `ask` the text of the ask. Returns the number of rows.
 pub fn insert_answer<'x, S: Alter>(
     tx: &mut Transaction<'_, S>,
     agent: &'x str,

@@ -1,4 +1,4 @@
-//! Batches that were loaded.
+//! Loaded batches.
 
 ghost use Rattle.std.specs.Prelude.{◌≡◌, ◌<◌, ◌^◌, false, IfOk};
 ghost use Rattle.desk_sql.specs.Calls.{Writes, StaysInside, WasOpen, CommitsNothing, LeavesNoMore, Reads, ChangesNothing};
@@ -9,7 +9,7 @@ use crate::queries::first_row;
 use sqlite::types::ValueRef;
 use sqlite::{Alter, Connection, Error, Row, Transaction};
 
-/// A batch that was loaded.
+/// A loaded batch.
 #[derive(Debug, Drop)]
 pub struct BatchFound {
     /// The number of its event.
@@ -26,7 +26,7 @@ fn read_batch(row: &Row) -> Result<BatchFound, Error>
     Ok(BatchFound { num, content })
 }
 
-/// The batch with a name, if there is one.
+/// Returns the batch with a name, if there is one.
 pub fn find_batch<S: Alter>(
     conn: &mut Connection<S>,
     name: &str,
@@ -49,7 +49,7 @@ pub fn find_batch<S: Alter>(
     }
 }
 
-/// Adds a batch: its name, the number of its event, and its text.
+/// Inserts a batch: its name, the number of its event, and its text.
 pub fn insert_batch<'x, S: Alter>(
     tx: &mut Transaction<'_, S>,
     name: &'x str,

@@ -1,4 +1,4 @@
-//! The tables, made in a store that has none.
+//! The creation of the tables, in a store that has none.
 
 ghost use Rattle.std.specs.Prelude.{◌≡◌, ◌↔◌, IsTrue};
 ghost use Rattle.desk_sql.specs.Calls.{BuildsOn, Founds, StaysInside, WasOpen, CommitsNothing, LeavesNoMore};
@@ -16,7 +16,7 @@ pub fn has_no_tables(schema: &Schema) -> bool
     schema.tables.is_empty() && schema.indexes.is_empty() && schema.views.is_empty()
 }
 
-/// Makes all tables, with the row of `meta` of schema 2, in a store that has no table.
+/// Creates all tables, with the row of `meta` of schema 2, in a store that has no table.
 pub fn make_tables<S: Alter>(tx: &mut Transaction<'_, S>) -> Result<(), Error>
     ensures same_reference { tx.new.conn.ghost_name ≡ tx.old.conn.ghost_name }
     ensures made { Founds S.Store tx.old.conn.now tx.new.conn.now result founded }
@@ -32,7 +32,7 @@ pub fn make_tables<S: Alter>(tx: &mut Transaction<'_, S>) -> Result<(), Error>
     Ok(())
 }
 
-// Makes `meta`, `stock`, `batch` and `journey`.
+// Creates `meta`, `stock`, `batch` and `journey`.
 fn make_first<S: Alter>(tx: &mut Transaction<'_, S>) -> Result<(), Error>
     ensures same_reference { tx.new.conn.ghost_name ≡ tx.old.conn.ghost_name }
     ensures made { BuildsOn S.Store tx.old.conn.now tx.new.conn.now no_schema result first_schema }
@@ -60,7 +60,7 @@ fn make_first<S: Alter>(tx: &mut Transaction<'_, S>) -> Result<(), Error>
     Ok(())
 }
 
-// Makes `step`, `entry` and `answer`.
+// Creates `step`, `entry` and `answer`.
 fn make_next<S: Alter>(tx: &mut Transaction<'_, S>) -> Result<(), Error>
     ensures same_reference { tx.new.conn.ghost_name ≡ tx.old.conn.ghost_name }
     ensures made { BuildsOn S.Store tx.old.conn.now tx.new.conn.now
@@ -85,7 +85,7 @@ fn make_next<S: Alter>(tx: &mut Transaction<'_, S>) -> Result<(), Error>
     Ok(())
 }
 
-// Makes `entry2` and `mark`.
+// Creates `entry2` and `mark`.
 fn make_last<S: Alter>(tx: &mut Transaction<'_, S>) -> Result<(), Error>
     ensures same_reference { tx.new.conn.ghost_name ≡ tx.old.conn.ghost_name }
     ensures made { BuildsOn S.Store tx.old.conn.now tx.new.conn.now

@@ -1,10 +1,10 @@
-//! Rows that a SELECT hands out one at a time: nothing is gathered before.
+//! The rows of a SELECT, read one at a time: no row is buffered before it is returned.
 //!
-//! The rows still to come are a fixed list of the tables, in order, and nothing changes while they are handed out.
-//! After an error nothing is promised of the rows to come. Whatever came of it, the connection may be asked again
-//! once the rows are let go.
+//! The remaining rows are a fixed list of the tables, in order, and nothing changes while they are read. After an error
+//! nothing is promised of the remaining rows. Once the rows are dropped, the connection may be used again, whatever
+//! happened.
 //!
-//! Words: rows *rest* while they are still to come.
+//! Words: rows *rest* while they remain to be returned.
 
 mod cells;
 mod journeys;

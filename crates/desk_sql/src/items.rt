@@ -17,7 +17,7 @@ pub struct ItemFound {
     pub num: u64,
     /// 0 a transaction, 1 a compensation, 2 a turn, 3 a save-point.
     pub item: u64,
-    /// The step, or the position.
+    /// The step, or the position of a turn or a save-point.
     pub a: u64,
     /// The option, or the cause of a turn.
     pub b: u64,
@@ -44,7 +44,7 @@ fn read_items(alloc: Global, rows: &[Row]) -> Result<Vec<ItemFound>, Error>
     Ok(items)
 }
 
-/// The items of a journey of which the events have numbers above this one, oldest first.
+/// Returns the items of a journey whose events have numbers above `after`, oldest first.
 pub fn find_items<S: Alter>(
     alloc: Global,
     conn: &mut Connection<S>,
@@ -69,7 +69,7 @@ pub fn find_items<S: Alter>(
     Ok(items)
 }
 
-/// Adds an item to a journey. Its number is above all others.
+/// Inserts an item of a journey. Its number is above all others.
 pub fn insert_item<S: Alter>(
     tx: &mut Transaction<'_, S>,
     journey: u64,

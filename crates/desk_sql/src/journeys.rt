@@ -9,16 +9,16 @@ use crate::queries::first_row;
 use sqlite::types::ValueRef;
 use sqlite::{Alter, Connection, Error, Row, Transaction};
 
-/// Where a journey stands.
+/// The cursor of a journey.
 #[derive(Clone, Copy, Debug, PartialEq, Eq)]
 pub struct Cursor {
-    /// How many steps stand.
+    /// How many of its steps stand.
     pub pos: u64,
     /// 0 running, 1 going back, 2 ended, 3 undone.
     pub phase: u64,
-    /// The position that a turn leads to, 0 where the journey is not going back.
+    /// The target of a journey that goes back, else 0.
     pub target: u64,
-    /// How many tries or options were used up.
+    /// How many tries or options were used.
     pub used: u64,
 }
 
@@ -30,9 +30,9 @@ pub struct JourneyFound {
     /// The number of the event that began it.
     pub num: u64,
     pub agent: String,
-    /// How many steps its plan has.
+    /// The number of steps in its plan.
     pub steps: u64,
-    /// How many tries its plan has.
+    /// The number of tries in its plan.
     pub tries: u64,
     pub cursor: Cursor,
 }
@@ -71,7 +71,7 @@ pub(crate) fn read_journey(row: &Row) -> Result<JourneyFound, Error>
     })
 }
 
-/// The journey with a number, if there is one.
+/// Returns the journey with a number, if there is one.
 pub fn find_journey<S: Alter>(
     conn: &mut Connection<S>,
     id: u64,
@@ -96,7 +96,7 @@ pub fn find_journey<S: Alter>(
     }
 }
 
-/// The first journey above a number that has not ended, if there is one.
+/// Returns the unfinished journey with the least number above `after`, if there is one.
 pub fn first_unfinished<S: Alter>(
     conn: &mut Connection<S>,
     after: u64,
@@ -121,7 +121,7 @@ pub fn first_unfinished<S: Alter>(
     }
 }
 
-/// Begins a journey, with the cursor at the start of its plan. Its number is above all others.
+/// Inserts a journey, with its cursor at the start of its plan. Its number is above all others.
 pub fn insert_journey<S: Alter>(
     tx: &mut Transaction<'_, S>,
     id: u64,
@@ -159,7 +159,7 @@ pub fn insert_journey<S: Alter>(
     )
 }
 
-/// Sets where a journey stands.
+/// Updates the cursor of a journey.
 pub fn move_journey<S: Alter>(
     tx: &mut Transaction<'_, S>,
     id: u64,

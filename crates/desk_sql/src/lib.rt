@@ -1,9 +1,9 @@
-//! The statements of the desk: one function for each, whose contract names the rows that it reads or changes.
+//! The SQL statements of the desk: one function for each, whose contract names the rows that it reads or changes.
 //!
-//! Each runs over any store. A write stands in a transaction, and says what the rows are afterwards; a read stands
-//! outside of one, changes nothing and hands out typed rows. The tables are made here too.
+//! Each statement runs over any store. A write runs in a transaction, and its contract says what the rows are
+//! afterwards. A read runs outside of one, changes nothing and returns typed rows. The tables are created here too.
 //!
-//! Words: a *row* is one of a table, as a typed value; a connection *sees* rows where its tables show them.
+//! Words: a *row* is a row of a table, as a typed value; a connection *sees* rows if its tables show them.
 #![tactic(auto)]
 
 mod answers;

@@ -23,7 +23,7 @@ fn read_marks(alloc: Global, rows: &[Row]) -> Result<Vec<u64>, Error>
     Ok(marks)
 }
 
-/// The positions of the save-points of a journey, the lowest first.
+/// Returns the positions of the save-points of a journey, the lowest first.
 pub fn find_marks<S: Alter>(
     alloc: Global,
     conn: &mut Connection<S>,
@@ -46,7 +46,7 @@ pub fn find_marks<S: Alter>(
     Ok(marks)
 }
 
-/// Adds a save-point to a journey.
+/// Inserts a save-point of a journey.
 pub fn insert_mark<S: Alter>(
     tx: &mut Transaction<'_, S>,
     journey: u64,
@@ -68,7 +68,7 @@ pub fn insert_mark<S: Alter>(
     )
 }
 
-/// Takes a save-point away from a journey, if it is there.
+/// Deletes a save-point of a journey, if it exists.
 pub fn delete_mark<S: Alter>(
     tx: &mut Transaction<'_, S>,
     journey: u64,

@@ -1,4 +1,4 @@
-//! The one row of `meta`: the schema's version, how many events there are, and the last journey's number.
+//! The one row of `meta`: the version of the schema, the number of events, and the number of the last journey.
 
 ghost use Rattle.std.specs.Prelude.{◌≡◌, ◌<◌, ◌^◌, false, IfOk};
 ghost use Rattle.desk_sql.specs.Calls.{Writes, WritesWhere, StaysInside, WasOpen, CommitsNothing, LeavesNoMore, ReadsEach, ChangesNothing};
@@ -14,9 +14,9 @@ use sqlite::{Alter, Connection, Error, Row, Transaction};
 pub struct Meta {
     /// The version of the schema.
     pub version: u64,
-    /// How many events there are.
+    /// The number of events.
     pub events: u64,
-    /// The last journey's number, 0 where there is none.
+    /// The number of the last journey, 0 if there is none.
     pub journeys: u64,
 }
 
@@ -33,7 +33,7 @@ fn meta_of(row: &Row) -> Result<Meta, Error>
     })
 }
 
-/// The numbers of the one row. A `meta` without a row is an error.
+/// Returns the numbers of the one row. A `meta` without a row is an error.
 pub fn read_meta<S: Alter>(conn: &mut Connection<S>) -> Result<Meta, Error>
     ensures found { ReadsEach S.Store conn.old conn.new result IsMeta }
     ensures quiet { ChangesNothing S.Store conn.old conn.new }
@@ -50,7 +50,7 @@ pub fn read_meta<S: Alter>(conn: &mut Connection<S>) -> Result<Meta, Error>
     }
 }
 
-/// Adds the row of a desk that has no event yet.
+/// Inserts the row of a desk that has no event yet.
 pub(crate) fn insert_meta<S: Alter>(
     tx: &mut Transaction<'_, S>,
     version: u64,
@@ -71,7 +71,7 @@ pub(crate) fn insert_meta<S: Alter>(
     )
 }
 
-/// Sets all three numbers.
+/// Updates all three numbers.
 pub fn update_meta<S: Alter>(
     tx: &mut Transaction<'_, S>,
     version: u64,

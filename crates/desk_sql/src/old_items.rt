@@ -1,6 +1,6 @@
-//! The items of a journey in tables of the first version, each asked for after the event of the one before.
+//! The items of a journey in tables of version 1, each read after the event of the item before.
 //!
-//! The store looks no further than the item that is found.
+//! The store reads no further than the item that is found.
 
 ghost use Rattle.std.specs.Prelude.{◌≡◌, ◌<◌, ◌^◌, false};
 ghost use Rattle.desk_sql.specs.Calls.{ReadsIn, ChangesNothing, LeavesNoMore};
@@ -12,7 +12,7 @@ use crate::versions::Version;
 use sqlite::types::ValueRef;
 use sqlite::{Alter, Connection, Error};
 
-/// The first item of a journey of which the event has a number above this one, if there is one.
+/// Returns the first item of a journey whose event has a number above `after`, if there is one.
 pub fn next_old_item<S: Alter>(
     conn: &mut Connection<S>,
     journey: u64,

@@ -10,7 +10,7 @@ ghost use Rattle.desk_sql.specs.Queries.{IsSelect, GivesRow, GivesRows};
 use sqlite::types::ValueRef;
 use sqlite::{Alter, Connection, Error, Row};
 
-/// The first row that a SELECT gives, if there is one.
+/// Returns the first row of a SELECT, if there is one.
 pub(crate) fn first_row<S: Alter>(
     conn: &mut Connection<S>,
     text: &str,
@@ -31,7 +31,7 @@ pub(crate) fn first_row<S: Alter>(
     }
 }
 
-/// All rows that a SELECT gives.
+/// Returns all rows of a SELECT.
 pub(crate) fn all_rows<S: Alter>(
     conn: &mut Connection<S>,
     text: &str,

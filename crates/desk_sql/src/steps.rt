@@ -10,28 +10,28 @@ use sqlite::types::ValueRef;
 use sqlite::{Alter, Connection, Error, Row, Transaction};
 use std::alloc::Global;
 
-/// One option of a step, as its journey begins.
+/// One option of a step, as it is at the begin of its journey.
 #[derive(Clone, Copy)]
 pub struct StepOption<'x> {
     /// The journey's number.
     pub journey: u64,
-    /// The step's number, counted from 1.
+    /// The number of the step, from 1.
     pub place: u64,
-    /// The option's number, counted from 1.
+    /// The number of the option, from 1.
     pub opt: u64,
-    /// 1 where a save-point follows the step, else 0.
+    /// 1 if a save-point follows the step, else 0.
     pub save: u64,
     pub kind: u64,
     pub supplier: &'x str,
     pub product: &'x str,
-    /// The first night, and how many there are.
+    /// The first night, and the number of nights.
     pub night: u64,
     pub nights: u64,
-    /// How many places are wanted.
+    /// The number of places.
     pub places: u64,
 }
 
-/// Adds an option, which no transaction has taken.
+/// Inserts an option, which no transaction has taken.
 pub fn insert_step<S: Alter>(
     tx: &mut Transaction<'_, S>,
     option: StepOption<'_>,
@@ -66,21 +66,21 @@ pub fn insert_step<S: Alter>(
 /// One option of a step of a journey.
 #[derive(Debug, Drop)]
 pub struct StepFound {
-    /// The step's number, counted from 1.
+    /// The number of the step, from 1.
     pub place: u64,
-    /// The option's number, counted from 1.
+    /// The number of the option, from 1.
     pub opt: u64,
-    /// 1 where a save-point follows the step, else 0.
+    /// 1 if a save-point follows the step, else 0.
     pub save: u64,
-    /// 1 where a standing transaction took this option, else 0.
+    /// 1 if a standing transaction took this option, else 0.
     pub taken: u64,
     pub kind: u64,
     pub supplier: String,
     pub product: String,
-    /// The first night, and how many there are.
+    /// The first night, and the number of nights.
     pub night: u64,
     pub nights: u64,
-    /// How many places are wanted.
+    /// The number of places.
     pub places: u64,
 }
 
@@ -122,7 +122,7 @@ fn read_steps(alloc: Global, rows: &[Row]) -> Result<Vec<StepFound>, Error>
     Ok(steps)
 }
 
-/// The options of a journey's plan, by step and option.
+/// Returns the options of a journey's plan, in order of step and option.
 pub fn find_steps<S: Alter>(
     alloc: Global,
     conn: &mut Connection<S>,
@@ -145,7 +145,7 @@ pub fn find_steps<S: Alter>(
     Ok(steps)
 }
 
-/// The options of one step of a journey's plan, by their numbers.
+/// Returns the options of one step of a journey's plan, in order of their numbers.
 pub fn find_options<S: Alter>(
     alloc: Global,
     conn: &mut Connection<S>,
@@ -170,7 +170,7 @@ pub fn find_options<S: Alter>(
     Ok(steps)
 }
 
-/// Says of an option whether a standing transaction took it: 1 where one did, else 0.
+/// Updates whether a standing transaction took an option: 1 if one did, else 0.
 pub fn mark_step<S: Alter>(
     tx: &mut Transaction<'_, S>,
     journey: u64,

@@ -10,7 +10,7 @@ use sqlite::types::ValueRef;
 use sqlite::{Alter, Connection, Error, Row, Transaction};
 use std::alloc::Global;
 
-/// The nights of a supplier's product from one to another, both included.
+/// The nights of a supplier's product from the first to the last, both included.
 #[derive(Clone, Copy)]
 pub struct NightRange<'x> {
     pub kind: u64,
@@ -20,7 +20,7 @@ pub struct NightRange<'x> {
     pub last: u64,
 }
 
-/// One night of a range, and its places.
+/// One night of a range, with its places.
 #[derive(Clone, Copy, Debug, PartialEq, Eq)]
 pub struct NightFound {
     pub night: u64,
@@ -50,7 +50,7 @@ fn read_nights(alloc: Global, rows: &[Row]) -> Result<Vec<NightFound>, Error>
     Ok(nights)
 }
 
-/// The nights of a range that have a row, in order.
+/// Returns the nights of a range that have a row, in order.
 pub fn find_nights<S: Alter>(
     alloc: Global,
     conn: &mut Connection<S>,
@@ -79,7 +79,7 @@ pub fn find_nights<S: Alter>(
     Ok(nights)
 }
 
-/// One cell, and its places.
+/// One cell, with its places.
 #[derive(Debug, Drop)]
 pub struct CellFound {
     pub kind: u64,
@@ -122,7 +122,7 @@ fn read_cells(alloc: Global, rows: &[Row]) -> Result<Vec<CellFound>, Error>
     Ok(cells)
 }
 
-/// All cells, by kind, supplier, product and night.
+/// Returns all cells, in order of kind, supplier, product and night.
 pub fn find_stock<S: Alter>(
     alloc: Global,
     conn: &mut Connection<S>,
@@ -172,7 +172,7 @@ pub fn take_nights<S: Alter>(
     )
 }
 
-// A count below zero, as one that is taken away in order to give it back.
+// The negated count, whose subtraction gives the places back.
 fn below_zero(count: u64) -> i64
     requires { count < 2 ^ 63 }
 
@@ -212,7 +212,7 @@ pub fn give_nights<S: Alter>(
     )
 }
 
-/// One cell, as its places are set.
+/// One cell, with the places that are set.
 #[derive(Clone, Copy)]
 pub struct CellPlaces<'x> {
     pub kind: u64,

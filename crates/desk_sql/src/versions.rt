@@ -1,4 +1,4 @@
-//! The versions of the tables: the seven of old files, and the nine that are made and written today.
+//! The versions of the tables: the seven tables of old files, and the nine that are created and written today.
 
 ghost use Rattle.std.specs.Prelude.{◌≡◌, ◌↔◌, Some};
 ghost use Rattle.desk_sql.specs.Versions.{number_of};
@@ -6,9 +6,9 @@ ghost use Rattle.desk_sql.specs.Versions.{number_of};
 /// A version of the desk's tables.
 #[derive(Clone, Copy, Debug, PartialEq, Eq)]
 pub enum Version {
-    /// The items stand in `entry`, and no save-point is taken at run time.
+    /// The items are in `entry`, and no save-point is taken at run time.
     One,
-    /// The items stand in `entry2`, save-points that were taken at run time in `mark`.
+    /// The items are in `entry2`, and save-points that were taken at run time in `mark`.
     Two,
 }
 

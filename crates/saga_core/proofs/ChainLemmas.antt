@@ -1,4 +1,4 @@
--- Worlds that go on, and on. For `chains`.
+-- Executions that go on, repeatedly. For chains.
 use Rattle.std.proofs.Common.{◌≡◌, true, false, List, [], ◌∷◌, ◌++◌, refl, sym, ap, subst, ◌∙◌, arith, append_assoc, append-nil, IsTrue}
 use Rattle.std.specs.Prelude.{Bool}
 use Rattle.ledger.specs.Answer.{State, start, outcome}
@@ -23,11 +23,11 @@ goes_on_all w asks limits = record {
   goes = refl;
 }
 
--- or a crash comes before that
+-- a crash may come before all are answered
 pub crashes : Crashes
 crashes w asks progress was_kept = record { progress = progress; was_kept = was_kept; goes = refl }
 
--- any moments go on with a reopening
+-- each continuation may be followed by a reopening
 GoesOn-reopened : (s : State) (v : List Moment) → GoesOn s v → GoesOn s (v ++ Reopened ∷ [])
 GoesOn-reopened s [] goes = tt
 GoesOn-reopened s (Done asked ask reply ∷ v) goes =
@@ -44,7 +44,7 @@ GoesOn-reopened s (Cut asked ask false ∷ Done a b r ∷ v) goes = let e : fals
 GoesOn-reopened s (Cut asked ask true ∷ Cut a b k ∷ v) goes = let e : false ≡ true = goes.1 in cc
 GoesOn-reopened s (Cut asked ask false ∷ Cut a b k ∷ v) goes = let e : false ≡ true = goes.1 in cc
 
--- and are then whole
+-- a reopening makes moments whole
 is_whole-reopened : (v : List Moment) → IsTrue (is_whole (v ++ Reopened ∷ []))
 is_whole-reopened [] = refl
 is_whole-reopened (Done asked ask reply ∷ v) = is_whole-reopened v
@@ -74,7 +74,7 @@ stays_world w asks v world whole g =
 
 -- Lists of asks.
 
--- some asks, each answered, and then others
+-- some asks, each answered, followed by others
 dones-append : (s : State) (first second : Asks) (last : List Moment)
     → dones s (first ++ second) ++ last ≡ (dones s first ++ []) ++ (dones (state_after s first) second ++ last)
 dones-append s [] second last = refl

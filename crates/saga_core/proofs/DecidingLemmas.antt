@@ -1,4 +1,4 @@
--- What a step of a journey does, by where the journey is: each move names the item that may come next. For decide.
+-- The next step of a journey, by its cursor: each move names the item that may come next. For decide.
 use Rattle.std.proofs.Common.{◌≡◌, ℕ, ◌+◌, ◌<◌, List, refl, ap, sym, ◌∙◌, arith, eq-eqb}
 use Rattle.std.proofs.lemmas.Bool.{and_from}
 use Rattle.std.specs.FinSet as set
@@ -24,7 +24,7 @@ use Rattle.ledger_transitions.proofs.Taken.{refused_target_by-marks}
 use Rattle.saga_core.specs.Deciding.{names, IsHere, NamesOnlyStep, NamesStep}
 use Rattle.saga_core.specs.declared.deciding.Move.TheVariants as move
 
--- Of one history.
+-- One history.
 
 -- the next transaction is named by its step and option
 names-take : (plan : Planned) (h : List Item) (x : Item) → phase plan h ≡ Run → is_forward x ≡ true
@@ -41,7 +41,7 @@ names-take plan h (Turn p Refused) run forward may =
 names-take plan h (Turn p Asked) run forward may = cc
 names-take plan h (Save p) run forward may = cc
 
--- a refused turn is named by where it leads
+-- a refused turn is named by its target
 names-turn : (plan : Planned) (h : List Item) (x : Item) → phase plan h ≡ Run → is_forward x ≡ true
     → may_come plan h false x ≡ true
     → names (move.Turn (refused_target plan h)) x ≡ true
@@ -55,7 +55,7 @@ names-turn plan h (Turn p Refused) run forward may =
 names-turn plan h (Turn p Asked) run forward may = cc
 names-turn plan h (Save p) run forward may = cc
 
--- the compensation of the last transaction is named by its step, which is that of the position
+-- the compensation of the last transaction is named by its step, which is the position
 names-undo : (plan : Planned) (h : List Item) (fits : Bool) (x : Item) (q : ℕ) → Follows plan h
     → phase plan h ≡ Back q → is_forward x ≡ true → may_come plan h fits x ≡ true
     → names (move.Undo (position_of h)) x ≡ true
@@ -70,27 +70,27 @@ names-undo plan h fits (Turn p Refused) q f back forward may =
 names-undo plan h fits (Turn p Asked) q f back forward may = cc
 names-undo plan h fits (Save p) q f back forward may = cc
 
--- Of each history that leads here.
+-- All histories with this cursor.
 
--- here the journey is in this phase
+-- each such journey is in this phase
 here-phase : (plan : Planned) (marks : set.FinSet nat_cmp) (cursor : Cursor) (h : List Item)
     (q : Phase)
     → IsHere plan marks cursor h → cursor.phase ≡ q → phase plan h ≡ q
 here-phase plan marks cursor h q here e = ap (λ (c : Cursor). c.phase) here.cursor_is ∙ e
 
--- here the next option is the rule's, by the cursor
+-- the next option is the rule's, by the cursor
 here-option : (plan : Planned) (marks : set.FinSet nat_cmp) (cursor : Cursor) (h : List Item)
     → IsHere plan marks cursor h
     → next_option plan h ≡ rules.next_option plan cursor.pos cursor.used
 here-option plan marks cursor h here =
     ap (λ (c : Cursor). rules.next_option plan c.pos c.used) here.cursor_is
 
--- here the next step is that behind the position
+-- the next step is the one after the position
 here-step : (plan : Planned) (marks : set.FinSet nat_cmp) (cursor : Cursor) (h : List Item)
     → IsHere plan marks cursor h → position_of h + 1 ≡ cursor.pos + 1
 here-step plan marks cursor h here = ap (λ (c : Cursor). c.pos + 1) here.cursor_is
 
--- here a refused step leads where the rule says, by the cursor and the set
+-- the target of a refused step is the rule's, by the cursor and the set
 here-target : (plan : Planned) (marks : set.FinSet nat_cmp) (cursor : Cursor) (h : List Item)
     → IsHere plan marks cursor h
     → refused_target plan h ≡ rules.refused_target plan (is_taken_in marks) cursor.pos cursor.used
@@ -100,7 +100,7 @@ here-target plan marks cursor h here =
     here.marks_are
     ∙ ap (λ (c : Cursor). rules.refused_target plan (is_taken_in marks) c.pos c.used) here.cursor_is
 
--- where the next want fits, no other item may come than the next transaction
+-- if the next want fits, only the next transaction may come
 pub only-take : (plan : Planned) (marks : set.FinSet nat_cmp) (cursor : Cursor) (fits : Bool)
     (option : ℕ)
     → cursor.phase ≡ Run → fits ≡ true → option ≡ rules.next_option plan cursor.pos cursor.used
@@ -112,7 +112,7 @@ only-take plan marks cursor fits option run fitting option_is h x here forward m
     ∙ names-take plan h x (here-phase plan marks cursor h Run here run) forward
     (ap (λ b. may_come plan h b x) (sym fitting) ∙ may)
 
--- and it may come
+-- if the next want fits, the next transaction may come
 pub one-take : (plan : Planned) (marks : set.FinSet nat_cmp) (cursor : Cursor) (fits : Bool)
     (option : ℕ)
     → cursor.phase ≡ Run → fits ≡ true → option ≡ rules.next_option plan cursor.pos cursor.used
@@ -125,7 +125,7 @@ one-take plan marks cursor fits option run fitting option_is h here unfinished =
       (eq-eqb _ _ (option_is ∙ sym (here-option plan marks cursor h here))),
 )
 
--- where the next want does not fit, no other item may come than the refused turn
+-- if the next want does not fit, only the refused turn may come
 pub only-turn : (plan : Planned) (marks : set.FinSet nat_cmp) (cursor : Cursor) (fits : Bool)
     (target : ℕ)
     → cursor.phase ≡ Run → fits ≡ false
@@ -136,7 +136,7 @@ only-turn plan marks cursor fits target run unfitting target_is h x here forward
     ∙ names-turn plan h x (here-phase plan marks cursor h Run here run) forward
     (ap (λ b. may_come plan h b x) (sym unfitting) ∙ may)
 
--- and it may come
+-- if the next want does not fit, the refused turn may come
 pub one-turn : (plan : Planned) (marks : set.FinSet nat_cmp) (cursor : Cursor) (fits : Bool)
     (target : ℕ)
     → cursor.phase ≡ Run → fits ≡ false
@@ -150,7 +150,7 @@ one-turn plan marks cursor fits target run unfitting target_is h here unfinished
   eq-eqb _ _ (target_is ∙ sym (here-target plan marks cursor h here)),
 )
 
--- in a journey that goes back no other item may come than the compensation of the last step
+-- in a journey that goes back only the compensation of the last step may come
 pub only-undo : (plan : Planned) (marks : set.FinSet nat_cmp) (cursor : Cursor) (fits : Bool)
     (q : ℕ)
     → cursor.phase ≡ Back q → NamesOnlyStep plan marks cursor fits (move.Undo cursor.pos)
@@ -159,7 +159,7 @@ only-undo plan marks cursor fits q back h x here forward may =
     ∙ names-undo plan h fits x q (follows-of plan h here.has)
     (here-phase plan marks cursor h (Back q) here back) forward may
 
--- and it may come
+-- in a journey that goes back the compensation of the last step may come
 pub one-undo : (plan : Planned) (marks : set.FinSet nat_cmp) (cursor : Cursor) (fits : Bool) (q : ℕ)
     → cursor.phase ≡ Back q → NamesStep plan marks cursor fits (move.Undo cursor.pos)
 one-undo plan marks cursor fits q back h here unfinished =

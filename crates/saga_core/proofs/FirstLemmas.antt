@@ -1,5 +1,5 @@
--- The first journey that is not finished, and what that says of the others. For recovery, and for books that know of
--- journeys that have finished.
+-- The first unfinished journey, and what it implies for the others. For recovery, and for books that remember
+-- finished journeys.
 use Rattle.std.proofs.Common.{◌≡◌, ℕ, zero, suc, ◌+◌, ◌<◌, ◌≤◌, List, [], ◌∷◌, length, cond, refl, ap, sym, ◌∙◌, arith, eqb-true, subst}
 use Rattle.std.proofs.lemmas.Bool.{and_parts, eqb-false, ltb-true, ltb-false}
 use Rattle.std.proofs.lemmas.Option.{slice_get_past}
@@ -13,7 +13,7 @@ use Rattle.ledger.proofs.Phases.{passing}
 use Rattle.saga_core.specs.Views.{brief_of, brief_of_journey, first_unfinished, is_unfinished_above}
 use Rattle.saga_core.specs.declared.records.Brief.{Brief}
 
--- what a journey's brief tells: its number and its phase
+-- the number and the phase in a journey's brief
 pub record Tells (m : List Event) (j : ℕ) (b : Brief) : Type 0 where
   pub number : b.id ≡ j
   pub phase_is : phase_of m j ≡ Some b.cursor.phase
@@ -33,7 +33,7 @@ tells m j b is = go (journey_at m j) refl is
               ∙ ap (λ (c : Brief). Some c.cursor.phase) same;
         }
 
--- a journey that has no brief is not there
+-- a number without a brief has no journey
 untold : (m : List Event) (j : ℕ) → brief_of m j ≡ None → is_in is_open m j ≡ false
 untold m j is = go (journey_at m j) refl is
   where
@@ -42,7 +42,7 @@ untold m j is = go (journey_at m j) refl is
     go None at e = ap (passing is_open (history m j)) at
     go (Some a) at e = cc
 
--- what was found among so many numbers from the first on
+-- the search result among so many numbers, from the first on
 data Found (m : List Event) (after first n : ℕ) : Option Brief → Type 0 where
   found : (b : Brief) → b.id < first + n → after < b.id
       → phase_of m b.id ≡ Some b.cursor.phase → is_open b.cursor.phase ≡ true
@@ -51,7 +51,7 @@ data Found (m : List Event) (after first n : ℕ) : Option Brief → Type 0 wher
   none : ((k : ℕ) → first ≤ k → after < k → k < first + n → is_in is_open m k ≡ false)
       → Found m after first n None
 
--- of a first number that passes below, what holds of the others holds of all
+-- if the first number has no open journey, what holds of the later numbers holds of all
 at_first : (m : List Event) (after first k : ℕ)
     → (after < first → is_in is_open m first ≡ false) → first ≤ k → after < k
     → (suc first ≤ k → is_in is_open m k ≡ false) → (v : Bool) → (first == k) ≡ v
@@ -61,7 +61,7 @@ at_first m after first k closed low above rest true e =
 at_first m after first k closed low above rest false e =
     let ne = eqb-false first k e in rest (omega arith)
 
--- a first number that is not found leaves what is found behind it
+-- if the first number has no open journey, the search result is that of the later numbers
 skip : (m : List Event) (after first n : ℕ) (o : Option Brief)
     → (after < first → is_in is_open m first ≡ false)
     → Found m after (suc first) n o → Found m after first (suc n) o
@@ -75,7 +75,7 @@ skip m after first n _ closed (none before) =
     at_first m after first k closed lowk abovek (λ up. before k up abovek (omega arith))
     (first == k) refl)
 
--- a journey whose test fails is not above, or it is finished
+-- a journey that does not match is not above, or it is finished
 not_open : (after : ℕ) (m : List Event) (first : ℕ) (b : Brief) → Tells m first b
     → is_unfinished_above after b ≡ false → after < first → is_in is_open m first ≡ false
 not_open after m first b t fails above =
@@ -86,7 +86,7 @@ not_open after m first b t fails above =
     go true w e f = f
     go false w e f = let high = ltb-false _ _ e in let same = t.number in absurd (omega arith)
 
--- the journeys are looked at one after another
+-- the journeys are examined in order
 found-from : (m : List Event) (after n first : ℕ)
     → Found m after first n
     (find (is_unfinished_above after) (filter_map (brief_of m) (numbers_from first n)))
@@ -143,7 +143,7 @@ first-found m after b is =
           between = λ k abovek below. between k (omega arith) abovek below;
         })
 
--- where none is found there is none above
+-- if none is found, there is none above
 pub first-none : (m : List Event) (after : ℕ) → None ≡ first_unfinished m after
     → (k : ℕ) → after < k → is_in is_open m k ≡ false
 first-none m after is =

@@ -1,4 +1,4 @@
--- How the world goes on with a run that a fault ends. For run.
+-- How an execution goes on with a run that a fault ends. For run.
 use Rattle.std.proofs.Common.{◌≡◌, ℕ, ◌+◌, List, [], ◌∷◌, ◌++◌, length, take, drop, refl, ap, sym, ◌∙◌, subst, arith, append_assoc, IsTrue}
 use Rattle.std.proofs.lemmas.List.{take-append-drop}
 use Rattle.std.specs.Prelude.{Option, Err}
@@ -21,7 +21,7 @@ pub KeepLimits-more : {cs : Asks} {i : ℕ} {c : Request × Option Asked} → Is
 KeepLimits-more {cs} {i} {c} at all one =
     subst KeepLimits (sym (took at)) (KeepLimits-append (take i cs) (c ∷ []) all (one, tt))
 
--- nothing was asked yet
+-- no ask was answered yet
 pub none-ran : (stands : State → Type 0) (leaves : State → State → Type 0) (w : List Moment) (cs : Asks)
     (replies : List Reply) → replies ≡ [] → ((u : State) → stands u → leaves u u) → StandsAtEnd stands w
     → RunEndsAmong stands leaves w cs replies Memory
@@ -31,13 +31,13 @@ none-ran stands leaves w cs replies none settled here = record {
   failed_at = refl;
 }
 
--- the asks that come before this one, this one and the later ones
+-- the asks before this one, this one, and the later ones
 parted : {cs : Asks} {i : ℕ} {c : Request × Option Asked} → IsAt cs i c
     → cs ≡ take i cs ++ (c ∷ []) ++ drop (i + 1) cs
 parted {cs} {i} {c} at =
     sym (take-append-drop (i + 1) cs) ∙ ap (λ l. l ++ drop (i + 1) cs) (took at)
 
--- the next one failed
+-- the next ask failed
 pub run-ends : {cs : Asks} {i : ℕ} {c : Request × Option Asked} {stood : State → Type 0}
     (before stands : State → Type 0) (leaves : State → State → Type 0) (w : List Moment) (replies : List Reply)
     (fault : Fault) → IsAt cs i c → ((u : State) → stands u → leaves u u)

@@ -1,4 +1,4 @@
--- What one more command does to a run. For run.
+-- The effect of one more command on a run. For run.
 use Rattle.std.proofs.Common.{◌≡◌, ℕ, ◌+◌, ◌<◌, List, [], ◌∷◌, ◌++◌, length, take, get_or, refl, ap, sym, ◌∙◌, subst, arith}
 use Rattle.std.proofs.lemmas.List.{take_more, get_or-map, length-map}
 use Rattle.std.specs.Prelude.{Option, Err}
@@ -13,24 +13,24 @@ use Rattle.ledger.specs.Answer.{State, Outcome, outcome}
 use Rattle.saga_core.specs.Books.{LeavesAtStore, KeepsAtMemory}
 use Rattle.saga_core.specs.Runs.{Asks, asked_by, asks_of, replies_to, state_after, outcome_of, StopsAmong}
 
--- where some asks and then others lead is where the others lead from there
+-- the state after some asks and then others is the state after the others, from there
 pub state_after-append : (s : State) (cs ds : Asks) → state_after s (cs ++ ds) ≡ state_after (state_after s cs) ds
 state_after-append s [] ds = refl
 state_after-append s (c ∷ cs) ds = state_after-append (outcome_of s c).state cs ds
 
--- and the replies come one after another
+-- the replies of two lists of asks are appended
 pub replies_to-append : (s : State) (cs ds : Asks)
     → replies_to s (cs ++ ds) ≡ replies_to s cs ++ replies_to (state_after s cs) ds
 replies_to-append s [] ds = refl
 replies_to-append s (c ∷ cs) ds =
     ap (λ rs. (outcome_of s c).reply ∷ rs) (replies_to-append (outcome_of s c).state cs ds)
 
--- this is asked at place i
+-- this is the ask at place i
 pub record IsAt (cs : Asks) (i : ℕ) (c : Request × Option Asked) : Type 0 where
   pub within : i < length cs
   pub item : c ≡ get_or cs i c
 
--- a command stands at place i, and its ask was read as `ask`
+-- the command at place i, whose ask was read as `ask`
 pub is_at : (commands : List (Command × Option Asked)) (i : ℕ) (command : Command × Option Asked) (ask : Option Asked)
     → i < length commands → command ≡ get_or commands i command → ask ≡ command.1
     → IsAt (asks_of commands) i (request_of command.0, ask)
@@ -40,7 +40,7 @@ is_at commands i command ask within item asked = record {
       ∙ sym (get_or-map asked_by commands i command (request_of command.0, ask) within);
 }
 
--- what is asked at that place comes to, once what is asked before it is carried out
+-- the outcome of the ask at that place, after the asks before it
 abbrev pub outcome_at : State → Asks → ℕ → Request × Option Asked → Outcome
 outcome_at s cs i c = outcome_of (state_after s (take i cs)) c
 
@@ -58,7 +58,7 @@ pub state_after-more : {cs : Asks} {i : ℕ} {c : Request × Option Asked} (s : 
     → state_after s (take (i + 1) cs) ≡ (outcome_at s cs i c).state
 state_after-more {cs} {i} {c} s at = ap (state_after s) (took at) ∙ state_after-append s (take i cs) (c ∷ [])
 
--- the next command failed: at Memory the book stands where it stood, and at Store a crash leaves that or one step more
+-- the next command failed: at Memory the book keeps the state before it; at Store a crash leaves that state or the next
 pub stops : {cs : Asks} {i : ℕ} {c : Request × Option Asked}
     (stood stands : State → Type 0) (leaves : State → State → Type 0)
     (s : State) (replies : List Reply) (fault : Fault) → IsAt cs i c → replies ≡ replies_to s (take i cs)

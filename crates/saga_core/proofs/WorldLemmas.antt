@@ -1,4 +1,4 @@
--- How a world goes on with asks. For run, and for what else goes on: recovery, lines and messages.
+-- How an execution goes on with asks. For run, and for all other continuations: recovery, lines and messages.
 use Rattle.std.proofs.Common.{◌≡◌, ℕ, ◌+◌, ◌≤◌, true, false, List, [], ◌∷◌, ◌++◌, length, take, drop, refl, ap, sym, ◌∙◌, subst, arith, append-nil, append_assoc, IsTrue}
 use Rattle.std.specs.Prelude.{Bool, Option, Err}
 use Rattle.commands.specs.Asks.{Asked}
@@ -11,7 +11,7 @@ use Rattle.saga_core.proofs.RunLemmas.{state_after-append}
 
 -- Moments.
 
--- what comes after some moments and others comes after the others from there
+-- the state after some moments and others is the state after the others, from there
 pub after-append : (s : State) (v w : List Moment) → after s (v ++ w) ≡ after (after s v) w
 after-append s [] w = refl
 after-append s (Done asked ask reply ∷ v) w = after-append (outcome s ask asked).state v w
@@ -19,7 +19,7 @@ after-append s (Cut asked ask true ∷ v) w = after-append (outcome s ask asked)
 after-append s (Cut asked ask false ∷ v) w = after-append s v w
 after-append s (Reopened ∷ v) w = after-append s v w
 
--- moments whose last is not cut off go on with any that go on from there
+-- moments whose last is not cut off go on with any moments that go on from there
 pub GoesOn-append : (s : State) (v w : List Moment) → GoesOn s v → IsTrue (is_whole v)
     → GoesOn (after s v) w → GoesOn s (v ++ w)
 GoesOn-append s [] w goes whole then = then
@@ -36,7 +36,7 @@ GoesOn-append s (Cut asked ask false ∷ Done a b r ∷ v) w goes whole then = l
 GoesOn-append s (Cut asked ask true ∷ Cut a b k ∷ v) w goes whole then = let e : false ≡ true = goes.1 in cc
 GoesOn-append s (Cut asked ask false ∷ Cut a b k ∷ v) w goes whole then = let e : false ≡ true = goes.1 in cc
 
--- whole moments and whole moments are whole
+-- whole moments followed by whole moments are whole
 pub is_whole-append : (v w : List Moment) → IsTrue (is_whole v) → IsTrue (is_whole w) → IsTrue (is_whole (v ++ w))
 is_whole-append [] w first second = second
 is_whole-append (Done asked ask reply ∷ v) w first second = is_whole-append v w first second
@@ -44,7 +44,7 @@ is_whole-append (Reopened ∷ v) w first second = is_whole-append v w first seco
 is_whole-append (Cut asked ask kept ∷ []) w first second = let e : false ≡ true = first in cc
 is_whole-append (Cut asked ask kept ∷ m ∷ v) w first second = is_whole-append (m ∷ v) w first second
 
--- what was answered is whole
+-- answered asks are whole
 pub is_whole-dones : (s : State) (asks : Asks) → IsTrue (is_whole (dones s asks ++ []))
 is_whole-dones s [] = refl
 is_whole-dones s (c ∷ later) = is_whole-dones (outcome_of s c).state later
@@ -65,7 +65,7 @@ KeepLimits-rest (c ∷ answered) later all = KeepLimits-rest answered later all.
 
 -- Asks that are answered.
 
--- they lead where they lead
+-- the state after answered asks is the state after their requests
 pub after-dones : (s : State) (cs : Asks) (last : List Moment)
     → after s (dones s cs ++ last) ≡ after (state_after s cs) last
 after-dones s [] last = refl
@@ -77,41 +77,41 @@ GoesOn-dones s [] last all then = then
 GoesOn-dones s (c ∷ cs) last all then =
     (λ made. all.0, refl, GoesOn-dones (outcome_of s c).state cs last all.1 then)
 
--- The next one, if there is one, is cut off.
+-- The next ask, if there is one, is cut off.
 
--- it keeps the limits
+-- a cut-off ask keeps the limits
 pub GoesOn-cut : (s : State) (next : Asks) (was_kept : Bool) → KeepLimits next → GoesOn s (cut_off next was_kept)
 GoesOn-cut s [] was_kept limits = tt
 GoesOn-cut s (c ∷ later) true limits = (λ made. limits.0, refl, tt)
 GoesOn-cut s (c ∷ later) false limits = (λ made. limits.0, refl, tt)
 
--- nothing of it was kept
+-- nothing of the ask was kept
 after-lost : (s : State) (next : Asks) → after s (cut_off next false) ≡ s
 after-lost s [] = refl
 after-lost s (c ∷ later) = refl
 
--- or all of it
+-- all of the ask was kept
 after-kept : (s : State) (next : Asks) → length next ≤ 1 → after s (cut_off next true) ≡ state_after s next
 after-kept s [] few = refl
 after-kept s (c ∷ []) few = refl
 after-kept s (c ∷ d ∷ later) few = absurd (omega arith)
 
--- Worlds that go on.
+-- Executions that go on.
 
--- where the world that goes on ends
+-- the final state of the continued execution
 pub after-continued : (w : List Moment) (cs : Asks) (last : List Moment)
     → after start (continued w cs last) ≡ after (state_after (after start w) cs) last
 after-continued w cs last =
     after-append start w (dones (after start w) cs ++ last) ∙ after-dones (after start w) cs last
 
--- it is a world
+-- the continued execution is an execution
 pub IsWorld-continued : (w : List Moment) (cs : Asks) (last : List Moment) → IsWorld w → IsTrue (is_whole w)
     → KeepLimits cs → GoesOn (state_after (after start w) cs) last → IsWorld (continued w cs last)
 IsWorld-continued w cs last world whole all then =
     GoesOn-append start w (dones (after start w) cs ++ last) world whole
     (GoesOn-dones (after start w) cs last all then)
 
--- the book stands where the asks led
+-- the book represents the state after the asks
 pub stands-continued : {stood : State → Type 0} (stands : State → Type 0) (w : List Moment) (cs : Asks)
     → StandsAtEnd stood w → KeepLimits cs → stands (state_after (after start w) cs)
     → StandsAtEnd stands (continued w cs [])
@@ -122,7 +122,7 @@ stands-continued stands w cs here all now =
       stands_there = subst stands (sym (after-continued w cs [])) now;
     }
 
--- a crash leaves where the answered asks led, or the next one too
+-- a crash leaves the state after the answered asks, or after the next one too
 pub leaves-crashed : {stood : State → Type 0} (leaves : State → State → Type 0) (w : List Moment) (cs next : Asks)
     → StandsAtEnd stood w → KeepLimits (cs ++ next) → length next ≤ 1
     → leaves (state_after (after start w) cs) (state_after (after start w) (cs ++ next))
@@ -145,7 +145,7 @@ leaves-crashed leaves w cs next here all few left =
 
 -- How a run ends.
 
--- a crash leaves just that
+-- a crash leaves just the state of the book
 pub leaves-just : {stood : State → Type 0} (stands : State → Type 0) (leaves : State → State → Type 0)
     (w : List Moment) (asks : Asks) → ((u : State) → stands u → leaves u u)
     → StandsAtEnd stood w → KeepLimits asks → stands (state_after (after start w) asks)
@@ -166,7 +166,7 @@ ends-with stands leaves w asks settled here limits now =
       left = leaves-just stands leaves w asks settled here limits now;
     }
 
--- a prefix of them was answered, and the book stands where it led
+-- a prefix of the asks was answered, and the book represents the state after it
 abbrev pub ends-after : {stood : State → Type 0} (stands : State → Type 0) (leaves : State → State → Type 0)
     (w : List Moment) (asks answered later : Asks) → ((u : State) → stands u → leaves u u)
     → StandsAtEnd stood w → asks ≡ answered ++ later → KeepLimits answered
@@ -186,7 +186,7 @@ ends-after stands leaves w asks answered later settled here front limits now =
       left = leaves-just stands leaves w answered settled here limits now;
     }
 
--- and the store failed at the next ones, which are at most one
+-- the store failed at the asks in progress, at most one
 abbrev pub ends-cut : {stood : State → Type 0} (stands : State → Type 0) (leaves : State → State → Type 0)
     (w : List Moment) (asks answered under_way later : Asks)
     → StandsAtEnd stood w → asks ≡ answered ++ under_way ++ later → length under_way ≤ 1

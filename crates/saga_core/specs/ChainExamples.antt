@@ -1,4 +1,4 @@
--- A session that crashes within a step, made of the worked requests of the ledger. The laws of chains are used on it.
+-- A session that crashes within a step, made of the worked requests of the ledger. For the laws of chains.
 use Rattle.std.specs.Prelude.{true, List, [], ◌∷◌, None}
 use Rattle.allotment.specs.declared.kinds.Kind.TheVariants.{Flight}
 use Rattle.commands.specs.Request.{Step}

@@ -1,4 +1,4 @@
--- The one step of a journey, as a move.
+-- The next step of a journey, as a move.
 use Rattle.std.specs.Prelude.{◌≡◌, ℕ, ◌≤◌, ◌==◌, ◌&&◌, Bool, false, List, IsTrue}
 use Rattle.std.specs.FinSet as set
 use Rattle.std.specs.Ordering.{nat_cmp}
@@ -14,27 +14,27 @@ use Rattle.ledger_transitions.specs.Legal.{HasHistory}
 use Rattle.saga_core.specs.declared.deciding.Move.{Move}
 use Rattle.saga_core.specs.declared.deciding.Move.TheVariants as move
 
--- the move names this item; of a compensation it names the step alone
+-- the move names this item; for a compensation the move gives the step alone
 abbrev pub names : Move → Item → Bool
 names (move.Take i c) (Transaction k d) = (i == k) && (c == d)
 names (move.Undo i) (Compensation k d) = i == k
 names (move.Turn p) (Turn q Refused) = p == q
 names _ _ = false
 
--- a journey with this plan and this history is here, and took these save-points
+-- a journey with this plan and this history has this cursor and these save-points
 pub record IsHere (plan : Planned) (marks : set.FinSet nat_cmp) (cursor : Cursor)
     (h : List Item) : Type 0 where
   pub has : HasHistory plan h
   pub cursor_is : cursor_of plan h ≡ cursor
   pub marks_are : marks_of h ≡ marks
 
--- however the journey came here: of the items that a step makes, none may come next but the one that is named
+-- whatever the history: of the items that a step makes, only the one that the move names may come next
 abbrev pub NamesOnlyStep : Planned → set.FinSet nat_cmp → Cursor → Bool → Move → Type 0
 NamesOnlyStep plan marks cursor fits decided =
     (h : List Item) (x : Item) → IsHere plan marks cursor h → IsTrue (is_forward x)
     → IsTrue (may_come plan h fits x) → IsTrue (names decided x)
 
--- however the journey came here: if it runs or goes back, an item that a step makes is named and may come next
+-- whatever the history: if the journey is open, the move names an item that a step makes and that may come next
 abbrev pub NamesStep : Planned → set.FinSet nat_cmp → Cursor → Bool → Move → Type 0
 NamesStep plan marks cursor fits decided =
     (h : List Item) → IsHere plan marks cursor h → IsTrue (is_open cursor.phase)

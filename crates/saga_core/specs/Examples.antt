@@ -1,4 +1,4 @@
--- Worked examples of what may be asked of a journey, and of what a book shows: each is computed by the definitions.
+-- Worked examples of requests about a journey, and of what a book reports: each is computed by the definitions.
 use Rattle.std.specs.Prelude.{◌≡◌, ℕ, ◌+◌, List, [], ◌∷◌, ◌++◌, map, Option, Some, None, Result, Ok, Err, option_map, refl}
 use Rattle.std.specs.FinSet as set
 use Rattle.std.specs.FinSet.{contains-empty}
@@ -37,11 +37,11 @@ six_flights =
 abbrev pub none_taken : set.FinSet nat_cmp
 none_taken = set.empty
 
--- what it comes to that somebody asks to turn back to a position
+-- the ruling where a caller asks to turn back to a position
 abbrev pub asked_for : Cursor → ℕ → Result Item Refusal
 asked_for c p = turn_said six_flights c none_taken (turn.Asked p) cause.Asked
 
--- at 5 it may turn to the marks and to the start, and to no other position
+-- at position 5 it may turn to the marks and to the start, and to no other position
 pub turns_to_its_save_points_alone :
     map (asked_for (at 5 Run)) (0 ∷ 1 ∷ 2 ∷ 3 ∷ 4 ∷ [])
     ≡ Ok (Turn 0 cause.Asked) ∷ Err NoSavePoint ∷ Ok (Turn 2 cause.Asked) ∷ Err NoSavePoint
@@ -49,7 +49,7 @@ pub turns_to_its_save_points_alone :
 turns_to_its_save_points_alone =
     rw (contains-empty nat_cmp 1, contains-empty nat_cmp 3) refl
 
--- going back to 2 it may be sent further down, and no stop turns it; at its end nothing does
+-- a journey that goes back to 2 may be sent further back, and no stop turns it; at its end nothing turns it
 pub goes_further_down_alone :
     map (asked_for (at 5 (Back 2))) (0 ∷ 2 ∷ 4 ∷ [])
     ++ (turn_said six_flights (at 5 (Back 2)) none_taken turn.Stop cause.Stop
@@ -58,7 +58,7 @@ pub goes_further_down_alone :
     ∷ Err Finished ∷ []
 goes_further_down_alone = refl
 
--- a save-point is taken at 1 and 3, not at 0 or at a mark, nor on the way back or at the end
+-- a save-point may be taken at 1 and 3, but not at 0 or at a mark, while it goes back, or at the end
 pub save_point_is_taken_where_none_stands :
     map (λ c. save_said six_flights c none_taken)
     (at 0 Run ∷ at 1 Run ∷ at 2 Run ∷ at 3 Run ∷ at 3 (Back 2) ∷ at 6 Ended ∷ [])
@@ -88,7 +88,7 @@ two_of_three_nights =
     (load 97 (row Room 1 4 ∷ row_after 2 Room 1 2 ∷ [])
     ∷ Begin (untried (step (nights_of 1 Room 1 1 ∷ []) ∷ [])) ∷ Step 1 ∷ [])).ledger
 
--- so of three nights two are shown
+-- two of the three nights are shown
 pub night_without_allotment_is_left_out :
     places_shown two_of_three_nights (nights_of 3 Room 1 1)
     ≡ (june, record { allot = 4; free = 3 }) ∷ (june + 2, record { allot = 2; free = 2 }) ∷ []

@@ -1,16 +1,16 @@
--- What a source of rows hands out.
+-- What a source of rows returns.
 use Rattle.std.specs.Prelude.{◌≡◌, ℕ, List, [], ◌∷◌, Option, None, Some}
 
--- how many rows were found
+-- how many rows were returned
 abbrev pub count_of : {T : Type 0} → Option T → ℕ
 count_of None = 0
 count_of (Some row) = 1
 
--- the first of these rows was handed out, and the later ones are still to come; or there was none
+-- the first of these rows was returned, and the later ones remain; or there was no row
 abbrev pub HandsFirst : {T : Type 0} → (List T → Type 0) → Option T → List T → Type 0
 HandsFirst rests found [] = (found ≡ None) × rests []
 HandsFirst rests found (row ∷ later) = (found ≡ Some row) × rests later
 
--- of the rows that were to come the first was handed out
+-- of the rows that remained, the first was returned
 abbrev pub Hands : {T : Type 0} → (List T → Type 0) → (List T → Type 0) → Option T → Type 0
 Hands {T} rested rests found = (rows : List T) → rested rows → HandsFirst rests found rows

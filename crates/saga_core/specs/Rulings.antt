@@ -1,4 +1,4 @@
--- What may be asked of a journey beside its next step, and what it comes to: an item, or why there is none.
+-- Turns and save-points: for each request about a journey but its next step, the item that it makes, or its refusal.
 use Rattle.std.specs.Prelude.{◌&&◌, not, nat_lt, if◌then◌else◌, Result, Ok, Err}
 use Rattle.std.specs.FinSet as set
 use Rattle.std.specs.Ordering.{nat_cmp}
@@ -16,7 +16,7 @@ use Rattle.commands.specs.declared.refusals.Refusal.TheVariants.{Finished, NoSav
 use Rattle.ledger.specs.History.{is_running, is_finished}
 use Rattle.ledger_transitions.specs.JourneyChanges.{target_of}
 
--- a turn that may be made leads to its target
+-- the turn to the target of the rules, if it may be made
 abbrev pub turn_said : Planned → Cursor → set.FinSet nat_cmp → Turn → Cause → Result Item Refusal
 turn_said plan c marks why cause =
     if is_finished c.phase then Err Finished
@@ -24,7 +24,7 @@ turn_said plan c marks why cause =
     then Ok (item.Turn (turn_target plan (is_taken_in marks) c.pos c.used why) cause)
     else Err NoSavePoint
 
--- a save-point may be taken where a journey runs, above its start, and none stands yet
+-- a save-point may be taken if the journey runs, is above its start, and has no save-point there
 abbrev pub save_said : Planned → Cursor → set.FinSet nat_cmp → Result Item Refusal
 save_said plan c marks =
     if is_finished c.phase then Err Finished

@@ -1,4 +1,4 @@
--- What a book shows of a ledger.
+-- What a book reports of a ledger.
 use Rattle.std.specs.Prelude.{◌≡◌, ℕ, ◌-◌, ◌&&◌, not, Bool, true, List, filter, filter_map, find, nat_lt, Option, option_map, IsTrue, [], ◌∷◌, map}
 use Rattle.std.specs.List.{list_all}
 use Rattle.std.specs.Ordering.{is_lt, ordering_then, nat_cmp}
@@ -20,7 +20,7 @@ abbrev pub record_of_journey : List Item → Journey → Record
 record_of_journey h a =
     record { agent = a.agent; plan = a.plan; cursor = cursor_of a.plan h; marks = marks_of h }
 
--- a journey, if there is one of that number
+-- the journey of this number, if there is one
 abbrev pub record_of : List Event → ℕ → Option Record
 record_of l j = option_map (record_of_journey (history l j)) (journey_at l j)
 
@@ -33,11 +33,11 @@ brief_of l j = option_map (brief_of_journey j (history l j)) (journey_at l j)
 abbrev pub is_unfinished_above : ℕ → Brief → Bool
 is_unfinished_above after b = nat_lt after b.id && not (is_finished b.cursor.phase)
 
--- the first journey above this number that is not finished
+-- the unfinished journey with the least number above this one
 abbrev pub first_unfinished : List Event → ℕ → Option Brief
 first_unfinished l after = find (is_unfinished_above after) (filter_map (brief_of l) (numbers l))
 
--- the journeys that are not finished, in short, by rising number
+-- the briefs of the unfinished journeys, in order of number
 abbrev pub unfinished_of : List Event → List Brief
 unfinished_of l =
     filter (λ (b : Brief). not (is_finished b.cursor.phase)) (filter_map (brief_of l) (numbers l))
@@ -50,7 +50,7 @@ pub record Places : Type 0 where
 abbrev pub places_said : Held → Places
 places_said held = record { allot = held.allot; free = held.free }
 
--- the places of a cell, where it has an allotment
+-- the places of a cell, if it has an allotment
 abbrev pub places_of : List Event → Cell → Option Places
 places_of l x = option_map (λ (n : ℕ). record { allot = n; free = n - held l x }) (allotment l x)
 
@@ -64,11 +64,11 @@ places_shown l w = filter_map (λ x. option_map (at_night x) (places_of l x)) (c
 abbrev pub night_said : ℕ × Held → ℕ × Places
 night_said n = (n.0, places_said n.1)
 
--- the nights that a program lists are the ones that the ledger shows of a want
+-- the nights that a call returned are those that the ledger shows of a want
 abbrev pub ShowsCells : Wanted → State → List (ℕ × Held) → Type 0
 ShowsCells want s cells = map night_said cells ≡ places_shown s.ledger want
 
--- what the list has of a cell
+-- the places that the list has of a cell
 abbrev pub places_at : List (Cell × Held) → Cell → Option Places
 places_at rows x =
     option_map (λ (r : Cell × Held). places_said r.1) (find (λ (r : Cell × Held). is_cell x r.0) rows)

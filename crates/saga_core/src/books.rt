@@ -1,8 +1,8 @@
-//! What every book promises.
+//! The contract of every book.
 //!
-//! A book *stands for* a state, which is a ledger with kept replies, and a stop then leaves just that state. It is
-//! *sound* while its store has returned what was written; that may end at any call, and never comes back. It has
-//! *failed* once a call answered `Store`; from then on every call does.
+//! A book *represents* a state (`stands`): a ledger with kept replies, which is then also all that a crash leaves. A
+//! book is *sound* while its store has returned what was written; soundness may end at any call, and never returns. A
+//! book has *failed* once a call returned `Store`; every later call returns `Store` too.
 ghost use Rattle.std.specs.Prelude.{◌≡◌, ◌↔◌, List, Bool, Option, IsTrue, IsErrOf};
 ghost use Rattle.std.specs.Option.{option_copied};
 ghost use Rattle.commands.specs.Orders.{request_of};
@@ -16,21 +16,21 @@ use allotment::{Cell, Held, Night, Want};
 use commands::{Ask, Command, Fault, Item, Reply};
 
 pub trait Book {
-    /// The store returned what was written, so far.
+    /// The store has returned what was written, so far.
     ghost is_sound: { Self → Type 0 };
 
-    /// The book stands for this state, and a stop leaves just that.
+    /// The book represents this state, and a crash leaves just that state.
     ghost stands: { Self → State → Type 0 };
 
-    /// Whatever a stop now leaves stands for one of these two states.
+    /// Whatever a crash leaves now represents one of these two states.
     ghost leaves: { Self → State → State → Type 0 };
 
-    /// A call has answered Store.
+    /// A call has returned `Store`.
     ghost has_failed: { Self → Bool };
 
-    /// Answers one command, for whoever asks, or for the house.
+    /// Executes one command for the agent of the ask, or for the house if there is no ask.
     ///
-    /// An accepted command is one event, and its reply is kept with it where there is an ask. A refusal changes
+    /// An accepted command adds one event, and its reply is kept with it if there is an ask. A refusal changes
     /// nothing.
     fn act(&mut self, command: &Command, ask: Option<&Ask>) -> Result<Reply, Fault>
         ensures reply { is_sound self.new →
@@ -50,7 +50,7 @@ pub trait Book {
 
         ensures sound { is_sound self.new → is_sound self.old };
 
-    /// The journey of that number, if there is one.
+    /// Returns the journey of that number, if there is one.
     fn journey(&mut self, id: u64) -> Result<Option<Record>, Fault>
         ensures journey { is_sound self.new →
             Shows (stands self.old) (λ s found. found ≡ record_of s.ledger id) result }
@@ -63,7 +63,7 @@ pub trait Book {
             LeavesNoMore (leaves self.old) (leaves self.new) }
         ensures sound { is_sound self.new → is_sound self.old };
 
-    /// The items of the journey of that number, in order; none where it is absent.
+    /// Returns the items of the journey of that number, in order; none if there is no such journey.
     fn history(&mut self, id: u64) -> Result<Vec<Item>, Fault>
         ensures items { is_sound self.new →
             Shows (stands self.old) (λ s items. items.items ≡ history s.ledger id) result }
@@ -76,7 +76,7 @@ pub trait Book {
             LeavesNoMore (leaves self.old) (leaves self.new) }
         ensures sound { is_sound self.new → is_sound self.old };
 
-    /// The unfinished journey with the least number above this one.
+    /// Returns the unfinished journey with the least number above `after`.
     fn first_unfinished(&mut self, after: u64) -> Result<Option<Brief>, Fault>
         ensures first { is_sound self.new →
             Shows (stands self.old) (λ s found. found ≡ first_unfinished s.ledger after) result }
@@ -89,7 +89,7 @@ pub trait Book {
             LeavesNoMore (leaves self.old) (leaves self.new) }
         ensures sound { is_sound self.new → is_sound self.old };
 
-    /// The places of a want's nights, by rising night, without those that have no allotment.
+    /// Returns the places of a want's nights, in order of night, without the nights that have no allotment.
     fn cells(&mut self, want: &Want) -> Result<Vec<(Night, Held)>, Fault>
         ensures cells { is_sound self.new →
             Shows (stands self.old) (λ s cells. ShowsCells want.now s cells.items) result }
@@ -102,7 +102,7 @@ pub trait Book {
             LeavesNoMore (leaves self.old) (leaves self.new) }
         ensures sound { is_sound self.new → is_sound self.old };
 
-    /// The places of every cell that has an allotment, by kind, supplier, product and night.
+    /// Returns the places of every cell that has an allotment, in order of kind, supplier, product and night.
     fn stock(&mut self) -> Result<Vec<(Cell, Held)>, Fault>
         ensures stock { is_sound self.new →
             Shows (stands self.old) (λ s rows. IsStock s.ledger rows.items) result }
@@ -115,9 +115,9 @@ pub trait Book {
             LeavesNoMore (leaves self.old) (leaves self.new) }
         ensures sound { is_sound self.new → is_sound self.old };
 
-    /// Where a book stands for a state, its ledger is legal.
+    /// If a book represents a state, the ledger of that state is legal.
     ghost legal: { (book : Self) (s : State) → stands book s → IsLegal s.ledger };
 
-    /// Where a book stands for a state, a stop leaves just that.
+    /// If a book represents a state, a crash leaves just that state.
     ghost settled: { (book : Self) (s : State) → stands book s → LeavesJust (leaves book) s };
 }

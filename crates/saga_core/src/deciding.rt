@@ -1,7 +1,7 @@
-//! What a step of a journey does: the one thing that the rules let a journey do next by itself.
+//! The next step of a journey: the one move that the rules let a journey make by itself.
 //!
-//! It is decided by where the journey is, the save-points that it took, and whether its next want fits. Nothing here
-//! allocates.
+//! The move depends on the cursor of the journey, the save-points that it took, and whether its next want fits. Nothing
+//! here allocates.
 ghost use Rattle.std.specs.Prelude.{◌≡◌, ℕ, ◌+◌, ◌<◌, ◌↔◌, IsTrue, IsFalse};
 ghost use Rattle.plan.specs.PlanModel.{step_count};
 ghost use Rattle.ledger.specs.History.{is_finished};
@@ -16,30 +16,30 @@ use savepoints::{Marks, Turn, option_at, target};
 #[cfg(test)]
 mod tests;
 
-/// What a step does. Steps and their options are counted from 1.
+/// What a step does. Steps and their options are numbered from 1.
 #[derive(Clone, Copy, Debug, PartialEq, Eq)]
 pub enum Move {
-    /// It takes the want of this step, with this option of it.
+    /// Takes the want of this step, with this option of the step.
     Take(usize, usize),
-    /// It compensates this step.
+    /// Compensates this step.
     Undo(usize),
-    /// It turns the journey back to this position, since the next want does not fit.
+    /// Turns the journey back to this position, since the next want does not fit.
     Turn(usize),
-    /// It does nothing: the journey has ended or is undone.
+    /// Does nothing: the journey has ended or is undone.
     Nothing,
 }
 
-/// Where a running journey turns when its next want does not fit.
+/// The position to which a running journey turns if its next want does not fit.
 fn refused_target(plan: &Plan, marks: &Marks, pos: usize, used: usize) -> usize
     requires { pos < step_count plan.now }
 
     ensures { result ≡ rules.refused_target plan.now (is_taken_in marks.now) pos used }
 {
-    // a refused step always leads somewhere, be it to the beginning
+    // a refused step always has a target, which may be position 0
     target(plan, marks, pos, used, Turn::Refused, None).unwrap_or(0)
 }
 
-/// What a step of a journey does that has this plan, took these save-points and is here. `fits` says whether its next
+/// Returns the next step of a journey with this plan, these save-points and this cursor. `fits` says whether its next
 /// want fits.
 pub fn decide(plan: &Plan, marks: &Marks, cursor: &Cursor, fits: bool) -> Move
     requires short { cursor.now.phase ≡ Phase.Run → cursor.now.pos < step_count plan.now }

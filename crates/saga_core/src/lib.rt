@@ -1,7 +1,7 @@
-//! The book of a desk: what it answers, what a stop leaves of it, and runs of commands over any book.
+//! The contract of a book, what a crash leaves of a book, and runs of commands over any book.
 //!
-//! `Book` is the one contract that all else stands on: a book stands for a ledger with its kept replies, answers each
-//! command as the definitions say, and leaves the old state or the new one, whatever happens.
+//! `Book` is the one contract on which every layer above depends. A book represents a ledger with its kept replies,
+//! answers each command as the definitions say, and leaves the old state or the new one whatever happens.
 #![tactic(auto)]
 
 mod books;

@@ -1,9 +1,9 @@
-//! What a book shows of journeys.
+//! What a book reports of journeys.
 use commands::{Agent, Cursor};
 use plan::Plan;
 use savepoints::Marks;
 
-/// A journey: who began it, its plan, where it is, and the save-points that were taken while it ran.
+/// A journey: the agent who began it, its plan, its cursor, and the save-points that it took while it ran.
 #[derive(Drop)]
 pub struct Record {
     pub agent: Agent,
@@ -15,7 +15,7 @@ pub struct Record {
 /// A journey by its number, without its plan.
 #[derive(Clone, Copy)]
 pub struct Brief {
-    /// From 1.
+    /// Numbered from 1.
     pub id: u64,
     pub agent: Agent,
     pub cursor: Cursor,

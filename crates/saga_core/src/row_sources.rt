@@ -1,27 +1,27 @@
-//! Lists of rows that are handed out one at a time.
+//! Lists of rows that are read one row at a time.
 //!
-//! A source hands out the rows of one list, in its order, each once. It is *sound* while its store has returned what
-//! was written; that may end at any call, and never comes back.
+//! A source returns the rows of one list, in their order, each once. A source is *sound* while its store has returned
+//! what was written; soundness may end at any call, and never returns.
 ghost use Rattle.std.specs.Prelude.{◌≡◌, ◌≤◌, ◌^◌, ◌<◌, ◌+◌, ⊤, ℕ, List, drop, length, IfOk, IsOk};
 ghost use Rattle.saga_core.specs.RowSources.{count_of, Hands};
 
 use commands::Fault;
 
-/// A list of rows, handed out one at a time.
+/// A list of rows, read one row at a time.
 pub trait RowSource<T> {
-    /// The store returned what was written, so far.
+    /// The store has returned what was written, so far.
     ghost is_sound: { Self → Type 0 };
 
-    /// The rows that are still to come, in order, are these.
+    /// The rows that are still to be returned are these, in order.
     ghost rests: { Self → List T → Type 0 };
 
-    /// So many rows were handed out.
+    /// How many rows were returned.
     ghost given: { Self → ℕ };
 
-    /// What the source stands on may have become this by handing out rows.
+    /// What the source reads may have become this one by returning rows.
     ghost becomes: { Self → Self → Type 0 };
 
-    /// The next row; None after the last one.
+    /// Returns the next row; `None` after the last one.
     fn next_row(&mut self) -> Result<Option<T>, Fault>
         ensures next { is_sound self.new → IfOk result (Hands (rests self.old) (rests self.new)) }
         ensures counted { IfOk result (λ found. given self.new ≡ count_of found + given self.old) }
@@ -30,10 +30,10 @@ pub trait RowSource<T> {
         ensures kept { becomes self.old self.new }
         ensures sound { is_sound self.new → is_sound self.old };
 
-    /// A source that hands out nothing stays as it is.
+    /// `becomes` is reflexive: a source that returns no row is as it was.
     ghost stays: { (s : Self) → becomes s s };
 
-    /// What became of it in two parts became of it.
+    /// `becomes` is transitive.
     ghost joins: { (a b c : Self) → becomes a b → becomes b c → becomes a c };
 }
 
@@ -46,7 +46,7 @@ pub struct Listed<'a, T> {
 }
 
 impl<'a, T: Copy> Listed<'a, T> {
-    /// All of them, from the first on.
+    /// A source of all rows of the slice, in order.
     pub fn new(rows: &'a [T]) -> Listed<'a, T>
         ensures rows { ⟦<Listed<'a, T> as RowSource<T>>⟧.rests result rows.now }
         ensures none { ⟦<Listed<'a, T> as RowSource<T>>⟧.given result ≡ 0 }
@@ -68,7 +68,7 @@ impl<T: Copy> RowSource<T> for Listed<'_, T> {
 
     ghost joins = { λ _ _ _ _ _. tt };
 
-    /// The next row; it never fails.
+    /// Returns the next row; never fails.
     fn next_row(&mut self) -> Result<Option<T>, Fault>
         ensures next { IfOk result (Hands (λ rows. rows ≡ drop self.old.next self.old.rows.now)
             (λ rows. rows ≡ drop self.new.next self.new.rows.now)) }

@@ -1,6 +1,6 @@
-//! What may be asked of a journey beside its next step, and what it comes to: an item, or why there is none.
+//! Turns and save-points: for each request about a journey but its next step, the item that it makes, or its refusal.
 //!
-//! It is ruled by where the journey is and by the save-points that it took. Nothing here allocates.
+//! The ruling depends on the cursor of the journey and the save-points that it took. Nothing here allocates.
 ghost use Rattle.std.specs.Prelude.{◌≡◌, ℕ, ◌<◌, IsTrue};
 ghost use Rattle.plan.specs.PlanModel.{step_count};
 ghost use Rattle.ledger.specs.History as h;
@@ -18,7 +18,7 @@ pub fn is_running(phase: Phase) -> bool
     matches!(phase, Phase::Run)
 }
 
-/// Whether nothing more comes in this phase.
+/// Whether a journey in this phase is finished: no further item may come.
 pub fn is_finished(phase: Phase) -> bool
     ensures finished { result ≡ h.is_finished phase }
 {
@@ -35,8 +35,8 @@ pub fn going(phase: Phase) -> Option<usize>
     }
 }
 
-/// A turn of a journey that has this plan, took these save-points and is here, with its cause. Refused are
-/// `Finished`, where nothing more comes, and then `NoSavePoint`, where there is no such turn.
+/// Returns the turn of a journey with this plan, these save-points and this cursor, for this cause. Refusals, in order:
+/// `Finished` if the journey is finished, `NoSavePoint` if the rules allow no such turn.
 pub fn turned(
     plan: &Plan,
     marks: &Marks,
@@ -59,8 +59,8 @@ pub fn turned(
     }
 }
 
-/// A save-point where a journey is that has this plan and took these save-points. Refused are `Finished`, where
-/// nothing more comes, and then `NoSave`: where it goes back or has done no step, or one stands there.
+/// Returns a save-point at the position of a journey with this plan and these save-points. Refusals, in order:
+/// `Finished` if the journey is finished; `NoSave` if it goes back, has done no step, or has a save-point there.
 pub fn saved(plan: &Plan, marks: &Marks, cursor: Cursor) -> Result<Item, Refusal>
     requires short { IsTrue (h.is_open cursor.phase) → cursor.pos < step_count plan.now }
 

@@ -10,7 +10,7 @@ use crate::books::Book;
 use commands::{Ask, Command, Fault, Reply};
 use std::alloc::Global;
 
-/// A command keeps the limits, as each value of its type does. This does nothing when it runs.
+/// A command keeps the limits, as each value of its type does. A call does nothing at run time.
 fn keep_limits(command: &Command)
     ensures limits { IsTrue (is_request (request_of command.now)) }
 {
@@ -25,7 +25,7 @@ fn keep_limits(command: &Command)
     }
 }
 
-/// Answers commands in order. At a fault, the replies so far come with it.
+/// Executes commands in order and returns their replies. A fault is returned with the replies so far.
 pub fn run<B: Book>(
     alloc: Global,
     book: &mut B,

@@ -1,4 +1,4 @@
--- What a begin comes to, and the rows that lead there. For the functions that answer.
+-- The outcome of a begin, and the rows that represent it. For the functions that answer.
 use Rattle.std.proofs.Common.{◌≡◌, ◌+◌, ◌<◌, length, Option, Some, None, IsTrue, sym, ap, ◌∙◌}
 use Rattle.commands.specs.Asks.{Asked}
 use Rattle.commands.specs.Request as request
@@ -21,7 +21,7 @@ use Rattle.sql_writes.specs.declared.events.Event.TheVariants.{Begin}
 use Rattle.sql_commands.specs.Answering.{AnswersAgain, Counts, Finds}
 use Rattle.sql_commands.specs.Moving.{LeadsTo}
 
--- under the next numbers the rows of a journey that begins lead to what its begin comes to
+-- with the next numbers, the rows of a new journey lead to the outcome of its begin
 pub begin_leads : (s : State) (ask : Option Asked) (counts : Meta) (n : Numbers) (b : JourneyBegun) → IsDesk s
     → kept_for s ask ≡ None → IsTrue (is_plan b.plan.now) → Counts s counts → length s.ledger < most_events
     → n.num ≡ counts.events + 1 → n.journeys ≡ counts.journeys + 1 → b.agent.now ≡ beginner ask
@@ -34,7 +34,7 @@ begin_leads s ask counts n b desk new good counted room num_is journeys_are agen
       stands = λ t st. rw (agent, journey, num) (begin_stands t s ask b.plan.now st desk.legal good room new);
     }
 
--- a row that was found tells that its key is known, and what is answered
+-- if a row was found, its key is known, and this is the reply
 pub known_reply : (t : Tables) (s : State) (ask : Asked) (found : KeptAnswer) (r : Reply) → StandsFor t s → IsDesk s
     → FindsAnswer ask.agent ask.key t (Some found) → AnswersAgain found ask r → Finds s ask (Some r)
 known_reply t s ask found r st desk finds again asked =
@@ -44,6 +44,6 @@ known_reply t s ask found r st desk finds again asked =
       ap (λ (o : Outcome). o.state) known,
     )
 
--- where none was found the key is new
+-- if no row was found, the key is new
 pub new_key : (t : Tables) (s : State) (ask : Asked) → StandsFor t s → IsDesk s → FindsAnswer ask.agent ask.key t None → kept_for s (Some ask) ≡ None
 new_key t s ask st desk finds = tells-none IsAnswerOf (s.kept ask.agent ask.key) (answer_read t s st desk ask.agent ask.key None finds)

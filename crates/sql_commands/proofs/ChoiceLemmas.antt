@@ -1,4 +1,4 @@
--- What the rows of a step tell of its options. For `options`.
+-- What the rows of a step imply for its options. For `options`.
 use Rattle.std.proofs.Common.{◌≡◌, ℕ, ◌+◌, ◌-◌, ◌<◌, ◌≤◌, ◌==◌, zero, suc, List, [], ◌∷◌, length, get_or, min, Some, refl, sym, ap, subst, ◌∙◌, arith, eqb-true}
 use Rattle.std.specs.Prelude.{slice_get, option_map, option_and_then, unwrap_or}
 use Rattle.plan.specs.PlanModel.{StepPlan, numbered, option_count, want_at}
@@ -21,7 +21,7 @@ use Rattle.sql_reads.proofs.ReadPlans.{want_one}
 use Rattle.sql_commands.specs.OptionChoice.{IsRowChosen, IsTakenChosen, IsNextChoice, IsLastChoice, is_taken_row}
 use Rattle.sql_commands.specs.declared.options.Choice.{Choice}
 
--- a number of a list has its element
+-- each number of a list has its element
 numbered_there : {X : Type 0} (xs : List X) (n : ℕ) → 1 ≤ n → n ≤ length xs → (x : X) × (numbered xs n ≡ Some x)
 numbered_there xs zero one low = absurd (omega arith)
 numbered_there xs (suc i) one low = go xs i (omega arith)
@@ -31,7 +31,7 @@ numbered_there xs (suc i) one low = go xs i (omega arith)
     go (y ∷ ys) zero under = (y, refl)
     go (y ∷ ys) (suc i) under = go ys i (omega arith)
 
--- an element that is got by its number is there
+-- the element that a number gives is in the list
 pub got_there : {X : Type 0} (xs : List X) (i : ℕ) (x : X) → i < length xs → x ≡ get_or xs i x → slice_get xs i ≡ Some x
 got_there [] i x low e = absurd (omega arith)
 got_there (y ∷ ys) zero x low e = ap Some (sym e)
@@ -39,7 +39,7 @@ got_there (y ∷ ys) (suc i) x low e = got_there ys i x (omega arith) e
 
 module _ (t : Tables) (s : State) (st : StandsFor t s) (desk : IsDesk s) (id step : ℕ) (found : List StepFound)
     (finds : FindsOptions id step t found) (choice : Choice) where
-  -- the row that is chosen by its number tells the option that comes next
+  -- the row with the chosen number is that of the next option
   pub next_told : (used : ℕ) → IsRowChosen found (min (used + 1) (length found)) choice → IsNextChoice id step used s choice
   next_told used chosen a at one within =
       let p = numbered_there a.plan.steps step one within in
@@ -59,7 +59,7 @@ module _ (t : Tables) (s : State) (st : StandsFor t s) (desk : IsDesk s) (id ste
             ∙ ap (numbered p.0.options) (sym number) ∙ row.1 ∙ ap Some (sym same),
       )
 
-  -- the row that is marked as taken tells the option that was taken last
+  -- the row that is marked as taken is that of the option that was taken last
   pub last_told : IsTakenChosen found choice → IsLastChoice id step s choice
   last_told chosen a c at last =
       let row = chosen.row in

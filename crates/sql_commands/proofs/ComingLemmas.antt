@@ -1,4 +1,4 @@
--- What the rows of a step tell of what the rules answer to it. For `coming`.
+-- What the rows of a step imply for the answer of the rules. For `step_outcome`.
 use Rattle.std.proofs.Common.{◌≡◌, ℕ, ◌+◌, ◌<◌, ◌≤◌, List, Option, Some, None, true, false, Bool, refl, sym, ap, subst, ◌∙◌, arith}
 use Rattle.std.specs.Prelude.{option_map, Ok, Err}
 use Rattle.plan.specs.PlanModel.{Planned, step_count, want_at}
@@ -41,16 +41,16 @@ use Rattle.sql_commands.specs.declared.options.Choice.{Choice}
 use Rattle.sql_commands.proofs.NextLemmas.{record_seen, record_unseen, none_seen}
 use Rattle.sql_commands.proofs.StepLemmas.{IsSaid, step_next}
 
--- Where a journey is.
+-- The cursor of a journey.
 
--- what is found of a journey is that of its record
+-- the agent, steps and cursor that were found are those of the record
 stand_shown : (stand : Stand) (o : Option Record) → Some stand ≡ option_map stand_of o
     → (r : Record) × (o ≡ Some r) × (stand_of r ≡ stand)
 stand_shown stand None e = cc
 stand_shown stand (Some r) e = (r, refl, cc)
 
 module _ (s : State) (who : Option (List ℕ)) (id : ℕ) where
-  -- whoever sees journeys of its agent sees it
+  -- a caller who sees the journeys of its agent sees the journey
   pub stand_seen : (stand : Stand) → Some stand ≡ option_map stand_of (record_of s.ledger id)
       → ((plan : Planned) → true ≡ sees who (record { agent = stand.agent; plan = plan })) → SeesStand who id s (Some stand)
   stand_seen stand found seen =
@@ -62,7 +62,7 @@ module _ (s : State) (who : Option (List ℕ)) (id : ℕ) where
         it.2,
       )
 
-  -- whoever does not sees none
+  -- a caller who does not see them does not see the journey
   pub stand_unseen : (stand : Stand) → Some stand ≡ option_map stand_of (record_of s.ledger id)
       → ((plan : Planned) → false ≡ sees who (record { agent = stand.agent; plan = plan })) → seen_journey s.ledger who id ≡ None
   stand_unseen stand found seen =
@@ -71,7 +71,7 @@ module _ (s : State) (who : Option (List ℕ)) (id : ℕ) where
       record_unseen s who id it.0 (sym it.1)
       (ap (λ a. sees who (record { agent = a; plan = it.0.plan })) agent ∙ sym (seen it.0.plan))
 
-  -- where nothing is found there is no journey
+  -- if nothing is found, there is no journey
   pub stand_none : None ≡ option_map stand_of (record_of s.ledger id) → seen_journey s.ledger who id ≡ None
   stand_none found = none_seen s who id (go (record_of s.ledger id) found)
     where
@@ -79,14 +79,14 @@ module _ (s : State) (who : Option (List ℕ)) (id : ℕ) where
       go None e = refl
       go (Some r) e = cc
 
--- Its step.
+-- The step of a journey.
 
 module _ (s : State) (desk : IsDesk s) (who : Option (List ℕ)) (id : ℕ) (r : Record) (is : IsSeen s who id r) where
-  -- what the rules answer to a step of it
+  -- the answer of the rules to a step of the journey
   abbrev answered : Answer
   answered = answer_move s.ledger id step_choices NoSavePoint (seen_journey s.ledger who id)
 
-  -- an item that is decided is answered
+  -- the rules answer the item that is decided
   decided : (fit : Bool) → FitsNext r s fit → (d : Move) → NamesStep r.plan r.marks r.cursor fit d
       → is_finished r.cursor.phase ≡ false → (d ≡ move.Nothing → ⊥) → (x : Item) → IsSaid s id d (Ok x)
       → Fits id r.plan r.cursor answered (Ok x)
@@ -138,7 +138,7 @@ module _ (s : State) (desk : IsDesk s) (who : Option (List ℕ)) (id : ℕ) (r :
         cursor = down.cursor ∙ ap (cursor_after r.plan r.cursor) (sym down.item_is);
       }
 
-  -- the next step, where its want fits
+  -- the next step, if its want fits
   pub up_comes : (stand : Stand) → stand_of r ≡ stand → (choice : Choice) → stand.cursor.phase ≡ Run
       → stand.cursor.pos < stand.steps → IsNextChoice id (stand.cursor.pos + 1) stand.cursor.used s choice
       → FitsIn choice.want s true → ComesFor id stand s r answered (coming.Up choice)
@@ -156,7 +156,7 @@ module _ (s : State) (desk : IsDesk s) (who : Option (List ℕ)) (id : ℕ) (r :
       (λ (x : Stand). x.cursor.phase ≡ Back q → 1 ≤ x.cursor.pos → IsLastChoice id x.cursor.pos s choice
       → ComesFor id x s r answered (coming.Down choice)) same (λ back above last m down. down_at choice m q back above last down)
 
-  -- a turn, where its want does not fit
+  -- a turn, if its want does not fit
   pub refused_comes : (stand : Stand) → stand_of r ≡ stand → (choice : Choice)
       → stand.cursor.pos < stand.steps → IsNextChoice id (stand.cursor.pos + 1) stand.cursor.used s choice
       → FitsIn choice.want s false → ComesFor id stand s r answered coming.Refused
@@ -168,7 +168,7 @@ module _ (s : State) (desk : IsDesk s) (who : Option (List ℕ)) (id : ℕ) (r :
       let chosen = next (begun_as r) is.at (omega arith) (omega arith) in
       fit ∙ ap (fits s.ledger) (sym chosen.1) ∙ ap (λ n. fits s.ledger (want_at r.plan (r.cursor.pos + 1) n)) chosen.0)
 
-  -- nothing, where it has finished
+  -- no step, if the journey has finished
   pub nothing_comes : (stand : Stand) → stand_of r ≡ stand → is_finished stand.cursor.phase ≡ true
       → ComesFor id stand s r answered coming.Nothing
   nothing_comes stand same finished =
@@ -189,7 +189,7 @@ module _ (s : State) (desk : IsDesk s) (who : Option (List ℕ)) (id : ℕ) (r :
       none_named : is_finished r.cursor.phase ≡ true → NamesStep r.plan r.marks r.cursor false move.Nothing
       none_named e h here goes = absurd (finished_open r.cursor.phase e goes)
 
--- what comes next of a journey that is seen is made
+-- the outcome of a step of a journey that the caller sees is made
 pub made_step : (s : State) (ask : Option Asked) (counts : Meta) (id : ℕ) (r : Record) (m : Made) → IsDesk s → kept_for s ask ≡ None
     → Counts s counts → IsSeen s (asker ask) id r → IsNextMade id r (answer_within s.ledger (asker ask) (request.Step id)) m
     → IsMade s ask counts motion.Refused m
@@ -204,7 +204,7 @@ made_step s ask counts id r m desk new counted here next =
       cursor = next.cursor;
     }) here next.next next.says
 
--- all who see the journey see the same, so its want does not fit for any of them
+-- the record is the same for all callers who see the journey, so its want fits for none of them
 pub unfit_seen : (s : State) (who : Option (List ℕ)) (id : ℕ) (r : Record) → IsSeen s who id r → FitsNext r s false
     → IsUnfit id motion.Refused s
 unfit_seen s who id r is unfit other b seen run =

@@ -1,4 +1,4 @@
--- What a request for a move of a journey comes to, by what the rules answer. For `make` and `carry_out`.
+-- The outcome of a move of a journey, by the answer of the rules. For `make_event`, `carry_out` and `answer_move`.
 use Rattle.std.proofs.Common.{◌≡◌, ℕ, ◌+◌, ◌<◌, ◌≤◌, length, Option, Some, None, IsTrue, refl, sym, ap, subst, ◌∙◌}
 use Rattle.std.specs.Prelude.{Ok, Err}
 use Rattle.commands.specs.Asks.{Asked}
@@ -29,7 +29,7 @@ move_request id (motion.Abort p) = refl
 move_request id motion.Stop = refl
 move_request id motion.Save = refl
 
--- what is refused by the rules is refused, and nothing changes
+-- a refusal of the rules is the reply, and nothing changes
 refused_comes : (s : State) (ask : Option Asked) (id : ℕ) (why : Motion) (refusal : Refusal) → kept_for s ask ≡ None
     → answer_within s.ledger (asker ask) (asked_for id why) ≡ refused refusal
     → outcome s ask (asked_for id why) ≡ carried_out s ask (refused refusal)
@@ -37,7 +37,7 @@ refused_comes s ask id why refusal new answered =
     outcome-no_event s ask (asked_for id why) new (ap (λ (a : Answer). a.event) answered)
     ∙ ap (carried_out s ask) answered
 
--- of a request that is refused: its reply, and that nothing changes
+-- the outcome of a refused request: its reply, and that nothing changes
 pub record IsRefused (s : State) (ask : Option Asked) (id : ℕ) (why : Motion) (refusal : Refusal) : Type 0 where
   pub replied : reply.Refused refusal ≡ (outcome s ask (asked_for id why)).reply
   pub same : (outcome s ask (asked_for id why)).state ≡ s
@@ -49,7 +49,7 @@ by_outcome s ask id why refusal e = record {
   same = ap (λ (o : Outcome). o.state) e;
 }
 
--- a journey that is not seen is refused
+-- a move of a journey that the caller does not see is refused
 unseen_answer : (s : State) (ask : Option Asked) (id : ℕ) (why : Motion) → seen_journey s.ledger (asker ask) id ≡ None
     → answer_within s.ledger (asker ask) (asked_for id why) ≡ refused NoJourney
 unseen_answer s ask id motion.Refused e = ap (λ o. answer_move s.ledger id step_choices NoSavePoint o) e
@@ -63,31 +63,31 @@ unseen_refused s ask id why new e =
     by_outcome s ask id why NoJourney (refused_comes s ask id why NoJourney new (unseen_answer s ask id why e))
 
 module _ (s : State) (ask : Option Asked) (why : Motion) (counts : Meta) (id : ℕ) (r : Record) where
-  -- what the rules refuse
+  -- a refusal of the rules
   pub due_refused : (refusal : Refusal) → IsDue s ask (asked_for id why) counts id r (Err refusal)
       → IsRefused s ask id why refusal
   due_refused refusal due =
       by_outcome s ask id why refusal (refused_comes s ask id why refusal due.new due.answered)
 
-  -- an item for which there is no room
+  -- an item for which the ledger has no room
   pub due_full : (x : Item) → IsDue s ask (asked_for id why) counts id r (Ok x) → most_events ≤ length s.ledger
       → IsRefused s ask id why Limit
   due_full x due full =
       by_outcome s ask id why Limit
       (outcome-full s ask (asked_for id why) due.new (Did id x) (ap (λ (a : Answer). a.event) due.answered) full)
 
-  -- where the journey is after an item
+  -- the cursor of the journey after an item
   abbrev then_at : Item → Cursor
   then_at x = cursor_after r.plan r.cursor x
 
-  -- an item for which there is room is answered
+  -- if the ledger has room, the reply is the item
   pub due_replied : (x : Item) → IsDue s ask (asked_for id why) counts id r (Ok x) → length s.ledger < most_events
       → reply.Moved id x (then_at x).pos (then_at x).phase ≡ (outcome s ask (asked_for id why)).reply
   due_replied x due room =
       sym (ap (λ (o : Outcome). o.reply) (outcome-room s ask (asked_for id why) due.new room)
       ∙ ap (λ (a : Answer). a.reply) due.answered)
 
-  -- and its rows lead to the state that the request comes to
+  -- the rows of an item lead to the state of the outcome
   pub due_leads : (x : Item) (n : Numbers) (e : Event) → IsDue s ask (asked_for id why) counts id r (Ok x)
       → length s.ledger < most_events → n.num ≡ counts.events + 1 → n.journeys ≡ counts.journeys
       → IsEventOf id r.plan r.cursor x e
@@ -113,7 +113,7 @@ module _ (s : State) (ask : Option Asked) (why : Motion) (counts : Meta) (id : �
         cursor = ap (λ c. cursor_after r.plan c x) due.here.cursor;
       }))
 
-  -- the same, where the journey is known to be here then
+  -- the same, if the cursor after the item is known
   pub due_leads_at : (x : Item) (n : Numbers) (e : Event) (then : Cursor) → then ≡ then_at x
       → IsDue s ask (asked_for id why) counts id r (Ok x) → length s.ledger < most_events
       → n.num ≡ counts.events + 1 → n.journeys ≡ counts.journeys → IsEventOf id r.plan r.cursor x e

@@ -1,4 +1,4 @@
--- The rows of each event of a journey lead to the state with it. For `make` and `commit_answered`.
+-- The rows of each event of a journey lead to the state with it. For DueLemmas, `commit_kept` and `commit_answered`.
 use Rattle.std.proofs.Common.{◌≡◌, ℕ, ◌+◌, length, Option, Some, None, IsTrue, sym, ap, subst, ◌∙◌}
 use Rattle.allotment.specs.Want.{Wanted}
 use Rattle.plan.specs.PlanModel.{want_at}
@@ -36,14 +36,14 @@ pub unkept_leads : (n : Numbers) (e : Event) (reply : Reply) (s next : State) �
     → kinds.LeadsTo n e None s next
 unkept_leads n e reply s next leads = record { fits = leads.fits; stands = leads.stands }
 
--- what is kept is what was asked, and the line of the reply
+-- the kept reply is that of the ask, with the line of the reply
 pub record IsKeeping (k : Keeping) (ask : Asked) (reply : Reply) : Type 0 where
   pub agent : k.agent.now ≡ ask.agent
   pub key : k.key.now ≡ ask.key
   pub text : k.text.now ≡ ask.text
   pub line : k.line.now ≡ reply_line reply
 
--- with an ask there is one row more, that of its reply
+-- with an ask there is one more row, that of its reply
 pub kept_leads : (n : Numbers) (e : Event) (k : Keeping) (ask : Asked) (reply : Reply) (s next : State)
     → IsKeeping k ask reply → LeadsTo n e (Some ask) reply s next → kinds.LeadsTo n e (Some k) s next
 kept_leads n e k ask reply s next is leads = record {
@@ -53,7 +53,7 @@ kept_leads n e k ask reply s next is leads = record {
 
 -- Events.
 
--- a journey may make this item next, and these are the numbers behind it, and where it is then
+-- the journey may make this item next, and these are the numbers and the cursor after it
 pub record IsMade (s : State) (ask : Option Asked) (id : ℕ) (a : Journey) (x : Item) (n : Numbers)
     (then : Cursor) : Type 0 where
   pub desk : IsDesk s
@@ -85,7 +85,7 @@ module _ (s : State) (ask : Option Asked) (reply : Reply) (id : ℕ) (a : Journe
         (save_stands t s ask reply id p a st is.desk is.at is.may is.new);
   }
 
-  -- a step that is done: its want fits
+  -- a step that is done, whose want fits
   transaction_leads : (i c : ℕ) (w : Wanted) → want_at a.plan i c ≡ Some w → IsMade s ask id a (item.Transaction i c) n then
       → LeadsTo n (Transaction (record { journey = id; step = i; option = c; want = w; cursor = then })) ask reply s
       (state_with s ask reply (Some (Did id (item.Transaction i c))))
@@ -114,7 +114,7 @@ module _ (s : State) (ask : Option Asked) (reply : Reply) (id : ℕ) (a : Journe
         (compensation_stands t s ask reply id i c w a st is.desk is.at want is.may is.new);
   }
 
-  -- any item
+  -- an item of any kind
   pub item_leads : (x : Item) (e : Event) → Says id a.plan then x e → IsMade s ask id a x n then
       → LeadsTo n e ask reply s (state_with s ask reply (Some (Did id x)))
   item_leads (item.Transaction i c) e says is =

@@ -1,4 +1,4 @@
--- What a load comes to, and the rows that lead there. For the functions of `loading` that answer.
+-- The outcome of a load, and the rows that represent it. For the functions of `loading` that answer.
 use Rattle.std.proofs.Common.{◌≡◌, ℕ, ◌+◌, ◌<◌, ◌≤◌, List, length, Bool, true, false, if◌then◌else◌, Option, Some, None, IsTrue, inl, refl, sym, ap, subst, ◌∙◌}
 use Rattle.std.specs.Prelude.{position, not, bytes_eq, ◌&&◌, Result, Ok, Err, IfOk, OnOk}
 use Rattle.std.specs.List.{list_all}
@@ -47,7 +47,7 @@ good_rows name rows batch =
 
 -- Known batches.
 
--- what is found of a name tells of the batch that has it
+-- the row found for a name is that of the batch that has it
 pub name_told : (t : Tables) (s : State) → StandsFor t s → IsDesk s → (name : List ℕ) (found : Option BatchFound)
     → FindsBatch name t found → TellsName name s found
 name_told t s st desk name None finds = batch_read t s name None st desk finds
@@ -61,11 +61,11 @@ name_told t s st desk name (Some b) finds =
       },
     )
 
--- the answer to a known batch, by whether its rows are the same
+-- the answer to a known batch, by whether the rows are the same
 abbrev known_by : Bool → List ℕ → List Row → Answer
 known_by same name rows = if same then record { event = None; reply = loaded name rows } else refused BatchDiffers
 
--- the reply to a known batch, by whether its text is the one that is kept
+-- the reply to a known batch, by whether the text is the kept one
 pub known_answer : (name : List ℕ) (rows known : List Row) (content : List ℕ) (b : Bool) → IsTrue (is_batch name rows)
     → IsTrue (list_all is_good_row known) → content ≡ batch_text known → b ≡ bytes_eq (batch_text rows) content
     → (if b then loaded name rows else reply.Refused BatchDiffers) ≡ (answer_known name rows known).reply
@@ -79,12 +79,12 @@ known_answer name rows known content b batch good text same =
     go true false e = cc
     go false true e = cc
 
--- of a request that changes nothing: its reply, and that nothing changes
+-- the outcome of a request that changes nothing: its reply, and the same state
 pub record IsUnmoved (s : State) (ask : Option Asked) (asked : Request) (r : Reply) : Type 0 where
   pub replied : r ≡ (outcome s ask asked).reply
   pub same : (outcome s ask asked).state ≡ s
 
--- so it is where the rules name no event
+-- if the rules name no event, nothing changes
 unmoved : (s : State) (ask : Option Asked) (asked : Request) (a : Answer) → kept_for s ask ≡ None → a.event ≡ None
     → answer_within s.ledger (asker ask) asked ≡ a → IsUnmoved s ask asked a.reply
 unmoved s ask asked a new none is =
@@ -108,13 +108,13 @@ module _ (s : State) (ask : Option Asked) (name : List ℕ) (rows : List Row) wh
       none false = refl
 
   module _ (counts : Meta) where
-    -- what the rules answer where no batch has the name
+    -- the answer of the rules if no batch has the name
     by_place : IsNewName ask counts name s → (place : Option ℕ)
         → position (λ r. not (is_not_below_held s.ledger r)) rows ≡ place
         → answer_within s.ledger (asker ask) (Load name rows) ≡ answer_new name rows place
     by_place is place first = ap (answer_load s.ledger name rows) is.unknown ∙ ap (answer_new name rows) first
 
-    -- a batch of which a row is below what is held
+    -- a batch with a row below what is held
     pub below_comes : (why : Refusal) → IsNewName ask counts name s → TellsBelow rows s why
         → IsUnmoved s ask (Load name rows) (reply.Refused why)
     below_comes why is tells =
@@ -122,12 +122,12 @@ module _ (s : State) (ask : Option Asked) (name : List ℕ) (rows : List Row) wh
         (unmoved s ask (Load name rows) (refused (BelowHeld (tells.0 + 1))) is.new refl (by_place is (Some tells.0) tells.2))
 
     module _ (cells : List (Cell × HeldPlaces)) (due : IsLoadDue ask counts name rows cells s) where
-      -- what the rules answer where none is
+      -- the answer of the rules if no row is below what is held
       fitting : answer_within s.ledger (asker ask) (Load name rows)
           ≡ record { event = Some (Loaded name rows); reply = loaded name rows }
       fitting = by_place due.new_name None (none_below (is_not_below_held s.ledger) rows due.places.above)
 
-      -- a batch for which there is no room
+      -- a batch for which the ledger has no room
       pub load_full : most_events ≤ length s.ledger → IsUnmoved s ask (Load name rows) (reply.Refused Limit)
       load_full full =
           let comes = outcome-full s ask (Load name rows) due.new_name.new (Loaded name rows)
@@ -137,7 +137,7 @@ module _ (s : State) (ask : Option Asked) (name : List ℕ) (rows : List Row) wh
             same = ap (λ (o : Outcome). o.state) comes;
           }
 
-      -- one for which there is room is answered
+      -- if the ledger has room, the reply is that of a loaded batch
       pub load_replied : length s.ledger < most_events → loaded name rows ≡ (outcome s ask (Load name rows)).reply
       load_replied room =
           sym (ap (λ (o : Outcome). o.reply) (outcome-room s ask (Load name rows) due.new_name.new room)
@@ -145,7 +145,7 @@ module _ (s : State) (ask : Option Asked) (name : List ℕ) (rows : List Row) wh
 
 -- Rows.
 
--- the event says this batch with its places, and these are the numbers behind it
+-- the event is that of this batch with its places, and these are the numbers after it
 pub record IsLoading (s : State) (n : Numbers) (b : BatchLoaded) (name : List ℕ) (rows : List Row) : Type 0 where
   pub num : n.num ≡ length s.ledger + 1
   pub journeys_are : n.journeys ≡ length (journeys s.ledger)
@@ -153,7 +153,7 @@ pub record IsLoading (s : State) (n : Numbers) (b : BatchLoaded) (name : List �
   pub content : b.content.now ≡ batch_text rows
   pub places : HavePlaces rows s b.cells.now
 
--- its rows lead to the state with the batch
+-- the rows of the event lead to the state with the batch
 load_leads : (s : State) (ask : Option Asked) (answered : Reply) (n : Numbers) (b : BatchLoaded) (name : List ℕ) (rows : List Row)
     → IsLoading s n b name rows → IsTrue (is_allowed s.ledger (Loaded name rows)) → kept_for s ask ≡ None
     → LeadsTo n (event.Load b) ask answered s (state_with s ask answered (Some (Loaded name rows)))
@@ -164,7 +164,7 @@ load_leads s ask answered n b name rows is may new = record {
       (load_stands t s ask answered name rows st may new);
 }
 
--- and so to what the load comes to
+-- the rows of the event lead to the outcome of the load
 pub due_load_leads : (s : State) (ask : Option Asked) (counts : Meta) (n : Numbers) (b : BatchLoaded) (name : List ℕ)
     (rows : List Row) (answered : Reply) → IsLoadDue ask counts name rows b.cells.now s → IsTrue (is_batch name rows)
     → length s.ledger < most_events → n.num ≡ counts.events + 1 → n.journeys ≡ counts.journeys → b.name.now ≡ name
@@ -188,12 +188,12 @@ due_load_leads s ask counts n b name rows answered due batch room num journeys_a
 
 -- Successes.
 
--- what a success keeps where the store returns what was written may be shown where it does
+-- a fact about a success that needs a clean disk may be shown under that premise
 pub where_clean : {V E : Type 0} (Clean Kept : Type 0) (r : Result V E) → (Clean → OnOk r (Clean → Kept)) → OnOk r (Clean → Kept)
 where_clean Clean Kept (Ok v) f = λ clean. f clean clean
 where_clean Clean Kept (Err e) f = tt
 
--- and what follows from what holds of a success follows from it
+-- the postcondition of a success may be replaced by a weaker one
 pub on_ok : {V E : Type 0} (r : Result V E) (P : V → Type 0) (Kept : Type 0) → ((v : V) → P v → Kept) → IfOk r P → OnOk r Kept
 on_ok (Ok v) P Kept f p = f v p
 on_ok (Err e) P Kept f p = tt

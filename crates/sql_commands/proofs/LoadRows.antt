@@ -1,4 +1,4 @@
--- What is read of the rows of a batch, one after another. For `read_held`, `read_places` and `cells_of`.
+-- What is read of the rows of a batch, in order. For `content_of`, `cells_of` and LoadComes.
 use Rattle.std.proofs.Common.{◌≡◌, ℕ, zero, suc, ◌+◌, ◌<◌, List, [], ◌∷◌, ◌++◌, length, map, take, get_or, cond, Bool, true, false, Some, None, refl, sym, ap, ap₂, ◌∙◌, arith, append_assoc, append-nil}
 use Rattle.std.specs.Prelude.{position, not, nat_lt}
 use Rattle.std.specs.List.{list_all, position_or_len}
@@ -41,7 +41,7 @@ places_told r s p gets =
     (λ (a f : ℕ). record { kind = kind_number r.cell.kind; supplier = r.cell.supplier; product = r.cell.product; night = r.cell.night; allot = a; free = f })
     gets.1 gets.2
 
--- one row more has its places
+-- one more row has its places
 have_more : (rows : List Row) (s : State) (cells : List (Cell × HeldPlaces)) (r : Row) (p : HeldPlaces)
     → HavePlaces rows s cells → GetsPlaces r s (Some p)
     → HavePlaces (rows ++ r ∷ []) s (cells ++ (r.cell, p) ∷ [])
@@ -56,7 +56,7 @@ have_more rows s cells r p have gets = record {
       ∙ sym (map-append (row_loaded s) rows (r ∷ []));
 }
 
--- so the cells get their places as the rows say
+-- the cells get the places in their rows
 pub put_told : (s : State) (rows : List Row) (cells : List (Cell × HeldPlaces)) (stock : List StockRow)
     → map stock_row_of cells ≡ map (row_loaded s) rows → put_each cells stock ≡ put_rows (held s.ledger) rows stock
 put_told s [] [] stock e = refl
@@ -70,11 +70,11 @@ put_told s (r ∷ rows) (c ∷ cells) stock e =
 
 -- Positions.
 
--- one before equal numbers of others
+-- one more than equal numbers
 one_more : (m n : ℕ) → m ≡ n → 1 + m ≡ suc n
 one_more m n e = omega arith
 
--- where all rows pass, there is no first one that does not
+-- if all rows pass, no row fails
 pub none_below : (above : Row → Bool) (rows : List Row) → list_all above rows ≡ true
     → position (λ r. not (above r)) rows ≡ None
 none_below above rows all =
@@ -91,7 +91,7 @@ none_below above rows all =
         ap (λ (b : Bool). cond (not (not b)) (1 + position_or_len (λ q. not (above q)) rs) 0) both.0
         ∙ one_more (position_or_len (λ q. not (above q)) rs) (length rs) (past rs both.1)
 
--- where the rows before it pass and it does not, it is the first
+-- a row that fails, after rows that pass, is the first that fails
 pub first_below : (above : Row → Bool) (rows : List Row) (i : ℕ) (r : Row) → i < length rows → r ≡ get_or rows i r
     → list_all above (take i rows) ≡ true → above r ≡ false → position (λ q. not (above q)) rows ≡ Some i
 first_below above rows i r within is all fails =
@@ -108,10 +108,10 @@ first_below above rows i r within is all fails =
         ap (λ (b : Bool). cond (not (not b)) (1 + position_or_len (λ x. not (above x)) rs) 0) both.0
         ∙ one_more (position_or_len (λ x. not (above x)) rs) j (place rs j (omega arith) e both.1)
 
--- Rows, one after another.
+-- Rows, in order.
 
 module _ {S : Type 0} (g : Ghosts S) where
-  -- at first nothing was looked at
+  -- at first no row was examined
   pub none_looked : (h : Held S) → HasLooked g h h [] []
   none_looked h = record {
     reads = record { keeps = λ v s keeps. keeps; stop = λ clean db may. may; less = λ clean. clean };
@@ -120,7 +120,7 @@ module _ {S : Type 0} (g : Ghosts S) where
 
   module _ (old mid new : Held S) (rows : List Row) (cells : List (Cell × HeldPlaces)) (has : HasLooked g old mid rows cells)
       (reads : OnlyReads g mid new) (r : Row) where
-    -- then one row more has its places
+    -- one more row has its places
     pub looked_more : (p : HeldPlaces)
         → (HasCleanDisk (state g new) → (s : State) → IsDesk s → Keeps (state g mid) s → GetsPlaces r s (Some p))
         → HasLooked g old new (rows ++ r ∷ []) (cells ++ (r.cell, p) ∷ [])
@@ -132,7 +132,7 @@ module _ {S : Type 0} (g : Ghosts S) where
 
 -- Texts.
 
--- the text of rows with one more is longer by its line
+-- the text of one more row has one more line
 pub text_more : (rows : List Row) (i : ℕ) (r : Row) (text : List ℕ) → i < length rows → r ≡ get_or rows i r
     → text ≡ batch_text (take i rows) → (text ++ row_text r) ++ line_feed ∷ [] ≡ batch_text (take (i + 1) rows)
 text_more rows i r text within is e =

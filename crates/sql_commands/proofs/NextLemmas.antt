@@ -1,4 +1,4 @@
--- What a record that is seen tells of its journey, and what the rules answer to its moves. For `moves` and `coming`.
+-- What a record implies for its journey, and the answers of the rules to its moves. For `moves` and `step_outcome`.
 use Rattle.std.proofs.Common.{◌≡◌, ℕ, Bool, true, false, List, Option, Some, None, refl, ap, sym, ◌∙◌, subst}
 use Rattle.std.specs.Prelude.{◌&&◌, not, nat_lt, if◌then◌else◌, option_map, Result, Ok, Err}
 use Rattle.plan.specs.PlanModel.{Planned}
@@ -39,13 +39,13 @@ one_journey : (a : Journey) (agent : List ℕ) (plan : Planned) → a.agent ≡ 
 one_journey a agent plan e f =
     let with : List ℕ → Planned → Journey = λ x p. record { agent = x; plan = p } in ap (λ x. with x a.plan) e ∙ ap (with agent) f
 
--- a record that is shown is that of the journey of its number
+-- a record that a read returned is that of the journey with its number
 record IsShown (l : List Event) (id : ℕ) (r : Record) : Type 0 where
   at : journey_at l id ≡ Some (begun_as r)
   cursor : r.cursor ≡ cursor_of r.plan (history l id)
   marks : r.marks ≡ marks_of (history l id)
 
--- it is that of some journey with the number
+-- it is the record of some journey with the number
 shown_of : (l : List Event) (id : ℕ) (r : Record) (o : Option Journey) → Some r ≡ option_map (record_of_journey (history l id)) o
     → (a : Journey) × (o ≡ Some a) × (r ≡ record_of_journey (history l id) a)
 shown_of l id r None e = cc
@@ -64,7 +64,7 @@ shown l id r e =
       marks = marks;
     }
 
--- whoever sees its journey sees it
+-- a caller who sees the journeys of its agent sees the record
 pub record_seen : (s : State) (who : Option (List ℕ)) (id : ℕ) (r : Record) → Some r ≡ record_of s.ledger id
     → sees who (begun_as r) ≡ true → IsSeen s who id r
 record_seen s who id r e see =
@@ -76,13 +76,13 @@ record_seen s who id r e see =
       marks = is.marks;
     }
 
--- whoever does not see its journey sees none
+-- a caller who does not see them sees no record
 pub record_unseen : (s : State) (who : Option (List ℕ)) (id : ℕ) (r : Record) → Some r ≡ record_of s.ledger id
     → sees who (begun_as r) ≡ false → seen_journey s.ledger who id ≡ None
 record_unseen s who id r e see =
     unseen s.ledger who id (begun_as r) (shown s.ledger id r e).at see
 
--- where there is no record there is no journey
+-- if there is no record, there is no journey
 pub none_seen : (s : State) (who : Option (List ℕ)) (id : ℕ) → None ≡ record_of s.ledger id
     → seen_journey s.ledger who id ≡ None
 none_seen s who id e = seen-none s.ledger who id (go (journey_at s.ledger id) e)
@@ -106,11 +106,11 @@ module _ (l : List Event) (legal : IsLegal l) (j : ℕ) (a : Journey) (at : jour
   abbrev h : List Item
   h = history l j
 
-  -- where it is
+  -- the cursor of the journey
   abbrev c : Cursor
   c = cursor_of a.plan (history l j)
 
-  -- to an abort: by its phase
+  -- the answer to an abort, by the phase
   abort-by_phase : (p : Phase) → phase a.plan h ≡ p → (q : ℕ)
       → Fits j a.plan c (answer_move l j (abort_choices q) NoSavePoint (Some a))
       (turn_said a.plan (record c { phase = p }) (marks_of h) (turn.Asked q) causes.Asked)
@@ -127,7 +127,7 @@ module _ (l : List Event) (legal : IsLegal l) (j : ℕ) (a : Journey) (at : jour
   abort-by_phase Ended e q = move-finished l j (abort_choices q) NoSavePoint a (ap is_finished e)
   abort-by_phase Undone e q = move-finished l j (abort_choices q) NoSavePoint a (ap is_finished e)
 
-  -- to a stop: by its phase
+  -- the answer to a stop, by the phase
   stop-by_phase : (p : Phase) → phase a.plan h ≡ p
       → Fits j a.plan c (answer_move l j stop_choices NoSavePoint (Some a))
       (turn_said a.plan (record c { phase = p }) (marks_of h) turn.Stop causes.Stop)
@@ -145,7 +145,7 @@ module _ (l : List Event) (legal : IsLegal l) (j : ℕ) (a : Journey) (at : jour
   stop-by_phase Ended e = move-finished l j stop_choices NoSavePoint a (ap is_finished e)
   stop-by_phase Undone e = move-finished l j stop_choices NoSavePoint a (ap is_finished e)
 
-  -- to taking a save-point: by its phase
+  -- the answer to a save-point, by the phase
   save-by_phase : (p : Phase) → phase a.plan h ≡ p
       → Fits j a.plan c (answer_move l j save_choices NoSave (Some a))
       (save_said a.plan (record c { phase = p }) (marks_of h))
@@ -159,13 +159,13 @@ module _ (l : List Event) (legal : IsLegal l) (j : ℕ) (a : Journey) (at : jour
   save-by_phase Ended e = move-finished l j save_choices NoSave a (ap is_finished e)
   save-by_phase Undone e = move-finished l j save_choices NoSave a (ap is_finished e)
 
--- of a record that is seen
+-- a record that the caller sees
 module _ (s : State) (legal : IsLegal s.ledger) (who : Option (List ℕ)) (id : ℕ) (r : Record) (is : IsSeen s who id r) where
-  -- the items of its journey
+  -- the items of the record's journey
   abbrev items : List Item
   items = history s.ledger id
 
-  -- from what the rules say of the journey to what the record does
+  -- the rules on the journey are the rules on the record
   pub from_history : (choices : Planned → List Item → List Item) (otherwise : Refusal) (next : Result Item Refusal)
       → Fits id r.plan (cursor_of r.plan items) (answer_move s.ledger id choices otherwise (Some (begun_as r))) next
       → Fits id r.plan r.cursor (answer_move s.ledger id choices otherwise (seen_journey s.ledger who id)) next
@@ -174,7 +174,7 @@ module _ (s : State) (legal : IsLegal s.ledger) (who : Option (List ℕ)) (id : 
       (sym is.cursor)
       (subst (λ o. Fits id r.plan (cursor_of r.plan items) (answer_move s.ledger id choices otherwise o) next) (sym is.seen) fits)
 
-  -- what is said of a turn by the record is said of it by the journey
+  -- the ruling on a turn is the same by the record and by the journey
   turn_same : (why : Turn) (cause : Cause) → turn_said r.plan (cursor_of r.plan items) (marks_of items) why cause
       ≡ turn_said r.plan r.cursor r.marks why cause
   turn_same why cause =

@@ -1,4 +1,4 @@
--- What holds after a success may be shown from its own premise. For the functions that answer.
+-- The postcondition of a success may be shown from its own premise. For the functions that answer.
 use Rattle.std.proofs.Common.{OnOk}
 use Rattle.std.specs.Prelude.{Result, Ok, Err}
 

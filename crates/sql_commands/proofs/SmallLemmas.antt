@@ -1,4 +1,4 @@
--- The numbers of an event of a journey fit the store's integers. For `event_of`.
+-- The numbers of an event of a journey fit the store's integers. For `event_of`, `step_up` and `step_down`.
 use Rattle.std.proofs.Common.{◌≡◌, ℕ, ◌+◌, ◌-◌, ◌<◌, ◌≤◌, ◌^◌, Bool, true, false, if◌then◌else◌, IsTrue, refl, sym, subst, arith}
 use Rattle.std.specs.Prelude.{◌==◌, nat_lt}
 use Rattle.plan.specs.Limits.{most_steps}
@@ -19,7 +19,7 @@ use Rattle.sql_commands.specs.Moving.{IsEventOf}
 use Rattle.sql_commands.specs.Placing.{IsPlaced, IsPlacedIn, MayBeMade, stepped_up, stepped_down}
 use Rattle.plan.proofs.LimitLemmas.{few_options, few_steps}
 
--- small numbers are written small
+-- small numbers are stored as small numbers
 numbers_small : (pos used : ℕ) (p : Phase) → pos ≤ 25 → target_of p ≤ 25 → used ≤ 2 ^ 62
     → IsSmallCursor (cursor_written (record { pos = pos; phase = p; used = used }))
 numbers_small pos used Run a b d = (omega arith, (omega arith, (omega arith, (omega arith, tt))))
@@ -27,7 +27,7 @@ numbers_small pos used (Back p) a b d = (omega arith, (omega arith, (omega arith
 numbers_small pos used Ended a b d = (omega arith, (omega arith, (omega arith, (omega arith, tt))))
 numbers_small pos used Undone a b d = (omega arith, (omega arith, (omega arith, (omega arith, tt))))
 
--- one step further a journey goes nowhere back
+-- after a step the target is small
 up_small : (n pos : ℕ) → target_of (phase_up n pos) ≤ 25
 up_small n pos = go (pos == n)
   where
@@ -35,7 +35,7 @@ up_small n pos = go (pos == n)
     go true = omega arith
     go false = omega arith
 
--- a way back leads to its target
+-- after a turn back the target is small
 down_small : (p pos : ℕ) → p ≤ 25 → target_of (phase_down p pos) ≤ 25
 down_small p pos low = go (nat_lt p pos) (p == 0)
   where
@@ -44,7 +44,7 @@ down_small p pos low = go (nat_lt p pos) (p == 0)
     go false true = omega arith
     go false false = omega arith
 
--- a journey goes back to below where it is
+-- the target of a journey is small, since it is below the position
 phase_small : (c : Cursor) (p : Phase) → c.phase ≡ p → ((q : ℕ) → c.phase ≡ Back q → q < c.pos) → c.pos ≤ most_steps
     → target_of p ≤ 25
 phase_small c Run e above low = omega arith
@@ -52,7 +52,7 @@ phase_small c (Back q) e above low = let below = above q e in omega arith
 phase_small c Ended e above low = omega arith
 phase_small c Undone e above low = omega arith
 
--- and a step below it still does
+-- the target of a journey after a compensation is small
 back_small : (c : Cursor) (p : Phase) (pos : ℕ) → c.phase ≡ p → ((q : ℕ) → c.phase ≡ Back q → q < c.pos) → c.pos ≤ most_steps
     → target_of (phase_back p pos) ≤ 25
 back_small c Run pos e above low = omega arith
@@ -60,7 +60,7 @@ back_small c (Back q) pos e above low = let below = above q e in down_small q po
 back_small c Ended pos e above low = omega arith
 back_small c Undone pos e above low = omega arith
 
--- where a journey is after an item
+-- the cursor of a journey after an item has small numbers
 cursor_small : (plan : Planned) (at : Cursor) (x : Item) → IsTrue (is_plan plan) → IsPlaced plan at → MayBeMade plan at x
     → IsSmallCursor (cursor_written (cursor_after plan at x))
 cursor_small plan at (item.Transaction i c) good placed may =
@@ -96,7 +96,7 @@ cursor_small plan at (item.Save p) good placed may =
     let counted = placed.counted in
     numbers_small at.pos at.used at.phase (omega arith) (phase_small at at.phase refl placed.above (omega arith)) (omega arith)
 
--- all numbers of an event
+-- the numbers of an event are small
 pub event_small : (id : ℕ) (plan : Planned) (at : Cursor) (x : Item) (e : Event) → id < 2 ^ 63 → IsTrue (is_plan plan)
     → IsPlaced plan at → MayBeMade plan at x → IsEventOf id plan at x e → IsSmall e
 event_small id plan at (item.Transaction i c) e low good placed may says =
@@ -135,7 +135,7 @@ event_small id plan at (item.Save p) e low good placed may says =
     let within = placed.within in
     subst IsSmall (sym says) (record { journey = low; position = omega arith })
 
--- where a journey is one step further, and one step back
+-- the cursors after a step and after a compensation have small numbers
 pub stepped_up_small : (steps : ℕ) (c : Cursor) → steps ≤ most_steps → IsPlacedIn steps c → c.pos < steps
     → IsSmallCursor (cursor_written (stepped_up steps c))
 stepped_up_small steps c few placed below =

@@ -1,4 +1,4 @@
--- What is decided of a step of a journey is what the rules answer to it. For `next_step`.
+-- The decision on a step of a journey is the answer of the rules. For `refused`.
 use Rattle.std.proofs.Common.{◌≡◌, ℕ, ◌==◌, Bool, true, false, List, Option, Some, IsTrue, refl, ap, ap₂, sym, ◌∙◌, subst, eqb-true}
 use Rattle.std.specs.Prelude.{◌↔◌, Result, Ok, Err}
 use Rattle.std.proofs.lemmas.Bool.{and_parts}
@@ -29,7 +29,7 @@ use Rattle.sql_commands.specs.Moving.{FitsNext, IsLastOption}
 use Rattle.sql_commands.specs.Placing.{begun_as, IsSeen, Fits}
 use Rattle.sql_commands.proofs.NextLemmas.{from_history}
 
--- the item, or the refusal, of what was decided
+-- the item, or the refusal, of the decision
 abbrev pub IsSaid : State → ℕ → Move → Result Item Refusal → Type 0
 IsSaid s id (move.Take i c) next = next ≡ Ok (Transaction i c)
 IsSaid s id (move.Undo i) next =
@@ -51,7 +51,7 @@ open-from (Back q) e = refl
 open-from Ended e = cc
 open-from Undone e = cc
 
--- what a test says of the next want counts only where the journey runs
+-- whether the next want fits counts only if the journey runs
 comes_so : (plan : Planned) (h : List Item) (fit real : Bool) (x : Item) → is_forward x ≡ true
     → (phase plan h ≡ Run → fit ≡ real) → may_come plan h fit x ≡ true → may_come plan h real x ≡ true
 comes_so plan h fit real (Transaction i c) forward is comes =
@@ -66,7 +66,7 @@ comes_so plan h fit real (Turn p Refused) forward is comes =
 comes_so plan h fit real (Turn p Asked) forward is comes = cc
 comes_so plan h fit real (Save p) forward is comes = cc
 
--- an item that is named, and that of the decision, are one
+-- the item that the decision names is the item of the answer
 said_item : (s : State) (id : ℕ) (a : Journey) (fit : Bool) (decided : Move) (next : Result Item Refusal) (x : Item)
     → journey_at s.ledger id ≡ Some a → IsSaid s id decided next → names decided x ≡ true
     → may_come a.plan (history s.ledger id) fit x ≡ true → next ≡ Ok x
@@ -101,7 +101,7 @@ said_item s id a fit move.Nothing next x at said named comes = nothing x named
     nothing (Turn q Asked) e = cc
     nothing (Save q) e = cc
 
--- what is decided of a record that is seen is what the rules answer
+-- the decision on a record that the caller sees is the answer of the rules
 pub step_next : (s : State) (legal : IsLegal s.ledger) (who : Option (List ℕ)) (id : ℕ) (r : Record) (is : IsSeen s who id r)
     (fit : Bool) → FitsNext r s fit → (decided : Move) → NamesStep r.plan r.marks r.cursor fit decided
     → ((decided ≡ move.Nothing) ↔ IsTrue (is_finished r.cursor.phase)) → (next : Result Item Refusal) → IsSaid s id decided next

@@ -1,4 +1,4 @@
--- What a call over a connection keeps, reads and leaves.
+-- What a call over a connection keeps, returns and leaves.
 use Rattle.std.specs.Prelude.{◌≡◌, ◌≤◌, length, Option, Some, None, Result, Err, OnOk, IfOk, IsTrue, string_bytes}
 use Rattle.sqlite.specs.Store.{Ghosts}
 use Rattle.sqlite.specs.Held.{Held, state}
@@ -22,20 +22,20 @@ pub record Counts (s : State) (m : Meta) : Type 0 where
   pub events : m.events ≡ length s.ledger
   pub journeys_are : m.journeys ≡ length (journeys s.ledger)
 
--- so many events and journeys are not too many
+-- the numbers of events and of journeys keep the limit
 pub record IsCounted (m : Meta) : Type 0 where
   pub events : m.events ≤ most_events
   pub journeys_are : m.journeys ≤ most_events
 
--- what is found for an ask: nothing where its key is new, else the reply that any request gets, which
--- changes nothing
+-- the reply found for an ask: none if its key is new, else the reply that each request gets; it changes
+-- nothing
 abbrev pub Finds : State → Asked → Option Reply → Type 0
 Finds s ask None = kept_for s (Some ask) ≡ None
 Finds s ask (Some r) =
     (asked : Request)
     → (r ≡ (outcome s (Some ask) asked).reply) × ((outcome s (Some ask) asked).state ≡ s)
 
--- the reply to an ask whose key is known: the kept one, or that the key has another text
+-- the reply under a known key: the kept one, or the refusal of another text
 abbrev pub AnswersAgain : KeptAnswer → Asked → Reply → Type 0
 AnswersAgain found ask r =
     (s : State) (k : KeptReply) → found.ask.items ≡ k.text
@@ -46,28 +46,28 @@ module _ {S : Type 0} (g : Ghosts S) (old new : Held S) where
   abbrev pub KeepsOn : {V : Type 0} → Result V Fault → Type 0
   KeepsOn result = (s : State) → Keeps (state g old) s → OnOk result (Keeps (state g new) s)
 
-  -- and after want of memory
+  -- out of memory, the connection keeps what it kept
   abbrev pub KeepsAtMemory : {V : Type 0} → Result V Fault → Type 0
   KeepsAtMemory result =
       (s : State) → Keeps (state g old) s → result ≡ Err Memory → Keeps (state g new) s
 
-  -- the reply is the one that the request comes to
+  -- the reply is that of the request's outcome
   abbrev pub Answers : Option Asked → Request → Result Reply Fault → Type 0
   Answers ask asked result = ShowsKept g old new result (λ s r. r ≡ (outcome s ask asked).reply)
 
-  -- after a success the connection keeps what the request comes to
+  -- after a success the connection keeps the state of the request's outcome
   abbrev pub KeepsNext : Option Asked → Request → Result Reply Fault → Type 0
   KeepsNext ask asked result =
       (s : State) → IsDesk s → Keeps (state g old) s
       → OnOk result (Keeps (state g new) (outcome s ask asked).state)
 
-  -- whatever came of it, a stop leaves the old state, or the one that the request comes to
+  -- in every case a crash leaves the old state, or the state of the request's outcome
   abbrev pub LeavesOld : Option Asked → Request → Type 0
   LeavesOld ask asked =
       (s : State) → IsDesk s → Keeps (state g old) s
       → MayLeave (state g new) s (outcome s ask asked).state
 
-  -- the same three, where nothing is kept for who asks
+  -- the same three, if no reply is kept for the ask
   abbrev pub AnswersNew : Option Asked → Request → Result Reply Fault → Type 0
   AnswersNew ask asked result =
       HasCleanDisk (state g new) → (s : State) → IsDesk s → Keeps (state g old) s

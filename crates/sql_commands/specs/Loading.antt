@@ -1,4 +1,4 @@
--- What a load of a batch finds, comes to and leaves.
+-- What a load of a batch finds, its outcome, and what it leaves.
 use Rattle.std.specs.Prelude.{◌≡◌, ℕ, ◌+◌, ◌-◌, not, true, false, List, [], ◌∷◌, map, position, nat_le, Option, Some, None, Result, IfOk, OnOk, IsTrue}
 use Rattle.std.specs.List.{list_all}
 use Rattle.sqlite.specs.Store.{Ghosts}
@@ -37,12 +37,12 @@ pub record IsTextOf (s : State) (name content : List ℕ) (known : List Row) : T
   pub good : IsTrue (list_all is_good_row known)
   pub text : content ≡ batch_text known
 
--- what is found of a name: the text of the batch that has it, or that none has
+-- what is found for a name: the text of the batch that has it, or that no batch has it
 abbrev pub TellsName : List ℕ → State → Option BatchFound → Type 0
 TellsName name s None = batches_named s.ledger name ≡ []
 TellsName name s (Some b) = (known : List Row) × IsTextOf s name b.content.items known
 
--- the reply to a batch whose name is known with the rows of this text
+-- the reply to a batch whose name is known, where this is the text of the known rows
 abbrev pub AnswersKnown : Batched → List ℕ → Reply → Type 0
 AnswersKnown b content r =
     (known : List Row) → IsTrue (list_all is_good_row known) → content ≡ batch_text known
@@ -54,18 +54,18 @@ AnswersKnown b content r =
 abbrev pub IsHeldOf : Cell → State → ℕ → Type 0
 IsHeldOf x s n = n ≡ held s.ledger x
 
--- the places of a row's cell, where so many are held: what is not held is free; none where the row has
--- fewer
+-- the places of a row's cell, of which so many are held: those that are not held are free; none if the
+-- row has fewer
 abbrev pub LeavesPlaces : Row → ℕ → Option HeldPlaces → Type 0
 LeavesPlaces r n None = nat_le n r.places ≡ false
 LeavesPlaces r n (Some p) =
     (nat_le n r.places ≡ true) × (p.allot ≡ r.places) × (p.free ≡ r.places - n)
 
--- the places that a row's cell gets, or none where the row is below what is held
+-- the places that a row's cell gets, or none if the row is below what is held
 abbrev pub GetsPlaces : Row → State → Option HeldPlaces → Type 0
 GetsPlaces r s places = LeavesPlaces r (held s.ledger r.cell) places
 
--- the row of a cell that is loaded
+-- the row of a loaded cell
 abbrev pub row_loaded : State → Row → StockRow
 row_loaded s r = loaded_row (held s.ledger r.cell) r
 
@@ -74,14 +74,14 @@ pub record HavePlaces (rows : List Row) (s : State) (cells : List (Cell × HeldP
   pub above : list_all (is_not_below_held s.ledger) rows ≡ true
   pub told : map stock_row_of cells ≡ map (row_loaded s) rows
 
--- the refusal tells the first row that is below what is held
+-- the refusal names the first row that is below what is held
 abbrev pub TellsBelow : List Row → State → Refusal → Type 0
 TellsBelow rows s why =
     (i : ℕ) × (why ≡ BelowHeld (i + 1))
     × (position (λ (r : Row). not (is_not_below_held s.ledger r)) rows ≡ Some i)
 
 module _ {S : Type 0} (g : Ghosts S) (old now : Held S) where
-  -- so far these rows were looked at, and nothing changed
+  -- these rows are examined so far, and nothing changed
   pub record HasLooked (rows : List Row) (cells : List (Cell × HeldPlaces)) : Type 0 where
     pub reads : OnlyReads g old now
     pub shown : HasCleanDisk (state g now) → (s : State) → IsDesk s → Keeps (state g old) s
@@ -95,28 +95,28 @@ pub record IsNewName (ask : Option Asked) (counts : Meta) (name : List ℕ) (s :
   pub counted : Counts s counts
   pub unknown : batches_named s.ledger name ≡ []
 
--- the same, where no row is below what is held
+-- the same, if no row is below what is held
 pub record IsLoadDue (ask : Option Asked) (counts : Meta) (name : List ℕ) (rows : List Row)
     (cells : List (Cell × HeldPlaces)) (s : State) : Type 0 where
   pub new_name : IsNewName ask counts name s
   pub places : HavePlaces rows s cells
 
--- What a request comes to, of each state in which it is due.
+-- The outcome of a request, in each state that meets its precondition.
 module _ {S : Type 0} (g : Ghosts S) (old new : Held S) (ask : Option Asked) (asked : Request)
     (IsDueIn : State → Type 0) where
-  -- what is due is answered
+  -- the reply is that of the request's outcome
   abbrev pub AnswersWhere : Result Reply Fault → Type 0
   AnswersWhere result =
       HasCleanDisk (state g new) → (s : State) → Keeps (state g old) s → IsDueIn s
       → IfOk result (λ reply. reply ≡ (outcome s ask asked).reply)
 
-  -- after a success the connection keeps what it comes to
+  -- after a success the connection keeps the state of the outcome
   abbrev pub KeepsWhere : Result Reply Fault → Type 0
   KeepsWhere result =
       (s : State) → Keeps (state g old) s → IsDueIn s
       → OnOk result (Keeps (state g new) (outcome s ask asked).state)
 
-  -- whatever came of it, a stop leaves the old state, or the one that it comes to
+  -- in every case a crash leaves the old state, or the state of the outcome
   abbrev pub LeavesWhere : Type 0
   LeavesWhere =
       (s : State) → Keeps (state g old) s → IsDueIn s

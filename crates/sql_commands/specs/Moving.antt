@@ -1,4 +1,4 @@
--- What a move of a journey asks, comes to and leaves.
+-- What a move of a journey requests, its outcome, and what it leaves.
 use Rattle.std.specs.Prelude.{◌≡◌, ℕ, ◌+◌, ◌<◌, ◌≤◌, Bool, false, List, ⊤, Option, Some, None, Result, Ok, Err, IfOk, OnOk}
 use Rattle.sqlite.specs.Store.{Ghosts}
 use Rattle.sqlite.specs.Held.{Held, state}
@@ -52,18 +52,18 @@ asked_for id (motion.Abort p) = request.Abort id p
 asked_for id motion.Stop = request.Stop id
 asked_for id motion.Save = request.Save id
 
--- where the journey runs, this says whether its next want fits
+-- if the journey runs, `fitting` says whether its next want fits
 abbrev pub FitsNext : Record → State → Bool → Type 0
 FitsNext r s fitting =
     r.cursor.phase ≡ Run → fitting ≡ fits s.ledger (rules.next_want r.plan r.cursor.pos r.cursor.used)
 
--- where this is the last step of the journey that stands, it took this option
+-- if this is the last step of the journey that stands, it took this option
 abbrev pub IsLastOption : ℕ → ℕ → State → ℕ → Type 0
 IsLastOption id step s option =
     (a : Journey) (c : ℕ) → journey_at s.ledger id ≡ Some a
     → last_of (net (history s.ledger id)) ≡ Some (step, c) → option ≡ c
 
--- where it is a step that is asked for, the journey's next want does not fit
+-- if the move is that of a refused step, the journey's next want does not fit
 abbrev pub IsUnfit : ℕ → Motion → State → Type 0
 IsUnfit id motion.Refused s =
     (who : Option (List ℕ)) (r : Record) → IsSeen s who id r → FitsNext r s false
@@ -71,13 +71,13 @@ IsUnfit id (motion.Abort p) s = ⊤
 IsUnfit id motion.Stop s = ⊤
 IsUnfit id motion.Save s = ⊤
 
--- for whoever sees the journey, the rules answer a move of it by this item, or by this refusal
+-- for each caller who sees the journey, the rules answer a move of it by this item, or by this refusal
 abbrev pub IsNext : ℕ → Record → Motion → State → Result Item Refusal → Type 0
 IsNext id r why s next =
     (who : Option (List ℕ)) → IsSeen s who id r → IsUnfit id why s
     → Fits id r.plan r.cursor (answer_within s.ledger who (asked_for id why)) next
 
--- The event says this item of a journey, which is here then; where the item has a want, with that of its plan.
+-- The event is that of this item, and has the cursor after it; if the item has a want, it is that of the plan.
 abbrev pub Says : ℕ → Planned → Cursor → Item → Event → Type 0
 Says id plan then (item.Transaction i c) e =
     (w : Wanted) × (want_at plan i c ≡ Some w)
@@ -89,18 +89,18 @@ Says id plan then (item.Turn p cause) e =
     e ≡ Turn (record { journey = id; target = p; cause = cause; cursor = then })
 Says id plan then (item.Save p) e = e ≡ Save (record { journey = id; position = p })
 
--- the event is that of an item of a journey that was here
+-- the event is that of an item of a journey that was at this cursor
 abbrev pub IsEventOf : ℕ → Planned → Cursor → Item → Event → Type 0
 IsEventOf id plan at x e = Says id plan (cursor_after plan at x) x e
 
--- for whoever sees the journey the rules answer this item, of which these are the event and where the journey is then
+-- the rules answer this item, and these are its event and the cursor after it
 pub record IsNextMade (id : ℕ) (r : Record) (answered : Answer) (m : Made) : Type 0 where
   pub same : m.id ≡ id
   pub next : Fits id r.plan r.cursor answered (Ok m.item)
   pub says : IsEventOf id r.plan r.cursor m.item m.event
   pub cursor : m.cursor ≡ cursor_after r.plan r.cursor m.item
 
--- the next step of a journey that is here, with this option
+-- the next step of a journey at this cursor, with this option
 pub record IsStepUp (id : ℕ) (stand : Stand) (choice : Choice) (m : Made) : Type 0 where
   pub same : m.id ≡ id
   pub item_is : m.item ≡ item.Transaction (stand.cursor.pos + 1) choice.option
@@ -113,7 +113,7 @@ pub record IsStepUp (id : ℕ) (stand : Stand) (choice : Choice) (m : Made) : Ty
   })
   pub cursor : m.cursor ≡ stepped_up stand.steps stand.cursor
 
--- the compensation of its last standing step, with this option
+-- the compensation of the last standing step, with this option
 pub record IsStepDown (id : ℕ) (stand : Stand) (choice : Choice) (m : Made) : Type 0 where
   pub same : m.id ≡ id
   pub item_is : m.item ≡ item.Compensation stand.cursor.pos choice.option
@@ -126,12 +126,12 @@ pub record IsStepDown (id : ℕ) (stand : Stand) (choice : Choice) (m : Made) : 
   })
   pub cursor : m.cursor ≡ stepped_down stand.cursor
 
--- this says whether a want fits
+-- `fitting` says whether the want fits
 abbrev pub FitsIn : Wanted → State → Bool → Type 0
 FitsIn want s fitting = fitting ≡ fits s.ledger (Some want)
 
--- what the rows of a step tell of it: that it is done, or compensated, with this option, that its want does not fit,
--- or that there is none
+-- what the rows of a step imply: it is done, or compensated, with this option; its want does not fit; or there is no
+-- step
 abbrev pub ComesFor : ℕ → Stand → State → Record → Answer → Coming → Type 0
 ComesFor id stand s r answered (coming.Up choice) =
     (m : Made) → IsStepUp id stand choice m → IsNextMade id r answered m
@@ -140,29 +140,29 @@ ComesFor id stand s r answered (coming.Down choice) =
 ComesFor id stand s r answered coming.Refused = FitsNext r s false
 ComesFor id stand s r answered coming.Nothing = Fits id r.plan r.cursor answered (Err Finished)
 
--- this is what a step of the journey comes to that is here
+-- this is the outcome of a step of the journey at this cursor
 abbrev pub Comes : ℕ → Stand → State → Coming → Type 0
 Comes id stand s c =
     (who : Option (List ℕ)) (r : Record) → IsSeen s who id r → stand_of r ≡ stand
     → ComesFor id stand s r (answer_within s.ledger who (request.Step id)) c
 
--- the step or the compensation is there, and its option has a small number
+-- the step or the compensation exists, and its option has a small number
 abbrev pub MayCome : Stand → Coming → Type 0
 MayCome stand (coming.Up choice) = (stand.cursor.pos < stand.steps) × (choice.option ≤ most_options)
 MayCome stand (coming.Down choice) = (1 ≤ stand.cursor.pos) × (choice.option ≤ most_options)
 MayCome stand coming.Refused = ⊤
 MayCome stand coming.Nothing = ⊤
 
--- with the rows of an event, and of its reply where there is an ask, tables that stood for the one state
--- stand for the other
+-- with the rows of an event, and of its reply if there is an ask, tables that represent the old state
+-- represent the new one
 pub record LeadsTo (n : Numbers) (e : Event) (ask : Option Asked) (reply : Reply) (old new : State)
     : Type 0 where
   pub fits : (t : Tables) → StandsFor t old → kinds.Fits n e t
   pub stands : (t : Tables) → StandsFor t old
       → StandsFor (with_answer ask reply (rows_after n e t)) new
 
--- A request for which nothing is kept comes, by the rules, to this item of a journey, or to this refusal. The
--- journey is seen by who asks, and the numbers of `meta` are those of the ledger.
+-- The rules answer a request for which no reply is kept by this item of a journey, or by this refusal. The caller
+-- sees the journey, and the numbers of `meta` are those of the ledger.
 pub record IsDue (s : State) (ask : Option Asked) (asked : Request) (counts : Meta) (id : ℕ)
     (r : Record) (next : Result Item Refusal) : Type 0 where
   pub desk : IsDesk s
@@ -171,7 +171,7 @@ pub record IsDue (s : State) (ask : Option Asked) (asked : Request) (counts : Me
   pub here : IsSeen s (asker ask) id r
   pub answered : Fits id r.plan r.cursor (answer_within s.ledger (asker ask) asked) next
 
--- The event is that of an item which is due of a journey, and this is where the journey is then.
+-- The event is that of an item that the rules answer, and this is the cursor of the journey after it.
 pub record IsMade (s : State) (ask : Option Asked) (counts : Meta) (why : Motion) (m : Made) : Type 0 where
   pub journey : Record
   pub due : IsDue s ask (asked_for m.id why) counts m.id journey (Ok m.item)
@@ -179,20 +179,20 @@ pub record IsMade (s : State) (ask : Option Asked) (counts : Meta) (why : Motion
   pub cursor : m.cursor ≡ cursor_after journey.plan journey.cursor m.item
 
 module _ {S : Type 0} (g : Ghosts S) (old new : Held S) (ask : Option Asked) (counts : Meta) (m : Made) where
-  -- what is made is answered
+  -- the reply is that of the outcome
   abbrev pub AnswersMade : Result Reply Fault → Type 0
   AnswersMade result =
       HasCleanDisk (state g new) → (s : State) (why : Motion) → Keeps (state g old) s
       → IsMade s ask counts why m
       → IfOk result (λ reply. reply ≡ (outcome s ask (asked_for m.id why)).reply)
 
-  -- after a success the connection keeps what it comes to
+  -- after a success the connection keeps the state of the outcome
   abbrev pub KeepsMade : Result Reply Fault → Type 0
   KeepsMade result =
       (s : State) (why : Motion) → Keeps (state g old) s → IsMade s ask counts why m
       → OnOk result (Keeps (state g new) (outcome s ask (asked_for m.id why)).state)
 
-  -- whatever came of it, a stop leaves the old state, or the one that it comes to
+  -- in every case a crash leaves the old state, or the state of the outcome
   abbrev pub LeavesMade : Type 0
   LeavesMade =
       (s : State) (why : Motion) → Keeps (state g old) s → IsMade s ask counts why m
@@ -200,21 +200,21 @@ module _ {S : Type 0} (g : Ghosts S) (old new : Held S) (ask : Option Asked) (co
 
 module _ {S : Type 0} (g : Ghosts S) (old new : Held S) (ask : Option Asked) (counts : Meta) (id : ℕ)
     (r : Record) (next : Result Item Refusal) where
-  -- what is due is answered
+  -- the reply is that of the outcome
   abbrev pub AnswersDue : Result Reply Fault → Type 0
   AnswersDue result =
       HasCleanDisk (state g new) → (s : State) (why : Motion) → Keeps (state g old) s
       → IsDue s ask (asked_for id why) counts id r next
       → IfOk result (λ reply. reply ≡ (outcome s ask (asked_for id why)).reply)
 
-  -- after a success the connection keeps what it comes to
+  -- after a success the connection keeps the state of the outcome
   abbrev pub KeepsDue : Result Reply Fault → Type 0
   KeepsDue result =
       (s : State) (why : Motion) → Keeps (state g old) s
       → IsDue s ask (asked_for id why) counts id r next
       → OnOk result (Keeps (state g new) (outcome s ask (asked_for id why)).state)
 
-  -- whatever came of it, a stop leaves the old state, or the one that it comes to
+  -- in every case a crash leaves the old state, or the state of the outcome
   abbrev pub LeavesDue : Type 0
   LeavesDue =
       (s : State) (why : Motion) → Keeps (state g old) s
@@ -222,20 +222,20 @@ module _ {S : Type 0} (g : Ghosts S) (old new : Held S) (ask : Option Asked) (co
       → MayLeave (state g new) s (outcome s ask (asked_for id why)).state
 
 module _ {S : Type 0} (g : Ghosts S) (old new : Held S) (ask : Option Asked) (id : ℕ) (why : Motion) where
-  -- where nothing is kept for who asks, a move of the journey is answered
+  -- if no reply is kept for the ask, the reply is that of the outcome
   abbrev pub AnswersMove : Result Reply Fault → Type 0
   AnswersMove result =
       HasCleanDisk (state g new) → (s : State) → IsDesk s → Keeps (state g old) s
       → kept_for s ask ≡ None → IsUnfit id why s
       → IfOk result (λ reply. reply ≡ (outcome s ask (asked_for id why)).reply)
 
-  -- after a success the connection keeps what it comes to
+  -- after a success the connection keeps the state of the outcome
   abbrev pub KeepsMove : Result Reply Fault → Type 0
   KeepsMove result =
       (s : State) → IsDesk s → Keeps (state g old) s → kept_for s ask ≡ None → IsUnfit id why s
       → OnOk result (Keeps (state g new) (outcome s ask (asked_for id why)).state)
 
-  -- whatever came of it, a stop leaves the old state, or the one that it comes to
+  -- in every case a crash leaves the old state, or the state of the outcome
   abbrev pub LeavesMove : Type 0
   LeavesMove =
       (s : State) → IsDesk s → Keeps (state g old) s → kept_for s ask ≡ None → IsUnfit id why s

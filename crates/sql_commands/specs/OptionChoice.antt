@@ -1,4 +1,4 @@
--- The option of a step that comes next, and the one that was taken last.
+-- The next option of a step, and the one that was taken last.
 use Rattle.std.specs.Prelude.{◌≡◌, ◌≤◌, ◌+◌, ◌-◌, ◌==◌, ℕ, Bool, List, Some, find, min, slice_get}
 use Rattle.plan.specs.PlanModel.{step_count, option_count, want_at}
 use Rattle.ledger.specs.Answer.{State}
@@ -13,7 +13,7 @@ pub record IsOfRow (row : StepFound) (option : ℕ) (choice : Choice) : Type 0 w
   pub option_is : choice.option ≡ option
   pub want : TellsWant row choice.want
 
--- of these rows the one with this number is chosen, counted from 1
+-- the row with this number, from 1, is chosen of these rows
 pub record IsRowChosen (rows : List StepFound) (option : ℕ) (choice : Choice) : Type 0 where
   pub row : StepFound
   pub from_one : 1 ≤ option
@@ -24,20 +24,20 @@ pub record IsRowChosen (rows : List StepFound) (option : ℕ) (choice : Choice) 
 abbrev pub is_taken_row : StepFound → Bool
 is_taken_row row = row.taken == 1
 
--- of these rows the first one that is taken is chosen
+-- the first row of a taken option is chosen of these rows
 pub record IsTakenChosen (rows : List StepFound) (choice : Choice) : Type 0 where
   pub row : StepFound
   pub there : find is_taken_row rows ≡ Some row
   pub is : IsOfRow row row.opt choice
 
--- the option that the journey takes at this step once so many of its steps were refused, with its want
+-- the option that the journey takes at this step, after so many of its steps were refused, with its want
 abbrev pub IsNextChoice : ℕ → ℕ → ℕ → State → Choice → Type 0
 IsNextChoice id step used s choice =
     (a : Journey) → journey_at s.ledger id ≡ Some a → 1 ≤ step → step ≤ step_count a.plan
     → (choice.option ≡ min (used + 1) (option_count a.plan step))
     × (want_at a.plan step choice.option ≡ Some choice.want)
 
--- where this is the last step of the journey that stands, it took this option, with this want
+-- if this is the last step of the journey that stands, it took this option, with this want
 abbrev pub IsLastChoice : ℕ → ℕ → State → Choice → Type 0
 IsLastChoice id step s choice =
     (a : Journey) (c : ℕ) → journey_at s.ledger id ≡ Some a

@@ -1,4 +1,4 @@
--- Where a journey stands by what a record shows of it, and what may come of it next.
+-- The cursor of a journey by its record, and the item that may come next.
 use Rattle.std.specs.Prelude.{◌≡◌, ℕ, ◌+◌, ◌-◌, ◌<◌, ◌≤◌, ◌^◌, List, IsTrue, Option, Some, None, Result, MatchResult}
 use Rattle.plan.specs.PlanModel.{Planned, step_count, option_count}
 use Rattle.commands.specs.declared.items.Cursor.{Cursor}
@@ -18,23 +18,23 @@ use Rattle.saga_core.specs.declared.records.Record.{Record}
 use Rattle.sql_reads.specs.Reading.{stand_of}
 use Rattle.sql_reads.specs.declared.reads.Stand.{Stand}
 
--- Of so many steps, an open journey is short of the last one, and above where it goes back to; and no journey was
--- refused more often than a ledger may have events.
+-- An open journey is short of its last step, and above its target if it goes back; and no journey was refused more
+-- often than a ledger may have events.
 pub record IsPlacedIn (steps : ℕ) (c : Cursor) : Type 0 where
   pub within : c.pos ≤ steps
   pub short : IsTrue (is_open c.phase) → c.pos < steps
   pub above : (p : ℕ) → c.phase ≡ Back p → p < c.pos
   pub counted : c.used < 2 ^ 62
 
--- the same of a journey with this plan
+-- the same, for a journey with this plan
 abbrev pub IsPlaced : Planned → Cursor → Type 0
 IsPlaced plan c = IsPlacedIn (step_count plan) c
 
--- where a journey of so many steps is after one more of them
+-- the cursor of a journey of so many steps after one more step
 abbrev pub stepped_up : ℕ → Cursor → Cursor
 stepped_up steps c = record { pos = c.pos + 1; phase = phase_up steps (c.pos + 1); used = c.used }
 
--- where it is once its last standing step is compensated
+-- the cursor of a journey after the compensation of its last standing step
 abbrev pub stepped_down : Cursor → Cursor
 stepped_down c = record { pos = c.pos - 1; phase = phase_back c.phase (c.pos - 1); used = c.used }
 
@@ -45,7 +45,7 @@ pub record HasOption (plan : Planned) (step option : ℕ) : Type 0 where
   pub first : 1 ≤ option
   pub last : option ≤ option_count plan step
 
--- the item is next where the journey is, as far as numbers tell
+-- the item may come at this cursor, as far as numbers show
 abbrev pub MayBeMade : Planned → Cursor → Item → Type 0
 MayBeMade plan c (Transaction i k) = (i ≡ c.pos + 1) × HasOption plan i k
 MayBeMade plan c (Compensation i k) = (i ≡ c.pos) × HasOption plan i k
@@ -56,24 +56,24 @@ MayBeMade plan c (Save p) = p ≡ c.pos
 abbrev pub begun_as : Record → l.Journey
 begun_as r = record { agent = r.agent; plan = r.plan }
 
--- the record is that of the journey of this number, which is seen by who asks
+-- the record is that of the journey of this number, and the caller sees it
 pub record IsSeen (s : State) (who : Option (List ℕ)) (id : ℕ) (r : Record) : Type 0 where
   pub at : journey_at s.ledger id ≡ Some (begun_as r)
   pub seen : seen_journey s.ledger who id ≡ Some (begun_as r)
   pub cursor : r.cursor ≡ cursor_of r.plan (history s.ledger id)
   pub marks : r.marks ≡ marks_of (history s.ledger id)
 
--- what who asks sees of the journey of this number: its record, or that there is none for him
+-- what the caller sees of the journey of this number: its record, or that there is none for this caller
 abbrev pub Sees : Option (List ℕ) → ℕ → State → Option Record → Type 0
 Sees who id s None = seen_journey s.ledger who id ≡ None
 Sees who id s (Some r) = IsSeen s who id r
 
--- what who asks sees of where the journey of this number is, or that there is none for him
+-- the agent, steps and cursor that the caller sees of the journey of this number, or that there is none
 abbrev pub SeesStand : Option (List ℕ) → ℕ → State → Option Stand → Type 0
 SeesStand who id s None = seen_journey s.ledger who id ≡ None
 SeesStand who id s (Some stand) = (r : Record) × IsSeen s who id r × (stand_of r ≡ stand)
 
--- what a move comes to is what is answered: its item, or its refusal
+-- the answer is the item of a move, or its refusal
 abbrev pub Fits : ℕ → Planned → Cursor → Answer → Result Item Refusal → Type 0
 Fits j plan c answered next =
     MatchResult next (λ x. answered ≡ moves j plan c x) (λ why. answered ≡ refused why)

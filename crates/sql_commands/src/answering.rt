@@ -1,4 +1,4 @@
-//! What is answered to a command.
+//! The reply to a command.
 ghost use Rattle.std.specs.Prelude.{◌≡◌, false, IfOk, IsTrue, Some};
 ghost use Rattle.std.specs.Option.{option_copied as asker};
 ghost use Rattle.commands.specs.Orders.{request_of};
@@ -17,8 +17,8 @@ use sql_reads::fault_of;
 use sqlite::{Alter, Connection};
 use std::alloc::Global;
 
-/// What a known key is answered: its kept reply, where the text is the same. A line that is no reply's is a fault of the
-/// store.
+/// The reply under a known key: the kept one if the text is the same, else a refusal. A kept line that is no reply is a
+/// fault of the store.
 fn again(alloc: Global, kept: &KeptAnswer, ask: &Ask) -> Result<Reply, Fault>
     ensures again { IfOk result (AnswersAgain kept.now ask.now) }
 {
@@ -32,7 +32,7 @@ fn again(alloc: Global, kept: &KeptAnswer, ask: &Ask) -> Result<Reply, Fault>
     }
 }
 
-/// The reply to an ask whose key is known, if it is.
+/// Returns the reply to an ask whose key is known; `None` if the key is new.
 fn find_reply<S: Alter>(
     alloc: Global,
     conn: &mut Connection<S>,
@@ -57,7 +57,7 @@ fn find_reply<S: Alter>(
     }
 }
 
-/// What is answered to a command, where nothing is kept for who asks.
+/// Executes a command for whose ask no reply is kept.
 fn answer_new<S: Alter>(
     alloc: Global,
     conn: &mut Connection<S>,
@@ -87,7 +87,7 @@ fn answer_new<S: Alter>(
     }
 }
 
-/// What is answered to a command of who asks: what is kept, where his key is known.
+/// Executes a command of an agent. A retry under its key gets the kept reply, or a refusal if its text differs.
 fn answer_for<S: Alter>(
     alloc: Global,
     conn: &mut Connection<S>,
@@ -112,7 +112,7 @@ fn answer_for<S: Alter>(
     }
 }
 
-/// What is answered to a command, of whoever asks or of the house.
+/// Executes a command of the agent who asks, or of the house if there is no ask, and returns its reply.
 pub fn answer<S: Alter>(
     alloc: Global,
     conn: &mut Connection<S>,
@@ -136,7 +136,7 @@ pub fn answer<S: Alter>(
     }
 }
 
-/// A request that a command makes keeps the limits: there is no other.
+/// The request of a command keeps the limits, as each value of its type does. A call does nothing at run time.
 pub fn know_limits(command: &Command)
     ensures limits { IsTrue (is_request (request_of command.now)) }
 {

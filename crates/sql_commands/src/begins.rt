@@ -1,4 +1,4 @@
-//! What is answered to a begin, where nothing is kept for who asks.
+//! The reply to a begin for whose ask no reply is kept.
 ghost use Rattle.std.specs.Prelude.{◌≡◌, false, unwrap_or};
 ghost use Rattle.std.specs.Option.{option_copied as asked_by};
 ghost use Rattle.commands.specs.Names.{house};
@@ -15,7 +15,7 @@ use sql_writes::{Event, JourneyBegun, Numbers};
 use sqlite::{Alter, Connection};
 use std::alloc::Global;
 
-/// Whose a journey is that begins: who asks, or the house.
+/// The agent of a new journey: the agent who asks, or the house.
 fn beginner(ask: Option<&Ask>) -> Agent
     ensures agent { result ≡ unwrap_or (asker (asked_by ask.entry)) house }
 {
@@ -25,7 +25,7 @@ fn beginner(ask: Option<&Ask>) -> Agent
     }
 }
 
-/// What is answered to a begin, where nothing is kept for who asks.
+/// Executes a begin for whose ask no reply is kept.
 pub(crate) fn answer_begin<S: Alter>(
     alloc: Global,
     conn: &mut Connection<S>,

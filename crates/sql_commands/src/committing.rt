@@ -1,4 +1,4 @@
-//! One event, one commit.
+//! The transaction of one event, with one commit.
 ghost use Rattle.std.specs.Prelude.{◌≡◌, false, Some, OnOk};
 ghost use Rattle.sqlite.specs.Held.{state};
 ghost use Rattle.ledger.specs.Answer.{State};
@@ -14,7 +14,7 @@ use sql_writes::{Event, Keeping, Numbers, commit_event};
 use sqlite::{Alter, Connection};
 use std::alloc::Global;
 
-/// Writes an event in one commit, with the reply to this ask.
+/// Writes an event and the reply to this ask in one commit.
 fn commit_kept<S: Alter>(
     alloc: Global,
     conn: &mut Connection<S>,
@@ -49,7 +49,7 @@ fn commit_kept<S: Alter>(
     commit_event(conn, numbers, event, Some(keeping))
 }
 
-/// Writes an event in one commit, with the reply to it where there is an ask.
+/// Writes an event in one commit, with its reply if there is an ask.
 pub(crate) fn commit_answered<S: Alter>(
     alloc: Global,
     conn: &mut Connection<S>,

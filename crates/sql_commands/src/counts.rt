@@ -1,4 +1,4 @@
-//! How many events and journeys there are.
+//! The number of events and of journeys.
 ghost use Rattle.std.specs.Prelude.{◌≡◌, false, IfOk};
 ghost use Rattle.sql_commands.specs.Answering.{Counts, IsCounted, KeepsOn, KeepsAtMemory};
 ghost use Rattle.sql_reads.specs.Reading.{LeavesAsBefore, ShowsKept, WasClean};
@@ -8,7 +8,7 @@ use desk_sql::{Meta, read_meta};
 use sql_reads::fault_of;
 use sqlite::{Alter, Connection};
 
-/// The numbers of `meta`. More than a ledger may have is a fault of the store.
+/// Reads the numbers of `meta`. Numbers greater than those of any ledger are a fault of the store.
 pub fn read_counts<S: Alter>(conn: &mut Connection<S>) -> Result<Meta, Fault>
     requires outside { conn.old.in_transaction ≡ false }
 

@@ -1,11 +1,11 @@
-//! Each command over the tables: reads first, then one transaction with the rows of the event and the kept reply, the
-//! commit last.
+//! Each command over the tables: first the reads, then one transaction with the rows of the event and of the kept
+//! reply, whose commit is the last call of the store.
 //!
-//! `answer` gives a command of an agent or of the house its reply, over a connection that keeps the state of a desk;
-//! after a success the connection keeps the next state, and whatever came of it a crash leaves the old state or the
-//! next one. A key that is known gets its kept reply again.
+//! `answer` executes a command of an agent or of the house, over a connection that keeps the state of a desk. After a
+//! success the connection keeps the next state; in every case a crash leaves the old state or the next one. A retry
+//! under its key gets the kept reply, or a refusal if its text differs, and changes nothing.
 //!
-//! Words: a connection *keeps* a state where its tables stand for it and a crash leaves just that.
+//! Words: a connection *keeps* a state if its tables represent the state and a crash leaves just that state.
 #![tactic(auto)]
 
 mod answering;

@@ -1,7 +1,7 @@
-//! What is answered to a load, where nothing is kept for who asks.
+//! The reply to a load for whose ask no reply is kept.
 //!
 //! All reads come first: the numbers of `meta`, the batch of that name, and how many places of each cell are held. Then
-//! the batch is written in one commit, with the places of its cells, and with the reply where one is kept.
+//! the batch is written in one commit, with the places of its cells, and with its reply if there is an ask.
 ghost use Rattle.std.specs.Prelude.{◌≡◌, false, string_bytes, IfOk, MatchResult};
 ghost use Rattle.std.specs.Option.{option_copied as asked_by};
 ghost use Rattle.commands.specs.Request.{Load};
@@ -37,7 +37,7 @@ fn content_of(alloc: Global, rows: &[Row]) -> Result<String, AllocError>
     Ok(content)
 }
 
-/// The reply to a batch that stands.
+/// The reply to a loaded batch.
 fn loaded(batch: &Batch) -> Reply
     ensures loaded { result ≡ reply_to batch.now.name batch.now.rows }
 {
@@ -47,7 +47,7 @@ fn loaded(batch: &Batch) -> Reply
     }
 }
 
-/// The batch with a name, if there is one.
+/// Returns the batch with a name, if there is one.
 fn find_known<S: Alter>(conn: &mut Connection<S>, name: &str) -> Result<Option<BatchFound>, Fault>
     requires outside { conn.old.in_transaction ≡ false }
 
@@ -63,7 +63,7 @@ fn find_known<S: Alter>(conn: &mut Connection<S>, name: &str) -> Result<Option<B
     }
 }
 
-/// How many places of a cell are held, by what was found of its night. More free places than allotted ones are a fault
+/// The number of held places of a cell, by what was found of its night. More free places than allotted ones are a fault
 /// of the store.
 fn held_of(found: &[NightFound]) -> Result<u64, Fault>
     ensures held { IfOk result (λ n. n ≡ held_seen found.now) }
@@ -75,7 +75,7 @@ fn held_of(found: &[NightFound]) -> Result<u64, Fault>
     }
 }
 
-/// How many places of a cell journeys hold.
+/// Reads how many places of a cell journeys hold.
 fn read_held<S: Alter>(alloc: Global, conn: &mut Connection<S>, cell: Cell) -> Result<u64, Fault>
     requires outside { conn.old.in_transaction ≡ false }
 
@@ -101,7 +101,7 @@ fn read_held<S: Alter>(alloc: Global, conn: &mut Connection<S>, cell: Cell) -> R
     }
 }
 
-/// The places of a row's cell, where so many are held; none where the row has fewer.
+/// The places of a row's cell, of which so many are held; `None` if the row has fewer.
 fn places_left(row: &Row, held: u64) -> Option<Held>
     ensures places { LeavesPlaces row.now held result }
 {
@@ -115,7 +115,7 @@ fn places_left(row: &Row, held: u64) -> Option<Held>
     })
 }
 
-/// The places that a row's cell gets; none where the row has fewer than journeys hold.
+/// Reads the places that a row's cell gets; `None` if the row has fewer than journeys hold.
 fn read_places<S: Alter>(
     alloc: Global,
     conn: &mut Connection<S>,
@@ -135,7 +135,7 @@ fn read_places<S: Alter>(
     }
 }
 
-/// The cells of rows with the places that they get, unless a row has fewer places than journeys hold.
+/// Reads the cells of rows with the places that they get, or refuses a row with fewer places than journeys hold.
 fn cells_of<S: Alter>(
     alloc: Global,
     conn: &mut Connection<S>,
@@ -253,7 +253,7 @@ fn load_new<S: Alter>(
     }
 }
 
-/// What is answered to a load, where nothing is kept for who asks.
+/// Executes a load for whose ask no reply is kept.
 pub(crate) fn answer_load<S: Alter>(
     alloc: Global,
     conn: &mut Connection<S>,

@@ -1,7 +1,8 @@
-//! What is answered to a move of a journey, where nothing is kept for who asks.
+//! The reply to a move of a journey for whose ask no reply is kept.
 //!
-//! All reads come first: the numbers of `meta`, and the journey by its rows. Then the item that the rules name is written
-//! in one commit, with the reply where one is kept. A step is answered in `coming`, and comes here where it is refused.
+//! All reads come first: the numbers of `meta`, and the journey by its rows. Then the item that the rules name is
+//! written in one commit, with its reply if there is an ask. `step_outcome` executes a step, and comes here if its want
+//! does not fit.
 ghost use Rattle.std.specs.Prelude.{◌≡◌, ◌<◌, ◌^◌, ℕ, false, Ok, IfOk, IfSome};
 ghost use Rattle.std.specs.Option.{option_copied as asked_by};
 ghost use Rattle.ledger.specs.Answer.{asker};
@@ -30,7 +31,7 @@ use sql_writes::{Event, Numbers, SaveMade, StepMade, TurnMade};
 use sqlite::{Alter, Connection};
 use std::alloc::Global;
 
-/// An item of a journey, with its event, and where the journey is then.
+/// An item of a journey, with its event, and the cursor of the journey after it.
 #[derive(Clone, Copy)]
 pub(crate) struct Made<'x> {
     pub id: u64,
@@ -39,7 +40,7 @@ pub(crate) struct Made<'x> {
     pub cursor: Cursor,
 }
 
-/// Whether who asks sees a journey of this agent: his own alone, and the house sees each.
+/// Whether a caller sees a journey of this agent: an agent sees its own journeys, and the house sees all.
 pub(crate) fn is_seen_by(agent: Agent, ask: Option<&Ask>) -> bool
     ensures seen { (plan : Planned) → result
         ≡ sees (asker (asked_by ask.entry)) (record { agent = agent; plan = plan }) }
@@ -50,7 +51,7 @@ pub(crate) fn is_seen_by(agent: Agent, ask: Option<&Ask>) -> bool
     }
 }
 
-/// The journey of that number, if who asks sees it. One that cannot be where its rows say is a fault of the store.
+/// Reads the journey of that number, if the caller sees it. An impossible cursor in its rows is a fault of the store.
 fn find_seen<S: Alter>(
     alloc: Global,
     conn: &mut Connection<S>,
@@ -83,7 +84,7 @@ fn find_seen<S: Alter>(
     }
 }
 
-/// The event of a journey with this plan that makes an item and is here then.
+/// The event of an item of a journey with this plan, which is at this cursor before the item.
 fn event_of<'x>(id: u64, plan: &Plan, at: Cursor, item: Item) -> Event<'x>
     requires id { id < 2 ^ 63 }
     requires placed { IsPlaced plan.now at }
@@ -122,7 +123,7 @@ fn event_of<'x>(id: u64, plan: &Plan, at: Cursor, item: Item) -> Event<'x>
     }
 }
 
-/// Makes an item of a journey, which is here then, by its event, unless the ledger is full.
+/// Writes an item of a journey by its event, unless the ledger is full.
 pub(crate) fn make_event<S: Alter>(
     alloc: Global,
     conn: &mut Connection<S>,
@@ -158,8 +159,8 @@ pub(crate) fn make_event<S: Alter>(
     Ok(reply)
 }
 
-/// Makes an item of a journey, unless the ledger is full. An item that does not come next there is a fault of the
-/// store.
+/// Writes an item of a journey, unless the ledger is full. An item whose numbers do not fit the cursor is a fault of
+/// the store.
 fn make<S: Alter>(
     alloc: Global,
     conn: &mut Connection<S>,
@@ -196,7 +197,7 @@ fn make<S: Alter>(
     make_event(alloc, conn, counts, &made, ask)
 }
 
-/// Answers why there is no item, or makes the item.
+/// Returns the refusal, or writes the item.
 fn carry_out<S: Alter>(
     alloc: Global,
     conn: &mut Connection<S>,
@@ -227,7 +228,7 @@ fn carry_out<S: Alter>(
     }
 }
 
-/// What is asked of a journey.
+/// A request about a journey.
 #[derive(Clone, Copy)]
 pub(crate) enum Motion {
     /// Its next step, whose want does not fit.
@@ -236,12 +237,12 @@ pub(crate) enum Motion {
     Abort(usize),
     /// A turn back to its last save-point.
     Stop,
-    /// A save-point where it is.
+    /// A save-point at its position.
     Save,
 }
 
-/// What the next step of a journey comes to whose want does not fit: a turn. A journey that does not run is not where its
-/// row said, which is a fault of the store.
+/// The outcome of a step whose want does not fit: a turn. A journey that does not run, though its row said so, is a
+/// fault of the store.
 fn refused(journey: &Record) -> Result<Result<Item, Refusal>, Fault>
     requires placed { IsPlaced journey.now.plan journey.now.cursor }
 
@@ -257,7 +258,7 @@ fn refused(journey: &Record) -> Result<Result<Item, Refusal>, Fault>
     }
 }
 
-/// What a move of a journey comes to.
+/// The outcome of a request about a journey: an item, or a refusal.
 fn next_of(journey: &Record, why: Motion) -> Result<Result<Item, Refusal>, Fault>
     requires placed { IsPlaced journey.now.plan journey.now.cursor }
 
@@ -277,7 +278,7 @@ fn next_of(journey: &Record, why: Motion) -> Result<Result<Item, Refusal>, Fault
     }
 }
 
-/// What is answered to a move of a journey, where nothing is kept for who asks.
+/// Executes a move of a journey for whose ask no reply is kept.
 pub(crate) fn answer_move<S: Alter>(
     alloc: Global,
     conn: &mut Connection<S>,

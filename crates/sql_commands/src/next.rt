@@ -1,4 +1,4 @@
-//! Where a journey is after one more item, by its record, and whether its numbers are those of a journey.
+//! The cursor of a journey after one more item, and whether its numbers are those of a journey.
 ghost use Rattle.std.specs.Prelude.{◌≡◌, ◌≤◌, ◌<◌, ◌^◌, true};
 ghost use Rattle.ledger_transitions.specs.JourneyChanges.{phase_down as phase_down_rule, phase_up as phase_up_rule, cursor_after as after_rule};
 ghost use Rattle.plan.specs.PlanModel.{step_count};
@@ -10,7 +10,7 @@ use plan::Plan;
 /// More refused steps than a ledger may have events.
 const MOST_USED: usize = 1 << 62;
 
-/// Whether a journey of so many steps may stand here.
+/// Whether a journey of so many steps may have this cursor.
 pub(crate) fn is_placed(steps: usize, cursor: Cursor) -> bool
     ensures placed { result ≡ true → IsPlacedIn steps cursor }
 {
@@ -23,7 +23,7 @@ pub(crate) fn is_placed(steps: usize, cursor: Cursor) -> bool
     is_there && used < MOST_USED
 }
 
-/// Whether an item may be made where a journey is, as far as its numbers tell.
+/// Whether an item may come at this cursor, as far as its numbers show.
 pub(crate) fn may_be_made(plan: &Plan, cursor: Cursor, item: Item) -> bool
     ensures may { result ≡ true → MayBeMade plan.now cursor item }
 {
@@ -44,7 +44,7 @@ fn is_option(plan: &Plan, step: usize, option: usize) -> bool
     1 <= step && step <= plan.steps() && 1 <= option && option <= plan.options(step)
 }
 
-/// The phase of a journey of so many steps that has come to this position, one step further.
+/// The phase of a journey of so many steps that has reached this position by a step.
 fn phase_up(steps: usize, pos: usize) -> Phase
     ensures up { result ≡ phase_up_rule steps pos }
 {
@@ -55,7 +55,7 @@ fn phase_up(steps: usize, pos: usize) -> Phase
     }
 }
 
-/// The phase of a journey that is told to go back to a target, and is at this position.
+/// The phase of a journey that was turned back to a target, and is at this position.
 fn phase_down(target: usize, pos: usize) -> Phase
     ensures down { result ≡ phase_down_rule target pos }
 {
@@ -68,7 +68,7 @@ fn phase_down(target: usize, pos: usize) -> Phase
     }
 }
 
-/// Where a journey of so many steps is after one more of them.
+/// The cursor of a journey of so many steps after one more step.
 pub(crate) fn cursor_up(steps: usize, cursor: Cursor) -> Cursor
     requires below { cursor.pos < steps }
 
@@ -82,7 +82,7 @@ pub(crate) fn cursor_up(steps: usize, cursor: Cursor) -> Cursor
     }
 }
 
-/// Where a journey is once its last standing step is compensated.
+/// The cursor of a journey after the compensation of its last standing step.
 pub(crate) fn cursor_down(cursor: Cursor) -> Cursor
     requires above { 1 ≤ cursor.pos }
 
@@ -99,7 +99,7 @@ pub(crate) fn cursor_down(cursor: Cursor) -> Cursor
     }
 }
 
-/// Where a journey with this plan is after one more item.
+/// The cursor of a journey with this plan after one more item.
 pub(crate) fn cursor_after(plan: &Plan, cursor: Cursor, item: Item) -> Cursor
     requires placed { IsPlaced plan.now cursor }
     requires next { MayBeMade plan.now cursor item }

@@ -1,4 +1,4 @@
-//! One option of a step of a journey, by the rows of that step alone.
+//! The choice of an option of a step, by the rows of that step alone.
 ghost use Rattle.std.specs.Prelude.{◌≡◌, ◌≤◌, ◌<◌, ◌+◌, ◌^◌, false, IfOk, find, length, min};
 ghost use Rattle.std.specs.Option.{option_copied};
 ghost use Rattle.plan.specs.Limits.{most_options};
@@ -14,7 +14,7 @@ use sql_reads::{fault_of, want_told};
 use sqlite::{Alter, Connection};
 use std::alloc::Global;
 
-/// An option of a step, counted from 1, with its want.
+/// An option of a step, numbered from 1, with its want.
 #[derive(Clone, Copy)]
 pub(crate) struct Choice {
     pub option: usize,
@@ -33,7 +33,7 @@ fn choice_of(alloc: Global, row: &StepFound, option: usize) -> Result<Choice, Fa
     Ok(Choice { option, want })
 }
 
-/// The option that comes next, by the rows of a step: one further on after each refused step, up to the last one.
+/// The next option, by the rows of a step: the option after the refused ones, or the last option.
 fn choose_next(alloc: Global, rows: &[StepFound], used: usize) -> Result<Choice, Fault>
     ensures chosen { IfOk result (IsRowChosen rows.now (min (used + 1) (length rows.now))) }
     ensures few { IfOk result (λ choice. choice.option ≤ most_options) }
@@ -55,7 +55,7 @@ fn find_taken(rows: &[StepFound]) -> Option<&StepFound>
     rows.iter().find(|row| row.taken == 1)
 }
 
-/// The option that is taken, by the rows of a step.
+/// The taken option, by the rows of a step.
 fn choose_taken(alloc: Global, rows: &[StepFound]) -> Result<Choice, Fault>
     ensures chosen { IfOk result (IsTakenChosen rows.now) }
     ensures few { IfOk result (λ choice. choice.option ≤ most_options) }
@@ -66,7 +66,7 @@ fn choose_taken(alloc: Global, rows: &[StepFound]) -> Result<Choice, Fault>
     }
 }
 
-/// The option that a journey takes next at a step, with its want, once so many of its steps were refused.
+/// Reads the option that a journey takes next at a step, with its want, after `used` of its steps were refused.
 pub(crate) fn next_choice<S: Alter>(
     alloc: Global,
     conn: &mut Connection<S>,
@@ -91,7 +91,7 @@ pub(crate) fn next_choice<S: Alter>(
     }
 }
 
-/// The option that the last standing step of a journey took, with its want.
+/// Reads the option that the last standing step of a journey took, with its want.
 pub(crate) fn last_choice<S: Alter>(
     alloc: Global,
     conn: &mut Connection<S>,

@@ -1,7 +1,7 @@
-//! What a step of a journey comes to, by the rows of that step alone.
+//! The outcome of a step of a journey, by the rows of that step alone.
 //!
-//! A want that fits is taken, and a step is compensated, without the rest of the plan. Where the want does not fit, the
-//! journey turns, and then all of the plan is looked at.
+//! A want that fits is taken, and a step is compensated, without the other rows of the plan. If the want does not fit,
+//! the journey turns, and the whole plan is read.
 ghost use Rattle.std.specs.Prelude.{◌≡◌, ◌≤◌, ◌<◌, ◌^◌, false, true, IfOk, IfSome};
 ghost use Rattle.std.specs.Option.{option_copied as asked_by};
 ghost use Rattle.plan.specs.Limits.{most_options, most_steps};
@@ -25,12 +25,12 @@ use sql_writes::{Event, StepMade};
 use sqlite::{Alter, Connection};
 use std::alloc::Global;
 
-/// What a step comes to.
+/// The outcome of a step.
 #[derive(Clone, Copy)]
 pub(crate) enum Coming {
     /// The next step is done with this option.
     Up(Choice),
-    /// The last standing step is compensated, which took this option.
+    /// The last standing step, which took this option, is compensated.
     Down(Choice),
     /// The next want does not fit.
     Refused,
@@ -38,8 +38,8 @@ pub(crate) enum Coming {
     Nothing,
 }
 
-/// Where the journey of that number is, if who asks sees it. One that cannot be where its row says is a fault of the
-/// store.
+/// Reads the agent, the number of steps and the cursor of the journey of that number, if the caller sees it. An
+/// impossible cursor is a fault of the store.
 fn find_stand<S: Alter>(
     conn: &mut Connection<S>,
     id: u64,
@@ -72,7 +72,7 @@ fn find_stand<S: Alter>(
     }
 }
 
-/// The next step of a journey that is here, with this option.
+/// The next step of a journey at this cursor, with this option.
 fn step_up<'x>(id: u64, stand: &Stand, choice: &Choice) -> Made<'x>
     requires id { id < 2 ^ 63 }
     requires placed { IsPlacedIn stand.now.steps stand.now.cursor }
@@ -101,7 +101,7 @@ fn step_up<'x>(id: u64, stand: &Stand, choice: &Choice) -> Made<'x>
     }
 }
 
-/// The compensation of the last standing step of a journey that is here, with this option.
+/// The compensation of the last standing step of a journey at this cursor, with this option.
 fn step_down<'x>(id: u64, stand: &Stand, choice: &Choice) -> Made<'x>
     requires id { id < 2 ^ 63 }
     requires placed { IsPlacedIn stand.now.steps stand.now.cursor }
@@ -130,7 +130,7 @@ fn step_down<'x>(id: u64, stand: &Stand, choice: &Choice) -> Made<'x>
     }
 }
 
-/// Whether a want fits its nights.
+/// Whether a want fits the free places of its nights.
 fn fits_nights<S: Alter>(
     alloc: Global,
     conn: &mut Connection<S>,
@@ -150,7 +150,7 @@ fn fits_nights<S: Alter>(
     }
 }
 
-/// What a step of a journey that is here comes to.
+/// Finds the outcome of a step of a journey at this cursor.
 fn find_coming<S: Alter>(
     alloc: Global,
     conn: &mut Connection<S>,
@@ -187,7 +187,7 @@ fn find_coming<S: Alter>(
     }
 }
 
-/// What is answered to a step of a journey, where nothing is kept for who asks.
+/// Executes a step of a journey for whose ask no reply is kept.
 pub(crate) fn answer_step<S: Alter>(
     alloc: Global,
     conn: &mut Connection<S>,

@@ -1,5 +1,5 @@
--- Each reply to an event accepts, and its parts keep the limits; so whatever is asked, a desk's
--- state stays one.
+-- Each reply to an event accepts, and its parts keep the limits; so each request within the limits
+-- takes a desk's state to a desk's state. For Worlds, and for books over tables.
 use Rattle.std.proofs.Common.{◌≡◌, inl, inr, ℕ, zero, suc, ◌+◌, ◌<◌, ◌≤◌, ◌==◌, List, [], ◌∷◌, ◌++◌, length, Bool, true, false, if◌then◌else◌, Option, Some, None, IsTrue, refl, sym, ap, subst, ◌∙◌, arith, eqb-true, eq-eqb, add-one}
 use Rattle.std.specs.Prelude.{slice_get, find, position, option_map, option_and_then, unwrap_or, is_some, nat_lt, nat_le, ◌&&◌, not}
 use Rattle.std.specs.List.{AllByRecursion, list_any, list_all}
@@ -46,7 +46,7 @@ use Rattle.sql_model.proofs.RecordRows.{plan_good}
 between : (low high n : ℕ) → low ≤ n → n ≤ high → is_between low high n ≡ true
 between low high n a b = and_from (nat_le low n) (nat_le n high) (le-leb low n a) (le-leb n high b)
 
--- no more steps stand than the plan has
+-- the position of a journey is at most the number of its plan's steps
 position-within : (plan : Planned) (h : List Item) → Goes plan h → position_of h ≤ step_count plan
 position-within plan h g = by_mode g.mode
   where
@@ -55,7 +55,7 @@ position-within plan h g = by_mode g.mode
     by_mode (falls f) = let a = f.falls in let b = f.short in omega arith
     by_mode (fell f) = let a = f.low in omega arith
 
--- where a journey is keeps the limits, by its position
+-- a cursor keeps the limits, by its position
 state-good : (n pos : ℕ) (to_start : Bool) (going : Option ℕ) → pos ≤ most_steps
     → is_state pos (phase_at n pos to_start going) ≡ true
 state-good n pos to_start going few = ended (pos == n)
@@ -91,7 +91,7 @@ state-good n pos to_start going few = ended (pos == n)
 abbrev AreGood : List Item → Type 0
 AreGood h = AllByRecursion (λ (x : Item). is_item x ≡ true) h
 
--- so do those of the transactions that stand
+-- the standing transactions keep the limits
 net-good : (h : List Item) → AreGood h
     → AllByRecursion (λ (t : ℕ × ℕ). is_option t.0 t.1 ≡ true) (net h)
 net-good [] good = tt
@@ -106,7 +106,7 @@ net-good (item.Compensation i c ∷ h) good = net-good h good.1
 net-good (item.Turn p why ∷ h) good = net-good h good.1
 net-good (item.Save p ∷ h) good = net-good h good.1
 
--- and the positions at which save-points stand
+-- the positions of save-points keep the limits
 taken-good : (h : List Item) (p : ℕ) → AreGood h → is_taken h p ≡ true → is_position p ≡ true
 taken-good [] p good e = cc
 taken-good (item.Transaction i c ∷ h) p good e = taken-good h p good.1 e
@@ -370,7 +370,7 @@ limited-good l a good = go (is_some a.event && nat_le most_events (length l)) re
     go true e = tt
     go false e = by_event a.event refl e
 
--- whatever is asked within the limits, a desk's state stays one
+-- each request within the limits takes a desk's state to a desk's state
 pub outcome_keeps : (s : State) (ask : Option Asked) (asked : Request) → IsDesk s
     → is_request asked ≡ true → IsDesk (outcome s ask asked).state
 outcome_keeps s ask asked desk ok = record {

@@ -1,4 +1,4 @@
--- What is found under an agent's key is what is kept there.
+-- The row found under an agent's key is the reply that is kept there. For Readings, and for commands.
 use Rattle.std.proofs.Common.{◌≡◌, ℕ, List, true, filter, find, Option, Some, None, IsTrue, refl, sym, ap, ◌∙◌}
 use Rattle.std.specs.Prelude.{option_map, if◌then◌else◌, IfSome, ◌≤◌, length}
 use Rattle.std.proofs.lemmas.Bool.{and_parts, and_from, le-leb}
@@ -16,7 +16,7 @@ use Rattle.sql_model.specs.Standing.{is_same_answer, Written, as_written, answer
 use Rattle.sql_model.specs.Reading.{Tells, IsAnswerOf}
 use Rattle.sql_model.proofs.Orders.{found_is_first}
 
--- two rows of one agent and key are of the same agent and key
+-- two rows that match one agent and key have the same agent and key
 one_key : (agent key : List ℕ) (a b : AnswerRow) → is_for agent key a ≡ true
     → is_for agent key b ≡ true → is_same_answer a b ≡ true
 one_key agent key a b p q =
@@ -39,7 +39,7 @@ told_is (Some a) (Some k) able e =
     let same : answer_told a ≡ as_written k = cc in
     record { ask = ap (λ (w : Written). w.ask) same; reply = ap (λ (w : Written). w.reply) same; accepted = able }
 
--- what is found under an agent's key tells what is kept there
+-- the row found under an agent's key matches the reply that is kept there
 pub answer_found : (kept : Kept) (rows : List AnswerRow) (agent key : List ℕ) (found : Option AnswerRow)
     → AnswersStand kept rows → IsKeepable kept
     → IsOneOf (filter (is_for agent key) rows) found → Tells IsAnswerOf found (kept agent key)
@@ -50,13 +50,13 @@ answer_found kept rows agent key found stand able one =
     told_is found (kept agent key) (able agent key)
     (ap (λ o. option_map answer_told o) (sym first) ∙ stand.each agent key)
 
--- where a row was found there is what it tells of
+-- if a row was found, there is something that it matches
 pub tells-some : {R X : Type 0} (IsOf : R → X → Type 0) (r : R) (o : Option X)
     → Tells IsOf (Some r) o → (x : X) × (o ≡ Some x) × IsOf r x
 tells-some IsOf r None h = absurd h
 tells-some IsOf r (Some x) h = (x, refl, h)
 
--- where none was found there is nothing
+-- if no row was found, there is nothing
 pub tells-none : {R X : Type 0} (IsOf : R → X → Type 0) (o : Option X) → Tells IsOf None o
     → o ≡ None
 tells-none IsOf None h = refl
@@ -67,7 +67,7 @@ pub outcome-known : (s : State) (ask : Option Asked) (asked : Request) (k : Kept
     → kept_for s ask ≡ Some k → outcome s ask asked ≡ answered_again s (text_of ask) k
 outcome-known s ask asked k known = ap (outcome_for s ask asked) known
 
--- a full ledger takes no journey more
+-- a full ledger accepts no further journey
 pub outcome-full : (s : State) (ask : Option Asked) (plan : Planned) → most_events ≤ length s.ledger
     → kept_for s ask ≡ None → outcome s ask (Begin plan) ≡ carried_out s ask (refused Limit)
 outcome-full s ask plan full new =

@@ -1,4 +1,4 @@
--- A reply that is kept adds its row.
+-- A reply that is kept adds its row. For the lemmas of each event.
 use Rattle.std.proofs.Common.{◌≡◌, ℕ, List, [], ◌∷◌, ◌++◌, Bool, true, false, cond, if◌then◌else◌, Option, Some, None, find, refl, sym, ap, ◌∙◌}
 use Rattle.std.specs.Prelude.{option_map, bytes_eq, ◌&&◌, IfSome, IsTrue}
 use Rattle.std.proofs.lemmas.Bool.{and_parts, and_from}
@@ -14,7 +14,7 @@ use Rattle.desk_sql.specs.FoundRows.{is_for}
 use Rattle.sql_model.specs.Standing.{is_same_answer, as_written, answer_told, AnswersStand, IsKeepable, StandsFor}
 use Rattle.sql_model.proofs.Finding.{find-back, find-last_fails, find-none, apart-last}
 
--- tests whose bytes are compared the other way round
+-- equality of bytes is symmetric
 bytes_back : (a b : List ℕ) → bytes_eq a b ≡ bytes_eq b a
 bytes_back a b = go (bytes_eq a b) refl
   where
@@ -33,7 +33,7 @@ none_told : {X Y : Type 0} (f : X → Y) (o : Option X) → option_map f o ≡ N
 none_told f None e = refl
 none_told f (Some x) e = cc
 
--- with the reply that is kept for an ask under whose key there was none
+-- one more row for a reply that is kept for an ask whose key had none
 pub answers_stand-more : (kept : Kept) (rows : List AnswerRow) (ask : Asked) (reply : Reply)
     → AnswersStand kept rows → kept ask.agent ask.key ≡ None
     → AnswersStand (keep kept ask reply) (rows ++ answer_row_of ask reply ∷ [])
@@ -83,7 +83,7 @@ answers_stand-more kept rows ask reply stand new = record {
             ap (λ o. option_map answer_told o) (find-last_fails (is_for agent key) rows row away)
             ∙ stand.each agent key
 
--- with a reply that is kept for an ask, if there is one
+-- one more row for a reply that is kept, if there is an ask
 pub answer_stands : (t : Tables) (s : State) (ask : Option Asked) (reply : Reply) → StandsFor t s
     → kept_for s ask ≡ None
     → StandsFor (with_answer ask reply t)
@@ -100,7 +100,7 @@ answer_stands t s (Some ask) reply st new = record {
   mark = st.mark;
 }
 
--- with an accepted reply the kept ones can still be read
+-- after an accepted reply the kept replies can still be read
 pub keepable-more : (kept : Kept) (ask : Option Asked) (reply : Reply) → IsKeepable kept
     → IsTrue (is_accepted reply) → IsKeepable (kept_after kept ask reply)
 keepable-more kept None reply able accepted agent key = able agent key

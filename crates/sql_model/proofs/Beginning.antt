@@ -1,4 +1,4 @@
--- The rows that beginning a journey writes stand for what it comes to.
+-- The rows that the begin of a journey writes represent its outcome. For the begin of a journey over tables.
 use Rattle.std.proofs.Common.{◌≡◌, ℕ, suc, ◌+◌, ◌-◌, ◌<◌, ◌≤◌, List, [], ◌∷◌, ◌++◌, length, map, true, false, if◌then◌else◌, Option, None, IsTrue, refl, sym, ap, subst, ◌∙◌, arith, append-nil, length-append}
 use Rattle.std.specs.Prelude.{option_map, unwrap_or, nat_le, ◌==◌, flat_map}
 use Rattle.std.specs.List.Sorted.{IsPermutation}
@@ -44,7 +44,7 @@ has_step plan good = (limited plan good).some_steps
 start_phase : (n : ℕ) → 1 ≤ n → phase_at n 0 false None ≡ Run
 start_phase n some = let off : (0 == n) ≡ false = grind (arith, nat_tests) in rw off refl
 
--- a journey without items runs, at its beginning
+-- a journey without items runs, at position 0
 pub cursor-start : (plan : Planned) → 1 ≤ step_count plan
     → cursor_row (cursor_of plan []) ≡ at_start
 cursor-start plan some =
@@ -57,7 +57,7 @@ module _ (l : List Event) (legal : IsLegal l) (agent : List ℕ) (plan : Planned
   abbrev next : List Event
   next = l ++ Began agent plan ∷ []
 
-  -- its number
+  -- the number of the new journey
   abbrev id : ℕ
   id = length (journeys l) + 1
 
@@ -95,7 +95,7 @@ module _ (l : List Event) (legal : IsLegal l) (agent : List ℕ) (plan : Planned
   row_in : List Event → ℕ × Begun → JourneyRow
   row_in m b = journey_row_of (history m b.0) b.0 b.1
 
-  -- the row of the new journey comes last
+  -- the row of the new journey is appended
   pub journeys-begun : journeys_called next ≡ journeys_called l ++ first_row id (length l + 1) agent (step_count plan) plan.tries ∷ []
   unfolding row_in
   journeys-begun =
@@ -114,7 +114,7 @@ module _ (l : List Event) (legal : IsLegal l) (agent : List ℕ) (plan : Planned
   rows_in : List Event → ℕ × Journey → List StepRow
   rows_in m a = step_rows (is_standing (history m a.0)) a.0 a.1.plan
 
-  -- the rows of the new plan come last
+  -- the rows of the new plan are appended
   pub steps-begun : steps_called next ≡ steps_called l ++ step_rows_of id plan
   unfolding rows_in
   steps-begun =
@@ -139,7 +139,7 @@ module _ (l : List Event) (legal : IsLegal l) (agent : List ℕ) (plan : Planned
       ∙ ap (λ m. option_map (λ (n : ℕ). record { allot = n; free = n - m }) (allotment l x))
       (held-began l agent plan x (all_go l legal))
 
--- the rows of the new journey are those that the longer ledger calls for
+-- the rows of the new journey are those expected of the longer ledger
 pub journey_stands : (t : Tables) (s : State) (agent : List ℕ) (plan : Planned) → StandsFor t s
     → IsLegal s.ledger → IsTrue (is_plan plan)
     → StandsFor (with_journey (length (journeys s.ledger) + 1) (length s.ledger + 1) agent plan t)
@@ -186,11 +186,11 @@ journeys-few (Loaded name rows ∷ l) = let rest = journeys-few l in omega arith
 journeys-few (Began agent plan ∷ l) = let rest = journeys-few l in omega arith
 journeys-few (Did j item ∷ l) = let rest = journeys-few l in omega arith
 
--- who begins a journey
+-- the agent that begins a journey
 abbrev pub beginner : Option Asked → List ℕ
 beginner ask = unwrap_or (asker ask) house
 
--- while there is room, and nothing is kept for the ask, beginning a journey comes to this
+-- the outcome of a begin, if the ledger has room and nothing is kept for the ask
 pub outcome-begin : (s : State) (ask : Option Asked) (plan : Planned)
     → length s.ledger < most_events → kept_for s ask ≡ None
     → outcome s ask (Begin plan) ≡ carried_out s ask (answer_begin s.ledger (asker ask) plan)
@@ -200,7 +200,7 @@ outcome-begin s ask plan room new =
     (λ v. carried_out s ask (if v then refused Limit else answer_begin s.ledger (asker ask) plan))
     (let off : nat_le most_events (length s.ledger) ≡ false = grind (arith, nat_tests) in off)
 
--- the rows that beginning a journey writes stand for what it comes to
+-- the rows that a begin writes represent its outcome
 pub begin_stands : (t : Tables) (s : State) (ask : Option Asked) (plan : Planned) → StandsFor t s
     → IsLegal s.ledger → IsTrue (is_plan plan) → length s.ledger < most_events
     → kept_for s ask ≡ None
@@ -214,7 +214,7 @@ begin_stands t s ask plan st legal good room new =
     (sym (outcome-begin s ask plan room new))
     (answer_stands shown begun_now ask (Begins id) (journey_stands t s (beginner ask) plan st legal good) new)
 
--- and it is a desk's state still
+-- the state after a begin is a desk's state
 pub begin_keeps : (s : State) (ask : Option Asked) (plan : Planned) → IsDesk s
     → IsTrue (is_plan plan) → length s.ledger < most_events → kept_for s ask ≡ None
     → IsDesk (outcome s ask (Begin plan)).state

@@ -1,4 +1,4 @@
--- Where a journey is, as it is written and read.
+-- A cursor as it is stored and read. For RecordRows, and for reads of journeys.
 use Rattle.std.proofs.Common.{◌≡◌, Some, refl, sym, ap, ◌∙◌}
 use Rattle.std.specs.Prelude.{option_map}
 use Rattle.commands.specs.declared.items.Cursor.{Cursor}
@@ -13,13 +13,13 @@ phase_back (Back target) = refl
 phase_back Ended = refl
 phase_back Undone = refl
 
--- what is written of where a journey is gives it back
+-- a stored cursor is read back
 pub cursor_back : (c : Cursor) → cursor_in (cursor_row c) ≡ Some c
 cursor_back c =
     ap (λ o. option_map (λ (p : Phase). record { pos = c.pos; phase = p; used = c.used }) o)
     (phase_back c.phase)
 
--- and no two places are written alike
+-- two cursors with one stored form are equal
 pub cursor_row-one : (c d : Cursor) → cursor_row c ≡ cursor_row d → c ≡ d
 cursor_row-one c d e =
     let same : Some c ≡ Some d = sym (cursor_back c) ∙ ap cursor_in e ∙ cursor_back d in cc

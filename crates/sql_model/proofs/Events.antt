@@ -1,4 +1,4 @@
--- What one more event adds to the rows that a ledger calls for.
+-- What one more event adds to the rows that are expected of a ledger. For the lemmas of each event.
 use Rattle.std.proofs.Common.{◌≡◌, ℕ, suc, ◌+◌, List, [], ◌∷◌, ◌++◌, length, map, refl, ap, sym, ◌∙◌, arith}
 use Rattle.std.proofs.lemmas.List.{length-map}
 use Rattle.std.proofs.lemmas.List.Elements.{filter_map-append}
@@ -8,7 +8,7 @@ use Rattle.ledger.specs.Ledger.{Event, Loaded, Began, Did, journeys}
 use Rattle.sql_model.specs.ExpectedRows.{counted_from, batch_row_of, batches_called, Begun, begun_of, begun, entry_row_if, entries_called}
 use Rattle.sql_model.proofs.Lists.{counted_from-last}
 
--- of each event that gives something, by its number, one more event comes last
+-- what one more event gives, by its number, is appended
 gives-more : {Y : Type 0} (f : ℕ → Event → Option Y) (l : List Event) (e : Event)
     → filter_map (λ (p : ℕ × Event). f p.0 p.1) (counted_from 1 (l ++ e ∷ [])) ≡ filter_map (λ (p : ℕ × Event). f p.0 p.1) (counted_from 1 l) ++ cons_option (f (length l + 1) e) []
 gives-more f l e =
@@ -45,7 +45,7 @@ begun_from-journeys n (Did j item ∷ l) = begun_from-journeys (suc n) l
 pub begun-journeys : (l : List Event) → map (λ (b : Begun). b.journey) (begun l) ≡ journeys l
 begun-journeys l = begun_from-journeys 1 l
 
--- and so they are as many
+-- there are as many journeys as were begun
 pub length-begun : (l : List Event) → length (begun l) ≡ length (journeys l)
 length-begun l =
     sym (length-map (begun l) (λ (b : Begun). b.journey)) ∙ ap length (begun-journeys l)

@@ -1,10 +1,10 @@
--- The first of a list that passes a test, and lists of which no two are the same.
+-- The first element that passes a test, and lists without two elements that are the same. For Orders and Answering.
 use Rattle.std.proofs.Common.{◌≡◌, List, [], ◌∷◌, ◌++◌, Bool, true, false, cond, Some, None, find, refl, ap}
 use Rattle.std.specs.List.{AllByRecursion}
 use Rattle.sqlite_trees.proofs.ListLemmas.{ascending-append, all_weaker}
 use Rattle.sql_model.specs.Standing.{AreApart}
 
--- what was found is found still, where more comes later
+-- an element that was found is found in a longer list too
 pub find-front : {X : Type 0} (test : X → Bool) (xs ys : List X) (x : X) → find test xs ≡ Some x
     → find test (xs ++ ys) ≡ Some x
 find-front test [] ys x e = cc
@@ -16,7 +16,7 @@ find-front test (z ∷ xs) ys x e = go (test z) e (find-front test xs ys x)
     go true is later = is
     go false is later = later is
 
--- where nothing was found, it is found in what comes later
+-- if nothing was found, the search goes on in the suffix
 pub find-back : {X : Type 0} (test : X → Bool) (xs ys : List X) → find test xs ≡ None
     → find test (xs ++ ys) ≡ find test ys
 find-back test [] ys e = refl
@@ -28,14 +28,14 @@ find-back test (z ∷ xs) ys e = go (test z) e (find-back test xs ys)
     go true is later = cc
     go false is later = later is
 
--- one more that does not pass is not found
+-- an appended element that does not pass is not found
 pub find-last_fails : {X : Type 0} (test : X → Bool) (xs : List X) (y : X) → test y ≡ false
     → find test (xs ++ y ∷ []) ≡ find test xs
 find-last_fails test [] y fails = ap (λ v. cond v (Some y) None) fails
 find-last_fails test (z ∷ xs) y fails =
     ap (λ found. cond (test z) (Some z) found) (find-last_fails test xs y fails)
 
--- where nothing is found, nothing passes
+-- if nothing is found, no element passes
 pub find-none : {X : Type 0} (test : X → Bool) (xs : List X) → find test xs ≡ None
     → AllByRecursion (λ x. test x ≡ false) xs
 find-none test [] e = tt
@@ -47,7 +47,7 @@ find-none test (z ∷ xs) e = go (test z) refl e (find-none test xs)
     go true t is later = cc
     go false t is later = (t, later is)
 
--- one more that is the same as none of them
+-- an appended element that is the same as none of them
 pub apart-last : {X : Type 0} (same : X → X → Bool) (xs : List X) (y : X) → AreApart same xs
     → AllByRecursion (λ x. same x y ≡ false) xs → AreApart same (xs ++ y ∷ [])
 apart-last same xs y apart others =

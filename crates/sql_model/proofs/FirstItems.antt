@@ -16,14 +16,14 @@ pub record BeginsAt (l : List Event) (j num : ℕ) : Type 0 where
   pub low : num ≤ length l
   pub none : history (take num l) j ≡ []
 
--- so it is where one more event comes
+-- the same holds after one more event
 still : (l : List Event) (e : Event) (j num : ℕ) → BeginsAt l j num → BeginsAt (l ++ e ∷ []) j num
 still l e j num was = record {
   low = (let more = length-append l (e ∷ []) in let low = was.low in omega arith);
   none = ap (λ es. history es j) (take-append-le num l (e ∷ []) was.low) ∙ was.none;
 }
 
--- a number that no journey was begun with is that of none
+-- if no journey was begun with a number, no journey has it
 not_there : (l : List Event) (j : ℕ) → numbered (begun l) j ≡ None → journey_at l j ≡ None
 not_there l zero e = refl
 not_there l (suc i) e =
@@ -34,7 +34,7 @@ not_there l (suc i) e =
 abbrev AllBegin : List Event → Type 0
 AllBegin l = (j : ℕ) (b : Begun) → numbered (begun l) j ≡ Some b → BeginsAt l j b.num
 
--- a journey that is begun has no item yet, and the others begin where they did
+-- a new journey has no item yet, and the others begin where they did
 begins-began : (l : List Event) (agent : List ℕ) (plan : _) → IsLegal l → AllBegin l
     → AllBegin (l ++ Began agent plan ∷ [])
 begins-began l agent plan legal all j b e =
@@ -68,7 +68,7 @@ begins-more l (Did k item) legal may all j b e =
     let was = begun-more l (Did k item) ∙ append-nil (begun l) in
     still l (Did k item) j b.num (all j b (ap (λ bs. numbered bs j) (sym was) ∙ e))
 
--- up to the event that began a journey there is no item of it
+-- up to the event that began a journey, the journey has no item
 pub no_item_before : (l : List Event) (j : ℕ) (b : Begun) → IsLegal l → numbered (begun l) j ≡ Some b
     → history (take b.num l) j ≡ []
 no_item_before l j b legal e = (induct AllBegin none begins-more l legal j b e).none

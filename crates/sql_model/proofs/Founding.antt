@@ -1,11 +1,11 @@
--- Tables that were just made stand for a new desk.
+-- Tables that were just created represent a new desk. For Worlds, and for the opening of a store.
 use Rattle.std.proofs.Common.{[], refl}
 use Rattle.std.proofs.lemmas.List.Sorted.{IsPermutation-refl}
 use Rattle.ledger.specs.Answer.{start}
 use Rattle.desk_sql.specs.Changes.{founded}
 use Rattle.sql_model.specs.Standing.{StandsFor, IsDesk}
 
--- without any event the tables have one row alone, that of meta
+-- without events the tables have one row, that of meta
 pub founded_stands : StandsFor founded start
 founded_stands = record {
   meta = refl;
@@ -18,6 +18,6 @@ founded_stands = record {
   mark = record { each = λ journey pos. refl; once = tt };
 }
 
--- and a new desk is one
+-- the state of a new desk is a desk's state
 pub start_is_desk : IsDesk start
 start_is_desk = record { legal = tt; keepable = λ agent key. tt }

@@ -1,5 +1,5 @@
--- The rows of items tell the histories of journeys, and the rows of save-points which of them
--- stand.
+-- The rows of items give the histories of journeys, and the rows of save-points give which of them
+-- stand. For Readings and NextItems.
 use Rattle.std.proofs.Common.{◌≡◌, ℕ, zero, suc, ◌+◌, ◌<◌, ◌==◌, List, [], ◌∷◌, map, filter, take, cond, Bool, true, false, if◌then◌else◌, Some, None, refl, sym, ap, ap₂, ◌∙◌, arith}
 use Rattle.std.specs.Prelude.{filter_map, ◌&&◌, ◌||◌, nat_lt}
 use Rattle.std.proofs.lemmas.Bool.{lt-ltb}
@@ -20,7 +20,7 @@ use Rattle.desk_sql.specs.FoundRows.{is_item_of, is_item_after, is_mark_of, mark
 use Rattle.sql_model.specs.Reading.{item_in}
 use Rattle.sql_model.proofs.Orders.{Rises, one_order}
 
--- the row of an item tells it
+-- the item is read back from its row
 pub item_back : (num journey : ℕ) (item : Item)
     → item_in (entry_row_of num journey item) ≡ Some item
 item_back num journey (Transaction step option) = refl
@@ -65,7 +65,7 @@ entries_from-rise n (Did j item ∷ l) = (
   entries_from-rise (suc n) l,
 )
 
--- rows whose numbers rise are just those that are called for, in their order
+-- rows whose numbers rise are the expected rows, in their order
 pub entries_in_order : (l : List Event) (rows : List EntryRow)
     → IsPermutation (entries_called l) rows → Rises (λ (e : EntryRow). e.num) rows
     → rows ≡ entries_called l
@@ -94,7 +94,7 @@ items_from j n (Did k item ∷ l) =
     go false rest = rest
 
 module _ (j after : ℕ) where
-  -- where no row is at or below the number, just the journey's own are found
+  -- a row above the number is found exactly if it is of the journey
   found_later : (e : EntryRow) → after < e.num → is_item_after j after e ≡ is_item_of j e
   found_later e low = ap (λ v. is_item_of j e && v) (lt-ltb after e.num low) ∙ and_yes (is_item_of j e)
     where
@@ -112,7 +112,7 @@ module _ (j after : ℕ) where
       ap (λ v. cond (v && nat_lt after e.num) (e ∷ some) some) off ∙ rest
       ∙ sym (ap (λ v. cond v (e ∷ all) all) off)
 
-  -- where none of the first events is an item of the journey, all of its rows stand above their number
+  -- if none of the first events is an item of the journey, all of its rows are above their number
   found_above : (n m : ℕ) (l : List Event) → n + m ≡ after + 1 → history (take m l) j ≡ []
       → filter (is_item_after j after) (entries_from n l) ≡ filter (is_item_of j) (entries_from n l)
   found_above n zero l up none =
@@ -134,8 +134,8 @@ module _ (j after : ℕ) where
           (ap (λ i. i == j) (entry_journey n k item) ∙ turned k j ∙ e)
           (rest is)
 
--- the rows that are found with a journey's number, in the order of theirs, tell its history, where they are sought
--- from behind events that are no items of it
+-- the rows found with a journey's number, in order of event, give its history, if the search starts
+-- after events that are no items of the journey
 pub items_found : (l : List Event) (rows : List EntryRow) (j after : ℕ)
     → history (take after l) j ≡ []
     → IsPermutation (entries_called l) rows → Rises (λ (e : EntryRow). e.num) rows
@@ -147,7 +147,7 @@ items_found l rows j after none same up =
 
 -- Save-points.
 
--- of those that pass one test some pass another where some pass both
+-- a filtered list has an element that passes the second test exactly if the list has one that passes both
 pub any-filter : {X : Type 0} (p q : X → Bool) (xs : List X)
     → list_any q (filter p xs) ≡ list_any (λ x. p x && q x) xs
 any-filter p q [] = refl
@@ -163,7 +163,7 @@ pub any-map : {X Y : Type 0} (f : X → Y) (q : Y → Bool) (xs : List X)
 any-map f q [] = refl
 any-map f q (x ∷ xs) = ap (λ v. q (f x) || v) (any-map f q xs)
 
--- of the positions that are found with a journey's number there is each at which a save-point
+-- the positions found with a journey's number contain each position at which a save-point
 -- stands
 pub marks_found : (l : List Event) (rows : List MarkRow) (found : List ℕ) (j p : ℕ)
     → MarksStand l rows → IsPermutation (filter (is_mark_of j) rows) (map (mark_at_pos j) found)

@@ -1,4 +1,4 @@
--- The rows of journeys tell the journeys.
+-- The rows of journeys represent the journeys. For Readings, and for reads of unfinished journeys.
 use Rattle.std.proofs.Common.{◌≡◌, ℕ, zero, suc, ◌+◌, ◌<◌, List, [], ◌∷◌, filter, length, Option, Some, None, refl, sym, ap, subst, ◌∙◌, arith, eqb-true, eq-eqb}
 use Rattle.std.specs.Prelude.{slice_get, option_map}
 use Rattle.std.specs.List.{AllByRecursion}
@@ -46,7 +46,7 @@ there_begun l i a e = go (slice_get (begun l) i) refl
     go (Some b) f =
         (b, f, (let same : Some b.journey ≡ Some a = sym (ap (option_map (λ (x : Begun). x.journey)) f) ∙ told in cc))
 
--- each row that is called for is that of a journey
+-- each expected row is that of a journey
 pub journey_told : (l : List Event) (r : JourneyRow) → Has (journeys_called l) r
     → (a : Journey) × (journey_at l r.id ≡ Some a) × IsJourneyOf l r a
 journey_told l r h =
@@ -61,7 +61,7 @@ journey_told l r h =
           (record { agent = refl; steps = refl; tries = refl; cursor = refl }),
     )
 
--- and each journey has its row
+-- each journey has its row
 pub journey_has : (l : List Event) (id : ℕ) (a : Journey) → journey_at l id ≡ Some a
     → (r : JourneyRow) × Has (journeys_called l) r × (r.id ≡ id)
 journey_has l zero a e = cc
@@ -70,7 +70,7 @@ journey_has l (suc i) a e =
     let number : 1 + i ≡ suc i = omega arith in
     (row_in l (1 + i, b.0), mapped_has (row_in l) (counted_from 1 (begun l)) (1 + i, b.0) (counted_has 1 (begun l) i b.0 b.1), number)
 
--- what is found of a number tells the journey with that number
+-- the row found with a number matches the journey with that number
 pub journey_found : (l : List Event) (rows : List JourneyRow) (id : ℕ) (found : Option JourneyRow)
     → IsPermutation (journeys_called l) rows
     → IsOneOf (filter (is_numbered id) rows) found
@@ -93,7 +93,7 @@ journey_found l rows id (Some r) same one =
     subst (λ o. Tells (λ (x : JourneyRow) a. (x.id ≡ id) × IsJourneyOf l x a) (Some r) o)
     (sym (ap (journey_at l) (sym is) ∙ told.1)) (is, told.2)
 
--- what is found of a number has the number of the event that began the journey
+-- the row found with a number has the number of the event that began the journey
 pub journey_begins : (l : List Event) (rows : List JourneyRow) (id : ℕ) (r : JourneyRow)
     → IsPermutation (journeys_called l) rows → IsOneOf (filter (is_numbered id) rows) (Some r)
     → (b : Begun) × (numbered (begun l) id ≡ Some b) × (r.num ≡ b.num)
@@ -110,13 +110,13 @@ journey_begins l rows id r same one =
 
 -- Order.
 
--- the rows that are called for rise by their numbers
+-- the expected rows rise by number
 pub called_rises : (l : List Event) → Rises (λ (r : JourneyRow). r.id) (journeys_called l)
 called_rises l =
     ascending-map (λ (r s : JourneyRow). r.id < s.id) (row_in l) (counted_from 1 (begun l))
     (counted_rises 1 (begun l))
 
--- rows whose numbers rise are just those that are called for, in their order
+-- rows whose numbers rise are the expected rows, in their order
 pub journeys_in_order : (l : List Event) (rows : List JourneyRow)
     → IsPermutation (journeys_called l) rows → Rises (λ (r : JourneyRow). r.id) rows
     → rows ≡ journeys_called l
@@ -128,7 +128,7 @@ slice_get-low [] i x e = cc
 slice_get-low (y ∷ xs) zero x e = omega arith
 slice_get-low (y ∷ xs) (suc i) x e = let low = slice_get-low xs i x e in omega arith
 
--- the next number is above all
+-- the next number is above the number of each row
 pub next_above : (l : List Event) (rows : List JourneyRow) → IsPermutation (journeys_called l) rows
     → AllByRecursion (λ (r : JourneyRow). r.id < length (journeys l) + 1) rows
 next_above l rows same =

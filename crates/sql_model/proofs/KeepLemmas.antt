@@ -12,13 +12,13 @@ use Rattle.ledger.specs.Answer.{State}
 use Rattle.sql_model.specs.Standing.{StandsIn}
 use Rattle.sql_model.specs.Keeping.{IsKeptIn, SeesOf}
 
--- a connection that keeps a state may see tables that, as far as it is open, stand for it
+-- the tables that a connection which keeps a state may see, and which represent it if it is open
 pub record IsSeen (v : Version) (c : Connected) (s : State) : Type 0 where
   pub tables : Tables
   pub may : MaySeeIn v c tables
   pub stands : IsTrue c.is_open → StandsIn v tables s
 
--- whether it is open or not
+-- each connection that keeps a state has such tables, open or not
 pub seen_by : {v : Version} (c : Connected) (s : State) → IsKeptIn v c s → IsSeen v c s
 seen_by {v} c s kept = by_cases c.is_open refl
   where
@@ -35,11 +35,11 @@ pub is_database : {v : Version} (c : Connected) (t : Tables) → SeesIn v c t
 is_database c t sees =
     subst (λ (schema : Schema). IsDatabase (record { schema = schema; trees = c.now.trees })) sees.schema sees.sound
 
--- what a stop may leave after a read it could leave before
+-- what a crash may leave after a read, it could leave before
 pub left_before : (a b : Connected) → Survives a b (λ _. ⊥) → HasCleanDisk b → (db : Trees) → b.may_leave db → a.may_leave db
 left_before a b less clean db may = elim (less.crash clean db may) [ inl before ↦ before | inr none ↦ absurd none ]
 
--- a desk that is seen stays so where both databases are the same
+-- a connection still sees a desk if both of its databases are as before
 same_desk : {v : Version} (a b : Connected) (s : State) → SeesOf v a s → b.now ≡ a.now → b.committed ≡ a.committed → SeesOf v b s
 same_desk {v} a b s saw now committed = record {
   schema = ap (λ (d : Database). d.schema) now ∙ saw.schema;
@@ -50,14 +50,14 @@ same_desk {v} a b s saw now committed = record {
   stands = saw.stands;
 }
 
--- a read that answers keeps the state
+-- a read that succeeds keeps the state
 pub unchanged_keeps : {v : Version} (a b : Connected) (s : State) → IsKeptIn v a s → IsUnchanged a b → Survives a b (λ _. ⊥) → HasCleanDisk b → IsKeptIn v b s
 unchanged_keeps a b s kept same less clean = record {
   sees = λ _. same_desk a b s (kept.sees same.0.was_open) same.0.now_is same.0.committed_is;
   leaves = λ db may. kept.leaves db (left_before a b less clean db may);
 }
 
--- and so does one that fails, whether it changed nothing or was rolled back
+-- a read that fails keeps the state, whether it changed nothing or was rolled back
 pub quiet_keeps : {v : Version} (a b : Connected) (s : State) → IsKeptIn v a s → IsUnchanged a b ⊎ IsRolledBack a b → Survives a b (λ _. ⊥) → HasCleanDisk b → IsKeptIn v b s
 quiet_keeps a b s kept (inl same) less clean = unchanged_keeps a b s kept same less clean
 quiet_keeps a b s kept (inr back) less clean = record {

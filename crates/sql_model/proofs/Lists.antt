@@ -1,9 +1,9 @@
--- Lists whose elements have numbers, and maps that agree.
+-- Lists whose elements have numbers, and maps of functions that agree. For the lemmas on plans and events.
 use Rattle.std.proofs.Common.{◌≡◌, ℕ, suc, ◌+◌, List, [], ◌∷◌, ◌++◌, length, map, refl, ap, ap₂, ◌∙◌, arith}
 use Rattle.std.specs.Prelude.{flat_map}
 use Rattle.sql_model.specs.ExpectedRows.{counted_from}
 
--- what comes later has the numbers after those of what comes first
+-- the suffix has the numbers after those of the prefix
 pub counted_from-append : {X : Type 0} (n : ℕ) (xs ys : List X)
     → counted_from n (xs ++ ys) ≡ counted_from n xs ++ counted_from (n + length xs) ys
 counted_from-append n [] ys = ap (λ k. counted_from k ys) (omega arith)
@@ -11,7 +11,7 @@ counted_from-append n (x ∷ xs) ys =
     ap (λ ps. (n, x) ∷ ps)
     (counted_from-append (suc n) xs ys ∙ ap (λ k. counted_from (suc n) xs ++ counted_from k ys) (omega arith))
 
--- one more at the end has the next number
+-- an appended element has the next number
 pub counted_from-last : {X : Type 0} (n : ℕ) (xs : List X) (x : X)
     → counted_from n (xs ++ x ∷ []) ≡ counted_from n xs ++ (n + length xs, x) ∷ []
 counted_from-last n xs x = counted_from-append n xs (x ∷ [])
@@ -22,7 +22,7 @@ pub map-same : {X Y : Type 0} (f g : X → Y) (xs : List X) → ((x : X) → f x
 map-same f g [] same = refl
 map-same f g (x ∷ xs) same = ap₂ ◌∷◌ (same x) (map-same f g xs same)
 
--- and the same concatenation
+-- two functions that agree make the same concatenation
 pub flat_map-same : {X Y : Type 0} (f g : X → List Y) (xs : List X) → ((x : X) → f x ≡ g x)
     → flat_map f xs ≡ flat_map g xs
 flat_map-same f g [] same = refl

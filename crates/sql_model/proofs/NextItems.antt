@@ -1,4 +1,4 @@
--- The item of a journey that comes next behind an event. For the reads of its items, one at a time.
+-- The next item of a journey after an event. For the reads of its items, one at a time.
 use Rattle.std.proofs.Common.{◌≡◌, ℕ, zero, suc, ◌+◌, ◌<◌, ◌==◌, List, [], ◌∷◌, drop, find, filter, cond, Bool, true, false, if◌then◌else◌, Option, Some, None, refl, sym, ap, subst, ◌∙◌, arith}
 use Rattle.std.specs.Prelude.{◌&&◌, nat_lt}
 use Rattle.std.specs.List.{cons_option}
@@ -14,8 +14,8 @@ use Rattle.sql_model.specs.Reading.{item_in}
 use Rattle.sql_model.proofs.ItemRows.{entries_from, entries_from-rise, entry_num, entry_journey, item_back, turned}
 use Rattle.sql_model.proofs.Orders.{least_is_first}
 
--- of events that are counted from a number, behind so many, the row tells the first item of the journey; the later ones
--- stand behind its own event
+-- the events are numbered from n: after the first `behind` of them, the row is that of the journey's
+-- first item, and the later items come after its event
 pub record TellsNext (j n behind : ℕ) (l : List Event) (e : EntryRow) : Type 0 where
   pub item : Item
   pub told : item_in e ≡ Some item
@@ -23,12 +23,12 @@ pub record TellsNext (j n behind : ℕ) (l : List Event) (e : EntryRow) : Type 0
   pub number : n + past ≡ e.num + 1
   pub rest : history (drop behind l) j ≡ item ∷ history (drop past l) j
 
--- the row tells the next item; where there is no row there is none
+-- the row is that of the next item; no row means no item
 abbrev pub TellsIfNext : ℕ → ℕ → ℕ → List Event → Option EntryRow → Type 0
 TellsIfNext j n behind l None = history (drop behind l) j ≡ []
 TellsIfNext j n behind l (Some e) = TellsNext j n behind l e
 
--- an event that makes no item of the journey changes nothing
+-- an event that is no item of the journey changes nothing
 passed : (j n : ℕ) (d : Event) (l : List Event) (o : Option EntryRow) → history (d ∷ l) j ≡ history l j
     → TellsIfNext j (suc n) 0 l o → TellsIfNext j n 0 (d ∷ l) o
 passed j n d l None e none = e ∙ none
@@ -40,7 +40,7 @@ passed j n d l (Some x) e tells = record {
   rest = e ∙ tells.rest;
 }
 
--- nor does one that is not looked at
+-- an event before the search changes nothing
 skipped : (j n behind : ℕ) (d : Event) (l : List Event) (o : Option EntryRow)
     → TellsIfNext j (suc n) behind l o → TellsIfNext j n (suc behind) (d ∷ l) o
 skipped j n behind d l None none = none
@@ -102,7 +102,7 @@ module _ (j after : ℕ) where
       (sym (and_right (is_item_of j (entry_row_of n k item)) _ (le-ltb after (entry_row_of n k item).num (omega arith))))
       (skipped j n m (Did k item) l _ (behind_all (suc n) m l (omega arith)))
 
--- the row of the least number that is found behind so many events tells the journey's next item
+-- the row with the least number found after so many events is that of the journey's next item
 pub next_found : (l : List Event) (rows : List EntryRow) (j after : ℕ) (found : Option EntryRow)
     → IsPermutation (entries_called l) rows
     → IsLeastOf (λ (e : EntryRow). e.num) (filter (is_item_after j after) rows) found

@@ -1,4 +1,4 @@
--- The elements of a list with their numbers, and where each stands.
+-- The elements of a list with their numbers, and the place of each. For the lemmas on numbered rows.
 use Rattle.std.proofs.Common.{◌≡◌, inl, inr, ℕ, zero, suc, ◌+◌, ◌<◌, List, [], ◌∷◌, map, Some, refl, sym, ap, subst, ◌∙◌, arith}
 use Rattle.std.specs.Prelude.{slice_get, option_map}
 use Rattle.std.specs.List.{AllByRecursion}
@@ -6,13 +6,13 @@ use Rattle.sqlite_rules.specs.Lists.{Has}
 use Rattle.sql_model.specs.ExpectedRows.{counted_from}
 use Rattle.sql_model.proofs.Orders.{Rises}
 
--- an element with its number stands that far behind the first
+-- an element with its number, at the place that is that far after the first
 pub record StandsAt {X : Type 0} (n : ℕ) (xs : List X) (p : ℕ × X) : Type 0 where
   pub place : ℕ
   pub number : p.0 ≡ n + place
   pub there : slice_get xs place ≡ Some p.1
 
--- an element with its number stands where the number says
+-- an element with its number is at the place that the number gives
 pub counted_stands : {X : Type 0} (n : ℕ) (xs : List X) (p : ℕ × X) → Has (counted_from n xs) p
     → StandsAt n xs p
 counted_stands n [] p h = absurd h
@@ -49,7 +49,7 @@ counted_rises {X} n (x ∷ xs) = (above n (suc n) xs (omega arith), counted_rise
     above m k [] low = tt
     above m k (y ∷ ys) low = (low, above m (suc k) ys (omega arith))
 
--- what a mapped list has at a place
+-- the element of a mapped list at a place
 pub slice_get-map : {X Y : Type 0} (f : X → Y) (xs : List X) (i : ℕ)
     → slice_get (map f xs) i ≡ option_map f (slice_get xs i)
 slice_get-map f [] i = refl

@@ -1,4 +1,4 @@
--- What was opened over a desk's trees stands for their state. For `openings`.
+-- A connection opened over a desk's trees represents their state. For `openings`.
 use Rattle.std.proofs.Common.{◌≡◌, inl, inr, [], refl, sym, subst}
 use Rattle.sqlite.specs.Tree.{Trees}
 use Rattle.sqlite.specs.State.{State as Connected}
@@ -29,7 +29,7 @@ module _ (one : OneSchema) (v : Version) (c : Connected) (s : State) (it : IsOpe
         stands = means.stands;
       }
 
-  -- those of a store without tables show none
+  -- the trees of a store without tables show no desk
   sees_new : MeansNew c.now.trees s → SeesNew c s
   sees_new means =
       let sound = (it.live it.opens.is_open).0 in

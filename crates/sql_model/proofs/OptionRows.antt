@@ -1,4 +1,4 @@
--- The rows of one step of a journey's plan.
+-- The rows of one step of a journey's plan. For Readings, and for the choice of an option.
 use Rattle.std.proofs.Common.{◌≡◌, ℕ, zero, suc, ◌+◌, ◌<◌, ◌==◌, List, [], ◌∷◌, ◌++◌, map, filter, length, Bool, true, false, Option, Some, None, IsTrue, refl, sym, ap, ap₂, subst, ◌∙◌, arith, eq-eqb, append-nil}
 use Rattle.std.specs.Prelude.{slice_get, flat_map, ◌&&◌}
 use Rattle.std.specs.List.{AllByRecursion}
@@ -28,7 +28,7 @@ module _ (taken : ℕ → ℕ → Bool) (id : ℕ) where
   abbrev rows_in : ℕ × StepPlan → List StepRow
   rows_in s = option_rows taken id s.0 s.1
 
-  -- the rows of a step that may be there
+  -- the rows of a step, if there is one
   abbrev rows_if : ℕ → Option StepPlan → List StepRow
   rows_if place None = []
   rows_if place (Some p) = option_rows taken id place p
@@ -81,7 +81,7 @@ step_rows_at taken id plan zero p e = cc
 step_rows_at taken id plan (suc i) p e =
     from taken id 1 i (suc i) plan.steps (omega arith) ∙ ap (rows_if taken id (suc i)) e
 
--- a test after another is both
+-- a filter of a filter tests both
 filter_both : {X : Type 0} (p q : X → Bool) (xs : List X) → filter q (filter p xs) ≡ filter (λ x. p x && q x) xs
 filter_both p q [] = refl
 filter_both {X} p q (x ∷ xs) = go (p x) refl (q x) refl (filter_both p q xs)
@@ -92,7 +92,7 @@ filter_both {X} p q (x ∷ xs) = go (p x) refl (q x) refl (filter_both p q xs)
     go true e false f rest = simp (e, f, rest)
     go false e b f rest = simp (e, f, rest)
 
--- the rows that are found of a step, in order, are those of that step of the plan
+-- the rows found of a step, in order, are those of that step of the plan
 pub options_found_in_order : (l : List Event) (rows found : List StepRow) (id place : ℕ) (a : Journey)
     → IsPermutation (steps_called l) rows → journey_at l id ≡ Some a → IsTrue (is_plan a.plan)
     → IsPermutation (filter (is_option_of id place) rows) found → IsAscending IsByPlace found
@@ -111,13 +111,13 @@ options_found_in_order l rows found id place a same at good sorted up =
     own_rows : List StepRow
     own_rows = filter (is_at place) called
 
--- What the rows of a step tell.
+-- What the rows of a step say.
 
 module _ (id place : ℕ) (taken : ℕ → ℕ → Bool) (m : Bool) where
   abbrev row_at : ℕ × Wanted → StepRow
   row_at w = option_row id place m w.0 (taken place w.0) w.1
 
-  -- this option's want has this row
+  -- this is the row of the want of this option
   abbrev pub IsRowAt : ℕ → List Wanted → StepFound → ℕ → Type 0
   IsRowAt n ws row i = (w : Wanted) × (slice_get ws i ≡ Some w) × (step_of id row ≡ option_row id place m n (taken place n) w)
 

@@ -1,4 +1,4 @@
--- Rows that come in another order: they are apart still, and of their orders one alone rises.
+-- Rows in another order: they still differ from each other, and just one of their orders rises. For Readings.
 use Rattle.std.proofs.Common.{◌≡◌, ◌≢◌, ◌⊎◌, inl, inr, ℕ, ◌<◌, ◌≤◌, List, [], ◌∷◌, Bool, true, false, filter, find, cond, Option, Some, None, refl, sym, ap, ap₂, subst, ◌∙◌, arith}
 use Rattle.std.specs.List.{AllByRecursion}
 use Rattle.std.specs.List.Sorted.{IsPermutation}
@@ -19,7 +19,7 @@ Rises key xs = IsAscending (λ a b. key a < key b) xs
 -- Pairs.
 
 module _ {X : Type 0} (R : X → X → Type 0) (back : (a b : X) → R a b → R b a) where
-  -- one is the other in another order, and its pairs are related too
+  -- one is a permutation of the other, and its pairs are related too
   abbrev Kept : List X → List X → Type 0
   Kept ls ms = IsPermutation ls ms × (IsAscending R ls → IsAscending R ms)
 
@@ -37,14 +37,14 @@ module _ {X : Type 0} (R : X → X → Type 0) (back : (a b : X) → R a b → R
   chained : (ls ms ns : List X) → Kept ls ms → Kept ms ns → Kept ls ns
   chained ls ms ns h k = (IsPermutation-trans ls ms ns h.0 k.0, λ up. k.1 (h.1 up))
 
-  -- what holds of each two elements, whichever comes first, holds in every order
+  -- a symmetric relation of each two elements holds in every order
   pub pairs-permutation : (xs ys : List X) → IsPermutation xs ys → IsAscending R xs
       → IsAscending R ys
   pairs-permutation xs ys same = (along_permutation Kept nothing under turned chained xs ys same).1
 
 -- One order.
 
--- two rising lists with the same elements are one
+-- two rising lists with the same elements are equal
 pub one_rising : {X : Type 0} (key : X → ℕ) (xs ys : List X) → Rises key xs → Rises key ys
     → ((x : X) → Has xs x → Has ys x) → ((x : X) → Has ys x → Has xs x) → xs ≡ ys
 one_rising key [] [] p q a b = refl
@@ -64,21 +64,21 @@ one_rising {X} key (x ∷ xs) (y ∷ ys) p q a b =
     (λ r h. elim (a r (inr h)) [ inl e ↦ absurd (past x xs p.0 r h (e ∙ sym first)) | inr k ↦ k ])
     (λ r h. elim (b r (inr h)) [ inl e ↦ absurd (past y ys q.0 r h (e ∙ first)) | inr k ↦ k ]))
 
--- what rises is the only rising order of its elements
+-- a list that rises is the only rising order of its elements
 pub one_order : {X : Type 0} (key : X → ℕ) (xs ys : List X) → IsPermutation xs ys → Rises key xs
     → Rises key ys → ys ≡ xs
 one_order key xs ys same p q =
     one_rising key ys xs q p (λ x h. permutation_from xs ys x same h)
     (λ x h. permutation_to xs ys x same h)
 
--- what follows for elements of the list follows for its pairs
+-- a relation that implies another for the elements of a list implies it for its pairs
 pub ascending_where : {X : Type 0} (R S : X → X → Type 0) (xs : List X)
     → ((a b : X) → Has xs a → Has xs b → R a b → S a b) → IsAscending R xs → IsAscending S xs
 ascending_where R S [] follows up = tt
 ascending_where R S (x ∷ xs) follows up =
     (all_from _ xs (λ b h. follows x b (inl refl) (inr h) (all_has _ xs b up.0 h)), ascending_where R S xs (λ a b h k. follows a b (inr h) (inr k)) up.1)
 
--- elements whose keys differ rise, where keys do not fall
+-- elements whose keys differ rise, if their keys do not fall
 pub climbs : {X : Type 0} (key : X → ℕ) (R : X → X → Type 0) (xs : List X)
     → ((a b : X) → Has xs a → Has xs b → R a b → key a ≤ key b) → IsAscending R xs
     → IsAscending (λ a b. key a ≢ key b) xs → Rises key xs
@@ -91,7 +91,7 @@ climbs key R (x ∷ xs) falls_not up apart = (
   climbs key R xs (λ a b h k. falls_not a b (inr h) (inr k)) up.1 apart.1,
 )
 
--- elements that rise do so again once they are in an order in which keys do not fall
+-- elements that rise do so again in each order in which the keys do not fall
 pub rises_in_order : {X : Type 0} (key : X → ℕ) (R : X → X → Type 0) (xs ys : List X)
     → IsPermutation xs ys → Rises key xs → IsAscending R ys
     → ((a b : X) → Has xs a → Has xs b → R a b → key a ≤ key b) → Rises key ys
@@ -100,7 +100,7 @@ rises_in_order key R xs ys same up sorted falls_not =
     (λ a b h k. falls_not a b (permutation_from xs ys a same h) (permutation_from xs ys b same k)) sorted
     (pairs-permutation (λ a b. key a ≢ key b) (λ a b off e. off (sym e)) xs ys same (ascending_where (λ a b. key a < key b) (λ a b. key a ≢ key b) xs (λ a b h k low e. omega arith) up))
 
--- the answer in order is the list that rises
+-- the sorted answer is the list that rises
 pub found_in_order : {X : Type 0} (key : X → ℕ) (R : X → X → Type 0) (xs ys : List X)
     → IsPermutation xs ys → Rises key xs → IsAscending R ys
     → ((a b : X) → Has xs a → Has xs b → R a b → key a ≤ key b) → ys ≡ xs
@@ -109,7 +109,7 @@ found_in_order key R xs ys same up sorted falls_not =
 
 -- One of a kind.
 
--- of elements that are apart at most one passes, where those that pass are the same
+-- of elements that are apart at most one passes, if those that pass are the same
 pub found_is_first : {X : Type 0} (same : X → X → Bool) (test : X → Bool) (xs : List X) (found : Option X)
     → AreApart same xs
     → ((a b : X) → test a ≡ true → test b ≡ true → same a b ≡ true) → IsOneOf (filter test xs) found
@@ -157,7 +157,7 @@ first_least {X} key test (z ∷ xs) y x up found h passes =
     go false t is (inl same) rest = let bad : true ≡ false = sym passes ∙ ap test same ∙ t in cc
     go false t is (inr later) rest = rest is later
 
--- of rows whose numbers rise once they are in order, the least that passes is the first that does
+-- the row with the least number that passes is the first one that passes, in the order of numbers
 pub least_is_first : {X : Type 0} (key : X → ℕ) (test : X → Bool) (xs rows : List X) (found : Option X)
     → Rises key xs → IsPermutation xs rows → IsLeastOf key (filter test rows) found
     → find test xs ≡ found

@@ -1,4 +1,4 @@
--- The rows of a plan, step by step and option by option, and how many of them there are. For who writes or reads them.
+-- The rows of a plan, step by step and option by option, and their number. For readers and writers of plans.
 use Rattle.std.proofs.Common.{◌≡◌, ℕ, zero, suc, ◌+◌, ◌<◌, List, [], ◌∷◌, ◌++◌, length, false, refl, sym, ap, ◌∙◌, arith, add-one}
 use Rattle.std.specs.Prelude.{Option, Some, None, option_map, option_and_then, unwrap_or, slice_get}
 use Rattle.allotment.specs.Want.{Wanted}
@@ -32,7 +32,7 @@ more_of id i n (Some s) within = got (slice_get s.options n) refl
         ∙ ap (λ f. option_rows none_taken id i (first_options n s) ++ unwrap_or (option_map (λ (v : Wanted). option_row id i s.is_marked (n + 1) false v ∷ []) f) [])
         (sym (ap (numbered s.options) (add-one n) ∙ e))
 
--- after some options comes the next one
+-- the next option is appended
 pub first_rows_of_step-more : (id : ℕ) (plan : Planned) (i n : ℕ) → n < option_count plan i
     → first_rows_of_step id plan i (n + 1) ≡ first_rows_of_step id plan i n ++ rows_of_option id plan i (n + 1)
 first_rows_of_step-more id plan i n within = more_of id i n (numbered plan.steps i) within
@@ -43,12 +43,12 @@ all_of : (id i : ℕ) (o : Option StepPlan)
 all_of id i None = refl
 all_of id i (Some s) = option_rows-all none_taken id i s
 
--- with the last option they are all there
+-- the rows up to the last option are all rows of the step
 pub first_rows_of_step-all : (id : ℕ) (plan : Planned) (i n : ℕ) → n ≡ option_count plan i
     → first_rows_of_step id plan i n ≡ rows_of_step id plan i
 first_rows_of_step-all id plan i n all = ap (first_rows_of_step id plan i) all ∙ all_of id i (numbered plan.steps i)
 
--- after the rows of some steps come those of the next one
+-- the rows of the next step are appended
 pub step_rows_of-more : (id : ℕ) (plan : Planned) (n : ℕ) → n < step_count plan
     → step_rows_of id (first_steps (n + 1) plan) ≡ step_rows_of id (first_steps n plan) ++ rows_of_step id plan (n + 1)
 step_rows_of-more id plan n within = got (slice_get plan.steps n) refl

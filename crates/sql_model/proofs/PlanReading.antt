@@ -1,4 +1,4 @@
--- A plan is read back from its rows, and written row by row.
+-- A plan is read back from its rows, and written row by row. For RecordRows, and for reads of plans.
 use Rattle.std.proofs.Common.{◌≡◌, ℕ, zero, suc, ◌<◌, ◌≤◌, ◌==◌, List, [], ◌∷◌, ◌++◌, map, filter, length, Bool, true, false, IsTrue, refl, sym, ap, ap₂, ◌∙◌, arith, append-nil, eq-eqb}
 use Rattle.std.specs.Prelude.{flat_map, not}
 use Rattle.std.specs.List.{AllByRecursion}
@@ -17,7 +17,7 @@ use Rattle.sql_model.specs.Reading.{not_taken}
 use Rattle.sql_model.proofs.Lists.{flat_map-same}
 use Rattle.sql_model.proofs.PlanRows.{HaveOptions, have_options}
 
--- Without what is taken.
+-- Without the marks of what is taken.
 
 map-flat_map : {X Y Z : Type 0} (g : Y → Z) (f : X → List Y) (xs : List X)
     → map g (flat_map f xs) ≡ flat_map (λ x. map g (f x)) xs
@@ -30,7 +30,7 @@ map-map : {X Y Z : Type 0} (g : Y → Z) (f : X → Y) (h : X → Z) (xs : List 
 map-map g f h [] same = refl
 map-map g f h (x ∷ xs) same = ap₂ ◌∷◌ (same x) (map-map g f h xs same)
 
--- but for what is taken the rows of a plan are those with which it began
+-- the rows of a plan without those marks are the rows with which it began
 pub step_rows-not_taken : (taken : ℕ → ℕ → Bool) (id : ℕ) (plan : Planned)
     → map not_taken (step_rows taken id plan) ≡ step_rows_of id plan
 step_rows-not_taken taken id plan =
@@ -65,7 +65,7 @@ made : Kind → List ℕ → List ℕ → ℕ → ℕ → ℕ → Wanted
 made kind supplier product first nights count =
     record { kind = kind; supplier = supplier; product = product; first = first; nights = nights; count = count }
 
--- the row of an option tells its want
+-- the row of an option determines its want
 pub option_row-want : (id k o : ℕ) (m n t u : Bool) (w v : Wanted)
     → option_row id k m o t w ≡ option_row id k n o u v → w ≡ v
 unfolding made

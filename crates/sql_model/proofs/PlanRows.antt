@@ -1,4 +1,4 @@
--- The rows of a plan in their order: they rise, and tell each step and each option once.
+-- The rows of a plan in their order: they rise, and have each step and each option once. For Readings.
 use Rattle.std.proofs.Common.{◌≡◌, inl, inr, ℕ, suc, ◌+◌, ◌*◌, ◌<◌, ◌≤◌, List, [], ◌∷◌, filter, length, Bool, true, Some, IsTrue, arith}
 use Rattle.std.specs.Prelude.{flat_map}
 use Rattle.std.specs.List.{AllByRecursion, list_all}
@@ -30,7 +30,7 @@ abbrev pub HaveOptions : List StepPlan → Type 0
 HaveOptions steps =
     AllByRecursion (λ (s : StepPlan). (1 ≤ length s.options) × (length s.options ≤ most_options)) steps
 
--- so it is in a plan that keeps the limits
+-- in a plan that keeps the limits, each step has a few options
 pub have_options : (plan : Planned) → IsTrue (is_plan plan) → HaveOptions plan.steps
 have_options plan good = each plan.steps (limited plan good).each_step
   where
@@ -103,7 +103,7 @@ module _ (taken : ℕ → ℕ → Bool) (id : ℕ) where
       (all-map (λ (r : StepRow). r.opt < 16) (row_at k s.is_marked) (counted_from 1 s.options) (counted-low 1 s.options 16 (let few = some.0.1 in omega arith)))
       (rows_from-few (suc k) steps some.1)
 
--- step by step and option by option the rows of a plan come by their places
+-- the order of the places is the order by step and option
 pub by_rank : (l : List Event) (id : ℕ) (a : Journey) → IsTrue (is_plan a.plan) → (r s : StepRow)
     → Has (step_rows (is_standing (history l id)) id a.plan) r
     → Has (step_rows (is_standing (history l id)) id a.plan) s → IsByPlace r s → rank r ≤ rank s
@@ -113,7 +113,7 @@ by_rank l id a good r s h k (inl low) =
     (rows_from-few (is_standing (history l id)) id 1 a.plan.steps (have_options a.plan good)) h in omega arith
 by_rank l id a good r s h k (inr tied) = let place = tied.0 in let opt = tied.1 in omega arith
 
--- the rows that are found with a journey's number, in order, are those of its plan
+-- the rows found with a journey's number, in order, are those of its plan
 pub steps_found_in_order : (l : List Event) (rows found : List StepRow) (id : ℕ) (a : Journey)
     → IsPermutation (steps_called l) rows → journey_at l id ≡ Some a → IsTrue (is_plan a.plan)
     → IsPermutation (filter (is_step_of id) rows) found → IsAscending IsByPlace found

@@ -1,4 +1,4 @@
--- The rows of a plan, written one after another.
+-- The rows of a plan, written one at a time. For PlanParts.
 use Rattle.std.proofs.Common.{◌≡◌, ℕ, zero, suc, ◌+◌, List, [], ◌∷◌, ◌++◌, map, take, length, Bool, Some, refl, ap, ◌∙◌, arith, append-nil, add-one}
 use Rattle.std.specs.Prelude.{flat_map, slice_get}
 use Rattle.std.proofs.lemmas.List.{map-append}
@@ -9,7 +9,7 @@ use Rattle.sql_model.specs.ExpectedRows.{counted_from, option_row, option_rows, 
 use Rattle.sql_model.specs.Beginning.{first_steps, first_options}
 use Rattle.sql_model.proofs.Lists.{counted_from-last}
 
--- one element more
+-- one more element
 take-got : {X : Type 0} (xs : List X) (i : ℕ) (x : X) → slice_get xs i ≡ Some x
     → take (suc i) xs ≡ take i xs ++ x ∷ []
 take-got [] i x e = cc
@@ -22,7 +22,7 @@ length-got [] i x e = cc
 length-got (y ∷ xs) zero x e = refl
 length-got (y ∷ xs) (suc i) x e = let rest = length-got xs i x e in omega arith
 
--- after a step's options come those of the next
+-- the options of the next step are appended
 pub step_rows-more : (taken : ℕ → ℕ → Bool) (id : ℕ) (plan : Planned) (i : ℕ) (s : StepPlan)
     → slice_get plan.steps i ≡ Some s
     → step_rows taken id (first_steps (i + 1) plan) ≡ step_rows taken id (first_steps i plan) ++ option_rows taken id (i + 1) s
@@ -38,7 +38,7 @@ step_rows-more taken id plan i s e =
     ∙ ap (λ n. flat_map rows (counted_from 1 (take i plan.steps)) ++ rows (n, s))
     (let size = length-got plan.steps i s e in let next : 1 + length (take i plan.steps) ≡ i + 1 = omega arith in next)
 
--- after an option comes the next
+-- the next option is appended
 pub option_rows-more : (taken : ℕ → ℕ → Bool) (id k : ℕ) (s : StepPlan) (o : ℕ) (w : Wanted)
     → slice_get s.options o ≡ Some w
     → option_rows taken id k (first_options (o + 1) s) ≡ option_rows taken id k (first_options o s) ++ option_row id k s.is_marked (o + 1) (taken k (o + 1)) w ∷ []
@@ -60,7 +60,7 @@ take-whole : {X : Type 0} (xs : List X) → take (length xs) xs ≡ xs
 take-whole [] = refl
 take-whole (x ∷ xs) = ap (λ ys. x ∷ ys) (take-whole xs)
 
--- after the last step they are all there
+-- the rows up to the last step are all rows
 pub step_rows-all : (taken : ℕ → ℕ → Bool) (id : ℕ) (plan : Planned)
     → step_rows taken id (first_steps (length plan.steps) plan) ≡ step_rows taken id plan
 step_rows-all taken id plan =
@@ -73,7 +73,7 @@ pub option_rows-none : (taken : ℕ → ℕ → Bool) (id k : ℕ) (s : StepPlan
     → option_rows taken id k (first_options 0 s) ≡ []
 option_rows-none taken id k s = refl
 
--- after the last option of a step they are all there
+-- the rows up to the last option are all rows of the step
 pub option_rows-all : (taken : ℕ → ℕ → Bool) (id k : ℕ) (s : StepPlan)
     → option_rows taken id k (first_options (length s.options) s) ≡ option_rows taken id k s
 option_rows-all taken id k s =

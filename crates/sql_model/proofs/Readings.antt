@@ -1,4 +1,4 @@
--- What each reading of the tables tells of the state that they stand for.
+-- What each read of the tables says of the state that they represent. For the functions that read.
 use Rattle.std.proofs.Common.{◌≡◌, ℕ, ◌+◌, ◌≤◌, ◌==◌, List, [], ◌∷◌, map, filter, length, take, Option, Some, IsTrue, refl, sym, ap, subst, ◌∙◌}
 use Rattle.std.specs.Prelude.{option_map, bytes_eq, nat_le, ◌&&◌}
 use Rattle.std.specs.List.{list_any}
@@ -56,38 +56,38 @@ module _ {v : Version} (t : Tables) (s : State) (st : StandsIn v t s) (desk : Is
       head_row [] = record { version = 0; events = 0; journeys = 0 }
       head_row (r ∷ rs) = r
 
-  -- the next journey's number is above all
+  -- the next journey's number is above the number of each journey
   pub next_is_above : AreJourneysBelow (length (journeys s.ledger) + 1) t
   next_is_above = next_above s.ledger t.journey st.journey
 
-  -- what is found under an agent's key tells what is kept there
+  -- the row found under an agent's key matches the reply that is kept there
   pub answer_read : (agent key : List ℕ) (found : Option KeptAnswer) → FindsAnswer agent key t found
       → Tells IsAnswerOf (option_map (answer_of agent key) found) (s.kept agent key)
   answer_read agent key found finds =
       answer_found s.kept t.answer agent key
       (option_map (answer_of agent key) found) st.answer desk.keepable finds
 
-  -- what is found of a number tells the journey with that number
+  -- the row found with a number matches the journey with that number
   pub journey_read : (id : ℕ) (found : Option JourneyFound) → FindsJourney id t found
       → Tells (λ (r : JourneyRow) a. (r.id ≡ id) × IsJourneyOf s.ledger r a) (option_map journey_of found) (journey_at s.ledger id)
   journey_read id found finds =
       journey_found s.ledger t.journey id (option_map journey_of found) st.journey finds
 
-  -- what is found above a number tells the first unfinished journey there
+  -- the row found above a number is that of the first unfinished journey there
   pub unfinished_read : (after : ℕ) (found : Option JourneyFound) → FindsUnfinished after t found
       → Tells IsBriefOf (option_map journey_of found) (first_unfinished s.ledger after)
   unfinished_read after found finds =
       unfinished_found s.ledger t.journey after (option_map journey_of found) st.journey finds
 
-  -- the event of a journey that was found stands before all of its items
+  -- the event that began a found journey comes before all of its items
   pub begins_read : (id : ℕ) (found : JourneyFound) → FindsJourney id t (Some found)
       → history (take found.num s.ledger) id ≡ []
   begins_read id found finds =
       let begins = journey_begins s.ledger t.journey id (journey_of found) st.journey finds in
       ap (λ n. history (take n s.ledger) id) begins.2 ∙ no_item_before s.ledger id begins.0 desk.legal begins.1
 
-  -- the items that are found of a journey are its history, where they are sought after events that are no items of
-  -- it; the rows of the table come by their numbers
+  -- the items found of a journey are its history, if the search starts after events that are no items
+  -- of it; the rows of the table are in order of number
   pub items_read : (id after : ℕ) (found : List ItemFound) → history (take after s.ledger) id ≡ []
       → Rises (λ (e : EntryRow). e.num) t.entries → FindsItems id after t found
       → map (λ (i : ItemFound). item_in (item_of id i)) found ≡ map Some (history s.ledger id)
@@ -100,13 +100,13 @@ module _ {v : Version} (t : Tables) (s : State) (st : StandsIn v t s) (desk : Is
       map-map f g [] = refl
       map-map f g (x ∷ xs) = ap (λ ys. g (f x) ∷ ys) (map-map f g xs)
 
-  -- what is found after so many events tells the journey's next item
+  -- the row found after so many events is that of the journey's next item
   pub next_read : (id after : ℕ) (found : Option ItemFound) → FindsNextItem id after t found
       → TellsIfNext id 1 after s.ledger (option_map (item_of id) found)
   next_read id after found finds =
       next_found s.ledger t.entries id after (option_map (item_of id) found) st.entries finds
 
-  -- the options that are found of a journey are the rows of its plan, in order
+  -- the option rows found of a journey are the rows of its plan, in order
   pub steps_read : (id : ℕ) (a : Journey) (found : List StepFound) → journey_at s.ledger id ≡ Some a
       → FindsSteps id t found
       → map (step_of id) found ≡ step_rows (is_standing (history s.ledger id)) id a.plan
@@ -114,7 +114,7 @@ module _ {v : Version} (t : Tables) (s : State) (st : StandsIn v t s) (desk : Is
       steps_found_in_order s.ledger t.step (map (step_of id) found) id a st.step at
       (plan_good s.ledger id a desk.legal at) finds.same finds.rising
 
-  -- the options that are found of a step are the rows of that step of the plan, in order
+  -- the option rows found of a step are the rows of that step of the plan, in order
   pub options_read : (id place : ℕ) (a : Journey) (found : List StepFound) → journey_at s.ledger id ≡ Some a
       → FindsOptions id place t found
       → map (step_of id) found ≡ filter (is_at place) (step_rows (is_standing (history s.ledger id)) id a.plan)
@@ -122,7 +122,7 @@ module _ {v : Version} (t : Tables) (s : State) (st : StandsIn v t s) (desk : Is
       options_found_in_order s.ledger t.step (map (step_of id) found) id place a st.step at
       (plan_good s.ledger id a desk.legal at) finds.same finds.rising
 
-  -- so they are the rows of its options
+  -- the option rows found of a step are those of its options
   pub options_there : (id place : ℕ) (a : Journey) (found : List StepFound) (p : StepPlan) → journey_at s.ledger id ≡ Some a
       → numbered a.plan.steps place ≡ Some p → FindsOptions id place t found
       → map (step_of id) found ≡ option_rows (is_standing (history s.ledger id)) id place p
@@ -130,7 +130,7 @@ module _ {v : Version} (t : Tables) (s : State) (st : StandsIn v t s) (desk : Is
       options_read id place a found at finds
       ∙ step_rows_at (is_standing (history s.ledger id)) id a.plan place p there
 
-  -- a plan with just these options is the journey's
+  -- a plan with just these option rows is the journey's
   pub plan_read : (id : ℕ) (a : Journey) (found : List StepFound) (plan : Planned)
       → journey_at s.ledger id ≡ Some a → FindsSteps id t found → IsTrue (is_plan plan)
       → step_rows_of id plan ≡ map not_taken (map (step_of id) found) → plan.tries ≡ a.plan.tries
@@ -139,13 +139,13 @@ module _ {v : Version} (t : Tables) (s : State) (st : StandsIn v t s) (desk : Is
       plan_told s.ledger t.step
       (map (step_of id) found) id a plan desk.legal st.step at finds.same finds.rising good rows tries
 
-  -- the positions that are found of a journey are those at which a save-point stands that was taken
-  -- at run time
+  -- the positions found of a journey are those at which a save-point stands that was taken at run
+  -- time
   pub marks_read : (id : ℕ) (found : List ℕ) → FindsMarks id t found → (p : ℕ)
       → list_any (λ q. q == p) found ≡ is_taken (history s.ledger id) p
   marks_read id found finds p = marks_found s.ledger t.mark found id p st.mark finds.same
 
-  -- the nights that are found of a want are what is shown of it
+  -- the nights found of a want are those that the ledger shows of it
   pub nights_read : (r : NightRange) (w : Wanted) (found : List NightFound) → IsRangeOf r w
       → 1 ≤ w.nights → FindsNights r t found → map night_seen found ≡ places_shown s.ledger w
   nights_read r w found is some finds =
@@ -169,7 +169,7 @@ module _ {v : Version} (t : Tables) (s : State) (st : StandsIn v t s) (desk : Is
           ∙ ap
           (λ n. (x.kind == kind_number w.kind) && (bytes_eq x.supplier w.supplier && (bytes_eq x.product w.product && (nat_le w.first x.night && nat_le x.night n)))) is.last
 
-  -- the cells that are found, with their places, are the stock
+  -- the cells found, with their places, are the stock
   pub stock_read : (found : List CellFound) (cells : List (Cell × Held)) → FindsStock t found
       → map stock_row_of cells ≡ map stock_of found → IsStock s.ledger cells
   stock_read found cells finds rows =

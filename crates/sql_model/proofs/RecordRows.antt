@@ -1,4 +1,4 @@
--- A journey is shown by its row and the rows of its steps.
+-- The row of a journey and the rows of its steps give its record. For Readings, and for reads of journeys.
 use Rattle.std.proofs.Common.{◌≡◌, ℕ, zero, suc, ◌+◌, ◌<◌, ◌≤◌, ◌==◌, List, [], ◌∷◌, ◌++◌, map, filter, Bool, true, false, Some, IsTrue, refl, sym, ap, ap₂, subst, ◌∙◌, arith, eqb-true}
 use Rattle.std.specs.Prelude.{option_map, nat_eq, nat_le, ◌&&◌, ◌||◌}
 use Rattle.std.specs.FinSet as set
@@ -57,7 +57,7 @@ plan_good l j a legal e =
 made_plan : List StepPlan → ℕ → Planned
 made_plan steps tries = record { steps = steps; tries = tries }
 
--- a plan whose rows are those that were found, in order, is the journey's
+-- a plan whose rows are the found ones, in order, is the journey's
 pub plan_told : (l : List Event) (rows found : List StepRow) (id : ℕ) (a : Journey) (plan : Planned)
     → IsLegal l → IsPermutation (steps_called l) rows → journey_at l id ≡ Some a
     → IsPermutation (filter (is_step_of id) rows) found → IsAscending IsByPlace found
@@ -72,7 +72,7 @@ plan_told l rows found id a plan legal same at sorted up good read tries =
     ap (λ steps. made_plan steps plan.tries) (steps_from_rows id plan a.plan good fine one)
     ∙ ap (made_plan a.plan.steps) tries
 
--- a number from 1 to the last mark is one of these
+-- a number from 1 to the last mark is in the list
 low_numbers : (p : ℕ) → is_between 1 last_mark p ≡ true
     → list_any (λ y. nat_eq y p) (numbers_from 1 last_mark) ≡ true
 low_numbers p e =
@@ -90,7 +90,7 @@ low_numbers p e =
         go false e rest =
             let off = eqb-false _ _ e in or_right _ _ (rest (omega arith) (omega arith))
 
--- marks that say where a save-point stands are those that are shown of the history
+-- marks that are set where a save-point stands are the marks of the history
 pub marks_told : (h : List Item) (marks : set.FinSet nat_cmp)
     → ((p : ℕ) → is_taken_in marks p ≡ is_taken h p) → AreInRange marks → marks ≡ marks_of h
 marks_told h marks says low =
@@ -131,7 +131,7 @@ made_record : List ℕ → Planned → Cursor → set.FinSet nat_cmp → Record
 made_record agent plan cursor marks =
     record { agent = agent; plan = plan; cursor = cursor; marks = marks }
 
--- what is told by the row of a journey, with its plan and its marks, is what is shown of it
+-- the record of a journey's row, its plan and its marks is the record of the journey
 pub record_told : (l : List Event) (r : JourneyRow) (a : Journey) (shown : Record)
     → journey_at l r.id ≡ Some a → IsJourneyOf l r a
     → shown.agent ≡ r.agent → shown.plan ≡ a.plan → cursor_row shown.cursor ≡ r.cursor

@@ -1,4 +1,4 @@
--- The rows of a journey's steps tell its plan.
+-- The rows of a journey's steps give its plan. For PlanRows and OptionRows.
 use Rattle.std.proofs.Common.{◌≡◌, ℕ, zero, suc, ◌+◌, ◌<◌, ◌==◌, List, [], ◌∷◌, ◌++◌, filter, Bool, true, false, Option, Some, None, refl, ap, ap₂, subst, ◌∙◌, arith, eq-eqb, append-nil}
 use Rattle.std.specs.Prelude.{slice_get, flat_map}
 use Rattle.std.specs.List.{AllByRecursion}
@@ -26,7 +26,7 @@ module _ (taken : ℕ → ℕ → ℕ → Bool) (id : ℕ) where
   abbrev rows_in : ℕ × Journey → List StepRow
   rows_in a = step_rows (taken a.0) a.0 a.1.plan
 
-  -- the rows of a journey that may be there
+  -- the rows of a journey, if there is one
   abbrev pub rows_if : Option Journey → List StepRow
   rows_if None = []
   rows_if (Some a) = step_rows (taken id) id a.plan
@@ -60,7 +60,7 @@ module _ (taken : ℕ → ℕ → ℕ → Bool) (id : ℕ) where
       filter-append (is_step_of id) (rows_in (n, a)) (flat_map rows_in (counted_from (suc n) js))
       ∙ ap₂ ◌++◌ (other n a off) (past (suc n) js (omega arith))
 
-  -- of the rows of all plans those with the journey's number are those of its plan
+  -- of the rows of all plans, those with the journey's number are those of its plan
   from : (n i : ℕ) (js : List Journey) → n + i ≡ id
       → filter (is_step_of id) (flat_map rows_in (counted_from n js)) ≡ rows_if (slice_get js i)
   from n i [] e = refl
@@ -73,7 +73,7 @@ module _ (taken : ℕ → ℕ → ℕ → Bool) (id : ℕ) where
       filter-append (is_step_of id) (rows_in (n, a)) (flat_map rows_in (counted_from (suc n) js))
       ∙ ap₂ ◌++◌ (other n a off) (from (suc n) i js (omega arith))
 
--- the rows that a journey's plan calls for
+-- the rows expected of a journey's plan
 pub steps_of-journey : (l : List Event) (id : ℕ) (a : Journey) → journey_at l id ≡ Some a
     → filter (is_step_of id) (steps_called l) ≡ step_rows (is_standing (history l id)) id a.plan
 steps_of-journey l zero a e = cc
@@ -81,7 +81,7 @@ steps_of-journey l (suc i) a e =
     from (λ n. is_standing (history l n)) (suc i) 1 i (journeys l) (omega arith)
     ∙ ap (rows_if (λ n. is_standing (history l n)) (suc i)) e
 
--- the rows that are found with a journey's number are those of its plan, in some order
+-- the rows found with a journey's number are those of its plan, in some order
 pub steps_found : (l : List Event) (rows : List StepRow) (id : ℕ) (a : Journey)
     → IsPermutation (steps_called l) rows → journey_at l id ≡ Some a
     → IsPermutation (step_rows (is_standing (history l id)) id a.plan) (filter (is_step_of id) rows)

@@ -1,4 +1,4 @@
--- The rows of stock tell the places of cells.
+-- The rows of stock give the places of cells. For Readings, and for the lemmas on stock.
 use Rattle.std.proofs.Common.{◌≡◌, ◌≢◌, inl, inr, ℕ, zero, suc, ◌+◌, ◌-◌, ◌<◌, ◌≤◌, ◌==◌, List, [], ◌∷◌, map, filter, find, cond, Bool, true, false, Option, Some, None, refl, sym, ap, subst, ◌∙◌, arith, eqb-true, eq-eqb}
 use Rattle.std.specs.Prelude.{filter_map, option_map, bytes_eq}
 use Rattle.std.specs.List.{cons_option}
@@ -31,7 +31,7 @@ use Rattle.sql_model.specs.Reading.{is_wanted_row, night_told, stock_row_of}
 use Rattle.desk_sql.specs.Stock.{IsByNight, IsByCell, cell_cmp as stock_cmp}
 use Rattle.sql_model.proofs.Orders.{Rises, pairs-permutation, ascending_where, climbs, one_rising, found_is_first}
 
--- two rows of one cell are of the same cell
+-- two rows that match one cell are of the same cell
 one_cell : (x : Cell) (r s : StockRow) → is_stock_of x r ≡ true → is_stock_of x s ≡ true
     → is_same_stock r s ≡ true
 one_cell x r s p q =
@@ -53,14 +53,14 @@ one_cell x r s p q =
     (and_from _ _ (and_from _ _ (eq-eqb r.kind s.kind kind) ((bytes_eq-Decides r.supplier s.supplier).1 supplier)) ((bytes_eq-Decides r.product s.product).1 product))
     (eq-eqb r.night s.night night)
 
--- the row of a cell tells what stands there
+-- the row of a cell gives its places
 pub stock_at-row : (rows : List StockRow) (x : Cell) (r : StockRow) → AreApart is_same_stock rows
     → Has rows r → is_stock_of x r ≡ true → stock_at rows x ≡ Some (places_told r)
 stock_at-row rows x r once there on =
     ap (λ o. option_map places_told o)
     (found_is_first is_same_stock (is_stock_of x) rows (Some r) once (one_cell x) (has_kept (is_stock_of x) rows r there on))
 
--- and what stands at a cell is told by its row
+-- the places of a cell are those of its row
 pub row-stock_at : (rows : List StockRow) (x : Cell) (p : Places) → stock_at rows x ≡ Some p
     → (r : StockRow) × Has rows r × (is_stock_of x r ≡ true) × (places_told r ≡ p)
 row-stock_at rows x p e = go (find (is_stock_of x) rows) refl
@@ -89,12 +89,12 @@ wanted_cell w r some e =
       (let high = leb-true r.night (w.first + w.nights - 1) four.1 in omega arith),
     )
 
--- a night of a want is from its first to its last
+-- the number of a night is between those of the first and the last
 night_within : (w : Wanted) (n m : ℕ) → n ≡ m → w.first ≤ n → n < w.first + w.nights
     → (w.first ≤ m) × (m ≤ w.first + w.nights - 1)
 night_within w n m same low high = (omega arith, omega arith)
 
--- and the row of a want's cell is wanted
+-- the row of a want's cell is wanted
 pub cell_wanted : (w : Wanted) (n : ℕ) (r : StockRow) → is_stock_of (cell_at w n) r ≡ true → w.first ≤ n
     → n < w.first + w.nights → (is_wanted_row w r ≡ true) × (r.night ≡ n)
 cell_wanted w n r e low high =
@@ -110,12 +110,12 @@ cell_wanted w n r e low high =
       sym night,
     )
 
--- what is shown of a want's nights, from a night on
+-- the places shown of a want's nights, from a night on
 abbrev shown_from : List Event → Wanted → ℕ → ℕ → List (ℕ × Places)
 shown_from l w n k =
     filter_map (λ x. option_map (at_night x) (places_of l x)) (map (cell_at w) (numbers_from n k))
 
--- whether something is shown of a night
+-- whether a night is shown
 module _ (l : List Event) (w : Wanted) where
   pub shown_has : (n k : ℕ) (p : ℕ × Places) → Has (shown_from l w n k) p
       → (n ≤ p.0) × (p.0 < n + k) × (places_of l (cell_at w p.0) ≡ Some p.1)
@@ -186,7 +186,7 @@ apart_nights w rows some once =
         (subst (λ n. is_stock_of (cell_at w n) r ≡ true) night of_r) of_s in
         let bad : true ≡ false = sym on ∙ off in cc
 
--- the rows that are found of a want's nights, in order, tell what is shown of them
+-- the rows found of a want's nights, in order, give the nights that are shown
 pub nights_found : (l : List Event) (rows found : List StockRow) (w : Wanted) → 1 ≤ w.nights
     → StockStands l rows → IsPermutation (filter (is_wanted_row w) rows) found
     → IsAscending IsByNight found
@@ -236,13 +236,13 @@ same_back r s off = false_from_ne_true (is_same_stock s r) (λ on.
     ((bytes_eq-Decides r.product s.product).1 (sym ((bytes_eq-Decides s.product r.product).0 two.1)))) (eq-eqb r.night s.night (sym (eqb-true _ _ three.1))) in
     let bad : true ≡ false = sym back ∙ off in cc)
 
--- in another order the rows are apart still
+-- rows that are apart are so in each order
 stock_apart : (rows found : List StockRow) → IsPermutation rows found → AreApart is_same_stock rows
     → AreApart is_same_stock found
 stock_apart rows found same once =
     pairs-permutation (λ (r s : StockRow). is_same_stock r s ≡ false) same_back rows found same once
 
--- and tell the same of each cell
+-- the places of each cell are the same in each order
 stock_at-permutation : (rows found : List StockRow) (x : Cell) → IsPermutation rows found
     → AreApart is_same_stock rows → stock_at found x ≡ stock_at rows x
 stock_at-permutation rows found x same once = go (stock_at rows x) refl
@@ -279,7 +279,7 @@ number_tie a b e = grind (arith, nat_tests)
 text_tie : (a b : List ℕ) → slice_cmp nat_cmp a b ≡ Equal → bytes_eq a b ≡ true
 text_tie a b e = sym (is_eq-slice_cmp a b) ∙ ap is_eq e
 
--- rows that tie are of one cell
+-- rows that compare equal are of one cell
 tied_same : (r s : StockRow) → stock_cmp r s ≡ Equal → is_same_stock r s ≡ true
 tied_same r s e =
     let one = both_tie (nat_cmp r.kind s.kind) _ e in
@@ -289,7 +289,7 @@ tied_same r s e =
     (and_from _ _ (and_from _ _ (number_tie r.kind s.kind one.0) (text_tie r.supplier s.supplier two.0)) (text_tie r.product s.product three.0))
     (number_tie r.night s.night three.1)
 
--- of two cells, of which the second is not before the first, the first is before the second
+-- if the second of two cells is not before the first, the first is before the second
 before : (r s : StockRow) → is_lt (stock_cmp s r) ≡ false → is_same_stock r s ≡ false
     → is_lt (stock_cmp r s) ≡ true
 before r s up off = go (stock_cmp s r) refl up
@@ -316,7 +316,7 @@ told_said : (o : Option (Cell × Held))
 told_said None = refl
 told_said (Some c) = refl
 
--- what the rows of a list of cells tell is what the list has
+-- the rows of a list of cells give the places of the list
 listed_at : (cells : List (Cell × Held)) (x : Cell)
     → stock_at (map stock_row_of cells) x ≡ places_at cells x
 listed_at cells x =

@@ -1,4 +1,4 @@
--- The first row of an unfinished journey is that of the first unfinished journey.
+-- The first row of an unfinished journey is that of the first unfinished journey. For Readings.
 use Rattle.std.proofs.Common.{◌≡◌, ℕ, suc, ◌+◌, List, [], ◌∷◌, map, find, cond, length, Bool, true, false, Option, Some, refl, sym, ap, subst, ◌∙◌, arith}
 use Rattle.std.specs.Prelude.{slice_get, filter_map, option_map, nat_lt, not, ◌&&◌}
 use Rattle.std.specs.List.{cons_option}
@@ -20,7 +20,7 @@ use Rattle.sql_model.proofs.Events.{length-begun}
 use Rattle.sql_model.proofs.JourneyRows.{row_in, begun_there, called_rises}
 use Rattle.sql_model.proofs.Orders.{least_is_first}
 
--- a journey with its number, in short
+-- the brief of a journey with its number
 abbrev brief_in : List Event → ℕ × Begun → Brief
 brief_in l b = brief_of_journey b.0 (history l b.0) b.1.journey
 
@@ -36,7 +36,7 @@ briefs_from l n (b ∷ bs) at =
     ∙ ap (λ more. brief_in l (n, b) ∷ more)
     (briefs_from l (suc n) bs (λ i x e. ap (journey_at l) (let k : suc n + i ≡ n + suc i = omega arith in k) ∙ at (suc i) x e))
 
--- the journeys in short are those that were begun
+-- the briefs are those of the journeys that were begun
 briefs : (l : List Event)
     → filter_map (brief_of l) (numbers l) ≡ map (brief_in l) (counted_from 1 (begun l))
 briefs l =
@@ -63,8 +63,8 @@ unfinished_phase (Back target) = refl
 unfinished_phase Ended = refl
 unfinished_phase Undone = refl
 
--- the row with the least number, of those that are unfinished and above a number, tells the first
--- such journey
+-- the row with the least number, of those that are unfinished and above a number, is that of the
+-- first such journey
 pub unfinished_found : (l : List Event) (rows : List JourneyRow) (after : ℕ) (found : Option JourneyRow)
     → IsPermutation (journeys_called l) rows
     → IsLeastOf (λ (r : JourneyRow). r.id) (filter (is_unfinished_after after) rows) found

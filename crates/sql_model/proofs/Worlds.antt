@@ -1,4 +1,4 @@
--- A desk's state stays one through each world. For `desks`.
+-- Each moment of an execution takes a desk's state to a desk's state. For `desks`.
 use Rattle.std.proofs.Common.{◌≡◌, List, [], ◌∷◌, refl, sym, ap, subst}
 use Rattle.std.specs.Prelude.{true, false, Option, Some, None, is_some}
 use Rattle.commands.specs.Asks.{Asked}
@@ -26,7 +26,7 @@ same_without s ask asked = go (kept_for s ask)
     go None none =
         same_with s ask (answer s.ledger (asker ask) asked).reply (answer s.ledger (asker ask) asked).event none
 
--- one request of a world leaves a desk's state
+-- a request of an execution leaves a desk's state
 stays_desk : (s : State) (ask : Option Asked) (asked : Request) → IsDesk s → KeepsLimits s ask asked
     → IsDesk (outcome s ask asked).state
 stays_desk s ask asked desk keeps = go (outcome s ask asked).event refl

@@ -1,4 +1,4 @@
--- The rows that a ledger calls for, table by table.
+-- The rows that are expected of a ledger, table by table.
 use Rattle.std.specs.Prelude.{ℕ, suc, ◌==◌, ◌&&◌, Bool, true, false, List, [], ◌∷◌, ◌++◌, map, length, filter_map, flat_map, Option, Some, None}
 use Rattle.std.specs.List.{list_any}
 use Rattle.allotment.specs.Want.{Wanted}
@@ -21,7 +21,7 @@ use Rattle.desk_sql.specs.declared.versions.Version.TheVariants.{Two}
 use Rattle.desk_sql.specs.Versions.{number_of}
 use Rattle.desk_sql.specs.Rows.{MetaRow, BatchRow, JourneyRow, CursorRow, StepRow, EntryRow}
 
--- each of these with its number, where the first has this one
+-- the elements of a list, numbered from `first`
 abbrev pub counted_from : {X : Type 0} → ℕ → List X → List (ℕ × X)
 counted_from first [] = []
 counted_from first (x ∷ xs) = (first, x) ∷ counted_from (suc first) xs
@@ -30,7 +30,7 @@ counted_from first (x ∷ xs) = (first, x) ∷ counted_from (suc first) xs
 abbrev pub meta_in : Version → List Event → MetaRow
 meta_in v l = record { version = number_of v; events = length l; journeys = length (journeys l) }
 
--- the same, of the newest version
+-- the row of meta, in tables of the newest version
 abbrev pub meta_called : List Event → MetaRow
 meta_called l = meta_in Two l
 
@@ -52,12 +52,12 @@ batches_called l = filter_map (λ (e : ℕ × Event). batch_row_of e.0 e.1) (cou
 
 -- Journeys.
 
--- a journey as it was begun, and the number of that event
+-- a journey as it was begun, and the number of its begin
 pub record Begun : Type 0 where
   pub num : ℕ
   pub journey : Journey
 
--- what an event with this number began
+-- the journey that an event with this number began
 abbrev pub begun_of : ℕ → Event → Option Begun
 begun_of num (Began agent plan) =
     Some (record { num = num; journey = record { agent = agent; plan = plan } })
@@ -74,12 +74,12 @@ phase_number (Back target) = 1
 phase_number Ended = 2
 phase_number Undone = 3
 
--- where a journey goes back to, or 0 where it does not go back
+-- the target of a journey that goes back, else 0
 abbrev pub target_of : Phase → ℕ
 target_of (Back target) = target
 target_of _ = 0
 
--- where a journey is, as it is written
+-- a cursor as it is stored
 abbrev pub cursor_row : Cursor → CursorRow
 cursor_row c =
     record { pos = c.pos; phase = phase_number c.phase; target = target_of c.phase; used = c.used }
@@ -95,14 +95,14 @@ journey_row_of items id b = record {
   cursor = cursor_row (cursor_of b.journey.plan items);
 }
 
--- a row for each journey, by its number
+-- a row for each journey, in order of number
 abbrev pub journeys_called : List Event → List JourneyRow
 journeys_called l =
     map (λ (b : ℕ × Begun). journey_row_of (history l b.0) b.0 b.1) (counted_from 1 (begun l))
 
 -- Steps.
 
--- 1 for what is so, and 0 for what is not
+-- 1 for true, and 0 for false
 abbrev pub flag : Bool → ℕ
 flag true = 1
 flag false = 0
@@ -128,13 +128,13 @@ option_row id step is_marked option taken want = record {
   places = want.count;
 }
 
--- a row for each option of a step, by those that are taken
+-- a row for each option of a step; `taken` says which are taken
 abbrev pub option_rows : (ℕ → ℕ → Bool) → ℕ → ℕ → StepPlan → List StepRow
 option_rows taken id step s =
     map (λ (w : ℕ × Wanted). option_row id step s.is_marked w.0 (taken step w.0) w.1)
     (counted_from 1 s.options)
 
--- a row for each option of each step of a plan, by those that are taken
+-- a row for each option of each step of a plan; `taken` says which are taken
 abbrev pub step_rows : (ℕ → ℕ → Bool) → ℕ → Planned → List StepRow
 step_rows taken id plan =
     flat_map (λ (s : ℕ × StepPlan). option_rows taken id s.0 s.1) (counted_from 1 plan.steps)
@@ -147,7 +147,7 @@ none_taken step option = false
 abbrev pub step_rows_of : ℕ → Planned → List StepRow
 step_rows_of id plan = step_rows none_taken id plan
 
--- the rows of the plans of all journeys, by their numbers
+-- the rows of the plans of all journeys, in order of number
 abbrev pub steps_called : List Event → List StepRow
 steps_called l =
     flat_map (λ (a : ℕ × Journey). step_rows (is_standing (history l a.0)) a.0 a.1.plan)
@@ -155,13 +155,13 @@ steps_called l =
 
 -- Items.
 
--- the number of what made a journey turn
+-- the number of the cause of a turn
 abbrev pub cause_number : Cause → ℕ
 cause_number Stop = 0
 cause_number Refused = 1
 cause_number Asked = 2
 
--- the row of an item of a journey, by the number of its event
+-- the row of an item of a journey, with the number of its event
 abbrev pub entry_row_of : ℕ → ℕ → Item → EntryRow
 entry_row_of num journey (Transaction step option) =
     record { num = num; journey = journey; item = 0; a = step; b = option }
@@ -177,6 +177,6 @@ abbrev pub entry_row_if : ℕ → Event → Option EntryRow
 entry_row_if num (Did journey item) = Some (entry_row_of num journey item)
 entry_row_if num _ = None
 
--- a row for each item, by the number of its event
+-- a row for each item, in order of event
 abbrev pub entries_called : List Event → List EntryRow
 entries_called l = filter_map (λ (e : ℕ × Event). entry_row_if e.0 e.1) (counted_from 1 l)

@@ -1,4 +1,4 @@
--- What a connection keeps of a desk, and what a stop may leave of it.
+-- What a connection keeps of a desk, and what a crash may leave of it.
 use Rattle.std.specs.Prelude.{◌≡◌, ◌⊎◌, IsTrue}
 use Rattle.sqlite.specs.Tree.{Trees}
 use Rattle.sqlite.specs.Effect.{IsDatabase}
@@ -12,37 +12,37 @@ use Rattle.desk_sql.specs.Rows.{Tables, ShowsIn}
 use Rattle.ledger.specs.Answer.{State, start}
 use Rattle.sql_model.specs.Standing.{StandsIn}
 
--- the trees list the desk's schema of this version and obey it, and its tables stand for the state
+-- the trees list the desk's schema of this version and obey it, and its tables represent the state
 pub record MeansIn (v : Version) (db : Trees) (s : State) : Type 0 where
   pub of : IsDatabase (record { schema = schema_of v; trees = db })
   pub tables : Tables
   pub shown : ShowsIn v db tables
   pub stands : StandsIn v tables s
 
--- the same, of the newest version
+-- the same, for the newest version
 abbrev pub MeansDesk : Trees → State → Type 0
 MeansDesk db s = MeansIn Two db s
 
--- a store without tables stands for a new desk
+-- a store without tables represents a new desk
 pub record MeansNew (db : Trees) (s : State) : Type 0 where
   pub of : IsDatabase (record { schema = no_schema; trees = db })
   pub new : s ≡ start
 
--- what the trees of a database of this version stand for; a store without tables counts as one of the
--- newest, whose tables it gets
+-- the state that the trees of a database of this version represent; a store without tables counts as
+-- one of the newest version, whose tables it gets
 abbrev pub MeansOf : Version → Trees → State → Type 0
 MeansOf One db s = MeansIn One db s
 MeansOf Two db s = MeansIn Two db s ⊎ MeansNew db s
 
--- the same, of the newest version
+-- the same, for the newest version
 abbrev pub Means : Trees → State → Type 0
 Means db s = MeansOf Two db s
 
--- whatever a stop leaves stands for one of these two states
+-- whatever a crash leaves represents one of these two states
 abbrev pub Leaves : Connected → State → State → Type 0
 Leaves c s t = (db : Trees) → c.may_leave db → Means db s ⊎ Means db t
 
--- the connection sees the desk's tables of this version, committed, and these stand for the state
+-- the connection sees the desk's tables of this version, committed, and they represent the state
 pub record SeesOf (v : Version) (c : Connected) (s : State) : Type 0 where
   pub schema : c.now.schema ≡ schema_of v
   pub sound : IsDatabase c.now
@@ -51,17 +51,17 @@ pub record SeesOf (v : Version) (c : Connected) (s : State) : Type 0 where
   pub shown : ShowsIn v c.now.trees tables
   pub stands : StandsIn v tables s
 
--- the same, of the newest version
+-- the same, for the newest version
 abbrev pub SeesDesk : Connected → State → Type 0
 SeesDesk c s = SeesOf Two c s
 
--- as far as it is open the connection sees a desk of this version with this state, and a stop leaves
--- just that
+-- if it is open, the connection sees a desk of this version with this state, and a crash leaves just
+-- that state
 pub record IsKeptIn (v : Version) (c : Connected) (s : State) : Type 0 where
   pub sees : IsTrue c.is_open → SeesOf v c s
   pub leaves : (db : Trees) → c.may_leave db → MeansOf v db s
 
--- the same, of the newest version
+-- the same, for the newest version
 abbrev pub IsKept : Connected → State → Type 0
 IsKept c s = IsKeptIn Two c s
 
@@ -80,26 +80,26 @@ pub record SeesNew (c : Connected) (s : State) : Type 0 where
   pub new : s ≡ start
 
 -- the connection sees a desk of this version with this state; a store without tables counts as one of
--- the newest, whose tables it gets
+-- the newest version, whose tables it gets
 abbrev pub Sees : Version → Connected → State → Type 0
 Sees One c s = SeesOf One c s
 Sees Two c s = SeesOf Two c s ⊎ SeesNew c s
 
--- as far as it is open the connection sees a desk of this version with this state, or a store without
--- tables where the state is that of a new desk, and a stop leaves just that
+-- if it is open, the connection sees a desk of this version with this state, or a store without tables
+-- if the state is that of a new desk; a crash leaves just that state
 pub record IsFound (v : Version) (c : Connected) (s : State) : Type 0 where
   pub sees : IsTrue c.is_open → Sees v c s
   pub leaves : (db : Trees) → c.may_leave db → MeansOf v db s
 
--- as far as its disk is clean the connection showed this state, and a stop left just that
+-- if its disk is clean, the connection represents this state as found, and a crash leaves just that
 abbrev pub StoodFor : Version → Connected → State → Type 0
 StoodFor v c s = HasCleanDisk c → IsFound v c s
 
--- while the store returns what was written, what a stop leaves stands for one of these two states
+-- while the store returns what was written, what a crash leaves represents one of these two states
 abbrev pub MayLeave : Connected → State → State → Type 0
 MayLeave c s t = HasCleanDisk c → Leaves c s t
 
 module _ {S : Type 0} (g : Ghosts S) (old new : Held S) where
-  -- a store that returns what was written did so before
+  -- if the store returns what was written after the call, it did so before
   abbrev pub WasClean : Type 0
   WasClean = HasCleanDisk (state g new) → HasCleanDisk (state g old)

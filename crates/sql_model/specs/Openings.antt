@@ -1,4 +1,4 @@
--- What a connection that was just opened stands for.
+-- The state that a connection represents once it was opened.
 use Rattle.std.specs.Prelude.{◌≡◌}
 use Rattle.sqlite.specs.Tree.{Trees}
 use Rattle.sqlite.specs.Store.{Ghosts}
@@ -15,7 +15,7 @@ pub record IsOpenedOver (v : Version) (c : Connected) (s : State) : Type 0 where
   pub means : MeansOf v c.now.trees s
   pub only : (db : Trees) → c.may_leave db → db ≡ c.now.trees
 
--- then it stands for that state
+-- a connection that was opened over trees that mean a state represents that state
 abbrev pub StandsAsOpened : {S : Type 0} → Ghosts S → Held S → Type 0
 StandsAsOpened g c =
     (v : Version) (s : State) → (HasCleanDisk (state g c) → IsOpenedOver v (state g c) s)

@@ -1,6 +1,6 @@
--- What the rows of the tables stand for: a ledger with its kept replies.
--- Rows are taken as sets: of no table is the order of its rows looked at. The items stand in the table
--- that the version has for them; nothing is said of the table entry where it is not that one.
+-- The state that the rows of the tables represent: a ledger with its kept replies.
+-- Rows are taken as sets: the order of the rows in a table does not count. The items are in the table that
+-- the version has for them; if that is not the table entry, nothing is said of the table entry.
 use Rattle.std.specs.Prelude.{◌≡◌, ℕ, ◌==◌, ◌&&◌, Bool, false, List, [], ◌∷◌, find, bytes_eq, Option, option_map, IfSome, IsTrue}
 use Rattle.std.specs.List.{AllByRecursion, list_any}
 use Rattle.std.specs.List.Sorted.{IsPermutation}
@@ -24,7 +24,7 @@ AreApart same xs = IsAscending (λ x y. same x y ≡ false) xs
 
 -- Stock.
 
--- the row is the one of this cell
+-- the row is that of this cell
 abbrev pub is_stock_of : Cell → StockRow → Bool
 is_stock_of x r =
     (kind_number x.kind == r.kind) && bytes_eq x.supplier r.supplier && bytes_eq x.product r.product
@@ -36,11 +36,11 @@ is_same_stock r s =
     (r.kind == s.kind) && bytes_eq r.supplier s.supplier
     && bytes_eq r.product s.product && (r.night == s.night)
 
--- the places that a row of stock tells
+-- the places in a row of stock
 abbrev pub places_told : StockRow → Places
 places_told r = record { allot = r.allot; free = r.free }
 
--- what the rows have of a cell
+-- the places that the rows have for a cell
 abbrev pub stock_at : List StockRow → Cell → Option Places
 stock_at rows x = option_map places_told (find (is_stock_of x) rows)
 
@@ -56,7 +56,7 @@ pub record StockStands (l : List Event) (rows : List StockRow) : Type 0 where
 
 -- Save-points.
 
--- the row is the one of this journey and position
+-- the row is that of this journey and position
 abbrev pub is_mark_at : ℕ → ℕ → MarkRow → Bool
 is_mark_at journey pos m = (m.journey == journey) && (m.pos == pos)
 
@@ -76,20 +76,20 @@ pub record MarksStand (l : List Event) (rows : List MarkRow) : Type 0 where
 abbrev pub is_same_answer : AnswerRow → AnswerRow → Bool
 is_same_answer a b = is_for a.agent a.mark b
 
--- what is written of a kept reply: the text of its ask, and its line
+-- a kept reply as it is stored: the text of its ask, and its line
 pub record Written : Type 0 where
   pub ask : List ℕ
   pub reply : List ℕ
 
--- a kept reply as it is written
+-- the stored form of a kept reply
 abbrev pub as_written : KeptReply → Written
 as_written k = record { ask = k.text; reply = reply_line k.reply }
 
--- what a row of answer tells
+-- the kept reply in a row of answer
 abbrev pub answer_told : AnswerRow → Written
 answer_told a = record { ask = a.ask; reply = a.reply }
 
--- what the rows have under an agent and a key
+-- the kept reply that the rows have under an agent and a key
 abbrev pub answer_at : List AnswerRow → List ℕ → List ℕ → Option Written
 answer_at rows agent key = option_map answer_told (find (is_for agent key) rows)
 
@@ -99,13 +99,13 @@ pub record AnswersStand (kept : Kept) (rows : List AnswerRow) : Type 0 where
       → answer_at rows agent key ≡ option_map as_written (kept agent key)
   pub once : AreApart is_same_answer rows
 
--- each kept reply accepts what was asked, so that it can be read from its line
+-- each kept reply accepts its request, so that it can be read from its line
 abbrev pub IsKeepable : Kept → Type 0
 IsKeepable kept = (agent key : List ℕ) → IfSome (kept agent key) (λ k. IsTrue (is_accepted k.reply))
 
 -- The tables.
 
--- the rows of tables of this version are those that the ledger and the kept replies call for
+-- the rows of tables of this version are those expected of the ledger and the kept replies
 pub record StandsIn (v : Version) (t : Tables) (s : State) : Type 0 where
   pub meta : t.meta ≡ meta_in v s.ledger ∷ []
   pub stock : StockStands s.ledger t.stock
@@ -116,7 +116,7 @@ pub record StandsIn (v : Version) (t : Tables) (s : State) : Type 0 where
   pub entries : IsPermutation (entries_called s.ledger) t.entries
   pub mark : MarksStand s.ledger t.mark
 
--- the same, of tables of the newest version
+-- the same, for tables of the newest version
 abbrev pub StandsFor : Tables → State → Type 0
 StandsFor t s = StandsIn Two t s
 

@@ -1,10 +1,11 @@
-//! What the tables of a database stand for: a ledger with its kept replies.
+//! The state that the tables of a database represent: a ledger with its kept replies.
 //!
-//! The definitions say which rows a ledger calls for, as sets: of no table is the order of the rows looked at, nor
-//! their rowids. The lemmas say what one event adds to the rows, and what rows that were found show of the ledger.
-//! The crates that read and write the tables cite its definitions. There is no code in this crate but the laws.
+//! The definitions give the rows that are expected of a ledger, as sets: neither the order of the rows nor their rowids
+//! count. The lemmas say what one event adds to the rows, and what found rows imply for the ledger. The crates that
+//! read and write the tables cite the definitions. The only code in this crate is its laws.
 //!
-//! Words: the tables *stand for* a state where their rows are those that its ledger and kept replies *call for*.
+//! Words: the tables *represent* a state (`StandsFor`) if their rows are those *expected* of its ledger and kept
+//! replies.
 #![tactic(auto)]
 
 mod laws;

@@ -1,4 +1,4 @@
--- How a journey goes on with its items, read off a legal ledger. For the items that are handed out.
+-- The continuation of a journey by its items, in a legal ledger. For the items that are read one at a time.
 use Rattle.std.proofs.Common.{◌≡◌, ℕ, ◌-◌, ◌==◌, ◌&&◌, List, [], ◌∷◌, ◌++◌, length, Option, Some, None, true, false, refl, sym, ap, ◌∙◌, arith, length-append}
 use Rattle.commands.specs.declared.items.Cause.{Cause}
 use Rattle.commands.specs.declared.items.Item.{Item}
@@ -30,14 +30,14 @@ goes_there steps pos x later it = go (journey_at it.ledger it.id) refl
       on = goes_on it.ledger it.legal it.id a at it.before x later it.whole;
     }
 
--- where it is finished with the item it does not go on
+-- a journey that an item finishes does not go on
 pub goes_no_further : (steps pos : ℕ) (x : Item) (later : List Item) → TellsFinished steps pos x true
     → GoesOnWith steps pos (x ∷ later) → later ≡ []
 goes_no_further steps pos x later finished it =
     let there = goes_there steps pos x later it in
     none_later there.journey.plan it.before later x there.on (sym (finished later it there.journey there.at))
 
--- Where each item brings a journey.
+-- The position after each item.
 
 pub brings-transaction : (pos i c : ℕ) → BringsTo pos (Transaction i c) i
 brings-transaction pos i c steps later it =
@@ -55,7 +55,7 @@ brings-turn pos p cause steps later it = sym (position_of-turn it.before p cause
 pub brings-save : (pos p : ℕ) → BringsTo pos (Save p) pos
 brings-save pos p steps later it = sym (position_of-save it.before p ∙ it.stands)
 
--- With which items it is finished.
+-- The items that finish a journey.
 
 pub tells-transaction : (steps pos i c : ℕ) → TellsFinished steps pos (Transaction i c) (i == steps)
 tells-transaction steps pos i c later it a at =

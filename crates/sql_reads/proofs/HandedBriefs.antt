@@ -26,7 +26,7 @@ use Rattle.sql_reads.specs.Reading.{TellsBrief}
 use Rattle.sql_reads.specs.RemainingRows.{Short, short_of, short_told, TellBriefs}
 use Rattle.sql_reads.proofs.ReadJourneys.{brief_told}
 
--- a journey with its number, in short
+-- the brief of a journey with its number
 abbrev brief_in : List Event → ℕ × Begun → Brief
 brief_in l b = brief_of_journey b.0 (history l b.0) b.1.journey
 
@@ -40,7 +40,7 @@ briefs_from l n (b ∷ bs) at =
     ∙ ap (λ more. brief_in l (n, b) ∷ more)
     (briefs_from l (suc n) bs (λ i x e. ap (journey_at l) (let k : suc n + i ≡ n + suc i = omega arith in k) ∙ at (suc i) x e))
 
--- the journeys in short are those that were begun
+-- the briefs are those of the journeys that were begun
 briefs : (l : List Event) → filter_map (brief_of l) (numbers l) ≡ map (brief_in l) (counted_from 1 (begun l))
 briefs l =
     ap (λ n. filter_map (brief_of l) (numbers_from 1 n)) (sym (length-begun l))
@@ -62,7 +62,7 @@ kept_alike true false r b rs bs e one more = cc
 kept_alike false true r b rs bs e one more = cc
 kept_alike false false r b rs bs e one more = more
 
--- the rows of the unfinished journeys tell them
+-- the rows of the unfinished journeys are those of their briefs
 told_from : (l : List Event) (n : ℕ) (bs : List Begun)
     → map short_of (filter (is_unfinished_after 0) (map (row_in l) (counted_from (suc n) bs)))
     ≡ map short_told (filter goes_on (map (brief_in l) (counted_from (suc n) bs)))
@@ -74,7 +74,7 @@ told_from l n (b ∷ bs) =
     (filter (is_unfinished_after 0) (map (row_in l) (counted_from (suc (suc n)) bs))) (filter goes_on (map (brief_in l) (counted_from (suc (suc n)) bs)))
     (ap (λ v. v && nat_le (phase_number p) 1) above ∙ unfinished_phase p) refl (told_from l (suc n) bs)
 
--- the rows of the journeys that are not finished
+-- the rows of the unfinished journeys
 abbrev pub all_unfinished : Tables → List JourneyRow
 all_unfinished t = filter (is_unfinished_after 0) t.journey
 
@@ -91,7 +91,7 @@ unfinished_told l t shown same rise is =
     ap (λ js. map short_of (filter (is_unfinished_after 0) js)) (one_order (λ (j : JourneyRow). j.id) (journeys_called l) t.journey same (called_rises l) rise)
     ∙ told_from l 0 (begun l) ∙ ap (λ bs. map short_told (filter goes_on bs)) (sym (briefs l)) ∙ ap (map short_told) (sym is)
 
--- a row that tells a journey in short tells no other
+-- the row of a brief is that of no other brief
 pub brief_same : (r : JourneyFound) (b z : Brief) → TellsBrief r b → short_of (journey_of r) ≡ short_told z → b ≡ z
 brief_same r b z tells e =
     let same : Some b ≡ Some z = brief_told (Some z) r b (record {

@@ -1,4 +1,4 @@
--- The next item of a journey, and what is then left. For `history_rows`.
+-- The next item of a journey, and the items that then remain. For `history_rows`.
 use Rattle.std.proofs.Common.{◌≡◌, ℕ, List, [], ◌∷◌, ◌++◌, drop, Bool, true, false, Option, None, Some, refl, sym, ap, subst, ◌∙◌, append_assoc}
 use Rattle.sqlite.specs.Store.{Ghosts}
 use Rattle.sqlite.specs.Held.{Held, state}
@@ -20,15 +20,15 @@ use Rattle.sql_reads.specs.declared.item_search.Sought.{Sought}
 use Rattle.sql_reads.proofs.GoingOn.{goes_no_further}
 
 module _ {S : Type 0} (g : Ghosts S) (tables : Version) (old new : Held S) (w : Sought) (pos : ℕ) where
-  -- what is left where it is not finished
+  -- the items that remain of a journey that is not finished
   open_left : (was : Bool) (items : List Item) → was ≡ false → ItemsLeft g tables old w pos was items → AreBehind g tables old w pos items
   open_left was items e left = subst (λ v. ItemsLeft g tables old w pos v items) e left
 
-  -- the row that is found, or that none is, of each desk that the connection keeps
+  -- the result of a search, in each desk that the connection keeps
   abbrev pub IsNextFound : Option ItemFound → Type 0
   IsNextFound o = (s : State) → IsDesk s → KeepsIn tables (state g old) s → IsNextOf w s o
 
-  -- the row tells the first item of those that were left; where it finishes the journey none is left after it
+  -- the row is that of the first remaining item; if the item finishes the journey, none remains after it
   pub item_first : (v : Sought) (after : ℕ) (was finished : Bool) (i : ItemFound) (x : Item)
       → v.journey ≡ w.journey → v.after ≡ i.num → v.steps ≡ w.steps → KeepsEach g old new
       → IsNextFound (Some i) → Some x ≡ item_in (item_of 0 i)
@@ -82,7 +82,7 @@ module _ {S : Type 0} (g : Ghosts S) (tables : Version) (old new : Held S) (w : 
           let behind : later ≡ history (drop i.num left.desk.ledger) w.journey = cc in
           (ap Some (sym same), (refl, further finished y same tells later left (sym behind)))
 
-  -- where no row comes, none was left
+  -- if there is no row, no item remains
   pub item_none : (was : Bool) → KeepsEach g old new → IsNextFound None → was ≡ false
       → (failed : Bool) (xs : List Item) → (failed ≡ false) × ItemsLeft g tables old w pos was xs
       → HandsFirst (λ zs. (false ≡ false) × ItemsLeft g tables new w pos was zs) None xs
@@ -110,7 +110,7 @@ module _ {S : Type 0} (g : Ghosts S) (tables : Version) (old new : Held S) (w : 
       )
       go (y ∷ later) left e = cc
 
--- of a finished journey none is left
+-- of a finished journey no item remains
 pub none_left : {S : Type 0} (g : Ghosts S) (tables : Version) (h : Held S) (w : Sought) (pos : ℕ) (was : Bool) → was ≡ true
     → (failed : Bool) (xs : List Item) → (failed ≡ false) × ItemsLeft g tables h w pos was xs
     → HandsFirst (λ zs. (failed ≡ false) × ItemsLeft g tables h w pos was zs) None xs

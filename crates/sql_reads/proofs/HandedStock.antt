@@ -1,4 +1,4 @@
--- The rows of the stock, in their one order. For `cell_rows`.
+-- The rows of the stock, in their only order. For `cell_rows`.
 use Rattle.std.proofs.Common.{◌≡◌, inl, inr, ℕ, ◌≤◌, List, [], ◌∷◌, map, find, Bool, true, false, Option, Some, None, refl, sym, ap, ap₂, subst, ◌∙◌, eqb-true, eq-eqb}
 use Rattle.std.specs.Prelude.{option_map}
 use Rattle.std.specs.Ordering.{is_lt, ordering_reverse}
@@ -47,13 +47,13 @@ not_before r e = go (stock_cmp r r) (stock_total.antisymm r r) e
     go Equal f g = cc
     go Greater f g = cc
 
--- a row is of one cell with itself
+-- a row is of the same cell as itself
 same_self : (r : StockRow) → is_same_stock r r ≡ true
 same_self r =
     and_from _ _ (and_from _ _ (and_from _ _ (eq-eqb r.kind r.kind refl) ((bytes_eq-Decides r.supplier r.supplier).1 refl)) ((bytes_eq-Decides r.product r.product).1 refl))
     (eq-eqb r.night r.night refl)
 
--- a list in which none is before an earlier one is the one in which each is before all later ones
+-- a list in which no element is before an earlier one is the list in which each is before all later ones
 one_order : (xs ys : List StockRow) → IsAscending IsByCell xs → AreApart is_same_stock xs
     → IsAscending (λ (r s : StockRow). is_lt (stock_cmp r s) ≡ true) ys
     → ((r : StockRow) → Has xs r → Has ys r) → ((r : StockRow) → Has ys r → Has xs r) → xs ≡ ys
@@ -80,7 +80,7 @@ one_order (x ∷ xs) (y ∷ ys) up apart strict a b =
     again : (r : StockRow) → Has ys r → r ≡ y → ⊥
     again r h e = not_before y (ap (λ s. is_lt (stock_cmp y s)) (sym e) ∙ all_has _ ys r strict.0 h)
 
--- a row of this cell with these places is that of both
+-- a row of this cell with these places is the row that both give
 row_is : (x : Cell) (h : Held) (r : StockRow) → is_stock_of x r ≡ true → places_said h ≡ places_told r → stock_row_of (x, h) ≡ r
 row_is x h r on places =
     let three = and_parts _ _ on in
@@ -104,7 +104,7 @@ in_order_strict (c ∷ cells) e = let both = and_parts _ _ e in (below cells (λ
     below [] each = tt
     below (d ∷ ds) each = (each d (inl refl), below ds (λ x h. each x (inr h)))
 
--- in order each cell stands once
+-- a list in order has each cell once
 one_of_cell : (cells : List (Cell × Held)) → are_in_order cells ≡ true → (c d : Cell × Held) → Has cells c → Has cells d → c.0 ≡ d.0 → c ≡ d
 one_of_cell [] order c d h k e = absurd h
 one_of_cell (x ∷ cells) order c d (inl p) (inl q) e = p ∙ sym q
@@ -116,13 +116,13 @@ one_of_cell (x ∷ cells) order c d (inr h) (inl q) e =
     ∙ test_has (λ (y : Cell × Held). is_lt (cell_cmp x.0 y.0)) cells c (and_parts _ _ order).0 h))
 one_of_cell (x ∷ cells) order c d (inr h) (inr k) e = one_of_cell cells (and_parts _ _ order).1 c d h k e
 
--- a cell is itself
+-- the test of a cell is reflexive
 self_cell : (x : Cell) → is_cell x x ≡ true
 self_cell x =
     and_from _ _ (and_from _ _ (and_from _ _ (eq-eqb (kind_number x.kind) (kind_number x.kind) refl) ((bytes_eq-Decides x.supplier x.supplier).1 refl)) ((bytes_eq-Decides x.product x.product).1 refl))
     (eq-eqb x.night x.night refl)
 
--- what the list has of a cell stands in it
+-- the places that the list has of a cell are those of one of its elements
 listed_there : (cells : List (Cell × Held)) (x : Cell) (p : Places) → places_at cells x ≡ Some p
     → (h : Held) × Has cells (x, h) × (places_said h ≡ p)
 listed_there cells x p e = go (find (λ (c : Cell × Held). is_cell x c.0) cells) refl
@@ -135,7 +135,7 @@ listed_there cells x p e = go (find (λ (c : Cell × Held). is_cell x c.0) cells
         let cell : x ≡ c.0 = is_cell-same x c.0 there.1 in
         (c.1, subst (λ (y : Cell). Has cells (y, c.1)) (sym cell) there.0, (let s : places_said c.1 ≡ p = cc in s))
 
--- and what stands in it, in order, is what the list has
+-- the places of each element are those that a list in order has of its cell
 there_listed : (cells : List (Cell × Held)) → are_in_order cells ≡ true → (c : Cell × Held) → Has cells c
     → places_at cells c.0 ≡ Some (places_said c.1)
 there_listed cells order c h = go (find (λ (d : Cell × Held). is_cell c.0 d.0) cells) refl
@@ -179,7 +179,7 @@ module _ (l : List Event) (stock : List StockRow) (stand : StockStands l stock) 
 held_made : (a f : ℕ) → f ≤ a → a ≤ most_places → Held
 held_made a f within bounded = record { allot = a; free = f; within = within; bounded = bounded }
 
--- the same numbers are the same places
+-- places with the same numbers are equal
 held_same : (h k : Held) → h.allot ≡ k.allot → h.free ≡ k.free → h ≡ k
 unfolding held_made
 held_same h k allot free =
@@ -188,7 +188,7 @@ held_same h k allot free =
     (λ w b. ap₂ (λ u v. held_made k.allot k.free u v) (le_prop w k.within) (le_prop b k.bounded)))
     h.within h.bounded
 
--- a row tells one cell with its places
+-- a row determines its cell and its places
 pub cell_same : (c d : Cell × Held) → stock_row_of c ≡ stock_row_of d → c ≡ d
 cell_same c d e =
     let kind : kind_number c.0.kind ≡ kind_number d.0.kind = ap (λ (r : StockRow). r.kind) e in
@@ -199,7 +199,7 @@ cell_same c d e =
     ap (λ x. (x, c.1)) cell ∙ ap (λ h. (d.0, h)) places
 
 module _ (Before After : List StockRow → Type 0) where
-  -- the first row tells the first cell of those to come
+  -- the first row is that of the first remaining cell
   pub cell_first : (r : StockRow) (c : Cell × Held) → stock_row_of c ≡ r → HandsRows Before After (Some r) → (failed : Bool)
       → (cells : List (Cell × Held)) → (failed ≡ false) × Before (map stock_row_of cells)
       → HandsFirst (λ ds. (false ≡ false) × After (map stock_row_of ds)) (Some c) cells

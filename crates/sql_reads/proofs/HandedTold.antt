@@ -1,4 +1,4 @@
--- Rows that are handed out tell the desk's own. For the sources of rows.
+-- The rows that are read are those of the desk's own values. For the sources of rows.
 use Rattle.std.proofs.Common.{◌≡◌, List, [], ◌∷◌, map, Bool, false, Some, None, refl, ap, ◌∙◌}
 use Rattle.sqlite.specs.Store.{Ghosts}
 use Rattle.sqlite.specs.Held.{Held, state}
@@ -15,7 +15,7 @@ use Rattle.sql_model.proofs.KeepLemmas.{seen_by, quiet_keeps}
 use Rattle.sql_reads.specs.RemainingRows.{IsLeftAsItWas}
 use Rattle.sql_reads.proofs.ReadLemmas.{was_clean, as_before}
 
--- what handed out a row, or failed to, kept what the connection kept
+-- a call that returned a row, or failed, kept what the connection kept
 pub left_by : {S : Type 0} (g : Ghosts S) (old new : Held S) → ChangesNothing g old new → LeavesNoMore g old new
     → (old.in_transaction ≡ false → new.in_transaction ≡ false) → IsLeftAsItWas g old new
 left_by g old new same survives outside = record {
@@ -27,7 +27,7 @@ left_by g old new same survives outside = record {
   outside = outside;
 }
 
--- the tables that a connection had which keeps a state, seen from what it has become
+-- the tables of a connection that keeps a state, seen from what the connection has become
 pub record IsThere (v : Version) {S : Type 0} (g : Ghosts S) (h : Held S) (s : State) : Type 0 where
   pub tables : Tables
   pub may : MaySeeIn v (state g h) tables
@@ -41,12 +41,12 @@ there_at g old new s keeps same survives clean =
     let live = (same clean).0.was_open in
     record { tables = seen.tables; may = seen.may; rows = (seen.may live).rows; stands = seen.stands live }
 
--- what rows tell, where each row has a word for it and what it tells has one too
+-- the values of the remaining rows, where a row and its value have a common form
 abbrev pub Told : {X Y K : Type 0} → (Y → K) → (X → K) → (List Y → Type 0) → List X → Type 0
 Told {X} {Y} seen written Rests xs = (ys : List Y) × Rests ys × (map seen ys ≡ map written xs)
 
 module _ {X Y K : Type 0} (seen : Y → K) (written : X → K) (Before After : List Y → Type 0) where
-  -- the first row tells the first of those to come
+  -- the first row is that of the first remaining value
   pub told_first : (y : Y) (x : X) → HandsRows Before After (Some y) → ((z : X) → seen y ≡ written z → x ≡ z)
       → (failed : Bool) → (xs : List X) → (failed ≡ false) × Told seen written Before xs
       → HandsFirst (λ zs. (false ≡ false) × Told seen written After zs) (Some x) xs
@@ -63,7 +63,7 @@ module _ {X Y K : Type 0} (seen : Y → K) (written : X → K) (Before After : L
           let others : map seen ys ≡ map written xs = cc in
           (ap Some (same w (ap seen is ∙ first)), (refl, (ys, h.1, others)))
 
-  -- where no row comes, none was to come
+  -- if there is no row, no value remains
   pub told_none : HandsRows Before After None → (failed : Bool) → (xs : List X) → (failed ≡ false) × Told seen written Before xs
       → HandsFirst (λ zs. (false ≡ false) × Told seen written After zs) None xs
   told_none hands failed xs rests = go xs rests.1.0 rests.1.2 (hands rests.1.0 rests.1.1)

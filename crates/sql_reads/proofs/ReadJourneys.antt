@@ -1,4 +1,4 @@
--- What the rows of journeys tell. For the functions of `sql_reads`.
+-- What the rows of journeys give. For the functions of `sql_reads`.
 use Rattle.std.proofs.Common.{◌≡◌, ℕ, zero, suc, ◌≤◌, ◌<◌, List, [], ◌∷◌, map, find, cond, length, Option, Some, None, Bool, true, false, refl, sym, ap, ap₂, subst, ◌∙◌, arith}
 use Rattle.std.specs.Prelude.{option_map, filter_map, nat_lt, not}
 use Rattle.std.proofs.lemmas.Bool.{and_parts, and_from, ltb-true, lt-ltb}
@@ -38,12 +38,12 @@ brief_one r b c is tells =
     let same : b.cursor ≡ c.cursor = cc in
     ap (λ n. made_brief n b.agent b.cursor) (tells.id ∙ is.id) ∙ ap (λ a. made_brief c.id a b.cursor) (tells.agent ∙ is.agent) ∙ ap (made_brief c.id c.agent) same
 
--- the journey that a row tells in short is the one that is shown
+-- the brief that a row gives is the one in the ledger
 pub brief_told : (shown : Option Brief) (r : JourneyFound) (b : Brief) → Tells IsBriefOf (Some (journey_of r)) shown → TellsBrief r b → Some b ≡ shown
 brief_told None r b is tells = absurd is
 brief_told (Some c) r b is tells = ap Some (brief_one r b c is tells)
 
--- where no row is found nothing is shown
+-- if no row is found, the ledger has no brief
 pub none_told : (shown : Option Brief) → Tells IsBriefOf None shown → None ≡ shown
 none_told None is = refl
 none_told (Some c) is = absurd is
@@ -58,7 +58,7 @@ find_fewer {X} p q (x ∷ xs) fewer none = go (p x) refl (q x) refl (find_fewer 
     go false ep false eq rest =
         ap (λ v. cond v (Some x) (find q xs)) eq ∙ rest (sym (ap (λ v. cond v (Some x) (find p xs)) ep) ∙ none)
 
--- where no journey above a number is unfinished, none is above a greater one
+-- if no journey above a number is unfinished, none is above a greater number
 pub none_above : (l : List Event) (low high : ℕ) → low ≤ high → first_unfinished l low ≡ None → first_unfinished l high ≡ None
 none_above l low high above none =
     find_fewer (is_unfinished_above low) (is_unfinished_above high) (filter_map (brief_of l) (numbers l)) fewer none
@@ -69,12 +69,12 @@ none_above l low high above none =
         let more : high < b.id = ltb-true high b.id parts.0 in
         and_from _ _ (lt-ltb low b.id (omega arith)) parts.1
 
--- no journey has a number above how many there are
+-- no journey has a number above the number of journeys
 pub journey_past : (l : List Event) (id : ℕ) → length (journeys l) < id → journey_at l id ≡ None
 journey_past l zero low = absurd (omega arith)
 journey_past l (suc i) low = slice_get_past (journeys l) i (omega arith)
 
--- two lists are the same where each element is there on both sides
+-- two lists are equal if their elements are, each in `Some`
 pub some_one : {X : Type 0} (xs ys : List X) → map Some xs ≡ map Some ys → xs ≡ ys
 some_one [] [] e = refl
 some_one [] (y ∷ ys) e = cc
@@ -85,7 +85,7 @@ some_one {X} (x ∷ xs) (y ∷ ys) e =
     let tail : map Some xs ≡ map Some ys = cc in
     ap₂ ◌∷◌ head (some_one xs ys tail)
 
--- where no row is found there is no journey to show
+-- if no row is found, there is no record
 pub record_none : (l : List Event) (id : ℕ) → Tells (λ (r : JourneyRow) a. (r.id ≡ id) × IsJourneyOf l r a) None (journey_at l id) → None ≡ record_of l id
 record_none l id = go (journey_at l id)
   where
@@ -93,7 +93,7 @@ record_none l id = go (journey_at l id)
     go None t = refl
     go (Some a) t = absurd t
 
--- a journey that a row tells
+-- the journey of a row
 pub record JourneyThere (l : List Event) (id : ℕ) (r : JourneyRow) : Type 0 where
   pub journey : Journey
   pub at : journey_at l id ≡ Some journey
@@ -107,7 +107,7 @@ journey_there l id r = go (journey_at l id) refl
     go None e t = absurd t
     go (Some a) e t = record { journey = a; at = e; same = t.0; is = t.1 }
 
--- a journey that is put together from its row, its plan and its save-points is the one that is shown
+-- the record built of a journey's row, plan and save-points is the one in the ledger
 pub record_shown : (l : List Event) (id : ℕ) (r : JourneyFound) (plan : Planned) (marks : set.FinSet nat_cmp) (b : Record)
     → Tells (λ (x : JourneyRow) a. (x.id ≡ id) × IsJourneyOf l x a) (Some (journey_of r)) (journey_at l id)
     → ((a : Journey) → journey_at l id ≡ Some a → r.tries ≡ a.plan.tries → plan ≡ a.plan) → marks ≡ marks_of (history l id) → TellsRecord r plan marks b
@@ -122,7 +122,7 @@ record_shown l id r plan marks b told planned marked tells =
     ∙ record_told l (journey_of r) a b (ap (journey_at l) number ∙ there.at) there.is tells.agent
     (tells.same_plan ∙ planned a there.at there.is.tries) (ap cursor_row same_cursor ∙ sym there.is.cursor) (tells.same_marks ∙ marked ∙ ap (λ n. marks_of (history l n)) (sym number)))
 
--- where a journey is by its row is where it is shown to be
+-- the agent, steps and cursor in a row are those of the record
 pub stand_shown : (l : List Event) (id : ℕ) (r : JourneyFound) (b : Stand)
     → Tells (λ (x : JourneyRow) a. (x.id ≡ id) × IsJourneyOf l x a) (Some (journey_of r)) (journey_at l id)
     → TellsStand r b → Some b ≡ option_map stand_of (record_of l id)
@@ -140,19 +140,19 @@ stand_shown l id r b told tells =
     made : List ℕ → ℕ → Cursor → Stand
     made agent steps cursor = record { agent = agent; steps = steps; cursor = cursor }
 
--- where no row is found there is no journey that is anywhere
+-- if no row is found, there is no agent, steps or cursor
 pub stand_none : (l : List Event) (id : ℕ) → Tells (λ (r : JourneyRow) a. (r.id ≡ id) × IsJourneyOf l r a) None (journey_at l id)
     → None ≡ option_map stand_of (record_of l id)
 stand_none l id told = ap (option_map stand_of) (record_none l id told)
 
--- in tables of the first version no save-point stands that was taken
+-- in tables of version 1 there is no save-point that was taken
 pub none_taken : {v : Version} (db : Trees) (t : Tables) (s : State) → v ≡ One → ShowsIn v db t → StandsIn v t s → (id p : ℕ)
     → is_taken (history s.ledger id) p ≡ false
 none_taken db t s first shown stands id p =
     let none : t.mark ≡ [] = subst (λ v. ShowsMarks v db t.mark) first shown.mark in
     sym (stands.mark.each id p) ∙ ap (list_any (is_mark_at id p)) none
 
--- so the save-points of a journey are what is read of them, in tables of either version
+-- the save-points read of a journey are those that stand, in tables of either version
 pub marks_either : (v : Version) (db : Trees) (t : Tables) (s : State) → ShowsIn v db t → StandsIn v t s → (id : ℕ) (marks : set.FinSet nat_cmp)
     → (v ≡ One → IsNone marks) → (v ≡ Two → AreMarksAt id s marks) → AreMarksAt id s marks
 marks_either One db t s shown stands id marks first second =

@@ -15,11 +15,11 @@ use Rattle.sql_reads.specs.Reading.{KeepsOn, KeepsEach, LeavesAsBefore, WasClean
 use Rattle.sql_model.proofs.KeepLemmas.{seen_by, left_before, quiet_keeps}
 
 module _ {S : Type 0} (g : Ghosts S) (old new : Held S) where
-  -- a store that returns what was written did so before
+  -- a store that returns what was written after the read did so before
   pub was_clean : LeavesNoMore g old new → WasClean g old new
   was_clean survives clean = omega (arith, survives.clean)
 
-  -- a stop leaves nothing that it could not have left before
+  -- a crash leaves nothing that it could not have left before
   pub as_before : LeavesNoMore g old new → LeavesAsBefore g old new
   as_before survives = left_before (state g old) (state g new) survives
 
@@ -36,14 +36,14 @@ module _ {S : Type 0} (g : Ghosts S) (old new : Held S) where
   only_reads quiet survives =
       record { keeps = keeps_each quiet survives; stop = as_before survives; less = was_clean survives }
 
-  -- what was found, of tables of this version that stand for the state
+  -- what was found in tables of this version that represent the state
   pub record HasFound (v : Version) {V : Type 0} (s : State) (Finds : Tables → V → Type 0) (it : V) : Type 0 where
     pub tables : Tables
     pub rows : ShowsIn v (state g old).now.trees tables
     pub stands : StandsIn v tables s
     pub found : Finds tables it
 
-  -- a success found what the tables of each kept state have
+  -- a successful read found what the tables of each kept state have
   pub has_found : {v : Version} {V : Type 0} (found : V) (Finds : Tables → V → Type 0) → ReadsIn g old new v (Ok found) Finds
       → LeavesNoMore g old new → HasCleanDisk (state g new) → (s : State) → KeepsIn v (state g old) s → HasFound v s Finds found
   has_found found Finds reads survives clean s keeps =
@@ -53,7 +53,7 @@ module _ {S : Type 0} (g : Ghosts S) (old new : Held S) where
       let live = done.0.0.was_open in
       record { tables = seen.tables; rows = (seen.may live).rows; stands = seen.stands live; found = done.1 }
 
--- One read after another.
+-- Two consecutive reads.
 
 module _ {S : Type 0} (g : Ghosts S) (old mid new : Held S) where
   pub reads_then : OnlyReads g old mid → OnlyReads g mid new → OnlyReads g old new
@@ -63,12 +63,12 @@ module _ {S : Type 0} (g : Ghosts S) (old mid new : Held S) where
     less = λ clean. one.less (two.less clean);
   }
 
--- what follows from what holds of a success holds of it
+-- the postcondition of a success may be replaced by a weaker one
 pub also_ok : {V E : Type 0} (r : Result V E) (P Q : V → Type 0) → ((v : V) → P v → Q v) → IfOk r P → IfOk r Q
 also_ok (Ok v) P Q f p = f v p
 also_ok (Err e) P Q f p = tt
 
--- the same, of three facts
+-- the same, for three postconditions
 pub both_ok : {V E : Type 0} (r : Result V E) (P Q R T : V → Type 0) → ((v : V) → P v → Q v → R v → T v) → IfOk r P → IfOk r Q → IfOk r R → IfOk r T
 both_ok (Ok v) P Q R T f p q x = f v p q x
 both_ok (Err e) P Q R T f p q x = tt

@@ -1,4 +1,4 @@
--- Rows that are those of a plan, one after another. For the functions of `plans_told`.
+-- Consecutive rows that are those of a plan. For the functions of `plan_rows`.
 use Rattle.std.proofs.Common.{◌≡◌, ℕ, Bool, ◌+◌, ◌<◌, ◌≤◌, List, [], ◌∷◌, ◌++◌, map, take, length, get_or, refl, sym, ap, ◌∙◌, arith, append_assoc}
 use Rattle.std.proofs.lemmas.List.{map-append, take_more}
 use Rattle.allotment.specs.Cells.{kind_number}
@@ -20,7 +20,7 @@ take-whole : {X : Type 0} (xs : List X) → take (length xs) xs ≡ xs
 take-whole [] = refl
 take-whole (x ∷ xs) = ap (λ ys. x ∷ ys) (take-whole xs)
 
--- the rows of a list and of what comes behind it
+-- the rows of a list and of its suffix
 first_rows-append : (id : ℕ) (xs ys : List StepFound) → first_rows id (xs ++ ys) ≡ first_rows id xs ++ first_rows id ys
 first_rows-append id xs ys = ap (map not_taken) (map-append (step_of id) xs ys) ∙ map-append not_taken (map (step_of id) xs) (map (step_of id) ys)
 
@@ -38,7 +38,7 @@ option_more rows from n plan i row inside there low tells told id =
     ∙ ap (λ ys. first_rows id (take from rows) ++ ys)
     (ap (λ ys. first_rows_of_step id plan i n ++ ys) (sym (tells id)) ∙ sym (first_rows_of_step-more id plan i n low))
 
--- with its last option a step is told
+-- the rows up to the last option are those of the step
 pub step_whole : (rows : List StepFound) (from n : ℕ) (plan : Planned) (i : ℕ) → n ≡ option_count plan i → from + n ≤ length rows
     → ((id : ℕ) → first_rows id (take (from + n) rows) ≡ first_rows id (take from rows) ++ first_rows_of_step id plan i n)
     → TellStep rows from plan i (from + n)
@@ -54,13 +54,13 @@ pub step_more : (rows : List StepFound) (from to : ℕ) (plan : Planned) (n : �
 step_more rows from to plan n low step told id =
     step.told id ∙ ap (λ ys. ys ++ rows_of_step id plan (n + 1)) (told id) ∙ sym (step_rows_of-more id plan n low)
 
--- with its last step the plan is told, where no row is left
+-- the rows up to the last step are those of the plan, if no row is left
 pub plan_whole : (rows : List StepFound) (count n : ℕ) (plan : Planned) → n ≡ step_count plan → count ≡ length rows
     → ((id : ℕ) → first_rows id (take count rows) ≡ step_rows_of id (first_steps n plan)) → TellPlan rows plan
 plan_whole rows count n plan all whole told id =
     sym (ap (first_rows id) (sym (ap (λ k. take k rows) whole ∙ take-whole rows)) ∙ told id ∙ ap (λ k. step_rows_of id (first_steps k plan)) all ∙ step_rows-all none_taken id plan)
 
--- the want that a row tells is that of the option whose row it is
+-- the want in a row is that of the option whose row it is
 pub want_one : (id k o : ℕ) (m t : Bool) (row : StepFound) (w v : Wanted) → TellsWant row w → step_of id row ≡ option_row id k m o t v → w ≡ v
 want_one id k o m t row w v tells e =
     let kind : kind_number w.kind ≡ kind_number v.kind = sym tells.kind ∙ ap (λ (r : StepRow). r.kind) e in

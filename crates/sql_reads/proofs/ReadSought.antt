@@ -1,4 +1,4 @@
--- Where the items of a journey are sought. For the reads of its items.
+-- Where the search for the items of a journey starts. For the reads of its items.
 use Rattle.std.proofs.Common.{◌≡◌, ℕ, List, [], ◌∷◌, ◌++◌, take, drop, Option, None, Some, refl, sym, ap, ◌∙◌, arith}
 use Rattle.std.specs.Prelude.{option_map}
 use Rattle.std.proofs.lemmas.List.{take-append-drop}
@@ -25,19 +25,19 @@ first_none : (xs ys : List Item) → xs ++ ys ≡ [] → xs ≡ []
 first_none [] ys e = refl
 first_none (x ∷ xs) ys e = cc
 
--- a journey without items has none among the first events
+-- a journey without items has no item in any prefix of the ledger
 none_first : (l : List Event) (j n : ℕ) → history l j ≡ [] → history (take n l) j ≡ []
 none_first l j n none =
     first_none (history (take n l) j) (history (drop n l) j)
     (sym (filter_map-append (item_of j) (take n l) (drop n l)) ∙ ap (λ es. history es j) (take-append-drop n l) ∙ none)
 
--- where none is among the first events, all are behind them
+-- if the first events have no item of a journey, all of its items come after them
 pub all_behind : (l : List Event) (j n : ℕ) → history (take n l) j ≡ [] → history (drop n l) j ≡ history l j
 all_behind l j n none =
     ap (λ front. front ++ history (drop n l) j) (sym none) ∙ sym (filter_map-append (item_of j) (take n l) (drop n l))
     ∙ ap (λ es. history es j) (take-append-drop n l)
 
--- where there is no journey nothing is sought
+-- if there is no journey, the search finds nothing
 pub sought_nowhere : (s : State) (desk : IsDesk s) (id : ℕ) (w : Sought) → w.journey ≡ 0 → journey_at s.ledger id ≡ None
     → AreSoughtAt id s w
 sought_nowhere s desk id w zero_is absent =
@@ -49,7 +49,7 @@ sought_nowhere s desk id w zero_is absent =
       steps = λ a at. let bad : None ≡ Some a = sym (ap (journey_at s.ledger) zero_is) ∙ at in cc;
     }
 
--- a number of which no row is found is that of no journey
+-- if no row with a number is found, no journey has that number
 pub absent_read : {v : Version} (t : Tables) (s : State) (st : StandsIn v t s) (desk : IsDesk s) (id : ℕ) → FindsJourney id t None
     → journey_at s.ledger id ≡ None
 absent_read t s st desk id finds = go (journey_at s.ledger id) refl (journey_read t s st desk id None finds)
@@ -59,7 +59,7 @@ absent_read t s st desk id finds = go (journey_at s.ledger id) refl (journey_rea
     go None e tells = e
     go (Some a) e tells = absurd tells
 
--- a row that is found tells how many steps the journey has, and the event that began it
+-- a found row gives the number of the journey's steps, and the event that began it
 pub sought_there : {v : Version} (t : Tables) (s : State) (st : StandsIn v t s) (desk : IsDesk s) (id : ℕ) (found : JourneyFound)
     → FindsJourney id t (Some found) → (w : Sought) → w.journey ≡ id → w.after ≡ found.num → w.steps ≡ found.steps
     → AreSoughtAt id s w
@@ -76,7 +76,7 @@ sought_there t s st desk id found finds w journey after steps =
           ap (λ (b : Journey). step_count b.plan) is ∙ sym there.is.steps ∙ sym steps;
     }
 
--- what the store finds behind an event is the next of the items that are sought
+-- the row found after an event is that of the next item of the search
 pub next_sought : {v : Version} (t : Tables) (s : State) (st : StandsIn v t s) (desk : IsDesk s) (w : Sought) (found : Option ItemFound)
     → FindsNextItem w.journey w.after t found → IsNextOf w s found
 next_sought t s st desk w found finds = go found (next_read t s st desk w.journey w.after found finds)

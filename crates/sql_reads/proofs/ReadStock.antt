@@ -1,4 +1,4 @@
--- What a want asks of the rows of stock. For the functions of `sql_reads`.
+-- What the rows of stock need of a want. For the functions of `sql_reads`.
 use Rattle.std.proofs.Common.{◌≤◌, ◌+◌, ◌-◌, IsTrue}
 use Rattle.std.specs.Prelude.{nat_le, ◌&&◌}
 use Rattle.std.proofs.lemmas.Bool.{and_parts, leb-true}

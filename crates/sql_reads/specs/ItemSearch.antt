@@ -1,4 +1,4 @@
--- Where a store has the items of a journey.
+-- Where the items of a journey are in a store.
 use Rattle.std.specs.Prelude.{◌≡◌, ℕ, List, [], ◌∷◌, take, drop, Option, Some, None}
 use Rattle.commands.specs.declared.items.Item.{Item}
 use Rattle.desk_sql.specs.FoundRows.{item_of}
@@ -13,19 +13,19 @@ use Rattle.sql_reads.specs.declared.item_search.Sought.{Sought}
 abbrev pub HasSteps : List Event → ℕ → ℕ → Type 0
 HasSteps l id steps = (a : Journey) → journey_at l id ≡ Some a → step_count a.plan ≡ steps
 
--- the items of the journey of this number are those that are sought, and none of the events before is one of them
+-- the items of this number's journey are those of the search, and none of them is at or before its start
 pub record AreSoughtAt (id : ℕ) (s : State) (w : Sought) : Type 0 where
   pub items : history s.ledger w.journey ≡ history s.ledger id
   pub first : history (take w.after s.ledger) w.journey ≡ []
   pub steps : HasSteps s.ledger w.journey w.steps
 
--- the row tells the next of the items that are sought, and the later ones stand behind its event
+-- the row is that of the next item of the search, and the later items come after its event
 pub record TellsNext (w : Sought) (l : List Event) (i : ItemFound) : Type 0 where
   pub item : Item
   pub told : item_in (item_of 0 i) ≡ Some item
   pub rest : history (drop w.after l) w.journey ≡ item ∷ history (drop i.num l) w.journey
 
--- this row tells the next of the items that are sought; none does, where there is none
+-- the row is that of the next item of the search; no row means no further item
 abbrev pub IsNextOf : Sought → State → Option ItemFound → Type 0
 IsNextOf w s None = history (drop w.after s.ledger) w.journey ≡ []
 IsNextOf w s (Some i) = TellsNext w s.ledger i

@@ -1,4 +1,4 @@
--- When rows of options tell a plan.
+-- When rows of options give a plan.
 use Rattle.std.specs.Prelude.{◌≡◌, ◌≤◌, ℕ, List, [], ◌∷◌, ◌++◌, map, take, length, string_bytes}
 use Rattle.allotment.specs.Want.{Wanted}
 use Rattle.allotment.specs.Cells.{kind_number}
@@ -10,7 +10,7 @@ use Rattle.sql_model.specs.ExpectedRows.{step_rows_of}
 use Rattle.sql_model.specs.Reading.{not_taken}
 use Rattle.sql_model.specs.Beginning.{rows_of_option, rows_of_step}
 
--- the rows that were found of a journey, as they stood when it began
+-- the rows found of a journey, as they were at its begin
 abbrev pub first_rows : ℕ → List StepFound → List StepRow
 first_rows id found = map not_taken (map (step_of id) found)
 
@@ -27,7 +27,7 @@ pub record TellsWant (row : StepFound) (want : Wanted) : Type 0 where
 abbrev pub TellsOption : StepFound → Planned → ℕ → ℕ → Type 0
 TellsOption row plan i c = (id : ℕ) → rows_of_option id plan i c ≡ first_rows id (row ∷ [])
 
--- behind so many rows come those of this step, up to here
+-- the rows from `from` up to `to` are those of this step
 pub record TellStep (rows : List StepFound) (from : ℕ) (plan : Planned) (i to : ℕ) : Type 0 where
   pub within : to ≤ length rows
   pub told : (id : ℕ)

@@ -1,4 +1,4 @@
--- What a read of a connection tells of the desk that it keeps, and what it leaves of it.
+-- What a read of a connection returns of the desk that it keeps, and what it leaves of the desk.
 use Rattle.std.specs.Prelude.{◌≡◌, ℕ, false, List, map, Option, None, Some, option_map, Result, IfOk}
 use Rattle.allotment.specs.declared.cells.Cell.{Cell}
 use Rattle.allotment.specs.declared.places.Held.{Held as HeldPlaces}
@@ -35,18 +35,18 @@ use Rattle.sql_model.specs.Keeping.{Keeps, KeepsIn}
 pub use Rattle.sql_model.specs.Keeping.{WasClean}
 
 module _ {S : Type 0} (g : Ghosts S) (old new : Held S) where
-  -- while the store returns what was written, what is answered is so of each desk that the connection
-  -- kept in tables of this version
+  -- while the store returns what was written, the result is true of each desk that the connection kept
+  -- in tables of this version
   abbrev pub ShowsKeptIn : Version → {V : Type 0} → Result V Fault → (State → V → Type 0) → Type 0
   ShowsKeptIn v result IsShown =
       HasCleanDisk (state g new) → (s : State) → IsDesk s → KeepsIn v (state g old) s
       → IfOk result (IsShown s)
 
-  -- in tables of the newest version
+  -- the same, in tables of the newest version
   abbrev pub ShowsKept : {V : Type 0} → Result V Fault → (State → V → Type 0) → Type 0
   ShowsKept result IsShown = ShowsKeptIn Two result IsShown
 
-  -- in tables of each version
+  -- the same, in tables of each version
   abbrev pub ShowsEach : {V : Type 0} → Result V Fault → (State → V → Type 0) → Type 0
   ShowsEach result IsShown = (v : Version) → ShowsKeptIn v result IsShown
 
@@ -58,39 +58,39 @@ module _ {S : Type 0} (g : Ghosts S) (old new : Held S) where
   abbrev pub KeepsEach : Type 0
   KeepsEach = (v : Version) (s : State) → KeepsIn v (state g old) s → KeepsIn v (state g new) s
 
-  -- a stop leaves nothing that it could not have left before
+  -- a crash leaves nothing that it could not have left before
   abbrev pub LeavesAsBefore : Type 0
   LeavesAsBefore =
       HasCleanDisk (state g new) → (db : Trees) → (state g new).may_leave db
       → (state g old).may_leave db
 
-  -- all of these
+  -- all that a read leaves as it was
   pub record OnlyReads : Type 0 where
     pub keeps : KeepsEach
     pub stop : LeavesAsBefore
     pub less : WasClean g old new
 
--- where a journey is, as a row
+-- a cursor that was found, as a row
 abbrev pub row_of : CursorFound → CursorRow
 row_of c = record { pos = c.pos; phase = c.phase; target = c.target; used = c.used }
 
--- the row tells where a journey is
+-- the row is that of this cursor
 abbrev pub TellsCursor : CursorFound → Cursor → Type 0
 TellsCursor found c = cursor_in (row_of found) ≡ Some c
 
--- the row tells this journey in short
+-- the row is that of this brief
 pub record TellsBrief (r : JourneyFound) (b : Brief) : Type 0 where
   pub id : b.id ≡ r.id
   pub agent : b.agent ≡ (journey_of r).agent
   pub cursor : TellsCursor r.cursor b.cursor
 
--- the row tells where this journey is
+-- the row is that of this journey's agent, steps and cursor
 pub record TellsStand (r : JourneyFound) (b : Stand) : Type 0 where
   pub agent : b.agent ≡ (journey_of r).agent
   pub steps : b.steps ≡ r.steps
   pub cursor : TellsCursor r.cursor b.cursor
 
--- the row tells this journey, with a plan and save-points
+-- the row, with a plan and save-points, is that of this record
 pub record TellsRecord (r : JourneyFound) (plan : Planned) (marks : set.FinSet nat_cmp) (b : Record)
     : Type 0 where
   pub agent : b.agent ≡ (journey_of r).agent
@@ -98,24 +98,24 @@ pub record TellsRecord (r : JourneyFound) (plan : Planned) (marks : set.FinSet n
   pub cursor : TellsCursor r.cursor b.cursor
   pub same_marks : b.marks ≡ marks
 
--- the rows tell these items
+-- the rows are those of these items
 abbrev pub TellItems : List ItemFound → List Item → Type 0
 TellItems found items = map (λ (i : ItemFound). item_in (item_of 0 i)) found ≡ map Some items
 
--- the rows tell these nights, with their places
+-- the rows are those of these nights, with their places
 abbrev pub TellNights : List NightFound → List (ℕ × HeldPlaces) → Type 0
 TellNights found nights = map night_said nights ≡ map night_seen found
 
--- the rows tell these cells, with their places
+-- the rows are those of these cells, with their places
 abbrev pub TellCells : List CellFound → List (Cell × HeldPlaces) → Type 0
 TellCells found cells = map stock_row_of cells ≡ map stock_of found
 
--- this plan is that of a journey with this number, and so many tries
+-- this is the plan of the journey with this number, if the tries are those of the journey
 abbrev pub IsPlanOf : ℕ → ℕ → State → Planned → Type 0
 IsPlanOf id tries s plan =
     (a : Journey) → journey_at s.ledger id ≡ Some a → tries ≡ a.plan.tries → plan ≡ a.plan
 
--- the first unfinished journey above this number, in short
+-- the brief of the first unfinished journey above this number
 abbrev pub IsFirstAbove : ℕ → State → Option Brief → Type 0
 IsFirstAbove after s found = found ≡ first_unfinished s.ledger after
 
@@ -127,11 +127,11 @@ HasNone id s _ = journey_at s.ledger id ≡ None
 abbrev pub IsRecordAt : ℕ → State → Option Record → Type 0
 IsRecordAt id s found = found ≡ record_of s.ledger id
 
--- where a journey is, of what is shown of it
+-- the agent, the number of steps and the cursor of a record
 abbrev pub stand_of : Record → Stand
 stand_of r = record { agent = r.agent; steps = step_count r.plan; cursor = r.cursor }
 
--- where the journey of this number is, if there is one
+-- the agent, the number of steps and the cursor of the journey of this number, if there is one
 abbrev pub IsStandAt : ℕ → State → Option Stand → Type 0
 IsStandAt id s found = found ≡ option_map stand_of (record_of s.ledger id)
 

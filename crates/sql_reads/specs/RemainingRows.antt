@@ -1,4 +1,4 @@
--- What a source of rows has still to hand out, and what it leaves of the connection under it.
+-- The rows that remain in a source, and what the source leaves of its connection.
 use Rattle.std.specs.Prelude.{◌≡◌, ℕ, Bool, List, [], ◌++◌, map, drop, true, false, refl}
 use Rattle.std.specs.Borrow.{MutBor}
 use Rattle.std.proofs.Common.{◌∙◌}
@@ -24,7 +24,7 @@ use Rattle.sql_reads.specs.ItemSearch.{HasSteps}
 use Rattle.sql_reads.specs.declared.history_rows.ItemCursor.{ItemCursor}
 use Rattle.sql_reads.specs.declared.item_search.Sought.{Sought}
 
--- what a row tells of a journey in short
+-- the columns of a journey's brief
 pub record Short : Type 0 where
   pub id : ℕ
   pub agent : List ℕ
@@ -33,16 +33,16 @@ pub record Short : Type 0 where
 abbrev pub short_of : JourneyRow → Short
 short_of r = record { id = r.id; agent = r.agent; cursor = r.cursor }
 
--- a journey in short, as a row tells it
+-- the columns of a brief, as they are stored
 abbrev pub short_told : Brief → Short
 short_told b = record { id = b.id; agent = b.agent; cursor = cursor_row b.cursor }
 
--- the rows tell these journeys in short
+-- the rows are those of these briefs
 abbrev pub TellBriefs : List JourneyRow → List Brief → Type 0
 TellBriefs rows briefs = map short_of rows ≡ map short_told briefs
 
 module _ {S : Type 0} (g : Ghosts S) where
-  -- these rows of the desk are still to come
+  -- these rows of the desk remain
 
   abbrev pub StockRests : Held S → List (Cell × HeldPlaces) → Type 0
   StockRests h rows = CellsRest g h (map stock_row_of rows)
@@ -50,8 +50,8 @@ module _ {S : Type 0} (g : Ghosts S) where
   abbrev pub BriefsRest : Held S → List Brief → Type 0
   BriefsRest h briefs = (rows : List JourneyRow) × JourneysRest g h rows × TellBriefs rows briefs
 
-  -- of a journey that has come to this position the connection keeps, in tables of this version, these
-  -- items after an event, and no more
+  -- the connection keeps a journey, in tables of this version, that has come to this position; these are its
+  -- items after an event, and all of its items from this position on
   pub record AreBehind (v : Version) (h : Held S) (w : Sought) (pos : ℕ) (items : List Item) : Type 0 where
     pub desk : State
     pub is_desk : IsDesk desk
@@ -62,12 +62,12 @@ module _ {S : Type 0} (g : Ghosts S) where
     pub whole : history desk.ledger w.journey ≡ before ++ items
     pub behind : history (drop w.after desk.ledger) w.journey ≡ items
 
-  -- these items of a journey are still to come; none, where it is finished
+  -- these items of a journey remain; none if it is finished
   abbrev pub ItemsLeft : Version → Held S → Sought → ℕ → Bool → List Item → Type 0
   ItemsLeft v h w pos true items = items ≡ []
   ItemsLeft v h w pos false items = AreBehind v h w pos items
 
-  -- these items are still to come after those that the cursor has passed, and no row has failed
+  -- these items remain after those that the cursor returned, and no row has failed
   abbrev pub ItemsRest : Held S → ItemCursor → List Item → Type 0
   ItemsRest h c items = (c.failed ≡ false) × ItemsLeft c.version h c.sought c.pos c.finished items
 
@@ -78,19 +78,19 @@ module _ {S : Type 0} (g : Ghosts S) where
       pub outside : old.in_transaction ≡ false → new.in_transaction ≡ false
 
     -- while the store returns what was written, such a list of each desk that the connection kept in
-    -- tables of this version is still to come
+    -- tables of this version remains to be read
     abbrev pub BeginsKept : Version → {X : Type 0} → (State → List X → Type 0) → (List X → Type 0)
         → Type 0
     BeginsKept v {X} IsList Rests =
         HasCleanDisk (state g new) → (s : State) → IsDesk s → KeepsIn v (state g old) s
         → (rows : List X) → IsList s rows → Rests rows
 
-  -- the reference is the same, and the connection behind it is left as it was
+  -- the reference is the same, and its connection is left as it was
   pub record StaysUnder (a b : MutBor (Held S)) : Type 0 where
     pub same_reference : b.ghost_name ≡ a.ghost_name
     pub left : IsLeftAsItWas a.now b.now
 
--- it is so where nothing was done, and from one call to the next
+-- a connection is left as it was if no call is made, and by two calls if by each of them
 pub left_alone : {S : Type 0} (g : Ghosts S) (h : Held S) → IsLeftAsItWas g h h
 left_alone g h = record {
   reads = record { keeps = λ v s keeps. keeps; stop = λ clean db may. may; less = λ clean. clean };
@@ -109,7 +109,7 @@ left_twice g a b c one two = record {
   outside = λ outside. two.outside (one.outside outside);
 }
 
--- so it is of the connection under rows
+-- the same, for the connection of a source of rows
 pub stays_alone : {S : Type 0} {g : Ghosts S} (a : MutBor (Held S)) → StaysUnder g a a
 stays_alone {S} {g} a = record { same_reference = refl; left = left_alone g a.now }
 

@@ -1,4 +1,4 @@
-//! Unfinished journeys in short, by rising number, handed out one at a time.
+//! Briefs of the unfinished journeys, in order of number, read one at a time.
 
 ghost use Rattle.std.specs.Prelude.{◌≡◌, false, IfOk};
 ghost use Rattle.sqlite.specs.Held.{state};
@@ -14,16 +14,16 @@ use desk_sql::{UnfinishedHanded, hand_unfinished};
 use saga_core::{Brief, RowSource};
 use sqlite::{Alter, Connection};
 
-/// Unfinished journeys that are still to come. After a fault every call is a fault of the store.
+/// The unfinished journeys that remain. After a fault every call returns `Store`.
 #[derive(Drop)]
 pub struct UnfinishedRows<'c, S: Alter> {
     handed: UnfinishedHanded<'c, S>,
     given: u64,
-    // A row could not be read, or told nothing, and none may be handed out behind it.
+    // A row could not be read, or has a value out of range, and no row may be returned after it.
     failed: bool,
 }
 
-/// Begins to hand out all unfinished journeys, by rising number.
+/// Starts to read all unfinished journeys, in order of number.
 pub fn unfinished_rows<'c, S: Alter>(
     conn: &'c mut Connection<S>,
 ) -> Result<UnfinishedRows<'c, S>, Fault>

@@ -1,4 +1,4 @@
-//! Cells with their places, by kind, supplier, product and night, handed out one at a time.
+//! Cells with their places, in order of kind, supplier, product and night, read one at a time.
 
 ghost use Rattle.std.specs.Prelude.{◌≡◌, false, IfOk};
 ghost use Rattle.saga_core.specs.Views.{IsStock};
@@ -15,16 +15,16 @@ use desk_sql::{StockHanded, hand_stock};
 use saga_core::RowSource;
 use sqlite::{Alter, Connection};
 
-/// Cells that are still to come. After a fault every call is a fault of the store.
+/// The cells that remain. After a fault every call returns `Store`.
 #[derive(Drop)]
 pub struct StockRows<'c, S: Alter> {
     handed: StockHanded<'c, S>,
     given: u64,
-    // A row could not be read, or told nothing, and none may be handed out behind it.
+    // A row could not be read, or has a value out of range, and no row may be returned after it.
     failed: bool,
 }
 
-/// Begins to hand out every cell that has an allotment, by kind, supplier, product and night.
+/// Starts to read every cell that has an allotment, in order of kind, supplier, product and night.
 pub fn stock_rows<'c, S: Alter>(conn: &'c mut Connection<S>) -> Result<StockRows<'c, S>, Fault>
     ensures same_reference { IfOk result (λ it.
         it.handed.rows.conn.ghost_name ≡ conn.entry.ghost_name) }

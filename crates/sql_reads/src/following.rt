@@ -1,9 +1,9 @@
-//! Where a journey stands after an item, and whether it is finished with it.
+//! The position of a journey after an item, and whether the item finishes the journey.
 ghost use Rattle.sql_reads.specs.Following.{BringsTo, TellsFinished};
 
 use commands::Item;
 
-/// The position to which an item brings a journey from another.
+/// The position of a journey after an item, from its position before the item.
 pub(crate) fn position_after(item: &Item, pos: u64) -> u64
     ensures { BringsTo pos item.now result }
 {
@@ -15,7 +15,7 @@ pub(crate) fn position_after(item: &Item, pos: u64) -> u64
     }
 }
 
-/// Whether a journey of so many steps, which stands at this position, is finished with an item.
+/// Whether an item finishes a journey of so many steps, which stands at this position before the item.
 pub(crate) fn is_finished_with(item: &Item, steps: u64, pos: u64) -> bool
     ensures { TellsFinished steps pos item.now result }
 {

@@ -1,7 +1,8 @@
-//! The items of a journey, oldest first, found one at a time.
+//! The items of a journey, oldest first, read one at a time.
 //!
-//! Each is asked for by itself, after the event of the one before, the first after the event that began the journey; so the
-//! store looks no further than the next one. After the item with which the journey is finished it is not asked.
+//! Each item has a query of its own: the first row after the event of the item before, or after the begin of the
+//! journey. So the store reads no further than the next item. After the item that finishes the journey there is no
+//! further query.
 
 ghost use Rattle.std.specs.Prelude.{◌≡◌, ◌+◌, ◌<◌, ◌^◌, false, IfOk};
 ghost use Rattle.sqlite.specs.Held.{state};
@@ -18,22 +19,23 @@ use commands::{Fault, Item};
 use desk_sql::Version;
 use sqlite::{Alter, Connection};
 
-/// How far the items of a journey were found. After a fault every call is a fault of the store.
+/// A position in the items of a journey. After a fault every call returns `Store`.
 #[derive(Drop)]
 pub struct ItemCursor {
     // The version of the tables.
     version: Version,
-    // The next item is sought after this event.
+    // The search for the next item starts after this event.
     sought: Sought,
-    // Where the journey stood after the items that were given, and whether it was finished with the last of them.
+    // The position of the journey after the items that were returned, and whether the last of them finished the
+    // journey.
     pos: u64,
     finished: bool,
     given: u64,
-    // A row could not be read, or told nothing, and none may be handed out after it.
+    // A row could not be read, or has a value out of range, and no item may be returned after it.
     failed: bool,
 }
 
-/// Before the first item of the journey of that number; where it is absent it has none.
+/// Returns a cursor before the first item of the journey of that number; if there is no such journey, it has no item.
 pub fn item_cursor<S: Alter>(
     conn: &mut Connection<S>,
     version: Version,
@@ -60,7 +62,7 @@ pub fn item_cursor<S: Alter>(
 }
 
 impl ItemCursor {
-    /// The next item of a connection; None after the last one.
+    /// Reads the next item from a connection; `None` after the last one.
     pub fn next_item<S: Alter>(&mut self, conn: &mut Connection<S>) -> Result<Option<Item>, Fault>
         ensures next { HasCleanDisk (state S.Store conn.new) → IfOk result
             (Hands (ItemsRest S.Store conn.old self.old) (ItemsRest S.Store conn.new self.new)) }

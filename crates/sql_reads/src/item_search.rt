@@ -1,21 +1,21 @@
-//! Where a store has the items of a journey: behind the event that began it.
+//! Where the items of a journey are in a store: after the event that began the journey.
 ghost use Rattle.std.specs.Prelude.{◌≡◌, ◌<◌, ◌^◌};
 
 use crate::reads::LARGEST;
 
-/// Where a store has the items of a journey.
+/// Where the items of a journey are in a store.
 #[derive(Drop)]
 pub(crate) struct Sought {
-    /// The number that the store has the journey under; 0, which no journey has, where there is none.
+    /// The number of the journey in the store; 0, which no journey has, if there is none.
     pub journey: u64,
-    /// The number of the event that began it: those of its items are above.
+    /// The number of the event that began the journey: its items have greater numbers.
     pub after: u64,
-    /// How many steps its plan has; 0 where there is none.
+    /// The number of steps in its plan; 0 if there is no journey.
     pub steps: u64,
 }
 
 impl Sought {
-    /// No journey, and so nothing to look at.
+    /// The search for a journey that does not exist, which finds nothing.
     pub fn nowhere() -> Sought
         ensures journey { result.journey ≡ 0 }
         ensures small { result.after < 2 ^ 63 }

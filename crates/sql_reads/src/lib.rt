@@ -1,9 +1,9 @@
-//! What a connection tells of the desk that it keeps. A read changes nothing, whatever comes of it.
+//! Reads of the desk that a connection keeps. A read changes nothing, whether it succeeds or not.
 //!
-//! Each read asks the store, and says what was found in the words of the desk: journeys, their items and save-points,
-//! the places of cells. A row with a value out of range tells nothing, and is a fault of the store.
+//! Each read queries the store, and returns what was found in the desk's types: journeys, their items and save-points,
+//! the places of cells. A row with a value out of range is reported as a fault of the store.
 //!
-//! Words: a connection *keeps* a state where its tables stand for it and a stop leaves just that.
+//! Words: a connection *keeps* a state if its tables represent the state and a crash leaves just that state.
 #![tactic(auto)]
 
 mod brief_rows;

@@ -1,4 +1,4 @@
-//! The plan that rows of options tell. It is put together step by step, and then held against the rows.
+//! The plan that rows of options give. It is built step by step, and then compared with the rows.
 ghost use Rattle.std.specs.Prelude.{◌≡◌, ◌≤◌, true, length, IfOk, IfSome, IsTrue};
 ghost use Rattle.plan.specs.PlanModel.{step_count, option_count, is_plan};
 ghost use Rattle.sql_reads.specs.PlanRows.{TellsWant, TellsOption, TellStep, TellPlan};
@@ -37,7 +37,7 @@ fn is_option(row: &StepFound, plan: &Plan, step: usize, option: usize) -> bool
         && is_of_want(row, &want)
 }
 
-/// Whether the rows from this one on begin with those of this step. Where they do, it tells how many there are so far.
+/// Returns the number of rows up to the end of this step, if the rows from `from` on start with those of the step.
 fn after_step(rows: &[StepFound], from: usize, plan: &Plan, step: usize) -> Option<usize>
     requires from_one { 1 ≤ step }
     requires in_plan { step ≤ step_count plan.now }
@@ -69,7 +69,7 @@ fn are_of_plan(rows: &[StepFound], plan: &Plan) -> bool
     count == rows.len()
 }
 
-/// The want of an option, by its row. One that is out of range is a fault of the store.
+/// Returns the want in the row of an option. A want out of range is a fault of the store.
 pub fn want_told(alloc: Global, row: &StepFound) -> Result<Want, Fault>
     ensures told { IfOk result (TellsWant row.now) }
 {
@@ -98,7 +98,7 @@ pub fn want_told(alloc: Global, row: &StepFound) -> Result<Want, Fault>
     }
 }
 
-/// The options of the rows, step by step.
+/// Builds the steps of the rows, each with its options.
 fn steps_told(alloc: Global, rows: &[StepFound]) -> Result<Vec<PlanStep>, Fault> {
     let mut steps = Vec::new(alloc);
     let mut options = Vec::new(alloc);
@@ -125,7 +125,7 @@ fn steps_told(alloc: Global, rows: &[StepFound]) -> Result<Vec<PlanStep>, Fault>
     Ok(steps)
 }
 
-/// The plan of the rows and the tries.
+/// Builds the plan of these rows and tries. Rows that are not those of a plan are a fault of the store.
 pub(crate) fn plan_told(alloc: Global, rows: &[StepFound], tries: u64) -> Result<Plan, Fault>
     ensures rows { IfOk result (λ plan. TellPlan rows.now plan) }
     ensures tries { IfOk result (λ plan. plan.tries ≡ tries) }

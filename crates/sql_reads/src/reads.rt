@@ -1,4 +1,4 @@
-//! Reads of the tables, in the words of the desk. A read changes nothing, whatever comes of it.
+//! Reads of the tables, in the desk's types. A read changes nothing, whether it succeeds or not.
 ghost use Rattle.std.specs.Prelude.{◌≡◌, ◌<◌, ◌^◌, false, IfOk};
 ghost use Rattle.ledger.specs.Ledger.{history};
 ghost use Rattle.saga_core.specs.Views.{ShowsCells, IsStock};
@@ -26,10 +26,10 @@ use savepoints::Marks;
 use sqlite::{Alter, Connection, Error};
 use std::alloc::Global;
 
-/// The largest number that a store can be asked for.
+/// The largest number that a query of a store may have.
 pub const LARGEST: u64 = i64::MAX as u64;
 
-/// The unfinished journey with the least number above this one.
+/// Returns the unfinished journey with the least number above `after`, if there is one.
 pub fn read_first_unfinished<S: Alter>(
     conn: &mut Connection<S>,
     after: u64,
@@ -52,7 +52,7 @@ pub fn read_first_unfinished<S: Alter>(
     }
 }
 
-/// Finds that no journey has a number that is above all that a store can be asked for.
+/// Checks that no journey has a number that is greater than any that a query may have.
 pub(crate) fn check_absent<S: Alter>(conn: &mut Connection<S>, id: u64) -> Result<(), Fault>
     requires { conn.old.in_transaction ≡ false }
 
@@ -69,7 +69,7 @@ pub(crate) fn check_absent<S: Alter>(conn: &mut Connection<S>, id: u64) -> Resul
     }
 }
 
-/// Where the store has the items of the journey of that number.
+/// Finds where the items of the journey of that number are in the store.
 pub(crate) fn find_sought<S: Alter>(conn: &mut Connection<S>, id: u64) -> Result<Sought, Fault>
     requires { conn.old.in_transaction ≡ false }
 
@@ -97,7 +97,7 @@ pub(crate) fn find_sought<S: Alter>(conn: &mut Connection<S>, id: u64) -> Result
     }
 }
 
-/// The first item of a journey of which the event has a number above this one, in tables of this version.
+/// Reads the first item of a journey whose event has a number above `after`, in tables of this version.
 fn next_in<S: Alter>(
     conn: &mut Connection<S>,
     version: Version,
@@ -118,7 +118,7 @@ fn next_in<S: Alter>(
     }
 }
 
-/// The next of the items that are sought in tables of this version, with the number of its event.
+/// Reads the next item of a search in tables of this version, with the number of its event.
 pub(crate) fn find_next<S: Alter>(
     conn: &mut Connection<S>,
     version: Version,
@@ -139,7 +139,7 @@ pub(crate) fn find_next<S: Alter>(
     }
 }
 
-/// The items of the journey of that number, in order; none where it is absent.
+/// Returns the items of the journey of that number, in order; none if there is no such journey.
 pub fn read_history<S: Alter>(
     alloc: Global,
     conn: &mut Connection<S>,
@@ -161,7 +161,7 @@ pub fn read_history<S: Alter>(
     }
 }
 
-/// The plan of the journey of that number, where it has so many tries.
+/// Returns the plan of the journey of that number, if its tries are these.
 fn read_plan<S: Alter>(
     alloc: Global,
     conn: &mut Connection<S>,
@@ -183,7 +183,7 @@ fn read_plan<S: Alter>(
     }
 }
 
-/// The save-points that the journey of that number took and that stand.
+/// Returns the save-points that the journey of that number took and that stand.
 fn read_marks<S: Alter>(alloc: Global, conn: &mut Connection<S>, id: u64) -> Result<Marks, Fault>
     requires outside { conn.old.in_transaction ≡ false }
     requires small { id < 2 ^ 63 }
@@ -203,7 +203,7 @@ fn read_marks<S: Alter>(alloc: Global, conn: &mut Connection<S>, id: u64) -> Res
     }
 }
 
-/// The save-points that the journey of that number took and that stand; in tables of the first version there are none.
+/// Returns the save-points that the journey of that number took and that stand; tables of version 1 have none.
 fn read_taken<S: Alter>(
     alloc: Global,
     conn: &mut Connection<S>,
@@ -231,18 +231,18 @@ fn read_taken<S: Alter>(
     }
 }
 
-/// Where a journey is and whose it is, without its plan.
+/// The agent and the cursor of a journey, without its plan.
 #[derive(Clone, Copy, Debug, PartialEq, Eq)]
 pub struct Stand {
-    /// Who began it.
+    /// The agent who began it.
     pub agent: Agent,
-    /// How many steps its plan has.
+    /// The number of steps in its plan.
     pub steps: usize,
-    /// Where it is.
+    /// The cursor of the journey.
     pub cursor: Cursor,
 }
 
-/// Where the journey of that number is, if there is one.
+/// Returns the agent, the number of steps and the cursor of the journey of that number, if there is one.
 pub fn read_stand<S: Alter>(conn: &mut Connection<S>, id: u64) -> Result<Option<Stand>, Fault>
     requires { conn.old.in_transaction ≡ false }
 
@@ -266,7 +266,7 @@ pub fn read_stand<S: Alter>(conn: &mut Connection<S>, id: u64) -> Result<Option<
     }
 }
 
-/// The journey of that number in tables of this version, if there is one.
+/// Returns the journey of that number in tables of this version, if there is one.
 pub fn read_journey<S: Alter>(
     alloc: Global,
     conn: &mut Connection<S>,
@@ -299,7 +299,7 @@ pub fn read_journey<S: Alter>(
     }
 }
 
-/// The places of a want's nights, by rising night, without those that have no allotment.
+/// Returns the places of a want's nights, in order of night, without the nights that have no allotment.
 pub fn read_cells<S: Alter>(
     alloc: Global,
     conn: &mut Connection<S>,
@@ -330,7 +330,7 @@ pub fn read_cells<S: Alter>(
     }
 }
 
-/// The places of every cell that has an allotment, by kind, supplier, product and night.
+/// Returns the places of every cell that has an allotment, in order of kind, supplier, product and night.
 pub fn read_stock<S: Alter>(
     alloc: Global,
     conn: &mut Connection<S>,

@@ -1,4 +1,4 @@
-//! What rows tell, in the words of the desk. A row with a value out of range tells nothing.
+//! The desk's values for the rows of the tables. A row with a value out of range has none.
 ghost use Rattle.std.specs.Prelude.{◌≡◌, ◌==◌, ℕ, IfOk, IfSome};
 ghost use Rattle.std.specs.List.{list_any};
 ghost use Rattle.allotment.specs.Cells.{kind_number};
@@ -18,7 +18,7 @@ use saga_core::{Brief, Record};
 use savepoints::{LAST_MARK, Marks};
 use std::alloc::Global;
 
-/// The phase of a number and a target.
+/// The phase with this number and target.
 fn phase_of(number: u64, target: u64) -> Option<Phase>
     ensures { result ≡ phase_in number target }
 {
@@ -31,7 +31,7 @@ fn phase_of(number: u64, target: u64) -> Option<Phase>
     }
 }
 
-/// Where a journey is.
+/// The cursor of a row.
 fn cursor_of(found: &CursorFound) -> Option<Cursor>
     ensures { IfSome result (TellsCursor found.now) }
 {
@@ -43,7 +43,7 @@ fn cursor_of(found: &CursorFound) -> Option<Cursor>
     })
 }
 
-/// A journey in short.
+/// The brief of a journey.
 pub(crate) fn brief_of(found: &JourneyFound) -> Option<Brief>
     ensures { IfSome result (TellsBrief found.now) }
 {
@@ -56,7 +56,7 @@ pub(crate) fn brief_of(found: &JourneyFound) -> Option<Brief>
     })
 }
 
-/// Where a journey is, without its plan.
+/// The agent, the number of steps and the cursor of a journey.
 pub(crate) fn stand_of(found: &JourneyFound) -> Option<Stand>
     ensures { IfSome result (TellsStand found.now) }
 {
@@ -69,7 +69,7 @@ pub(crate) fn stand_of(found: &JourneyFound) -> Option<Stand>
     })
 }
 
-/// A journey with this plan and these save-points.
+/// The record of a journey with this plan and these save-points.
 pub(crate) fn record_of(found: &JourneyFound, plan: Plan, marks: Marks) -> Option<Record>
     ensures { IfSome result (TellsRecord found.now plan marks) }
 {
@@ -83,7 +83,7 @@ pub(crate) fn record_of(found: &JourneyFound, plan: Plan, marks: Marks) -> Optio
     })
 }
 
-/// What made a journey turn.
+/// The cause of a turn with this number.
 fn cause_of(number: u64) -> Option<Cause>
     ensures { result ≡ cause_in number }
 {
@@ -95,7 +95,7 @@ fn cause_of(number: u64) -> Option<Cause>
     }
 }
 
-/// An item of a journey.
+/// The item of a row.
 pub(crate) fn item_told(found: &ItemFound) -> Option<Item>
     ensures { result ≡ item_in (item_of 0 found.now) }
 {
@@ -122,7 +122,7 @@ pub(crate) fn item_told(found: &ItemFound) -> Option<Item>
     }
 }
 
-/// The items of a journey.
+/// The items of rows.
 pub(crate) fn items_told(alloc: Global, found: &[ItemFound]) -> Result<Vec<Item>, Fault>
     ensures { IfOk result (λ items. TellItems found.now items.items) }
 {
@@ -138,7 +138,7 @@ pub(crate) fn items_told(alloc: Global, found: &[ItemFound]) -> Result<Vec<Item>
     Ok(items)
 }
 
-/// A night by its day.
+/// The night of a day.
 fn night_of(day: u64) -> Option<Night>
     ensures { IfSome result (λ night. night ≡ day) }
 {
@@ -148,7 +148,7 @@ fn night_of(day: u64) -> Option<Night>
     Night::from_day(day as u32)
 }
 
-/// Places of which some are free.
+/// The places of a cell: how many are allotted, and how many of them are free.
 fn places_of(allot: u64, free: u64) -> Option<Held>
     ensures { IfSome result (λ places. (places.allot ≡ allot) × (places.free ≡ free)) }
 {
@@ -170,7 +170,7 @@ fn night_told(found: &NightFound) -> Option<(Night, Held)>
     Some((night, places))
 }
 
-/// The nights and their places.
+/// The nights of rows, with their places.
 pub(crate) fn nights_told(alloc: Global, found: &[NightFound]) -> Result<Vec<(Night, Held)>, Fault>
     ensures { IfOk result (λ nights. TellNights found.now nights.items) }
 {
@@ -186,7 +186,7 @@ pub(crate) fn nights_told(alloc: Global, found: &[NightFound]) -> Result<Vec<(Ni
     Ok(nights)
 }
 
-/// The kind of a number.
+/// The kind with this number.
 fn kind_of(number: u64) -> Option<Kind>
     ensures { IfSome result (λ kind. kind_number kind ≡ number) }
 {
@@ -211,7 +211,7 @@ pub(crate) fn cell_told(found: &CellFound) -> Option<(Cell, Held)>
     Some((Cell::new(kind, supplier, product, night), places))
 }
 
-/// The cells and their places.
+/// The cells of rows, with their places.
 pub(crate) fn cells_told(alloc: Global, found: &[CellFound]) -> Result<Vec<(Cell, Held)>, Fault>
     ensures { IfOk result (λ cells. TellCells found.now cells.items) }
 {

@@ -22,7 +22,7 @@ use Rattle.sqlite_catalog.specs.Listing.{IsTableRow, IsIndexRow, IsViewRow, IsDe
 use Rattle.sqlite_catalog.proofs.StepLemmas.{same_itself}
 use Rattle.sql_restart.specs.Schemas.{OneSchema}
 
--- where each element tells the one beside it, a list tells the other list
+-- if each element determines its partner, a list determines the other list
 zip_unique : {A B : Type 0} (R S : A → B → Type 0) → ((x : A) (y z : B) → R x y → S x z → z ≡ y)
     → (xs : List A) (ys zs : List B) → AllZip R xs ys → AllZip S xs zs → zs ≡ ys
 zip_unique R S one [] [] [] first second = refl
@@ -35,13 +35,13 @@ zip_unique R S one (x ∷ xs) (y ∷ ys) (z ∷ zs) first second =
     let tail : zs ≡ ys = zip_unique R S one xs ys zs first.1 second.1 in
     cc
 
--- no rows have no objects
+-- an empty list of rows has an empty list of objects
 zip_none : {A B : Type 0} (R S : A → B → Type 0) (xs : List A) (zs : List B) → AllZip R xs [] → AllZip S xs zs → zs ≡ []
 zip_none R S [] [] first second = refl
 zip_none R S [] (z ∷ zs) first second = absurd second
 zip_none R S (x ∷ xs) zs first second = absurd first
 
--- the rowid tells the tree
+-- the rowid determines the tree
 same_tree : (v : Value) (m n : ℕ) → v ≡ Int (pos (m + 1)) → v ≡ Int (pos (n + 1)) → n ≡ m
 same_tree v m n first second =
     let e : Int (pos (n + 1)) ≡ Int (pos (m + 1)) = sym second ∙ first in
@@ -89,7 +89,7 @@ one_named (u ∷ tables) s t rising (inr a) (inr b) same = one_named tables s t 
 
 -- Indexes.
 
--- the number in the name of an automatic index is one
+-- the number in the name of an automatic index is unique
 same_number : (m n : ℕ) → m < 65536 → n < 65536 → decimal (n + 1) ≡ decimal (m + 1) → n ≡ m
 same_number m n low high same =
     let a = decimal_is_IsNumeral (n + 1) (omega arith) in
@@ -105,7 +105,7 @@ same_place name m n low high same =
     (append_cancel_left (codes "_") _ _
     (append_cancel_left name _ _ (append_cancel_left (codes "sqlite_autoindex_") _ _ same)))
 
--- what a table and a row define is one index
+-- a table and a row define one index
 one_defined : (table : Table) (v : Value) (i j : Index) → j.name ≡ i.name → j.tree ≡ i.tree
     → IsDefined table i v → IsDefined table j v → j ≡ i
 one_defined table Null i j name tree first second =

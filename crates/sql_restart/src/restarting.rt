@@ -1,4 +1,4 @@
-//! A connection is let go, its store crashes, and a connection is made over it again.
+//! The restart of a connection: it is dropped, its store crashes, and a new connection is opened over the store.
 ghost use Rattle.std.specs.Prelude.{IfOk, IfErr};
 ghost use Rattle.sqlite_trees.specs.View.{IsClean};
 ghost use Rattle.sqlite.specs.Held.{state, IsNew};
@@ -9,8 +9,10 @@ use sqlite::Connection;
 use sqlite_trees::store::{Alter, Reopen};
 use std::alloc::Global;
 
-/// What is then opened shows one of the databases that a crash of the connection might leave, and a crash leaves nothing
-/// but what it shows. Where it cannot be opened the store is given back, and a crash leaves nothing that it did not
+/// Drops the connection, crashes and reopens its store, and opens a new connection over the store.
+///
+/// The new connection shows one of the databases that a crash of the old one might leave, and a crash leaves nothing
+/// but what it shows. If no connection can be opened, the store is returned, and a crash leaves nothing that it did not
 /// leave before.
 pub fn restart<S: Alter + Reopen + Drop>(
     alloc: Global,

@@ -1,4 +1,4 @@
-//! A restart in memory: it succeeds, and shows what was committed and no more.
+//! A restart in memory succeeds, and shows what was committed and no more.
 
 use crate::restarting::restart;
 use sqlite::Connection;

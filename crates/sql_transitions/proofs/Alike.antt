@@ -1,4 +1,4 @@
--- Rows of stock that are of one cell.
+-- Rows of stock of the same cell. For the lemmas on stock.
 use Rattle.std.proofs.Common.{◌≡◌, true, refl, sym, ◌∙◌, eqb-true, eq-eqb}
 use Rattle.std.proofs.lemmas.Bool.{and_parts, and_from}
 use Rattle.std.proofs.lemmas.Slice.Eq.{bytes_eq-Decides}
@@ -14,7 +14,7 @@ record AreOfOneCell (r s : StockRow) : Type 0 where
   product : r.product ≡ s.product
   night : r.night ≡ s.night
 
--- the test says so, part by part
+-- two rows that pass the test have the parts of one cell
 parts_of : (r s : StockRow) → is_same_stock r s ≡ true → AreOfOneCell r s
 parts_of r s e =
     let night = and_parts _ _ e in
@@ -27,7 +27,7 @@ parts_of r s e =
       night = eqb-true r.night s.night night.1;
     }
 
--- and where all parts are alike it passes
+-- two rows that have the parts of one cell pass the test
 from_parts : (r s : StockRow) → AreOfOneCell r s → is_same_stock r s ≡ true
 from_parts r s p =
     and_from _ _
@@ -36,14 +36,14 @@ from_parts r s p =
     ((bytes_eq-Decides r.product s.product).1 p.product))
     (eq-eqb r.night s.night p.night)
 
--- whichever comes first
+-- the test is symmetric
 pub same-turned : (r s : StockRow) → is_same_stock r s ≡ true → is_same_stock s r ≡ true
 same-turned r s e =
     let p = parts_of r s e in
     from_parts s r
     (record { kind = sym p.kind; supplier = sym p.supplier; product = sym p.product; night = sym p.night })
 
--- two rows that are of one cell with a third
+-- the test is transitive
 pub same-same : (r s q : StockRow) → is_same_stock r s ≡ true → is_same_stock s q ≡ true
     → is_same_stock r q ≡ true
 same-same r s q e f =
@@ -57,7 +57,7 @@ same-same r s q e f =
       night = a.night ∙ b.night;
     })
 
--- a row is of its own cell
+-- the test is reflexive
 pub same-self : (r : StockRow) → is_same_stock r r ≡ true
 same-self r = from_parts r r (record { kind = refl; supplier = refl; product = refl; night = refl })
 

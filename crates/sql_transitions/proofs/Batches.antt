@@ -1,4 +1,4 @@
--- What is found of a batch's name tells the batch that was loaded under it, of which there is one at most.
+-- The row found with a batch's name is that of the only batch that was loaded under it. For loads.
 use Rattle.std.proofs.Common.{◌≡◌, ℕ, suc, ◌≤◌, ◌==◌, List, [], ◌∷◌, ◌++◌, length, map, filter, cond, Bool, true, false, if◌then◌else◌, Option, Some, None, IsTrue, inl, inr, refl, sym, ap, subst, ◌∙◌, arith, eqb-true, append-nil, length-append}
 use Rattle.std.specs.Prelude.{filter_map, option_map, bytes_eq, ◌&&◌}
 use Rattle.std.specs.List.{list_all, cons_option}
@@ -28,7 +28,7 @@ use Rattle.sql_model.specs.ExpectedRows.{counted_from, batch_text, batch_row_of,
 use Rattle.sql_model.specs.Standing.{StandsFor, IsDesk}
 use Rattle.sql_transitions.proofs.Wants.{same_test}
 
--- bytes compared the other way round
+-- equality of bytes is symmetric
 bytes_back : (a b : List ℕ) → bytes_eq a b ≡ bytes_eq b a
 bytes_back a b =
     same_test (bytes_eq a b) (bytes_eq b a)
@@ -61,7 +61,7 @@ named_from name n (Loaded other rows ∷ l) =
     go true rest = ap (λ texts. batch_text rows ∷ texts) rest
     go false rest = rest
 
--- of each name there is one batch at most
+-- each name has at most one batch
 abbrev NamedOnce : List Event → Type 0
 NamedOnce l = (name : List ℕ) → length (batches_named l name) ≤ 1
 
@@ -92,7 +92,7 @@ named_more l (Loaded other rows) legal may once =
     go name false e =
         subst (λ bs. length bs ≤ 1) (sym (append-nil (batches_named l name))) (once name)
 
--- so in a legal ledger
+-- in a legal ledger each name has at most one batch
 pub named_once : (l : List Event) → IsLegal l → (name : List ℕ) → length (batches_named l name) ≤ 1
 named_once l legal = induct NamedOnce (λ name. omega arith) named_more l legal
 
@@ -142,30 +142,30 @@ good_more l (Loaded other new) legal may good =
           | inr none ↦ absurd none
         ]
 
--- so in a legal ledger
+-- in a legal ledger the rows of each batch keep the limits
 pub named_good : (l : List Event) → IsLegal l → (name : List ℕ) (rows : List Row)
     → Has (batches_named l name) rows → list_all is_good_row rows ≡ true
 named_good l legal = induct NamedGood (λ name rows h. absurd h) good_more l legal
 
--- what was found tells of the batch with the name: its text, or that there is none
+-- the found row is that of the batch with the name; no row means no such batch
 abbrev pub TellsBatch : List Event → List ℕ → Option BatchRow → Type 0
 TellsBatch l name None = batches_named l name ≡ []
 TellsBatch l name (Some b) =
     (known : List Row) × (batches_named l name ≡ known ∷ []) × (b.content ≡ batch_text known)
 
--- a list with nothing in it is empty
+-- a list of length 0 is empty
 none_in : {X : Type 0} (xs : List X) → length xs ≡ 0 → xs ≡ []
 none_in [] e = refl
 none_in (x ∷ xs) e = absurd (omega arith)
 
--- what is in a list of one is the one
+-- an element of a list of at most one element is the only one
 only_in : {X : Type 0} (xs : List X) (x : X) → length xs ≤ 1 → Has xs x → xs ≡ x ∷ []
 only_in [] x few h = absurd h
 only_in (y ∷ []) x few (inl e) = ap (λ z. z ∷ []) (sym e)
 only_in (y ∷ []) x few (inr h) = absurd h
 only_in (y ∷ z ∷ xs) x few h = absurd (omega arith)
 
--- what is found of a name among the rows of all batches tells of the batch with that name
+-- the row found with a name among the rows of all batches is that of the batch with that name
 pub batch_found : (l : List Event) (rows : List BatchRow) (name : List ℕ) (found : Option BatchRow) → IsLegal l
     → IsPermutation (batches_called l) rows → IsOneOf (filter (is_named name) rows) found
     → TellsBatch l name found
@@ -189,7 +189,7 @@ batch_found l rows name (Some b) legal same one =
     let known = has_mapped batch_text (batches_named l name) b.content text in
     (known.0, only_in (batches_named l name) known.0 (named_once l legal name) known.1, known.2)
 
--- and so the tables do, of a state that they stand for
+-- the tables that represent a state give the batch with that name
 pub batch_read : (t : Tables) (s : State) (name : List ℕ) (found : Option BatchFound) → StandsFor t s → IsDesk s
     → FindsBatch name t found → TellsBatch s.ledger name (option_map (batch_of name) found)
 batch_read t s name found st desk finds =

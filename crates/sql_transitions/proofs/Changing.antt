@@ -1,4 +1,4 @@
--- Rows of stock of which some were changed, where no row became that of another cell.
+-- Rows of stock after a change of some of them that leaves each row to its cell. For Puts and Wants.
 use Rattle.std.proofs.Common.{◌≡◌, List, [], ◌∷◌, find, cond, Bool, true, false, if◌then◌else◌, Some, refl, ap₂, ◌∙◌}
 use Rattle.std.specs.Prelude.{option_map}
 use Rattle.std.specs.List.{AllByRecursion}
@@ -13,11 +13,11 @@ use Rattle.sql_transitions.proofs.Alike.{row_of_cell}
 module _ (passes : StockRow → Bool) (change : StockRow → StockRow)
     (first : (r s : StockRow) → is_same_stock (change r) s ≡ is_same_stock r s)
     (second : (r s : StockRow) → is_same_stock r (change s) ≡ is_same_stock r s) where
-  -- a row that passes is changed
+  -- a row, changed if it passes
   abbrev row_now : StockRow → StockRow
   row_now r = if passes r then change r else r
 
-  -- it is of the cell that it was of
+  -- a changed row is of the same cell
   row_now-cell : (x : Cell) (r : StockRow) → is_stock_of x (row_now r) ≡ is_stock_of x r
   row_now-cell x r = go (passes r)
     where
@@ -25,7 +25,7 @@ module _ (passes : StockRow → Bool) (change : StockRow → StockRow)
       go true = second (row_of_cell x) r
       go false = refl
 
-  -- and of one with just the rows that it was of one with
+  -- two changed rows are of one cell exactly if they were before
   row_now-same : (r s : StockRow) → is_same_stock (row_now r) (row_now s) ≡ is_same_stock r s
   row_now-same r s = go (passes r) (passes s)
     where
@@ -36,7 +36,7 @@ module _ (passes : StockRow → Bool) (change : StockRow → StockRow)
       go false true = second r s
       go false false = refl
 
-  -- so the row of a cell is found where it was, and changed
+  -- the row of a cell is found at its place, changed if it passes
   pub find-changed : (x : Cell) (rows : List StockRow)
       → find (is_stock_of x) (changed passes change rows) ≡ option_map row_now (find (is_stock_of x) rows)
   find-changed x [] = refl
@@ -50,7 +50,7 @@ module _ (passes : StockRow → Bool) (change : StockRow → StockRow)
       go true = refl
       go false = refl
 
-  -- no two rows are of one cell still
+  -- no two changed rows are of one cell
   pub once-changed : (rows : List StockRow) → AreApart is_same_stock rows
       → AreApart is_same_stock (changed passes change rows)
   once-changed rows once =
@@ -58,7 +58,7 @@ module _ (passes : StockRow → Bool) (change : StockRow → StockRow)
       (ascending_where (λ r s. is_same_stock r s ≡ false) (λ r s. is_same_stock (row_now r) (row_now s)
       ≡ false) rows (λ r s h k off. row_now-same r s ∙ off) once)
 
-  -- and each is of some cell
+  -- each changed row is of some cell
   pub known-changed : (rows : List StockRow) → AllByRecursion IsOfCell rows
       → AllByRecursion IsOfCell (changed passes change rows)
   known-changed rows known =

@@ -1,5 +1,5 @@
--- What the statements ask of the rows that they change: that nothing falls below 0 or passes the store's integers,
--- and that a new number is above all others.
+-- The preconditions of the statements on the rows that they change: no number falls below 0 or passes the store's
+-- integers, and a new number is above all others. For the functions that write an item.
 use Rattle.std.proofs.Common.{◌≡◌, ℕ, suc, ◌+◌, ◌-◌, ◌<◌, ◌≤◌, ◌^◌, ◌==◌, List, [], ◌∷◌, ◌++◌, length, find, true, false, Option, Some, None, IsTrue, refl, sym, ap, subst, ◌∙◌, arith}
 use Rattle.std.specs.Prelude.{filter_map, option_map, unwrap_or, nat_le, ◌&&◌}
 use Rattle.std.specs.List.{AllByRecursion, list_all}
@@ -45,14 +45,14 @@ entry_num num journey (Compensation step option) = refl
 entry_num num journey (Turn target cause) = refl
 entry_num num journey (Save position) = refl
 
--- numbers below the end of the later events are below the end of all
+-- numbers below the end of the suffix are below the end of the list
 later : (n m : ℕ) (rows : List EntryRow) → AllByRecursion (λ (e : EntryRow). e.num < suc n + m) rows
     → AllByRecursion (λ (e : EntryRow). e.num < n + suc m) rows
 later n m rows below =
     subst (λ k. AllByRecursion (λ (e : EntryRow). e.num < k) rows)
     (let same : suc n + m ≡ n + suc m = omega arith in same) below
 
--- the rows of items from an event on have numbers of those events
+-- the rows of items from an event on have the numbers of those events
 entries_from-below : (n : ℕ) (l : List Event)
     → AllByRecursion (λ (e : EntryRow). e.num < n + length l)
     (filter_map (λ (e : ℕ × Event). entry_row_if e.0 e.1) (counted_from n l))
@@ -62,7 +62,7 @@ entries_from-below n (Began agent plan ∷ l) = later n (length l) _ (entries_fr
 entries_from-below n (Did j item ∷ l) =
     (let e = entry_num n j item in omega arith, later n (length l) _ (entries_from-below (suc n) l))
 
--- the next event's number is above those of all items
+-- the next event's number is above the number of each item
 pub items_below : (l : List Event) (t : Tables) → IsPermutation (entries_called l) t.entries
     → AreItemsBelow (length l + 1) t
 items_below l t same =
@@ -76,7 +76,7 @@ items_below l t same =
 FewPlaces : List Event → Type 0
 FewPlaces l = (x : Cell) (n : ℕ) → allotment l x ≡ Some n → n ≤ most_places
 
--- a load keeps it, since its rows do
+-- a load keeps the limit of places, since its rows do
 few_loaded : (l : List Event) (name : List ℕ) (rows : List Row)
     → IsTrue (is_allowed l (Loaded name rows)) → FewPlaces l → FewPlaces (l ++ Loaded name rows ∷ [])
 unfolding FewPlaces
@@ -106,7 +106,7 @@ few_loaded l name rows may few x n at =
         let same : r.places ≡ n = cc in
         subst (λ k. k ≤ most_places) same low
 
--- and no other event allots places
+-- each other event keeps the limit, since it allots nothing
 few_more : (l : List Event) (e : Event) → IsLegal l → IsTrue (is_allowed l e) → FewPlaces l
     → FewPlaces (l ++ e ∷ [])
 unfolding FewPlaces
@@ -115,7 +115,7 @@ few_more l (Began agent plan) legal may few =
     λ x n at. few x n (sym (allotment-began l agent plan x) ∙ at)
 few_more l (Did j item) legal may few = λ x n at. few x n (sym (allotment-did l j item x) ∙ at)
 
--- of no cell more places are allotted than the limit
+-- the allotment of each cell keeps the limit of places
 pub allotment_few : (l : List Event) → IsLegal l → (x : Cell) (n : ℕ) → allotment l x ≡ Some n
     → n ≤ most_places
 unfolding FewPlaces
@@ -128,7 +128,7 @@ record Says (l : List Event) (x : Cell) (r : StockRow) : Type 0 where
   allotted : allotment l x ≡ Some r.allot
   free : r.free ≡ r.allot - held l x
 
--- the places of a cell that its row tells are those that it says
+-- the places in a cell's row are those that are allotted and free
 row_says : (l : List Event) (x : Cell) (r : StockRow) → places_of l x ≡ Some (places_told r) → Says l x r
 row_says l x r e = go (allotment l x) refl e
   where
@@ -151,7 +151,7 @@ module _ (l : List Event) (t : Tables) (legal : IsLegal l) (stand : StockStands 
       let of = all_has IsOfCell t.stock r stand.known h in
       (of.0, of.1, row_says l of.0 r (sym (stand.each of.0) ∙ stock_at-row t.stock of.0 r stand.once h of.1))
 
-  -- where a want fits, each of its nights has its count of free places
+  -- if a want fits, each of its nights has its count of free places
   pub nights_have_free : (r : NightRange) (w : Wanted) → IsRangeOf r w → 1 ≤ w.nights
       → fits l (Some w) ≡ true → HaveFree r w.count t
   nights_have_free r w is some fit = all_from _ t.stock each
@@ -173,7 +173,7 @@ module _ (l : List Event) (t : Tables) (legal : IsLegal l) (stand : StockStands 
           let free = says.2.free in
           (omega arith, omega arith)
 
-  -- each night of a want has room for its count of places more
+  -- each night of a want has room for its count of further places
   pub nights_have_room : (r : NightRange) (w : Wanted) → w.count ≤ most_count → HaveRoom r w.count t
   nights_have_room r w small = all_from _ t.stock each
     where

@@ -1,4 +1,4 @@
--- The nights that were found of a want tell whether it fits, and a cell how many of its places are held.
+-- The nights found of a want determine whether it fits, and those of a cell its held places. For steps and loads.
 use Rattle.std.proofs.Common.{◌≡◌, ℕ, ◌+◌, ◌-◌, ◌<◌, ◌≤◌, ◌==◌, List, [], ◌∷◌, map, Bool, true, false, Option, Some, None, refl, sym, ap, ap₂, ◌∙◌, arith, eqb-true, eq-eqb, inl, inr}
 use Rattle.std.specs.Prelude.{option_map, unwrap_or, nat_le, ◌&&◌}
 use Rattle.std.specs.List.{list_any, list_all, cons_option}
@@ -21,7 +21,7 @@ use Rattle.sql_transitions.specs.Loading.{one_night, held_seen}
 use Rattle.sql_transitions.proofs.Wants.{same_test, numbers_within}
 
 module _ (l : List Event) (legal : IsLegal l) where
-  -- what is shown of a cell with an allotment
+  -- the places shown of a cell with an allotment
   shown : (x : Cell) (p : Places) → places_of l x ≡ Some p
       → (allotment l x ≡ Some p.allot) × (p.free ≡ p.allot - held l x)
   shown x p e = go (allotment l x) refl e
@@ -43,7 +43,7 @@ module _ (l : List Event) (legal : IsLegal l) where
       let free = is.1 in
       omega arith
 
-  -- and of a cell of which nothing is shown, none is held
+  -- of a cell that is not shown, no place is held
   pub held_untold : (x : Cell) → places_of l x ≡ None → held l x ≡ 0
   held_untold x e = held_none l x legal (absent (allotment l x) e)
     where
@@ -52,7 +52,7 @@ module _ (l : List Event) (legal : IsLegal l) where
       absent None s = refl
       absent (Some n) s = cc
 
-  -- so what is found of a cell's night tells how many of its places are held
+  -- the night found of a cell gives how many of its places are held
   pub cell_told : (x : Cell) (found : List NightFound)
       → map night_seen found ≡ places_shown l (one_night x) → held_seen found ≡ held l x
   cell_told x found shows = go (places_of l x) refl found shows
@@ -78,7 +78,7 @@ module _ (l : List Event) (legal : IsLegal l) where
     abbrev is_free_night : ℕ → ℕ × Places → Bool
     is_free_night n p = (p.0 == n) && nat_le w.count p.1.free
 
-    -- of what is shown of a want, its night has its count of free places just where its cell does
+    -- a night of a want is shown with the want's count of free places exactly if its cell has them
     night_free : (n : ℕ) → w.first ≤ n → n < w.first + w.nights
         → list_any (is_free_night n) (places_shown l w) ≡ has_free l w.count (cell_at w n)
     night_free n low high =
@@ -116,7 +116,7 @@ module _ (l : List Event) (legal : IsLegal l) where
             (and_from (n == n) (nat_le w.count (m - held l (cell_at w n))) (eq-eqb n n refl)
             (le-leb w.count (m - held l (cell_at w n)) free))
 
-    -- tests that agree on some numbers in a row pass them alike
+    -- tests that agree on consecutive numbers pass all of them alike
     all_alike : (p : ℕ → Bool) (q : Cell → Bool) (first count : ℕ)
         → ((n : ℕ) → Has (numbers_from first count) n → p n ≡ q (cell_at w n))
         → list_all p (numbers_from first count) ≡ list_all q (map (cell_at w) (numbers_from first count))
@@ -128,7 +128,7 @@ module _ (l : List Event) (legal : IsLegal l) where
         each (n ∷ ns) same =
             ap₂ (λ a b. a && b) (same n (inl refl)) (each ns (λ m h. same m (inr h)))
 
-    -- the want fits the nights that are listed just where it fits the ledger
+    -- the want fits the listed nights exactly if it fits the ledger
     pub fits_told : (cells : List (ℕ × Held)) → map night_said cells ≡ places_shown l w
         → allotted.fits_in cells w ≡ fits l (Some w)
     fits_told cells shows =

@@ -1,4 +1,4 @@
--- The rows that a compensation writes stand for the ledger with it.
+-- The rows that a compensation writes represent the ledger with it. For the functions that write an item.
 use Rattle.std.proofs.Common.{◌≡◌, ℕ, ◌+◌, [], ◌∷◌, ◌++◌, length, false, Option, Some, None, IsTrue, refl, ap, ◌∙◌}
 use Rattle.allotment.specs.Want.{Wanted}
 use Rattle.plan.specs.PlanModel.{want_at}
@@ -25,8 +25,8 @@ use Rattle.sql_transitions.proofs.Options.{standing-compensation, steps-mark}
 use Rattle.sql_transitions.proofs.Plans.{wanted_nights}
 use Rattle.sql_transitions.proofs.Wants.{stock-given}
 
--- where a step is compensated, the nights of its want and the row of its option follow, and the
--- journey's row; of the save-points the one of the step is gone
+-- a compensation changes the nights of its want, the row of its option and the journey's row, and
+-- deletes the save-point of the step
 pub compensation_stands : (t : Tables) (s : State) (ask : Option Asked) (reply : Reply) (j i c : ℕ) (w : Wanted)
     (a : Journey) → StandsFor t s → IsDesk s → journey_at s.ledger j ≡ Some a
     → want_at a.plan i c ≡ Some w → IsTrue (is_allowed s.ledger (Did j (Compensation i c)))

@@ -1,4 +1,4 @@
--- What one item of a journey changes in the rows that a ledger calls for, whatever the item.
+-- What an item of a journey changes in the rows that are expected of a ledger. For the lemmas of each item.
 use Rattle.std.proofs.Common.{◌≡◌, ℕ, suc, ◌+◌, ◌==◌, List, [], ◌∷◌, ◌++◌, length, map, Bool, true, false, if◌then◌else◌, Some, refl, sym, ap, ap₂, ◌∙◌, arith, append-nil, length-append, eqb-true, inl, inr}
 use Rattle.std.specs.Prelude.{flat_map, ◌&&◌}
 use Rattle.std.specs.List.Sorted.{IsPermutation}
@@ -24,27 +24,27 @@ use Rattle.sql_model.proofs.Numbering.{counted_stands}
 use Rattle.sql_model.proofs.JourneyRows.{row_in, begun_there}
 use Rattle.sql_transitions.specs.Moving.{cursor_written, item_written}
 
--- two functions that agree on the elements of a list make the same of it
+-- two functions that agree on the elements of a list map it alike
 map-same_on : {X Y : Type 0} (f g : X → Y) (xs : List X) → ((x : X) → Has xs x → f x ≡ g x)
     → map f xs ≡ map g xs
 map-same_on f g [] same = refl
 map-same_on f g (x ∷ xs) same =
     ap₂ ◌∷◌ (same x (inl refl)) (map-same_on f g xs (λ y h. same y (inr h)))
 
--- in another order the rows change alike
+-- a change of rows commutes with a change of their order
 pub changed-permutation : {X : Type 0} (passes : X → Bool) (change : X → X) (xs ys : List X)
     → IsPermutation xs ys → IsPermutation (changed passes change xs) (changed passes change ys)
 changed-permutation passes change xs ys same =
     IsPermutation-map (λ x. if passes x then change x else x) xs ys same
 
--- an item is written as the row that is called for
+-- the stored item is the expected row
 pub written_row : (num j : ℕ) (item : Item) → item_of j (item_written num item) ≡ entry_row_of num j item
 written_row num j (Transaction step option) = refl
 written_row num j (Compensation step option) = refl
 written_row num j (Turn target cause) = refl
 written_row num j (Save position) = refl
 
--- rows of a plan by options that are taken alike
+-- two rules that agree on which options are taken give the same rows of a plan
 step_rows-same : (taken after : ℕ → ℕ → Bool) (id : ℕ) (plan : Planned)
     → ((step option : ℕ) → after step option ≡ taken step option)
     → step_rows after id plan ≡ step_rows taken id plan
@@ -57,11 +57,11 @@ step_rows-same taken after id plan same =
 
 -- rows of a plan of which one option of one journey was marked
 module _ (j i c : ℕ) (v : Bool) where
-  -- the row of that option, marked, and another one as it is
+  -- the row of that option, marked; each other row as it is
   abbrev marked : StepRow → StepRow
   marked r = if is_option j i c r then with_taken (flag v) r else r
 
-  -- the row of an option by the changed test is its old row, marked where it is that option
+  -- the row of an option by the changed rule is its old row, marked if it is that option
   one_option : (taken : Bool) (id step : ℕ) (is_marked : Bool) (option : ℕ) (want : Wanted)
       → option_row id step is_marked option
       (if (id == j) && ((step == i) && (option == c)) then v else taken) want
@@ -75,7 +75,7 @@ module _ (j i c : ℕ) (v : Bool) where
       go true = refl
       go false = refl
 
-  -- so are all rows of a plan
+  -- the rows of a plan by the changed rule are its old rows, the one of that option marked
   step_rows-marked : (taken after : ℕ → ℕ → Bool) (id : ℕ) (plan : Planned)
       → ((step option : ℕ) → after step option
       ≡ (if (id == j) && ((step == i) && (option == c)) then v else taken step option))
@@ -97,17 +97,17 @@ module _ (l : List Event) (j : ℕ) (item : Item) where
   abbrev next : List Event
   next = l ++ Did j item ∷ []
 
-  -- one event more, and no journey
+  -- one more event, and the same journeys
   pub meta-did : meta_called next ≡ meta_row_at (length l + 1) (length (journeys l))
   meta-did =
       ap (λ n. meta_row_at n (length (journeys next))) (length-append l (Did j item ∷ []))
       ∙ ap (λ js. meta_row_at (length l + 1) (length js)) (journeys-did l j item)
 
-  -- no batch more
+  -- the same batches
   pub batches-did : batches_called next ≡ batches_called l
   batches-did = batches_called-more l (Did j item) ∙ append-nil (batches_called l)
 
-  -- the item comes last
+  -- the row of the item is appended
   pub entries-did : entries_called next ≡ entries_called l ++ item_of j (item_written (length l + 1) item) ∷ []
   entries-did =
       entries_called-more l (Did j item)
@@ -115,17 +115,17 @@ module _ (l : List Event) (j : ℕ) (item : Item) where
 
   -- Journeys.
 
-  -- no journey was begun
+  -- the same journeys were begun
   begun-did : begun next ≡ begun l
   begun-did = begun-more l (Did j item) ∙ append-nil (begun l)
 
-  -- the row of the journey, at its new cursor, and another one as it is
+  -- the row of the journey at its new cursor; each other row as it is
   abbrev moved : Journey → JourneyRow → JourneyRow
   moved a r =
       if is_numbered j r then with_cursor (cursor_written (cursor_of a.plan (history l j ++ item ∷ []))) r
       else r
 
-  -- what has the journey's number is the journey
+  -- the journey with the item's number is this journey
   the_journey : (a : Journey) → journey_at l j ≡ Some a → (b : ℕ × Begun)
       → Has (counted_from 1 (begun l)) b → (b.0 == j) ≡ true → (b.0 ≡ j) × (b.1.journey ≡ a)
   the_journey a at b h e =
@@ -154,7 +154,7 @@ module _ (l : List Event) (j : ℕ) (item : Item) where
           is.1
       go false e = ap (λ i. journey_row_of i b.0 b.1) (history-did_other l j item b.0 e)
 
-  -- the journey stands at its new cursor, and the others stand where they stood
+  -- the journey stands at its new cursor, and each other journey stands where it stood
   pub journeys_called-did : (a : Journey) → journey_at l j ≡ Some a
       → journeys_called next ≡ changed (is_numbered j)
       (with_cursor (cursor_written (cursor_of a.plan (history l j ++ item ∷ [])))) (journeys_called l)
@@ -202,7 +202,7 @@ module _ (l : List Event) (j : ℕ) (item : Item) where
       ∙ flat_map-same (rows_in next) (rows_in l) (counted_from 1 (journeys l))
       (λ a. step_rows-same (is_standing (history l a.0)) (is_standing (history next a.0)) a.0 a.1.plan (same a.0))
 
-  -- an item that takes one option, or gives it up, changes its row alone
+  -- an item that takes one option, or gives it up, changes the row of that option alone
   pub steps_called-marked : (i c : ℕ) (v : Bool)
       → ((k step option : ℕ) → is_standing (history next k) step option
       ≡ (if (k == j) && ((step == i) && (option == c)) then v else is_standing (history l k) step option))

@@ -1,4 +1,4 @@
--- An allowed event that is accepted leaves a desk's state one. What a request comes to, by its answer.
+-- An allowed event whose reply accepts leaves a desk's state; the outcome of a request, by its answer. For commands.
 use Rattle.std.proofs.Common.{◌≡◌, ℕ, ◌<◌, ◌≤◌, List, length, Bool, true, false, if◌then◌else◌, Option, Some, None, IsTrue, refl, sym, ap, subst, ◌∙◌, arith}
 use Rattle.std.specs.Prelude.{◌&&◌, ◌==◌, nat_le, is_some}
 use Rattle.std.specs.List.{list_all}
@@ -22,7 +22,7 @@ use Rattle.sql_model.specs.Standing.{IsDesk}
 use Rattle.sql_model.proofs.Accepting.{moved-good}
 use Rattle.sql_model.proofs.Answering.{keepable-more}
 
--- with an allowed event, and a reply that accepts, it is a desk's state still
+-- the state after an allowed event, whose reply accepts, is a desk's state
 pub event_keeps : (s : State) (ask : Option Asked) (reply : Reply) (e : Event) → IsDesk s
     → IsTrue (is_allowed s.ledger e) → IsTrue (is_accepted reply)
     → IsDesk (state_with s ask reply (Some e))
@@ -31,7 +31,7 @@ event_keeps s ask reply e desk may accepted = record {
   keepable = keepable-more s.kept ask reply desk.keepable accepted;
 }
 
--- so it is once a journey made an item, while there is room
+-- the state after an item of a journey is a desk's state, if the ledger has room
 pub item_keeps : (s : State) (ask : Option Asked) (j : ℕ) (item : Item) (a : Journey) → IsDesk s
     → journey_at s.ledger j ≡ Some a → IsTrue (is_allowed s.ledger (Did j item))
     → length s.ledger < most_events
@@ -40,7 +40,7 @@ item_keeps s ask j item a desk at may room =
     event_keeps s ask (moved a.plan (history s.ledger j) j item).reply (Did j item) desk may
     (moved-good s.ledger desk.legal room j a item at (sym (is_item_allowed-may_do s.ledger j item a at) ∙ may))
 
--- and once a batch was loaded
+-- the state after a load is a desk's state
 pub load_keeps : (s : State) (ask : Option Asked) (name : List ℕ) (rows : List Row) → IsDesk s
     → IsTrue (is_allowed s.ledger (Loaded name rows))
     → IsDesk (state_with s ask (loaded name rows) (Some (Loaded name rows)))
@@ -55,7 +55,7 @@ load_keeps s ask name rows desk may =
     event_keeps s ask (loaded name rows) (Loaded name rows) desk may
     (and_parts (is_batch_name name && is_between 1 most_rows (length rows)) (list_all is_good_row rows) limits).0
 
--- What a request comes to.
+-- The outcome of a request.
 
 module _ (s : State) (ask : Option Asked) (asked : Request) (new : kept_for s ask ≡ None) where
   abbrev within : Answer
@@ -64,12 +64,12 @@ module _ (s : State) (ask : Option Asked) (asked : Request) (new : kept_for s as
   abbrev by_test : Bool → Answer
   by_test v = if v then refused Limit else within
 
-  -- where nothing is kept for the ask, it comes to its answer
+  -- if nothing is kept for the ask, the outcome is that of the answer
   by_limit : (v : Bool) → (is_some within.event && nat_le most_events (length s.ledger)) ≡ v
       → outcome s ask asked ≡ carried_out s ask (by_test v)
   by_limit v e = ap (outcome_for s ask asked) new ∙ ap (λ b. carried_out s ask (by_test b)) e
 
-  -- which is the rules' while there is room
+  -- if the ledger has room, the outcome is that of the rules' answer
   pub outcome-room : length s.ledger < most_events → outcome s ask asked ≡ carried_out s ask within
   outcome-room room = by_limit false (none (is_some within.event))
     where
@@ -80,12 +80,12 @@ module _ (s : State) (ask : Option Asked) (asked : Request) (new : kept_for s as
       none true = off
       none false = refl
 
-  -- or where no event is due
+  -- if the rules make no event, the outcome is that of the rules' answer
   pub outcome-no_event : within.event ≡ None → outcome s ask asked ≡ carried_out s ask within
   outcome-no_event none =
       by_limit false (ap (λ o. is_some o && nat_le most_events (length s.ledger)) none)
 
-  -- and the refusal of a full ledger where one is due
+  -- if the rules make an event and the ledger is full, the outcome is a refusal
   pub outcome-full : (e : Event) → within.event ≡ Some e → most_events ≤ length s.ledger
       → outcome s ask asked ≡ carried_out s ask (refused Limit)
   outcome-full e some full =
@@ -93,7 +93,7 @@ module _ (s : State) (ask : Option Asked) (asked : Request) (new : kept_for s as
       (and_from (is_some within.event) (nat_le most_events (length s.ledger)) (ap is_some some)
       (le-leb most_events (length s.ledger) full))
 
-  -- so an event that is due is allowed, and the state that the request comes to is the one with it
+  -- an event that the rules make is allowed, and the state of the outcome is the state with it
   pub outcome-event : (e : Event) → IsTrue (is_request asked) → length s.ledger < most_events
       → within.event ≡ Some e
       → IsTrue (is_allowed s.ledger e) × ((outcome s ask asked).state ≡ state_with s ask within.reply (Some e))

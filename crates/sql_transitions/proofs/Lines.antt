@@ -1,4 +1,4 @@
--- A good row is written in a way of its own, and without a line feed: its five parts lack what stands between them.
+-- Good rows have different texts, without line feeds, since their parts lack the separators. For loads.
 use Rattle.std.proofs.Common.{◌≡◌, ℕ, ◌+◌, ◌-◌, ◌/◌, ◌%◌, ◌<◌, ◌≤◌, ◌^◌, ◌==◌, List, [], ◌∷◌, ◌++◌, Bool, true, Some, refl, sym, ap, ◌∙◌, arith, inl, inr, append_assoc}
 use Rattle.std.specs.Prelude.{decimal, nat_le, length, bytes_eq, ◌&&◌, ◌||◌, not}
 use Rattle.std.specs.List.{list_all}
@@ -21,14 +21,14 @@ use Rattle.sql_transitions.proofs.SameRows.{is_not, ends_no_line, cut_at, same_r
 is_plain : ℕ → Bool
 is_plain byte = not (byte == line_feed) && not (byte == slash)
 
--- a byte from 48 on is
+-- each byte from 48 on is plain
 plain_above : (byte : ℕ) → 48 ≤ byte → is_plain byte ≡ true
 unfolding is_plain
 plain_above byte high =
     and_from (not (byte == 10)) (not (byte == 47)) (not_from_false (byte == 10) (ne_eqb byte 10 (λ e. omega arith)))
     (not_from_false (byte == 47) (ne_eqb byte 47 (λ e. omega arith)))
 
--- two plain texts are plain together
+-- two plain texts are plain when appended
 both : (p : ℕ → Bool) (xs ys : List ℕ) → list_all p xs ≡ true → list_all p ys ≡ true
     → list_all p (xs ++ ys) ≡ true
 both p [] ys e f = f
@@ -38,7 +38,7 @@ both p (x ∷ xs) ys e f =
 
 -- The parts of a row are plain.
 
--- letters are
+-- letters are plain
 letter_plain : (k : Kind) → list_all is_plain (kind_letter k) ≡ true
 unfolding is_plain
 letter_plain Flight = refl
@@ -46,7 +46,7 @@ letter_plain Room = refl
 letter_plain Transfer = refl
 letter_plain Cover = refl
 
--- capitals and digits are
+-- capitals and digits are plain
 code_plain : (code : List ℕ) → is_code code ≡ true → list_all is_plain code ≡ true
 code_plain code good =
     list_all_weaker (λ byte. is_capital byte || is_digit byte) is_plain one code
@@ -61,22 +61,22 @@ code_plain code good =
               (let low = leb-true 48 byte (and_parts (nat_le 48 byte) (nat_le byte 57) digit).0 in omega arith)
         ]
 
--- a digit is
+-- a digit is plain
 digit_plain : (n : ℕ) → is_plain (48 + n) ≡ true
 digit_plain n = plain_above (48 + n) (omega arith)
 
--- so two digits are
+-- two digits are plain
 two_plain : (n : ℕ) → list_all is_plain (two_digits n) ≡ true
 two_plain n =
     and_from (is_plain (48 + n / 10)) (list_all is_plain ((48 + n % 10) ∷ [])) (digit_plain (n / 10))
     (and_from (is_plain (48 + n % 10)) true (digit_plain (n % 10)) refl)
 
--- and a dash is
+-- a dash is plain
 dash_plain : (xs : List ℕ) → list_all is_plain xs ≡ true → list_all is_plain (45 ∷ xs) ≡ true
 unfolding is_plain
 dash_plain xs e = e
 
--- and a date, which is of digits and dashes
+-- a date is plain: it is made of digits and dashes
 night_plain : (n : ℕ) → list_all is_plain (night_text n) ≡ true
 night_plain n =
     let date = civil (n - first_night) in
@@ -87,7 +87,7 @@ night_plain n =
     (both is_plain (two_digits date.1.0) (45 ∷ two_digits date.1.1) (two_plain date.1.0)
     (dash_plain (two_digits date.1.1) (two_plain date.1.1))))
 
--- a number is
+-- a number is plain
 decimal_plain : (n : ℕ) → n < 2 ^ 64 → list_all is_plain (decimal n) ≡ true
 decimal_plain =
     decimal_by_steps (λ n ds. list_all is_plain ds ≡ true)
@@ -95,28 +95,28 @@ decimal_plain =
     (λ n ds high rest. both is_plain ds ((48 + n % 10) ∷ []) rest
     (and_from (is_plain (48 + n % 10)) true (digit_plain (n % 10)) refl))
 
--- what is plain has no line feed
+-- a plain text has no line feed
 no_feed : (xs : List ℕ) → list_all is_plain xs ≡ true → list_all ends_no_line xs ≡ true
 unfolding is_plain
 no_feed xs e =
     list_all_weaker (λ b. not (b == line_feed) && not (b == slash)) ends_no_line
     (λ b p. (and_parts (not (b == line_feed)) (not (b == slash)) p).0) xs e
 
--- and no slash
+-- a plain text has no slash
 no_slash : (xs : List ℕ) → list_all is_plain xs ≡ true → list_all (is_not slash) xs ≡ true
 unfolding is_plain
 no_slash xs e =
     list_all_weaker (λ b. not (b == line_feed) && not (b == slash)) (is_not slash)
     (λ b p. (and_parts (not (b == line_feed)) (not (b == slash)) p).1) xs e
 
--- what the limits of a row say of its parts
+-- the limits of a row, part by part
 record HasGoodParts (r : Row) : Type 0 where
   supplier : is_code r.cell.supplier ≡ true
   product : is_code r.cell.product ≡ true
   night : is_night r.cell.night ≡ true
   few : r.places < 2 ^ 64
 
--- which are tested one by one
+-- a good row keeps each limit
 good_parts : (r : Row) → is_good_row r ≡ true → HasGoodParts r
 good_parts r good =
     let row = and_parts (is_good_cell r.cell) (nat_le r.places most_places) good in
@@ -130,7 +130,7 @@ good_parts r good =
       few = (let low = leb-true r.places most_places row.1 in omega arith);
     }
 
--- so each good row stands on a line of its own
+-- the text of a good row is one line
 pub own_line : (r : Row) → is_good_row r ≡ true → list_all ends_no_line (row_text r) ≡ true
 own_line r good =
     let g = good_parts r good in
@@ -148,28 +148,28 @@ own_line r good =
     (slash ∷ decimal r.places) cell
     (no_feed (decimal r.places) (decimal_plain r.places g.few))
 
--- a row is written as its parts
+-- the text of a row is that of its parts
 five_parts : (r : Row) → row_text r
     ≡ kind_letter r.cell.kind ++ slash ∷
     (r.cell.supplier ++ slash ∷
     (r.cell.product ++ slash ∷ (night_text r.cell.night ++ slash ∷ decimal r.places)))
 five_parts r = simp append_assoc
 
--- the letter of a kind is read as the kind
+-- the letter of a kind is read back
 letter_again : (k : Kind) → kind_of_letter (kind_letter k) ≡ Some k
 letter_again Flight = refl
 letter_again Room = refl
 letter_again Transfer = refl
 letter_again Cover = refl
 
--- a row of these parts
+-- the row of these parts
 made : Kind → List ℕ → List ℕ → ℕ → ℕ → Row
 made kind supplier product night places = record {
   cell = record { kind = kind; supplier = supplier; product = product; night = night };
   places = places;
 }
 
--- so good rows that are written in one way are one
+-- good rows with one text are equal
 pub own_text : (r s : Row) → is_good_row r ≡ true → is_good_row s ≡ true → row_text r ≡ row_text s → r ≡ s
 unfolding made
 own_text r s good fine e =
@@ -194,7 +194,7 @@ own_text r s good fine e =
     let places = decimal_injective r.places s.places g.few f.few four.1 in
     λ i. made (kinds i) (two.0 i) (three.0 i) (nights i) (places i)
 
--- good rows are those of a known batch just where they have its text
+-- good rows are those of a known batch exactly if they have its text
 pub same_batch : (rows known : List Row) → list_all is_good_row rows ≡ true
     → list_all is_good_row known ≡ true
     → are_same_rows rows known ≡ bytes_eq (batch_text rows) (batch_text known)

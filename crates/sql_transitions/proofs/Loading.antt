@@ -1,4 +1,4 @@
--- The rows that a load writes stand for the ledger with it.
+-- The rows that a load writes represent the ledger with it. For loads.
 use Rattle.std.proofs.Common.{◌≡◌, ℕ, ◌+◌, ◌-◌, List, [], ◌∷◌, ◌++◌, length, map, find, Option, Some, None, IsTrue, refl, sym, ap, subst, ◌∙◌, append-nil}
 use Rattle.std.specs.Prelude.{option_map, flat_map}
 use Rattle.std.specs.List.Sorted.{IsPermutation}
@@ -34,18 +34,18 @@ module _ (l : List Event) (name : List ℕ) (rows : List Row) where
   abbrev next : List Event
   next = l ++ Loaded name rows ∷ []
 
-  -- one event more, and no journey
+  -- one more event, and the same journeys
   meta-loaded : meta_called next ≡ meta_row_at (length l + 1) (length (journeys l))
   meta-loaded =
       ap (λ n. meta_row_at n (length (journeys next))) (length-more l (Loaded name rows))
       ∙ ap (λ js. meta_row_at (length l + 1) (length js)) (journeys-loaded l name rows)
 
-  -- the batch comes last
+  -- the row of the batch is appended
   batches-loaded : batches_called next
       ≡ batches_called l ++ record { name = name; num = length l + 1; content = batch_text rows } ∷ []
   batches-loaded = batches_called-more l (Loaded name rows)
 
-  -- no item more
+  -- the same items
   entries-loaded : entries_called next ≡ entries_called l
   entries-loaded = entries_called-more l (Loaded name rows) ∙ append-nil (entries_called l)
 
@@ -68,7 +68,7 @@ module _ (l : List Event) (name : List ℕ) (rows : List Row) where
       ∙ flat_map-same (rows_in next) (rows_in l) (counted_from 1 (journeys l))
       (λ a. ap (λ h. step_rows (is_standing h) a.0 a.1.plan) (history-loaded l name rows a.0))
 
-  -- each cell of the batch has its places, of which those are free that are not held
+  -- each cell of the batch has its places; those that are not held are free
   places-loaded : IsTrue (is_allowed l (Loaded name rows)) → (x : Cell)
       → places_given (held l) (find (λ (r : Row). is_cell x r.cell) rows) (places_of l x) ≡ places_of next x
   places-loaded may x =
@@ -88,7 +88,7 @@ module _ (l : List Event) (name : List ℕ) (rows : List Row) where
           ap (λ y. Some (record { allot = r.places; free = r.places - held l y }))
           (sym (is_cell-same x r.cell (has_found (λ (q : Row). is_cell x q.cell) rows r e).1))
 
-  -- so the rows of stock follow
+  -- the rows of stock are those of the longer ledger
   stock-loaded : IsTrue (is_allowed l (Loaded name rows)) → (cells : List StockRow)
       → StockStands l cells → StockStands next (put_rows (held l) rows cells)
   stock-loaded may cells stand = record {
@@ -100,7 +100,7 @@ module _ (l : List Event) (name : List ℕ) (rows : List Row) where
     known = known-rows (held l) rows cells stand.known;
   }
 
--- the rows of the cells and of the batch are those that the longer ledger calls for
+-- the rows of the cells and of the batch are those expected of the longer ledger
 batch_stands : (t : Tables) (s : State) (name : List ℕ) (rows : List Row) → StandsFor t s
     → IsTrue (is_allowed s.ledger (Loaded name rows))
     → StandsFor (with_batch (length s.ledger + 1) (length (journeys s.ledger)) name rows (held s.ledger) t)
@@ -132,7 +132,7 @@ batch_stands t s name rows st may =
       };
     }
 
--- where a batch is loaded, its cells have its places, and its row is added
+-- a load gives its cells the places of its rows, and adds its own row
 pub load_stands : (t : Tables) (s : State) (ask : Option Asked) (reply : Reply) (name : List ℕ) (rows : List Row)
     → StandsFor t s → IsTrue (is_allowed s.ledger (Loaded name rows)) → kept_for s ask ≡ None
     → StandsFor (with_answer ask reply

@@ -1,4 +1,4 @@
--- One row of a save-point more, or one less, follows the save-points that stand.
+-- The save-points that stand, after one more row of a save-point or one less. For Saving and GivingBack.
 use Rattle.std.proofs.Common.{◌≡◌, ℕ, ◌==◌, List, [], ◌∷◌, ◌++◌, Bool, true, false, filter, eqb-true, refl, sym, ap, ap₂, ◌∙◌, arith}
 use Rattle.std.specs.Prelude.{◌&&◌, ◌||◌, not}
 use Rattle.std.specs.List.{list_any}
@@ -18,12 +18,12 @@ use Rattle.desk_sql.specs.Rows.{MarkRow}
 use Rattle.sql_model.specs.Standing.{is_mark_at, is_same_mark, MarksStand}
 use Rattle.sql_model.proofs.Finding.{apart-last}
 
--- numbers compared the other way round
+-- equality of numbers is symmetric
 pub turned : (a b : ℕ) → (a == b) ≡ (b == a)
 turned a b = grind (arith, nat_tests)
 
 module _ (l : List Event) (j : ℕ) (item : Item) (rows : List MarkRow) (stand : MarksStand l rows) where
-  -- where a save-point was taken that stood nowhere, its row comes last
+  -- a save-point that is taken where none stood appends its row
   pub marks-add : (p : ℕ) → is_taken (history l j) p ≡ false
       → ((q : ℕ) → is_taken (history l j ++ item ∷ []) q ≡ ((q == p) || is_taken (history l j) q))
       → MarksStand (l ++ Did j item ∷ []) (rows ++ mark_at_pos j p ∷ [])
@@ -63,7 +63,7 @@ module _ (l : List Event) (j : ℕ) (item : Item) (rows : List MarkRow) (stand :
           sym (some_from (is_mark_at j p) rows m h here) ∙ stand.each j p ∙ none in
           cc)
 
-  -- where the save-point at a position stands no more, its row is gone
+  -- a save-point that no longer stands loses its row
   pub marks-drop : (p : ℕ)
       → ((q : ℕ) → is_taken (history l j ++ item ∷ []) q ≡ (not (q == p) && is_taken (history l j) q))
       → MarksStand (l ++ Did j item ∷ []) (filter (λ m. not (is_mark_at j p m)) rows)
@@ -91,7 +91,7 @@ module _ (l : List Event) (j : ℕ) (item : Item) (rows : List MarkRow) (stand :
           ∙ ap (λ h. is_taken h q) (sym (history-did_same l j item k e))
       go k q false e = ap (λ h. is_taken h q) (sym (history-did_other l j item k e))
 
--- where no save-point stands at a position there is no row to delete
+-- if no save-point stands at a position, there is no row to delete
 pub no_mark : (l : List Event) (j p : ℕ) (rows : List MarkRow) → MarksStand l rows
     → is_taken (history l j) p ≡ false → filter (λ m. not (is_mark_at j p m)) rows ≡ rows
 no_mark l j p rows stand none =

@@ -1,4 +1,4 @@
--- What an item leaves as it was, and the rows that every item writes. For the lemmas of each item.
+-- What an item leaves unchanged, and the rows that each item writes. For the lemmas of each item.
 use Rattle.std.proofs.Common.{◌≡◌, ℕ, ◌+◌, ◌-◌, ◌==◌, List, [], ◌∷◌, ◌++◌, length, map, Bool, true, false, eqb-true, Option, Some, None, IsTrue, refl, sym, ap, subst, ◌∙◌}
 use Rattle.std.specs.Prelude.{option_map, ◌&&◌}
 use Rattle.std.specs.List.{list_any}
@@ -29,7 +29,7 @@ use Rattle.sql_model.proofs.Answering.{answer_stands}
 use Rattle.sql_transitions.specs.Moving.{cursor_written, item_written, with_item}
 use Rattle.sql_transitions.proofs.Items.{changed-permutation, meta-did, batches-did, entries-did, journeys_called-did, steps_called-stays}
 
--- rows that stand for a ledger, with those that one item changed, stand for the ledger with it
+-- rows that represent a ledger, with those that one item changed, represent the ledger with the item
 pub record ItemStands (t u : Tables) (l : List Event) (j : ℕ) (item : Item) : Type 0 where
   pub meta : u.meta ≡ t.meta
   pub stock : StockStands (l ++ Did j item ∷ []) u.stock
@@ -45,7 +45,7 @@ module _ (t u : Tables) (s : State) (j : ℕ) (item : Item) (st : StandsFor t s)
   abbrev l : List Event
   l = s.ledger
 
-  -- the item and its number in meta come last
+  -- the row of the item is appended, and its number is in meta
   item_stands : StandsFor (with_item (length l + 1) (length (journeys l)) j item u)
       (record { ledger = l ++ Did j item ∷ []; kept = s.kept })
   item_stands = record {
@@ -69,7 +69,7 @@ module _ (t u : Tables) (s : State) (j : ℕ) (item : Item) (st : StandsFor t s)
     mark = now.mark;
   }
 
-  -- and the reply is kept, where there is an ask
+  -- the reply is kept if there is an ask
   pub item_stands_answered : (ask : Option Asked) (reply : Reply) → kept_for s ask ≡ None
       → StandsFor (with_answer ask reply (with_item (length l + 1) (length (journeys l)) j item u))
       (state_with s ask reply (Some (Did j item)))
@@ -78,7 +78,7 @@ module _ (t u : Tables) (s : State) (j : ℕ) (item : Item) (st : StandsFor t s)
       (record { ledger = l ++ Did j item ∷ []; kept = s.kept }) ask reply item_stands new
 
 module _ (l : List Event) (j : ℕ) (item : Item) where
-  -- what an item leaves of its own journey's history, it leaves of all journeys' histories
+  -- what an item leaves unchanged for its own journey's history, it leaves unchanged for all journeys
   histories_same : {Y : Type 0} (f : List Item → Y) → f (history l j ++ item ∷ []) ≡ f (history l j)
       → (k : ℕ) → f (history (l ++ Did j item ∷ []) k) ≡ f (history l k)
   histories_same f same k = go (k == j) refl
@@ -90,7 +90,7 @@ module _ (l : List Event) (j : ℕ) (item : Item) where
           ∙ ap (λ i. f (history l i)) (sym is)
       go false e = ap f (history-did_other l j item k e)
 
-  -- where as much is held, the rows of stock stand still
+  -- if the same places are held, the rows of stock stay
   pub stock-stays : (rows : List StockRow) → ((x : Cell) → held (l ++ Did j item ∷ []) x ≡ held l x)
       → StockStands l rows → StockStands (l ++ Did j item ∷ []) rows
   stock-stays rows same stand = record {
@@ -103,7 +103,7 @@ module _ (l : List Event) (j : ℕ) (item : Item) where
     known = stand.known;
   }
 
-  -- where as many save-points stand, their rows stand still
+  -- if the same save-points stand, their rows stay
   pub marks-stay : (rows : List MarkRow)
       → ((p : ℕ) → is_taken (history l j ++ item ∷ []) p ≡ is_taken (history l j) p)
       → MarksStand l rows → MarksStand (l ++ Did j item ∷ []) rows
@@ -112,7 +112,7 @@ module _ (l : List Event) (j : ℕ) (item : Item) where
     once = stand.once;
   }
 
-  -- where the same transactions stand, the rows of steps stand still
+  -- if the same transactions stand, the rows of steps stay
   pub steps-stay : (rows : List StepRow) → net (history l j ++ item ∷ []) ≡ net (history l j)
       → IsPermutation (steps_called l) rows
       → IsPermutation (steps_called (l ++ Did j item ∷ [])) rows
@@ -123,7 +123,7 @@ module _ (l : List Event) (j : ℕ) (item : Item) where
       (ap (λ ts. list_any (λ (t : ℕ × ℕ). (t.0 == step) && (t.1 == option)) ts) same) k)))
       stand
 
-  -- the row of the journey follows it to its new cursor
+  -- the row of the journey moves to its new cursor
   pub journeys-move : (rows : List JourneyRow) (a : Journey) (cursor : Cursor)
       → journey_at l j ≡ Some a → cursor_of a.plan (history l j ++ item ∷ []) ≡ cursor
       → IsPermutation (journeys_called l) rows

@@ -25,7 +25,7 @@ use Rattle.sql_model.proofs.Accepting.{moved-good}
 use Rattle.sql_transitions.specs.Moving.{cursor_written, item_written}
 use Rattle.sql_transitions.proofs.Moves.{cursor_next}
 
--- a journey makes no more items than there are events
+-- a journey has at most as many items as there are events
 history-few : (l : List Event) (j : ℕ) → length (history l j) ≤ length l
 history-few [] j = omega arith
 history-few (Loaded name rows ∷ l) j = let rest = history-few l j in omega arith
@@ -50,14 +50,14 @@ state_small pos (Back p) e =
           (and_parts (nat_le 0 p) (nat_le p most_steps) both.1).1,
     )
 
--- there are four phases
+-- the number of a phase is at most 3
 phase_small : (ph : Phase) → phase_number ph ≤ 3
 phase_small Run = omega arith
 phase_small (Back p) = omega arith
 phase_small Ended = omega arith
 phase_small Undone = omega arith
 
--- and three causes
+-- the number of a cause is at most 2
 cause_small : (cause : Cause) → cause_number cause ≤ 2
 cause_small Stop = omega arith
 cause_small Refused = omega arith
@@ -72,7 +72,7 @@ option_small num step option low e =
     let second = leb-true option most_options (and_parts (nat_le 1 option) (nat_le option most_options) both.1).1 in
     (low, omega arith, omega arith)
 
--- an item that keeps the limits is written in small numbers
+-- an item that keeps the limits is stored in small numbers
 item_small : (num : ℕ) (x : Item) → num < 2 ^ 63 → is_item x ≡ true → IsSmallItem (item_written num x)
 item_small num (Transaction step option) low e =
     let small = option_small num step option low e in
@@ -88,14 +88,14 @@ item_small num (Save p) low e =
     let position = leb-true p most_steps (and_parts (nat_le 0 p) (nat_le p most_steps) e).1 in
     (low, (omega arith, (omega arith, (omega arith, tt))))
 
--- the numbers of a move: of its journey, of its item, and of the cursor behind it
+-- the numbers of a move are small: of its journey, of its item, and of the cursor after it
 pub record IsSmallMove (l : List Event) (j : ℕ) (a : Journey) (x : Item) : Type 0 where
   pub journey : j < 2 ^ 63
   pub item : IsSmallItem (item_written (length l + 1) x)
   pub cursor : IsSmallCursor (cursor_written (cursor_after a.plan (cursor_of a.plan (history l j)) x))
 
--- while there is room they fit, since its reply keeps the limits and no journey was refused more often than there are
--- events
+-- if the ledger has room they fit, since the move's reply keeps the limits and no journey was refused more often
+-- than there are events
 pub move_small : (l : List Event) (j : ℕ) (a : Journey) (x : Item) → IsLegal l → journey_at l j ≡ Some a
     → IsTrue (is_allowed l (Did j x)) → length l < most_events → IsSmallMove l j a x
 move_small l j a x legal at may room =

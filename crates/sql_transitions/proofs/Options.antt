@@ -1,4 +1,4 @@
--- The rows of steps follow the options that are taken: one more by a transaction, one less by a compensation.
+-- The rows of steps after one more option is taken, or one is given up. For Taking and GivingBack.
 use Rattle.std.proofs.Common.{◌≡◌, ℕ, ◌==◌, List, [], ◌∷◌, ◌++◌, Bool, true, false, if◌then◌else◌, IsTrue, eqb-true, refl, sym, ap, ap₂, subst, ◌∙◌}
 use Rattle.std.specs.Prelude.{◌&&◌, ◌||◌, not}
 use Rattle.std.specs.List.{list_any}
@@ -22,7 +22,7 @@ use Rattle.sql_model.proofs.ItemRows.{any-filter}
 use Rattle.sql_transitions.proofs.Items.{changed-permutation, steps_called-marked}
 use Rattle.sql_transitions.proofs.Marks.{turned}
 
--- a transaction that stands is of this step and option
+-- a standing transaction is of this step and option
 abbrev is_of : ℕ → ℕ → ℕ × ℕ → Bool
 is_of step option t = (t.0 == step) && (t.1 == option)
 
@@ -33,7 +33,7 @@ last_taken true false = refl
 last_taken false true = refl
 last_taken false false = refl
 
--- after a transaction its option is taken, and of others those that were
+-- after a transaction its option is taken, and of the others those that were
 pub standing-transaction : (h : List Item) (i c step option : ℕ)
     → is_standing (h ++ Transaction i c ∷ []) step option
     ≡ (if (step == i) && (option == c) then true else is_standing h step option)
@@ -43,7 +43,7 @@ standing-transaction h i c step option =
     ∙ last_taken (is_standing h step option) (is_of step option (i, c))
     ∙ ap₂ (λ a b. if a && b then true else is_standing h step option) (turned i step) (turned c option)
 
--- no transaction of a step stands once those of the step are left out
+-- without the transactions of a step, none of the step stands
 none_of_step : (i option : ℕ) (ts : List (ℕ × ℕ))
     → list_any (λ t. not (t.0 == i) && is_of i option t) ts ≡ false
 none_of_step i option [] = refl
@@ -54,7 +54,7 @@ none_of_step i option (t ∷ ts) =
     none true b = refl
     none false b = refl
 
--- after a compensation its option is not taken any more, and of others those that were
+-- after a compensation its option is no longer taken, and of the others those that were
 pub standing-compensation : (plan : Planned) (h : List Item) (may_fit : Bool) (i c : ℕ) → Follows plan h
     → IsTrue (may_come plan h may_fit (Compensation i c)) → (step option : ℕ)
     → is_standing (h ++ Compensation i c ∷ []) step option
@@ -87,7 +87,7 @@ standing-compensation plan h may_fit i c f may step option =
 module _ (l : List Event) (j : ℕ) (item : Item) (i c : ℕ) (v : Bool)
     (taken : (step option : ℕ) → is_standing (history l j ++ item ∷ []) step option
     ≡ (if (step == i) && (option == c) then v else is_standing (history l j) step option)) where
-  -- the option of its own journey, and of no other
+  -- the row is that option of that journey
   one_journey : (k step option : ℕ)
       → is_standing (history (l ++ Did j item ∷ []) k) step option
       ≡ (if (k == j) && ((step == i) && (option == c)) then v else is_standing (history l k) step option)
@@ -103,7 +103,7 @@ module _ (l : List Event) (j : ℕ) (item : Item) (i c : ℕ) (v : Bool)
           ∙ ap (λ n. if (step == i) && (option == c) then v else is_standing (history l n) step option) (sym is)
       go false e = ap (λ h. is_standing h step option) (history-did_other l j item k e)
 
-  -- the row of the option is marked, in whatever order the rows are
+  -- the row of the option is marked, in each order of the rows
   pub steps-mark : (rows : List StepRow) → IsPermutation (steps_called l) rows
       → IsPermutation (steps_called (l ++ Did j item ∷ [])) (changed (is_option j i c) (with_taken (flag v)) rows)
   steps-mark rows stand =

@@ -1,4 +1,4 @@
--- The wants of a plan that keeps the limits keep theirs.
+-- The wants of a plan that keeps the limits keep the limits of wants. For Taking and GivingBack.
 use Rattle.std.proofs.Common.{◌≡◌, ℕ, zero, suc, ◌≤◌, List, [], ◌∷◌, length, Bool, true, Option, Some, None, ◌+◌, ◌-◌, IsTrue, refl, sym, ap, ◌∙◌, ◌<◌, arith}
 use Rattle.std.specs.Prelude.{slice_get, nat_le, ◌&&◌, option_and_then, option_map, unwrap_or}
 use Rattle.std.specs.List.{list_all}
@@ -10,7 +10,7 @@ use Rattle.plan.specs.PlanModel.{Planned, StepPlan, numbered, want_at, is_step, 
 use Rattle.ledger.specs.Ledger.{Event, Journey, journey_at, IsLegal}
 use Rattle.sql_model.proofs.RecordRows.{plan_good}
 
--- where each passes, the one of a number does
+-- if each element passes, the one with a number passes
 numbered-passes : {X : Type 0} (p : X → Bool) (xs : List X) (n : ℕ) (x : X) → numbered xs n ≡ Some x
     → list_all p xs ≡ true → p x ≡ true
 numbered-passes p xs zero x e all = cc
@@ -34,7 +34,7 @@ want_good plan i c w good want =
     go None each e = cc
     go (Some s) each e = numbered-passes is_want s.options c w e (step_limited s (each s refl)).each_want
 
--- and so has a night at least
+-- a good want has at least one night
 pub want-nights : (w : Wanted) → is_want w ≡ true → 1 ≤ w.nights
 want-nights w good =
     let four =
@@ -49,13 +49,13 @@ want-nights w good =
     leb-true 1 w.nights
     (and_parts (nat_le 1 w.nights) (nat_le w.nights (most_nights w.kind)) between).0
 
--- each want of a journey of a legal ledger has a night at least
+-- each want of a journey of a legal ledger has at least one night
 pub wanted_nights : (l : List Event) (j i c : ℕ) (a : Journey) (w : Wanted) → IsLegal l
     → journey_at l j ≡ Some a → want_at a.plan i c ≡ Some w → 1 ≤ w.nights
 wanted_nights l j i c a w legal at want =
     want-nights w (want_good a.plan i c w (plan_good l j a legal at) want)
 
--- and takes so many places of a night at most
+-- a good want keeps the limit of places a night
 pub want-count : (w : Wanted) → is_want w ≡ true → w.count ≤ most_count
 want-count w good =
     let count =
@@ -64,7 +64,7 @@ want-count w good =
     (is_count w.count) good).1 in
     leb-true w.count most_count (and_parts (nat_le 1 w.count) (nat_le w.count most_count) count).1
 
--- so does each want of a journey of a legal ledger
+-- each want of a journey of a legal ledger keeps the limit of places a night
 pub wanted_count : (l : List Event) (j i c : ℕ) (a : Journey) (w : Wanted) → IsLegal l
     → journey_at l j ≡ Some a → want_at a.plan i c ≡ Some w → w.count ≤ most_count
 wanted_count l j i c a w legal at want =

@@ -1,4 +1,4 @@
--- The rows of stock, once cells got other places, each in its own row or in a new one.
+-- The rows of stock after cells got other places, each in its own row or in a new one. For Loading.
 use Rattle.std.proofs.Common.{◌≡◌, ℕ, ◌-◌, ◌==◌, List, [], ◌∷◌, ◌++◌, find, cond, Bool, true, false, if◌then◌else◌, Option, Some, None, refl, sym, ap, ◌∙◌}
 use Rattle.std.specs.Prelude.{option_map, bytes_eq, ◌&&◌, not}
 use Rattle.std.specs.List.{AllByRecursion, list_any}
@@ -34,7 +34,7 @@ same_cell s r =
     regroup true false c d = refl
     regroup false b c d = refl
 
--- rows of which no two are of one cell are so by the statement's test
+-- rows of which no two are of one cell pass the statement's test
 pub cells_apart : (t : Tables) → AreApart is_same_stock t.stock → AreCellsApart t
 cells_apart t once =
     ascending_where (λ r s. is_same_stock r s ≡ false) (λ r s. is_row_of r s ≡ false) t.stock
@@ -42,11 +42,11 @@ cells_apart t once =
 
 -- One cell.
 module _ (s : StockRow) (cells : List StockRow) where
-  -- a row, with the places of the new one where they are of one cell
+  -- a row, with the places of the new row if both are of one cell
   abbrev row_now : StockRow → StockRow
   row_now r = if is_row_of s r then with_places s r else r
 
-  -- a row of the cell x is of the new row's cell just where the new row is of x
+  -- a row of the cell x is of the new row's cell exactly if the new row is of x
   of_new : (x : Cell) (r : StockRow) → is_stock_of x r ≡ true → is_row_of s r ≡ is_stock_of x s
   of_new x r of = go (is_stock_of x s) refl
     where
@@ -57,11 +57,11 @@ module _ (s : StockRow) (cells : List StockRow) where
           (λ on.
           let bad : true ≡ false = sym (same-same (row_of_cell x) r s of (sym (same_cell s r) ∙ on)) ∙ e in cc)
 
-  -- the places of the new row where it is of the cell, else those that were there
+  -- the places of the new row if it is of the cell, else those that were there
   abbrev places_now : Bool → Option Places → Option Places
   places_now v before = if v then Some (places_told s) else before
 
-  -- in its own row
+  -- a cell that has a row gets its places in it
   stock_at-changed : (x : Cell) → list_any (is_row_of s) cells ≡ true
       → stock_at (changed (is_row_of s) (with_places s) cells) x ≡ places_now (is_stock_of x s) (stock_at cells x)
   stock_at-changed x some =
@@ -91,7 +91,7 @@ module _ (s : StockRow) (cells : List StockRow) where
           (has_found (is_stock_of x) cells r e).1)
           ∙ told (is_stock_of x s) r
 
-  -- in a new row, where it had none
+  -- a cell that has no row gets a new one
   stock_at-added : (x : Cell) → list_any (is_row_of s) cells ≡ false
       → stock_at (cells ++ s ∷ []) x ≡ places_now (is_stock_of x s) (stock_at cells x)
   stock_at-added x none = go (is_stock_of x s) refl (find (is_stock_of x) cells) refl
@@ -109,7 +109,7 @@ module _ (s : StockRow) (cells : List StockRow) where
           let bad : true ≡ false = sym (some_from (is_row_of s) cells r there.0 of) ∙ none in
           cc
 
-  -- so the cell of the new row has its places, and each other cell what it had
+  -- the cell of the new row has its places, and each other cell has those that it had
   stock_at-put : (x : Cell) → stock_at (put s cells) x ≡ places_now (is_stock_of x s) (stock_at cells x)
   stock_at-put x = go (list_any (is_row_of s) cells) refl
     where
@@ -119,7 +119,7 @@ module _ (s : StockRow) (cells : List StockRow) where
       go true e = stock_at-changed x e
       go false e = stock_at-added x e
 
-  -- no two rows are of one cell still
+  -- no two rows are of one cell after a put
   once-put : AreApart is_same_stock cells → AreApart is_same_stock (put s cells)
   once-put once = go (list_any (is_row_of s) cells) refl
     where
@@ -136,7 +136,7 @@ module _ (s : StockRow) (cells : List StockRow) where
       go true e = once-changed (is_row_of s) (with_places s) (λ q r. refl) (λ q r. refl) cells once
       go false e = apart-last is_same_stock cells s once (all_from _ cells (λ r h. other r h e))
 
-  -- and each is of some cell
+  -- each row is of some cell after a put
   known-put : IsOfCell s → AllByRecursion IsOfCell cells → AllByRecursion IsOfCell (put s cells)
   known-put new known = go (list_any (is_row_of s) cells)
     where
@@ -147,7 +147,7 @@ module _ (s : StockRow) (cells : List StockRow) where
 
 -- All cells of a batch.
 
--- one more row is put last
+-- one more row is put after the others
 pub put_rows-last : (holds : Cell → ℕ) (rows : List Row) (r : Row) (cells : List StockRow)
     → put_rows holds (rows ++ r ∷ []) cells ≡ put (loaded_row (holds r.cell) r) (put_rows holds rows cells)
 put_rows-last holds [] r cells = refl
@@ -155,7 +155,7 @@ put_rows-last holds (q ∷ rows) r cells =
     put_rows-last holds rows r (put (loaded_row (holds q.cell) q) cells)
 
 module _ (holds : Cell → ℕ) where
-  -- no two rows are of one cell, whichever cells got places
+  -- no two rows are of one cell after a batch
   pub once-rows : (rows : List Row) (cells : List StockRow) → AreApart is_same_stock cells
       → AreApart is_same_stock (put_rows holds rows cells)
   once-rows [] cells once = once
@@ -163,7 +163,7 @@ module _ (holds : Cell → ℕ) where
       once-rows rows (put (loaded_row (holds r.cell) r) cells)
       (once-put (loaded_row (holds r.cell) r) cells once)
 
-  -- and each is of some cell
+  -- each row is of some cell after a batch
   pub known-rows : (rows : List Row) (cells : List StockRow) → AllByRecursion IsOfCell cells
       → AllByRecursion IsOfCell (put_rows holds rows cells)
   known-rows [] cells known = known
@@ -171,13 +171,13 @@ module _ (holds : Cell → ℕ) where
       known-rows rows (put (loaded_row (holds r.cell) r) cells)
       (known-put (loaded_row (holds r.cell) r) cells (r.cell, same-self (row_of_cell r.cell)) known)
 
-  -- the places that a row of a batch gives, else those that were there
+  -- the places in a row of a batch, else those that were there
   abbrev pub places_given : Option Row → Option Places → Option Places
   places_given None before = before
   places_given (Some r) before =
       Some (record { allot = r.places; free = r.places - holds r.cell })
 
-  -- each cell of a batch that names it once has the places of its row, and each other what it had
+  -- if a batch names each cell once, its cells have the places of its rows, and each other cell has those that it had
   pub stock_at-rows : (rows : List Row) (cells : List StockRow) (x : Cell) → are_distinct rows ≡ true
       → stock_at (put_rows holds rows cells) x
       ≡ places_given (find (λ (r : Row). is_cell x r.cell) rows) (stock_at cells x)

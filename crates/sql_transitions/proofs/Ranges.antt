@@ -1,4 +1,4 @@
--- A range of nights, as the statements take it, is that of a want.
+-- The range of nights that a statement takes is that of a want. For the functions that write a want.
 use Rattle.std.proofs.Common.{◌≡◌, ◌==◌, map, if◌then◌else◌}
 use Rattle.std.specs.Prelude.{bytes_eq, nat_le, ◌&&◌}
 use Rattle.allotment.specs.Want.{Wanted}
@@ -8,20 +8,20 @@ use Rattle.desk_sql.specs.declared.stock.NightRange.{NightRange}
 use Rattle.sql_model.specs.Reading.{IsRangeOf, is_wanted_row}
 use Rattle.sql_transitions.specs.Moving.{takes_want, gives_want}
 
--- a row is of the range just where it is wanted
+-- a row is in the range exactly if it is wanted
 pub range_row : (r : NightRange) (w : Wanted) → IsRangeOf r w → (s : StockRow)
     → is_within r s ≡ is_wanted_row w s
 range_row r w is s =
     λ i. (s.kind == is.kind i) && (bytes_eq s.supplier (is.supplier i) && (bytes_eq s.product (is.product i)
     && (nat_le (is.first i) s.night && nat_le s.night (is.last i))))
 
--- so the statement takes just the want
+-- the statement takes just the want
 pub takes_range : (r : NightRange) (w : Wanted) (t : Tables) → IsRangeOf r w
     → takes_nights r w.count t ≡ takes_want w t
 takes_range r w t is =
     λ i. record t { stock = map (λ x. if range_row r w is x i then with_fewer w.count x else x) t.stock }
 
--- or gives just it back
+-- the statement gives back just the want
 pub gives_range : (r : NightRange) (w : Wanted) (t : Tables) → IsRangeOf r w
     → gives_nights r w.count t ≡ gives_want w t
 gives_range r w t is =

@@ -1,5 +1,5 @@
--- Two batches have the same rows where they have the same text, if each row is written on a line of its own in a way
--- of its own.
+-- Two batches with one text have the same rows, if the text of each row is one line, and different rows have
+-- different texts. For Lines.
 use Rattle.std.proofs.Common.{◌≡◌, ℕ, ◌==◌, List, [], ◌∷◌, ◌++◌, length, Bool, true, false, refl, sym, ap, ap₂, ◌∙◌, arith, append_assoc, length-append, eqb-true, eq-eqb}
 use Rattle.std.specs.Prelude.{bytes_eq, decimal, ◌&&◌, not}
 use Rattle.std.specs.List.{list_all}
@@ -15,7 +15,7 @@ use Rattle.sql_model.specs.ExpectedRows.{batch_text}
 use Rattle.sql_transitions.proofs.Alike.{same-self, row_of_cell}
 use Rattle.sql_transitions.proofs.Wants.{same_test}
 
--- the byte is another one than this
+-- the byte is not this one
 abbrev pub is_not : ℕ → ℕ → Bool
 is_not sep byte = not (byte == sep)
 
@@ -23,7 +23,7 @@ is_not sep byte = not (byte == sep)
 abbrev pub ends_no_line : ℕ → Bool
 ends_no_line byte = is_not line_feed byte
 
--- the first byte of this value ends the first part
+-- the first separator ends the first part
 pub cut_at : (sep : ℕ) (a b xs ys : List ℕ) → list_all (is_not sep) a ≡ true → list_all (is_not sep) b ≡ true
     → a ++ sep ∷ xs ≡ b ++ sep ∷ ys → (a ≡ b) × (xs ≡ ys)
 cut_at sep [] [] xs ys p q e = (refl, cc)
@@ -45,11 +45,11 @@ cut_at sep (x ∷ a) (y ∷ b) xs ys p q e =
     (and_parts (is_not sep y) (list_all (is_not sep) b) q).1 rest in
     (ap₂ ◌∷◌ is cut.0, cut.1)
 
--- the text of a batch begins with the line of its first row
+-- the text of a batch starts with the line of its first row
 first_line : (r : Row) (rows : List Row) → batch_text (r ∷ rows) ≡ row_text r ++ line_feed ∷ batch_text rows
 first_line r rows = append_assoc (row_text r) (line_feed ∷ []) (batch_text rows)
 
--- so it is not empty
+-- the text of a batch with a row is not empty
 not_empty : (r : Row) (rows : List Row) → batch_text (r ∷ rows) ≡ [] → ⊥
 not_empty r rows e =
     let longer = length-append (row_text r) (line_feed ∷ batch_text rows) in
@@ -73,7 +73,7 @@ module _ (good : Row → Bool)
       (eqb-true r.places s.places one.1) in
       ap₂ (λ a b. (a ++ line_feed ∷ []) ++ b) line (same_text rows known both.1)
 
-  -- and one text is that of the same rows
+  -- batches with one text have the same rows
   same_rows : (rows known : List Row) → list_all good rows ≡ true → list_all good known ≡ true
       → batch_text rows ≡ batch_text known → are_same_rows rows known ≡ true
   same_rows [] [] p q e = refl
@@ -93,7 +93,7 @@ module _ (good : Row → Bool)
       (eq-eqb r.places s.places (ap (λ (x : Row). x.places) one)))
       (same_rows rows known mine.1 other.1 cut.1)
 
-  -- rows are the same just where their texts are
+  -- rows are the same exactly if their texts are
   pub same_rows_told : (rows known : List Row) → list_all good rows ≡ true → list_all good known ≡ true
       → are_same_rows rows known ≡ bytes_eq (batch_text rows) (batch_text known)
   same_rows_told rows known p q =

@@ -1,4 +1,4 @@
--- The rows that a save-point writes stand for the ledger with it.
+-- The rows that a save-point writes represent the ledger with it. For the functions that write an item.
 use Rattle.std.proofs.Common.{◌≡◌, ℕ, ◌+◌, List, length, Bool, true, false, Option, Some, None, IsTrue, refl, sym, subst, IsTrue}
 use Rattle.std.specs.Prelude.{◌&&◌, ◌||◌, ◌==◌, not, nat_lt, nat_le}
 use Rattle.std.specs.List.Sorted.{IsPermutation}
@@ -24,7 +24,7 @@ use Rattle.sql_transitions.proofs.Items.{journeys_called-stays}
 use Rattle.sql_transitions.proofs.Marks.{marks-add}
 use Rattle.sql_transitions.proofs.Moves.{item_stands_answered, stock-stays, steps-stay, cursor_next}
 
--- a save-point is taken where none was taken that stands
+-- a save-point may be taken only where none stands that was taken
 pub save-new : (plan : Planned) (h : List Item) (may_fit : Bool) (p : ℕ)
     → may_come plan h may_fit (Save p) ≡ true → is_taken h p ≡ false
 save-new plan h may_fit p may =
@@ -36,7 +36,7 @@ save-new plan h may_fit p may =
     none false true e = cc
     none false false e = refl
 
--- where a save-point is taken, its row is added, and all else stands as it stood
+-- a save-point adds its row, and leaves all other rows
 pub save_stands : (t : Tables) (s : State) (ask : Option Asked) (reply : Reply) (j p : ℕ) (a : Journey)
     → StandsFor t s → IsDesk s → journey_at s.ledger j ≡ Some a
     → IsTrue (is_allowed s.ledger (Did j (Save p))) → kept_for s ask ≡ None

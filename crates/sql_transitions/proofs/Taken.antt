@@ -1,4 +1,4 @@
--- The rows that are found of a journey's steps tell the wants of its plan, and which option stands taken.
+-- The rows found of a journey's steps give the wants of its plan, and the taken options. For the choice of an option.
 use Rattle.std.proofs.Common.{◌≡◌, inl, inr, ℕ, zero, suc, ◌+◌, ◌≤◌, ◌==◌, List, [], ◌∷◌, length, map, Bool, true, false, Option, Some, None, refl, sym, ap, subst, ◌∙◌, arith, eqb-true, eq-eqb}
 use Rattle.std.specs.Prelude.{flat_map, slice_get, option_map, option_and_then, unwrap_or, ◌&&◌}
 use Rattle.std.proofs.lemmas.Bool.{and_parts, and_from}
@@ -17,7 +17,7 @@ use Rattle.sql_model.specs.ExpectedRows.{counted_from, flag, is_standing, option
 use Rattle.sql_model.proofs.Numbering.{counted_stands, counted_has}
 use Rattle.sql_transitions.proofs.Plans.{option_wanted}
 
--- what is in one of the lists is in all of them together
+-- an element of one of the lists is in their concatenation
 has_flat_map : {X Y : Type 0} (f : X → List Y) (xs : List X) (x : X) (y : Y) → Has xs x → Has (f x) y
     → Has (flat_map f xs) y
 has_flat_map f [] x y h k = absurd h
@@ -25,7 +25,7 @@ has_flat_map f (z ∷ xs) x y (inl same) k =
     has_left (f z) (flat_map f xs) y (subst (λ w. Has (f w) y) same k)
 has_flat_map f (z ∷ xs) x y (inr h) k = has_right (f z) (flat_map f xs) y (has_flat_map f xs x y h k)
 
--- and what is in all together is in one of them
+-- an element of the concatenation is in one of the lists
 flat_map_has : {X Y : Type 0} (f : X → List Y) (xs : List X) (y : Y) → Has (flat_map f xs) y
     → (x : X) × Has xs x × Has (f x) y
 flat_map_has f [] y h = absurd h
@@ -35,14 +35,14 @@ flat_map_has f (z ∷ xs) y h =
       | inr later ↦ let rest = flat_map_has f xs y later in (rest.0, inr rest.1, rest.2)
     ]
 
--- the row is that of a want of the plan, marked as its step is, and taken as this says
+-- the row is that of a want of the plan, with the mark of its step, and taken as `taken` says
 pub record IsRowOf (taken : ℕ → ℕ → Bool) (id : ℕ) (plan : Planned) (r : StepRow) : Type 0 where
   pub want : Wanted
   pub wanted : want_at plan r.place r.opt ≡ Some want
   pub is : r ≡ option_row id r.place (is_marked_at plan r.place) r.opt (taken r.place r.opt) want
 
 module _ (taken : ℕ → ℕ → Bool) (id : ℕ) (plan : Planned) where
-  -- each row of a plan is that of a want of it
+  -- each row of a plan is that of one of its wants
   pub row_told : (r : StepRow) → Has (step_rows taken id plan) r → IsRowOf taken id plan r
   row_told r h =
       let step =
@@ -70,7 +70,7 @@ module _ (taken : ℕ → ℕ → Bool) (id : ℕ) (plan : Planned) where
             (sym marked);
       })
 
-  -- and each want of a plan has its row
+  -- each want of a plan has its row
   pub row_there : (i c : ℕ) (w : Wanted) → want_at plan i c ≡ Some w
       → Has (step_rows taken id plan) (option_row id i (is_marked_at plan i) c (taken i c) w)
   row_there zero c w e = cc
@@ -100,9 +100,9 @@ module _ (taken : ℕ → ℕ → Bool) (id : ℕ) (plan : Planned) where
           (subst (λ n. Has (counted_from 1 plan.steps) (n, s)) number (counted_has 1 plan.steps i s f))
           (in_step s c f g))
 
--- What stands taken.
+-- The taken options.
 
--- of transactions whose steps are numbered in a row, the last has the greatest number
+-- of transactions whose steps have consecutive numbers, the last has the greatest number
 last_above : (ts : List (ℕ × ℕ)) (first : ℕ) (last : ℕ × ℕ)
     → map (λ s. s.0) ts ≡ numbers_from first (length ts) → last_of ts ≡ Some last → first ≤ last.0
 last_above [] first last stands is = cc
@@ -116,7 +116,7 @@ last_above (x ∷ y ∷ ts) first last stands is =
     let above = last_above (y ∷ ts) (suc first) last rest is in
     omega arith
 
--- and is the only one of its step
+-- the last transaction is the only one of its step
 last_of_step : (ts : List (ℕ × ℕ)) (first : ℕ) (last : ℕ × ℕ) (t : ℕ × ℕ)
     → map (λ s. s.0) ts ≡ numbers_from first (length ts) → last_of ts ≡ Some last → Has ts t
     → t.0 ≡ last.0 → t.1 ≡ last.1
@@ -133,7 +133,7 @@ last_of_step (x ∷ y ∷ ts) first last t stands is (inl e) same =
     let here : t.0 ≡ x.0 = ap (λ (s : ℕ × ℕ). s.0) e in
     absurd (omega arith)
 
--- of the last step that stands no option but its own stands taken
+-- of the last step that stands, no option but its own is taken
 pub taken_option : (plan : Planned) (h : List Item) (i c option : ℕ) → Follows plan h
     → last_of (net h) ≡ Some (i, c) → is_standing h i option ≡ true → option ≡ c
 taken_option plan h i c option f last on =
@@ -142,7 +142,7 @@ taken_option plan h i c option f last on =
     sym (eqb-true found.0.1 option both.1)
     ∙ last_of_step (net h) 1 (i, c) found.0 f.stands last found.1 (eqb-true found.0.0 i both.0)
 
--- and its own does
+-- of the last step that stands, its own option is taken
 pub option_taken : (h : List Item) (i c : ℕ) → last_of (net h) ≡ Some (i, c)
     → is_standing h i c ≡ true
 option_taken h i c last =
@@ -151,7 +151,7 @@ option_taken h i c last =
     (subst (λ ts. Has ts (i, c)) (sym cut.1) (has_right cut.0 ((i, c) ∷ []) (i, c) (inl refl)))
     (and_from (i == i) (c == c) (eq-eqb i i refl) (eq-eqb c c refl))
 
--- so a row of the last step that is marked as taken has its option
+-- a row of the last step that is marked as taken has its option
 pub taken_row : (plan : Planned) (h : List Item) (id i c : ℕ) (r : StepRow) → Follows plan h
     → last_of (net h) ≡ Some (i, c) → Has (step_rows (is_standing h) id plan) r → r.place ≡ i
     → r.taken ≡ 1 → r.opt ≡ c
@@ -165,7 +165,7 @@ taken_row plan h id i c r f last there place taken =
     marked true e = refl
     marked false e = cc
 
--- and there is such a row
+-- the last step has a row that is marked as taken
 pub taken_row_there : (plan : Planned) (h : List Item) (id i c : ℕ) (w : Wanted)
     → last_of (net h) ≡ Some (i, c) → want_at plan i c ≡ Some w
     → Has (step_rows (is_standing h) id plan) (option_row id i (is_marked_at plan i) c true w)
@@ -174,7 +174,7 @@ taken_row_there plan h id i c w last want =
     (λ b. Has (step_rows (is_standing h) id plan) (option_row id i (is_marked_at plan i) c b w))
     (option_taken h i c last) (row_there (is_standing h) id plan i c w want)
 
--- since its option is one of its step
+-- the option of the last step is one of the step's options
 pub last_wanted : (plan : Planned) (h : List Item) (i c : ℕ) → Follows plan h
     → last_of (net h) ≡ Some (i, c) → (w : Wanted) × (want_at plan i c ≡ Some w)
 last_wanted plan h i c f last =

@@ -1,4 +1,4 @@
--- The rows that a turn writes stand for the ledger with it.
+-- The rows that a turn writes represent the ledger with it. For the functions that write an item.
 use Rattle.std.proofs.Common.{◌≡◌, ℕ, ◌+◌, length, Option, Some, None, IsTrue, refl}
 use Rattle.commands.specs.Asks.{Asked}
 use Rattle.commands.specs.declared.items.Cause.{Cause}
@@ -18,8 +18,8 @@ use Rattle.sql_model.specs.Beginning.{with_answer}
 use Rattle.sql_transitions.specs.Moving.{cursor_written, with_turn}
 use Rattle.sql_transitions.proofs.Moves.{item_stands_answered, stock-stays, marks-stay, steps-stay, journeys-move, cursor_next}
 
--- where the journey turns back, its row alone follows, since as much is held, and the same
--- transactions and save-points stand
+-- a turn changes the journey's row alone: the same places are held, and the same transactions and
+-- save-points stand
 pub turn_stands : (t : Tables) (s : State) (ask : Option Asked) (reply : Reply) (j p : ℕ) (cause : Cause)
     (a : Journey) → StandsFor t s → IsDesk s → journey_at s.ledger j ≡ Some a
     → IsTrue (is_allowed s.ledger (Did j (Turn p cause))) → kept_for s ask ≡ None

@@ -1,4 +1,4 @@
--- The rows of stock, once the nights of a want have fewer free places, or more.
+-- The rows of stock after the nights of a want got fewer free places, or more. For Taking and GivingBack.
 use Rattle.std.proofs.Common.{◌≡◌, ℕ, zero, suc, ◌+◌, ◌-◌, ◌<◌, ◌≤◌, ◌==◌, List, find, Bool, true, false, if◌then◌else◌, Option, Some, None, inl, inr, refl, sym, ap, ◌∙◌, arith, eqb-true}
 use Rattle.std.specs.Prelude.{option_map}
 use Rattle.std.proofs.lemmas.Bool.{eqb-false}
@@ -20,13 +20,13 @@ use Rattle.sql_model.proofs.StockRows.{wanted_cell, cell_wanted}
 use Rattle.sql_transitions.proofs.Changing.{find-changed, once-changed, known-changed}
 use Rattle.sql_transitions.proofs.Alike.{same-turned, same-same, row_of_cell}
 
--- two tests that hold together are one
+-- two tests that imply each other are equal
 pub same_test : (a b : Bool) → (a ≡ true → b ≡ true) → (b ≡ true → a ≡ true) → a ≡ b
 same_test true b forth back = sym (forth refl)
 same_test false true forth back = back refl
 same_test false false forth back = refl
 
--- so many numbers from one on are those from it to the last
+-- consecutive numbers are between the first and the last
 pub numbers_within : (first count n : ℕ) → Has (numbers_from first count) n → (first ≤ n) × (n < first + count)
 numbers_within first zero n h = absurd h
 numbers_within first (suc k) n (inl e) = (omega arith, omega arith)
@@ -36,7 +36,7 @@ numbers_within first (suc k) n (inr h) =
     let high = rest.1 in
     (omega arith, omega arith)
 
--- and each number from the first to the last is one of them
+-- each number between the first and the last is one of the consecutive numbers
 pub within_numbers : (first count n : ℕ) → first ≤ n → n < first + count → Has (numbers_from first count) n
 within_numbers first zero n low high = absurd (omega arith)
 within_numbers first (suc k) n low high =
@@ -47,13 +47,13 @@ within_numbers first (suc k) n low high =
     go true e rest = inl (eqb-true n first e)
     go false e rest = inr (rest (let off = eqb-false n first e in omega arith))
 
--- two cells with one row are one
+-- two cells with one row are equal
 one_row : (x y : Cell) (r : StockRow) → is_stock_of x r ≡ true → is_stock_of y r ≡ true
     → is_cell x y ≡ true
 one_row x y r p q =
     same-same (row_of_cell x) r (row_of_cell y) p (same-turned (row_of_cell y) r q)
 
--- the row of a cell is wanted just where the cell is
+-- the row of a cell is wanted exactly if the cell is
 pub wanted_row : (w : Wanted) (x : Cell) (r : StockRow) → 1 ≤ w.nights → is_stock_of x r ≡ true
     → is_wanted_row w r ≡ wants_cell w x
 wanted_row w x r some of = same_test (is_wanted_row w r) (wants_cell w x) forth back
@@ -83,11 +83,11 @@ module _ (w : Wanted) (some : 1 ≤ w.nights) (freed : ℕ → ℕ) where
   abbrev row_now : StockRow → StockRow
   row_now r = if is_wanted_row w r then with_freed r else r
 
-  -- the places of a cell, changed where it is wanted
+  -- the places of a cell, changed if the cell is wanted
   abbrev places_now : Bool → Places → Places
   places_now wanted p = if wanted then record p { free = freed p.free } else p
 
-  -- what stands at a cell changes where the cell is wanted
+  -- the places of a cell change if the cell is wanted
   stock_at-now : (rows : List StockRow) (x : Cell)
       → stock_at (changed (is_wanted_row w) with_freed rows) x
       ≡ option_map (places_now (wants_cell w x)) (stock_at rows x)
@@ -111,7 +111,7 @@ module _ (w : Wanted) (some : 1 ≤ w.nights) (freed : ℕ → ℕ) where
           (has_found (is_stock_of x) rows r e).1)
           ∙ told (wants_cell w x) r)
 
-  -- where what is held changes so, the changed rows stand
+  -- if the held places change likewise, the changed rows are those of the longer ledger
   pub stock-now : (l m : List Event) (rows : List StockRow) → StockStands l rows
       → ((x : Cell) → allotment m x ≡ allotment l x)
       → ((x : Cell) (n : ℕ) → allotment l x ≡ Some n
@@ -142,7 +142,7 @@ module _ (w : Wanted) (some : 1 ≤ w.nights) (freed : ℕ → ℕ) where
           ap Some
           (split (wants_cell w x) n (n - held l x) ∙ ap (λ k. record { allot = n; free = k }) (frees x n e))
 
--- once a want is taken its nights have that many fewer free places
+-- after a want is taken, its nights have that many fewer free places
 pub stock-taken : (l m : List Event) (w : Wanted) (rows : List StockRow) → 1 ≤ w.nights
     → StockStands l rows → ((x : Cell) → allotment m x ≡ allotment l x)
     → ((x : Cell) → held m x ≡ held l x + places_in x (Some w))
@@ -156,7 +156,7 @@ stock-taken l m w rows some stand allots holds =
     go x n true e = omega arith
     go x n false e = omega arith
 
--- once it is given back they have that many more, where no more was held than was allotted
+-- after a want is given back, its nights have that many more, if no more places were held than allotted
 pub stock-given : (l m : List Event) (w : Wanted) (rows : List StockRow) → 1 ≤ w.nights
     → StockStands l rows → ((x : Cell) → allotment m x ≡ allotment l x)
     → ((x : Cell) → held l x ≡ held m x + places_in x (Some w))

@@ -11,7 +11,7 @@ use Rattle.desk_sql.specs.declared.stock.NightFound.{NightFound}
 use Rattle.sql_model.specs.ExpectedRows.{batch_text}
 use Rattle.sql_model.specs.Beginning.{meta_row_at}
 
--- the row of a cell that is loaded: what is not held of its places is free
+-- the row of a loaded cell: the places that are not held are free
 abbrev pub loaded_row : ℕ → Row → StockRow
 loaded_row holds r = record {
   kind = kind_number r.cell.kind;
@@ -22,12 +22,12 @@ loaded_row holds r = record {
   free = r.places - holds;
 }
 
--- the cells of these rows get their places, one after another, where so many of each are held
+-- the cells of these rows get their places, in order; `holds` says how many places of each are held
 abbrev pub put_rows : (Cell → ℕ) → List Row → List StockRow → List StockRow
 put_rows holds [] cells = cells
 put_rows holds (r ∷ rows) cells = put_rows holds rows (put (loaded_row (holds r.cell) r) cells)
 
--- the same, of all rows
+-- the same, in the tables
 abbrev pub puts_rows : (Cell → ℕ) → List Row → Tables → Tables
 puts_rows holds rows t = record t { stock = put_rows holds rows t.stock }
 
@@ -48,7 +48,7 @@ one_night x = record {
   count = 1;
 }
 
--- how many places are held of a cell, by what is found of its night
+-- how many places of a cell are held, by what was found of its night
 abbrev pub held_seen : List NightFound → ℕ
 held_seen [] = 0
 held_seen (n ∷ later) = n.allot - n.free

@@ -19,16 +19,16 @@ use Rattle.sql_model.specs.Reading.{is_wanted_row}
 abbrev pub takes_want : Wanted → Tables → Tables
 takes_want w t = record t { stock = changed (is_wanted_row w) (with_fewer w.count) t.stock }
 
--- each night of a want has that many free places more
+-- each night of a want has that many more free places
 abbrev pub gives_want : Wanted → Tables → Tables
 gives_want w t = record t { stock = changed (is_wanted_row w) (with_more w.count) t.stock }
 
--- a cursor, as it is written
+-- a cursor as it is stored
 abbrev pub cursor_written : Cursor → CursorWritten
 cursor_written c =
     record { pos = c.pos; phase = phase_number c.phase; target = target_of c.phase; used = c.used }
 
--- an item, as it is written under the number of its event
+-- an item as it is stored under the number of its event
 abbrev pub item_written : ℕ → Item → ItemFound
 item_written num (Transaction step option) =
     record { num = num; item = 0; a = step; b = option }
@@ -43,7 +43,7 @@ abbrev pub with_item : ℕ → ℕ → ℕ → Item → Tables → Tables
 with_item num journeys j item t =
     counts (meta_row_at num journeys) (adds_item j (item_written num item) t)
 
--- the same, and the journey stands at this cursor
+-- the same, and the journey moves to this cursor
 abbrev pub with_move : ℕ → ℕ → ℕ → Item → Cursor → Tables → Tables
 with_move num journeys j item cursor t =
     with_item num journeys j item (moves_journey j (cursor_written cursor) t)
@@ -54,8 +54,8 @@ with_transaction num journeys j want step option cursor t =
     with_move num journeys j (Transaction step option) cursor
     (marks_step j step option 1 (takes_want want t))
 
--- a step was compensated: its want is given back, its option is not taken any more, and no
--- save-point stands behind it
+-- a step was compensated: its want is given back, its option is no longer taken, and the save-point
+-- after it is dropped
 abbrev pub with_compensation : ℕ → ℕ → ℕ → Wanted → ℕ → ℕ → Cursor → Tables → Tables
 with_compensation num journeys j want step option cursor t =
     with_move num journeys j (Compensation step option) cursor

@@ -1,8 +1,8 @@
-//! The rows that each event writes, and why they stand for the ledger with that event.
+//! The rows that each event writes, and why they represent the ledger with that event.
 //!
-//! The definitions put the changes of single statements together, in the order in which one transaction makes them.
-//! The lemmas say that tables which stood for a ledger stand, so changed, for the ledger with one event more. There is
-//! no code in this crate: the crates that write the tables cite it. The rows of a begin are in `sql_model`.
+//! The definitions combine the changes of single statements, in the order in which one transaction makes them. The
+//! lemmas say that tables which represent a ledger, so changed, represent the ledger with one more event. There is no
+//! code in this crate: the crates that write the tables cite it. The rows of a begin are in `sql_model`.
 //!
 //! Words: a *want* is taken and given back; a journey *stands at* a cursor; an option is *taken* or not.
 #![tactic(auto)]

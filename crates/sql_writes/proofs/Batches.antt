@@ -1,4 +1,4 @@
--- The rows of a load are those of its batch. For those who show that a load leads to the next state.
+-- The rows of a load are those of its batch. For callers who show that a load leads to the next state.
 use Rattle.std.proofs.Common.{◌≡◌, ℕ, List, [], ◌∷◌, map, refl, sym, ap, ◌∙◌}
 use Rattle.allotment.specs.declared.cells.Cell.{Cell}
 use Rattle.allotment.specs.declared.cells.Row.{Row}
@@ -14,7 +14,7 @@ use Rattle.sql_writes.specs.declared.events.Numbers.{Numbers}
 use Rattle.sql_writes.specs.declared.events.BatchLoaded.{BatchLoaded}
 use Rattle.sql_writes.specs.Loads.{put_each, load_rows}
 
--- rows are put one after another
+-- rows are put in order
 puts : List StockRow → List StockRow → List StockRow
 puts [] rows = rows
 puts (r ∷ more) rows = puts more (put r rows)
@@ -30,7 +30,7 @@ unfolding puts
 put_rows-puts holds [] rows = refl
 put_rows-puts holds (r ∷ batch) rows = put_rows-puts holds batch (put (loaded_row (holds r.cell) r) rows)
 
--- where the text and the places are those of a batch, so are all rows
+-- if the text and the places are those of a batch, all rows are those of the batch
 pub load_rows-batch : (n : Numbers) (b : BatchLoaded) (batch : List Row) (holds : Cell → ℕ) (t : Tables)
     → b.content.now ≡ batch_text batch
     → map stock_row_of b.cells.now ≡ map (λ (r : Row). loaded_row (holds r.cell) r) batch

@@ -1,4 +1,4 @@
--- The rows of a plan are written one after another. For the functions of `begins`.
+-- The rows of a plan are written in order. For the functions of `begins`.
 use Rattle.std.proofs.Common.{◌≡◌, List, ◌++◌, ap, subst, arith, append_assoc, IsTrue}
 use Rattle.sqlite.proofs.StateLemmas.{survives_then}
 use Rattle.sqlite.specs.Store.{Ghosts}
@@ -10,11 +10,11 @@ use Rattle.sql_model.specs.Beginning.{adds_steps}
 use Rattle.sql_writes.specs.Begins.{HasWritten}
 use Rattle.sql_writes.proofs.Chaining.{makes_then, keeps_then}
 
--- rows that are added after others are added with them
+-- appending two lists of rows is appending their concatenation
 pub adds_steps-append : (rows more : List StepRow) (t : Tables) → adds_steps more (adds_steps rows t) ≡ adds_steps (rows ++ more) t
 adds_steps-append rows more t = ap (λ all. record t { step = all }) (append_assoc t.step rows more)
 
--- some more rows are written
+-- more rows are written
 pub HasWritten-more : {S : Type 0} (g : Ghosts S) (old mid new : Held S) (rows more : List StepRow) → HasWritten g old mid rows
     → Survives (state g mid) (state g new) (λ _. ⊥)
     → (HasCleanDisk (state g new) → IsTrue (state g mid).in_transaction → KeepsCommit (state g mid) (state g new))

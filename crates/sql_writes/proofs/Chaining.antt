@@ -1,4 +1,4 @@
--- Two writes, one after the other. For the functions that write an event.
+-- Two consecutive writes. For the functions that write an event.
 use Rattle.std.proofs.Common.{IsTrue, ◌∙◌}
 use Rattle.std.specs.Prelude.{Result, Ok, Err, OnOk}
 use Rattle.sqlite.specs.State.{State, KeepsCommit}
@@ -6,14 +6,14 @@ use Rattle.sqlite.specs.declared.error.Error.{Error}
 use Rattle.desk_sql.specs.Calls.{MayRun, Makes}
 use Rattle.desk_sql.specs.Rows.{Tables}
 
--- what was committed stays so over both
+-- two writes that keep what is committed keep it together
 pub keeps_then : (a b c : State) → KeepsCommit a b → KeepsCommit b c → KeepsCommit a c
 keeps_then a b c one two = record {
   was_open = λ h. one.was_open (two.was_open h);
   committed = λ h. two.committed h ∙ one.committed (two.was_open h);
 }
 
--- the second write goes on where the first one ended
+-- the second write starts from the rows that the first one left
 pub makes_then : (a b c : State) (t : Tables) (first second : Tables → Tables) → Makes a b (first t)
     → (MayRun b (first t) → Makes b c (second (first t))) → Makes a c (second (first t))
 makes_then a b c t first second one two =
@@ -26,12 +26,12 @@ makes_then a b c t first second one two =
       committed = m.committed ∙ one.committed;
     }
 
--- what a success says is so says more where that follows
+-- the postcondition of a success may be replaced by a weaker one
 ok_more : {V P Q : Type 0} (r : Result V Error) → OnOk r P → (P → Q) → OnOk r Q
 ok_more (Ok v) p f = f p
 ok_more (Err e) p f = p
 
--- so does one whose success is the answer
+-- the same, if the success of the second write is the result
 pub makes_last : {V : Type 0} (a b c : State) (t : Tables) (first second : Tables → Tables) (r : Result V Error)
     → Makes a b (first t) → (MayRun b (first t) → OnOk r (Makes b c (second (first t))))
     → OnOk r (Makes a c (second (first t)))

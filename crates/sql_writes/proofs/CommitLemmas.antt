@@ -12,31 +12,31 @@ use Rattle.sql_model.specs.Standing.{StandsFor}
 use Rattle.sql_model.specs.Keeping.{IsKept, Keeps, SeesDesk, Means, MeansDesk}
 use Rattle.sql_model.proofs.KeepLemmas.{is_database}
 
--- While a store is open, a stop leaves its last commit and nothing else: a law that each store keeps.
+-- while a store is open, a crash leaves its last commit and nothing else: a law of each store
 abbrev pub KeepsOne : {S : Type 0} → Ghosts S → Type 0
 KeepsOne {S} g = (s : S) (db : Trees) → IsTrue (g.view s).is_open → g.recovers s db → db ≡ (g.view s).committed
 
--- a transaction that began here wrote these rows, as far as they fit
+-- a transaction that began here wrote these rows, if they fit
 pub record Wrote {S : Type 0} (g : Ghosts S) (start late : Held S) (Fits : Tables → Type 0) (after : Tables → Tables) : Type 0 where
   pub less : Survives (state g start) (state g late) (λ _. ⊥)
   pub live : HasCleanDisk (state g late) → IsTrue (state g start).in_transaction → IsTrue (state g start).is_open
   pub made : HasCleanDisk (state g late) → (t : Tables) → MayRun (state g start) t → Fits t
       → Makes (state g start) (state g late) (after t)
 
--- A connection keeps a state; in a transaction rows are written after which its tables stand for the next state.
+-- A connection keeps a state, and a transaction writes rows with which its tables represent the next state.
 module _ {S : Type 0} (g : Ghosts S) (old late : Held S) (Fits : Tables → Type 0) (after : Tables → Tables) (s next : State)
     (wrote : Wrote g (record old { in_transaction = true }) late Fits after)
     (fits : (t : Tables) → StandsFor t s → Fits t)
     (stands : (t : Tables) → StandsFor t s → StandsFor (after t) next)
     (keeps : Keeps (state g old) s) (clean : HasCleanDisk (state g late)) where
-  -- the connection kept the state, since nothing unclean becomes clean
+  -- the connection kept the state at the start, since nothing unclean becomes clean
   at_start : HasCleanDisk (state g (record old { in_transaction = true }))
   at_start = omega (arith, wrote.less.clean)
 
   kept : IsKept (state g old) s
   kept = keeps at_start
 
-  -- what it saw before
+  -- the desk that the connection saw before
   saw : SeesDesk (state g old) s
   saw = kept.sees (wrote.live clean refl)
 
@@ -74,7 +74,7 @@ module _ {S : Type 0} (g : Ghosts S) (old late : Held S) (Fits : Tables → Type
         (sym (law end.store db shown.is_open may ∙ ap (λ (d : Database). d.trees) shown.committed_is)) late_means);
   }
 
-  -- whatever the commit came to, the old trees or the new ones are left
+  -- whatever the result of the commit, a crash leaves the old trees or the new ones
   pub either_left : (db : Trees) → (state g late).may_leave db ⊎ (db ≡ (state g late).now.trees)
       → Means db s ⊎ Means db next
   either_left db (inl before) =

@@ -1,4 +1,4 @@
--- Cells get their places one after another. For the functions of `loads`.
+-- Cells get their places in order. For the functions of `loads`.
 use Rattle.std.proofs.Common.{◌≡◌, ℕ, zero, suc, ◌+◌, ◌-◌, ◌<◌, ◌≤◌, List, [], ◌∷◌, ◌++◌, length, take, get_or, IsTrue, refl, sym, ap, subst, ◌∙◌, arith, add-one}
 use Rattle.sqlite.proofs.StateLemmas.{survives_then}
 use Rattle.sqlite.specs.Store.{Ghosts}
@@ -18,27 +18,27 @@ use Rattle.sql_transitions.proofs.Puts.{cells_apart, once-rows}
 use Rattle.sql_writes.specs.Loads.{HasPut, put_each, puts_each}
 use Rattle.sql_writes.proofs.Chaining.{makes_then, keeps_then}
 
--- one more cell is put last
+-- one more cell is put after the others
 put_each-last : (cells : List (Cell × Held)) (c : Cell × Held) (rows : List StockRow)
     → put_each (cells ++ c ∷ []) rows ≡ put (stock_row_of c) (put_each cells rows)
 put_each-last [] c rows = refl
 put_each-last (x ∷ cells) c rows = put_each-last cells c (put (stock_row_of x) rows)
 
--- the row of a cell is that of its allotment, less what is held of it
+-- the row of a cell is that of its allotment, less the places that are held
 stock_row_of-loaded : (c : Cell × Held) → loaded_row (c.1.allot - c.1.free) (record { cell = c.0; places = c.1.allot }) ≡ stock_row_of c
 stock_row_of-loaded c =
     let within = c.1.within in
     let free : c.1.allot - (c.1.allot - c.1.free) ≡ c.1.free = omega arith in
     ap (λ n. record { kind = kind_number c.0.kind; supplier = c.0.supplier; product = c.0.product; night = c.0.night; allot = c.1.allot; free = n }) free
 
--- no two rows are of one cell, whichever cell got its places
+-- no two rows are of one cell after a cell got its places
 apart-put : (c : Cell × Held) (rows : List StockRow) → AreApart is_same_stock rows
     → AreApart is_same_stock (put (stock_row_of c) rows)
 apart-put c rows once =
     subst (λ r. AreApart is_same_stock (put r rows)) (stock_row_of-loaded c)
     (once-rows (λ _. c.1.allot - c.1.free) (record { cell = c.0; places = c.1.allot } ∷ []) rows once)
 
--- and so after all of them
+-- no two rows are of one cell after all cells got their places
 apart-each : (cells : List (Cell × Held)) (rows : List StockRow) → AreApart is_same_stock rows
     → AreApart is_same_stock (put_each cells rows)
 apart-each [] rows once = once
@@ -70,14 +70,14 @@ HasPut-more g old mid new cells c has survives commit inside made =
           (λ m. made clean (puts_each cells t) m (cells_apart (puts_each cells t) (apart-each cells t.stock apart))));
     }
 
--- the first elements and the next one are the first ones, one more
+-- one more element of the list is taken
 take-next : {X : Type 0} (xs : List X) (i : ℕ) (x : X) → i < length xs → x ≡ get_or xs i x
     → take (suc i) xs ≡ take i xs ++ x ∷ []
 take-next [] i x within e = absurd (omega arith)
 take-next (y ∷ xs) zero x within e = ap (λ z. z ∷ []) (sym e)
 take-next (y ∷ xs) (suc i) x within e = ap (λ ys. y ∷ ys) (take-next xs i x (omega arith) e)
 
--- the same, as a loop counts
+-- the same, with the count of a loop
 pub take-more : {X : Type 0} (xs : List X) (i : ℕ) (x : X) → i < length xs → x ≡ get_or xs i x
     → take (i + 1) xs ≡ take i xs ++ x ∷ []
 take-more xs i x within e = ap (λ n. take n xs) (add-one i) ∙ take-next xs i x within e

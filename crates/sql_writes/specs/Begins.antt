@@ -1,4 +1,4 @@
--- The rows that a journey that begins makes, option by option.
+-- The rows that the begin of a journey writes, option by option.
 use Rattle.std.specs.Prelude.{ℕ, List, Result, OnOk, IsTrue}
 use Rattle.sqlite.specs.Store.{Ghosts}
 use Rattle.sqlite.specs.Held.{Held, state}
@@ -12,7 +12,7 @@ use Rattle.sql_model.specs.Beginning.{adds_steps, rows_of_step, rows_of_option, 
 use Rattle.sql_writes.specs.declared.events.Numbers.{Numbers}
 use Rattle.sql_writes.specs.declared.events.JourneyBegun.{JourneyBegun}
 
--- in an open transaction, a success leaves what it makes of the rows
+-- in an open transaction, a success changes the rows by `after`
 module _ {S : Type 0} (g : Ghosts S) (old new : Held S) where
   abbrev pub WritesOn : {V : Type 0} → Result V Error → (Tables → Tables) → Type 0
   WritesOn result after =
@@ -33,7 +33,7 @@ module _ {S : Type 0} (g : Ghosts S) (old new : Held S) where
   abbrev pub WritesSteps : {V : Type 0} → Result V Error → ℕ → Planned → Type 0
   WritesSteps result id plan = WritesOn g old new result (adds_steps (step_rows_of id plan))
 
--- so far these rows of steps are written, in one open transaction, and nothing is committed
+-- these rows of steps are written so far, in one open transaction, and nothing is committed
 module _ {S : Type 0} (g : Ghosts S) (old now : Held S) where
   pub record HasWritten (rows : List StepRow) : Type 0 where
     pub survives : Survives (state g old) (state g now) (λ _. ⊥)
@@ -44,6 +44,6 @@ module _ {S : Type 0} (g : Ghosts S) (old now : Held S) where
     pub made : HasCleanDisk (state g now) → (t : Tables) → MayRun (state g old) t
         → IsTrue (state g old).is_open → Makes (state g old) (state g now) (adds_steps rows t)
 
--- the rows after a begin, whose journey is the last one
+-- the rows after the begin of the last journey
 abbrev pub begin_rows : Numbers → JourneyBegun → Tables → Tables
 begin_rows n b t = with_journey n.journeys n.num b.agent.now b.plan.now t

@@ -1,4 +1,4 @@
--- The rows that an event makes, and what it asks of the rows before.
+-- The rows that an event writes, and its preconditions on the rows before it.
 use Rattle.std.specs.Prelude.{ℕ, ◌<◌, ◌^◌}
 use Rattle.commands.specs.declared.items.Cursor.{Cursor}
 use Rattle.desk_sql.specs.Rows.{Tables}
@@ -17,13 +17,13 @@ pub record IsSmallStep (m : StepMade) : Type 0 where
   pub option : m.option < 2 ^ 63
   pub cursor : IsSmallCursor (cursor_written m.cursor)
 
--- and those of a turn
+-- the numbers of a turn fit the store's integers
 pub record IsSmallTurn (m : TurnMade) : Type 0 where
   pub journey : m.journey < 2 ^ 63
   pub target : m.target < 2 ^ 63
   pub cursor : IsSmallCursor (cursor_written m.cursor)
 
--- and those of a save-point
+-- the numbers of a save-point fit the store's integers
 pub record IsSmallSave (m : SaveMade) : Type 0 where
   pub journey : m.journey < 2 ^ 63
   pub position : m.position < 2 ^ 63

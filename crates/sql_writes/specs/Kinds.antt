@@ -1,4 +1,4 @@
--- The rows that an event of any kind makes, with those of the reply that is kept with it.
+-- The rows that an event of any kind writes, with those of the reply that is kept with it.
 use Rattle.std.specs.Prelude.{⊤, Option, Some, None}
 use Rattle.desk_sql.specs.Rows.{Tables}
 use Rattle.desk_sql.specs.Changes.{AreItemsBelow, AreJourneysBelow, adds_answer, kept}
@@ -21,7 +21,7 @@ IsSmall (Turn m) = IsSmallTurn m
 IsSmall (Save m) = IsSmallSave m
 IsSmall (Load b) = ⊤
 
--- what an event asks of the rows before it
+-- the preconditions of an event on the rows before it
 abbrev pub Fits : Numbers → Event → Tables → Type 0
 Fits n (Begin b) t = AreJourneysBelow n.journeys t
 Fits n (Transaction m) t = MayTake n m t
@@ -39,7 +39,7 @@ rows_after n (Turn m) t = turn_rows n m t
 rows_after n (Save m) t = save_rows n m t
 rows_after n (Load b) t = load_rows n b t
 
--- the same, and the row of the reply that is kept with it
+-- the rows after an event, and the row of the reply that is kept with it
 abbrev pub with_kept : Numbers → Event → Keeping → Tables → Tables
 with_kept n e k t = adds_answer (kept k.agent.now k.key.now k.text.now k.line.now) (rows_after n e t)
 
@@ -48,7 +48,7 @@ abbrev pub event_rows : Numbers → Event → Option Keeping → Tables → Tabl
 event_rows n e None t = rows_after n e t
 event_rows n e (Some k) t = with_kept n e k t
 
--- tables that stand for the old state fit the event, and with its rows stand for the new state
+-- tables that represent the old state fit the event, and with its rows represent the new state
 pub record LeadsTo (n : Numbers) (e : Event) (k : Option Keeping) (old new : State) : Type 0 where
   pub fits : (t : Tables) → StandsFor t old → Fits n e t
   pub stands : (t : Tables) → StandsFor t old → StandsFor (event_rows n e k t) new

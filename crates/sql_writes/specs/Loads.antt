@@ -1,4 +1,4 @@
--- The rows that a load makes, and what it asks of the rows before.
+-- The rows that a load writes, and its preconditions on the rows before it.
 use Rattle.std.specs.Prelude.{ℕ, List, [], ◌∷◌, Result, OnOk, IsTrue}
 use Rattle.sqlite.specs.Store.{Ghosts}
 use Rattle.sqlite.specs.Held.{Held as Connection, state}
@@ -16,12 +16,12 @@ use Rattle.sql_model.specs.Standing.{AreApart, is_same_stock}
 use Rattle.sql_writes.specs.declared.events.Numbers.{Numbers}
 use Rattle.sql_writes.specs.declared.events.BatchLoaded.{BatchLoaded}
 
--- the cells get these places, one after another
+-- the cells get these places, in order
 abbrev pub put_each : List (Cell × Held) → List StockRow → List StockRow
 put_each [] rows = rows
 put_each (c ∷ cells) rows = put_each cells (put (stock_row_of c) rows)
 
--- the same, of all rows
+-- the same, in the tables
 abbrev pub puts_each : List (Cell × Held) → Tables → Tables
 puts_each cells t = record t { stock = put_each cells t.stock }
 
@@ -37,14 +37,14 @@ load_rows n b t =
     (puts_each b.cells.now t))
 
 module _ {S : Type 0} (g : Ghosts S) (old new : Connection S) where
-  -- in an open transaction, where no two rows are of one cell, a success leaves the cells with their places
+  -- in an open transaction, if no two rows are of one cell, a success leaves the cells with their places
   abbrev pub WritesCells : {V : Type 0} → Result V Error → List (Cell × Held) → Type 0
   WritesCells result cells =
       HasCleanDisk (state g new) → (t : Tables) → MayRun (state g old) t
       → IsTrue (state g old).is_open → MayLoad t
       → OnOk result (Makes (state g old) (state g new) (puts_each cells t))
 
-  -- so far these cells got their places, in one open transaction, and nothing is committed
+  -- these cells got their places so far, in one open transaction, and nothing is committed
   pub record HasPut (cells : List (Cell × Held)) : Type 0 where
     pub survives : Survives (state g old) (state g new) (λ _. ⊥)
     pub commit : HasCleanDisk (state g new) → IsTrue (state g old).in_transaction

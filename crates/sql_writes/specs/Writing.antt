@@ -1,4 +1,4 @@
--- What one write makes of the rows, and when they fit.
+-- The change of the rows by one write, and its precondition.
 use Rattle.std.specs.Prelude.{ℕ, Result, OnOk}
 use Rattle.sqlite.specs.Store.{Ghosts}
 use Rattle.sqlite.specs.Held.{Held, state}
@@ -12,7 +12,7 @@ use Rattle.desk_sql.specs.declared.stock.NightRange.{NightRange}
 use Rattle.sql_model.specs.Reading.{IsRangeOf}
 
 module _ {S : Type 0} (g : Ghosts S) (old new : Held S) where
-  -- in a transaction, where the rows fit, a success leaves what it makes of them
+  -- in a transaction, if the rows fit, a success changes them by `after`
   abbrev pub WritesRows : {V : Type 0} → (Tables → Type 0) → Result V Error → (Tables → Tables) → Type 0
   WritesRows Fits result after =
       HasCleanDisk (state g new) → (t : Tables) → MayRun (state g old) t → Fits t
@@ -22,6 +22,6 @@ module _ {S : Type 0} (g : Ghosts S) (old new : Held S) where
 abbrev pub HaveFreeFor : Wanted → Tables → Type 0
 HaveFreeFor w t = (r : NightRange) → IsRangeOf r w → HaveFree r w.count t
 
--- each night of the want has room for its count of free places more
+-- each night of the want has room for its count of further places
 abbrev pub HaveRoomFor : Wanted → Tables → Type 0
 HaveRoomFor w t = (r : NightRange) → IsRangeOf r w → HaveRoom r w.count t

@@ -1,4 +1,4 @@
-//! The rows of a journey that begins: its own, and one for each option of each step of its plan.
+//! The rows of a new journey: its own, and one for each option of each step of its plan.
 ghost use Rattle.std.specs.Prelude.{◌≡◌, ◌<◌, ◌≤◌, ◌^◌};
 ghost use Rattle.plan.specs.PlanModel.{step_count, option_count};
 ghost use Rattle.desk_sql.specs.Calls.{StaysInside, WasOpen, CommitsNothing, LeavesNoMore};
@@ -11,7 +11,7 @@ use desk_sql::{StepOption, insert_journey, insert_step, update_meta};
 use plan::Plan;
 use sqlite::{Alter, Error, Transaction};
 
-/// The row of one option of a step.
+/// Inserts the row of one option of a step. Steps and options are numbered from 1.
 fn write_option<S: Alter>(
     tx: &mut Transaction<'_, S>,
     id: u64,
@@ -53,7 +53,7 @@ fn write_option<S: Alter>(
     Ok(())
 }
 
-/// The rows of the options of one step.
+/// Inserts the rows of the options of one step, which is numbered from 1.
 fn write_options<S: Alter>(
     tx: &mut Transaction<'_, S>,
     id: u64,
@@ -77,7 +77,7 @@ fn write_options<S: Alter>(
     Ok(())
 }
 
-/// The rows of all steps of a plan.
+/// Inserts the rows of all steps of a plan.
 fn write_steps<S: Alter>(tx: &mut Transaction<'_, S>, id: u64, plan: &Plan) -> Result<(), Error>
     requires id { id < 2 ^ 63 }
 
@@ -93,7 +93,7 @@ fn write_steps<S: Alter>(tx: &mut Transaction<'_, S>, id: u64, plan: &Plan) -> R
     Ok(())
 }
 
-/// The rows of a journey that begins: its own, those of its plan, and the numbers of `meta`.
+/// Writes the rows of a new journey: its own, those of its plan, and the numbers of `meta`.
 pub fn write_begin<S: Alter>(
     tx: &mut Transaction<'_, S>,
     numbers: Numbers,

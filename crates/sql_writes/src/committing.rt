@@ -1,4 +1,4 @@
-//! One event, one commit.
+//! The transaction of one event, with one commit.
 ghost use Rattle.std.specs.Prelude.{◌≡◌, false, Err, OnOk};
 ghost use Rattle.sqlite.specs.Held.{state};
 ghost use Rattle.ledger.specs.Answer.{State};
@@ -11,7 +11,7 @@ use crate::writes::write_event;
 use commands::Fault;
 use sqlite::{Alter, Connection};
 
-/// Writes an event, with the reply that is kept with it, in one commit, which is the last call of the store.
+/// Writes an event, and the reply that is kept with it, in one transaction, whose commit is the last call of the store.
 pub fn commit_event<S: Alter>(
     conn: &mut Connection<S>,
     numbers: Numbers,

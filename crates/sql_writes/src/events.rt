@@ -8,35 +8,35 @@ use plan::Plan;
 /// The numbers that `meta` has after an event.
 #[derive(Clone, Copy, Debug, PartialEq, Eq)]
 pub struct Numbers {
-    /// The number of the event, counted from 1.
+    /// The number of the event, from 1.
     pub num: u64,
-    /// How many journeys there are.
+    /// The number of journeys.
     pub journeys: u64,
     ghost small_num: { num < 2 ^ 63 },
     ghost small_journeys: { journeys < 2 ^ 63 },
 }
 
-/// A journey that begins, under the number of the last journey.
+/// A new journey. Its number is that of the last journey.
 #[derive(Clone, Copy)]
 pub struct JourneyBegun<'a> {
-    /// Whose it is.
+    /// The agent who begins it.
     pub agent: &'a str,
     /// Its plan.
     pub plan: &'a Plan,
 }
 
-/// A step that a journey does, or compensates, with one of its options.
+/// A step that a journey does or compensates, with one of its options.
 #[derive(Clone, Copy, Debug, PartialEq, Eq)]
 pub struct StepMade {
     /// The journey's number.
     pub journey: u64,
-    /// The step, counted from 1.
+    /// The step, from 1.
     pub step: usize,
-    /// Its option, counted from 1.
+    /// The option, from 1.
     pub option: usize,
-    /// What the option wants.
+    /// The want of the option.
     pub want: Want,
-    /// Where the journey is then.
+    /// The cursor of the journey after the step.
     pub cursor: Cursor,
 }
 
@@ -45,11 +45,11 @@ pub struct StepMade {
 pub struct TurnMade {
     /// The journey's number.
     pub journey: u64,
-    /// The position that it goes back to.
+    /// The position to which it goes back.
     pub target: usize,
-    /// Why it turns.
+    /// The cause of the turn.
     pub cause: Cause,
-    /// Where the journey is then.
+    /// The cursor of the journey after the turn.
     pub cursor: Cursor,
 }
 
@@ -58,7 +58,7 @@ pub struct TurnMade {
 pub struct SaveMade {
     /// The journey's number.
     pub journey: u64,
-    /// Where it takes the save-point.
+    /// The position of the save-point.
     pub position: usize,
 }
 
@@ -69,11 +69,11 @@ pub struct BatchLoaded<'a> {
     pub name: &'a str,
     /// The texts of its rows, each ended by a line feed.
     pub content: &'a str,
-    /// Its cells, in the order of its rows, each with the places that it has then.
+    /// Its cells, in the order of its rows, each with its places after the load.
     pub cells: &'a [(Cell, Held)],
 }
 
-/// What happened.
+/// An event, with what it writes.
 #[derive(Clone, Copy)]
 pub enum Event<'a> {
     /// A journey begins.
@@ -93,12 +93,12 @@ pub enum Event<'a> {
 /// A reply that is kept with an event.
 #[derive(Clone, Copy)]
 pub struct Keeping<'a> {
-    /// Who asked.
+    /// The agent who asked.
     pub agent: &'a str,
     /// The key that the agent gave.
     pub key: &'a str,
     /// The bytes that were asked under the key.
     pub text: &'a [u8],
-    /// The reply's line.
+    /// The line of the reply.
     pub line: &'a str,
 }

@@ -10,7 +10,7 @@ use commands::{Cause, Cursor, Item, Phase};
 use desk_sql::{Cursor as CursorRow, ItemFound, insert_item, move_journey, update_meta};
 use sqlite::{Alter, Error, Transaction};
 
-/// Where a journey is, as it is written.
+/// The row of a cursor.
 fn cursor_row(cursor: Cursor) -> CursorRow
     ensures { result ≡ cursor_written cursor }
 {
@@ -28,7 +28,7 @@ fn cursor_row(cursor: Cursor) -> CursorRow
     }
 }
 
-/// An item, as it is written under the number of its event.
+/// The row of an item under the number of its event.
 fn item_row(num: u64, item: Item) -> ItemFound
     ensures written { result ≡ item_written num item }
     ensures num { result.num ≡ num }
@@ -58,7 +58,7 @@ fn item_row(num: u64, item: Item) -> ItemFound
     }
 }
 
-/// The row of an item, and the numbers of `meta`.
+/// Inserts the row of an item, and updates the numbers of `meta`.
 pub(crate) fn write_item<S: Alter>(
     tx: &mut Transaction<'_, S>,
     numbers: Numbers,
@@ -82,7 +82,7 @@ pub(crate) fn write_item<S: Alter>(
     Ok(())
 }
 
-/// The same, with where the journey is then.
+/// Updates the cursor of the journey, inserts the row of an item, and updates the numbers of `meta`.
 pub(crate) fn write_move<S: Alter>(
     tx: &mut Transaction<'_, S>,
     numbers: Numbers,

@@ -14,7 +14,7 @@ use commands::Item;
 use desk_sql::{delete_mark, insert_mark, mark_step};
 use sqlite::{Alter, Error, Transaction};
 
-/// The rows of a step that is done: its want is taken, and its option is marked so.
+/// Writes the rows of a step that is done: its want is taken, and its option is marked as taken.
 pub fn write_transaction<S: Alter>(
     tx: &mut Transaction<'_, S>,
     numbers: Numbers,
@@ -48,8 +48,8 @@ pub fn write_transaction<S: Alter>(
     )
 }
 
-/// The rows of a step that is compensated: its want is given back, its option is not marked any more, and a save-point
-/// behind it is gone.
+/// Writes the rows of a step that is compensated: its want is given back, its option is no longer marked as taken, and
+/// the save-point after the step is deleted.
 pub fn write_compensation<S: Alter>(
     tx: &mut Transaction<'_, S>,
     numbers: Numbers,
@@ -84,7 +84,7 @@ pub fn write_compensation<S: Alter>(
     )
 }
 
-/// The rows of a turn.
+/// Writes the rows of a turn.
 pub fn write_turn<S: Alter>(
     tx: &mut Transaction<'_, S>,
     numbers: Numbers,
@@ -109,7 +109,7 @@ pub fn write_turn<S: Alter>(
     write_move(tx, numbers, journey, Item::Turn { target, cause }, cursor)
 }
 
-/// The rows of a save-point.
+/// Writes the rows of a save-point.
 pub fn write_save<S: Alter>(
     tx: &mut Transaction<'_, S>,
     numbers: Numbers,

@@ -1,9 +1,10 @@
-//! The rows of one event, written one after another in one transaction, whose commit is the last call of the store.
+//! The rows of one event, written in one transaction, whose commit is the last call of the store.
 //!
-//! A journey begins, does a step, compensates it, turns back or takes a save-point, or a batch is loaded. Each function
-//! names the rows that it makes; where one of its statements fails it says so, and the caller rolls back.
+//! An event is the begin, a step, a compensation, a turn or a save-point of a journey, or the load of a batch. Each
+//! contract names the rows that a function writes. If a statement fails, the function reports it, and the caller rolls
+//! back.
 //!
-//! Words: an event's *numbers* are those that `meta` has after it; a journey *moves* where its cursor changes.
+//! Words: an event's *numbers* are those that `meta` has after the event; a journey *moves* if its cursor changes.
 #![tactic(auto)]
 
 mod begins;

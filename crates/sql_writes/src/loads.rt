@@ -1,4 +1,4 @@
-//! The rows of a batch that is loaded.
+//! The rows of a loaded batch.
 ghost use Rattle.std.specs.Prelude.{◌≡◌, ◌<◌, ◌^◌};
 ghost use Rattle.desk_sql.specs.Calls.{StaysInside, WasOpen, CommitsNothing, LeavesNoMore};
 ghost use Rattle.desk_sql.specs.Stock.{AreApart, puts_cell};
@@ -11,7 +11,7 @@ use allotment::{Cell, Held};
 use desk_sql::{CellPlaces, insert_batch, put_cell, update_meta};
 use sqlite::{Alter, Error, Transaction};
 
-/// The places of one cell.
+/// Writes the places of one cell.
 fn put_places<S: Alter>(tx: &mut Transaction<'_, S>, cell: Cell, held: Held) -> Result<(), Error>
     ensures same_reference { tx.new.conn.ghost_name ≡ tx.old.conn.ghost_name }
     ensures made { WritesRows S.Store tx.old.conn.now tx.new.conn.now AreApart result
@@ -35,7 +35,7 @@ fn put_places<S: Alter>(tx: &mut Transaction<'_, S>, cell: Cell, held: Held) -> 
     Ok(())
 }
 
-/// The places of all cells of a batch, one after another.
+/// Writes the places of the cells of a batch, in order.
 fn put_all<S: Alter>(tx: &mut Transaction<'_, S>, cells: &[(Cell, Held)]) -> Result<(), Error>
     ensures same_reference { tx.new.conn.ghost_name ≡ tx.old.conn.ghost_name }
     ensures made { WritesCells S.Store tx.old.conn.now tx.new.conn.now result cells.now }
@@ -49,7 +49,7 @@ fn put_all<S: Alter>(tx: &mut Transaction<'_, S>, cells: &[(Cell, Held)]) -> Res
     Ok(())
 }
 
-/// The rows of a batch that is loaded: its own, and those of its cells.
+/// Writes the rows of a loaded batch: its own, those of its cells, and the numbers of `meta`.
 pub fn write_load<S: Alter>(
     tx: &mut Transaction<'_, S>,
     numbers: Numbers,

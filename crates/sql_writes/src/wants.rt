@@ -1,4 +1,4 @@
-//! The nights of a want: their places are taken, or given back.
+//! The places of a want's nights, which are taken or given back.
 ghost use Rattle.std.specs.Prelude.{◌≡◌};
 ghost use Rattle.desk_sql.specs.Calls.{StaysInside, WasOpen, CommitsNothing, LeavesNoMore};
 ghost use Rattle.desk_sql.specs.Stock.{IsSmallRange};
@@ -10,7 +10,7 @@ use allotment::{Code, Want};
 use desk_sql::{NightRange, give_nights, take_nights};
 use sqlite::{Alter, Error, Transaction};
 
-/// The nights of a want, with its supplier and its product.
+/// The range of a want's nights, of its supplier and its product.
 fn range_of<'x>(want: Want, supplier: &'x Code, product: &'x Code) -> NightRange<'x>
     requires supplier { supplier.now ≡ want.supplier }
     requires product { product.now ≡ want.product }
@@ -45,7 +45,7 @@ pub(crate) fn take_want<S: Alter>(tx: &mut Transaction<'_, S>, want: Want) -> Re
     Ok(())
 }
 
-/// Gives the places of a want back.
+/// Gives back the places of a want.
 pub(crate) fn give_want<S: Alter>(tx: &mut Transaction<'_, S>, want: Want) -> Result<(), Error>
     ensures same_reference { tx.new.conn.ghost_name ≡ tx.old.conn.ghost_name }
     ensures made { WritesRows S.Store tx.old.conn.now tx.new.conn.now (HaveRoomFor want)

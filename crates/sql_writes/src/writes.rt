@@ -1,4 +1,4 @@
-//! The rows of any event, with those of the reply that is kept with it.
+//! The rows of an event of any kind, with those of the reply that is kept with it.
 ghost use Rattle.std.specs.Prelude.{◌≡◌};
 ghost use Rattle.desk_sql.specs.Calls.{StaysInside, WasOpen, CommitsNothing, LeavesNoMore};
 ghost use Rattle.sql_writes.specs.Writing.{WritesRows};
@@ -11,7 +11,7 @@ use crate::loads::write_load;
 use desk_sql::insert_answer;
 use sqlite::{Alter, Error, Transaction};
 
-/// The rows of an event, without a reply.
+/// Writes the rows of an event, without a reply.
 fn write_rows<S: Alter>(
     tx: &mut Transaction<'_, S>,
     numbers: Numbers,
@@ -37,7 +37,7 @@ fn write_rows<S: Alter>(
     }
 }
 
-/// The rows of an event, and the row of the reply that is kept with it.
+/// Writes the rows of an event, and the row of the reply that is kept with it.
 fn write_kept<S: Alter>(
     tx: &mut Transaction<'_, S>,
     numbers: Numbers,
@@ -59,7 +59,7 @@ fn write_kept<S: Alter>(
     Ok(())
 }
 
-/// The rows of an event, and that of its reply where one is kept.
+/// Writes the rows of an event, and the row of its reply if one is kept.
 pub fn write_event<S: Alter>(
     tx: &mut Transaction<'_, S>,
     numbers: Numbers,

@@ -1,4 +1,4 @@
--- What a connection stands for when it is let go: its limit of steps counts for nothing. For both `into_store`.
+-- The state that a connection represents when it is closed: its limit of steps does not count. For both `into_store`.
 use Rattle.std.proofs.Common.{inl}
 use Rattle.std.specs.Prelude.{None}
 use Rattle.sqlite.specs.Store.{Ghosts}
@@ -23,7 +23,7 @@ module _ {S : Type 0} (g : Ghosts S) (h : Held S) where
     stands = saw.stands;
   }
 
-  -- what is kept is found
+  -- the state that is kept is found
   pub kept_found : (v : Version) (s : State) → IsKeptIn v (state g h) s → IsFound v (state g unlimited) s
   kept_found One s kept =
       record { sees = λ live. still_seen One s (kept.sees live); leaves = kept.leaves }

@@ -1,4 +1,4 @@
--- Journeys that have finished stay so, and need not be looked at again. For `TableBook`.
+-- Journeys that have finished stay finished, and need not be read again. For `TableBook`.
 use Rattle.std.proofs.Common.{◌≡◌, ℕ, ◌<◌, ◌≤◌, List, [], ◌∷◌, ◌++◌, length, ◌-◌, cond, refl, ap, sym, ◌∙◌, arith, eqb-true, lt-ltb, IsTrue}
 use Rattle.std.proofs.lemmas.Bool.{eqb-false, ltb-true, ltb-false, leb-true, leb-false}
 use Rattle.std.specs.Prelude.{Bool, true, false, ◌==◌, ◌&&◌, not, nat_lt, nat_le, Option, Some, None, find, filter_map, option_map, unwrap_or}
@@ -22,7 +22,7 @@ use Rattle.tables.specs.FinishedJourneys.{AreFinishedTo}
 
 -- One more event.
 
--- of a journey that is not open no item is allowed
+-- no item of a journey that is not open is allowed
 closed_refuses : (l : List Event) (j : ℕ) (item : Item) → is_in is_open l j ≡ false
     → is_item_allowed l j item ≡ false
 closed_refuses l j item closed = go (journey_at l j) refl
@@ -41,7 +41,7 @@ closed_refuses l j item closed = go (journey_at l j) refl
         (ap (passing is_finished (history l j)) at
         ∙ ended (phase a.plan (history l j)) (sym (ap (passing is_open (history l j)) at) ∙ closed))
 
--- an event that is allowed opens none of the journeys that have finished
+-- an allowed event opens no journey that has finished
 pub finished-more : (l : List Event) (e : Event) (n : ℕ) → IsTrue (is_allowed l e)
     → AreFinishedTo l n → AreFinishedTo (l ++ e ∷ []) n
 finished-more l (Loaded name rows) n may has = record {
@@ -75,7 +75,7 @@ finished-more l (Did k item) n may has = record {
         ∙ ap (passing is_open (history l j)) (journey_at-did l k item j)
         ∙ has.closed j low
 
--- so does nothing that a request comes to
+-- the outcome of a request opens no journey that has finished
 pub finished-kept : (s : State) (ask : Option Asked) (asked : Request) (n : ℕ)
     → IsLegal (outcome s ask asked).state.ledger → AreFinishedTo s.ledger n
     → AreFinishedTo (outcome s ask asked).state.ledger n
@@ -93,9 +93,9 @@ finished-kept s ask asked n legal has = by_kept (kept_for s ask) legal
     by_kept None legal =
         let a = answer s.ledger (asker ask) asked in by_event a.reply a.event legal
 
--- No journey has to be looked at again.
+-- A search may skip the finished journeys.
 
--- two tests that agree on what is listed find the same
+-- two tests that agree on the listed numbers find the same
 find-same : (f g : Brief → Bool) (h : ℕ → Option Brief) (js : List ℕ)
     → ((j : ℕ) (b : Brief) → h j ≡ Some b → f b ≡ g b)
     → find f (filter_map h js) ≡ find g (filter_map h js)
@@ -109,7 +109,7 @@ find-same f g h (j ∷ js) agree = go (h j) refl (find-same f g h js agree)
         ap (λ v. cond v (Some b) (find f (filter_map h js))) (agree j b e)
         ∙ ap (cond (g b) (Some b)) rest
 
--- above a number up to which all have finished the same is found as above a lower one
+-- if all journeys up to n have finished, a search above n finds the same as a search above a lower number
 pub first-from : (l : List Event) (n after : ℕ) → AreFinishedTo l n → after ≤ n
     → first_unfinished l n ≡ first_unfinished l after
 first-from l n after has low =
@@ -134,7 +134,7 @@ first-from l n after has low =
         both_false (nat_lt n b.id) (not (is_finished b.cursor.phase)) ended
         ∙ sym (both_false (nat_lt after b.id) (not (is_finished b.cursor.phase)) ended)
 
--- all before the first that is found have finished
+-- all journeys before the first that is found have finished
 pub finished-found : (l : List Event) (n : ℕ) (b : Brief) → AreFinishedTo l n
     → Some b ≡ first_unfinished l n → AreFinishedTo l (b.id - 1)
 finished-found l n b has is =
@@ -148,7 +148,7 @@ finished-found l n b has is =
     at first j low true e = has.closed j (leb-true j n e)
     at first j low false e = first.between j (leb-false j n e) low
 
--- where none is found all have finished
+-- if none is found, all have finished
 pub finished-all : (l : List Event) (n : ℕ) → AreFinishedTo l n → None ≡ first_unfinished l n
     → AreFinishedTo l (length (journeys l))
 finished-all l n has is = record {

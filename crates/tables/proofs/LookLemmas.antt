@@ -1,4 +1,4 @@
--- A look for unfinished journeys that could not read the counts. For `TableBook::look_on`.
+-- A search for unfinished journeys that could not read the counts. For `TableBook::look_on`.
 use Rattle.std.proofs.Common.{◌≡◌, ℕ, Bool, refl, sym, subst}
 use Rattle.std.specs.Prelude.{Result, Err}
 use Rattle.sqlite.specs.State.{State as Connected}
@@ -8,7 +8,7 @@ use Rattle.ledger.specs.Answer.{State}
 use Rattle.saga_core.specs.Books as books
 use Rattle.tables.specs.Keeping.{Keeps, Stands}
 
--- the book stands for what it stood for, unless the store failed: out of memory, both reads have changed nothing
+-- unless the store failed, the book represents what it represented: out of memory, both reads have changed nothing
 pub uncounted : {W : Type 0} (failed : Bool) (finished : ℕ) (old first end : Connected) (f : Fault)
     → ((s : State) → Keeps old s → Keeps first s)
     → ((s : State) → Keeps first s → f ≡ Memory → Keeps end s)

@@ -1,4 +1,4 @@
--- What a connection keeps once it is opened, and what a failed opening leaves. For found_tables and read_version.
+-- What a connection keeps after an opening, and what a failed opening leaves. For found_tables and read_version.
 use Rattle.std.proofs.Common.{◌≡◌, ◌⊎◌, inl, inr, ◌↔◌, ℕ, List, Bool, true, false, [], ◌∷◌, length, IsTrue, Some, Ok, refl, sym, ap, subst, ◌∙◌, arith}
 use Rattle.std.specs.List.{AllByRecursion}
 use Rattle.sqlite.specs.Store.{Ghosts}
@@ -33,12 +33,12 @@ use Rattle.tables.specs.Keeping.{MeansOf, SeesOf, IsKept, IsKeptIn, IsFound}
 use Rattle.tables.specs.Opening.{Tells}
 use Rattle.sql_writes.proofs.CommitLemmas.{KeepsOne}
 
--- the desk's tables are some, in each version
+-- the schema of the desk has tables, in each version
 not_bare : (v : Version) → schema_of v ≡ no_schema → ⊥
 not_bare One e = let n : ◌≡◌ {A = ℕ} 7 0 = ap (λ (s : Schema). length s.tables) e in omega arith
 not_bare Two e = let n : ◌≡◌ {A = ℕ} 9 0 = ap (λ (s : Schema). length s.tables) e in omega arith
 
--- a connection without tables that stood for a state counts as one of the newest version, and stood for a new desk
+-- a connection without tables that represented a state counts as one of the newest version; it is a new desk's state
 pub was_new : (v : Version) (c : Connected) (s : State) → IsFound v c s → c.now.schema ≡ no_schema → IsTrue c.is_open
     → (v ≡ Two) × (s ≡ start)
 was_new One c s found bare open_now = absurd (not_bare One (sym (found.sees open_now).schema ∙ bare))
@@ -47,7 +47,7 @@ was_new Two c s found bare open_now = elim (found.sees open_now) [
   | inr fresh ↦ (refl, fresh.new)
 ]
 
--- a connection with tables that stood for a state shows it
+-- a connection with tables that represented a state shows the state
 pub was_desk : (v : Version) (c : Connected) (s : State) → IsFound v c s → (c.now.schema ≡ no_schema → ⊥) → IsTrue c.is_open
     → SeesOf v c s
 was_desk One c s found filled open_now = found.sees open_now
@@ -58,7 +58,7 @@ was_desk Two c s found filled open_now = elim (found.sees open_now) [
 
 -- What a failed opening leaves.
 
--- A store without tables is seen as before, where its databases are the last commit.
+-- A store without tables is seen as before, if its databases are those of the last commit.
 pub record HasGoneBack (a b : Connected) : Type 0 where
   pub was_open : IsTrue a.is_open
   pub now : b.now ≡ a.committed
@@ -71,7 +71,7 @@ still_new a b s back saw = record {
   new = saw.new;
 }
 
--- so it is where what a transaction wrote is undone
+-- a store whose transaction was rolled back is seen as before
 pub gone_back : (a mid b : Connected) → KeepsCommit a mid → IsRolledBack mid b → IsTrue b.is_open → HasGoneBack a b
 gone_back a mid b kept back live =
     let inside = back.was_open live in
@@ -82,7 +82,7 @@ gone_back a mid b kept back live =
       committed = undone.1 ∙ kept.committed inside;
     }
 
--- a commit that fails in a transaction is undone
+-- a commit that fails in a transaction is rolled back
 pub rolled_back : (late end : Connected) (e : Error) → IsTrue late.in_transaction → FailsToCommit late end e → IsRolledBack late end
 rolled_back late end e inside (inl fails) = fails.3
 rolled_back late end e inside (inr over) = absurd (let no : true ≡ false = sym inside ∙ over.1 in cc)
@@ -107,7 +107,7 @@ module _ (a b : Connected) (s : State) (quiet : IsUnchanged a b ⊎ IsRolledBack
     | inr back ↦ record { was_open = back.was_open live; now = (back.undone live).0; committed = (back.undone live).1 }
   ]
 
-  -- so the connection stands for what it stood for
+  -- the connection represents what it represented before the read
   pub still_found : (v : Version) → IsFound v a s → IsFound v b s
   still_found One found =
       let kept = quiet_keeps a b s (record { sees = found.sees; leaves = found.leaves }) quiet less clean in
@@ -121,7 +121,7 @@ module _ (a b : Connected) (s : State) (quiet : IsUnchanged a b ⊎ IsRolledBack
   }
 
 module _ {S : Type 0} (g : Ghosts S) (old late : Held S) where
-  -- where the tables were made the connection was open, and sees a new desk's rows
+  -- if the tables were created, the connection was open, and sees the rows of a new desk
   pub has_founded : (state g old).now.schema ≡ no_schema → HasCleanDisk (state g late)
       → Founds g (record old { in_transaction = true }) late {V = Unit {0}} (Ok tt) founded
       → WasOpen g (record old { in_transaction = true }) late {V = Unit {0}} (Ok tt)
@@ -131,7 +131,7 @@ module _ {S : Type 0} (g : Ghosts S) (old late : Held S) where
       record { inside = refl; empty = λ _. record { is = bare; empty = tt } } in
       (live clean refl, (made clean may).sees)
 
-  -- the commit of these rows keeps a new desk
+  -- the commit of these rows keeps the state of a new desk
   pub keeps_founded : KeepsOne g → (end : Held S) → Sees (state g late) founded
       → ShowsNow (state g late) (state g end) (state g late).now (state g late).now false → IsKept (state g end) start
   keeps_founded law end sees shown = record {
@@ -148,7 +148,7 @@ module _ {S : Type 0} (g : Ghosts S) (old late : Held S) where
         (record { of = is_database (state g late) founded sees; tables = founded; shown = sees.rows; stands = founded_stands }));
   }
 
-  -- trees that were there before, or a new desk's, stand for a state for which the connection stood
+  -- the trees that were there before, or those of a new desk, represent a state that the connection represented
   pub either_means : (v : Version) (s : State) → IsFound v (state g old) s → (v ≡ Two) × (s ≡ start) → Sees (state g late) founded
       → (db : Trees) → (state g old).may_leave db ⊎ (db ≡ (state g late).now.trees) → MeansOf v db s
   either_means v s found new sees db (inl may) = found.leaves db may
@@ -161,7 +161,7 @@ module _ {S : Type 0} (g : Ghosts S) (old late : Held S) where
   }))
 
 module _ {S : Type 0} (g : Ghosts S) (old new : Held S) where
-  -- a fault of the store tells no version
+  -- a fault of the store implies no version
   pub tells_fault : (f : Fault) (r : OpenFault) → (r ≡ Memory ↔ f ≡ fault.Memory) → (r ≡ Store ↔ f ≡ fault.Store)
       → LeavesNoMore g old new → Tells g old new r
   tells_fault fault.Memory r memory store less = subst (λ (x : OpenFault). Tells g old new x) (sym (memory.1 refl)) less
@@ -172,7 +172,7 @@ pub has_version : (t : Tables) (m : Meta) → IsMeta t m → AreOfVersion m.vers
 has_version t m is = subst (λ (rows : List MetaRow). AllByRecursion (λ (r : MetaRow). r.version ≡ m.version) rows) (sym is) (refl, tt)
 
 module _ (old new : Connected) (m : Meta) (seen : (v : Version) (t : Tables) → MaySeeIn v old t → IsUnchanged old new × IsMeta t m) where
-  -- a version that was read tells that the connection was open
+  -- if a version was read, the connection was open
   pub was_open : IsTrue old.is_open
   was_open = go old.is_open refl
     where
@@ -195,7 +195,7 @@ module _ (old new : Connected) (m : Meta) (seen : (v : Version) (t : Tables) →
         let one : meta_of m ≡ meta_in v s.ledger = cc in
         ap (λ (r : MetaRow). r.version) one
 
-    -- a connection that was read keeps what it stood for
+    -- a connection that was read keeps the state that it represented
     pub keeps_read : ((db : Trees) → new.may_leave db → old.may_leave db) → IsKeptIn v new s
     keeps_read less =
         let is = read.0.0 in
@@ -211,7 +211,7 @@ module _ (old new : Connected) (m : Meta) (seen : (v : Version) (t : Tables) →
           leaves = λ db may. found.leaves db (less db may);
         }
 
-    -- in tables of the version whose number was read
+    -- the connection keeps the state in tables of the version whose number was read
     pub keeps_named : (now : Version) → ((w : Version) → Some now ≡ Some w ↔ m.version ≡ number_of w)
         → ((db : Trees) → new.may_leave db → old.may_leave db) → IsKeptIn now new s
     keeps_named now named less =

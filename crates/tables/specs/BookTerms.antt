@@ -1,4 +1,4 @@
--- What a book over tables answers, keeps and leaves: the words of every book, at its fields.
+-- What a call of a book over tables returns, keeps and leaves: the terms of every book, at the fields of this one.
 use Rattle.std.specs.Prelude.{◌≡◌, ℕ, Option, Result}
 use Rattle.std.specs.Borrow.{Bor}
 use Rattle.std.specs.Option.{option_copied}
@@ -17,22 +17,22 @@ use Rattle.tables.specs.Keeping.{Stands, MayLeave}
 use Rattle.tables.specs.declared.books.TableBook.{TableBook}
 
 module _ {S : Type 0} (g : Ghosts S) where
-  -- the book stands for this state
+  -- the book represents this state
   abbrev pub StandsBook : TableBook S g → State → Type 0
   StandsBook b s = Stands b.failed b.finished (state g b.conn) s
 
-  -- whatever a crash leaves of the book stands for one of these two
+  -- whatever a crash leaves of the book represents one of these two states
   abbrev pub LeavesBook : TableBook S g → State → State → Type 0
   LeavesBook b s t = MayLeave (state g b.conn) s t
 
   module _ (old new : TableBook S g) where
-    -- the first unfinished journey above a number is shown
+    -- the call returns the first unfinished journey above a number
     abbrev pub ShowsFirst : ℕ → Result (Option Brief) Fault → Type 0
     ShowsFirst after result =
         HasCleanDisk (state g new.conn)
         → books.Shows (StandsBook old) (λ s found. found ≡ first_unfinished s.ledger after) result
 
-    -- unless the store failed, the book stands for what it stood for
+    -- unless the store failed, the book represents what it represented before
     abbrev pub KeepsKnowing : {V : Type 0} → Result V Fault → Type 0
     KeepsKnowing result =
         HasCleanDisk (state g new.conn) → books.Keeps (StandsBook old) (StandsBook new) result

@@ -1,4 +1,4 @@
--- What a book knows of the journeys that have finished.
+-- What a book remembers of the journeys that have finished.
 use Rattle.std.specs.Prelude.{◌≡◌, ◌≤◌, ℕ, List, length, false}
 use Rattle.ledger.specs.History.{is_open}
 use Rattle.ledger.specs.Ledger.{Event, journeys, is_in}

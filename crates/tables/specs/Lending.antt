@@ -1,4 +1,4 @@
--- What was opened, what it keeps, and what becomes of it where rows are handed out.
+-- What was opened, what it keeps, and how the sources of its rows leave it.
 use Rattle.std.specs.Prelude.{◌≡◌, Result, refl}
 use Rattle.std.specs.Borrow.{Fml, GName, MutBor, RattleType, RestsIfErr}
 use Rattle.std.proofs.Common.{◌∙◌}
@@ -26,11 +26,11 @@ module _ {S : Type 0} (g : Ghosts S) where
     pub read : IsOnlyRead a.now b.now
 
 module _ (S : RattleType) (g : Ghosts S.Denot) where
-  -- where rows cannot begin to be handed out what was opened was only read; else it is that which the rows hold
+  -- if a source of rows cannot be started, what was opened was only read; else the source borrows what was opened
   abbrev pub LeavesIfErr : {X E : Type 0} → (X → GName) → MutBor (Opened S.Denot) → Result X E → Fml
   LeavesIfErr name o r = RestsIfErr (opened.the_row S g) o name r (λ last. IsOnlyRead g o.now last)
 
--- it stays so where nothing is handed out, and from one row to the next
+-- what was opened was only read if no row is read, and by two calls if by each of them
 pub stays_alone : {S : Type 0} {g : Ghosts S} (a : MutBor (Opened S)) → StaysUnder g a a
 stays_alone {S} {g} a = record {
   same_reference = refl;

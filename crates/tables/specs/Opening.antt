@@ -1,4 +1,4 @@
--- What opening a store finds of it.
+-- What the opening of a store finds.
 use Rattle.std.specs.Prelude.{◌≢◌, ⊤}
 use Rattle.sqlite.specs.Store.{Ghosts}
 use Rattle.sqlite.specs.Held.{Held, state}
@@ -12,23 +12,23 @@ use Rattle.tables.specs.declared.faults.OpenFault.TheVariants.{UnknownSchema, St
 use Rattle.tables.specs.Keeping.{IsKeptIn, StoodFor}
 
 module _ {S : Type 0} (g : Ghosts S) (old new : Held S) where
-  -- the connection keeps the state for which it stood, in tables of this version
+  -- the connection keeps the state that it represented, in tables of this version
   abbrev pub KeepsIt : Version → Type 0
   KeepsIt now =
       HasCleanDisk (state g new) → (v : Version) (s : State) → StoodFor v (state g old) s
       → IsKeptIn now (state g new) s
 
-  -- the connection stands for each state for which it stood
+  -- the connection represents each state that it represented before
   abbrev pub StandsOn : Type 0
   StandsOn = (v : Version) (s : State) → StoodFor v (state g old) s → StoodFor v (state g new) s
 
-  -- the connection stood for no state
+  -- the connection represented no state
   abbrev pub StoodForNone : Type 0
   StoodForNone =
       HasCleanDisk (state g new) → (v : Version) (s : State) → StoodFor v (state g old) s → ⊥
 
-  -- What a fault tells: of an unknown version, that the tables have it and stood for no state; of want
-  -- of memory, that a stop leaves nothing new.
+  -- What a fault implies. An unknown version: the tables have it, and represented no state. Out of memory: a
+  -- crash leaves nothing new.
   abbrev pub Tells : OpenFault → Type 0
   Tells (UnknownSchema n) =
       ((v : Version) → n ≢ number_of v) × SawVersion g old new n × StoodForNone

@@ -13,13 +13,13 @@ use sql_reads::{read_cells, read_first_unfinished, read_history, read_journey, r
 use sqlite::{Alter, Connection};
 use std::alloc::Global;
 
-/// The desk over one connection.
+/// A book over one connection.
 #[derive(Drop)]
 pub struct TableBook<S: Alter> {
     conn: Connection<S>,
     alloc: Global,
     failed: bool,
-    /// The journeys up to this number have finished, so that none of them is looked at for one that has not.
+    /// The journeys up to this number have finished: a search for unfinished ones skips them.
     finished: u64,
     ghost outside: { conn.in_transaction ≡ false },
 }
@@ -31,7 +31,7 @@ impl<S: Alter> TableBook<S> {
     ghost use Rattle.tables.specs.BookTerms.{StandsBook, LeavesBook};
     ghost use Rattle.tables.specs.Keeping.{MayLeave, StoodFor};
 
-    /// The connection, as it is, without a limit of steps. What the book stood for the next `open_from` finds.
+    /// Returns the connection without a limit of steps. The next `open_from` finds the state that the book represented.
     pub fn into_store(self) -> Connection<S>
         ensures found { (s : State) → StandsBook S.Store self s
             → StoodFor Version.Two (state S.Store result) s }
@@ -58,7 +58,7 @@ impl<S: Alter> TableBook<S> {
     ghost use Rattle.tables.specs.BookTerms.{ShowsFirst, KeepsKnowing};
     ghost use Rattle.sql_reads.specs.Reading.{LeavesAsBefore};
 
-    /// The first journey that has not finished, and from then on those before it are known to have.
+    /// Returns the first unfinished journey. The book remembers that the journeys before it have finished.
     fn look_on(&mut self) -> Result<Option<Brief>, Fault>
         ensures first { ShowsFirst S.Store self.old self.new self.old.finished result }
         ensures same { KeepsKnowing S.Store self.old self.new result }
@@ -74,8 +74,8 @@ impl<S: Alter> TableBook<S> {
         Ok(found)
     }
 
-    /// The unfinished journey with the least number above this one. Those that are known to have finished are not
-    /// looked at again.
+    /// Returns the unfinished journey with the least number above `after`. Journeys that are known to have finished are
+    /// not read again.
     fn look(&mut self, after: u64) -> Result<Option<Brief>, Fault>
         ensures first { ShowsFirst S.Store self.old self.new after result }
         ensures same { KeepsKnowing S.Store self.old self.new result }
@@ -90,7 +90,7 @@ impl<S: Alter> TableBook<S> {
         }
     }
 
-    /// Answers a command. Once the store has failed nothing is asked of it any more.
+    /// Executes a command. After the store has failed, no call reaches it.
     fn carry_out(&mut self, command: &Command, ask: Option<&Ask>) -> Result<Reply, Fault>
         ensures reply { Answers S.Store self.old self.new ask.entry (request_of command.now) result }
         ensures after { MovesOn S.Store self.old self.new ask.entry (request_of command.now) result }
@@ -123,8 +123,8 @@ impl<S: Alter> Opened<S> {
     ghost use Rattle.tables.specs.BookTerms.{StandsBook};
     ghost use Rattle.tables.specs.Lending.{OpenedKeeps};
 
-    /// The book over what was opened, where its tables are of the newest version. Else, and where the connection is in a
-    /// transaction, what was opened is handed back as it is.
+    /// Makes a book of what was opened, if its tables are of the newest version. Else, or if the connection is in a
+    /// transaction, returns what was opened as it is.
     pub fn into_book(self, alloc: Global) -> Result<TableBook<S>, (Opened<S>, OpenFault)>
         ensures stands { IfOk result (λ b. (s : State) → IsDesk s → OpenedKeeps S.Store self s
             → StandsBook S.Store b s) }

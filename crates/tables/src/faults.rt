@@ -3,10 +3,10 @@
 /// Why a store could not be opened.
 #[derive(Clone, Copy, Debug, PartialEq, Eq)]
 pub enum OpenFault {
-    /// The tables are of another version.
+    /// The tables have this version, which the call does not accept.
     UnknownSchema(u64),
     /// The store failed, or has tables without a readable version.
     Store,
-    /// Memory ran out.
+    /// Out of memory.
     Memory,
 }

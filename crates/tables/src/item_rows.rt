@@ -1,7 +1,7 @@
-//! The items of a journey, oldest first, handed out one at a time.
+//! The items of a journey, oldest first, read one at a time.
 //!
-//! The rows hold what was opened by a loan, and ask it for each item by itself. Once they are let go what was opened is
-//! known again: it was only read, also where the rows could not begin.
+//! The rows borrow what was opened, and query it for each item. Once the rows are dropped, the caller has what was
+//! opened again: it was only read, even if the rows could not be started.
 
 ghost use Rattle.std.specs.Prelude.{◌≡◌, IfOk};
 ghost use Rattle.sqlite.specs.Held.{state};
@@ -14,7 +14,7 @@ use saga_core::RowSource;
 use sql_reads::{ItemCursor, item_cursor};
 use sqlite::Alter;
 
-/// The items of a journey that are still to come. After a fault every call is a fault of the store.
+/// The items of a journey that remain. After a fault every call returns `Store`.
 #[derive(Drop)]
 pub struct ItemRows<'c, S: Alter> {
     opened: &'c mut Opened<S>,
@@ -27,7 +27,7 @@ impl<S: Alter> Opened<S> {
     ghost use Rattle.sql_reads.specs.RemainingRows.{BeginsKept};
     ghost use Rattle.tables.specs.Lending.{IsOnlyRead, LeavesIfErr};
 
-    /// Before the first item of the journey of that number.
+    /// Returns a cursor before the first item of the journey of that number.
     fn begin_items(&mut self, id: u64) -> Result<ItemCursor, Fault>
         ensures rows { IfOk result (λ it. BeginsKept S.Store self.old.conn self.new.conn
             self.old.version (λ s items. items ≡ history s.ledger id)
@@ -41,8 +41,9 @@ impl<S: Alter> Opened<S> {
         item_cursor(&mut self.conn, self.version, id)
     }
 
-    /// The items of the journey of that number, oldest first; none where it is absent. Each is asked for by itself, and the
-    /// store looks from the beginning of the journey to its last item, or to the end where it is not finished.
+    /// Reads the items of the journey of that number, oldest first; none if there is no such journey. Each item has a
+    /// query of its own. The store reads from the begin of the journey to its last item, or to the end if it is not
+    /// finished.
     pub fn item_rows<'c>(&'c mut self, id: u64) -> Result<ItemRows<'c, S>, Fault>
         ensures* fault { sem 𝓛 (LeavesIfErr S.row S.Store
             (λ it. it.opened.ghost_name) self.entry result) }

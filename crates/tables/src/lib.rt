@@ -1,9 +1,9 @@
-//! The desk over one SQLite database: one commit an event, and after a stop the old state or the new one.
+//! The desk over one SQLite database: one commit for each event, and after a crash the old state or the new one.
 //!
-//! `open_from` finds what a store stands for, and makes the tables where there are none; `TableBook` is the book over
-//! them, which asks `sql_commands` for what a command comes to, and `sql_reads` for what is shown.
+//! `open_from` finds the state that a store represents, and creates the tables if there are none. `TableBook` is the
+//! book over the tables: `sql_commands` executes its commands, and `sql_reads` its reads.
 //!
-//! Words: a connection *keeps* a state where its tables stand for it and a stop leaves just that.
+//! Words: a connection *keeps* a state if its tables represent the state and a crash leaves just that state.
 #![tactic(auto)]
 
 mod books;

@@ -1,10 +1,10 @@
-//! Opening: what a store stands for is found, and a store without tables gets them all in one commit.
+//! The opening of a store: its state is found, and a store without tables gets all tables in one commit.
 //!
-//! What a store stood for it stands for afterwards, also where opening fails: no row of a desk is touched here. Tables
-//! of the version before the newest are opened to be read; those of any other version are not opened.
+//! A store represents the same state after the opening, even if the opening fails: it changes no row of a desk. Tables
+//! of the version before the newest are opened for reads; tables of any other version are not opened.
 //!
-//! Words: a connection *stood for* a state where it showed that state and a stop left just that; a store without tables
-//! stands for a new desk.
+//! Words: a connection *stood for* a state (`StoodFor`) if it showed that state and a crash left just that state; a
+//! store without tables represents a new desk.
 
 ghost use Rattle.std.specs.Prelude.{◌≡◌, ◌≢◌, ◌↔◌, false, None, IsTrue, IfOk, IfErr, OnOk, OnErr};
 ghost use Rattle.sqlite.specs.State.{HasCleanDisk};
@@ -25,7 +25,7 @@ use sql_reads::{StockRows, UnfinishedRows, fault_of, read_journey, stock_rows, u
 use sqlite::{Alter, Connection};
 use std::alloc::Global;
 
-/// A connection that was found to have the desk's tables.
+/// A connection in which the desk's tables were found.
 #[derive(Drop)]
 pub struct Opened<S: Alter> {
     pub(crate) conn: Connection<S>,
@@ -33,7 +33,7 @@ pub struct Opened<S: Alter> {
     pub(crate) version: Version,
 }
 
-/// The connection, as it is, without a limit of steps.
+/// The connection without its limit of steps, and otherwise as it is.
 pub(crate) fn without_limit<S: Alter>(mut conn: Connection<S>) -> Connection<S>
     ensures same { result ≡ record conn { step_limit = None } }
 {
@@ -45,7 +45,7 @@ impl<S: Alter> Opened<S> {
     ghost use Rattle.tables.specs.Keeping.{StoodFor};
     ghost use Rattle.tables.specs.Lending.{OpenedKeeps};
 
-    /// Its connection, as it is, without a limit of steps. What was kept the next `open_from` finds.
+    /// Returns the connection without a limit of steps. The next `open_from` finds the state that was kept.
     pub fn into_store(self) -> Connection<S>
         ensures found { (s : State) → OpenedKeeps S.Store self s
             → StoodFor self.version (state S.Store result) s }
@@ -65,7 +65,7 @@ impl<S: Alter> Opened<S> {
         self.version
     }
 
-    /// Whether its connection is in no transaction, as each is that was opened.
+    /// Whether its connection is outside of a transaction, as it is after `open_from`.
     pub(crate) fn is_outside(&self) -> bool
         ensures outside { IsTrue result ↔ (self.now.conn.in_transaction ≡ false) }
     {
@@ -79,7 +79,7 @@ impl<S: Alter> Opened<S> {
     ghost use Rattle.saga_core.specs.Views.{unfinished_of};
     ghost use Rattle.sql_reads.specs.Reading.{IsRecordAt, KeepsEach, LeavesAsBefore, ShowsKeptIn};
 
-    /// The journey of that number, if there is one. A fault changes nothing, and a later call asks the store again.
+    /// Returns the journey of that number, if there is one. A fault changes nothing, and the call may be retried.
     pub fn journey_of(&mut self, alloc: Global, id: u64) -> Result<Option<Record>, Fault>
         ensures journey { ShowsKeptIn S.Store self.old.conn self.new.conn self.old.version result
             (IsRecordAt id) }
@@ -96,8 +96,8 @@ impl<S: Alter> Opened<S> {
         read_journey(alloc, &mut self.conn, self.version, id)
     }
 
-    /// The cells that have an allotment, with their places, by kind, supplier, product and night. Of all rows that are
-    /// handed out here nothing is gathered before.
+    /// Reads the cells that have an allotment, with their places, in order of kind, supplier, product and night. No row
+    /// is buffered before it is returned.
     pub fn stock_rows<'c>(&'c mut self) -> Result<StockRows<'c, S>, Fault>
         ensures rows { IfOk result (λ it. (v : Version)
             → BeginsKept S.Store self.old.conn it.handed.rows.conn.now v (λ s rows. IsStock s.ledger rows)
@@ -110,7 +110,7 @@ impl<S: Alter> Opened<S> {
         stock_rows(&mut self.conn)
     }
 
-    /// The journeys that are not finished, in short, by rising number.
+    /// Reads the briefs of the unfinished journeys, in order of number.
     pub fn unfinished_rows<'c>(&'c mut self) -> Result<UnfinishedRows<'c, S>, Fault>
         ensures rows { IfOk result (λ it. (v : Version)
             → BeginsKept S.Store self.old.conn it.handed.rows.conn.now v (λ s briefs. briefs ≡ unfinished_of s.ledger)
@@ -124,7 +124,7 @@ impl<S: Alter> Opened<S> {
     }
 }
 
-/// The fault of opening that a fault of the store is.
+/// The fault of an opening for a fault of the store.
 fn opening_fault(fault: Fault) -> OpenFault
     ensures memory { result ≡ OpenFault.Memory ↔ fault ≡ Fault.Memory }
     ensures store { result ≡ OpenFault.Store ↔ fault ≡ Fault.Store }
@@ -135,7 +135,7 @@ fn opening_fault(fault: Fault) -> OpenFault
     }
 }
 
-/// Makes all tables of the newest version in one commit, in a store that has none.
+/// Creates all tables of the newest version in one commit, in a store that has none.
 fn found_tables<S: Alter>(conn: &mut Connection<S>) -> Result<(), OpenFault>
     requires outside { conn.old.in_transaction ≡ false }
     requires bare { conn.old.schema ≡ no_schema }
@@ -159,7 +159,7 @@ fn found_tables<S: Alter>(conn: &mut Connection<S>) -> Result<(), OpenFault>
     }
 }
 
-/// Reads the version of the tables that are there, and changes nothing.
+/// Reads the version of the tables, and changes nothing.
 fn read_version<S: Alter>(conn: &mut Connection<S>) -> Result<Version, OpenFault>
     requires outside { conn.old.in_transaction ≡ false }
     requires filled { conn.old.schema ≢ no_schema }
@@ -181,8 +181,8 @@ fn read_version<S: Alter>(conn: &mut Connection<S>) -> Result<Version, OpenFault
     }
 }
 
-/// Finds what the store of a connection stands for: a desk with its tables, or a new one, which gets them. Tables of the
-/// first version are only read; no book is made of them.
+/// Finds the state that the store of a connection represents: a desk with its tables, or a new desk, which gets its
+/// tables. Tables of version 1 are only read; no book is made of them.
 pub fn open_from<S: Alter>(mut conn: Connection<S>) -> Result<Opened<S>, (Connection<S>, OpenFault)>
     requires outside { conn.in_transaction ≡ false }
     requires unlimited { conn.step_limit ≡ None }

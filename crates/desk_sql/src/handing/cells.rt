@@ -10,13 +10,13 @@ ghost use Rattle.desk_sql.specs.RemainingRows.{Hands, CellsRest, IsStockInOrder,
 use crate::stock::{CellFound, read_cell};
 use sqlite::{Alter, Connection, Error, Rows};
 
-/// Cells that are still to come, by kind, supplier, product and night.
+/// The cells that remain, in order of kind, supplier, product and night.
 #[derive(Drop)]
 pub struct StockHanded<'c, S: Alter> {
     rows: Rows<'c, S>,
 }
 
-/// Begins to hand out all cells, by kind, supplier, product and night.
+/// Starts to read all cells, in order of kind, supplier, product and night.
 pub fn hand_stock<S: Alter>(conn: &mut Connection<S>) -> Result<StockHanded<'_, S>, Error>
     ensures same_reference { IfOk result (λ it. it.rows.conn.ghost_name ≡ conn.entry.ghost_name) }
     ensures begun { IfOk result (λ it.
@@ -34,7 +34,7 @@ pub fn hand_stock<S: Alter>(conn: &mut Connection<S>) -> Result<StockHanded<'_, 
 }
 
 impl<'c, S: Alter> StockHanded<'c, S> {
-    /// The next cell; None after the last one.
+    /// Returns the next cell; `None` after the last one.
     pub fn next(&mut self) -> Result<Option<CellFound>, Error>
         ensures same_reference { self.new.rows.conn.ghost_name ≡ self.old.rows.conn.ghost_name }
         ensures next { HasCleanDisk (state S.Store self.new.rows.conn.now) → IfOk result (λ found.

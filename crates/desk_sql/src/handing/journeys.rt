@@ -11,13 +11,13 @@ use crate::journeys::{JourneyFound, read_journey};
 use sqlite::types::ValueRef;
 use sqlite::{Alter, Connection, Error, Rows};
 
-/// Unfinished journeys that are still to come, by rising number.
+/// The unfinished journeys that remain, in order of number.
 #[derive(Drop)]
 pub struct UnfinishedHanded<'c, S: Alter> {
     rows: Rows<'c, S>,
 }
 
-/// Begins to hand out the journeys above a number that have not ended, by rising number.
+/// Starts to read the unfinished journeys above a number, in order of number.
 pub fn hand_unfinished<S: Alter>(
     conn: &mut Connection<S>,
     after: u64,
@@ -40,7 +40,7 @@ pub fn hand_unfinished<S: Alter>(
 }
 
 impl<'c, S: Alter> UnfinishedHanded<'c, S> {
-    /// The next journey; None after the last one.
+    /// Returns the next journey; `None` after the last one.
     pub fn next(&mut self) -> Result<Option<JourneyFound>, Error>
         ensures same_reference { self.new.rows.conn.ghost_name ≡ self.old.rows.conn.ghost_name }
         ensures next { HasCleanDisk (state S.Store self.new.rows.conn.now) → IfOk result (λ found.

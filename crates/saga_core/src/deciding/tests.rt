@@ -1,4 +1,4 @@
-// What the rules let a journey do next, by a table. Its plan stands apart from the tries.
+// The next step of a journey, by a table. The tries of the plan are a column of their own.
 ghost use Rattle.std.specs.Prelude.{IsTrue};
 
 use crate::{Cursor, Move, Phase, decide};
@@ -34,7 +34,7 @@ const MOVES: [(&str, u8, &[usize], usize, Phase, usize, bool, Move); 15] = [
     ("nor once it is undone",                  2, &[],     0, Phase::Undone,  1, true,  Move::Nothing),
 ];
 
-/// Stops the test where this is not so.
+/// Stops the test if this does not hold.
 fn holds(rt: &impl Abort, case: &str, is_so: bool)
     ensures { IsTrue is_so }
 {

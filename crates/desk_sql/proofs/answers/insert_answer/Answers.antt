@@ -1,4 +1,4 @@
--- The text's bytes are those of the arguments.
+-- The bytes of each text are those of its argument.
 use Rattle.sqlite.specs.Held.{state}
 use Rattle.desk_sql.specs.Changes.{kept}
 use Rattle.desk_sql.proofs.Inserting.{inserts_answer}

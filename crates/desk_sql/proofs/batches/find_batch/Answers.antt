@@ -1,4 +1,4 @@
--- The row that is read is one of the name; where none is given, there is none.
+-- The row that is read is one of the name; no row means that there is none.
 use Rattle.std.proofs.Common.{Some, None}
 use Rattle.sqlite.specs.Held.{state}
 use Rattle.desk_sql.proofs.Selecting.{given_as}

@@ -1,4 +1,4 @@
--- Each text builds on what the one before it made.
+-- Each text builds on what the text before it created.
 use Rattle.std.proofs.Common.{Ok, arith}
 use Rattle.sqlite.specs.State.{HasCleanDisk}
 use Rattle.sqlite.specs.Held.{state}

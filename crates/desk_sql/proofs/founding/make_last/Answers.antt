@@ -1,4 +1,4 @@
--- The second text builds on what the first made.
+-- The second text builds on what the first created.
 use Rattle.std.proofs.Common.{Ok, arith}
 use Rattle.sqlite.specs.State.{HasCleanDisk}
 use Rattle.sqlite.specs.Held.{state}

@@ -1,4 +1,4 @@
--- Each part builds on what the one before it made; the row of meta goes into the tables that are then empty.
+-- Each part builds on what the part before it created; the row of meta is inserted into the empty tables.
 use Rattle.std.proofs.Common.{refl, ◌∙◌, arith}
 use Rattle.sqlite.specs.State.{HasCleanDisk}
 use Rattle.sqlite.specs.Held.{state}

@@ -1,4 +1,4 @@
--- What was read so far is what stands in the rows so far.
+-- The items so far are those of the rows so far.
 use Rattle.std.proofs.Common.{◌≡◌, map, take}
 use Rattle.desk_sql.specs.FoundRows.{shows_item, four_of}
 use Rattle.desk_sql.proofs.items.read_items.Given as goal

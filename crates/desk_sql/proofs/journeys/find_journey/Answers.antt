@@ -1,4 +1,4 @@
--- The row that is read is what the query answers first; where none is given, there is none.
+-- The row that is read is the first of the query's answer; no row means that there is none.
 use Rattle.std.proofs.Common.{Some, None}
 use Rattle.sqlite.specs.Held.{state}
 use Rattle.desk_sql.specs.declared.versions.Version.TheVariants.{Two}

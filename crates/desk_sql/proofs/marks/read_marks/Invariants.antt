@@ -1,4 +1,4 @@
--- What was read so far is what stands in the rows so far.
+-- The positions so far are those of the rows so far.
 use Rattle.std.proofs.Common.{◌≡◌, map, take}
 use Rattle.sqlite.specs.Order.{column}
 use Rattle.desk_sql.specs.Rows.{whole}

@@ -1,4 +1,4 @@
--- A SELECT changes nothing, whatever it answers.
+-- A SELECT changes nothing, whatever its answer.
 use Rattle.std.proofs.Common.{inl}
 use Rattle.sqlite.specs.Held.{state}
 use Rattle.sqlite.specs.Values.{bound}

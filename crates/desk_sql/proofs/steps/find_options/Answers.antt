@@ -1,4 +1,4 @@
--- What is read of the rows is what the query answers.
+-- The options that are read of the rows are the query's answer.
 use Rattle.sqlite.specs.Held.{state}
 use Rattle.desk_sql.proofs.Writing.{pos_is}
 use Rattle.desk_sql.proofs.Meaning.{find_options_means}

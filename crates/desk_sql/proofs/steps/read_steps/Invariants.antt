@@ -1,4 +1,4 @@
--- What was read so far is what stands in the rows so far.
+-- The options so far are those of the rows so far.
 use Rattle.std.proofs.Common.{◌≡◌, map, take}
 use Rattle.desk_sql.specs.FoundRows.{shows_step, ten_of}
 use Rattle.desk_sql.proofs.steps.read_steps.Given as goal

@@ -1,4 +1,4 @@
--- Each number is passed as the integer that it is, the count below zero.
+-- Each number is passed as the integer that it is; the count is negated.
 use Rattle.sqlite.specs.Held.{state}
 use Rattle.desk_sql.proofs.Writing.{pos_is}
 use Rattle.desk_sql.proofs.Changing.{changes_more, kept_signed}

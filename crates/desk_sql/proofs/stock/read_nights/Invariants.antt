@@ -1,4 +1,4 @@
--- What was read so far is what stands in the rows so far.
+-- The nights so far are those of the rows so far.
 use Rattle.std.proofs.Common.{◌≡◌, map, take}
 use Rattle.desk_sql.specs.FoundRows.{three_of}
 use Rattle.desk_sql.specs.Stock.{shows_night}

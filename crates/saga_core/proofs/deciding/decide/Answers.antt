@@ -4,7 +4,7 @@ use Rattle.savepoints.specs.Rules as rules
 use Rattle.saga_core.proofs.DecidingLemmas.{only-take, one-take, only-turn, one-turn, only-undo, one-undo}
 use Rattle.saga_core.proofs.deciding.decide.Goals as goal
 
--- the option is the rule's at the position, which is one below the step
+-- the option is the rule's at the position, which is one less than the step
 option-is : (c : goal.After-option_at)
     → c.option_at.result ≡ rules.next_option c.args.plan.now c.args.cursor.now.pos c.args.cursor.now.used
 option-is c =
@@ -12,7 +12,7 @@ option-is c =
     ∙ ap (λ n. rules.next_option c.args.plan.now n c.args.cursor.now.used)
     (let e : c.args.cursor.now.pos + 1 - 1 ≡ c.args.cursor.now.pos = omega arith in e)
 
--- a journey that runs and whose next want fits takes its next step
+-- a running journey whose next want fits takes its next step
 pub returns-then-fits-clause-only : goal.returns-then-fits-clause-only
 returns-then-fits-clause-only c =
     only-take c.args.plan.now c.args.marks.now c.args.cursor.now c.args.fits c.option_at.result c.in-Run.is
@@ -23,7 +23,7 @@ returns-then-fits-clause-one c =
     one-take c.args.plan.now c.args.marks.now c.args.cursor.now c.args.fits c.option_at.result c.in-Run.is
     c.if-fits.true (option-is c)
 
--- one whose next want does not fit turns
+-- a running journey whose next want does not fit turns
 pub returns-else-fits-clause-only : goal.returns-else-fits-clause-only
 returns-else-fits-clause-only c =
     only-turn c.args.plan.now c.args.marks.now c.args.cursor.now c.args.fits c.refused_target.result c.in-Run.is
@@ -34,7 +34,7 @@ returns-else-fits-clause-one c =
     one-turn c.args.plan.now c.args.marks.now c.args.cursor.now c.args.fits c.refused_target.result c.in-Run.is
     c.if-fits.false c.refused_target.ensures
 
--- one that goes back compensates its last step
+-- a journey that goes back compensates its last step
 pub returns-in-Back-clause-only : goal.returns-in-Back-clause-only
 returns-in-Back-clause-only c =
     only-undo c.args.plan.now c.args.marks.now c.args.cursor.now c.args.fits c.in-Back.field-0 c.in-Back.is

@@ -1,4 +1,4 @@
--- Each law is a lemma on worlds that go on.
+-- Each law is a lemma on executions that go on.
 use Rattle.saga_core.proofs.ChainLemmas.{goes_on_all, crashes, stays_world, stays_whole, reopens, adds, begins}
 use Rattle.saga_core.proofs.laws.chains.Goals as goal
 

@@ -5,11 +5,11 @@ use Rattle.saga_core.specs.Chains.{GoesOnTo}
 use Rattle.saga_core.specs.Worlds.{continued, KeepLimits, Progress}
 use Rattle.saga_core.proofs.laws.session_that_crashes.Goals as goal
 
--- what was asked keeps the limits
+-- the asks keep the limits
 in_limits : KeepLimits begun
 in_limits = (refl, (refl, tt))
 
--- the step is under way
+-- the step is in progress
 abbrev within : Progress stepped
 within = record {
   answered = [];

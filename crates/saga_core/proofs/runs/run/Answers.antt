@@ -10,7 +10,7 @@ use Rattle.saga_core.proofs.RunEndLemmas.{KeepLimits-more, none-ran, run-ends}
 use Rattle.saga_core.proofs.WorldLemmas.{ends-with}
 use Rattle.saga_core.proofs.runs.run.Goals as goal
 
--- the command that failed is the next one, and those before it were carried out
+-- the command that failed is the next one, and those before it were executed
 pub returns-in-Err-act-clause-fault : goal.returns-in-Err-act-clause-fault
 returns-in-Err-act-clause-fault g c =
     λ sound s st.
@@ -23,7 +23,7 @@ returns-in-Err-act-clause-fault g c =
     c.loop-command.replies.items c.in-Err-act.fault at (c.loop-command.invariant.replied was s st) now
     (c.in-Err-act.ensures.memory sound) (c.in-Err-act.ensures.store sound)
 
--- the world goes on with what was asked before it, and at Store the next one is under way
+-- the execution goes on with the asks before it, and at Store the next one is in progress
 pub returns-in-Err-act-clause-world_at_fault : goal.returns-in-Err-act-clause-world_at_fault
 returns-in-Err-act-clause-world_at_fault g c =
     λ sound w here.
@@ -39,7 +39,7 @@ returns-in-Err-act-clause-world_at_fault g c =
     (c.loop-command.invariant.replied was (after start w) here.stands_there) now
     (c.in-Err-act.ensures.memory sound) (c.in-Err-act.ensures.store sound)
 
--- memory ran out before the first command
+-- out of memory before the first command
 pub returns-in-Err-clause-world_at_fault : goal.returns-in-Err-clause-world_at_fault
 returns-in-Err-clause-world_at_fault g c =
     λ sound w here.
@@ -47,7 +47,7 @@ returns-in-Err-clause-world_at_fault g c =
     none-ran (book.stands c.args.book.now) (book.leaves c.args.book.now) w (asks_of c.args.commands.now)
     _ c.new.ensures.items (g.met.B.Book.settled c.args.book.now) here
 
--- at the end that is all of them
+-- at the end all commands were executed
 pub returns-clause-world : goal.returns-clause-world
 returns-clause-world g c =
     λ sound w here.
@@ -62,7 +62,7 @@ returns-clause-world g c =
     (subst (λ cs. book.stands c.loop-command.book (state_after (after start w) cs)) all
     (c.loop-command.invariant.stands sound (after start w) here.stands_there))
 
--- one more command was answered and carried out
+-- one more command was answered and executed
 pub loop-command-preserved : goal.loop-command-preserved
 loop-command-preserved g c =
     let i = c.loop-command.command-index in

@@ -1,4 +1,4 @@
--- The replies so far, and where the book stands, are those of the commands so far.
+-- The replies so far, and the state of the book, are those of the commands so far.
 use Rattle.std.proofs.Common.{◌≡◌, length, take}
 use Rattle.std.specs.Prelude.{vec_len, vec_capacity, IsTrue}
 use Rattle.ledger.specs.Answer.{State}

@@ -8,7 +8,7 @@ use Rattle.sql_model.specs.Keeping.{IsKept}
 use Rattle.sql_commands.proofs.OkLemmas.{on_ok_given}
 use Rattle.sql_commands.proofs.answering.answer_for.Goals as goal
 
--- the key is new: what the request comes to is answered
+-- the key is new: the reply is that of the request's outcome
 pub returns-in-Ok-None-clause-reply : goal.returns-in-Ok-None-clause-reply
 returns-in-Ok-None-clause-reply g c clean s desk keeps =
     let at_mid = c.answer_new.ensures.sound clean in
@@ -31,7 +31,7 @@ returns-in-Ok-None-clause-left g c s desk keeps clean =
     let new = (rw c.in-Ok-None.field-0-is at c.in-Ok-None.ensures.found) at_mid s desk keeps in
     c.answer_new.ensures.left s desk (c.in-Ok-None.ensures.same s keeps) new clean
 
--- the key is known: its reply is given, and nothing changes
+-- the key is known: its reply is returned, and nothing changes
 pub returns-in-Ok-Some-clause-reply : goal.returns-in-Ok-Some-clause-reply
 returns-in-Ok-Some-clause-reply g c clean s desk keeps =
     ((rw c.in-Ok-Some.field-0-is at c.in-Ok-Some.ensures.found) clean s desk keeps (request_of c.args.command.now)).0

@@ -1,4 +1,4 @@
--- What each command comes to is what its request comes to.
+-- The outcome of each command is that of its request.
 use Rattle.std.proofs.Common.{sym, subst}
 use Rattle.std.specs.Prelude.{OnOk}
 use Rattle.std.specs.Option.{option_copied}

@@ -24,7 +24,7 @@ returns-in-Ok-None-clause-same g c s keeps clean =
     let found = c.in-Ok-None.ensures.found clean seen.tables seen.may in
     unchanged_keeps old (state g.S.Store c.find_answer.new.conn) s kept found.0 c.find_answer.ensures.survives clean
 
--- a row: what is kept is answered
+-- a row: the reply is the kept one
 pub returns-in-Ok-clause-found : goal.returns-in-Ok-clause-found
 returns-in-Ok-clause-found g c clean s desk keeps =
     let old = state g.S.Store c.args.conn.now in
@@ -43,7 +43,7 @@ returns-in-Ok-clause-same g c s keeps clean =
     let found = c.in-Ok-Some.ensures.found clean seen.tables seen.may in
     unchanged_keeps old (state g.S.Store c.find_answer.new.conn) s kept found.0 c.find_answer.ensures.survives clean
 
--- memory ran out after the row was read
+-- out of memory after the row was read
 pub returns-in-Ok-Some-clause-memory : goal.returns-in-Ok-Some-clause-memory
 returns-in-Ok-Some-clause-memory g c s keeps is clean =
     let old = state g.S.Store c.args.conn.now in

@@ -5,7 +5,7 @@ use Rattle.ledger.specs.Answer.{outcome, most_events}
 use Rattle.sql_commands.proofs.AnswerLemmas.{begin_leads}
 use Rattle.sql_commands.proofs.begins.answer_begin.Goals as goal
 
--- the commit that answered leads to the state that the begin comes to
+-- the commit succeeded: it leads to the state of the begin's outcome
 pub returns-clause-after : goal.returns-clause-after
 returns-clause-after g c s desk keeps new clean =
     let ask = option_copied c.args.ask in
@@ -16,7 +16,7 @@ returns-clause-after g c s desk keeps new clean =
     (begin_leads s ask c.in_ok-counts.counts _ _ desk new c.steps-steps.ensures.limits counted room refl refl whose)
     (c.in_ok-counts.ensures.same s keeps) clean
 
--- and a stop leaves that state
+-- the commit succeeded: a crash leaves that state
 pub returns-clause-left : goal.returns-clause-left
 returns-clause-left g c s desk keeps new clean =
     let ask = option_copied c.args.ask in
@@ -27,7 +27,7 @@ returns-clause-left g c s desk keeps new clean =
     (begin_leads s ask c.in_ok-counts.counts _ _ desk new c.steps-steps.ensures.limits counted room refl refl whose)
     (c.in_ok-counts.ensures.same s keeps) clean
 
--- where the commit failed, that one or the old one
+-- the commit failed: a crash leaves that state or the old one
 pub returns-in_err-commit_answered-clause-left : goal.returns-in_err-commit_answered-clause-left
 returns-in_err-commit_answered-clause-left g c s desk keeps new clean =
     let ask = option_copied c.args.ask in

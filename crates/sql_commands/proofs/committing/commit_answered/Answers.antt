@@ -10,7 +10,7 @@ returns-in-None-clause-done g c s next leads keeps =
     c.commit_event.ensures.done s next (unkept_leads c.args.numbers c.args.event.now c.args.reply.now s next
     (subst (λ o. LeadsTo c.args.numbers c.args.event.now (option_copied o) c.args.reply.now s next) c.in-None.is leads)) keeps
 
--- and a stop leaves all of them or none
+-- a crash leaves all rows or none
 pub returns-in-None-clause-left : goal.returns-in-None-clause-left
 returns-in-None-clause-left g c s next leads keeps =
     c.commit_event.ensures.either s next (unkept_leads c.args.numbers c.args.event.now c.args.reply.now s next

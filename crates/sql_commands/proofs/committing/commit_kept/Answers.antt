@@ -13,7 +13,7 @@ returns-clause-done g c s next leads keeps =
     } in
     c.commit_event.ensures.done s next (kept_leads c.args.numbers c.args.event.now _ c.args.ask.now c.args.reply.now s next is leads) keeps
 
--- and a stop leaves both or neither
+-- a crash leaves both or neither
 pub returns-clause-left : goal.returns-clause-left
 returns-clause-left g c s next leads keeps =
     let is : IsKeeping _ c.args.ask.now c.args.reply.now = record {

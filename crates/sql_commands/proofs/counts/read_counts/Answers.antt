@@ -16,7 +16,7 @@ returns-in-Ok-clause-counts g c clean s desk keeps =
     let told = meta_read seen.tables s (seen.stands found.0.0.was_open) desk c.in-Ok.meta found.1 in
     record { events = told.1; journeys_are = told.2 }
 
--- and the connection keeps it
+-- the connection keeps that state
 pub returns-in-Ok-clause-same : goal.returns-in-Ok-clause-same
 returns-in-Ok-clause-same g c s keeps clean =
     let old = state g.S.Store c.args.conn.now in

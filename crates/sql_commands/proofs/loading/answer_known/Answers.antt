@@ -1,4 +1,4 @@
--- The batch has the known rows just where its text is the one that is kept.
+-- The batch has the known rows exactly if its text is the kept one.
 use Rattle.std.proofs.Common.{◌≡◌, ◌∙◌, true, false, sym, ap}
 use Rattle.std.specs.Prelude.{bytes_eq}
 use Rattle.sql_model.specs.ExpectedRows.{batch_text}
@@ -16,7 +16,7 @@ returns-then-eq c = record {
       (sym c.if-eq.true ∙ c.eq.ensures ∙ ap (λ t. bytes_eq t c.args.content.now) text));
 }
 
--- another one
+-- another text
 pub returns : goal.returns
 returns c = record {
   known = λ known good kept. (let b = c.args.batch.now in

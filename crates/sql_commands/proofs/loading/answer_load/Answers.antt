@@ -1,4 +1,4 @@
--- A known name is answered by the text that was found of it, and a new one by what loading it comes to.
+-- The reply to a known name depends on its text, and the reply to a new name is that of the load.
 use Rattle.std.proofs.Common.{◌≡◌, ◌∙◌, inl, sym, subst, rules}
 use Rattle.std.specs.Prelude.{None}
 use Rattle.std.specs.Option.{option_copied}

@@ -1,4 +1,4 @@
--- One more row is looked at: its cell has its places, or it is the first below what is held.
+-- One more row is examined: its cell has its places, or it is the first row below what is held.
 use Rattle.std.proofs.Common.{◌≡◌, ◌+◌, ◌<◌, ◌++◌, ◌∷◌, [], ◌∙◌, Bool, true, if◌then◌else◌, take, length, refl, sym, ap, subst, arith}
 use Rattle.std.specs.Prelude.{is_ok, not}
 use Rattle.allotment.specs.declared.cells.Cell.{Cell}

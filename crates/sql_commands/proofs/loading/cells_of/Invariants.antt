@@ -1,4 +1,4 @@
--- So far the cells of the first rows have their places, and nothing changed.
+-- The cells of the first rows have their places so far, and nothing changed.
 use Rattle.std.proofs.Common.{◌≡◌, false, take}
 use Rattle.sql_commands.specs.Loading.{HasLooked}
 use Rattle.sql_commands.proofs.loading.cells_of.Given as goal

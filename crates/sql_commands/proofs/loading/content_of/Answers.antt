@@ -1,4 +1,4 @@
--- One more row, and the line feed behind it.
+-- One more row, followed by a line feed.
 use Rattle.std.proofs.Common.{◌<◌, ◌++◌, ◌∙◌, ℕ, List, length, ap, ap₂, arith}
 use Rattle.std.specs.Prelude.{string_bytes}
 use Rattle.sql_commands.proofs.LoadRows.{text_more}

@@ -1,4 +1,4 @@
--- So far the text is that of the first rows.
+-- The text so far is that of the first rows.
 use Rattle.std.proofs.Common.{◌≡◌, take}
 use Rattle.std.specs.Prelude.{string_bytes}
 use Rattle.sql_model.specs.ExpectedRows.{batch_text}

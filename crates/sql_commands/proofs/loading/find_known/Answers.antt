@@ -1,4 +1,4 @@
--- What is found of a name tells of the batch that has it, and a read changes nothing.
+-- The row found for a name is that of the batch that has it, and a read changes nothing.
 use Rattle.desk_sql.specs.FoundRows.{FindsBatch}
 use Rattle.sql_commands.proofs.LoadComes.{name_told}
 use Rattle.sql_reads.proofs.ReadLemmas.{keeps_on, has_found}

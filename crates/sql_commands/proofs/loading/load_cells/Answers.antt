@@ -1,4 +1,4 @@
--- The rows of the batch lead to what the load comes to.
+-- The rows of the batch lead to the outcome of the load.
 use Rattle.std.proofs.Common.{◌<◌, ◌≤◌, ◌∙◌, length, refl, ap, arith}
 use Rattle.std.specs.Option.{option_copied}
 use Rattle.commands.specs.Request.{Load}
@@ -7,7 +7,7 @@ use Rattle.sql_model.specs.ExpectedRows.{batch_text}
 use Rattle.sql_commands.proofs.LoadComes.{due_load_leads, load_full, load_replied}
 use Rattle.sql_commands.proofs.loading.load_cells.Goals as goal
 
--- the commit that answered leads to the state that the load comes to
+-- the commit succeeded: it leads to the state of the load's outcome
 pub returns-clause-after : goal.returns-clause-after
 returns-clause-after g c s keeps due =
     let ask = option_copied c.args.ask in
@@ -18,7 +18,7 @@ returns-clause-after g c s keeps due =
     due c.rows.ensures.limits room refl refl (c.as_str.ensures.text ∙ c.name-name.ensures.name)
     (c.as_str-2.ensures.value ∙ c.in-Ok.ensures.text ∙ ap batch_text c.rows.ensures.rows) c.loaded-reply.ensures.loaded) keeps
 
--- and a stop leaves that state
+-- the commit succeeded: a crash leaves that state
 pub returns-clause-left : goal.returns-clause-left
 returns-clause-left g c s keeps due =
     let ask = option_copied c.args.ask in
@@ -29,7 +29,7 @@ returns-clause-left g c s keeps due =
     due c.rows.ensures.limits room refl refl (c.as_str.ensures.text ∙ c.name-name.ensures.name)
     (c.as_str-2.ensures.value ∙ c.in-Ok.ensures.text ∙ ap batch_text c.rows.ensures.rows) c.loaded-reply.ensures.loaded) keeps
 
--- where the commit failed, that one or the old one
+-- the commit failed: a crash leaves that state or the old one
 pub returns-in_err-commit_answered-clause-left : goal.returns-in_err-commit_answered-clause-left
 returns-in_err-commit_answered-clause-left g c s keeps due =
     let ask = option_copied c.args.ask in
@@ -40,7 +40,7 @@ returns-in_err-commit_answered-clause-left g c s keeps due =
     due c.rows.ensures.limits room refl refl (c.as_str.ensures.text ∙ c.name-name.ensures.name)
     (c.as_str-2.ensures.value ∙ c.in-Ok.ensures.text ∙ ap batch_text c.rows.ensures.rows) c.loaded-reply.ensures.loaded) keeps
 
--- the reply is that of a batch that was loaded
+-- the reply is that of a loaded batch
 pub returns-clause-reply : goal.returns-clause-reply
 returns-clause-reply g c clean s keeps due =
     let b = c.args.batch.now in

@@ -1,4 +1,4 @@
--- Where no row is below what is held the cells are loaded, and where one is the batch is refused.
+-- If no row is below what is held, the cells are loaded; else the batch is refused.
 use Rattle.std.proofs.Common.{◌≡◌, inl, sym, subst, rules}
 use Rattle.std.specs.Option.{option_copied}
 use Rattle.sqlite.specs.Held.{state}
@@ -31,7 +31,7 @@ returns-in-Ok-Err-clause-after g c s keeps is clean =
 pub returns-in-Ok-Err-clause-left : goal.returns-in-Ok-Err-clause-left
 returns-in-Ok-Err-clause-left g c s keeps is clean db may = inl ((c.cells_of.ensures.same Two s keeps clean).leaves db may)
 
--- none is
+-- no row is below what is held
 pub returns-in-Ok-Ok-clause-reply : goal.returns-in-Ok-Ok-clause-reply
 returns-in-Ok-Ok-clause-reply g c clean s keeps is =
     let b = c.args.batch.now in

@@ -1,4 +1,4 @@
--- What is found of the one night of a cell tells how many of its places are held, and a read changes nothing.
+-- The night found of a cell gives how many of its places are held, and a read changes nothing.
 use Rattle.std.proofs.Common.{◌≡◌, ◌∙◌, ap, arith, rules}
 use Rattle.desk_sql.specs.Stock.{FindsNights}
 use Rattle.desk_sql.specs.declared.stock.NightRange.{NightRange}

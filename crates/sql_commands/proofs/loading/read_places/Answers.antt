@@ -1,4 +1,4 @@
--- What is not held of a row's places is left.
+-- The places of a row that are not held are left.
 use Rattle.std.proofs.Common.{◌∙◌, ap, subst}
 use Rattle.ledger.specs.Ledger.{held}
 use Rattle.sql_commands.specs.Loading.{LeavesPlaces}

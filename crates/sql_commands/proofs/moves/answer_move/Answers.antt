@@ -9,7 +9,7 @@ use Rattle.sql_commands.proofs.DueLemmas.{unseen_refused}
 use Rattle.sql_commands.proofs.OkLemmas.{on_ok_given}
 use Rattle.sql_commands.proofs.moves.answer_move.Goals as goal
 
--- who asks sees no such journey
+-- the caller sees no such journey
 pub returns-in-Ok-None-clause-reply : goal.returns-in-Ok-None-clause-reply
 returns-in-Ok-None-clause-reply g c clean s desk keeps new unfit =
     let ask = option_copied c.args.ask in
@@ -17,7 +17,7 @@ returns-in-Ok-None-clause-reply g c clean s desk keeps new unfit =
     (unseen_refused s ask c.args.id c.args.why new
     ((rw c.in-Ok-None.field-0-is at c.in-Ok-None.ensures.seen) clean s desk keeps1)).replied
 
--- and nothing changes
+-- the caller sees no such journey, and nothing changes
 pub returns-in-Ok-None-clause-after : goal.returns-in-Ok-None-clause-after
 returns-in-Ok-None-clause-after g c s desk keeps new unfit clean =
     let ask = option_copied c.args.ask in
@@ -30,7 +30,7 @@ pub returns-in-Ok-None-clause-left : goal.returns-in-Ok-None-clause-left
 returns-in-Ok-None-clause-left g c s desk keeps new unfit clean db may =
     inl ((c.find_seen.ensures.same s (c.in_ok-counts.ensures.same s keeps) clean).leaves db may)
 
--- what the rules answer is carried out
+-- the answer of the rules is executed
 pub returns-in_ok-next-in-Ok-Some-clause-reply : goal.returns-in_ok-next-in-Ok-Some-clause-reply
 returns-in_ok-next-in-Ok-Some-clause-reply g c clean s desk keeps new unfit =
     let ask = option_copied c.args.ask in
@@ -48,7 +48,7 @@ returns-in_ok-next-in-Ok-Some-clause-reply g c clean s desk keeps new unfit =
     } in
     c.carry_out.ensures.reply clean s c.args.why keeps2 due
 
--- what the rules answer is carried out
+-- the answer of the rules is executed
 pub returns-in_ok-next-in-Ok-Some-clause-after : goal.returns-in_ok-next-in-Ok-Some-clause-after
 returns-in_ok-next-in-Ok-Some-clause-after g c s desk keeps new unfit =
     let ask = option_copied c.args.ask in

@@ -4,21 +4,21 @@ use Rattle.std.specs.Option.{option_copied}
 use Rattle.sql_commands.proofs.DueLemmas.{due_refused}
 use Rattle.sql_commands.proofs.moves.carry_out.Goals as goal
 
--- what the rules refuse is refused
+-- a refusal of the rules is the reply
 pub returns-in-Err-clause-reply : goal.returns-in-Err-clause-reply
 returns-in-Err-clause-reply g c clean s why keeps due =
     let ask = option_copied c.args.ask in
     let due2 = subst (IsDue s ask (asked_for c.args.id why) c.args.counts c.args.id c.args.journey.now) c.in-Err.is due in
     (due_refused s ask why c.args.counts c.args.id c.args.journey.now c.in-Err.refusal due2).replied
 
--- and nothing changes
+-- a refusal changes nothing
 pub returns-in-Err-clause-after : goal.returns-in-Err-clause-after
 returns-in-Err-clause-after g c s why keeps due =
     let ask = option_copied c.args.ask in
     let due2 = subst (IsDue s ask (asked_for c.args.id why) c.args.counts c.args.id c.args.journey.now) c.in-Err.is due in
     rw (due_refused s ask why c.args.counts c.args.id c.args.journey.now c.in-Err.refusal due2).same keeps
 
--- the item is made
+-- the item is written
 pub returns-in-Ok-clause-after : goal.returns-in-Ok-clause-after
 returns-in-Ok-clause-after g c s why keeps due =
     let ask = option_copied c.args.ask in

@@ -16,7 +16,7 @@ returns-in-Transaction-clause-small c =
     (subst (λ x. IsEventOf c.args.id c.args.plan.now c.args.at x (made c.cursor_after-cursor.result)) (sym c.in-Transaction.is)
     (c.want.result, c.want.ensures.want, ap made (c.cursor_after-cursor.ensures.after ∙ ap (cursor_after c.args.plan.now c.args.at) c.in-Transaction.is)))
 
--- and those of a step that is compensated
+-- the numbers of a step that is compensated are small
 pub returns-in-Compensation-clause-small : goal.returns-in-Compensation-clause-small
 returns-in-Compensation-clause-small c =
     let made : Cursor → Event =

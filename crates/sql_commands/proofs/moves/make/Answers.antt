@@ -1,6 +1,6 @@
 use Rattle.sql_commands.proofs.moves.make.Goals as goal
 
--- the item that is due is made
+-- the item that the rules answer is written
 pub returns-clause-reply : goal.returns-clause-reply
 returns-clause-reply g c clean s why keeps due =
     c.make_event.ensures.reply clean s why keeps

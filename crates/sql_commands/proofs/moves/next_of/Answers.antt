@@ -1,4 +1,4 @@
--- What is said of a record that is seen is what the rules answer.
+-- The ruling on a record that the caller sees is the answer of the rules.
 use Rattle.sql_commands.proofs.NextLemmas.{abort_next, stop_next, save_next}
 use Rattle.sql_commands.proofs.moves.next_of.Goals as goal
 

@@ -1,4 +1,4 @@
--- The turn of a step whose want does not fit is what the rules answer.
+-- The turn of a step whose want does not fit is the answer of the rules.
 use Rattle.std.proofs.Common.{refl, sym, subst}
 use Rattle.std.specs.Prelude.{Ok, false}
 use Rattle.commands.specs.declared.items.Cause.TheVariants.{Refused}

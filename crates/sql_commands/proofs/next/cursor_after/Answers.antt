@@ -1,4 +1,4 @@
--- A step further and a step back are those of the item.
+-- The cursors after a step and after a compensation are those of the item.
 use Rattle.std.proofs.Common.{◌∙◌, ap, sym}
 use Rattle.ledger_transitions.specs.JourneyChanges.{cursor_after}
 use Rattle.sql_commands.specs.Placing.{stepped_up}

@@ -1,4 +1,4 @@
--- The row of that number is chosen.
+-- The row with that number is chosen.
 use Rattle.std.proofs.Common.{◌≡◌, ◌+◌, ◌≤◌, min, length, sym, subst, rules}
 use Rattle.std.specs.Prelude.{IfOk}
 use Rattle.sql_reads.proofs.ReadLemmas.{also_ok}

@@ -1,4 +1,4 @@
--- The first row that is taken is chosen.
+-- The first row of a taken option is chosen.
 use Rattle.std.proofs.Common.{◌∙◌, ap, sym}
 use Rattle.std.specs.Option.{option_copied}
 use Rattle.sql_reads.proofs.ReadLemmas.{also_ok}

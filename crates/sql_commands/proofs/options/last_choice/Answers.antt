@@ -1,4 +1,4 @@
--- The rows of a step tell its option, and a read changes nothing.
+-- The rows of a step give its option, and a read changes nothing.
 use Rattle.std.proofs.Common.{◌≡◌, subst, rules}
 use Rattle.desk_sql.specs.FoundRows.{FindsOptions}
 use Rattle.sql_reads.proofs.ReadLemmas.{keeps_on, has_found, also_ok}

@@ -1,4 +1,4 @@
--- What the rows tell of a step is answered, and made.
+-- The outcome that the rows of a step give is the reply, and is written.
 use Rattle.std.proofs.Common.{◌≡◌, subst}
 use Rattle.std.specs.Prelude.{IfOk, OnOk}
 use Rattle.std.specs.Option.{option_copied}
@@ -70,7 +70,7 @@ returns-in-Up-clause-left g c s desk keeps new clean =
     subst (λ n. MayLeave (state g.S.Store c.make_event.new.conn) s (outcome s ask (asked_for n motion.Refused)).state) c.step_up-made.ensures.up.same
     (c.make_event.ensures.left s motion.Refused keeps3 made) clean
 
--- one that is compensated
+-- a step that is compensated
 pub returns-in-Down-clause-reply : goal.returns-in-Down-clause-reply
 returns-in-Down-clause-reply g c clean s desk keeps new =
     let ask = option_copied c.args.ask in
@@ -128,7 +128,7 @@ returns-in-Down-clause-left g c s desk keeps new clean =
     subst (λ n. MayLeave (state g.S.Store c.make_event-in-Down.new.conn) s (outcome s ask (asked_for n motion.Refused)).state) c.step_down-made.ensures.down.same
     (c.make_event-in-Down.ensures.left s motion.Refused keeps3 made) clean
 
--- what turns is answered by the whole plan
+-- a turn, which the whole plan decides
 pub returns-in-Refused-clause-reply : goal.returns-in-Refused-clause-reply
 returns-in-Refused-clause-reply g c clean s desk keeps new =
     let ask = option_copied c.args.ask in

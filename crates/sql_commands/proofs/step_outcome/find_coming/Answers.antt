@@ -1,4 +1,4 @@
--- What the rows tell of a step is what the rules answer to it.
+-- The outcome that the rows of a step give is the answer of the rules.
 use Rattle.std.proofs.Common.{◌≡◌, rules, arith}
 use Rattle.sql_commands.proofs.ComingLemmas.{up_comes, down_comes, refused_comes}
 use Rattle.sql_commands.proofs.step_outcome.find_coming.Goals as goal

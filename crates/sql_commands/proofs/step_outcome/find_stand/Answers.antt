@@ -1,4 +1,4 @@
--- Whoever sees journeys of its agent sees where a journey is.
+-- A caller who sees the journeys of its agent sees the cursor of a journey.
 use Rattle.std.proofs.Common.{◌≡◌, ◌∙◌, true, false, sym, rules}
 use Rattle.std.specs.Option.{option_copied}
 use Rattle.ledger.specs.Answer.{asker}

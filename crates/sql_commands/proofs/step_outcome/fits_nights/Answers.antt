@@ -1,4 +1,4 @@
--- A want fits the nights that are read of it where it fits the ledger.
+-- A want fits the nights that are read exactly if it fits the ledger.
 use Rattle.std.proofs.Common.{◌≡◌, ◌∙◌, ap, rules}
 use Rattle.allotment.specs.Places.{fits_in}
 use Rattle.sql_transitions.proofs.Fitting.{fits_told}

@@ -1,4 +1,4 @@
--- A world begins with a desk.
+-- The state before an execution is a desk's state.
 use Rattle.sql_model.proofs.Worlds.{each_world_is_a_desk}
 use Rattle.sql_model.proofs.laws.desks.Goals as goal
 

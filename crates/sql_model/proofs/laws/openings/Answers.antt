@@ -1,4 +1,4 @@
--- The trees tell the schema.
+-- The trees determine the schema.
 use Rattle.sqlite.specs.Held.{state}
 use Rattle.sql_model.proofs.OpenLemmas.{is_found}
 use Rattle.sql_model.proofs.laws.openings.Goals as goal

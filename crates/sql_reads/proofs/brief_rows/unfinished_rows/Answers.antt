@@ -1,4 +1,4 @@
--- The rows that are handed out tell the unfinished journeys, and nothing changes.
+-- The rows that will be returned are those of the unfinished journeys, and nothing changes.
 use Rattle.std.proofs.Common.{inl, refl}
 use Rattle.sql_reads.proofs.HandedTold.{there_at, left_by}
 use Rattle.sql_reads.proofs.HandedBriefs.{all_unfinished, lists_all, unfinished_told}

@@ -1,4 +1,4 @@
--- The rows that are handed out are the stock, and nothing changes.
+-- The rows that will be returned are the stock, and nothing changes.
 use Rattle.std.proofs.Common.{inl, refl, map}
 use Rattle.sql_model.specs.Reading.{stock_row_of}
 use Rattle.sql_reads.proofs.HandedTold.{there_at, left_by}

@@ -1,5 +1,5 @@
--- The journey is finished with the transaction of its last step, with the compensation of its first, and with a turn to
--- its start where it stands there.
+-- The transaction of the last step finishes the journey, and so do the compensation of the first step and a turn to
+-- position 0 at position 0.
 use Rattle.std.proofs.Common.{◌==◌, ◌&&◌, sym, subst, eq-eqb}
 use Rattle.std.proofs.lemmas.Bool.{ne_eqb}
 use Rattle.std.specs.Prelude.{Bool, false}

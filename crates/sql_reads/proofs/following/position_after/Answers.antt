@@ -1,4 +1,4 @@
--- A transaction brings the journey to its step, a compensation below its own, and the others leave it where it is.
+-- A transaction moves the journey to its step, a compensation below its step; turns and save-points do not move it.
 use Rattle.std.proofs.Common.{◌-◌, sym, subst}
 use Rattle.commands.specs.declared.items.Item.{Item}
 use Rattle.sql_reads.specs.Following.{BringsTo}

@@ -1,4 +1,4 @@
--- All items of the journey stand after the event that began it, and nothing changes, whatever comes of it.
+-- All items of the journey come after the event that began it. Nothing changes, whether the read succeeds or not.
 use Rattle.std.proofs.Common.{[], refl, sym, ◌∙◌}
 use Rattle.sql_reads.proofs.ReadSought.{all_behind}
 use Rattle.sql_reads.proofs.history_rows.item_cursor.Goals as goal

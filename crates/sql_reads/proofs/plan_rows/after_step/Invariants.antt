@@ -1,4 +1,4 @@
--- So far the rows are those of the first options.
+-- The rows so far are those of the first options.
 use Rattle.std.proofs.Common.{◌≡◌, ◌+◌, ◌≤◌, ◌++◌, ℕ, take, length}
 use Rattle.sql_reads.specs.PlanRows.{first_rows}
 use Rattle.sql_model.specs.Beginning.{first_rows_of_step}

@@ -1,4 +1,4 @@
--- Step by step the rows are those of the plan.
+-- The rows are those of the plan, step by step.
 use Rattle.std.proofs.Common.{◌<◌, rules}
 use Rattle.plan.specs.PlanModel.{step_count}
 use Rattle.sql_reads.proofs.ReadPlans.{step_more}

@@ -1,4 +1,4 @@
--- So far the rows are those of the first steps.
+-- The rows so far are those of the first steps.
 use Rattle.std.proofs.Common.{◌≡◌, ◌≤◌, ℕ, take, length}
 use Rattle.sql_model.specs.ExpectedRows.{step_rows_of}
 use Rattle.sql_model.specs.Beginning.{first_steps}

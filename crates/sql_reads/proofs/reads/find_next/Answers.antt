@@ -1,4 +1,4 @@
--- The row that is found tells the next item, and a read changes nothing.
+-- The row that is found is that of the next item, and a read changes nothing.
 use Rattle.desk_sql.specs.FoundRows.{FindsNextItem}
 use Rattle.sql_reads.proofs.ReadLemmas.{keeps_each, has_found}
 use Rattle.sql_reads.proofs.ReadSought.{next_sought}

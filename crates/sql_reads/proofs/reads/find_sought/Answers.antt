@@ -1,4 +1,4 @@
--- A journey's row tells the event that began it and how many steps it has, and no read changes anything.
+-- A journey's row has the event that began it and the number of its steps, and no read changes anything.
 use Rattle.std.proofs.Common.{refl, subst}
 use Rattle.desk_sql.specs.FoundRows.{FindsJourney}
 use Rattle.sql_reads.proofs.ReadLemmas.{keeps_each, has_found}

@@ -1,4 +1,4 @@
--- The nights that the rows tell are those of the want.
+-- The nights in the rows are those of the want.
 use Rattle.std.proofs.Common.{◌+◌, ◌-◌, ◌∙◌, rules}
 use Rattle.saga_core.specs.Views.{ShowsCells}
 use Rattle.desk_sql.specs.Stock.{FindsNights}

@@ -1,4 +1,4 @@
--- The row with the least number tells the first journey, and a read changes nothing.
+-- The row with the least number is that of the first journey, and a read changes nothing.
 use Rattle.std.proofs.Common.{◌≡◌, ◌≤◌, None, Some, sym, subst, ap, ◌∙◌, rules}
 use Rattle.std.specs.Prelude.{option_map}
 use Rattle.desk_sql.specs.FoundRows.{FindsUnfinished, journey_of}

@@ -1,4 +1,4 @@
--- The rows of the items tell the history, and a journey that is absent has none.
+-- The rows of the items give the history, and a journey that does not exist has none.
 use Rattle.std.proofs.Common.{◌≡◌, ◌∙◌, sym, rules}
 use Rattle.desk_sql.specs.declared.versions.Version.TheVariants.{Two}
 use Rattle.desk_sql.specs.FoundRows.{FindsItems}

@@ -1,4 +1,4 @@
--- The rows of a journey, of its plan and of its save-points tell what is shown of it, and reads change nothing.
+-- The rows of a journey, of its plan and of its save-points give its record, and reads change nothing.
 use Rattle.std.proofs.Common.{◌≡◌, subst}
 use Rattle.std.specs.Prelude.{option_map}
 use Rattle.sqlite.specs.Held.{state}

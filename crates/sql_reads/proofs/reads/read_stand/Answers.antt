@@ -1,4 +1,4 @@
--- The row of a journey tells where it is, and reads change nothing.
+-- The row of a journey gives its agent, steps and cursor, and reads change nothing.
 use Rattle.std.proofs.Common.{◌≡◌, subst}
 use Rattle.std.specs.Prelude.{option_map}
 use Rattle.desk_sql.specs.declared.versions.Version.TheVariants.{Two}

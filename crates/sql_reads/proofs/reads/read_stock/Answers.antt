@@ -1,4 +1,4 @@
--- The cells that the rows tell are the stock.
+-- The cells in the rows are the stock.
 use Rattle.std.proofs.Common.{rules}
 use Rattle.saga_core.specs.Views.{IsStock}
 use Rattle.desk_sql.specs.Stock.{FindsStock}

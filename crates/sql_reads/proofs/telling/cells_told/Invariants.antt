@@ -1,4 +1,4 @@
--- The cells so far are those that the rows so far tell.
+-- The cells so far are those of the rows so far.
 use Rattle.std.proofs.Common.{take}
 use Rattle.sql_reads.specs.Reading.{TellCells}
 use Rattle.sql_reads.proofs.telling.cells_told.Given as goal

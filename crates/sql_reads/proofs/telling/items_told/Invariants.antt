@@ -1,4 +1,4 @@
--- The items so far are those that the rows so far tell.
+-- The items so far are those of the rows so far.
 use Rattle.std.proofs.Common.{take}
 use Rattle.sql_reads.specs.Reading.{TellItems}
 use Rattle.sql_reads.proofs.telling.items_told.Given as goal

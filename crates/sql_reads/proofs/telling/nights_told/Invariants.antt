@@ -1,4 +1,4 @@
--- The nights so far are those that the rows so far tell.
+-- The nights so far are those of the rows so far.
 use Rattle.std.proofs.Common.{take}
 use Rattle.sql_reads.specs.Reading.{TellNights}
 use Rattle.sql_reads.proofs.telling.nights_told.Given as goal

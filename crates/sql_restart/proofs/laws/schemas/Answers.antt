@@ -1,4 +1,4 @@
--- The list of objects tells each table and each index.
+-- The list of objects determines each table and each index.
 use Rattle.sql_restart.proofs.Unique.{one_schema}
 use Rattle.sql_restart.proofs.laws.schemas.Goals as goal
 

@@ -10,7 +10,7 @@ use Rattle.sql_model.specs.Beginning.{adds_steps, meta_row_at}
 use Rattle.sql_writes.proofs.Chaining.{makes_then}
 use Rattle.sql_writes.proofs.begins.write_begin.Goals as goal
 
--- the journey's row, then its steps, then the numbers of meta
+-- first the journey's row, then its steps, then the numbers of meta
 pub returns-clause-made : goal.returns-clause-made
 returns-clause-made g c clean t may below =
     let old = state g.S.Store c.args.tx.now.conn.now in

@@ -1,4 +1,4 @@
--- So far the rows of the first options are written.
+-- The rows of the first options are written so far.
 use Rattle.std.proofs.Common.{◌≡◌}
 use Rattle.plan.specs.PlanModel.{option_count}
 use Rattle.sql_model.specs.Beginning.{first_rows_of_step}

@@ -1,4 +1,4 @@
--- So far the rows of the first steps are written.
+-- The rows of the first steps are written so far.
 use Rattle.std.proofs.Common.{◌≡◌}
 use Rattle.plan.specs.PlanModel.{step_count}
 use Rattle.sql_model.specs.ExpectedRows.{step_rows_of}

@@ -5,7 +5,7 @@ use Rattle.sql_writes.specs.Kinds.{Fits, event_rows}
 use Rattle.sql_writes.proofs.CommitLemmas.{Wrote, keeps_next, either_left}
 use Rattle.sql_writes.proofs.committing.commit_event.Goals as goal
 
--- the commit answered: the connection keeps the next state
+-- the commit succeeded: the connection keeps the next state
 pub returns-in-Ok-clause-done : goal.returns-in-Ok-clause-done
 returns-in-Ok-clause-done g c s next leads keeps clean =
     let old = c.args.conn.now in
@@ -22,7 +22,7 @@ returns-in-Ok-clause-done g c s next leads keeps clean =
     (record { less = c.write_event.ensures.survives; live = c.in_default.ensures.live; made = c.in_default.ensures.made }) in
     rw (← same) (keeps_next g.S.Store old late fits after s next wrote leads.fits leads.stands keeps at_late g.met.S.Store.settled end (c.in-Ok.ensures.ok at_end).1)
 
--- and a stop leaves just that
+-- the commit succeeded: a crash leaves just the next state
 pub returns-in-Ok-clause-either : goal.returns-in-Ok-clause-either
 returns-in-Ok-clause-either g c s next leads keeps clean =
     let old = c.args.conn.now in
@@ -40,7 +40,7 @@ returns-in-Ok-clause-either g c s next leads keeps clean =
     let now_kept = keeps_next g.S.Store old late fits after s next wrote leads.fits leads.stands keeps at_late g.met.S.Store.settled end (c.in-Ok.ensures.ok at_end).1 in
     rw (← same) (λ db left. inr (now_kept.leaves db left))
 
--- the commit failed: a stop leaves the old trees or the new ones
+-- the commit failed: a crash leaves the old trees or the new ones
 pub returns-in-Err-commit-clause-either : goal.returns-in-Err-commit-clause-either
 returns-in-Err-commit-clause-either g c s next leads keeps clean =
     let old = c.args.conn.now in

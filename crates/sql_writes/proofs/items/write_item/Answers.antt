@@ -10,7 +10,7 @@ use Rattle.sql_transitions.specs.Moving.{item_written}
 use Rattle.sql_writes.proofs.Chaining.{makes_then}
 use Rattle.sql_writes.proofs.items.write_item.Goals as goal
 
--- the item's row, then the numbers of meta
+-- first the item's row, then the numbers of meta
 pub returns-clause-made : goal.returns-clause-made
 returns-clause-made g c clean t may below =
     let old = state g.S.Store c.args.tx.now.conn.now in

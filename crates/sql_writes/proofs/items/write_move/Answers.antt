@@ -9,7 +9,7 @@ use Rattle.sql_transitions.specs.Moving.{cursor_written, with_item}
 use Rattle.sql_writes.proofs.Chaining.{makes_then}
 use Rattle.sql_writes.proofs.items.write_move.Goals as goal
 
--- the journey's row, then the item
+-- first the journey's row, then the item
 pub returns-clause-made : goal.returns-clause-made
 returns-clause-made g c clean t may below =
     let old = state g.S.Store c.args.tx.now.conn.now in

@@ -8,7 +8,7 @@ use Rattle.sql_transitions.specs.Moving.{with_item}
 use Rattle.sql_writes.proofs.Chaining.{makes_last}
 use Rattle.sql_writes.proofs.journeys.write_save.Goals as goal
 
--- the save-point's row, then the item
+-- first the save-point's row, then the item
 pub returns-clause-made : goal.returns-clause-made
 returns-clause-made g c clean t may below =
     let old = state g.S.Store c.args.tx.now.conn.now in

@@ -8,7 +8,7 @@ use Rattle.sql_transitions.specs.Moving.{takes_want, with_move}
 use Rattle.sql_writes.proofs.Chaining.{makes_then, makes_last}
 use Rattle.sql_writes.proofs.journeys.write_transaction.Goals as goal
 
--- the want's nights, the option, then the move
+-- first the want's nights, then the option and the move
 pub returns-clause-made : goal.returns-clause-made
 returns-clause-made g c clean t may fits =
     let old = state g.S.Store c.args.tx.now.conn.now in

@@ -1,4 +1,4 @@
--- So far the first cells got their places.
+-- The first cells got their places so far.
 use Rattle.std.proofs.Common.{◌≡◌, take}
 use Rattle.sql_writes.specs.Loads.{HasPut}
 use Rattle.sql_writes.proofs.loads.put_all.Given as goal

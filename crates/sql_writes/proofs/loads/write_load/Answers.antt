@@ -9,7 +9,7 @@ use Rattle.sql_writes.specs.Loads.{puts_each}
 use Rattle.sql_writes.proofs.Chaining.{makes_then}
 use Rattle.sql_writes.proofs.loads.write_load.Goals as goal
 
--- the batch's row, those of its cells, then the numbers of meta
+-- first the batch's row, then those of its cells, then the numbers of meta
 pub returns-clause-made : goal.returns-clause-made
 returns-clause-made g c clean t may apart =
     let old = state g.S.Store c.args.tx.now.conn.now in

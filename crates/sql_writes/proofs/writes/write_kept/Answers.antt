@@ -7,7 +7,7 @@ use Rattle.sql_writes.specs.Kinds.{rows_after}
 use Rattle.sql_writes.proofs.Chaining.{makes_then}
 use Rattle.sql_writes.proofs.writes.write_kept.Goals as goal
 
--- the event's rows, then the reply's
+-- first the event's rows, then the reply's
 pub returns-clause-made : goal.returns-clause-made
 returns-clause-made g c clean t may fits =
     let old = state g.S.Store c.args.tx.now.conn.now in

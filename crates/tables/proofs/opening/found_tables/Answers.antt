@@ -1,4 +1,4 @@
--- The tables of a new desk are committed at once; before the commit nothing is left that was not there.
+-- The tables of a new desk are committed at once; until the commit, a crash leaves nothing new.
 use Rattle.std.proofs.Common.{◌≡◌, ◌⊎◌, inl, inr, true, IsTrue, refl, sym, subst, arith, rules}
 use Rattle.sqlite.specs.State.{HasCleanDisk, IsRolledBack, KeepsCommit}
 use Rattle.sqlite.specs.Held.{state}
@@ -37,7 +37,7 @@ returns-in-Err-clause-told g c =
     let less : LeavesNoMore g.S.Store c.args.conn.now end = survives_begin g.S.Store c.args.conn.now (state g.S.Store end) (λ _. ⊥) (survives_then _ _ _ (λ _. ⊥) (λ _. ⊥) (λ _. ⊥) (λ _ db h. h) (λ _ db h. h) made c.rollback.ensures.survives) in
     rw (← same) (tells_fault g.S.Store c.args.conn.now end c.fault_of.result c.opening_fault.result c.opening_fault.ensures.memory c.opening_fault.ensures.store less)
 
--- what was written is undone, so the store has no tables, as before
+-- the write was rolled back, so the store has no tables, as before
 pub returns-in-Err-clause-stands : goal.returns-in-Err-clause-stands
 returns-in-Err-clause-stands g c v s stood clean =
     let old = c.args.conn.now in
@@ -63,7 +63,7 @@ returns-in-Err-clause-stands g c v s stood clean =
       leaves = λ db may. elim (less.crash at_end db may) [ inl before ↦ found.leaves db before | inr none ↦ absurd none ];
     })
 
--- where the commit failed it is undone too, and a crash leaves the old trees or the new ones
+-- the commit failed and was rolled back; a crash leaves the old trees or the new ones
 pub returns-in-Err-commit-clause-stands : goal.returns-in-Err-commit-clause-stands
 returns-in-Err-commit-clause-stands g c v s stood clean =
     let old = c.args.conn.now in

@@ -1,4 +1,4 @@
--- A version that was read is that of the tables, and a desk's tables have the number of their version.
+-- The version that is read is that of the tables, and a desk's tables have the number of their version.
 use Rattle.std.proofs.Common.{◌≡◌, inl, inr, refl, sym, subst, ◌∙◌, arith}
 use Rattle.std.specs.Prelude.{Some, None, Option, ◌↔◌}
 use Rattle.sqlite.specs.State.{HasCleanDisk}
@@ -42,7 +42,7 @@ returns-in-None-clause-told g c =
           other v (has_number old new m (λ w t sees. c.in-Ok.ensures.found w clean t sees) v s (stood at_old) c.requires.filled),
     )
 
--- whether a version was read or not, nothing has changed
+-- nothing has changed, whether a version was read or not
 pub returns-in-None-clause-stands : goal.returns-in-None-clause-stands
 returns-in-None-clause-stands g c v s stood clean =
     let old = state g.S.Store c.args.conn.now in

@@ -1,4 +1,4 @@
--- What the query has to hand out is its one answer, and it changes nothing.
+-- The rows that remain of the query are its only answer, and it changes nothing.
 use Rattle.std.proofs.Common.{inl, [], ◌∷◌, map}
 use Rattle.sqlite.specs.Held.{state}
 use Rattle.desk_sql.specs.declared.versions.Version.TheVariants.{Two}

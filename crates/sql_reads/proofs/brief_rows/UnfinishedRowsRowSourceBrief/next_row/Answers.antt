@@ -1,4 +1,4 @@
--- The row that is handed out tells the first journey of those to come.
+-- The row that is returned is that of the first remaining journey.
 use Rattle.std.proofs.Common.{subst}
 use Rattle.std.specs.Prelude.{option_map}
 use Rattle.desk_sql.specs.FoundRows.{journey_of}

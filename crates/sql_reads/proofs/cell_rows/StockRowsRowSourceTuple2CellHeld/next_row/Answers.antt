@@ -1,4 +1,4 @@
--- The row that is handed out tells the first cell of those to come, and nothing changes.
+-- The row that is returned is that of the first remaining cell, and nothing changes.
 use Rattle.std.proofs.Common.{subst}
 use Rattle.std.specs.Prelude.{option_map}
 use Rattle.desk_sql.specs.Stock.{stock_of}

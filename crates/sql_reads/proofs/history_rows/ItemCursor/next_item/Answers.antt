@@ -1,4 +1,4 @@
--- The row that is found tells the first item of those to come, and none comes once the journey is finished.
+-- The row that is found is that of the first remaining item; no item remains once the journey is finished.
 use Rattle.std.proofs.Common.{refl, sym, subst, ◌∙◌}
 use Rattle.sql_reads.specs.ItemSearch.{IsNextOf}
 use Rattle.sql_reads.proofs.HandedHistory.{item_first, item_none}

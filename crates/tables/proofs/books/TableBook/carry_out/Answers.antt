@@ -4,11 +4,11 @@ use Rattle.sql_model.proofs.Accepting.{outcome_keeps}
 use Rattle.tables.proofs.FinishedLemmas.{finished-kept}
 use Rattle.tables.proofs.books.TableBook.carry_out.Goals as goal
 
--- the reply is the one that the command comes to
+-- the reply is that of the command's outcome
 pub returns-in-Ok-clause-reply : goal.returns-in-Ok-clause-reply
 returns-in-Ok-clause-reply g c clean s here = c.in-Ok.ensures.reply clean s here.desk here.keeps
 
--- the book works on, and its connection keeps what the command comes to
+-- the book has not failed, and its connection keeps the state of the command's outcome
 pub returns-in-Ok-clause-after : goal.returns-in-Ok-clause-after
 returns-in-Ok-clause-after g c clean s here = record {
   working = here.working;

@@ -1,4 +1,4 @@
--- What the book stood for is found, whatever the limit of steps was.
+-- The state that the book represented is found, whatever the limit of steps was.
 use Rattle.std.proofs.Common.{sym, subst}
 use Rattle.sqlite.specs.Held.{state}
 use Rattle.desk_sql.specs.declared.versions.Version.TheVariants.{Two}
@@ -15,7 +15,7 @@ returns-clause-found g c =
     (sym c.without_limit.ensures.same)
     (λ s stands clean. kept_found g.S.Store self.conn Two s (stands.keeps clean))
 
--- and a crash leaves what it could leave before
+-- a crash leaves what it could leave before
 pub returns-clause-left : goal.returns-clause-left
 returns-clause-left g c =
     let self = c.args.self in

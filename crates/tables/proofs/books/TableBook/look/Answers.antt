@@ -3,7 +3,7 @@ use Rattle.std.specs.Prelude.{IfOk}
 use Rattle.tables.proofs.FinishedLemmas.{first-from}
 use Rattle.tables.proofs.books.TableBook.look.Goals as goal
 
--- above the number up to which all have finished the same is found
+-- if all journeys up to a number have finished, a search above it finds the same
 pub returns-then-after-self-clause-first : goal.returns-then-after-self-clause-first
 returns-then-after-self-clause-first g c clean s here =
     subst (λ o. IfOk c.look_on.result (λ found. found ≡ o))

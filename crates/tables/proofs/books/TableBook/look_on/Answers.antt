@@ -9,7 +9,7 @@ use Rattle.tables.proofs.LookLemmas.{uncounted}
 use Rattle.tables.proofs.books.TableBook.look_on.Goals as goal
 use Rattle.tables.proofs.books.TableBook.look_on.Goals.{in-Some, in-None+in_ok-self-in-None}
 
--- those before the one that was found have finished, or all have
+-- the journeys before the one that was found have finished, or all have
 pub returns-clause-same : goal.returns-clause-same
 returns-clause-same g c clean s here = elim c.match-found.branch [
   | in-Some w ↦
@@ -45,7 +45,7 @@ returns-clause-same g c clean s here = elim c.match-found.branch [
       }
 ]
 
--- the first look changed nothing, nor did the counts where memory ran out
+-- the search changed nothing, nor did the read of the counts that ran out of memory
 pub returns-in_err-self-in-None-clause-same : goal.returns-in_err-self-in-None-clause-same
 returns-in_err-self-in-None-clause-same g c clean =
     let f = c.in_err-self-in-None.field-0.0 in

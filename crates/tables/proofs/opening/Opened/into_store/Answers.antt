@@ -1,4 +1,4 @@
--- What was kept is found, whatever the limit of steps was.
+-- The state that was kept is found, whatever the limit of steps was.
 use Rattle.std.proofs.Common.{sym, subst}
 use Rattle.sqlite.specs.Held.{state}
 use Rattle.ledger.specs.Answer.{State}

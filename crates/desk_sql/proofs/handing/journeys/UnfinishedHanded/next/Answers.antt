@@ -1,4 +1,4 @@
--- The row at which the query stands is the first of those to come.
+-- The current row of the query is the first that remained.
 use Rattle.std.proofs.Common.{◌≡◌, Some, None, rules}
 use Rattle.sqlite.specs.Given.{row_if}
 use Rattle.desk_sql.specs.FoundRows.{journey_of}
