@@ -110,6 +110,9 @@ def check_links(page, lines):
                 raise Wrong(f"line {number}: a link to {target}, which is absent")
             if anchor and anchor not in anchors_in(path):
                 raise Wrong(f"line {number}: a link to #{anchor}, which is no heading of {target or page}")
+        for path in re.findall(r"`((?:crates|docs|scripts|tests)/[^`\s]*)`", line):
+            if not re.search(r"NAME|\*|\.\.|/out/", path) and not os.path.exists(path):
+                raise Wrong(f"line {number}: {path} is absent")
 
 
 def free_port():

@@ -40,6 +40,7 @@ refuses_page "a block of another kind" "line 1: a block of no kind that is known
 refuses_page "a command outside" "line 1: a command outside a console block" '```text\n$ echo a\n```\n'
 refuses_page "output without a command" "line 2: a console block begins with a command, after '$ '" '```console\na\n```\n'
 refuses_page "a block without an end" "line 1: the block has no end" '```console\n$ echo a\na\n'
+refuses_page "a file that is named" "line 1: crates/nowhere/src is absent" 'see `crates/nowhere/src`\n'
 refuses_page "a link to nowhere" "line 1: a link to nowhere.md, which is absent" 'see [this](nowhere.md)\n'
 
 cd "$top" || exit 2
