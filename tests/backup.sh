@@ -43,7 +43,7 @@ has_said() {
 begins() {
   rm -f copying
   touch hold
-  PATH=$work/slow:$PATH env --default-signal=INT "$tool" "$@" >out 2>err </dev/null &
+  PATH=$work/slow:$PATH env --default-signal=INT,QUIT "$tool" "$@" >out 2>err </dev/null &
   backup=$!
   for _ in {1..1000}; do
     [ ! -e copying ] || return 0
@@ -166,7 +166,7 @@ backs_up "a desk at work" 0 "saved b4.db"$'\n'"backup: process $desk was stopped
 asks "after it" "step 2" "journey 2 T1.1 run 1"
 same "what it shows" "           2 desk             run 0
 unfinished 1" "$("$DESK" unfinished b4.db)"
-for signal in INT TERM HUP; do
+for signal in INT QUIT TERM HUP; do
   begins trips.db b.db
   same "the desk is stopped" T "$(state)"
   kill -s "$signal" "$backup"
@@ -176,8 +176,7 @@ for signal in INT TERM HUP; do
   asks "after $signal" "step 0" "refused 4 BadBody"
 done
 begins trips.db b.db
-kill -9 "$backup"
-wait "$backup" 2>/dev/null
+{ kill -9 "$backup"; wait "$backup"; } 2>/dev/null
 asks "after a kill" "step 0" "refused 4 BadBody"
 rm -rf hold .desk-backup.*
 begins --seconds 1 trips.db b.db
@@ -206,8 +205,7 @@ backs_up "a desk that was stopped before" 0 "saved b5.db"$'\n'"backup: process $
 asks "it is continued" "step 0" "refused 4 BadBody"
 backs_up "a backup in use" 1 "backup: trips.db is in use, by process $desk" --replace b5.db trips.db
 begins trips.db b.db
-kill -9 "$desk"
-wait "$desk" 2>/dev/null
+{ kill -9 "$desk"; wait "$desk"; } 2>/dev/null
 ends "a desk that is killed" 1 "backup: the process that held the file was continued or has ended while it was copied; *"
 closes_desk
 same "files that were made" "" "$(ls -d b.db* 2>/dev/null)"

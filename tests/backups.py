@@ -16,6 +16,7 @@ from ledger import Ledger, is_settled, statements_of, tables_of
 from scenes import BUS, FLIGHT, JSON_PLAN, PLANS, SEA, YARD
 from shown import Events, look, read_files
 
+QUICK = 100
 STOCK = f"set a {FLIGHT} 900\nset b {SEA} 0\nset c {YARD} 90\nset d {BUS} 900\n"
 
 
@@ -45,12 +46,13 @@ def request_of(ask, key):
 
 
 class Work(threading.Thread):
-    """A client that asks one thing after another until it is to stop, and counts."""
+    """A client that asks one thing after another until it is to stop, and counts. For each backup it asks so many quickly,
+    and more slowly what comes then, so that a slow machine does not get too large a file."""
 
     def __init__(self, chance, first, base):
-        super().__init__()
+        super().__init__(daemon=True)
         self.asks, self.base = asks(chance, first), base
-        self.asked = self.answered = 0
+        self.asked = self.answered = self.slow_after = 0
         self.going, self.lost = True, []
 
     def run(self):
@@ -62,7 +64,11 @@ class Work(threading.Thread):
                 self.lost.append(ask)
                 return
             self.answered += answer
-            time.sleep(0.002)
+            time.sleep(0.004 if self.asked < self.slow_after else 0.1)
+
+    def hurry(self):
+        """Asks quickly for a while."""
+        self.slow_after = self.asked + QUICK
 
     def stop(self):
         """Stops asking, and kills the desk."""
@@ -113,7 +119,7 @@ def back_up(tool, work, names):
     """Makes backups at once, with these names."""
     least = work.base + work.answered
     calls = [subprocess.Popen([tool, "trips.db", name], stdout=subprocess.PIPE, stderr=subprocess.STDOUT) for name in names]
-    said = [call.communicate(timeout=PATIENCE)[0].decode() for call in calls]
+    said = [call.communicate(timeout=5 * PATIENCE)[0].decode() for call in calls]
     most = work.base + work.asked
     return [Backup(name, least, most, (call.returncode, text)) for name, call, text in zip(names, calls, said)]
 
@@ -130,13 +136,13 @@ def back_up_while(tool, work, chance, names):
     """Makes backups with these names while a client asks; gives them, and what was wrong meanwhile."""
     made, wrong = [], []
     work.start()
-    while names:
+    while names and not wrong:
+        work.hurry()
         time.sleep(chance.random() / 5)
         now = [names.pop() for _ in range(min(len(names), 2 if chance.random() < 0.3 else 1))]
         made += back_up(tool, work, now)
         if not goes_on(work):
             wrong.append(f"{now}: after this the desk did not answer {work.lost}")
-            break
     work.stop()
     return made, wrong
 

@@ -3,8 +3,8 @@ with what the page prints: DESK FOLDER PAGE ..
 
 A block that begins with ```console has commands, each after "$ ", its further lines after "> ", and its output below. What a
 command prints on standard output and standard error is compared line by line; a line feed at the end may be absent. A command
-that ends with "&" goes on in the background, and its output is awaited. The port 8080 stands for one that is free. A block of
-another kind has no commands, and its kind is named.
+that ends with "&" goes on in the background, and its output is awaited. The port 8080 stands for one that is free. The
+folder has the program, as desk, and the repository's tools. A block of another kind has no commands, and its kind is named.
 """
 import os
 import random
