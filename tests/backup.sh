@@ -73,7 +73,10 @@ while [ -e "$work/hold" ] && [ \$tries -lt 600 ]; do
   sleep 0.05
   tries=\$((tries + 1))
 done
-exec $(command -v cp) "\$@"
+$(command -v cp) "\$@"
+status=\$?
+touch "$work/copied"
+exit \$status
 END
 chmod +x slow/cp
 
@@ -178,7 +181,12 @@ done
 begins trips.db b.db
 { kill -9 "$backup"; wait "$backup"; } 2>/dev/null
 asks "after a kill" "step 0" "refused 4 BadBody"
-rm -rf hold .desk-backup.*
+rm -f hold copied
+for _ in {1..500}; do
+  [ ! -e copied ] || break
+  sleep 0.01
+done
+rm -rf .desk-backup.*
 begins --seconds 1 trips.db b.db
 asks "while a copy takes too long" "step 0" "refused 4 BadBody"
 wait "$backup"

@@ -1,6 +1,7 @@
 """Backups of a desk at work. While a client steps journeys, over HTTP and then by lines, tools/backup makes backups at random
 moments, some of them two at once. Each has the ledger of what was answered before it began, or with some of what was asked
-until its end, whole events all of them; the desk goes on with it; and the desk that was stopped for it goes on answering.
+until its end, whole events all of them; the desk goes on with some of them as it should; and the desk that was stopped for
+them goes on answering.
 
 backups.py TOOL COUNT [SEED]    makes so many backups; says what it found, and ends with 1 where something is wrong
 """
@@ -126,6 +127,7 @@ def back_up(tool, work, names):
 
 def goes_on(work):
     """Whether the desk answers something more."""
+    work.hurry()
     before, deadline = work.answered, time.monotonic() + PATIENCE
     while work.answered == before and not work.lost and time.monotonic() < deadline:
         time.sleep(0.01)
@@ -184,7 +186,7 @@ class Book(Events):
         if tables != self.states[count]:
             return f"its tables are not those after {count} events"
         backup.is_open = bool(is_settled(tables))
-        return self.goes_on(count, chance)
+        return self.goes_on(count, chance) if chance.random() < 0.4 else ""
 
 
 def count_events():
