@@ -1,12 +1,14 @@
 """Backups of a desk at work. While a client steps journeys, over HTTP and then by lines, tools/backup makes backups at random
 moments, some of them two at once. Each has the ledger of what was answered before it began, or with some of what was asked
 until its end, whole events all of them; the desk goes on with some of them as it should; and the desk that was stopped for
-them goes on answering.
+them goes on answering. Two more backups are made while the desk goes on between the copies of its two files: they have to be
+refused or wrong, which is the check of this trial.
 
 backups.py TOOL COUNT [SEED]    makes so many backups; says what it found, and ends with 1 where something is wrong
 """
 import os
 import random
+import shutil
 import subprocess
 import sys
 import threading
@@ -18,6 +20,26 @@ from scenes import BUS, FLIGHT, JSON_PLAN, PLANS, SEA, YARD
 from shown import Events, look, read_files
 
 QUICK = 100
+# a cp that waits after the file before it copies the log, so long that a desk at work would begin the log anew; where
+# CONTINUED is a process, this goes on until it has done so
+APART = f"""#!/bin/sh
+[ $# -gt 3 ] || exec {shutil.which("cp")} "$@"
+{shutil.which("cp")} -- "$2" "$4" || exit
+if [ -z "$CONTINUED" ]; then
+  sleep 1.5
+else
+  before=$(head -c 32 "$3" | cksum)
+  tries=0
+  kill -CONT "$CONTINUED"
+  while [ "$before" = "$(head -c 32 "$3" | cksum)" ] && [ $tries -lt 1000 ]; do
+    sleep 0.01
+    tries=$((tries + 1))
+  done
+  kill -STOP "$CONTINUED"
+  sleep 0.1
+fi
+exec {shutil.which("cp")} -- "$3" "$4"
+"""
 STOCK = f"set a {FLIGHT} 900\nset b {SEA} 0\nset c {YARD} 90\nset d {BUS} 900\n"
 
 
@@ -67,9 +89,9 @@ class Work(threading.Thread):
             self.answered += answer
             time.sleep(0.004 if self.asked < self.slow_after else 0.1)
 
-    def hurry(self):
+    def hurry(self, count=QUICK):
         """Asks quickly for a while."""
-        self.slow_after = self.asked + QUICK
+        self.slow_after = self.asked + count
 
     def stop(self):
         """Stops asking, and kills the desk."""
@@ -116,10 +138,11 @@ class Backup:
         self.name, self.least, self.most, self.done = name, least, most, done
 
 
-def back_up(tool, work, names):
-    """Makes backups at once, with these names."""
+def back_up(tool, work, names, env):
+    """Makes backups at once, with these names, in this environment."""
     least = work.base + work.answered
-    calls = [subprocess.Popen([tool, "trips.db", name], stdout=subprocess.PIPE, stderr=subprocess.STDOUT) for name in names]
+    pipe = {"stdout": subprocess.PIPE, "stderr": subprocess.STDOUT, "env": {**os.environ, **env}}
+    calls = [subprocess.Popen([tool, "trips.db", name], **pipe) for name in names]
     said = [call.communicate(timeout=5 * PATIENCE)[0].decode() for call in calls]
     most = work.base + work.asked
     return [Backup(name, least, most, (call.returncode, text)) for name, call, text in zip(names, calls, said)]
@@ -134,18 +157,29 @@ def goes_on(work):
     return work.answered > before
 
 
+def back_up_apart(tool, work):
+    """Makes a backup while the desk goes on between the copies of its two files."""
+    work.hurry(5000)
+    env = {"PATH": f"{os.path.abspath('apart')}:{os.environ['PATH']}", "CONTINUED": str(work.process.process.pid)}
+    return back_up(tool, work, [f"apart-{type(work).__name__}.db"], env)[0]
+
+
 def back_up_while(tool, work, chance, names):
     """Makes backups with these names while a client asks; gives them, and what was wrong meanwhile."""
     made, wrong = [], []
+    path = f"{os.path.abspath('apart')}:{os.environ['PATH']}"
     work.start()
     while names and not wrong:
         work.hurry()
         time.sleep(chance.random() / 5)
         now = [names.pop() for _ in range(min(len(names), 2 if chance.random() < 0.3 else 1))]
-        made += back_up(tool, work, now)
+        if made:
+            made += back_up(tool, work, now, {})
+        else:
+            work.hurry(1000)
+            made += back_up(tool, work, now, {"PATH": path, "CONTINUED": ""})
         if not goes_on(work):
             wrong.append(f"{now}: after this the desk did not answer {work.lost}")
-    work.stop()
     return made, wrong
 
 
@@ -199,18 +233,27 @@ def main():
     tool, count = sys.argv[1], int(sys.argv[2])
     chance = random.Random(int(sys.argv[3]) if len(sys.argv) > 3 else 1987)
     assert desk("run", "trips.db", lines=STOCK).status == 0
-    made, wrong, pages = [], [], []
+    os.mkdir("apart")
+    with open("apart/cp", "w", encoding="utf-8") as out:
+        out.write(APART)
+    os.chmod("apart/cp", 0o755)
+    made, apart, wrong, pages = [], [], [], []
     for kind in (Requests, LinesAsked):
         base, journeys = count_events()
         work = kind(chance, journeys + 1, base)
         names = [f"backup-{kind.__name__}-{n}.db" for n in range(count // 2)]
         some, bad = back_up_while(tool, work, chance, names)
         made, wrong, pages = made + some, wrong + bad, pages + getattr(work, "pages", [])
+        apart.append(back_up_apart(tool, work))
+        work.stop()
     book = Book(look(read_files(".")), pages)
     for backup in made:
         fault = book.fault(backup, chance)
         if fault:
             wrong.append(f"{backup.name}: {fault}")
+    for backup in apart:
+        if not book.fault(backup, chance):
+            wrong.append(f"{backup.name}: a desk that went on between the copies is not found, so this trial finds nothing")
     left = [name for name in os.listdir(".") if name.startswith(".desk-backup")]
     under_way = sum(getattr(backup, "is_open", False) for backup in made)
     print(f"{len(made)} backups among {book.ledger.count} events, {under_way} with journeys under way, {len(wrong)} wrong")
