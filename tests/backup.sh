@@ -165,7 +165,7 @@ fi
 # a desk at work
 opens_desk
 asks "a desk" "begin $flight/1/1;$flight/1/1!0" "journey 2 begun"
-backs_up "a desk at work" 0 "saved b4.db"$'\n'"backup: process $desk was stopped for 0.[0-9][0-9][0-9] seconds" --verbose trips.db b4.db
+backs_up "a desk at work" 0 "saved b4.db"$'\n'"backup: process $desk was stopped for [0-9]*.[0-9][0-9][0-9] seconds" --verbose trips.db b4.db
 asks "after it" "step 2" "journey 2 T1.1 run 1"
 same "what it shows" "           2 desk             run 0
 unfinished 1" "$("$DESK" unfinished b4.db)"
