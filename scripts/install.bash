@@ -1,9 +1,10 @@
-# Installs the program below a folder, with its man page, completions and unit file, and removes just these. For scripts that
-# have set top and say, and have read program.bash and manual.bash.
+# Installs the program below a folder, with the script for backups, its man page, completions and unit file, and removes just
+# these. For scripts that have set top and say, and have read program.bash and manual.bash.
 : "${top:?the top of the repository}"
 
 # where each stands below the folder that is given
 readonly program_at=bin/desk
+readonly backup_at=bin/desk-backup
 readonly page_at=share/man/man1/desk.1
 readonly bash_at=share/bash-completion/completions/desk
 readonly zsh_at=share/zsh/site-functions/_desk
@@ -12,7 +13,7 @@ readonly unit_at=lib/systemd/system/desk.service
 # the folders that were made for them, one a line
 readonly made_at=share/desk/folders
 
-readonly installed_files=("$program_at" "$page_at" "$bash_at" "$zsh_at" "$fish_at" "$unit_at")
+readonly installed_files=("$program_at" "$backup_at" "$page_at" "$bash_at" "$zsh_at" "$fish_at" "$unit_at")
 
 # read_prefix WORD ..: sets prefix to the one folder that is named, as an absolute path
 read_prefix() {
@@ -103,6 +104,7 @@ begin_list() {
 place_all() {
   begin_list &&
     place "$program_at" 755 <"$program" &&
+    place "$backup_at" 755 <"$top/tools/backup" &&
     man_page | place "$page_at" 644 &&
     bash_completion | place "$bash_at" 644 &&
     zsh_completion | place "$zsh_at" 644 &&

@@ -3,8 +3,8 @@ with what the page prints: DESK FOLDER PAGE ..
 
 A block that begins with ```console has commands, each after "$ ", its further lines after "> ", and its output below. What a
 command prints on standard output and standard error is compared line by line; a line feed at the end may be absent. A command
-that ends with "&" goes on in the background, and its output is awaited. The port 8080 stands for one that is free. A block of
-another kind has no commands, and its kind is named.
+that ends with "&" goes on in the background, and its output is awaited. The port 8080 stands for one that is free. The
+folder has the program, as desk, and the repository's tools. A block of another kind has no commands, and its kind is named.
 """
 import os
 import random
@@ -22,13 +22,14 @@ NOT_RUN = {
     "scripts/limit.bash": "it proves the whole program once more",
     "./check": "it is the gate, of which this is a part",
     "./bench": "it measures, and its numbers differ from run to run",
-    "sudo apt-get": "it changes the machine",
+    "sudo": "it changes the machine",
 }
 
 # kinds of blocks without commands
 OTHER_KINDS = {"text", "csv", "json", "sql", "http", "antt", "rust"}
 
 SECONDS = 60
+HERE = os.path.dirname(os.path.abspath(__file__))
 
 
 class Wrong(Exception):
@@ -130,10 +131,10 @@ def free_port():
 class Shell:
     """A shell in a folder, in which commands run one after another."""
 
-    def __init__(self, folder):
+    def __init__(self, folder, desk):
         self.folder, self.background, self.outputs = folder, [], 0
         self.kept = tempfile.mkdtemp(dir=os.path.dirname(folder))
-        environment = dict(os.environ, HOME=folder, CURL_HOME=self.kept, LC_ALL="C", TZ="UTC")
+        environment = dict(os.environ, DESK=desk, HOME=folder, CURL_HOME=self.kept, LC_ALL="C", TZ="UTC")
         with open(os.path.join(self.kept, ".curlrc"), "w", encoding="utf-8") as rc:
             # no progress, which a terminal does not show either
             rc.write("silent\nshow-error\nnoproxy = *\n")
@@ -197,8 +198,9 @@ def run_page(desk, room, page):
     if run:
         folder = tempfile.mkdtemp(dir=room)
         os.symlink(desk, os.path.join(folder, "desk"))
+        os.symlink(os.path.join(os.path.dirname(HERE), "tools"), os.path.join(folder, "tools"))
         port = free_port()
-        shell = Shell(folder)
+        shell = Shell(folder, desk)
         try:
             background = []
             for command in run:

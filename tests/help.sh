@@ -186,6 +186,7 @@ if [ "$(readlink -f "$DESK")" = "$(readlink -f "$program")" ] && program_is_curr
   "$top/desk" install below >out 2>err
   same "install: the status" 0 "$?"
   same "what is installed" "bin/desk
+bin/desk-backup
 lib/systemd/system/desk.service
 share/bash-completion/completions/desk
 share/desk/folders
@@ -194,6 +195,8 @@ share/man/man1/desk.1
 share/zsh/site-functions/_desk" "$(cd below && find . -type f | sed 's,^\./,,' | LC_ALL=C sort)"
   same "how to remove it" "desk: remove them with: ./desk uninstall $work/below" "$(cat err)"
   same "the program there" "$(sum "$DESK")" "$(sum below/bin/desk)"
+  same "the script for backups there" "saved $work/kept.db" \
+    "$("$DESK" recover kept >/dev/null && env -u DESK below/bin/desk-backup kept "$work/kept.db" 2>&1)"
   same "the man page there" "$(cat desk.1)" "$(cat below/share/man/man1/desk.1)"
   for line in NoNewPrivileges=yes ProtectSystem=strict StateDirectory=desk; do
     same "the unit: $line" 1 "$(grep -cx "$line" below/lib/systemd/system/desk.service)"
