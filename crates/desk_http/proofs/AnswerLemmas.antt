@@ -1,10 +1,11 @@
 -- The outcome of messages and demands. For the answer to one message.
-use Rattle.std.proofs.Common.{◌≡◌, ◌∙◌, ap, sym, subst, inl, inr, ℕ, List, Bool, true, false, ◌||◌}
+use Rattle.std.proofs.Common.{◌≡◌, ◌∙◌, ap, sym, subst, refl, inl, inr, ℕ, List, Bool, true, false, ◌||◌}
 use Rattle.std.specs.Prelude.{None, Result, Ok, Err, IfOk, IfErr, is_some, codes}
 use Rattle.ledger.specs.Answer.{State}
 use Rattle.http_messages.specs.Requests.{IsRequest, IsTaken}
 use Rattle.http_messages.specs.Heads.{Parts, asks_to_close, complaint_of, is_method, parts_of}
 use Rattle.http_messages.specs.Messages as sent
+use Rattle.http_messages.specs.declared.requests.Message.{Message}
 use Rattle.http_messages.specs.declared.requests.Message.TheVariants as taken
 use Rattle.http_messages.specs.declared.requests.Request.{Request}
 use Rattle.commands.specs.declared.refusals.Refusal.TheVariants.{BadHead}
@@ -13,7 +14,7 @@ use Rattle.http_pages.specs.declared.admitting.Denied.{Denied}
 use Rattle.http_pages.specs.declared.answers.Page.{Page}
 use Rattle.desk_http.specs.Answering.{Answers, Tells}
 use Rattle.desk_http.specs.Demands.{demand_of}
-use Rattle.desk_http.specs.Pages.{SaysUnless, command_unless, state_by}
+use Rattle.desk_http.specs.Pages.{SaysUnless, closes, command_unless, state_by}
 use Rattle.desk_http.specs.declared.answering.Answer.{Answer}
 use Rattle.protocols.specs.declared.faults.ServeFault.{ServeFault}
 use Rattle.protocols.specs.declared.faults.ServeFault.TheVariants.{Memory, Read, Store, Write}
@@ -80,3 +81,25 @@ request_failed stands leaves s r (sent.Asks h body) Memory is told = told (parts
 request_failed stands leaves s r (sent.Asks h body) Store is told = told (parts_of h) body is
 request_failed stands leaves s r (sent.Asks h body) Read is told = absurd (told (parts_of h) body is)
 request_failed stands leaves s r (sent.Asks h body) Write is told = absurd (told (parts_of h) body is)
+
+-- Whether a page closes.
+
+-- bytes that are no head close
+pub no_head_closes : (m : sent.Message) → IsTaken taken.NoHead m → true ≡ closes m
+no_head_closes sent.NoHead is = refl
+no_head_closes (sent.Asks h body) is = absurd is
+
+-- a request closes by its complaint, or where it asks to close
+pub request_closes : (r : Request) (c : Bool) → c ≡ (is_some r.complaint || r.closes) → (m : sent.Message)
+    → IsTaken (taken.Asks r) m → c ≡ closes m
+request_closes r c ends sent.NoHead is = absurd is
+request_closes r c ends (sent.Asks h body) is =
+    ends ∙ ap (λ w. is_some w || r.closes) is.complaint ∙ ap (λ w. is_some (complaint_of (parts_of h)) || w) is.closes
+
+-- a page that was laid out closes as it was to
+pub page_closes : (message : Message) (result : Result Answer ServeFault) (c : Bool)
+    → IfOk result (λ answer. answer.closes ≡ c)
+    → ((m : sent.Message) → IsTaken message m → c ≡ closes m)
+    → IfOk result (λ answer. (m : sent.Message) → IsTaken message m → answer.closes ≡ closes m)
+page_closes message (Ok answer) c is as_said = λ m taken. is ∙ as_said m taken
+page_closes message (Err fault) c is as_said = tt

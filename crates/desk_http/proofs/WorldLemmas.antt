@@ -107,21 +107,21 @@ by-in_limits : (o : Option Command) (rest : Asks) → ((c : Command) → o ≡ S
 by-in_limits (Some c) rest limits all = (limits c refl, all)
 by-in_limits None rest limits all = all
 
-in-limits : (ms : List Message) → KeepLimits (asks_in ms)
+pub in-limits : (ms : List Message) → KeepLimits (asks_in ms)
 in-limits [] = tt
 in-limits (m ∷ ms) = by-in_limits (command_in m) (asks_in ms) (limits_of m) (in-limits ms)
 
 -- The commands of messages.
 
 -- the commands of messages followed by other messages
-asks_in-append : (ms ns : List Message) → asks_in (ms ++ ns) ≡ asks_in ms ++ asks_in ns
+pub asks_in-append : (ms ns : List Message) → asks_in (ms ++ ns) ≡ asks_in ms ++ asks_in ns
 asks_in-append [] ns = refl
 asks_in-append (m ∷ ms) ns =
     ap (λ l. asks_by (command_in m) ++ l) (asks_in-append ms ns)
     ∙ sym (append_assoc (asks_by (command_in m)) (asks_in ms) (asks_in ns))
 
 -- one message makes at most one command
-one-asked : (o : Option Command) → length (asks_by o ++ []) ≤ 1
+pub one-asked : (o : Option Command) → length (asks_by o ++ []) ≤ 1
 one-asked (Some c) = omega arith
 one-asked None = omega arith
 
@@ -131,7 +131,7 @@ leads-by : (s : State) (o : Option Command) (rest : Asks)
 leads-by s (Some c) rest = refl
 leads-by s None rest = refl
 
-leads : (s : State) (ms : List Message) → state_after_all s ms ≡ runs.state_after s (asks_in ms)
+pub leads : (s : State) (ms : List Message) → state_after_all s ms ≡ runs.state_after s (asks_in ms)
 leads s [] = refl
 leads s (m ∷ ms) = leads (state_after s m) ms ∙ leads-by s (command_in m) (asks_in ms)
 
@@ -169,7 +169,7 @@ stops-with x w ms m settled here now =
     (subst x.stands (sym (after_more (after start w) ms m)) now))
 
 -- what a crash leaves of the next message
-message-cut : (leaves : State → State → Type 0) (s : State) (ms : List Message) (m : Message)
+pub message-cut : (leaves : State → State → Type 0) (s : State) (ms : List Message) (m : Message)
     → leaves (state_after_all s ms) (state_after (state_after_all s ms) m)
     → leaves (runs.state_after s (asks_in ms)) (runs.state_after s (asks_in ms ++ asks_in (m ∷ [])))
 message-cut leaves s ms m left =
@@ -180,7 +180,7 @@ message-cut leaves s ms m left =
     (subst (leaves (state_after_all s ms)) (sym both) left)
 
 -- the next message was cut off
-abbrev cuts : {stood : State → Type 0} (x : Scene) (w : List Moment) (ms : List Message) (m : Message)
+abbrev pub cuts : {stood : State → Type 0} (x : Scene) (w : List Moment) (ms : List Message) (m : Message)
     → StandsAtEnd stood w
     → x.leaves (state_after_all (after start w) ms) (state_after (state_after_all (after start w) ms) m)
     → EndsAmong x.stands x.leaves w (asks_in (ms ++ m ∷ [])) true

@@ -8,6 +8,7 @@ ghost use Rattle.http_messages.specs.Messages as sent;
 ghost use Rattle.http_pages.specs.Pages.{page_said, page_text};
 ghost use Rattle.desk_http.specs.Answering.{Answers, Meets, Tells};
 ghost use Rattle.desk_http.specs.DemandValues.{demand_said};
+ghost use Rattle.desk_http.specs.Pages.{closes};
 
 use crate::demands::{Demand, Unmet, demand_in};
 use crate::showing::{see_journey, see_stock, see_unfinished};
@@ -20,9 +21,11 @@ use std::alloc::Global;
 
 /// The bytes of a page, and whether the connection ends after it.
 #[derive(Drop)]
-pub(crate) struct Answer {
-    pub(crate) bytes: Vec<u8>,
-    pub(crate) closes: bool,
+pub struct Answer {
+    /// Status line, fields and body.
+    pub bytes: Vec<u8>,
+    /// Whether it is a closing page.
+    pub closes: bool,
 }
 
 impl Answer {
@@ -39,8 +42,10 @@ impl Answer {
     }
 }
 
-/// Answers a message: executes its command, if it makes one, and returns the bytes of its page.
-pub(crate) fn answer_to<B: Book>(
+/// Answers a message: carries out what it asks for, and lays out its page.
+///
+/// Out of memory, it was carried out or not, and has no page.
+pub fn answer_to<B: Book>(
     alloc: Global,
     paths: &Paths,
     message: &Message,
@@ -49,6 +54,8 @@ pub(crate) fn answer_to<B: Book>(
     ensures answer { B.is_sound book.new → (s : State) → B.stands book.old s →
         (m : sent.Message) → IsTaken message.now m →
         Answers (B.stands book.new) (B.leaves book.new) s m result }
+    ensures closes { IfOk result (λ answer. (m : sent.Message) → IsTaken message.now m →
+        answer.closes ≡ closes m) }
 
     ensures failed { IsErrOf result ServeFault.Store → IsTrue (B.has_failed book.new) }
     ensures stays_failed { IsTrue (B.has_failed book.old) → IsTrue (B.has_failed book.new) }

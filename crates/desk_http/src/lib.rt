@@ -16,6 +16,7 @@ mod senders;
 mod serving;
 mod showing;
 
+pub use answering::{Answer, answer_to};
 pub use faults::reading_fault;
 pub use laws::again;
 pub use protocols::ServeFault;

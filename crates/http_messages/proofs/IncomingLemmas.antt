@@ -125,7 +125,7 @@ message_told stream (sent.NoHead, rest, begins) = subst IsSome (sym begins.first
 message_told stream (sent.Asks h body, rest, begins) = subst IsSome (sym begins.first) refl
 
 -- where no prefix is decided, there is no message
-no_front_none : (stream : List ℕ) → first_told stream ≡ None → HasNoMessage stream
+pub no_front_none : (stream : List ℕ) → first_told stream ≡ None → HasNoMessage stream
 no_front_none stream none sent.NoHead rest begins = let first = begins.first in cc
 no_front_none stream none (sent.Asks h body) rest begins = let first = begins.first in cc
 

@@ -6,4 +6,5 @@ pub mod ToldLemmas
 pub mod PlaceLemmas
 pub mod HeadLemmas
 pub mod IncomingLemmas
+pub mod FirstLemmas
 pub mod MessageLemmas

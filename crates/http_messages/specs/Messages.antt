@@ -67,3 +67,13 @@ pub record AreMessages (stream : List ℕ) (ms : List Message) : Type 0 where
   pub rest : List ℕ
   pub whole : BeginsWithAll stream ms rest
   pub no_more : HasNoMessage rest
+
+-- these bytes are this message, whatever follows them
+abbrev pub IsMessage : List ℕ → Message → Type 0
+IsMessage bytes m = (rest : List ℕ) → BeginsWith (bytes ++ rest) m rest
+
+-- each of these texts is the message at its place
+abbrev pub AreEach : List (List ℕ) → List Message → Type 0
+AreEach [] ms = ms ≡ []
+AreEach (text ∷ texts) [] = ⊥
+AreEach (text ∷ texts) (m ∷ ms) = IsMessage text m × AreEach texts ms

@@ -1,9 +1,9 @@
 -- What of a stream is still to come, and what the next message takes of it.
-use Rattle.std.specs.Prelude.{◌≡◌, ⊤, ℕ, ◌<◌, ◌≤◌, Bool, true, false, List, ◌++◌, length, Option, Some, None, option_map}
+use Rattle.std.specs.Prelude.{◌≡◌, ⊤, ℕ, ◌<◌, ◌≤◌, Bool, true, false, List, ◌++◌, length, take, Option, Some, None, option_map}
 use Rattle.std.specs.Io.KnownBytes.{Consumes, IsAtEnd}
 use Rattle.http_messages.specs.Requests.{IsTaken}
 use Rattle.http_messages.specs.Messages as sent
-use Rattle.http_messages.specs.Messages.{BeginsWith, HasNoMessage, first_told}
+use Rattle.http_messages.specs.Messages.{BeginsWith, HasNoMessage, IsMessage, first_told}
 use Rattle.http_messages.specs.Places.{IsToldAt}
 use Rattle.http_messages.specs.declared.requests.Message.{Message}
 
@@ -52,3 +52,15 @@ FindsTold unused remaining None = (first_told unused.waiting ≡ None) × IsAtEn
 abbrev pub HasCount : Unused → Option (List ℕ) → ℕ → Bool → Type 0
 HasCount unused remaining count true = count ≤ length unused.waiting
 HasCount unused remaining count false = (length unused.waiting < count) × IsAtEnd remaining
+
+-- the first so many of these bytes are a message, and it was taken
+pub record IsFirstOf (bytes : List ℕ) (taken : Message) (count : ℕ) : Type 0 where
+  pub message : sent.Message
+  pub is_taken : IsTaken taken message
+  pub within : count ≤ length bytes
+  pub is_message : IsMessage (take count bytes) message
+
+-- the first message of these bytes was taken, or none of them is whole
+abbrev pub IsFirst : List ℕ → Option (Message × ℕ) → Type 0
+IsFirst bytes (Some found) = IsFirstOf bytes found.0 found.1
+IsFirst bytes None = HasNoMessage bytes

@@ -10,6 +10,7 @@
 
 mod faults;
 mod fields;
+mod first;
 mod heads;
 mod incoming;
 mod laws;
@@ -19,6 +20,8 @@ mod requests;
 mod words;
 
 pub use faults::ReadFault;
+pub use first::first_message;
 pub use incoming::Incoming;
-pub use laws::{heads_are_told, one_reading};
+pub use laws::{heads_are_told, messages_stay, one_reading};
+pub use places::LONGEST_HEAD;
 pub use requests::{Message, Request};

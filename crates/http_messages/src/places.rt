@@ -1,7 +1,7 @@
 //! Where a prefix of a stream is decided.
 
 /// How many bytes a head may have.
-pub(crate) const LONGEST_HEAD: usize = 8192;
+pub const LONGEST_HEAD: usize = 8192;
 
 /// What the bytes so far end with.
 #[derive(Clone, Copy)]

@@ -1,8 +1,8 @@
 -- A message gets the page that reports its outcome.
-use Rattle.std.proofs.Common.{subst}
+use Rattle.std.proofs.Common.{subst, true}
 use Rattle.std.proofs.lemmas.Result.{err_from_is_err_and}
 use Rattle.http_messages.specs.Requests.{IsTaken}
-use Rattle.desk_http.proofs.AnswerLemmas.{no_head_answered, request_answered, request_failed}
+use Rattle.desk_http.proofs.AnswerLemmas.{no_head_answered, no_head_closes, page_closes, request_answered, request_closes, request_failed}
 use Rattle.desk_http.proofs.answering.answer_to.Goals as goal
 
 pub returns-in_err-page-in-Asks-clause-answer : goal.returns-in_err-page-in-Asks-clause-answer
@@ -26,3 +26,15 @@ returns-in_ok-page-in-Asks-clause-answer g c = λ sound s stood m is.
     request_answered (book.stands c.page_of.new.book) (book.leaves c.page_of.new.book) s c.in-Asks.request m _ c.in_ok-page-in-Asks.page _
     (subst (λ taken. IsTaken taken m) c.in-Asks.is is) (c.in_ok-page-in-Asks.ensures.page sound s stood) c.closes.ensures.closes
     (record { bytes = c.new-in-Asks.ensures.bytes; closes = c.new-in-Asks.ensures.closes; memory = c.new-in-Asks.ensures.memory })
+
+-- bytes that are no head close
+pub returns-in_ok-page-in-NoHead-clause-closes : goal.returns-in_ok-page-in-NoHead-clause-closes
+returns-in_ok-page-in-NoHead-clause-closes g c =
+    page_closes c.args.message.now _ true c.new.ensures.closes
+    (λ m is. no_head_closes m (subst (λ taken. IsTaken taken m) c.in-NoHead.is is))
+
+-- a request closes as it says, or where it is refused
+pub returns-in_ok-page-in-Asks-clause-closes : goal.returns-in_ok-page-in-Asks-clause-closes
+returns-in_ok-page-in-Asks-clause-closes g c =
+    page_closes c.args.message.now _ c.closes.result c.new-in-Asks.ensures.closes
+    (λ m is. request_closes c.in-Asks.request c.closes.result c.closes.ensures.closes m (subst (λ taken. IsTaken taken m) c.in-Asks.is is))

@@ -1,0 +1,259 @@
+-- What each step of a conversation keeps true.
+use Rattle.std.proofs.Common.{◌≡◌, ◌≢◌, ℕ, zero, suc, ◌+◌, ◌<◌, ◌≤◌, Bool, true, false, if◌then◌else◌, List, [], ◌∷◌, ◌++◌, length, length-append, length-drop, take, drop, map, All, Option, Some, None, Result, Ok, Err, IfOk, OnErr, unwrap_or, refl, sym, ap, ◌∙◌, subst, append_assoc, append-nil, arith, inl, inr}
+use Rattle.std.specs.List.{flat_map}
+use Rattle.std.specs.Io.KnownBytes.{Appends, Consumes, Keeps}
+use Rattle.std.proofs.lemmas.List.{take-append-drop, map-append}
+use Rattle.std.proofs.lemmas.List.Elements.{All-append, All-nil}
+use Rattle.std.proofs.lemmas.Grind.{flat_map-append, common_steps}
+use Rattle.commands.specs.declared.faults.Fault.{Fault}
+use Rattle.http_messages.specs.Messages.{Message, IsMessage}
+use Rattle.desk_http.specs.Pages.{closes}
+use Rattle.http_conversations.specs.declared.stages.Stage.{Stage}
+use Rattle.http_conversations.specs.declared.stages.Stage.TheVariants.{Open, Closing, Failed}
+use Rattle.http_conversations.specs.Exchanges.{Exchange, AreAnswered, IsAnswered, IsLost, bytes_of, pages_of}
+use Rattle.http_conversations.specs.History.{AnswersOne, GetsPage, History, IsServed, LosesPage, Passes, TakesFirst, after_answer, after_failure, after_loss, after_received, after_sent, exchange, kept, moved_on, new_history}
+
+-- one more of a list
+pub adds : {X : Type 0} (f : X → List ℕ) (xs ys : List X) (x : X) (more : List ℕ) → ys ≡ xs ++ x ∷ [] → f x ≡ more
+    → flat_map f ys ≡ flat_map f xs ++ more
+adds f xs ys x more is same = grind (arith, common_steps, is, same, flat_map-append f xs (x ∷ []), append-nil (f x))
+
+pub maps_more : {X Y : Type 0} (f : X → Y) (xs ys : List X) (x : X) (y : Y) → ys ≡ xs ++ x ∷ [] → f x ≡ y
+    → map f ys ≡ map f xs ++ y ∷ []
+maps_more f xs ys x y is same = ap (map f) is ∙ map-append f xs (x ∷ []) ∙ ap (λ t. map f xs ++ t ∷ []) same
+
+-- what follows a list
+pub behind : (xs more ys : List ℕ) (n : ℕ) → ys ≡ xs ++ more → n ≡ length xs → drop n ys ≡ more
+behind xs more ys n is at = grind (arith, common_steps, is, at)
+
+-- Nothing was done yet.
+pub begins : IsServed new_history
+begins = record { rest = []; received = refl; waits = refl; answered = All-nil (IsAnswered false); sent = refl }
+
+-- Bytes were read.
+
+keeps_more : (stage : Stage) (waiting rest more : List ℕ) → waiting ≡ kept stage rest → kept stage (waiting ++ more) ≡ kept stage (rest ++ more)
+keeps_more Open waiting rest more is = ap (λ t. t ++ more) is
+keeps_more Closing waiting rest more is = refl
+keeps_more Failed waiting rest more is = refl
+
+pub receives : (h : History) (more : List ℕ) → IsServed h → IsServed (after_received h more)
+receives h more x = record {
+  rest = x.rest ++ more;
+  received = ap (λ t. t ++ more) x.received ∙ append_assoc (bytes_of h.exchanges) x.rest more;
+  waits = keeps_more h.stage h.waiting x.rest more x.waits;
+  answered = x.answered;
+  sent = x.sent;
+}
+
+-- Bytes were handed out.
+pub sends : (h : History) (count : ℕ) → IsServed h → IsServed (after_sent h count)
+sends h count x = record {
+  rest = x.rest;
+  received = x.received;
+  waits = x.waits;
+  answered = x.answered;
+  sent = append_assoc h.sent (take count h.pending) (drop count h.pending)
+      ∙ ap (λ t. h.sent ++ t) (take-append-drop count h.pending) ∙ x.sent;
+}
+
+-- A message got its page.
+
+one : (P : Exchange → Type 0) (x : Exchange) → P x → All P (x ∷ [])
+one P x is zero d within = is
+one P x is (suc k) d within = absurd (omega (arith, within))
+
+module _ (h : History) (is_open : h.stage ≡ Open) (x : IsServed h) where
+  -- all that was not taken waits
+  waits_all : h.waiting ≡ x.rest
+  waits_all = x.waits ∙ ap (λ s. kept s x.rest) is_open
+
+  -- all messages so far have pages, and none closes
+  all_open : All (IsAnswered false) h.exchanges
+  all_open = subst (λ s. AreAnswered s h.exchanges) is_open x.answered
+
+  -- the message is the first of what was not taken
+  taken : (count : ℕ) (e : Exchange) → e.bytes ≡ take count h.waiting
+      → h.received ≡ bytes_of (h.exchanges ++ e ∷ []) ++ drop count h.waiting
+  taken count e is =
+      let all = waits_all in
+      grind (arith, common_steps, x.received, is, all, take-append-drop count h.waiting, flat_map-append (λ (y : Exchange). y.bytes) h.exchanges (e ∷ []))
+
+  -- its page waits behind what was handed out
+  paged : (e : Exchange) (page : List ℕ) → h.pending ≡ [] → e.page ≡ Some page → h.sent ++ page ≡ pages_of (h.exchanges ++ e ∷ [])
+  paged e page free is = grind (arith, common_steps, x.sent, free, is, flat_map-append (λ (y : Exchange). unwrap_or y.page []) h.exchanges (e ∷ []))
+
+  -- a page that was lost is none
+  unpaged : (e : Exchange) → e.page ≡ None → h.sent ++ h.pending ≡ pages_of (h.exchanges ++ e ∷ [])
+  unpaged e is = grind (arith, common_steps, x.sent, is, flat_map-append (λ (y : Exchange). unwrap_or y.page []) h.exchanges (e ∷ []))
+
+  gets : (count : ℕ) (m : Message) (page : List ℕ) (c : Bool) → IsMessage (take count h.waiting) m → closes m ≡ c → h.pending ≡ []
+      → IsServed (after_answer h count page c)
+  gets count m page false is closing free =
+      let e = exchange h count (Some page) in record {
+        rest = drop count h.waiting;
+        received = taken count e refl;
+        waits = refl;
+        answered = All-append (IsAnswered false) h.exchanges (e ∷ []) all_open
+            (one (IsAnswered false) e (record { message = m; is_message = is; closing_as = closing; has_page = refl }));
+        sent = paged e page free refl;
+      }
+  gets count m page true is closing free =
+      let e = exchange h count (Some page) in record {
+        rest = drop count h.waiting;
+        received = taken count e refl;
+        waits = refl;
+        answered = (h.exchanges, e, refl, all_open, record { message = m; is_message = is; closing_as = closing; has_page = refl });
+        sent = paged e page free refl;
+      }
+
+  loses : (count : ℕ) (m : Message) → IsMessage (take count h.waiting) m → IsServed (after_loss h count)
+  loses count m is =
+      let e = exchange h count None in record {
+        rest = drop count h.waiting;
+        received = taken count e refl;
+        waits = refl;
+        answered = (h.exchanges, e ∷ [], refl, all_open, record { message = m; is_message = is; has_none = refl });
+        sent = unpaged e refl;
+      }
+
+  fails : IsServed (after_failure h)
+  fails = record {
+    rest = x.rest;
+    received = x.received;
+    waits = refl;
+    answered = (h.exchanges, [], sym (append-nil h.exchanges), all_open, tt);
+    sent = x.sent;
+  }
+
+-- The first message was taken, or not.
+pub takes : (r : Result Bool Fault) (h k : History) → TakesFirst r h k → IsServed h → IsServed k
+takes (Ok true) h k t x =
+    subst IsServed (sym t.is) (gets h t.is_open x t.count t.message t.page (closes t.message) t.is_message refl t.free)
+takes (Ok false) h k t x = subst IsServed (sym t) x
+takes (Err fault) h k t x = elim t [
+  | inl lost ↦ subst IsServed (sym lost.is) (loses h lost.is_open x lost.count lost.message lost.is_message)
+  | inr failed ↦ subst IsServed (sym failed.1) (fails h failed.0 x)
+]
+
+-- what is left of a list is no longer
+moved_within : (bytes : List ℕ) (count : ℕ) (c : Bool) → length (if c then [] else drop count bytes) ≤ length bytes
+moved_within bytes count true = omega arith
+moved_within bytes count false = omega (arith, length-drop count bytes)
+
+-- no more waits than before
+pub takes_within : (r : Result Bool Fault) (h k : History) (most : ℕ) → TakesFirst r h k → length h.waiting < most → length k.waiting < most
+takes_within (Ok true) h k most t within =
+    omega (arith, within, ap (λ (j : History). length j.waiting) t.is, moved_within h.waiting t.count (closes t.message))
+takes_within (Ok false) h k most t within = omega (arith, within, ap (λ (j : History). length j.waiting) t)
+takes_within (Err fault) h k most t within = elim t [
+  | inl lost ↦ omega (arith, within, ap (λ (j : History). length j.waiting) lost.is)
+  | inr failed ↦ omega (arith, within, ap (λ (j : History). length j.waiting) failed.1)
+]
+
+-- nothing was read, and nothing was handed out
+pub takes_passes : (r : Result Bool Fault) (h k : History) → TakesFirst r h k → Passes h k
+takes_passes (Ok true) h k t = (ap (λ (j : History). j.received) t.is, ap (λ (j : History). j.sent) t.is)
+takes_passes (Ok false) h k t = (ap (λ (j : History). j.received) t, ap (λ (j : History). j.sent) t)
+takes_passes (Err fault) h k t = elim t [
+  | inl lost ↦ (ap (λ (j : History). j.received) lost.is, ap (λ (j : History). j.sent) lost.is)
+  | inr failed ↦ (ap (λ (j : History). j.received) failed.1, ap (λ (j : History). j.sent) failed.1)
+]
+
+-- one message got its page
+pub takes_one : (r : Result Bool Fault) (h k : History) → TakesFirst r h k → r ≡ Ok true → AnswersOne h k
+takes_one (Ok true) h k t is = record {
+  bytes = take t.count h.waiting;
+  one = ap (λ (j : History). j.exchanges) t.is
+      ∙ ap (λ page. h.exchanges ++ (record { bytes = take t.count h.waiting; page = Some page }) ∷ []) (sym (ap (λ (j : History). j.pending) t.is));
+}
+takes_one (Ok false) h k t is = cc
+takes_one (Err fault) h k t is = cc
+
+-- at most one message was taken
+pub takes_at_most_one : (r : Result Bool Fault) (h k : History) → TakesFirst r h k → length k.exchanges ≤ length h.exchanges + 1
+takes_at_most_one (Ok true) h k t =
+    omega (arith, ap (λ (j : History). length j.exchanges) t.is, length-append h.exchanges (exchange h t.count (Some t.page) ∷ []))
+takes_at_most_one (Ok false) h k t = omega (arith, ap (λ (j : History). length j.exchanges) t)
+takes_at_most_one (Err fault) h k t = elim t [
+  | inl lost ↦ omega (arith, ap (λ (j : History). length j.exchanges) lost.is, length-append h.exchanges (exchange h lost.count None ∷ []))
+  | inr failed ↦ omega (arith, ap (λ (j : History). length j.exchanges) failed.1)
+]
+
+-- at a fault the conversation has failed
+pub takes_fault : (r : Result Bool Fault) (h k : History) → TakesFirst r h k → OnErr r (k.stage ≡ Failed)
+takes_fault (Ok b) h k t = tt
+takes_fault (Err fault) h k t = elim t [
+  | inl lost ↦ ap (λ (j : History). j.stage) lost.is
+  | inr failed ↦ ap (λ (j : History). j.stage) failed.1
+]
+
+-- What one write did, or did not.
+
+pub sends_if : {E : Type 0} (h k : History) (a b : Option (List ℕ)) (result : Result ℕ E)
+    → IfOk result (λ count. (k ≡ after_sent h count) × Appends a b (take count h.pending)) → OnErr result ((k ≡ h) × Keeps a b)
+    → IsServed h → IsServed k
+sends_if h k a b (Ok count) ok err x = subst IsServed (sym ok.0) (sends h count x)
+sends_if h k a b (Err e) ok err x = subst IsServed (sym err.0) x
+
+pub sends_within : {E : Type 0} (h k : History) (a b : Option (List ℕ)) (result : Result ℕ E) (most : ℕ)
+    → IfOk result (λ count. (k ≡ after_sent h count) × Appends a b (take count h.pending)) → OnErr result ((k ≡ h) × Keeps a b)
+    → length h.waiting < most → length k.waiting < most
+sends_within h k a b (Ok count) most ok err within = omega (arith, within, ap (λ (j : History). length j.waiting) ok.0)
+sends_within h k a b (Err e) most ok err within = omega (arith, within, ap (λ (j : History). length j.waiting) err.0)
+
+-- What one read did, or did not.
+
+-- these bytes were read, as many as there is room for
+abbrev pub Reads : History → History → Option (List ℕ) → Option (List ℕ) → ℕ → ℕ → Type 0
+Reads h k a b room count =
+    (more : List ℕ) × (length more ≡ count) × (count ≤ room) × Consumes a b more × (k ≡ after_received h more)
+
+pub receives_if : {E : Type 0} (h k : History) (a b : Option (List ℕ)) (room : ℕ) (result : Result ℕ E)
+    → IfOk result (Reads h k a b room) → OnErr result ((k ≡ h) × Keeps a b) → IsServed h → IsServed k
+receives_if h k a b room (Ok count) ok err x = subst IsServed (sym ok.4) (receives h ok.0 x)
+receives_if h k a b room (Err e) ok err x = subst IsServed (sym err.0) x
+
+kept_within : (stage : Stage) (bytes : List ℕ) → length (kept stage bytes) ≤ length bytes
+kept_within Open bytes = omega arith
+kept_within Closing bytes = omega arith
+kept_within Failed bytes = omega arith
+
+pub receives_within : {E : Type 0} (h k : History) (a b : Option (List ℕ)) (room most before : ℕ) (result : Result ℕ E)
+    → IfOk result (Reads h k a b room) → OnErr result ((k ≡ h) × Keeps a b) → room ≤ most → length h.waiting < before
+    → length h.waiting < before + most → length k.waiting < before + most
+receives_within h k a b room most before (Ok count) ok err small wants within =
+    omega (arith, small, wants, ok.1, ok.2, ap (λ (j : History). length j.waiting) ok.4, kept_within h.stage (h.waiting ++ ok.0), length-append h.waiting ok.0)
+receives_within h k a b room most before (Err e) ok err small wants within = omega (arith, within, ap (λ (j : History). length j.waiting) err.0)
+
+-- the same, without how many bytes there was room for
+pub receives_some : {E : Type 0} (h k : History) (a b : Option (List ℕ)) (room : ℕ) (result : Result ℕ E)
+    → IfOk result (Reads h k a b room)
+    → IfOk result (λ count. (more : List ℕ) × (length more ≡ count) × Consumes a b more × (k ≡ after_received h more))
+receives_some h k a b room (Ok count) ok = (ok.0, ok.1, ok.3, ok.4)
+receives_some h k a b room (Err e) ok = tt
+
+-- Steps of what a conversation holds, put together of their parts.
+
+pub same_received : (h k : History) (more r w : List ℕ) → k ≡ record h { received = r; waiting = kept h.stage w }
+    → r ≡ h.received ++ more → w ≡ h.waiting ++ more → k ≡ after_received h more
+same_received h k more r w is rs ws =
+    is ∙ ap (λ t. record h { received = t; waiting = kept h.stage w }) rs
+    ∙ ap (λ t. record h { received = h.received ++ more; waiting = kept h.stage t }) ws
+
+pub same_answer : (h k : History) (count : ℕ) (page : List ℕ) (c : Bool) (xs : List Exchange)
+    → k ≡ moved_on (record h { exchanges = xs; pending = page }) count c
+    → xs ≡ h.exchanges ++ exchange h count (Some page) ∷ [] → k ≡ after_answer h count page c
+same_answer h k count page c xs is more =
+    is ∙ ap (λ t. moved_on (record h { exchanges = t; pending = page }) count c) more
+
+pub same_loss : (h k : History) (count : ℕ) (xs : List Exchange)
+    → k ≡ after_failure (record h { exchanges = xs })
+    → xs ≡ h.exchanges ++ exchange h count None ∷ [] → k ≡ after_loss h count
+same_loss h k count xs is more = is ∙ ap (λ t. after_failure (record h { exchanges = t })) more
+
+pub same_sent : (h : History) (count : ℕ) (sent pending : List ℕ) → sent ≡ h.sent ++ take count h.pending
+    → pending ≡ drop count h.pending → record h { sent = sent; pending = pending } ≡ after_sent h count
+same_sent h count sent pending ss ps =
+    ap (λ t. record h { sent = t; pending = pending }) ss
+    ∙ ap (λ t. record h { sent = h.sent ++ take count h.pending; pending = t }) ps

@@ -1,0 +1,50 @@
+-- Messages that were answered, with their pages.
+use Rattle.std.specs.Prelude.{◌≡◌, ⊤, ℕ, Bool, true, false, List, [], ◌∷◌, ◌++◌, All, Option, Some, None, IsSome, unwrap_or}
+use Rattle.std.specs.List.{flat_map}
+use Rattle.http_messages.specs.Messages.{Message, IsMessage}
+use Rattle.desk_http.specs.Pages.{closes}
+use Rattle.http_conversations.specs.declared.stages.Stage.{Stage}
+use Rattle.http_conversations.specs.declared.stages.Stage.TheVariants.{Open, Closing, Failed}
+
+-- the bytes of a message, and those of its page, unless the page was lost
+pub record Exchange : Type 0 where
+  pub bytes : List ℕ
+  pub page : Option (List ℕ)
+
+-- the messages, one after another
+abbrev pub bytes_of : List Exchange → List ℕ
+bytes_of exchanges = flat_map (λ x. x.bytes) exchanges
+
+-- the pages, one after another
+abbrev pub pages_of : List Exchange → List ℕ
+pages_of exchanges = flat_map (λ x. unwrap_or x.page []) exchanges
+
+-- the bytes are a message, which closes or does not, and it has a page
+pub record IsAnswered (closing : Bool) (x : Exchange) : Type 0 where
+  pub message : Message
+  pub is_message : IsMessage x.bytes message
+  pub closing_as : closes message ≡ closing
+  pub has_page : IsSome x.page
+
+-- the bytes are a message, whose page was lost
+pub record IsLost (x : Exchange) : Type 0 where
+  pub message : Message
+  pub is_message : IsMessage x.bytes message
+  pub has_none : x.page ≡ None
+
+-- at most one page was lost
+abbrev pub AreLost : List Exchange → Type 0
+AreLost [] = ⊤
+AreLost (x ∷ []) = IsLost x
+AreLost (x ∷ y ∷ later) = ⊥
+
+-- All messages have pages, and none of them closes; of a conversation that closes the last one does, and of one that
+-- failed the last page may be lost.
+abbrev pub AreAnswered : Stage → List Exchange → Type 0
+AreAnswered Open exchanges = All (IsAnswered false) exchanges
+AreAnswered Closing exchanges =
+    (before : List Exchange) × (last : Exchange) × (exchanges ≡ before ++ last ∷ [])
+    × All (IsAnswered false) before × IsAnswered true last
+AreAnswered Failed exchanges =
+    (before : List Exchange) × (lost : List Exchange) × (exchanges ≡ before ++ lost)
+    × All (IsAnswered false) before × AreLost lost

@@ -1,0 +1,122 @@
+-- What a conversation has done, and what is true of it.
+use Rattle.std.specs.Prelude.{◌≡◌, ◌≢◌, ◌≤◌, ◌<◌, ◌⊎◌, ℕ, Bool, true, false, List, [], ◌∷◌, ◌++◌, length, take, drop, Option, Some, None, Result, Ok, Err, if◌then◌else◌}
+use Rattle.commands.specs.declared.faults.Fault.{Fault}
+use Rattle.http_messages.specs.Messages.{HasNoMessage, IsMessage, Message}
+use Rattle.desk_http.specs.Pages.{closes}
+use Rattle.http_conversations.specs.Exchanges.{Exchange, AreAnswered, bytes_of, pages_of}
+use Rattle.http_conversations.specs.declared.stages.Stage.{Stage}
+use Rattle.http_conversations.specs.declared.stages.Stage.TheVariants.{Open, Closing, Failed}
+use Rattle.http_conversations.specs.declared.limits.TheConstants.{MOST_PENDING, MOST_WAITING}
+
+pub record History : Type 0 where
+  pub stage : Stage
+  -- all that was received, and what of it waits
+  pub received : List ℕ
+  pub waiting : List ℕ
+  -- the messages that were taken, each with its page
+  pub exchanges : List Exchange
+  -- all that was handed out, and what of the pages is not yet
+  pub sent : List ℕ
+  pub pending : List ℕ
+
+-- what of a suffix waits: all of it, while messages are answered
+abbrev pub kept : Stage → List ℕ → List ℕ
+kept Open bytes = bytes
+kept Closing bytes = []
+kept Failed bytes = []
+
+-- True of every conversation: what was received begins with the messages of the exchanges, and what was handed out and
+-- then waits is their pages.
+pub record IsServed (h : History) : Type 0 where
+  pub rest : List ℕ
+  pub received : h.received ≡ bytes_of h.exchanges ++ rest
+  pub waits : h.waiting ≡ kept h.stage rest
+  pub answered : AreAnswered h.stage h.exchanges
+  pub sent : h.sent ++ h.pending ≡ pages_of h.exchanges
+
+-- Steps.
+
+abbrev pub new_history : History
+new_history =
+    record { stage = Open; received = []; waiting = []; exchanges = []; sent = []; pending = [] }
+
+-- these bytes were read
+abbrev pub after_received : History → List ℕ → History
+after_received h more =
+    record h { received = h.received ++ more; waiting = kept h.stage (h.waiting ++ more) }
+
+-- so many of the pending bytes were handed out
+abbrev pub after_sent : History → ℕ → History
+after_sent h count = record h { sent = h.sent ++ take count h.pending; pending = drop count h.pending }
+
+-- the exchange with a message of so many bytes
+abbrev pub exchange : History → ℕ → Option (List ℕ) → Exchange
+exchange h count page = record { bytes = take count h.waiting; page = page }
+
+-- the first bytes were used; after a closing page, all are
+abbrev pub moved_on : History → ℕ → Bool → History
+moved_on h count closing = record h {
+  stage = if closing then Closing else Open;
+  waiting = if closing then [] else drop count h.waiting;
+}
+
+-- that message got this page, which may close
+abbrev pub after_answer : History → ℕ → List ℕ → Bool → History
+after_answer h count page closing = record (moved_on h count closing) {
+  exchanges = h.exchanges ++ exchange h count (Some page) ∷ [];
+  pending = page;
+}
+
+-- nothing more is answered
+abbrev pub after_failure : History → History
+after_failure h = record h { stage = Failed; waiting = [] }
+
+-- that message lost its page
+abbrev pub after_loss : History → ℕ → History
+after_loss h count =
+    record (after_failure h) { exchanges = h.exchanges ++ exchange h count None ∷ [] }
+
+-- no page waits, and messages are answered: the first bytes are this message, and this page says whether it closes
+pub record GetsPage (old new : History) : Type 0 where
+  pub is_open : old.stage ≡ Open
+  pub free : old.pending ≡ []
+  pub count : ℕ
+  pub message : Message
+  pub is_message : IsMessage (take count old.waiting) message
+  pub page : List ℕ
+  pub is : new ≡ after_answer old count page (closes message)
+
+-- the first bytes are this message, and its page was lost
+pub record LosesPage (old new : History) : Type 0 where
+  pub is_open : old.stage ≡ Open
+  pub count : ℕ
+  pub message : Message
+  pub is_message : IsMessage (take count old.waiting) message
+  pub is : new ≡ after_loss old count
+
+-- the first message got its page, or nothing changed; at a fault it lost its page, or was not looked at
+abbrev pub TakesFirst : Result Bool Fault → History → History → Type 0
+TakesFirst (Ok true) old new = GetsPage old new
+TakesFirst (Ok false) old new = new ≡ old
+TakesFirst (Err fault) old new = LosesPage old new ⊎ ((old.stage ≡ Open) × (new ≡ after_failure old))
+
+-- What may come next.
+
+-- nothing was read, and nothing was handed out
+abbrev pub Passes : History → History → Type 0
+Passes old new = (new.received ≡ old.received) × (new.sent ≡ old.sent)
+
+-- one more message got its page, which waits
+pub record AnswersOne (old new : History) : Type 0 where
+  pub bytes : List ℕ
+  pub one : new.exchanges ≡ old.exchanges ++ record { bytes = bytes; page = Some new.pending } ∷ []
+
+-- no message is to be answered now: a page waits, or the conversation is over, or no message is whole
+abbrev pub HasNoTurn : History → Type 0
+HasNoTurn h = (h.pending ≢ []) ⊎ (h.stage ≢ Open) ⊎ HasNoMessage h.waiting
+
+-- it may read: no more pages wait than may, and no more bytes than a message may have
+pub record WantsRead (h : History) : Type 0 where
+  pub goes_on : h.stage ≢ Failed
+  pub taken : length h.pending ≤ MOST_PENDING
+  pub room : length h.waiting < MOST_WAITING

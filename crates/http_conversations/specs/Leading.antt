@@ -1,0 +1,65 @@
+-- Where exchanges lead the desk, from one state to another.
+use Rattle.std.specs.Prelude.{◌≡◌, ◌⊎◌, ℕ, Bool, true, false, List, [], ◌∷◌, ◌++◌, Option, Some, None, Result, Ok, Err}
+use Rattle.ledger.specs.Answer.{State}
+use Rattle.commands.specs.declared.faults.Fault.{Fault}
+use Rattle.commands.specs.declared.faults.Fault.TheVariants.{Memory, Store}
+use Rattle.protocols.specs.declared.faults.ServeFault.{ServeFault}
+use Rattle.protocols.specs.declared.faults.ServeFault.TheVariants as serve
+use Rattle.http_messages.specs.Messages.{Message, IsMessage}
+use Rattle.desk_http.specs.Pages.{IsPage, state_after}
+use Rattle.http_conversations.specs.Exchanges.{Exchange}
+
+-- the message gets its page, and is carried out; where the page was lost, it is carried out or not
+abbrev pub Comes : State → Message → Option (List ℕ) → State → Type 0
+Comes s m (Some page) t = IsPage s m page × (t ≡ state_after s m)
+Comes s m None t = (t ≡ s) ⊎ (t ≡ state_after s m)
+
+-- an exchange leads from one state to the next
+pub record LeadsBy (s : State) (x : Exchange) (t : State) : Type 0 where
+  pub message : Message
+  pub is_message : IsMessage x.bytes message
+  pub comes : Comes s message x.page t
+
+-- exchanges lead from one state to another, each from where the one before led
+abbrev pub Leads : State → List Exchange → State → Type 0
+Leads s [] t = t ≡ s
+Leads s (x ∷ later) t = (next : State) × LeadsBy s x next × Leads next later t
+
+-- the book stands where the exchanges lead
+abbrev pub LeadsTo : (State → Type 0) → State → List Exchange → Type 0
+LeadsTo stands s exchanges = (t : State) × Leads s exchanges t × stands t
+
+-- the store failed at the last exchange: a crash leaves the state before its message, or the one after
+pub record BreaksOff (leaves : State → State → Type 0) (s : State) (exchanges : List Exchange) : Type 0 where
+  pub before : List Exchange
+  pub last : Exchange
+  pub at_last : exchanges ≡ before ++ last ∷ []
+  pub message : Message
+  pub is_message : IsMessage last.bytes message
+  pub is_lost : last.page ≡ None
+  pub at : State
+  pub leads : Leads s before at
+  pub left : leaves at (state_after at message)
+
+-- where the exchanges lead, if the store did not fail at the last, or if it did
+abbrev pub Ends : Bool → (State → Type 0) → (State → State → Type 0) → State → List Exchange → Type 0
+Ends false stands leaves s exchanges = LeadsTo stands s exchanges
+Ends true stands leaves s exchanges = BreaksOff leaves s exchanges
+
+-- a book went on by the exchanges between these two lists, in each state that it stood for, while it is sound
+pub record GoesOn (sound : Type 0) (stood stands : State → Type 0) (leaves : State → State → Type 0)
+    (store_failed : Bool) (before after : List Exchange) : Type 0 where
+  pub exchanges : List Exchange
+  pub more : after ≡ before ++ exchanges
+  pub ends : sound → (s : State) → stood s → Ends store_failed stands leaves s exchanges
+
+-- the store failed
+abbrev pub has_broken : {T : Type 0} → Result T Fault → Bool
+has_broken (Ok value) = false
+has_broken (Err Memory) = false
+has_broken (Err Store) = true
+
+-- the fault of an answer as one of the book
+abbrev pub fault_by : ServeFault → Fault
+fault_by serve.Store = Store
+fault_by _ = Memory

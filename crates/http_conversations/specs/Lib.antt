@@ -1,0 +1,6 @@
+pub mod Exchanges
+pub mod History
+pub mod Examples
+pub mod Talks
+pub mod Leading
+pub mod Conversations

@@ -1,0 +1,136 @@
+//! A conversation, with no socket of its own.
+ghost use Rattle.std.specs.Prelude.{◌≡◌, ◌≢◌, ◌+◌, ◌<◌, ◌≤◌, ◌↔◌, ℕ, [], List, length, take, Ok, true, false, IfOk, OnErr, IsErrOf, IsTrue};
+ghost use Rattle.std.specs.Io.KnownBytes.{Appends, Consumes, IsAtEnd, Keeps};
+ghost use Rattle.saga_core.specs.Books.{LeavesNoMore};
+ghost use Rattle.http_conversations.specs.History.{AnswersOne, HasNoTurn, IsServed, Passes, WantsRead, after_received, after_sent, new_history};
+ghost use Rattle.http_conversations.specs.Leading.{GoesOn, has_broken};
+ghost use Rattle.http_conversations.specs.Talks.{history_of};
+ghost use Rattle.http_conversations.specs.declared.limits.TheConstants.{MOST_READ, MOST_WAITING};
+
+use crate::limits::{MOST_PENDING, MOST_READ, MOST_WAITING};
+use crate::stages::Stage;
+use crate::talk::Talk;
+use commands::Fault;
+use desk_http::answer_to;
+use http_messages::first_message;
+use http_pages::Paths;
+use protocols::ServeFault;
+use saga_core::Book;
+use std::alloc::Global;
+use std::io::{self, Read, Write};
+
+/// Messages come in, and each is answered once the page before it went out whole.
+///
+/// It holds at most a message, one more read, and a page. The memory of what was used and of what went out is given back.
+#[derive(Drop)]
+pub struct Conversation {
+    pub(crate) talk: Talk,
+    ghost served: { ∥ IsServed (history_of talk) ∥₁ },
+    ghost bounded: { length talk.waiting.items < MOST_WAITING + MOST_READ },
+}
+
+impl Conversation {
+    ghost use Rattle.http_conversations.specs.Conversations.{history};
+
+    /// Nothing was received. It allocates nothing.
+    pub fn new(alloc: Global) -> Conversation
+        ensures none { history result ≡ new_history }
+    {
+        Conversation {
+            talk: Talk::new(alloc),
+        }
+    }
+
+    /// Reads once, by way of a buffer that many conversations may share. What comes behind a closing page is counted and
+    /// forgotten.
+    pub fn receive<R: Read>(&mut self, buffer: &mut [u8], reader: &mut R) -> io::Result<usize>
+        requires wants { WantsRead (history self.old) }
+        requires small { length buffer.old ≤ MOST_READ }
+
+        ensures ok { IfOk result (λ count. (more : List ℕ) × (length more ≡ count)
+            × Consumes (R.remaining reader.old) (R.remaining reader.new) more
+            × (history self.new ≡ after_received (history self.old) more)) }
+        ensures end { result ≡ Ok 0 → 0 < length buffer.old → IsAtEnd (R.remaining reader.new) }
+
+        ensures err { OnErr result ((history self.new ≡ history self.old)
+            × Keeps (R.remaining reader.old) (R.remaining reader.new)) }
+    {
+        self.talk.receive(buffer, reader)
+    }
+
+    /// Answers the first message that waits, unless a page waits or the conversation is over, and reports whether it did.
+    ///
+    /// Out of memory, the message was carried out or not, and its page is lost. Then, and where the store failed, the
+    /// conversation has failed.
+    pub fn answer<B: Book>(&mut self, paths: &Paths, book: &mut B) -> Result<bool, Fault>
+        ensures goes_on { GoesOn (B.is_sound book.new) (B.stands book.old) (B.stands book.new) (B.leaves book.new)
+            (has_broken result) (history self.old).exchanges (history self.new).exchanges }
+        ensures passes { Passes (history self.old) (history self.new) }
+        ensures at_most_one { length (history self.new).exchanges ≤ length (history self.old).exchanges + 1 }
+        ensures one { result ≡ Ok true → AnswersOne (history self.old) (history self.new) }
+        ensures none { result ≡ Ok false → HasNoTurn (history self.old)
+            × (history self.new ≡ history self.old) × (book.new ≡ book.old) }
+
+        ensures fault { OnErr result ((history self.new).stage ≡ Stage.Failed) }
+        ensures failed { IsErrOf result Fault.Store → IsTrue (B.has_failed book.new) }
+        ensures stays_failed { IsTrue (B.has_failed book.old) → IsTrue (B.has_failed book.new) }
+        ensures stays_left { IsTrue (B.has_failed book.old) →
+            LeavesNoMore (B.leaves book.old) (B.leaves book.new) }
+
+        ensures sound { B.is_sound book.new → B.is_sound book.old }
+    {
+        self.talk.answer(paths, book)
+    }
+
+    /// Writes once what is pending.
+    pub fn send<W: Write>(&mut self, writer: &mut W) -> io::Result<usize>
+        ensures ok { IfOk result (λ count. (history self.new ≡ after_sent (history self.old) count)
+            × Appends (W.contents writer.old) (W.contents writer.new) (take count (history self.old).pending)) }
+
+        ensures err { OnErr result ((history self.new ≡ history self.old)
+            × Keeps (W.contents writer.old) (W.contents writer.new)) }
+    {
+        self.talk.send(writer)
+    }
+
+    /// Whether a page is not yet whole with the peer.
+    pub fn wants_write(&self) -> bool
+        ensures pending { IsTrue result ↔ ((history self.now).pending ≢ []) }
+    {
+        !self.talk.pending.is_empty()
+    }
+
+    /// Whether it may read: not while more than 256 KiB of pages wait, or as many bytes as a message may have.
+    pub fn wants_read(&self) -> bool
+        ensures wants { IsTrue result ↔ WantsRead (history self.now) }
+    {
+        !matches!(self.talk.stage, Stage::Failed)
+            && self.talk.pending.len() <= MOST_PENDING
+            && self.talk.waiting.len() < MOST_WAITING
+    }
+
+    /// Whether part of a message waits.
+    pub fn has_part(&self) -> bool
+        ensures waiting { IsTrue result ↔ ((history self.now).waiting ≢ []) }
+    {
+        !self.talk.waiting.is_empty()
+    }
+
+    /// Whether it answers, and why not.
+    pub fn stage(&self) -> Stage
+        ensures stage { result ≡ (history self.now).stage }
+    {
+        self.talk.stage
+    }
+
+    /// True of every conversation, after any calls: what was received begins with the messages of its exchanges, and what
+    /// was handed out, and then what is pending, is their pages, up to and with the first that closes.
+    pub fn always_served(&self)
+        ensures served { ∥ IsServed (history self.now) ∥₁ }
+    {}
+
+    /// True of every conversation: no more bytes wait than those of a message and one read.
+    pub fn always_bounded(&self)
+        ensures bounded { length (history self.now).waiting < MOST_WAITING + MOST_READ }
+    {}
+}

@@ -1,0 +1,246 @@
+//! What a conversation holds, and each step of it.
+ghost use Rattle.std.specs.Prelude.{◌≡◌, ◌≢◌, ◌+◌, ◌<◌, ◌≤◌, ℕ, [], List, length, take, drop, vec_capacity, Ok, true, false, IfOk, OnErr, IsErrOf, IsTrue};
+ghost use Rattle.std.specs.Io.KnownBytes.{Appends, Consumes, IsAtEnd, Keeps};
+ghost use Rattle.saga_core.specs.Books.{LeavesNoMore};
+ghost use Rattle.http_messages.specs.Reading.{IsFirstOf};
+ghost use Rattle.http_conversations.specs.Leading.{GoesOn, fault_by, has_broken};
+ghost use Rattle.http_conversations.specs.History.{HasNoTurn, TakesFirst, after_answer, after_failure, after_loss, after_received, after_sent, kept, moved_on, new_history};
+ghost use Rattle.http_conversations.specs.Talks.{history_of};
+
+use crate::stages::Stage;
+use commands::Fault;
+use desk_http::{Answer, answer_to};
+use http_messages::{Message, first_message};
+use http_pages::Paths;
+use http_server::Log;
+use protocols::ServeFault;
+use saga_core::Book;
+use std::alloc::Global;
+use std::io::{self, Read, Write};
+
+/// A message that was taken.
+#[derive(Drop)]
+pub struct Taken {
+    /// How many bytes of the buffer it had.
+    pub(crate) count: usize,
+    /// Whether it has a page; else that was lost.
+    pub(crate) has_page: bool,
+    pub(crate) page: Vec<u8>,
+}
+
+/// What was received and is not yet used, and what is left of the page that goes out.
+#[derive(Drop)]
+pub struct Talk {
+    pub(crate) alloc: Global,
+    pub(crate) stage: Stage,
+    pub(crate) waiting: Vec<u8>,
+    pub(crate) pending: Vec<u8>,
+    /// What waited after each read, and where the new bytes began.
+    pub(crate) reads: Log<Vec<u8>, usize>,
+    /// What was pending before each write, and how much of it went.
+    pub(crate) writes: Log<Vec<u8>, usize>,
+    /// What waited before each message was taken, and what was taken.
+    pub(crate) exchanges: Log<Vec<u8>, Taken>,
+}
+
+impl Talk {
+    /// Nothing was received. It allocates nothing.
+    pub(crate) fn new(alloc: Global) -> Talk
+        ensures none { history_of result ≡ new_history }
+    {
+        Talk {
+            alloc,
+            stage: Stage::Open,
+            waiting: Vec::new(alloc),
+            pending: Vec::new(alloc),
+            reads: Log::new(),
+            writes: Log::new(),
+            exchanges: Log::new(),
+        }
+    }
+
+    /// Reads once, by way of a buffer that many conversations may share.
+    pub(crate) fn receive<R: Read>(&mut self, buffer: &mut [u8], reader: &mut R) -> io::Result<usize>
+        ensures ok { IfOk result (λ count. (more : List ℕ) × (length more ≡ count) × (count ≤ length buffer.old)
+            × Consumes (R.remaining reader.old) (R.remaining reader.new) more
+            × (history_of self.new ≡ after_received (history_of self.old) more)) }
+        ensures end { result ≡ Ok 0 → 0 < length buffer.old → IsAtEnd (R.remaining reader.new) }
+
+        ensures err { OnErr result ((history_of self.new ≡ history_of self.old)
+            × Keeps (R.remaining reader.old) (R.remaining reader.new)) }
+    {
+        self.waiting.reserve(buffer.len())?;
+        let count = reader.read(buffer)?;
+        let len = self.waiting.len();
+        let _ = self.waiting.extend_from_slice(&buffer[..count]);
+        self.reads = self.reads.and(&self.waiting, &len);
+        self.settle();
+        Ok(count)
+    }
+
+    /// Keeps what waits while messages are answered, and else gives its memory back.
+    fn settle(&mut self)
+        ensures settled { history_of self.new ≡ record (history_of self.old)
+            { waiting = kept self.old.stage self.old.waiting.items } }
+    {
+        if !matches!(self.stage, Stage::Open) {
+            self.waiting = Vec::new(self.alloc);
+        }
+    }
+
+    /// Answers the first message that waits, if it is its turn.
+    pub(crate) fn answer<B: Book>(&mut self, paths: &Paths, book: &mut B) -> Result<bool, Fault>
+        ensures goes_on { GoesOn (B.is_sound book.new) (B.stands book.old) (B.stands book.new) (B.leaves book.new)
+            (has_broken result) (history_of self.old).exchanges (history_of self.new).exchanges }
+        ensures takes { TakesFirst result (history_of self.old) (history_of self.new) }
+        ensures none { result ≡ Ok false → HasNoTurn (history_of self.old)
+            × (history_of self.new ≡ history_of self.old) × (book.new ≡ book.old) }
+
+        ensures failed { IsErrOf result Fault.Store → IsTrue (B.has_failed book.new) }
+        ensures stays_failed { IsTrue (B.has_failed book.old) → IsTrue (B.has_failed book.new) }
+        ensures stays_left { IsTrue (B.has_failed book.old) →
+            LeavesNoMore (B.leaves book.old) (B.leaves book.new) }
+
+        ensures sound { B.is_sound book.new → B.is_sound book.old }
+    {
+        if !matches!(self.stage, Stage::Open) || !self.pending.is_empty() {
+            return Ok(false);
+        }
+        match first_message(self.alloc, &self.waiting) {
+            Ok(Some((message, count))) => self.answer_first(paths, &message, count, book),
+            Ok(None) => Ok(false),
+            Err(_) => {
+                self.fail();
+                Err(Fault::Memory)
+            }
+        }
+    }
+
+    /// Answers the message that has so many bytes.
+    fn answer_first<B: Book>(
+        &mut self,
+        paths: &Paths,
+        message: &Message,
+        count: usize,
+        book: &mut B,
+    ) -> Result<bool, Fault>
+        requires first { IsFirstOf self.old.waiting.items message.now count }
+        requires is_open { self.old.stage ≡ Stage.Open }
+        requires free { self.old.pending.items ≡ [] }
+
+        ensures goes_on { GoesOn (B.is_sound book.new) (B.stands book.old) (B.stands book.new) (B.leaves book.new)
+            (has_broken result) (history_of self.old).exchanges (history_of self.new).exchanges }
+        ensures takes { TakesFirst result (history_of self.old) (history_of self.new) }
+        ensures some { result ≢ Ok false }
+
+        ensures failed { IsErrOf result Fault.Store → IsTrue (B.has_failed book.new) }
+        ensures stays_failed { IsTrue (B.has_failed book.old) → IsTrue (B.has_failed book.new) }
+        ensures stays_left { IsTrue (B.has_failed book.old) →
+            LeavesNoMore (B.leaves book.old) (B.leaves book.new) }
+
+        ensures sound { B.is_sound book.new → B.is_sound book.old }
+    {
+        match answer_to(self.alloc, paths, message, book) {
+            Ok(answer) => {
+                self.keep(count, answer);
+                Ok(true)
+            }
+            Err(fault) => {
+                self.lose(count);
+                Err(fault_of(fault))
+            }
+        }
+    }
+
+    /// The first bytes were a message, and this is its page.
+    pub(crate) fn keep(&mut self, count: usize, answer: Answer)
+        requires within { count ≤ length self.old.waiting.items }
+        requires is_open { self.old.stage ≡ Stage.Open }
+        ensures answered { history_of self.new
+            ≡ after_answer (history_of self.old) count answer.bytes.items answer.closes }
+    {
+        let closes = answer.closes;
+        let taken = Taken {
+            count,
+            has_page: true,
+            page: answer.bytes,
+        };
+        self.exchanges = self.exchanges.and(&self.waiting, &taken);
+        self.pending = taken.page;
+        self.move_on(count, closes);
+    }
+
+    /// The first bytes were used; after a closing page, all are.
+    fn move_on(&mut self, count: usize, closes: bool)
+        requires within { count ≤ length self.old.waiting.items }
+        requires is_open { self.old.stage ≡ Stage.Open }
+
+        ensures moved { history_of self.new ≡ moved_on (history_of self.old) count closes }
+    {
+        if closes {
+            self.stage = Stage::Closing;
+            self.waiting = Vec::new(self.alloc);
+        } else {
+            forget(self.alloc, &mut self.waiting, count);
+        }
+    }
+
+    /// The first bytes were a message, whose page was lost.
+    pub(crate) fn lose(&mut self, count: usize)
+        ensures lost { history_of self.new ≡ after_loss (history_of self.old) count }
+    {
+        let taken = Taken {
+            count,
+            has_page: false,
+            page: Vec::new(self.alloc),
+        };
+        self.exchanges = self.exchanges.and(&self.waiting, &taken);
+        self.fail();
+    }
+
+    /// Memory ran out before a message was taken.
+    pub(crate) fn fail(&mut self)
+        ensures failed { history_of self.new ≡ after_failure (history_of self.old) }
+    {
+        self.stage = Stage::Failed;
+        self.waiting = Vec::new(self.alloc);
+    }
+
+    /// Writes once what is pending.
+    pub(crate) fn send<W: Write>(&mut self, writer: &mut W) -> io::Result<usize>
+        ensures ok { IfOk result (λ count. (history_of self.new ≡ after_sent (history_of self.old) count)
+            × Appends (W.contents writer.old) (W.contents writer.new) (take count (history_of self.old).pending)) }
+
+        ensures err { OnErr result ((history_of self.new ≡ history_of self.old)
+            × Keeps (W.contents writer.old) (W.contents writer.new)) }
+    {
+        let count = writer.write(&self.pending)?;
+        self.writes = self.writes.and(&self.pending, &count);
+        forget(self.alloc, &mut self.pending, count);
+        Ok(count)
+    }
+}
+
+/// Forgets the first bytes, which were used. Where none is left, their memory is given back.
+fn forget(alloc: Global, bytes: &mut Vec<u8>, count: usize)
+    requires { count ≤ length bytes.old.items }
+    ensures rest { bytes.new.items ≡ drop count bytes.old.items }
+    ensures given_back { bytes.new.items ≡ [] → vec_capacity bytes.new ≡ 0 }
+{
+    if count == bytes.len() {
+        *bytes = Vec::new(alloc);
+    } else {
+        bytes.drain(..count);
+    }
+}
+
+/// The fault of an answer as one of the book. An answer meets no other.
+fn fault_of(fault: ServeFault) -> Fault
+    ensures fault { result ≡ fault_by fault }
+    ensures store { result ≡ Fault.Store → fault ≡ ServeFault.Store }
+{
+    match fault {
+        ServeFault::Store => Fault::Store,
+        ServeFault::Memory | ServeFault::Read | ServeFault::Write => Fault::Memory,
+    }
+}
