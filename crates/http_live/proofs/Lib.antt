@@ -1,0 +1,5 @@
+pub mod LeadLemmas
+pub mod Merged
+pub mod WorldLemmas
+pub mod RestLemmas
+pub mod Ends

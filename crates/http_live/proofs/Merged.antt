@@ -1,0 +1,119 @@
+-- Merging the exchanges of many seats.
+use Rattle.std.proofs.Common.{◌≡◌, ◌≢◌, ℕ, ◌<◌, ◌==◌, Bool, true, false, if◌then◌else◌, List, [], ◌∷◌, ◌++◌, length, map, All, refl, sym, ap, ◌∙◌, subst, append_assoc, append-nil, arith, inl, inr, slice_index_or, slice_set, length-set}
+use Rattle.std.proofs.lemmas.List.{length-map, map-append, map-set, get_or-map, get_or-set_other}
+use Rattle.std.proofs.lemmas.List.Elements.{All-append, All-map, All-nil}
+use Rattle.std.proofs.lemmas.Bool.{cases_eq}
+use Rattle.std.proofs.lemmas.Grind.{common_steps, get_or-set_at}
+use Rattle.ledger.specs.Answer.{State}
+use Rattle.http_conversations.specs.Exchanges.{Exchange}
+use Rattle.http_conversations.specs.Leading.{Ends, GoesOn}
+use Rattle.http_live.specs.Merging.{IsMerged, Merges, Seated, exchange_of, of_seat}
+use Rattle.http_live.proofs.LeadLemmas.{ends_then}
+
+of_seat-append : (i : ℕ) (xs ys : List Seated) → of_seat i (xs ++ ys) ≡ of_seat i xs ++ of_seat i ys
+of_seat-append i [] ys = refl
+of_seat-append i (m ∷ xs) ys =
+    let later = of_seat-append i xs ys in
+    elim (m.0 == i) as (λ v. (if v then m.1 ∷ of_seat i (xs ++ ys) else of_seat i (xs ++ ys)) ≡ (if v then m.1 ∷ of_seat i xs else of_seat i xs) ++ of_seat i ys)
+    [ true ↦ ap (λ t. m.1 ∷ t) later | false ↦ later ]
+
+-- all of one seat
+abbrev pub seated_at : ℕ → List Exchange → List Seated
+seated_at i xs = map (λ x. (i, x)) xs
+
+pub exchanges-seated_at : (i : ℕ) (xs : List Exchange) → map exchange_of (seated_at i xs) ≡ xs
+exchanges-seated_at i [] = refl
+exchanges-seated_at i (x ∷ later) = ap (λ t. x ∷ t) (exchanges-seated_at i later)
+
+of_seat-same : (i : ℕ) (xs : List Exchange) → of_seat i (seated_at i xs) ≡ xs
+of_seat-same i [] = refl
+of_seat-same i (x ∷ later) = let rest = of_seat-same i later in grind (arith, common_steps, rest)
+
+of_seat-other : (i j : ℕ) (xs : List Exchange) → j ≢ i → of_seat i (seated_at j xs) ≡ []
+of_seat-other i j [] other = refl
+of_seat-other i j (x ∷ later) other = let rest = of_seat-other i j later other in grind (arith, common_steps, rest, other)
+
+All-seated_at : (n i : ℕ) (xs : List Exchange) → i < n → All (λ (m : Seated). m.0 < n) (seated_at i xs)
+All-seated_at n i xs within =
+    All-map (λ (m : Seated). m.0 < n) (λ x. (i, x)) xs (λ k d inside. within)
+
+-- Lists that were merged.
+
+pub merged_none : (xs ys : List (List Exchange)) → ys ≡ xs → IsMerged xs ys []
+merged_none xs ys kept = record {
+  seated = All-nil _;
+  same = ap length kept;
+  each = λ i within. ap (λ t. slice_index_or t i []) kept ∙ sym (append-nil (slice_index_or xs i []));
+}
+
+pub merged_then : (xs ys zs : List (List Exchange)) (ms ns : List Seated) → IsMerged xs ys ms → IsMerged ys zs ns → IsMerged xs zs (ms ++ ns)
+merged_then xs ys zs ms ns x y = record {
+  seated = All-append (λ (m : Seated). m.0 < length xs) ms ns x.seated
+      (subst (λ n. All (λ (m : Seated). m.0 < n) ns) x.same y.seated);
+  same = y.same ∙ x.same;
+  each = λ i within.
+      y.each i (rw x.same within) ∙ ap (λ t. t ++ of_seat i ns) (x.each i within)
+      ∙ append_assoc (slice_index_or xs i []) (of_seat i ms) (of_seat i ns)
+      ∙ ap (λ t. slice_index_or xs i [] ++ t) (sym (of_seat-append i ms ns));
+}
+
+set_at : (xs : List (List Exchange)) (i j : ℕ) (after more : List Exchange) → i < length xs
+    → after ≡ slice_index_or xs i [] ++ more
+    → slice_index_or (slice_set xs i after) j [] ≡ slice_index_or xs j [] ++ of_seat j (seated_at i more)
+set_at xs i j after more within is = elim (cases_eq j i) [
+  | inl same ↦
+      get_or-set_at xs i j after [] same within ∙ is
+      ∙ ap (λ t. slice_index_or xs t [] ++ more) (sym same)
+      ∙ ap (λ t. slice_index_or xs j [] ++ t) (sym (subst (λ t. of_seat j (seated_at t more) ≡ more) same (of_seat-same j more)))
+  | inr other ↦
+      get_or-set_other xs i j after [] other
+      ∙ sym (append-nil (slice_index_or xs j []))
+      ∙ ap (λ t. slice_index_or xs j [] ++ t) (sym (of_seat-other j i more (λ e. other (sym e))))
+]
+
+-- one seat has some more
+merged_at : (xs : List (List Exchange)) (i : ℕ) (after more : List Exchange) → i < length xs
+    → after ≡ slice_index_or xs i [] ++ more → IsMerged xs (slice_set xs i after) (seated_at i more)
+merged_at xs i after more within is = record {
+  seated = All-seated_at (length xs) i more within;
+  same = length-set xs i after;
+  each = λ j inside. set_at xs i j after more within is;
+}
+
+-- the same of the seats themselves
+pub merged_set : {X : Type 0} (f : X → List Exchange) (seats : List X) (i : ℕ) (d new : X) (more : List Exchange) → i < length seats
+    → f new ≡ f (slice_index_or seats i d) ++ more → IsMerged (map f seats) (map f (slice_set seats i new)) (seated_at i more)
+merged_set f seats i d new more within is =
+    let here = get_or-map f seats i d [] within in
+    subst (λ t. IsMerged (map f seats) t (seated_at i more)) (sym (map-set f seats i new))
+    (merged_at (map f seats) i (f new) more (rw length-map within) (is ∙ ap (λ t. t ++ more) (sym here)))
+
+-- Books that went on.
+
+pub merges_none : (sound : Type 0) (stands : State → Type 0) (leaves : State → State → Type 0) (xs ys : List (List Exchange)) → ys ≡ xs
+    → Merges sound stands stands leaves false xs ys
+merges_none sound stands leaves xs ys kept =
+    record { merged = []; is_merged = merged_none xs ys kept; ends = λ is_sound s stood. (s, refl, stood) }
+
+pub merges_then : (failed : Bool) (sound0 sound1 : Type 0) (stood between stands : State → Type 0) (leaves0 leaves1 : State → State → Type 0)
+    (xs ys zs : List (List Exchange)) → (sound1 → sound0) → Merges sound0 stood between leaves0 false xs ys
+    → Merges sound1 between stands leaves1 failed ys zs → Merges sound1 stood stands leaves1 failed xs zs
+merges_then failed sound0 sound1 stood between stands leaves0 leaves1 xs ys zs back x y = record {
+  merged = x.merged ++ y.merged;
+  is_merged = merged_then xs ys zs x.merged y.merged x.is_merged y.is_merged;
+  ends = λ is_sound s was.
+      let first = x.ends (back is_sound) s was in
+      subst (Ends failed stands leaves1 s) (sym (map-append exchange_of x.merged y.merged))
+      (ends_then failed stands leaves1 (map exchange_of x.merged) (map exchange_of y.merged) s first.0 first.1 (y.ends is_sound first.0 first.2));
+}
+
+-- one seat went on
+pub merges_set : {X : Type 0} (f : X → List Exchange) (failed : Bool) (sound : Type 0) (stood stands : State → Type 0)
+    (leaves : State → State → Type 0) (seats : List X) (i : ℕ) (d new : X) → i < length seats
+    → GoesOn sound stood stands leaves failed (f (slice_index_or seats i d)) (f new)
+    → Merges sound stood stands leaves failed (map f seats) (map f (slice_set seats i new))
+merges_set f failed sound stood stands leaves seats i d new within x = record {
+  merged = seated_at i x.exchanges;
+  is_merged = merged_set f seats i d new x.exchanges within x.more;
+  ends = λ is_sound s was. subst (Ends failed stands leaves s) (sym (exchanges-seated_at i x.exchanges)) (x.ends is_sound s was);
+}

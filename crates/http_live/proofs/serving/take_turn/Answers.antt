@@ -1,0 +1,76 @@
+-- A turn is one of a seat, or none.
+use Rattle.std.proofs.Common.{Bool, Err, false, map, refl}
+use Rattle.std.proofs.lemmas.Result.{err_from_is_err_and}
+use Rattle.http_conversations.specs.Leading.{has_broken}
+use Rattle.http_live.specs.Seats.{exchanges_at}
+use Rattle.http_live.proofs.LeadLemmas.{goes_on_none}
+use Rattle.http_live.proofs.Merged.{merges_none, merges_set}
+use Rattle.http_live.proofs.serving.take_turn.Goals as goal
+
+-- a peer takes a seat
+pub returns-then-at-seats-clause-served : goal.returns-then-at-seats-clause-served
+returns-then-at-seats-clause-served g c =
+    let book = g.B.Book in
+    let b = c.args.book.now in
+    merges_set exchanges_at false (book.is_sound b) (book.stands b) (book.stands b) (book.leaves b)
+    c.args.seats.now c.in-Comes.at c.index-seats-at.result _ c.if-at-seats.true
+    (goes_on_none (book.is_sound b) (book.stands b) (book.leaves b) _ _ c.take.ensures.kept)
+
+-- there is no such seat
+pub returns-else-at-seats-clause-served : goal.returns-else-at-seats-clause-served
+returns-else-at-seats-clause-served g c =
+    let book = g.B.Book in
+    let b = c.args.book.now in
+    merges_none (book.is_sound b) (book.stands b) (book.leaves b) _ _ refl
+
+-- the store failed at the message of a seat
+pub returns-in_err-standing-in-Ready-clause-served : goal.returns-in_err-standing-in-Ready-clause-served
+returns-in_err-standing-in-Ready-clause-served g c =
+    let book = g.B.Book in
+    let b = c.args.book.now in
+    let new = c.serve.new.book in
+    let failed = err_from_is_err_and c.from_residual.result c.from_residual.ensures.1 in
+    rw (failed.1, failed.2)
+    (merges_set exchanges_at (has_broken {T = Bool} (Err c.in_err-standing-in-Ready.field-0.0)) (book.is_sound new) (book.stands b) (book.stands new) (book.leaves new)
+    c.args.seats.now c.in-Ready.at c.index-seats-at-then-at-seats-2.result _ c.if-at-seats-2.true
+    c.in_err-standing-in-Ready.ensures.goes_on)
+
+-- the connection of a seat went on
+pub returns-in_ok-standing-in-Ready-clause-served : goal.returns-in_ok-standing-in-Ready-clause-served
+returns-in_ok-standing-in-Ready-clause-served g c =
+    let book = g.B.Book in
+    let b = c.args.book.now in
+    let new = c.serve.new.book in
+    merges_set exchanges_at false (book.is_sound new) (book.stands b) (book.stands new) (book.leaves new)
+    c.args.seats.now c.in-Ready.at c.index-seats-at-then-at-seats-2.result _ c.if-at-seats-2.true
+    c.in_ok-standing-in-Ready.ensures.goes_on
+
+-- there is no such seat
+pub returns-else-at-seats-2-clause-served : goal.returns-else-at-seats-2-clause-served
+returns-else-at-seats-2-clause-served g c =
+    let book = g.B.Book in
+    let b = c.args.book.now in
+    merges_none (book.is_sound b) (book.stands b) (book.leaves b) _ _ refl
+
+-- the connection of a seat ends
+pub returns-then-at-seats-3-clause-served : goal.returns-then-at-seats-3-clause-served
+returns-then-at-seats-3-clause-served g c =
+    let book = g.B.Book in
+    let b = c.args.book.now in
+    merges_set exchanges_at false (book.is_sound b) (book.stands b) (book.stands b) (book.leaves b)
+    c.args.seats.now c.in-Leaves.at c.index-seats-at-then-at-seats-3.result _ c.if-at-seats-3.true
+    (goes_on_none (book.is_sound b) (book.stands b) (book.leaves b) _ _ c.clear.ensures.kept)
+
+-- there is no such seat
+pub returns-else-at-seats-3-clause-served : goal.returns-else-at-seats-3-clause-served
+returns-else-at-seats-3-clause-served g c =
+    let book = g.B.Book in
+    let b = c.args.book.now in
+    merges_none (book.is_sound b) (book.stands b) (book.leaves b) _ _ refl
+
+-- no turn comes
+pub returns-in-End-clause-served : goal.returns-in-End-clause-served
+returns-in-End-clause-served g c =
+    let book = g.B.Book in
+    let b = c.args.book.now in
+    merges_none (book.is_sound b) (book.stands b) (book.leaves b) _ _ refl

@@ -1,0 +1,21 @@
+-- Three exchanges of two seats, as they were merged, computed.
+use Rattle.std.specs.Prelude.{◌≡◌, ℕ, List, [], ◌∷◌, codes, Some, map, refl}
+use Rattle.http_conversations.specs.Exchanges.{Exchange}
+use Rattle.http_live.specs.Merging.{Seated, exchange_of, of_seat}
+
+-- a message, and its page
+abbrev pub exchange : List ℕ → List ℕ → Exchange
+exchange bytes page = record { bytes = bytes; page = Some page }
+
+-- seat 0 has the first and the last, seat 1 the one between
+abbrev pub three : List Seated
+three = (0, exchange (codes "a") (codes "1")) ∷ (1, exchange (codes "b") (codes "2")) ∷ (0, exchange (codes "c") (codes "3")) ∷ []
+
+pub of_the_first : of_seat 0 three ≡ exchange (codes "a") (codes "1") ∷ exchange (codes "c") (codes "3") ∷ []
+of_the_first = refl
+
+pub of_the_second : of_seat 1 three ≡ exchange (codes "b") (codes "2") ∷ []
+of_the_second = refl
+
+pub of_nobody : of_seat 2 three ≡ []
+of_nobody = refl

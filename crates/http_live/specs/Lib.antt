@@ -1,0 +1,6 @@
+pub mod Faithful
+pub mod Resting
+pub mod Merging
+pub mod Examples
+pub mod Worlds
+pub mod Seats

@@ -1,0 +1,31 @@
+-- The exchanges of many seats, as one list in the order in which they were carried out.
+use Rattle.std.specs.Prelude.{◌≡◌, ℕ, ◌<◌, Bool, List, [], ◌∷◌, ◌++◌, length, map, slice_index_or, All, if◌then◌else◌, ◌==◌}
+use Rattle.ledger.specs.Answer.{State}
+use Rattle.http_conversations.specs.Exchanges.{Exchange}
+use Rattle.http_conversations.specs.Leading.{Ends}
+
+-- an exchange, and the seat that it came from
+abbrev pub Seated : Type 0
+Seated = ℕ × Exchange
+
+abbrev pub exchange_of : Seated → Exchange
+exchange_of x = x.1
+
+-- the exchanges of one seat
+abbrev pub of_seat : ℕ → List Seated → List Exchange
+of_seat at [] = []
+of_seat at (x ∷ later) = if x.0 == at then x.1 ∷ of_seat at later else of_seat at later
+
+-- each seat has those of its own more, in their order
+pub record IsMerged (before after : List (List Exchange)) (merged : List Seated) : Type 0 where
+  pub seated : All (λ (x : Seated). x.0 < length before) merged
+  pub same : length after ≡ length before
+  pub each : (at : ℕ) → at < length before
+      → slice_index_or after at [] ≡ slice_index_or before at [] ++ of_seat at merged
+
+-- A book went on by the exchanges of all seats, merged, in each state that it stood for, while it is sound.
+pub record Merges (sound : Type 0) (stood stands : State → Type 0) (leaves : State → State → Type 0)
+    (store_failed : Bool) (before after : List (List Exchange)) : Type 0 where
+  pub merged : List Seated
+  pub is_merged : IsMerged before after merged
+  pub ends : sound → (s : State) → stood s → Ends store_failed stands leaves s (map exchange_of merged)

@@ -1,0 +1,33 @@
+-- What a connection waits for after its turn.
+use Rattle.std.specs.Prelude.{◌≡◌, ◌≢◌, ◌⊎◌, [], ⊤}
+use Rattle.http_messages.specs.Messages.{HasNoMessage}
+use Rattle.http_conversations.specs.History.{History}
+use Rattle.http_conversations.specs.declared.stages.Stage.TheVariants.{Open, Closing}
+use Rattle.http_live.specs.declared.standing.Standing.{Standing}
+use Rattle.http_live.specs.declared.standing.Standing.TheVariants.{Between, Amid, Unsent, Lingering, Answered, Busy, Over}
+
+-- each page was handed out, and no whole message waits for an answer
+pub record IsUsedUp (h : History) : Type 0 where
+  pub sent : h.pending ≡ []
+  pub answered : (h.stage ≢ Open) ⊎ HasNoMessage h.waiting
+
+-- no page waits, and what waits is not a whole message
+pub record WaitsForMore (h : History) : Type 0 where
+  pub is_open : h.stage ≡ Open
+  pub sent : h.pending ≡ []
+  pub none : HasNoMessage h.waiting
+
+-- every page was handed out, the last of which closes
+pub record HasClosed (h : History) : Type 0 where
+  pub closing : h.stage ≡ Closing
+  pub sent : h.pending ≡ []
+
+-- it waits for its peer alone: to send, to take a page, or to end; or it waits for nothing
+abbrev pub Rests : Standing → History → Type 0
+Rests Between h = WaitsForMore h × (h.waiting ≡ [])
+Rests Amid h = WaitsForMore h × (h.waiting ≢ [])
+Rests Unsent h = h.pending ≢ []
+Rests Lingering h = HasClosed h
+Rests Answered h = ⊤
+Rests Busy h = ⊤
+Rests Over h = ⊤

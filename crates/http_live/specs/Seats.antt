@@ -1,0 +1,22 @@
+-- The exchanges of a seat.
+use Rattle.std.specs.Prelude.{List, [], ◌++◌, Option, Some, None}
+use Rattle.std.specs.List.{flat_map}
+use Rattle.std.specs.declared.io.traits.Read as Read
+use Rattle.std.specs.declared.io.traits.Write as Write
+use Rattle.http_conversations.specs.Conversations.{history}
+use Rattle.http_conversations.specs.Exchanges.{Exchange}
+use Rattle.http_live.specs.declared.connection.Connection.{Connection}
+use Rattle.http_live.specs.declared.seats.Seat.{Seat}
+
+module _ {R W : Type 0} {r : Read.Ghosts R} {w : Write.Ghosts W} where
+  -- those of a connection
+  abbrev pub exchanges_with : Connection R W r w → List Exchange
+  exchanges_with c = (history c.conversation).exchanges
+
+  abbrev pub exchanges_now : Option (Connection R W r w) → List Exchange
+  exchanges_now None = []
+  exchanges_now (Some c) = exchanges_with c
+
+  -- those of the connections that ended, and of the one that is there
+  abbrev pub exchanges_at : Seat R W r w → List Exchange
+  exchanges_at s = flat_map (λ e. exchanges_with e.0) s.left.items ++ exchanges_now s.connection

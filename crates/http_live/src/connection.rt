@@ -1,0 +1,208 @@
+//! A conversation over a reader and a writer of its own.
+ghost use Rattle.std.specs.Prelude.{◌≡◌, ◌≢◌, ◌+◌, ◌≤◌, [], length, IfErr, IfOk, IfSome, IsErrOf, IsTrue, OnErr, Ok, true, false};
+ghost use Rattle.saga_core.specs.Books.{LeavesNoMore};
+ghost use Rattle.http_conversations.specs.Conversations.{history};
+ghost use Rattle.http_conversations.specs.History.{HasNoTurn, IsServed, WantsRead};
+ghost use Rattle.http_conversations.specs.Leading.{GoesOn, has_broken};
+ghost use Rattle.http_live.specs.Faithful.{Faithful};
+
+use crate::standing::Standing;
+use commands::Fault;
+use http_conversations::{Conversation, MOST_READ, Stage};
+use http_pages::Paths;
+use http_server::Log;
+use saga_core::Book;
+use std::alloc::Global;
+use std::io::{self, ErrorKind, Read, Write};
+
+/// A conversation with its two ends.
+#[derive(Drop)]
+pub struct Connection<R: Read + Drop, W: Write + Drop> {
+    pub(crate) reader: R,
+    pub(crate) writer: W,
+    pub(crate) conversation: Conversation,
+    /// Its two ends as they were when it came.
+    pub(crate) came: Log<R, W>,
+    ghost faithful: { ∥ Faithful R.remaining W.contents came.items reader writer
+        (history conversation).received (history conversation).sent ∥₁ },
+}
+
+impl<R: Read + Drop, W: Write + Drop> Connection<R, W> {
+    ghost use Rattle.http_live.specs.Seats.{exchanges_with};
+    ghost use Rattle.http_live.specs.Resting.{IsUsedUp, Rests};
+
+    /// Nothing was read or written.
+    pub(crate) fn new(alloc: Global, reader: R, writer: W) -> Connection<R, W>
+        ensures none { exchanges_with result ≡ [] }
+    {
+        let came = Log::new().and(&reader, &writer);
+        Connection {
+            reader,
+            writer,
+            conversation: Conversation::new(alloc),
+            came,
+        }
+    }
+
+    /// True of every connection, while it is here and when it left: where its ends report their bytes, what was received
+    /// was read from the one, and what was handed out was written to the other.
+    pub fn always_faithful(&self)
+        ensures faithful { ∥ Faithful R.remaining W.contents self.now.came.items self.now.reader self.now.writer
+            (history self.now.conversation).received (history self.now.conversation).sent ∥₁ }
+    {}
+
+    /// True of every connection: what was handed out, and then what waits, is the pages of the first messages of what was
+    /// received, in order, up to and with the first that closes.
+    pub fn always_served(&self)
+        ensures served { ∥ IsServed (history self.now.conversation) ∥₁ }
+    {
+        self.conversation.always_served();
+    }
+
+    /// A turn: what waits is handed out, or else one message is answered, or else more is read.
+    pub(crate) fn serve<B: Book>(
+        &mut self,
+        paths: &Paths,
+        buffer: &mut [u8],
+        book: &mut B,
+    ) -> Result<Standing, Fault>
+        requires small { length buffer.old ≤ MOST_READ }
+
+        ensures goes_on { GoesOn (B.is_sound book.new) (B.stands book.old) (B.stands book.new) (B.leaves book.new)
+            (has_broken result) (exchanges_with self.old) (exchanges_with self.new) }
+        ensures at_most_one { length (exchanges_with self.new) ≤ length (exchanges_with self.old) + 1 }
+        ensures rests { IfOk result (λ standing. Rests standing (history self.new.conversation)) }
+
+        ensures broken { IfErr result (λ fault. fault ≡ Fault.Store) }
+        ensures failed { IsErrOf result Fault.Store → IsTrue (B.has_failed book.new) }
+        ensures stays_failed { IsTrue (B.has_failed book.old) → IsTrue (B.has_failed book.new) }
+        ensures stays_left { IsTrue (B.has_failed book.old) →
+            LeavesNoMore (B.leaves book.old) (B.leaves book.new) }
+
+        ensures sound { B.is_sound book.new → B.is_sound book.old }
+    {
+        if self.conversation.wants_write() {
+            return Ok(self.push(buffer));
+        }
+        match self.answer(paths, book) {
+            Ok(true) => Ok(Standing::Answered),
+            Ok(false) => Ok(self.pull(buffer)),
+            Err(Fault::Memory) => Ok(Standing::Over),
+            Err(Fault::Store) => Err(Fault::Store),
+        }
+    }
+
+    /// Answers the first message that waits, if it is its turn.
+    fn answer<B: Book>(&mut self, paths: &Paths, book: &mut B) -> Result<bool, Fault>
+        ensures goes_on { GoesOn (B.is_sound book.new) (B.stands book.old) (B.stands book.new) (B.leaves book.new)
+            (has_broken result) (exchanges_with self.old) (exchanges_with self.new) }
+        ensures at_most_one { length (exchanges_with self.new) ≤ length (exchanges_with self.old) + 1 }
+        ensures none { result ≡ Ok false → HasNoTurn (history self.old.conversation)
+            × (history self.new.conversation ≡ history self.old.conversation) }
+
+        ensures failed { IsErrOf result Fault.Store → IsTrue (B.has_failed book.new) }
+        ensures stays_failed { IsTrue (B.has_failed book.old) → IsTrue (B.has_failed book.new) }
+        ensures stays_left { IsTrue (B.has_failed book.old) →
+            LeavesNoMore (B.leaves book.old) (B.leaves book.new) }
+
+        ensures sound { B.is_sound book.new → B.is_sound book.old }
+    {
+        self.conversation.answer(paths, book)
+    }
+
+    /// Reads once.
+    fn read(&mut self, buffer: &mut [u8]) -> io::Result<usize>
+        requires wants { WantsRead (history self.old.conversation) }
+        requires small { length buffer.old ≤ MOST_READ }
+
+        ensures kept { exchanges_with self.new ≡ exchanges_with self.old }
+        ensures unsent { (history self.new.conversation).pending ≡ (history self.old.conversation).pending }
+        ensures err { OnErr result (history self.new.conversation ≡ history self.old.conversation) }
+    {
+        self.conversation.receive(buffer, &mut self.reader)
+    }
+
+    /// Writes once.
+    fn write(&mut self) -> io::Result<usize>
+        ensures kept { exchanges_with self.new ≡ exchanges_with self.old }
+        ensures err { OnErr result (history self.new.conversation ≡ history self.old.conversation) }
+    {
+        self.conversation.send(&mut self.writer)
+    }
+
+    /// Hands out what waits. Where the peer does not take it, more is read, as long as no more pages wait than may.
+    fn push(&mut self, buffer: &mut [u8]) -> Standing
+        requires small { length buffer.old ≤ MOST_READ }
+
+        ensures kept { exchanges_with self.new ≡ exchanges_with self.old }
+        ensures rests { (history self.old.conversation).pending ≢ [] →
+            Rests result (history self.new.conversation) }
+    {
+        match self.write() {
+            Ok(0) => Standing::Over,
+            Ok(_) => Standing::Busy,
+            Err(error) => match error.kind() {
+                ErrorKind::WouldBlock => self.read_on(buffer),
+                ErrorKind::Interrupted => Standing::Busy,
+                _ => Standing::Over,
+            },
+        }
+    }
+
+    /// Reads while a page waits, as long as no more of them wait than may.
+    fn read_on(&mut self, buffer: &mut [u8]) -> Standing
+        requires small { length buffer.old ≤ MOST_READ }
+
+        ensures kept { exchanges_with self.new ≡ exchanges_with self.old }
+        ensures rests { (history self.old.conversation).pending ≢ [] →
+            Rests result (history self.new.conversation) }
+    {
+        if !self.conversation.wants_read() {
+            return Standing::Unsent;
+        }
+        match self.read(buffer) {
+            Ok(0) => Standing::Unsent,
+            Ok(_) => Standing::Busy,
+            Err(error) => match error.kind() {
+                ErrorKind::WouldBlock => Standing::Unsent,
+                ErrorKind::Interrupted => Standing::Busy,
+                _ => Standing::Over,
+            },
+        }
+    }
+
+    /// Reads, where no page waits and no message is whole.
+    fn pull(&mut self, buffer: &mut [u8]) -> Standing
+        requires small { length buffer.old ≤ MOST_READ }
+
+        ensures kept { exchanges_with self.new ≡ exchanges_with self.old }
+        ensures rests { IsUsedUp (history self.old.conversation) →
+            Rests result (history self.new.conversation) }
+    {
+        if !self.conversation.wants_read() {
+            return Standing::Over;
+        }
+        match self.read(buffer) {
+            Ok(0) => Standing::Over,
+            Ok(_) => Standing::Busy,
+            Err(error) => match error.kind() {
+                ErrorKind::WouldBlock => self.rest(),
+                ErrorKind::Interrupted => Standing::Busy,
+                _ => Standing::Over,
+            },
+        }
+    }
+
+    /// What it waits for, where no page waits and no message is whole.
+    fn rest(&self) -> Standing
+        ensures rests { IsUsedUp (history self.now.conversation) →
+            Rests result (history self.now.conversation) }
+    {
+        match self.conversation.stage() {
+            Stage::Open if self.conversation.has_part() => Standing::Amid,
+            Stage::Open => Standing::Between,
+            Stage::Closing => Standing::Lingering,
+            Stage::Failed => Standing::Over,
+        }
+    }
+}

@@ -1,0 +1,102 @@
+//! Places for one connection after another.
+ghost use Rattle.std.specs.Prelude.{◌≡◌, ◌+◌, ◌≤◌, [], length, map, IfErr, IfOk, IfSome, IsErrOf, IsTrue};
+ghost use Rattle.saga_core.specs.Books.{LeavesNoMore};
+ghost use Rattle.http_conversations.specs.Conversations.{history};
+ghost use Rattle.http_conversations.specs.Leading.{GoesOn, has_broken};
+ghost use Rattle.http_live.specs.Resting.{Rests};
+ghost use Rattle.http_live.specs.Seats.{exchanges_at};
+
+use crate::connection::Connection;
+use crate::standing::Standing;
+use commands::Fault;
+use http_conversations::MOST_READ;
+use http_pages::Paths;
+use http_server::Log;
+use saga_core::Book;
+use std::alloc::{AllocError, Global};
+use std::io::{Read, Write};
+
+/// How many connections there are at once, at most.
+pub const SEATS: usize = 256;
+
+/// A place for one connection after another.
+#[derive(Drop)]
+pub struct Seat<R: Read + Drop, W: Write + Drop> {
+    pub(crate) connection: Option<Connection<R, W>>,
+    /// The connections that ended.
+    pub(crate) left: Log<Connection<R, W>, ()>,
+}
+
+impl<R: Read + Drop, W: Write + Drop> Seat<R, W> {
+    /// No connection was here.
+    pub fn new() -> Seat<R, W>
+        ensures none { exchanges_at result ≡ [] }
+    {
+        Seat {
+            connection: None,
+            left: Log::new(),
+        }
+    }
+
+    /// A connection takes the seat. Which was there before ends.
+    pub(crate) fn take(&mut self, alloc: Global, reader: R, writer: W)
+        ensures kept { exchanges_at self.new ≡ exchanges_at self.old }
+    {
+        self.clear();
+        self.connection = Some(Connection::new(alloc, reader, writer));
+    }
+
+    /// The connection ends, if there is one.
+    pub(crate) fn clear(&mut self)
+        ensures kept { exchanges_at self.new ≡ exchanges_at self.old }
+        ensures none { self.new.connection ≡ None }
+    {
+        if let Some(connection) = self.connection.take() {
+            self.left = self.left.and(&connection, &());
+        }
+    }
+
+    /// A turn of the connection, if there is one. One that is over ends.
+    pub(crate) fn serve<B: Book>(
+        &mut self,
+        paths: &Paths,
+        buffer: &mut [u8],
+        book: &mut B,
+    ) -> Result<Standing, Fault>
+        requires small { length buffer.old ≤ MOST_READ }
+
+        ensures goes_on { GoesOn (B.is_sound book.new) (B.stands book.old) (B.stands book.new) (B.leaves book.new)
+            (has_broken result) (exchanges_at self.old) (exchanges_at self.new) }
+        ensures at_most_one { length (exchanges_at self.new) ≤ length (exchanges_at self.old) + 1 }
+        ensures rests { IfOk result (λ standing. IfSome self.new.connection
+            (λ connection. Rests standing (history connection.conversation))) }
+
+        ensures broken { IfErr result (λ fault. fault ≡ Fault.Store) }
+        ensures failed { IsErrOf result Fault.Store → IsTrue (B.has_failed book.new) }
+        ensures stays_failed { IsTrue (B.has_failed book.old) → IsTrue (B.has_failed book.new) }
+        ensures stays_left { IsTrue (B.has_failed book.old) →
+            LeavesNoMore (B.leaves book.old) (B.leaves book.new) }
+
+        ensures sound { B.is_sound book.new → B.is_sound book.old }
+    {
+        let Some(connection) = &mut self.connection else {
+            return Ok(Standing::Over);
+        };
+        let standing = connection.serve(paths, buffer, book)?;
+        if standing == Standing::Over {
+            self.clear();
+        }
+        Ok(standing)
+    }
+}
+
+/// As many seats as there may be connections, without any.
+pub fn empty_seats<R: Read + Drop, W: Write + Drop>(alloc: Global) -> Result<Vec<Seat<R, W>>, AllocError>
+    ensures seats { IfOk result (λ seats. length seats.items ≡ SEATS) }
+{
+    let mut seats = Vec::with_capacity(alloc, SEATS)?;
+    for _ in 0..SEATS {
+        seats.push(Seat::new())?;
+    }
+    Ok(seats)
+}

@@ -1,0 +1,120 @@
+//! Serving the connections of all seats.
+ghost use Rattle.std.specs.Prelude.{◌≡◌, ◌≤◌, [], length, map, false, Ok, IfErr, IsErrOf, IsTrue};
+ghost use Rattle.saga_core.specs.Books.{LeavesNoMore};
+ghost use Rattle.http_conversations.specs.Leading.{has_broken};
+ghost use Rattle.http_live.specs.Merging.{Merges};
+ghost use Rattle.http_live.specs.Seats.{exchanges_at};
+ghost use Rattle.http_live.specs.Worlds.{WorldsGoOn};
+
+use crate::seats::Seat;
+use crate::turns::{Turn, Turns};
+use commands::Fault;
+use http_conversations::MOST_READ;
+use http_pages::Paths;
+use recovery::Ready;
+use saga_core::Book;
+use std::alloc::Global;
+
+/// Serves the connections of all seats, turn by turn, until no turn comes or the store fails.
+///
+/// Out of memory, no turn was taken.
+pub fn serve_many<T: Turns, B: Book>(
+    alloc: Global,
+    seats: &mut [Seat<T::Reader, T::Writer>],
+    turns: &mut T,
+    book: &mut Ready<B>,
+) -> Result<(), Fault>
+    ensures served { Merges (B.is_sound book.new) (B.stands book.old) (B.stands book.new) (B.leaves book.new)
+        (has_broken result) (map exchanges_at seats.old) (map exchanges_at seats.new) }
+    ensures worlds { WorldsGoOn (B.is_sound book.new) (B.stands book.old) (B.stands book.new) (B.leaves book.new)
+        (has_broken result) (map exchanges_at seats.old) (map exchanges_at seats.new) }
+
+    ensures failed { IsErrOf result Fault.Store → IsTrue (B.has_failed book.new) }
+    ensures stays_failed { IsTrue (B.has_failed book.old) → IsTrue (B.has_failed book.new) }
+    ensures stays_left { IsTrue (B.has_failed book.old) →
+        LeavesNoMore (B.leaves book.old) (B.leaves book.new) }
+
+    ensures sound { B.is_sound book.new → B.is_sound book.old }
+{
+    let Ok(paths) = Paths::new(alloc) else {
+        return Err(Fault::Memory);
+    };
+    let Ok(mut buffer) = vec![in alloc; 0u8; MOST_READ] else {
+        return Err(Fault::Memory);
+    };
+    serve_turns(alloc, &paths, seats, buffer.as_mut_slice(), turns, book)
+}
+
+/// The same over any book, by way of a buffer.
+fn serve_turns<T: Turns, B: Book>(
+    alloc: Global,
+    paths: &Paths,
+    seats: &mut [Seat<T::Reader, T::Writer>],
+    buffer: &mut [u8],
+    turns: &mut T,
+    book: &mut B,
+) -> Result<(), Fault>
+    requires small { length buffer.old ≤ MOST_READ }
+
+    ensures served { Merges (B.is_sound book.new) (B.stands book.old) (B.stands book.new) (B.leaves book.new)
+        (has_broken result) (map exchanges_at seats.old) (map exchanges_at seats.new) }
+
+    ensures failed { IsErrOf result Fault.Store → IsTrue (B.has_failed book.new) }
+    ensures stays_failed { IsTrue (B.has_failed book.old) → IsTrue (B.has_failed book.new) }
+    ensures stays_left { IsTrue (B.has_failed book.old) →
+        LeavesNoMore (B.leaves book.old) (B.leaves book.new) }
+
+    ensures sound { B.is_sound book.new → B.is_sound book.old }
+{
+    for _ in 0..u64::MAX {
+        if !take_turn(alloc, paths, seats, buffer, turns, book)? {
+            return Ok(());
+        }
+    }
+    Ok(())
+}
+
+/// Takes the next turn, and reports whether there was one.
+fn take_turn<T: Turns, B: Book>(
+    alloc: Global,
+    paths: &Paths,
+    seats: &mut [Seat<T::Reader, T::Writer>],
+    buffer: &mut [u8],
+    turns: &mut T,
+    book: &mut B,
+) -> Result<bool, Fault>
+    requires small { length buffer.old ≤ MOST_READ }
+
+    ensures served { Merges (B.is_sound book.new) (B.stands book.old) (B.stands book.new) (B.leaves book.new)
+        (has_broken result) (map exchanges_at seats.old) (map exchanges_at seats.new) }
+
+    ensures failed { IsErrOf result Fault.Store → IsTrue (B.has_failed book.new) }
+    ensures stays_failed { IsTrue (B.has_failed book.old) → IsTrue (B.has_failed book.new) }
+    ensures stays_left { IsTrue (B.has_failed book.old) →
+        LeavesNoMore (B.leaves book.old) (B.leaves book.new) }
+
+    ensures sound { B.is_sound book.new → B.is_sound book.old }
+{
+    match turns.next_turn() {
+        Turn::Comes(at, reader, writer) => {
+            if at < seats.len() {
+                seats[at].take(alloc, reader, writer);
+            }
+            Ok(true)
+        }
+        Turn::Ready(at) => {
+            if at < seats.len() {
+                let standing = seats[at].serve(paths, buffer, book)?;
+                turns.hear(at, standing);
+            }
+            Ok(true)
+        }
+        Turn::Leaves(at) => {
+            if at < seats.len() {
+                seats[at].clear();
+            }
+            Ok(true)
+        }
+        Turn::End => Ok(false),
+    }
+}

@@ -1,0 +1,6 @@
+mod dice;
+mod ends;
+mod faults;
+mod peers;
+mod plain;
+mod schedule;
