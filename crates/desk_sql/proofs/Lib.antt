@@ -1,6 +1,7 @@
 pub mod Answering
 pub mod Ascending
 pub mod Changing
+pub mod Causing
 pub mod Creating
 pub mod Finding
 pub mod Framing
@@ -27,6 +28,7 @@ pub mod Replacing
 pub mod Selecting
 pub mod StockQueries
 pub mod Tables
+pub mod Taking
 pub mod Testing
 pub mod Updating
 pub mod Upserting

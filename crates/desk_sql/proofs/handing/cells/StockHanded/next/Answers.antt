@@ -18,7 +18,7 @@ returns-in_ok-cell-in-Some-clause-next g c clean =
     let stands : row_if rows.has_row rows.conn.now ≡ Some row = search rules in
     hands_row g.S.Store find_stock_text find_stock_query find_stock_names find_stock_means stock_shown c.args.self.now.rows.conn.now rows.conn.now
     rows.has_row (told.ok clean) row (Some (stock_of c.in_ok-cell-in-Some.cell)) stands (told.same clean) (λ over. (told.ended over).0)
-    (λ x is. cell_back row c.in_ok-cell-in-Some.cell x c.in_ok-cell-in-Some.ensures is)
+    (λ x is. cell_back row c.in_ok-cell-in-Some.cell x c.in_ok-cell-in-Some.ensures.shown is)
 
 pub returns-in-None-clause-next : goal.returns-in-None-clause-next
 returns-in-None-clause-next g c clean =

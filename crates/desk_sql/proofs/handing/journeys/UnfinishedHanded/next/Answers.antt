@@ -18,7 +18,7 @@ returns-in_ok-journey-in-Some-clause-next g c clean =
     let stands : row_if rows.has_row rows.conn.now ≡ Some row = search rules in
     hands_row g.S.Store first_unfinished_text first_unfinished_query journey_names first_unfinished_means journey_shown c.args.self.now.rows.conn.now rows.conn.now
     rows.has_row (told.ok clean) row (Some (journey_of c.in_ok-journey-in-Some.journey)) stands (told.same clean) (λ over. (told.ended over).0)
-    (λ x is. journey_back row c.in_ok-journey-in-Some.journey x c.in_ok-journey-in-Some.ensures is)
+    (λ x is. journey_back row c.in_ok-journey-in-Some.journey x c.in_ok-journey-in-Some.ensures.shown is)
 
 pub returns-in-None-clause-next : goal.returns-in-None-clause-next
 returns-in-None-clause-next g c clean =
