@@ -57,7 +57,7 @@ column_memory at r known e Readable is low can named kind =
 -- Queries.
 
 -- a text of this length was read whole, and has so many parameters
-abbrev takes : ℕ → ℕ → Result Compiled CompileError → Bool
+abbrev pub takes : ℕ → ℕ → Result Compiled CompileError → Bool
 takes size given (Ok c) = nat_le size c.tail && (given == length c.names)
 takes size given (Err e) = false
 
@@ -71,6 +71,16 @@ one_table : (tree : ℕ) (filter project : List Term) (order : List (Term × Key
     → ¬ QueryOverflows (sorted_rows tree filter project order) db params
 one_table tree filter project order db params (inl none) = none
 one_table tree filter project order db params (inr any) = any.4
+
+-- what a store that was up answers has a cause in the store
+pub of_store : (old new : State) → IsUp old → (cause : StoreError) (e : Error) → e ≡ store_error cause → store.HasCause old new ⊥ cause
+    → HasReason old new e
+of_store old new up OutOfMemory e is why = inl is
+of_store old new up Io e is why = inr why
+of_store old new up Corrupt e is why = inr why
+of_store old new up Full e is why = inr why
+of_store old new up Broken e is why = absurd (let shut : true ≡ false = sym up.is_open ∙ why in cc)
+of_store old new up Unstorable e is why = absurd why
 
 module _ {v : Version} {text : List ℕ} {tree : ℕ} {filter project : List Term} {order : List (Term × Key)} {names : List (List ℕ)}
     (m : MeansIn v text (sorted_rows tree filter project order) names) {params : Row}
@@ -89,15 +99,6 @@ module _ {v : Version} {text : List ℕ} {tree : ℕ} {filter project : List Ter
   plain : (c : Compiled) → understood old.now.schema text ≡ Ok c → IsPlain (Ok c)
   plain c is = subst IsPlain (sym (ap (λ s. understood s text) has) ∙ is) m.plain
 
-  -- what the store answers has a cause in the store
-  of_store : (cause : StoreError) (e : Error) → e ≡ store_error cause → store.HasCause old new ⊥ cause → HasReason old new e
-  of_store OutOfMemory e is why = inl is
-  of_store Io e is why = inr why
-  of_store Corrupt e is why = inr why
-  of_store Full e is why = inr why
-  of_store Broken e is why = absurd (let shut : true ≡ false = sym up.is_open ∙ why in cc)
-  of_store Unstorable e is why = absurd why
-
   not_run : (e : Error) → IsNotRun old new text params e → HasReason old new e
   unfolding IsNotRun
   not_run e (inl (inl h, same)) = absurd (let bad = taken _ h.1 in cc)
@@ -110,7 +111,7 @@ module _ {v : Version} {text : List ℕ} {tree : ℕ} {filter project : List Ter
       as_many : (a b : ℕ) → (a == b) ≡ true → a ≡ b
       as_many a b t = grind (arith, nat_tests)
   not_run e (inl (inr (c, known, inr (inr h)), same)) = absurd (h.0 (plain c known).1)
-  not_run e (inr h) = of_store h.0 e h.1 h.2
+  not_run e (inr h) = of_store old new up h.0 e h.1 h.2
 
   refused : (db : Database) (e : Error) → db ≡ old.now → ¬ RefusesToRead old.step_limit (Select program names) db params e
   refused db e same (inl (is, wrong)) =

@@ -5,6 +5,7 @@ pub mod Causing
 pub mod Creating
 pub mod Finding
 pub mod Framing
+pub mod HandedReasons
 pub mod HandedRows
 pub mod HandedCells
 pub mod HandedJourneys
