@@ -1,9 +1,12 @@
 -- What a source of rows has still to hand out, and what it leaves of the connection under it.
-use Rattle.std.specs.Prelude.{◌≡◌, ℕ, Bool, List, [], ◌++◌, map, drop, true, false, refl}
+use Rattle.std.specs.Prelude.{◌≡◌, ℕ, Bool, List, [], ◌++◌, map, drop, true, false, refl, IsTrue}
+use Rattle.std.specs.List.{AllByRecursion}
 use Rattle.std.specs.Borrow.{MutBor}
 use Rattle.std.proofs.Common.{◌∙◌}
 use Rattle.allotment.specs.declared.cells.Cell.{Cell}
 use Rattle.allotment.specs.declared.places.Held.{Held as HeldPlaces}
+use Rattle.allotment.specs.Limits.{is_good_cell}
+use Rattle.commands.specs.Names.{is_agent}
 use Rattle.commands.specs.declared.items.Item.{Item}
 use Rattle.ledger.specs.Answer.{State}
 use Rattle.ledger.specs.History.{position_of}
@@ -49,6 +52,17 @@ module _ {S : Type 0} (g : Ghosts S) where
 
   abbrev pub BriefsRest : Held S → List Brief → Type 0
   BriefsRest h briefs = (rows : List JourneyRow) × JourneysRest g h rows × TellBriefs rows briefs
+
+  -- such rows are, and each is of a cell, or of an agent, that keeps its limits
+  abbrev pub AreGoodCellsRest : Held S → Type 0
+  AreGoodCellsRest h =
+      (rows : List (Cell × HeldPlaces)) × StockRests h rows
+      × AllByRecursion (λ (c : Cell × HeldPlaces). IsTrue (is_good_cell c.0)) rows
+
+  abbrev pub AreGoodBriefsRest : Held S → Type 0
+  AreGoodBriefsRest h =
+      (briefs : List Brief) × BriefsRest h briefs
+      × AllByRecursion (λ (b : Brief). IsTrue (is_agent b.agent)) briefs
 
   -- of a journey that has come to this position the connection keeps, in tables of this version, these
   -- items after an event, and no more
