@@ -1,5 +1,6 @@
 -- The answer of a query over a table of values, as values. For the lemmas of each query.
 use Rattle.std.proofs.Common.{◌≡◌, ◌⊎◌, inl, inr, ℕ, ℤ, List, [], ◌∷◌, map, filter, cond, Bool, true, false, refl, sym, ap, ap₂, subst, ◌∙◌}
+use Rattle.std.specs.List.{AllByRecursion}
 use Rattle.std.specs.List.Sorted.{IsPermutation}
 use Rattle.std.proofs.lemmas.List.Sorted.{IsPermutation-map}
 use Rattle.sqlite.specs.Order.{Row}
@@ -130,6 +131,16 @@ module _ {X : Type 0} (q : Query) (out : X → Output) (passing : List X) where
       go : (values : List X) → IsPermutation passing values → [] ≡ map (λ x. (out x).1) values → passing ≡ []
       go [] same e = empty passing same
       go (x ∷ more) same e = absurd (cc)
+
+-- each row is that of a value that passes
+pub all_shown : {X : Type 0} (q : Query) (out : X → Output) (passing : List X) (rows : List Row) → Answers q out passing rows
+    → (P : Row → Type 0) → ((x : X) → Has passing x → P ((out x).1)) → AllByRecursion P rows
+all_shown {X} q out passing rows it P good =
+    subst (AllByRecursion P) (sym it.rows_are) (go it.values (λ x h. good x (permutation_from passing it.values x it.same h)))
+  where
+    go : (xs : List X) → ((x : X) → Has xs x → P ((out x).1)) → AllByRecursion P (map (λ x. (out x).1) xs)
+    go [] each = tt
+    go (x ∷ xs) each = (each x (inl refl), go xs (λ y h. each y (inr h)))
 
 first_same : {C : Type 0} {a b : C} {cs ds : List C} → a ∷ cs ≡ b ∷ ds → a ≡ b
 first_same e = cc

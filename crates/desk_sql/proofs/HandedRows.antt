@@ -11,6 +11,7 @@ use Rattle.sqlite.specs.Listing.{understood, reads_listing, IsSourceOf}
 use Rattle.sqlite.specs.State.{IsUnchanged, IsStatement}
 use Rattle.sqlite.specs.Given.{HasGiven, HasBegun, Returns, Advances, IsEnded, row_if}
 use Rattle.sqlite.proofs.Callers.{command_of, given_begin, begins_shown, EndsIn}
+use Rattle.sqlite_rules.specs.Lists.{Has}
 use Rattle.sqlite_resolve.specs.declared.compiled.Compiled.{Compiled}
 use Rattle.sqlite_resolve.specs.declared.error.CompileError.{CompileError}
 use Rattle.desk_sql.specs.declared.versions.Version.{Version}
@@ -147,6 +148,21 @@ module _ {S X : Type 0} (g : Ghosts S) (text : List ℕ) (q : Query) (names : Li
           let first : row ≡ shows x = cc in
           let others : more ≡ map shows later = cc in
           (back x first, inl (runs.0, subst (RunsOn g text q runs.0 new) others rest))
+
+  -- so it shows one of them
+  pub row_rests : (row : Row) → row_if has new ≡ Some row → IsUnchanged (state g old) (state g new) → (IsEnded old → has ≡ false)
+      → (later : List X) → Before later → (x : X) × Has later x × (row ≡ shows x)
+  row_rests row stands same ended later (inr over) =
+      absurd (let no : true ≡ false = sym (stands_at new has row stands) ∙ ended over.0 in cc)
+  row_rests row stands same ended later (inl runs) =
+      let it = steps g text q names m runs.0 old new (map shows later) row runs.1 (subst (Advances g old new) stands advances) same in
+      go later it.0 it.1
+    where
+      go : (later : List X) (more : List Row) → map shows later ≡ row ∷ more → (x : X) × Has later x × (row ≡ shows x)
+      go [] more e = absurd (cc)
+      go (x ∷ later) more e =
+          let both : shows x ∷ map shows later ≡ row ∷ more = e in
+          let first : row ≡ shows x = cc in (x, inl refl, first)
 
   -- if the query has no current row, none remained
   pub hands_none : row_if has new ≡ None → (has ≡ false → IsEnded new) → Hands Before After None

@@ -14,6 +14,8 @@ use Rattle.desk_sql.specs.declared.versions.Version.TheVariants.{Two}
 use Rattle.desk_sql.specs.Calls.{MaySee, MaySeeIn}
 use Rattle.desk_sql.specs.Queries.{GivesRow}
 use Rattle.desk_sql.specs.FoundRows.{journey_of, is_numbered, is_unfinished_after, FindsJourney, FindsUnfinished, shows_journey, nine_of}
+use Rattle.desk_sql.specs.Readable.{ShowsOne, IsAgentText, HasAgentText, HaveAgentTexts}
+use Rattle.desk_sql.specs.RemainingRows.{journey_shown}
 use Rattle.desk_sql.specs.Texts.{find_journey_text, first_unfinished_text}
 use Rattle.desk_sql.specs.Meanings.{find_journey_query, first_unfinished_query, journey_names, journey_project, rising}
 use Rattle.desk_sql.specs.declared.journeys.JourneyFound.{JourneyFound}
@@ -22,7 +24,7 @@ use Rattle.desk_sql.proofs.Testing.{eq_whole, gt_whole, le_whole, and_true}
 use Rattle.desk_sql.proofs.Ordered.{whole_last}
 use Rattle.desk_sql.proofs.Reading.{passes}
 use Rattle.desk_sql.proofs.Finding.{first_row, no_row}
-use Rattle.desk_sql.proofs.Answering.{Answers, numbered_answers, first_of, none_of}
+use Rattle.desk_sql.proofs.Answering.{Answers, numbered_answers, all_shown, first_of, none_of}
 
 abbrev shown : JourneyRow → Row
 shown j =
@@ -72,6 +74,15 @@ module _ {v : Version} (old new : State) (t : Tables) (sees : MaySeeIn v old t) 
       (journeys_found id (row ∷ got.1.0) given.0.0.was_open got.1.1) in
       (given.0, subst (Has (filter (is_numbered id) t.journey)) (sym (same_journey f it.0 (read ∙ ap nine_of it.2))) it.1)
 
+  -- the row that is given is that of a journey with the number
+  pub journey_given : (id : ℕ) (row : Row) → HasAgentText id t → GivesRow find_journey_text (whole id ∷ []) old new (Some row)
+      → ShowsOne journey_shown IsAgentText row
+  journey_given id row fits given =
+      let got = first_row find_journey_text find_journey_query journey_names (find_journey_means v) (whole id ∷ []) old new
+      (λ h. (sees h).schema) row given.1 in
+      (all_shown find_journey_query plain_out (filter (is_numbered id) t.journey) (row ∷ got.1.0)
+      (journeys_found id (row ∷ got.1.0) given.0.0.was_open got.1.1) (ShowsOne journey_shown IsAgentText) (λ j h. (j, refl, fits j h))).0
+
   pub finds_no_journey : (id : ℕ) → GivesRow find_journey_text (whole id ∷ []) old new None
       → IsUnchanged old new × FindsJourney id t None
   finds_no_journey id given =
@@ -101,6 +112,16 @@ module _ (old new : State) (t : Tables) (sees : MaySee old t) where
         | inr up ↦ whole_last it.0.id y.id up
       ] in
       (given.0, subst (λ (j : JourneyRow). Has some j × ((y : JourneyRow) → Has some y → j.id ≤ y.id)) (sym same) (it.1, least))
+
+  -- the row that is given is that of an unfinished journey
+  pub unfinished_given : (after : ℕ) (row : Row) → HaveAgentTexts after t
+      → GivesRow first_unfinished_text (whole after ∷ []) old new (Some row) → ShowsOne journey_shown IsAgentText row
+  unfinished_given after row fits given =
+      let some = filter (is_unfinished_after after) t.journey in
+      let got = first_row first_unfinished_text first_unfinished_query journey_names (first_unfinished_means Two) (whole after ∷ []) old new
+      (λ h. (sees h).schema) row given.1 in
+      (all_shown first_unfinished_query sorted_out some (row ∷ got.1.0)
+      (unfinished_found after (row ∷ got.1.0) given.0.0.was_open got.1.1) (ShowsOne journey_shown IsAgentText) (λ j h. (j, refl, fits j h))).0
 
   pub finds_none_unfinished : (after : ℕ) → GivesRow first_unfinished_text (whole after ∷ []) old new None
       → IsUnchanged old new × FindsUnfinished after t None

@@ -15,6 +15,7 @@ use Rattle.desk_sql.specs.Rows.{Tables, AnswerRow, answer_columns}
 use Rattle.desk_sql.specs.Calls.{MaySee}
 use Rattle.desk_sql.specs.Queries.{GivesRow}
 use Rattle.desk_sql.specs.FoundRows.{is_for, answer_of, FindsAnswer, shows_answer, two_of}
+use Rattle.desk_sql.specs.Readable.{ShowsOne, IsReplyText, HasReplyText, answer_shown}
 use Rattle.desk_sql.specs.Texts.{find_answer_text}
 use Rattle.desk_sql.specs.Meanings.{find_answer_query, find_answer_names}
 use Rattle.desk_sql.specs.declared.answers.KeptAnswer.{KeptAnswer}
@@ -22,7 +23,7 @@ use Rattle.desk_sql.proofs.Meaning.{find_answer_means}
 use Rattle.desk_sql.proofs.Testing.{eq_text, and_true}
 use Rattle.desk_sql.proofs.Reading.{passes}
 use Rattle.desk_sql.proofs.Finding.{first_row, no_row}
-use Rattle.desk_sql.proofs.Answering.{Answers, table_answers, first_of, none_of}
+use Rattle.desk_sql.proofs.Answering.{Answers, table_answers, all_shown, first_of, none_of}
 
 abbrev pub answer_key : List ℕ → List ℕ → Row
 answer_key agent mark = Text agent ∷ Text mark ∷ []
@@ -66,6 +67,16 @@ module _ (old new : State) (t : Tables) (sees : MaySee old t) (agent mark : List
       (found_as old t agent mark (row ∷ got.1.0) sees here got.1.1) in
       let passed = (has_filtered (is_for agent mark) t.answer it.0 it.1).1 in
       (given.0, subst (Has (filter (is_for agent mark) t.answer)) (sym (same_answer agent mark k it.0 passed (read ∙ ap two_of it.2))) it.1)
+
+  -- the row that is given is that of a reply under the key
+  pub answer_given : (row : Row) → HasReplyText agent mark t → GivesRow find_answer_text (answer_key agent mark) old new (Some row)
+      → ShowsOne answer_shown IsReplyText row
+  answer_given row fits given =
+      let got = first_row find_answer_text find_answer_query find_answer_names find_answer_means (answer_key agent mark) old new
+      (λ h. (sees h).schema) row given.1 in
+      (all_shown find_answer_query out (filter (is_for agent mark) t.answer) (row ∷ got.1.0)
+      (found_as old t agent mark (row ∷ got.1.0) sees given.0.0.was_open got.1.1) (ShowsOne answer_shown IsReplyText)
+      (λ a h. (a, refl, fits a h))).0
 
   pub finds_no_answer : GivesRow find_answer_text (answer_key agent mark) old new None → IsUnchanged old new × FindsAnswer agent mark t None
   finds_no_answer given =

@@ -1,9 +1,11 @@
 pub mod Answering
 pub mod Ascending
 pub mod Changing
+pub mod Causing
 pub mod Creating
 pub mod Finding
 pub mod Framing
+pub mod HandedReasons
 pub mod HandedRows
 pub mod HandedCells
 pub mod HandedJourneys
@@ -27,6 +29,7 @@ pub mod Replacing
 pub mod Selecting
 pub mod StockQueries
 pub mod Tables
+pub mod Taking
 pub mod Testing
 pub mod Updating
 pub mod Upserting

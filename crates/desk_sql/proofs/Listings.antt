@@ -1,6 +1,7 @@
 -- The queries for the rows of a journey. For `find_items`, `find_marks`, `find_steps` and `find_options`.
 use Rattle.std.proofs.Common.{◌≡◌, ◌⊎◌, inl, inr, ℕ, ℤ, ◌<◌, ◌≤◌, ◌==◌, eqb-true, List, [], ◌∷◌, map, filter, false, Equal, is_lt, refl, ◌∙◌}
-use Rattle.std.specs.Prelude.{string_bytes, nat_lt}
+use Rattle.std.specs.Prelude.{string_bytes, nat_lt, ⊤}
+use Rattle.std.specs.List.{AllByRecursion}
 use Rattle.std.proofs.lemmas.Bool.{and_parts}
 use Rattle.std.specs.Ordering.{ordering_then}
 use Rattle.sqlite.specs.declared.types.Value.TheVariants.{Text}
@@ -15,6 +16,7 @@ use Rattle.desk_sql.specs.declared.versions.Version.{Version}
 use Rattle.desk_sql.specs.Calls.{MaySee, MaySeeIn}
 use Rattle.desk_sql.specs.Queries.{GivesRows}
 use Rattle.desk_sql.specs.FoundRows.{step_of, is_step_of, IsByPlace, FindsSteps, is_option_of, FindsOptions, shows_step, ten_of, item_of, is_item_after, FindsItems, shows_item, four_of, mark_at_pos, is_mark_of, IsByPosition, FindsMarks}
+use Rattle.desk_sql.specs.Readable.{ShowsOne, AreWantTexts, HaveWantTexts, HaveOptionTexts, step_shown, item_shown, mark_shown}
 use Rattle.desk_sql.specs.Texts.{find_steps_text, find_options_text, find_items_text, find_marks_text}
 use Rattle.desk_sql.specs.Meanings.{find_steps_query, find_steps_names, find_options_query, find_items_query, find_items_names, find_marks_query, find_marks_names}
 use Rattle.desk_sql.specs.declared.steps.StepFound.{StepFound}
@@ -25,7 +27,7 @@ use Rattle.desk_sql.proofs.Ordered.{whole_then, whole_last}
 use Rattle.desk_sql.proofs.Reading.{passes}
 use Rattle.desk_sql.proofs.Finding.{whole_answer}
 use Rattle.desk_sql.proofs.OneList.{one_list}
-use Rattle.desk_sql.proofs.Answering.{numbered_answers, table_answers, listed}
+use Rattle.desk_sql.proofs.Answering.{Answers, numbered_answers, table_answers, all_shown, listed}
 
 -- Options of steps.
 
@@ -96,15 +98,27 @@ same_mark : (journey at : ℕ) (m : MarkRow) → m.journey ≡ journey → whole
 same_mark journey at m of shown = let same : at ≡ m.pos = cc in rw (← of, same) refl
 
 module _ {v : Version} (old new : State) (t : Tables) (sees : MaySeeIn v old t) (journey : ℕ) (rows : List Row) where
+  steps_answered : GivesRows find_steps_text (whole journey ∷ []) old new rows
+      → Answers find_steps_query step_out (filter (is_step_of journey) t.step) rows
+  steps_answered given =
+      let got = whole_answer find_steps_text find_steps_query find_steps_names (find_steps_means v) (whole journey ∷ []) old new
+      (λ h. (sees h).schema) rows given.1 in
+      table_answers 8 find_steps_query.filter find_steps_query.project find_steps_query.order old.now.trees
+      (whole journey ∷ []) rows got.1 refl step_columns t.step (sees given.0.0.was_open).rows.step step_out (λ _. refl)
+      (is_step_of journey) (step_test journey)
+
+  -- the rows that are given are those of options
+  pub steps_given : HaveWantTexts journey t → GivesRows find_steps_text (whole journey ∷ []) old new rows
+      → AllByRecursion (ShowsOne step_shown AreWantTexts) rows
+  steps_given fits given =
+      all_shown find_steps_query step_out (filter (is_step_of journey) t.step) rows (steps_answered given)
+      (ShowsOne step_shown AreWantTexts) (λ s h. (s, refl, fits s h))
+
   pub finds_steps : (found : List StepFound) → map shows_step found ≡ map ten_of rows
       → GivesRows find_steps_text (whole journey ∷ []) old new rows → IsUnchanged old new × FindsSteps journey t found
   finds_steps found was given =
       let some = filter (is_step_of journey) t.step in
-      let got = whole_answer find_steps_text find_steps_query find_steps_names (find_steps_means v) (whole journey ∷ []) old new
-      (λ h. (sees h).schema) rows given.1 in
-      let it = table_answers 8 find_steps_query.filter find_steps_query.project find_steps_query.order old.now.trees
-      (whole journey ∷ []) rows got.1 refl step_columns t.step (sees given.0.0.was_open).rows.step step_out (λ _. refl)
-      (is_step_of journey) (step_test journey) in (
+      let it = steps_answered given in (
         given.0,
         listed find_steps_query step_out some rows it (step_of journey) shows_step ten_of found was
             (λ f s h e. same_step journey f s (eqb-true _ _ (has_filtered (is_step_of journey) t.step s h).1) e)
@@ -112,15 +126,57 @@ module _ {v : Version} (old new : State) (t : Tables) (sees : MaySeeIn v old t) 
       )
 
 module _ (old new : State) (t : Tables) (sees : MaySee old t) (journey : ℕ) (rows : List Row) where
+  options_answered : (place : ℕ) → GivesRows find_options_text (whole journey ∷ whole place ∷ []) old new rows
+      → Answers find_options_query step_out (filter (is_option_of journey place) t.step) rows
+  options_answered place given =
+      let got = whole_answer find_options_text find_options_query find_steps_names find_options_means (whole journey ∷ whole place ∷ []) old new
+      (λ h. (sees h).schema) rows given.1 in
+      table_answers 8 find_options_query.filter find_options_query.project find_options_query.order old.now.trees
+      (whole journey ∷ whole place ∷ []) rows got.1 refl step_columns t.step (sees given.0.0.was_open).rows.step step_out (λ _. refl)
+      (is_option_of journey place) (option_test journey place)
+
+  pub options_given : (place : ℕ) → HaveOptionTexts journey place t
+      → GivesRows find_options_text (whole journey ∷ whole place ∷ []) old new rows
+      → AllByRecursion (ShowsOne step_shown AreWantTexts) rows
+  options_given place fits given =
+      all_shown find_options_query step_out (filter (is_option_of journey place) t.step) rows (options_answered place given)
+      (ShowsOne step_shown AreWantTexts) (λ s h. (s, refl, fits s h))
+
+  items_answered : (after : ℕ) → GivesRows find_items_text (whole journey ∷ whole after ∷ []) old new rows
+      → Answers find_items_query item_out (filter (is_item_after journey after) t.entries) rows
+  items_answered after given =
+      let got = whole_answer find_items_text find_items_query find_items_names find_items_means (whole journey ∷ whole after ∷ []) old new
+      (λ h. (sees h).schema) rows given.1 in
+      numbered_answers 13 find_items_query.filter find_items_query.project find_items_query.order old.now.trees
+      (whole journey ∷ whole after ∷ []) rows got.1 refl (λ (e : EntryRow). e.num) entry_row t.entries (sees given.0.0.was_open).rows.entries
+      (is_item_after journey after) (item_test journey after)
+
+  pub items_given : (after : ℕ) → GivesRows find_items_text (whole journey ∷ whole after ∷ []) old new rows
+      → AllByRecursion (ShowsOne item_shown (λ _. ⊤)) rows
+  items_given after given =
+      all_shown find_items_query item_out (filter (is_item_after journey after) t.entries) rows (items_answered after given)
+      (ShowsOne item_shown (λ _. ⊤)) (λ e h. (e, refl, tt))
+
+  marks_answered : GivesRows find_marks_text (whole journey ∷ []) old new rows
+      → Answers find_marks_query mark_out (filter (is_mark_of journey) t.mark) rows
+  marks_answered given =
+      let got = whole_answer find_marks_text find_marks_query find_marks_names find_marks_means (whole journey ∷ []) old new
+      (λ h. (sees h).schema) rows given.1 in
+      table_answers 14 find_marks_query.filter find_marks_query.project find_marks_query.order old.now.trees
+      (whole journey ∷ []) rows got.1 refl mark_columns t.mark (sees given.0.0.was_open).rows.mark mark_out (λ _. refl)
+      (is_mark_of journey) (mark_test journey)
+
+  pub marks_given : GivesRows find_marks_text (whole journey ∷ []) old new rows
+      → AllByRecursion (ShowsOne mark_shown (λ _. ⊤)) rows
+  marks_given given =
+      all_shown find_marks_query mark_out (filter (is_mark_of journey) t.mark) rows (marks_answered given)
+      (ShowsOne mark_shown (λ _. ⊤)) (λ m h. (m, refl, tt))
+
   pub finds_options : (place : ℕ) (found : List StepFound) → map shows_step found ≡ map ten_of rows
       → GivesRows find_options_text (whole journey ∷ whole place ∷ []) old new rows → IsUnchanged old new × FindsOptions journey place t found
   finds_options place found was given =
       let some = filter (is_option_of journey place) t.step in
-      let got = whole_answer find_options_text find_options_query find_steps_names find_options_means (whole journey ∷ whole place ∷ []) old new
-      (λ h. (sees h).schema) rows given.1 in
-      let it = table_answers 8 find_options_query.filter find_options_query.project find_options_query.order old.now.trees
-      (whole journey ∷ whole place ∷ []) rows got.1 refl step_columns t.step (sees given.0.0.was_open).rows.step step_out (λ _. refl)
-      (is_option_of journey place) (option_test journey place) in (
+      let it = options_answered place given in (
         given.0,
         listed find_options_query step_out some rows it (step_of journey) shows_step ten_of found was
             (λ f s h e.
@@ -134,11 +190,7 @@ module _ (old new : State) (t : Tables) (sees : MaySee old t) (journey : ℕ) (r
   finds_items after found was given =
       let some = filter (is_item_after journey after) t.entries in
       let table = (sees given.0.0.was_open).rows.entries in
-      let got = whole_answer find_items_text find_items_query find_items_names find_items_means (whole journey ∷ whole after ∷ []) old new
-      (λ h. (sees h).schema) rows given.1 in
-      let it = numbered_answers 13 find_items_query.filter find_items_query.project find_items_query.order old.now.trees
-      (whole journey ∷ whole after ∷ []) rows got.1 refl (λ (e : EntryRow). e.num) entry_row t.entries table
-      (is_item_after journey after) (item_test journey after) in
+      let it = items_answered after given in
       let all = listed find_items_query item_out some rows it (item_of journey) shows_item four_of found was
       (λ f e h shown.
       let both = and_parts (e.journey == journey) (nat_lt after e.num) (has_filtered (is_item_after journey after) t.entries e h).1 in
@@ -153,11 +205,7 @@ module _ (old new : State) (t : Tables) (sees : MaySee old t) (journey : ℕ) (r
       → GivesRows find_marks_text (whole journey ∷ []) old new rows → IsUnchanged old new × FindsMarks journey t found
   finds_marks found was given =
       let some = filter (is_mark_of journey) t.mark in
-      let got = whole_answer find_marks_text find_marks_query find_marks_names find_marks_means (whole journey ∷ []) old new
-      (λ h. (sees h).schema) rows given.1 in
-      let it = table_answers 14 find_marks_query.filter find_marks_query.project find_marks_query.order old.now.trees
-      (whole journey ∷ []) rows got.1 refl mark_columns t.mark (sees given.0.0.was_open).rows.mark mark_out (λ _. refl)
-      (is_mark_of journey) (mark_test journey) in (
+      let it = marks_answered given in (
         given.0,
         listed find_marks_query mark_out some rows it (mark_at_pos journey) whole (λ r. column r 0) found was
             (λ at m h e. same_mark journey at m (eqb-true _ _ (has_filtered (is_mark_of journey) t.mark m h).1) e)

@@ -1,5 +1,6 @@
 -- The batch with a name. For `find_batch`.
 use Rattle.std.proofs.Common.{◌≡◌, ℕ, ℤ, List, [], ◌∷◌, filter, true, Some, None, IsTrue, refl, sym, ap, subst, ◌∙◌}
+use Rattle.std.specs.Prelude.{⊤}
 use Rattle.std.proofs.lemmas.Slice.Eq.{bytes_eq-Decides}
 use Rattle.sqlite.specs.declared.types.Value.TheVariants.{Text, Blob}
 use Rattle.sqlite.specs.Order.{Row}
@@ -13,6 +14,7 @@ use Rattle.desk_sql.specs.Rows.{whole, Tables, BatchRow, batch_columns}
 use Rattle.desk_sql.specs.Calls.{MaySee}
 use Rattle.desk_sql.specs.Queries.{GivesRow}
 use Rattle.desk_sql.specs.FoundRows.{is_named, batch_of, FindsBatch, shows_batch, two_of}
+use Rattle.desk_sql.specs.Readable.{ShowsOne, batch_shown}
 use Rattle.desk_sql.specs.Texts.{find_batch_text}
 use Rattle.desk_sql.specs.Meanings.{find_batch_query, find_batch_names}
 use Rattle.desk_sql.specs.declared.batches.BatchFound.{BatchFound}
@@ -20,7 +22,7 @@ use Rattle.desk_sql.proofs.Meaning.{find_batch_means}
 use Rattle.desk_sql.proofs.Testing.{eq_text, and_true}
 use Rattle.desk_sql.proofs.Reading.{passes}
 use Rattle.desk_sql.proofs.Finding.{first_row, no_row}
-use Rattle.desk_sql.proofs.Answering.{Answers, table_answers, first_of, none_of}
+use Rattle.desk_sql.proofs.Answering.{Answers, table_answers, all_shown, first_of, none_of}
 
 abbrev out : BatchRow → Output
 out b = ([], whole b.num ∷ Blob b.content ∷ [])
@@ -52,6 +54,14 @@ module _ (old new : State) (t : Tables) (sees : MaySee old t) (name : List ℕ) 
       let it = first_of find_batch_query out some row got.1.0 (batches_found (row ∷ got.1.0) given.0.0.was_open got.1.1) in
       let passed = (has_filtered (is_named name) t.batch it.0 it.1).1 in
       (given.0, subst (Has some) (sym (same_batch name f it.0 passed (read ∙ ap two_of it.2))) it.1)
+
+  -- the row that is given is that of a batch
+  pub batch_given : (row : Row) → GivesRow find_batch_text (Text name ∷ []) old new (Some row) → ShowsOne batch_shown (λ _. ⊤) row
+  batch_given row given =
+      let got = first_row find_batch_text find_batch_query find_batch_names find_batch_means (Text name ∷ []) old new
+      (λ h. (sees h).schema) row given.1 in
+      (all_shown find_batch_query out (filter (is_named name) t.batch) (row ∷ got.1.0)
+      (batches_found (row ∷ got.1.0) given.0.0.was_open got.1.1) (ShowsOne batch_shown (λ _. ⊤)) (λ b h. (b, refl, tt))).0
 
   pub finds_no_batch : GivesRow find_batch_text (Text name ∷ []) old new None → IsUnchanged old new × FindsBatch name t None
   finds_no_batch given =

@@ -1,5 +1,5 @@
 -- The statements on meta. For the functions of `meta`.
-use Rattle.std.proofs.Common.{◌≡◌, ◌<◌, inl, inr, ℕ, pos, List, [], ◌∷◌, ◌++◌, map, filter, true, Some, arith, Ok, Err, Result, OnOk, refl, sym, ap, subst, ◌∙◌}
+use Rattle.std.proofs.Common.{◌≡◌, ◌<◌, inl, inr, ℕ, pos, List, [], ◌∷◌, ◌++◌, map, filter, true, Some, None, arith, Ok, Err, Result, OnOk, refl, sym, ap, subst, ◌∙◌}
 use Rattle.sqlite.specs.declared.error.Error.{Error}
 use Rattle.sqlite.specs.Ops.{binary}
 use Rattle.sqlite.specs.Order.{Row, value_cmp}
@@ -19,6 +19,7 @@ use Rattle.desk_sql.specs.declared.versions.Version.{Version}
 use Rattle.desk_sql.specs.Calls.{MayRun, MaySeeIn, Makes}
 use Rattle.desk_sql.specs.Queries.{GivesRow}
 use Rattle.desk_sql.specs.FoundRows.{meta_of, IsMeta, shows_meta, three_of}
+use Rattle.desk_sql.specs.Readable.{HasMeta, meta_shown}
 use Rattle.desk_sql.specs.declared.meta.Meta.{Meta}
 use Rattle.desk_sql.specs.Changes.{counts, at_first, adds_meta}
 use Rattle.desk_sql.specs.Texts.{insert_meta_text, update_meta_text, read_meta_text}
@@ -30,8 +31,8 @@ use Rattle.desk_sql.proofs.Reading.{passes}
 use Rattle.desk_sql.proofs.Framing.{ready_of, makes_at, with_meta}
 use Rattle.desk_sql.proofs.Tables.{numbered_changed, numbered_last, own_rise}
 use Rattle.desk_sql.proofs.Updating.{updated}
-use Rattle.desk_sql.proofs.Finding.{first_row}
-use Rattle.desk_sql.proofs.Answering.{numbered_answers, first_of}
+use Rattle.desk_sql.proofs.Finding.{first_row, no_row}
+use Rattle.desk_sql.proofs.Answering.{numbered_answers, first_of, none_of}
 
 abbrev pub meta_params : MetaRow → Row
 meta_params m = whole m.version ∷ whole m.events ∷ whole m.journeys ∷ []
@@ -107,6 +108,26 @@ finds_meta v old new t sees row r read given =
       only_one t.meta it.0 shown.rise (subst (λ ms. Has ms it.0) (all_pass t.meta) it.1)
           ∙ ap (λ m. m ∷ []) (same_meta r it.0 (read ∙ ap three_of it.2)),
     )
+
+-- the row that is given is that of meta
+pub meta_given : (v : Version) (old new : State) (t : Tables) → MaySeeIn v old t → (row : Row)
+    → GivesRow read_meta_text [] old new (Some row) → (m : MetaRow) × (row ≡ meta_shown m)
+meta_given v old new t sees row given =
+    let here = given.0.0.was_open in
+    let got = first_row read_meta_text read_meta_query read_meta_names (read_meta_means v) [] old new (λ h. (sees h).schema) row given.1 in
+    let all = numbered_answers 0 read_meta_query.filter read_meta_query.project [] old.now.trees [] (row ∷ got.1.0) got.1.1 refl
+    (λ _. 1) meta_row t.meta (sees here).rows.meta (λ _. true) (meta_passes []) in
+    let it = first_of read_meta_query out (filter (λ _. true) t.meta) row got.1.0 all in (it.0, it.2)
+
+-- where meta has a row, one is given
+pub meta_there : (v : Version) (old new : State) (t : Tables) → MaySeeIn v old t → HasMeta t → ¬ GivesRow read_meta_text [] old new None
+meta_there v old new t sees has given =
+    let here = given.0.0.was_open in
+    let got = no_row read_meta_text read_meta_query read_meta_names (read_meta_means v) [] old new (λ h. (sees h).schema) _ refl given.1 in
+    let all = numbered_answers 0 read_meta_query.filter read_meta_query.project [] old.now.trees [] [] got.1 refl
+    (λ _. 1) meta_row t.meta (sees here).rows.meta (λ _. true) (meta_passes []) in
+    let none : t.meta ≡ [] = sym (all_pass t.meta) ∙ none_of read_meta_query out (filter (λ _. true) t.meta) all in
+    let bad : has.0 ∷ [] ≡ [] = sym has.1 ∙ none in cc
 
 -- The first row.
 

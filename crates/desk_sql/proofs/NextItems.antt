@@ -1,6 +1,6 @@
 -- The first item of a journey after an event. For `item_by_item` and `old_items`.
 use Rattle.std.proofs.Common.{◌≡◌, inl, inr, ℕ, ◌≤◌, ◌==◌, List, [], ◌∷◌, filter, Some, None, IsTrue, refl, sym, ap, subst, ◌∙◌, arith, eqb-true}
-use Rattle.std.specs.Prelude.{nat_lt}
+use Rattle.std.specs.Prelude.{nat_lt, ⊤}
 use Rattle.std.proofs.lemmas.Bool.{and_parts}
 use Rattle.sqlite.specs.Order.{Row}
 use Rattle.sqlite.specs.Query.{IsAnswer}
@@ -15,13 +15,14 @@ use Rattle.desk_sql.specs.Rows.{whole, Tables, EntryRow, entry_row, items_tree}
 use Rattle.desk_sql.specs.Calls.{MaySeeIn}
 use Rattle.desk_sql.specs.Queries.{GivesRow}
 use Rattle.desk_sql.specs.FoundRows.{is_item_after, FindsNextItem, shows_item, four_of}
+use Rattle.desk_sql.specs.Readable.{ShowsOne, item_shown}
 use Rattle.desk_sql.specs.Meanings.{find_items_in, find_items_names}
 use Rattle.desk_sql.specs.declared.items.ItemFound.{ItemFound}
 use Rattle.desk_sql.proofs.Meaning.{MeansIn}
 use Rattle.desk_sql.proofs.Listings.{item_out, item_test, same_item}
 use Rattle.desk_sql.proofs.Ordered.{whole_last}
 use Rattle.desk_sql.proofs.Finding.{first_row, no_row}
-use Rattle.desk_sql.proofs.Answering.{Answers, numbered_answers, first_of, none_of}
+use Rattle.desk_sql.proofs.Answering.{Answers, numbered_answers, all_shown, first_of, none_of}
 
 items_there : (v : Version) (db : Trees) → overlay db [] (items_tree v) ≡ db (items_tree v)
 items_there One db = refl
@@ -53,6 +54,14 @@ module _ {v : Version} (text : List ℕ) (means : MeansIn v text (find_items_in 
         | inr up ↦ whole_last it.0.num y.num up
       ] in
       (given.0, subst (λ (e : EntryRow). Has some e × ((y : EntryRow) → Has some y → e.num ≤ y.num)) (sym same) (it.1, least))
+
+  -- the row that is given is that of an item
+  pub next_given : (row : Row) → GivesRow text (whole journey ∷ whole after ∷ []) old new (Some row) → ShowsOne item_shown (λ _. ⊤) row
+  next_given row given =
+      let got = first_row text (find_items_in v) find_items_names means (whole journey ∷ whole after ∷ []) old new
+      (λ h. (sees h).schema) row given.1 in
+      (all_shown (find_items_in v) item_out (filter (is_item_after journey after) t.entries) (row ∷ got.1.0)
+      (items_answered (row ∷ got.1.0) given.0.0.was_open got.1.1) (ShowsOne item_shown (λ _. ⊤)) (λ e h. (e, refl, tt))).0
 
   pub finds_no_next : GivesRow text (whole journey ∷ whole after ∷ []) old new None
       → IsUnchanged old new × FindsNextItem journey after t None

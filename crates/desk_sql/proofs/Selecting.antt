@@ -106,6 +106,13 @@ module _ (text : List ℕ) (selects : reads (first text) ≡ true) (params : Row
   row_fails_quietly e (inl h) = fails_quietly e h
   row_fails_quietly e (inr h) = inl (shown_same [] h.1)
 
+-- a query for one row that gives another error than that there is none has failed
+pub row_fails : (text : List ℕ) (params : Row) (old new : State) (e : Error) → e ≢ QueryReturnedNoRows
+    → QueriesRow text params old new (Err e) → FailsToQuery text params old new e
+unfolding QueriesRow
+row_fails text params old new e other (inl h) = h
+row_fails text params old new e other (inr h) = absurd (other h.0)
+
 not_store : (cause : StoreError) → store_error cause ≢ QueryReturnedNoRows
 not_store OutOfMemory e = cc
 not_store Io e = cc
@@ -151,6 +158,10 @@ given_as text params old new found row is given = subst (GivesRow text params ol
 pub ok_then : {V E : Type 0} (P Q : V → Type 0) (r : Result V E) → ((v : V) → P v → Q v) → IfOk r P → IfOk r Q
 ok_then P Q (Ok v) step h = step v h
 ok_then P Q (Err e) step h = h
+
+pub err_then : {V E : Type 0} (P Q : E → Type 0) (r : Result V E) → ((e : E) → P e → Q e) → IfErr r P → IfErr r Q
+err_then P Q (Ok v) step h = h
+err_then P Q (Err e) step h = step e h
 
 -- what follows from the postcondition of a success and from that of a failure follows in each case
 pub either_way : {V E : Type 0} (C : Type 0) (P : V → Type 0) (Q : E → Type 0) (r : Result V E) → ((v : V) → P v → C) → ((e : E) → Q e → C)

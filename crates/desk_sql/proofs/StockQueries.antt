@@ -1,6 +1,7 @@
 -- The queries on cells. For `find_nights` and `find_stock`.
 use Rattle.std.proofs.Common.{◌≡◌, ℕ, ℤ, eqb-true, pos, List, [], ◌∷◌, map, filter, true, false, is_lt, nat_cmp, refl, ap, subst, ◌∙◌, arith}
-use Rattle.std.specs.Prelude.{string_bytes}
+use Rattle.std.specs.Prelude.{string_bytes, ⊤}
+use Rattle.std.specs.List.{AllByRecursion}
 use Rattle.std.specs.Ordering.{int_cmp}
 use Rattle.std.proofs.lemmas.Int.{ints}
 use Rattle.std.proofs.lemmas.Bool.{and_parts}
@@ -11,6 +12,7 @@ use Rattle.sqlite.specs.Order.{Row, value_cmp}
 use Rattle.sqlite.specs.Query.{Output, output_cmp}
 use Rattle.sqlite.specs.State.{State, IsUnchanged}
 use Rattle.sqlite_value.proofs.OrderLemmas.{value_cmp-Int, value_cmp-Text, then-Equal}
+use Rattle.sqlite_rules.specs.Lists.{Has}
 use Rattle.sqlite_rules.proofs.ListLemmas.{has_filtered}
 use Rattle.desk_sql.specs.Lists.{numbered_row, IsListed}
 use Rattle.desk_sql.specs.Rows.{whole, Tables, StockRow, stock_columns}
@@ -18,6 +20,8 @@ use Rattle.desk_sql.specs.Calls.{MaySee}
 use Rattle.desk_sql.specs.Queries.{GivesRows}
 use Rattle.desk_sql.specs.FoundRows.{three_of, six_of}
 use Rattle.desk_sql.specs.Stock.{is_within, night_of, IsByNight, FindsNights, shows_night, stock_of, cell_cmp, IsByCell, FindsStock, shows_cell}
+use Rattle.desk_sql.specs.Readable.{ShowsOne, AreCellTexts, HaveCellTexts, night_shown}
+use Rattle.desk_sql.specs.RemainingRows.{stock_shown}
 use Rattle.desk_sql.specs.Texts.{find_nights_text, find_stock_text}
 use Rattle.desk_sql.specs.Meanings.{find_nights_query, find_nights_names, find_stock_query, find_stock_names}
 use Rattle.desk_sql.specs.declared.stock.NightRange.{NightRange}
@@ -29,7 +33,7 @@ use Rattle.desk_sql.proofs.Testing.{eq_whole, eq_text, ge_whole, le_whole, and_t
 use Rattle.desk_sql.proofs.Ordered.{whole_last}
 use Rattle.desk_sql.proofs.Reading.{passes}
 use Rattle.desk_sql.proofs.Finding.{whole_answer}
-use Rattle.desk_sql.proofs.Answering.{table_answers, listed}
+use Rattle.desk_sql.proofs.Answering.{Answers, table_answers, all_shown, listed}
 
 abbrev pub range_params : NightRange → Row
 range_params r = whole r.kind ∷ Text r.supplier.now ∷ Text r.product.now ∷ whole r.first ∷ whole r.last ∷ []
@@ -86,15 +90,40 @@ all_pass [] = refl
 all_pass (x ∷ xs) = ap (λ rest. x ∷ rest) (all_pass xs)
 
 module _ (old new : State) (t : Tables) (sees : MaySee old t) (rows : List Row) where
+  nights_answered : (r : NightRange) → GivesRows find_nights_text (range_params r) old new rows
+      → Answers find_nights_query night_out (filter (is_within r) t.stock) rows
+  nights_answered r given =
+      let got = whole_answer find_nights_text find_nights_query find_nights_names find_nights_means (range_params r) old new
+      (λ h. (sees h).schema) rows given.1 in
+      table_answers 1 find_nights_query.filter find_nights_query.project find_nights_query.order old.now.trees
+      (range_params r) rows got.1 refl stock_columns t.stock (sees given.0.0.was_open).rows.stock night_out (λ _. refl)
+      (is_within r) (range_test r)
+
+  pub nights_given : (r : NightRange) → GivesRows find_nights_text (range_params r) old new rows
+      → AllByRecursion (ShowsOne night_shown (λ _. ⊤)) rows
+  nights_given r given =
+      all_shown find_nights_query night_out (filter (is_within r) t.stock) rows (nights_answered r given)
+      (ShowsOne night_shown (λ _. ⊤)) (λ s h. (s, refl, tt))
+
+  stock_answered : GivesRows find_stock_text [] old new rows → Answers find_stock_query cell_out (filter (λ _. true) t.stock) rows
+  stock_answered given =
+      let got = whole_answer find_stock_text find_stock_query find_stock_names (find_stock_means Two) [] old new
+      (λ h. (sees h).schema) rows given.1 in
+      table_answers 1 [] find_stock_query.project find_stock_query.order old.now.trees
+      [] rows got.1 refl stock_columns t.stock (sees given.0.0.was_open).rows.stock cell_out (λ _. refl)
+      (λ _. true) (λ _. refl)
+
+  pub stock_given : HaveCellTexts t → GivesRows find_stock_text [] old new rows
+      → AllByRecursion (ShowsOne stock_shown AreCellTexts) rows
+  stock_given fits given =
+      all_shown find_stock_query cell_out (filter (λ _. true) t.stock) rows (stock_answered given)
+      (ShowsOne stock_shown AreCellTexts) (λ s h. (s, refl, fits s (subst (λ xs. Has xs s) (all_pass t.stock) h)))
+
   pub finds_nights : (r : NightRange) (found : List NightFound) → map shows_night found ≡ map three_of rows
       → GivesRows find_nights_text (range_params r) old new rows → IsUnchanged old new × FindsNights r t found
   finds_nights r found was given =
       let some = filter (is_within r) t.stock in
-      let got = whole_answer find_nights_text find_nights_query find_nights_names find_nights_means (range_params r) old new
-      (λ h. (sees h).schema) rows given.1 in
-      let it = table_answers 1 find_nights_query.filter find_nights_query.project find_nights_query.order old.now.trees
-      (range_params r) rows got.1 refl stock_columns t.stock (sees given.0.0.was_open).rows.stock night_out (λ _. refl)
-      (is_within r) (range_test r) in (
+      let it = nights_answered r given in (
         given.0,
         listed find_nights_query night_out some rows it (night_of r) shows_night three_of found was
             (λ n s h e. same_night r n s (has_filtered (is_within r) t.stock s h).1 e)
@@ -104,11 +133,7 @@ module _ (old new : State) (t : Tables) (sees : MaySee old t) (rows : List Row) 
   pub finds_stock : (found : List CellFound) → map shows_cell found ≡ map six_of rows
       → GivesRows find_stock_text [] old new rows → IsUnchanged old new × FindsStock t found
   finds_stock found was given =
-      let got = whole_answer find_stock_text find_stock_query find_stock_names (find_stock_means Two) [] old new
-      (λ h. (sees h).schema) rows given.1 in
-      let it = table_answers 1 [] find_stock_query.project find_stock_query.order old.now.trees
-      [] rows got.1 refl stock_columns t.stock (sees given.0.0.was_open).rows.stock cell_out (λ _. refl)
-      (λ _. true) (λ _. refl) in (
+      let it = stock_answered given in (
         given.0,
         subst (λ xs. IsListed IsByCell xs (map stock_of found)) (all_pass t.stock)
             (listed find_stock_query cell_out (filter (λ _. true) t.stock) rows it stock_of shows_cell six_of found was

@@ -1,10 +1,12 @@
 pub mod Calls
+pub mod Causes
 pub mod Changes
 pub mod FoundRows
 pub mod RemainingRows
 pub mod Lists
 pub mod Meanings
 pub mod Queries
+pub mod Readable
 pub mod Rows
 pub mod Schema
 pub mod Stock

@@ -1,9 +1,12 @@
 //! Replies that are kept under an agent's key.
 
-ghost use Rattle.std.specs.Prelude.{◌≡◌, false, IfOk};
+ghost use Rattle.std.specs.Prelude.{◌≡◌, false, IfOk, IfErr};
 ghost use Rattle.desk_sql.specs.Calls.{Writes, StaysInside, WasOpen, CommitsNothing, LeavesNoMore, Reads, ChangesNothing};
 ghost use Rattle.desk_sql.specs.Changes.{adds_answer, kept};
 ghost use Rattle.desk_sql.specs.FoundRows.{FindsAnswer, shows_answer, two_of};
+ghost use Rattle.desk_sql.specs.Causes.{FailsForReason, IsMemory};
+ghost use Rattle.desk_sql.specs.Readable.{HasReplyText, IsReplyText, answer_shown};
+ghost use Rattle.desk_sql.specs.Rows.{AnswerRow};
 
 use crate::queries::first_row;
 use sqlite::types::ValueRef;
@@ -19,7 +22,9 @@ pub struct KeptAnswer {
 }
 
 fn answer_of(row: &Row) -> Result<KeptAnswer, Error>
-    ensures { IfOk result (λ k. shows_answer k ≡ two_of row.now) }
+    ensures shown { IfOk result (λ k. shows_answer k ≡ two_of row.now) }
+
+    ensures reason { (x : AnswerRow) → row.now ≡ answer_shown x → IsReplyText x → IfErr result IsMemory }
 {
     let ask = row.get(0)?;
     let reply = row.get(1)?;
@@ -34,6 +39,8 @@ pub fn find_answer<'x, S: Alter>(
 ) -> Result<Option<KeptAnswer>, Error>
     ensures found { Reads S.Store conn.old conn.new result (FindsAnswer agent.now mark.now) }
     ensures quiet { ChangesNothing S.Store conn.old conn.new }
+    ensures reason { FailsForReason S.Store conn.old conn.new result
+        (HasReplyText agent.now mark.now) }
     ensures mode { conn.old.in_transaction ≡ false → conn.new.in_transaction ≡ false }
     ensures survives { LeavesNoMore S.Store conn.old conn.new }
 {

@@ -1,9 +1,12 @@
 //! Loaded batches.
 
-ghost use Rattle.std.specs.Prelude.{◌≡◌, ◌<◌, ◌^◌, false, IfOk};
+ghost use Rattle.std.specs.Prelude.{◌≡◌, ◌<◌, ◌^◌, false, IfOk, IfErr};
 ghost use Rattle.desk_sql.specs.Calls.{Writes, StaysInside, WasOpen, CommitsNothing, LeavesNoMore, Reads, ChangesNothing};
 ghost use Rattle.desk_sql.specs.Changes.{adds_batch};
 ghost use Rattle.desk_sql.specs.FoundRows.{FindsBatch, shows_batch, two_of};
+ghost use Rattle.desk_sql.specs.Causes.{FailsForReason, IsMemory};
+ghost use Rattle.desk_sql.specs.Readable.{Any, batch_shown};
+ghost use Rattle.desk_sql.specs.Rows.{BatchRow};
 
 use crate::queries::first_row;
 use sqlite::types::ValueRef;
@@ -19,7 +22,9 @@ pub struct BatchFound {
 }
 
 fn read_batch(row: &Row) -> Result<BatchFound, Error>
-    ensures { IfOk result (λ b. shows_batch b ≡ two_of row.now) }
+    ensures shown { IfOk result (λ b. shows_batch b ≡ two_of row.now) }
+
+    ensures reason { (x : BatchRow) → row.now ≡ batch_shown x → IfErr result IsMemory }
 {
     let num = row.get(0)?;
     let content = row.get(1)?;
@@ -33,6 +38,7 @@ pub fn find_batch<S: Alter>(
 ) -> Result<Option<BatchFound>, Error>
     ensures found { Reads S.Store conn.old conn.new result (FindsBatch name.now) }
     ensures quiet { ChangesNothing S.Store conn.old conn.new }
+    ensures reason { FailsForReason S.Store conn.old conn.new result Any }
     ensures mode { conn.old.in_transaction ≡ false → conn.new.in_transaction ≡ false }
     ensures survives { LeavesNoMore S.Store conn.old conn.new }
 {

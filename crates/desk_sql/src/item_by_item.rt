@@ -5,6 +5,8 @@
 ghost use Rattle.std.specs.Prelude.{◌≡◌, ◌<◌, ◌^◌, false};
 ghost use Rattle.desk_sql.specs.Calls.{Reads, ChangesNothing, LeavesNoMore};
 ghost use Rattle.desk_sql.specs.FoundRows.{FindsNextItem};
+ghost use Rattle.desk_sql.specs.Causes.{FailsForReason};
+ghost use Rattle.desk_sql.specs.Readable.{Any};
 
 use crate::items::{ItemFound, read_item};
 use crate::queries::first_row;
@@ -22,6 +24,7 @@ pub fn next_item<S: Alter>(
 
     ensures found { Reads S.Store conn.old conn.new result (FindsNextItem journey after) }
     ensures quiet { ChangesNothing S.Store conn.old conn.new }
+    ensures reason { FailsForReason S.Store conn.old conn.new result Any }
     ensures mode { conn.old.in_transaction ≡ false → conn.new.in_transaction ≡ false }
     ensures survives { LeavesNoMore S.Store conn.old conn.new }
 {

@@ -1,9 +1,13 @@
 //! The items of journeys: transactions, compensations, turns, and save-points taken at run time.
 
-ghost use Rattle.std.specs.Prelude.{◌≡◌, ◌<◌, ◌^◌, false, map, IfOk};
+ghost use Rattle.std.specs.Prelude.{◌≡◌, ◌<◌, ◌^◌, false, map, IfOk, IfErr, ⊤};
 ghost use Rattle.desk_sql.specs.Calls.{WritesWhere, StaysInside, WasOpen, CommitsNothing, LeavesNoMore, Reads, ChangesNothing};
 ghost use Rattle.desk_sql.specs.Changes.{IsSmallItem, AreItemsBelow, adds_item};
 ghost use Rattle.desk_sql.specs.FoundRows.{FindsItems, shows_item, four_of};
+ghost use Rattle.std.specs.List.{AllByRecursion};
+ghost use Rattle.desk_sql.specs.Causes.{FailsForReason, IsMemory};
+ghost use Rattle.desk_sql.specs.Readable.{Any, ShowsOne, item_shown};
+ghost use Rattle.desk_sql.specs.Rows.{EntryRow};
 
 use crate::queries::all_rows;
 use sqlite::types::ValueRef;
@@ -24,7 +28,9 @@ pub struct ItemFound {
 }
 
 pub(crate) fn read_item(row: &Row) -> Result<ItemFound, Error>
-    ensures { IfOk result (λ i. shows_item i ≡ four_of row.now) }
+    ensures shown { IfOk result (λ i. shows_item i ≡ four_of row.now) }
+
+    ensures reason { (x : EntryRow) → row.now ≡ item_shown x → IfErr result IsMemory }
 {
     let num = row.get(0)?;
     let item = row.get(1)?;
@@ -34,7 +40,9 @@ pub(crate) fn read_item(row: &Row) -> Result<ItemFound, Error>
 }
 
 fn read_items(alloc: Global, rows: &[Row]) -> Result<Vec<ItemFound>, Error>
-    ensures { IfOk result (λ items. map shows_item items.items ≡ map four_of rows.now) }
+    ensures shown { IfOk result (λ items. map shows_item items.items ≡ map four_of rows.now) }
+
+    ensures reason { AllByRecursion (ShowsOne item_shown (λ _. ⊤)) rows.now → IfErr result IsMemory }
 {
     let mut items = Vec::new(alloc);
     for row in rows {
@@ -57,6 +65,7 @@ pub fn find_items<S: Alter>(
     ensures found { Reads S.Store conn.old conn.new result
         (λ t found. FindsItems journey after t found.items) }
     ensures quiet { ChangesNothing S.Store conn.old conn.new }
+    ensures reason { FailsForReason S.Store conn.old conn.new result Any }
     ensures mode { conn.old.in_transaction ≡ false → conn.new.in_transaction ≡ false }
     ensures survives { LeavesNoMore S.Store conn.old conn.new }
 {

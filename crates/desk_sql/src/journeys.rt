@@ -1,9 +1,13 @@
 //! Journeys, each with its cursor.
 
-ghost use Rattle.std.specs.Prelude.{◌≡◌, ◌<◌, ◌^◌, false, IfOk};
+ghost use Rattle.std.specs.Prelude.{◌≡◌, ◌<◌, ◌^◌, false, IfOk, IfErr};
 ghost use Rattle.desk_sql.specs.Calls.{Writes, WritesWhere, StaysInside, WasOpen, CommitsNothing, LeavesNoMore, Reads, ReadsEach, ChangesNothing};
 ghost use Rattle.desk_sql.specs.Changes.{AreJourneysBelow, adds_journey, begun, IsSmallCursor, moves_journey};
 ghost use Rattle.desk_sql.specs.FoundRows.{FindsJourney, FindsUnfinished, shows_cursor, cursor_of, shows_journey, nine_of};
+ghost use Rattle.desk_sql.specs.Causes.{FailsForReason, FailsForReasonEach, IsMemory};
+ghost use Rattle.desk_sql.specs.Readable.{IsAgentText, HasAgentText, HaveAgentTexts};
+ghost use Rattle.desk_sql.specs.RemainingRows.{journey_shown};
+ghost use Rattle.desk_sql.specs.Rows.{JourneyRow};
 
 use crate::queries::first_row;
 use sqlite::types::ValueRef;
@@ -38,7 +42,9 @@ pub struct JourneyFound {
 }
 
 fn read_cursor(row: &Row) -> Result<Cursor, Error>
-    ensures { IfOk result (λ c. shows_cursor c ≡ cursor_of row.now) }
+    ensures shown { IfOk result (λ c. shows_cursor c ≡ cursor_of row.now) }
+
+    ensures reason { (x : JourneyRow) → row.now ≡ journey_shown x → IfErr result IsMemory }
 {
     let pos = row.get(5)?;
     let phase = row.get(6)?;
@@ -53,7 +59,9 @@ fn read_cursor(row: &Row) -> Result<Cursor, Error>
 }
 
 pub(crate) fn read_journey(row: &Row) -> Result<JourneyFound, Error>
-    ensures { IfOk result (λ j. shows_journey j ≡ nine_of row.now) }
+    ensures shown { IfOk result (λ j. shows_journey j ≡ nine_of row.now) }
+
+    ensures reason { (x : JourneyRow) → row.now ≡ journey_shown x → IsAgentText x → IfErr result IsMemory }
 {
     let id = row.get(0)?;
     let num = row.get(1)?;
@@ -80,6 +88,7 @@ pub fn find_journey<S: Alter>(
 
     ensures found { ReadsEach S.Store conn.old conn.new result (FindsJourney id) }
     ensures quiet { ChangesNothing S.Store conn.old conn.new }
+    ensures reason { FailsForReasonEach S.Store conn.old conn.new result (HasAgentText id) }
     ensures mode { conn.old.in_transaction ≡ false → conn.new.in_transaction ≡ false }
     ensures survives { LeavesNoMore S.Store conn.old conn.new }
 {
@@ -105,6 +114,7 @@ pub fn first_unfinished<S: Alter>(
 
     ensures found { Reads S.Store conn.old conn.new result (FindsUnfinished after) }
     ensures quiet { ChangesNothing S.Store conn.old conn.new }
+    ensures reason { FailsForReason S.Store conn.old conn.new result (HaveAgentTexts after) }
     ensures mode { conn.old.in_transaction ≡ false → conn.new.in_transaction ≡ false }
     ensures survives { LeavesNoMore S.Store conn.old conn.new }
 {

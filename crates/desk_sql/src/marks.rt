@@ -1,11 +1,14 @@
 //! Save-points that were taken at run time and still stand.
 
-ghost use Rattle.std.specs.Prelude.{◌≡◌, ◌<◌, ◌^◌, false, map, IfOk, ◌∷◌, []};
+ghost use Rattle.std.specs.Prelude.{◌≡◌, ◌<◌, ◌^◌, false, map, IfOk, ◌∷◌, [], IfErr, ⊤};
 ghost use Rattle.sqlite.specs.Order.{column};
 ghost use Rattle.desk_sql.specs.Calls.{Writes, StaysInside, WasOpen, CommitsNothing, LeavesNoMore, Reads, ChangesNothing};
 ghost use Rattle.desk_sql.specs.Changes.{adds_mark, drops_mark};
 ghost use Rattle.desk_sql.specs.FoundRows.{FindsMarks};
 ghost use Rattle.desk_sql.specs.Rows.{whole};
+ghost use Rattle.std.specs.List.{AllByRecursion};
+ghost use Rattle.desk_sql.specs.Causes.{FailsForReason, IsMemory};
+ghost use Rattle.desk_sql.specs.Readable.{Any, ShowsOne, mark_shown};
 
 use crate::queries::all_rows;
 use sqlite::types::ValueRef;
@@ -13,7 +16,9 @@ use sqlite::{Alter, Connection, Error, Row, Transaction};
 use std::alloc::Global;
 
 fn read_marks(alloc: Global, rows: &[Row]) -> Result<Vec<u64>, Error>
-    ensures { IfOk result (λ marks. map whole marks.items ≡ map (λ r. column r 0) rows.now) }
+    ensures shown { IfOk result (λ marks. map whole marks.items ≡ map (λ r. column r 0) rows.now) }
+
+    ensures reason { AllByRecursion (ShowsOne mark_shown (λ _. ⊤)) rows.now → IfErr result IsMemory }
 {
     let mut marks = Vec::new(alloc);
     for row in rows {
@@ -34,6 +39,7 @@ pub fn find_marks<S: Alter>(
     ensures found { Reads S.Store conn.old conn.new result
         (λ t found. FindsMarks journey t found.items) }
     ensures quiet { ChangesNothing S.Store conn.old conn.new }
+    ensures reason { FailsForReason S.Store conn.old conn.new result Any }
     ensures mode { conn.old.in_transaction ≡ false → conn.new.in_transaction ≡ false }
     ensures survives { LeavesNoMore S.Store conn.old conn.new }
 {

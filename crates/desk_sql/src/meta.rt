@@ -1,9 +1,12 @@
 //! The one row of `meta`: the version of the schema, the number of events, and the number of the last journey.
 
-ghost use Rattle.std.specs.Prelude.{◌≡◌, ◌<◌, ◌^◌, false, IfOk};
+ghost use Rattle.std.specs.Prelude.{◌≡◌, ◌<◌, ◌^◌, false, IfOk, IfErr};
 ghost use Rattle.desk_sql.specs.Calls.{Writes, WritesWhere, StaysInside, WasOpen, CommitsNothing, LeavesNoMore, ReadsEach, ChangesNothing};
 ghost use Rattle.desk_sql.specs.Changes.{LacksMeta, adds_meta, at_first, counts};
 ghost use Rattle.desk_sql.specs.FoundRows.{IsMeta, shows_meta, three_of};
+ghost use Rattle.desk_sql.specs.Causes.{FailsForReasonEach, IsMemory};
+ghost use Rattle.desk_sql.specs.Readable.{meta_shown, HasMeta};
+ghost use Rattle.desk_sql.specs.Rows.{MetaRow};
 
 use crate::queries::first_row;
 use sqlite::types::ValueRef;
@@ -21,7 +24,9 @@ pub struct Meta {
 }
 
 fn meta_of(row: &Row) -> Result<Meta, Error>
-    ensures { IfOk result (λ m. shows_meta m ≡ three_of row.now) }
+    ensures shown { IfOk result (λ m. shows_meta m ≡ three_of row.now) }
+
+    ensures reason { (x : MetaRow) → row.now ≡ meta_shown x → IfErr result IsMemory }
 {
     let version = row.get(0)?;
     let events = row.get(1)?;
@@ -37,6 +42,7 @@ fn meta_of(row: &Row) -> Result<Meta, Error>
 pub fn read_meta<S: Alter>(conn: &mut Connection<S>) -> Result<Meta, Error>
     ensures found { ReadsEach S.Store conn.old conn.new result IsMeta }
     ensures quiet { ChangesNothing S.Store conn.old conn.new }
+    ensures reason { FailsForReasonEach S.Store conn.old conn.new result HasMeta }
     ensures mode { conn.old.in_transaction ≡ false → conn.new.in_transaction ≡ false }
     ensures survives { LeavesNoMore S.Store conn.old conn.new }
 {

@@ -5,6 +5,8 @@
 ghost use Rattle.std.specs.Prelude.{◌≡◌, ◌<◌, ◌^◌, false};
 ghost use Rattle.desk_sql.specs.Calls.{ReadsIn, ChangesNothing, LeavesNoMore};
 ghost use Rattle.desk_sql.specs.FoundRows.{FindsNextItem};
+ghost use Rattle.desk_sql.specs.Causes.{FailsForReasonIn};
+ghost use Rattle.desk_sql.specs.Readable.{Any};
 
 use crate::items::{ItemFound, read_item};
 use crate::queries::first_row;
@@ -24,6 +26,7 @@ pub fn next_old_item<S: Alter>(
     ensures found { ReadsIn S.Store conn.old conn.new Version.One result
         (FindsNextItem journey after) }
     ensures quiet { ChangesNothing S.Store conn.old conn.new }
+    ensures reason { FailsForReasonIn S.Store conn.old conn.new Version.One result Any }
     ensures mode { conn.old.in_transaction ≡ false → conn.new.in_transaction ≡ false }
     ensures survives { LeavesNoMore S.Store conn.old conn.new }
 {

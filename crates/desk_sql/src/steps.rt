@@ -1,9 +1,13 @@
 //! The options of the steps of each plan.
 
-ghost use Rattle.std.specs.Prelude.{◌≡◌, ◌<◌, ◌^◌, false, map, IfOk};
+ghost use Rattle.std.specs.Prelude.{◌≡◌, ◌<◌, ◌^◌, false, map, IfOk, IfErr};
 ghost use Rattle.desk_sql.specs.Calls.{Writes, StaysInside, WasOpen, CommitsNothing, LeavesNoMore, Reads, ReadsEach, ChangesNothing};
 ghost use Rattle.desk_sql.specs.Changes.{IsSmallOption, adds_step, untaken, marks_step};
 ghost use Rattle.desk_sql.specs.FoundRows.{FindsSteps, FindsOptions, shows_step, ten_of};
+ghost use Rattle.std.specs.List.{AllByRecursion};
+ghost use Rattle.desk_sql.specs.Causes.{FailsForReason, FailsForReasonEach, IsMemory};
+ghost use Rattle.desk_sql.specs.Readable.{AreWantTexts, HaveOptionTexts, HaveWantTexts, ShowsOne, step_shown};
+ghost use Rattle.desk_sql.specs.Rows.{StepRow};
 
 use crate::queries::all_rows;
 use sqlite::types::ValueRef;
@@ -85,7 +89,9 @@ pub struct StepFound {
 }
 
 fn read_step(row: &Row) -> Result<StepFound, Error>
-    ensures { IfOk result (λ s. shows_step s ≡ ten_of row.now) }
+    ensures shown { IfOk result (λ s. shows_step s ≡ ten_of row.now) }
+
+    ensures reason { (x : StepRow) → row.now ≡ step_shown x → AreWantTexts x → IfErr result IsMemory }
 {
     let place = row.get(0)?;
     let opt = row.get(1)?;
@@ -112,7 +118,9 @@ fn read_step(row: &Row) -> Result<StepFound, Error>
 }
 
 fn read_steps(alloc: Global, rows: &[Row]) -> Result<Vec<StepFound>, Error>
-    ensures { IfOk result (λ steps. map shows_step steps.items ≡ map ten_of rows.now) }
+    ensures shown { IfOk result (λ steps. map shows_step steps.items ≡ map ten_of rows.now) }
+
+    ensures reason { AllByRecursion (ShowsOne step_shown AreWantTexts) rows.now → IfErr result IsMemory }
 {
     let mut steps = Vec::new(alloc);
     for row in rows {
@@ -133,6 +141,7 @@ pub fn find_steps<S: Alter>(
     ensures found { ReadsEach S.Store conn.old conn.new result
         (λ t found. FindsSteps journey t found.items) }
     ensures quiet { ChangesNothing S.Store conn.old conn.new }
+    ensures reason { FailsForReasonEach S.Store conn.old conn.new result (HaveWantTexts journey) }
     ensures mode { conn.old.in_transaction ≡ false → conn.new.in_transaction ≡ false }
     ensures survives { LeavesNoMore S.Store conn.old conn.new }
 {
@@ -158,6 +167,8 @@ pub fn find_options<S: Alter>(
     ensures found { Reads S.Store conn.old conn.new result
         (λ t found. FindsOptions journey place t found.items) }
     ensures quiet { ChangesNothing S.Store conn.old conn.new }
+    ensures reason { FailsForReason S.Store conn.old conn.new result
+        (HaveOptionTexts journey place) }
     ensures mode { conn.old.in_transaction ≡ false → conn.new.in_transaction ≡ false }
     ensures survives { LeavesNoMore S.Store conn.old conn.new }
 {

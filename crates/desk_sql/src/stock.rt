@@ -1,9 +1,14 @@
 //! The places of each cell.
 
-ghost use Rattle.std.specs.Prelude.{◌≡◌, ◌<◌, ◌^◌, false, map, pos, neg_ℤ, IfOk};
+ghost use Rattle.std.specs.Prelude.{◌≡◌, ◌<◌, ◌^◌, false, map, pos, neg_ℤ, IfOk, IfErr, ⊤};
 ghost use Rattle.desk_sql.specs.Calls.{WritesWhere, StaysInside, WasOpen, CommitsNothing, LeavesNoMore, Reads, ChangesNothing};
 ghost use Rattle.desk_sql.specs.Stock.{IsSmallRange, FindsNights, FindsStock, shows_night, shows_cell, HaveFree, HaveRoom, takes_nights, gives_nights, IsSmallCell, AreApart, placed, puts_cell};
 ghost use Rattle.desk_sql.specs.FoundRows.{three_of, six_of};
+ghost use Rattle.std.specs.List.{AllByRecursion};
+ghost use Rattle.desk_sql.specs.Causes.{FailsForReason, IsMemory};
+ghost use Rattle.desk_sql.specs.Readable.{Any, AreCellTexts, HaveCellTexts, ShowsOne, night_shown};
+ghost use Rattle.desk_sql.specs.RemainingRows.{stock_shown};
+ghost use Rattle.desk_sql.specs.Rows.{StockRow};
 
 use crate::queries::all_rows;
 use sqlite::types::ValueRef;
@@ -31,7 +36,9 @@ pub struct NightFound {
 }
 
 fn read_night(row: &Row) -> Result<NightFound, Error>
-    ensures { IfOk result (λ n. shows_night n ≡ three_of row.now) }
+    ensures shown { IfOk result (λ n. shows_night n ≡ three_of row.now) }
+
+    ensures reason { (x : StockRow) → row.now ≡ night_shown x → IfErr result IsMemory }
 {
     let night = row.get(0)?;
     let allot = row.get(1)?;
@@ -40,7 +47,9 @@ fn read_night(row: &Row) -> Result<NightFound, Error>
 }
 
 fn read_nights(alloc: Global, rows: &[Row]) -> Result<Vec<NightFound>, Error>
-    ensures { IfOk result (λ nights. map shows_night nights.items ≡ map three_of rows.now) }
+    ensures shown { IfOk result (λ nights. map shows_night nights.items ≡ map three_of rows.now) }
+
+    ensures reason { AllByRecursion (ShowsOne night_shown (λ _. ⊤)) rows.now → IfErr result IsMemory }
 {
     let mut nights = Vec::new(alloc);
     for row in rows {
@@ -61,6 +70,7 @@ pub fn find_nights<S: Alter>(
     ensures found { Reads S.Store conn.old conn.new result
         (λ t found. FindsNights range.entry t found.items) }
     ensures quiet { ChangesNothing S.Store conn.old conn.new }
+    ensures reason { FailsForReason S.Store conn.old conn.new result Any }
     ensures mode { conn.old.in_transaction ≡ false → conn.new.in_transaction ≡ false }
     ensures survives { LeavesNoMore S.Store conn.old conn.new }
 {
@@ -93,7 +103,9 @@ pub struct CellFound {
 }
 
 pub(crate) fn read_cell(row: &Row) -> Result<CellFound, Error>
-    ensures { IfOk result (λ c. shows_cell c ≡ six_of row.now) }
+    ensures shown { IfOk result (λ c. shows_cell c ≡ six_of row.now) }
+
+    ensures reason { (x : StockRow) → row.now ≡ stock_shown x → AreCellTexts x → IfErr result IsMemory }
 {
     let kind = row.get(0)?;
     let supplier = row.get(1)?;
@@ -112,7 +124,9 @@ pub(crate) fn read_cell(row: &Row) -> Result<CellFound, Error>
 }
 
 fn read_cells(alloc: Global, rows: &[Row]) -> Result<Vec<CellFound>, Error>
-    ensures { IfOk result (λ cells. map shows_cell cells.items ≡ map six_of rows.now) }
+    ensures shown { IfOk result (λ cells. map shows_cell cells.items ≡ map six_of rows.now) }
+
+    ensures reason { AllByRecursion (ShowsOne stock_shown AreCellTexts) rows.now → IfErr result IsMemory }
 {
     let mut cells = Vec::new(alloc);
     for row in rows {
@@ -129,6 +143,7 @@ pub fn find_stock<S: Alter>(
 ) -> Result<Vec<CellFound>, Error>
     ensures found { Reads S.Store conn.old conn.new result (λ t found. FindsStock t found.items) }
     ensures quiet { ChangesNothing S.Store conn.old conn.new }
+    ensures reason { FailsForReason S.Store conn.old conn.new result HaveCellTexts }
     ensures mode { conn.old.in_transaction ≡ false → conn.new.in_transaction ≡ false }
     ensures survives { LeavesNoMore S.Store conn.old conn.new }
 {

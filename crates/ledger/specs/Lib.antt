@@ -5,6 +5,7 @@ pub mod Answer
 pub mod Word
 pub mod World
 pub mod Recovery
+pub mod LawExamples
 pub mod Laws
 pub mod Examples
 pub mod JourneyExamples

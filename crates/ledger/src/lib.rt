@@ -1,4 +1,4 @@
-//! The definitions in which all promises of the desk are made, and four laws of them.
+//! The definitions in which all promises of the desk are made, and four laws of them, each used on an example.
 //!
 //! A *ledger* is the list of all events. `specs/` defines what it means for journeys and places, which ledgers are
 //! legal, how a request is answered, how a journey's history reads, and what a stop and recovery may leave. The laws
@@ -10,4 +10,7 @@
 
 mod laws;
 
-pub use laws::{recoveries, steps, words, worlds};
+pub use laws::{
+    recoveries, recovery_of_a_journey_that_goes_back, steps, steps_of_a_stopped_journey, words,
+    words_of_journeys_that_turn_back, world_of_a_step_cut_off, worlds,
+};

@@ -5,3 +5,4 @@ pub mod Reading
 pub mod Keeping
 pub mod Worlds
 pub mod Openings
+pub mod Spelling

@@ -1,10 +1,14 @@
 pub mod GoingOn
+pub mod GoodMarks
+pub mod GoodStock
 pub mod HandedBriefs
+pub mod HandedGood
 pub mod HandedHistory
 pub mod HandedStock
 pub mod HandedTold
 pub mod ReadJourneys
 pub mod ReadLemmas
 pub mod ReadPlans
+pub mod ReadReasons
 pub mod ReadSought
 pub mod ReadStock

@@ -1,4 +1,6 @@
+pub mod Causes
 pub mod Following
+pub mod GoodRows
 pub mod RemainingRows
 pub mod PlanRows
 pub mod Reading

@@ -1,9 +1,12 @@
 -- The rows that remain in a source, and what the source leaves of its connection.
-use Rattle.std.specs.Prelude.{◌≡◌, ℕ, Bool, List, [], ◌++◌, map, drop, true, false, refl}
+use Rattle.std.specs.Prelude.{◌≡◌, ℕ, Bool, List, [], ◌++◌, map, drop, true, false, refl, IsTrue}
+use Rattle.std.specs.List.{AllByRecursion}
 use Rattle.std.specs.Borrow.{MutBor}
 use Rattle.std.proofs.Common.{◌∙◌}
 use Rattle.allotment.specs.declared.cells.Cell.{Cell}
 use Rattle.allotment.specs.declared.places.Held.{Held as HeldPlaces}
+use Rattle.allotment.specs.Limits.{is_good_cell}
+use Rattle.commands.specs.Names.{is_agent}
 use Rattle.commands.specs.declared.items.Item.{Item}
 use Rattle.ledger.specs.Answer.{State}
 use Rattle.ledger.specs.History.{position_of}
@@ -49,6 +52,17 @@ module _ {S : Type 0} (g : Ghosts S) where
 
   abbrev pub BriefsRest : Held S → List Brief → Type 0
   BriefsRest h briefs = (rows : List JourneyRow) × JourneysRest g h rows × TellBriefs rows briefs
+
+  -- such rows are, and each is of a cell, or of an agent, that keeps its limits
+  abbrev pub AreGoodCellsRest : Held S → Type 0
+  AreGoodCellsRest h =
+      (rows : List (Cell × HeldPlaces)) × StockRests h rows
+      × AllByRecursion (λ (c : Cell × HeldPlaces). IsTrue (is_good_cell c.0)) rows
+
+  abbrev pub AreGoodBriefsRest : Held S → Type 0
+  AreGoodBriefsRest h =
+      (briefs : List Brief) × BriefsRest h briefs
+      × AllByRecursion (λ (b : Brief). IsTrue (is_agent b.agent)) briefs
 
   -- the connection keeps a journey, in tables of this version, that has come to this position; these are its
   -- items after an event, and all of its items from this position on

@@ -1,11 +1,15 @@
 //! Briefs of the unfinished journeys, in order of number, read one at a time.
 
-ghost use Rattle.std.specs.Prelude.{◌≡◌, false, IfOk};
+ghost use Rattle.std.specs.Prelude.{◌≡◌, ◌<◌, ◌+◌, ◌-◌, ◌^◌, false, IfOk, IsErrOf};
 ghost use Rattle.sqlite.specs.Held.{state};
 ghost use Rattle.sqlite.specs.State.{HasCleanDisk};
 ghost use Rattle.saga_core.specs.Views.{unfinished_of};
 ghost use Rattle.desk_sql.specs.declared.versions.Version.{Version};
 ghost use Rattle.sql_reads.specs.RemainingRows.{BriefsRest, IsLeftAsItWas, BeginsKept};
+ghost use Rattle.saga_core.specs.RowSources.{count_of, Hands};
+ghost use Rattle.desk_sql.specs.Causes.{HasFaulted, IsUp};
+ghost use Rattle.sql_reads.specs.Causes.{StaysUp};
+ghost use Rattle.sql_reads.specs.RemainingRows.{AreGoodBriefsRest, StaysUnder};
 
 use crate::faults::fault_of;
 use crate::telling::brief_of;
@@ -47,7 +51,7 @@ pub fn unfinished_rows<'c, S: Alter>(
 }
 
 impl<S: Alter> RowSource<Brief> for UnfinishedRows<'_, S> {
-    ghost use Rattle.sql_reads.specs.RemainingRows.{StaysUnder, stays_alone, stays_twice};
+    ghost use Rattle.sql_reads.specs.RemainingRows.{stays_alone, stays_twice};
 
     ghost is_sound = { λ s. HasCleanDisk (state S.Store s.handed.rows.conn.now) };
 
@@ -61,21 +65,42 @@ impl<S: Alter> RowSource<Brief> for UnfinishedRows<'_, S> {
 
     ghost joins = { λ a b c. stays_twice a.handed.rows.conn b.handed.rows.conn c.handed.rows.conn };
 
-    fn next_row(&mut self) -> Result<Option<Brief>, Fault> {
+    fn next_row(&mut self) -> Result<Option<Brief>, Fault>
+        ensures next { HasCleanDisk (state S.Store self.new.handed.rows.conn.now) → IfOk result (Hands
+            (λ rows. (self.old.failed ≡ false) × BriefsRest S.Store self.old.handed.rows.conn.now rows)
+            (λ rows. (self.new.failed ≡ false) × BriefsRest S.Store self.new.handed.rows.conn.now rows)) }
+        ensures counted { IfOk result (λ found. self.new.given ≡ count_of found + self.old.given) }
+        ensures few { self.new.given < 2 ^ 64 }
+
+        ensures kept { StaysUnder S.Store self.old.handed.rows.conn self.new.handed.rows.conn }
+        ensures sound { HasCleanDisk (state S.Store self.new.handed.rows.conn.now)
+            → HasCleanDisk (state S.Store self.old.handed.rows.conn.now) }
+
+        ensures store { HasCleanDisk (state S.Store self.new.handed.rows.conn.now) → self.old.failed ≡ false
+            → AreGoodBriefsRest S.Store self.old.handed.rows.conn.now → self.old.given < 2 ^ 64 - 1
+            → IsUp (state S.Store self.old.handed.rows.conn.now) → IsErrOf result Fault.Store
+            → HasFaulted (state S.Store self.old.handed.rows.conn.now) (state S.Store self.new.handed.rows.conn.now) }
+        ensures up { StaysUp S.Store self.old.handed.rows.conn.now self.new.handed.rows.conn.now }
+    {
         let given = self.given;
         if self.failed {
             return Err(Fault::Store);
         }
         self.failed = true;
         match self.handed.next() {
-            Ok(Some(found)) => match brief_of(&found) {
-                Some(brief) if given < u64::MAX => {
-                    self.given = given + 1;
-                    self.failed = false;
-                    Ok(Some(brief))
+            Ok(Some(found)) => {
+                if given == u64::MAX {
+                    return Err(Fault::Store);
                 }
-                _ => Err(Fault::Store),
-            },
+                match brief_of(&found) {
+                    Some(brief) => {
+                        self.given = given + 1;
+                        self.failed = false;
+                        Ok(Some(brief))
+                    }
+                    None => Err(Fault::Store),
+                }
+            }
             Ok(None) => {
                 self.failed = false;
                 Ok(None)

@@ -1,11 +1,15 @@
 //! Cells with their places, in order of kind, supplier, product and night, read one at a time.
 
-ghost use Rattle.std.specs.Prelude.{◌≡◌, false, IfOk};
+ghost use Rattle.std.specs.Prelude.{◌≡◌, ◌<◌, ◌+◌, ◌-◌, ◌^◌, false, IfOk, IsErrOf};
 ghost use Rattle.saga_core.specs.Views.{IsStock};
 ghost use Rattle.sqlite.specs.Held.{state};
 ghost use Rattle.sqlite.specs.State.{HasCleanDisk};
 ghost use Rattle.desk_sql.specs.declared.versions.Version.{Version};
 ghost use Rattle.sql_reads.specs.RemainingRows.{StockRests, IsLeftAsItWas, BeginsKept};
+ghost use Rattle.saga_core.specs.RowSources.{count_of, Hands};
+ghost use Rattle.desk_sql.specs.Causes.{HasFaulted, IsUp};
+ghost use Rattle.sql_reads.specs.Causes.{StaysUp};
+ghost use Rattle.sql_reads.specs.RemainingRows.{AreGoodCellsRest, StaysUnder};
 
 use crate::faults::fault_of;
 use crate::telling::cell_told;
@@ -46,7 +50,7 @@ pub fn stock_rows<'c, S: Alter>(conn: &'c mut Connection<S>) -> Result<StockRows
 }
 
 impl<S: Alter> RowSource<(Cell, Held)> for StockRows<'_, S> {
-    ghost use Rattle.sql_reads.specs.RemainingRows.{StaysUnder, stays_alone, stays_twice};
+    ghost use Rattle.sql_reads.specs.RemainingRows.{stays_alone, stays_twice};
 
     ghost is_sound = { λ s. HasCleanDisk (state S.Store s.handed.rows.conn.now) };
 
@@ -60,21 +64,42 @@ impl<S: Alter> RowSource<(Cell, Held)> for StockRows<'_, S> {
 
     ghost joins = { λ a b c. stays_twice a.handed.rows.conn b.handed.rows.conn c.handed.rows.conn };
 
-    fn next_row(&mut self) -> Result<Option<(Cell, Held)>, Fault> {
+    fn next_row(&mut self) -> Result<Option<(Cell, Held)>, Fault>
+        ensures next { HasCleanDisk (state S.Store self.new.handed.rows.conn.now) → IfOk result (Hands
+            (λ rows. (self.old.failed ≡ false) × StockRests S.Store self.old.handed.rows.conn.now rows)
+            (λ rows. (self.new.failed ≡ false) × StockRests S.Store self.new.handed.rows.conn.now rows)) }
+        ensures counted { IfOk result (λ found. self.new.given ≡ count_of found + self.old.given) }
+        ensures few { self.new.given < 2 ^ 64 }
+
+        ensures kept { StaysUnder S.Store self.old.handed.rows.conn self.new.handed.rows.conn }
+        ensures sound { HasCleanDisk (state S.Store self.new.handed.rows.conn.now)
+            → HasCleanDisk (state S.Store self.old.handed.rows.conn.now) }
+
+        ensures store { HasCleanDisk (state S.Store self.new.handed.rows.conn.now) → self.old.failed ≡ false
+            → AreGoodCellsRest S.Store self.old.handed.rows.conn.now → self.old.given < 2 ^ 64 - 1
+            → IsUp (state S.Store self.old.handed.rows.conn.now) → IsErrOf result Fault.Store
+            → HasFaulted (state S.Store self.old.handed.rows.conn.now) (state S.Store self.new.handed.rows.conn.now) }
+        ensures up { StaysUp S.Store self.old.handed.rows.conn.now self.new.handed.rows.conn.now }
+    {
         let given = self.given;
         if self.failed {
             return Err(Fault::Store);
         }
         self.failed = true;
         match self.handed.next() {
-            Ok(Some(found)) => match cell_told(&found) {
-                Some(cell) if given < u64::MAX => {
-                    self.given = given + 1;
-                    self.failed = false;
-                    Ok(Some(cell))
+            Ok(Some(found)) => {
+                if given == u64::MAX {
+                    return Err(Fault::Store);
                 }
-                _ => Err(Fault::Store),
-            },
+                match cell_told(&found) {
+                    Some(cell) => {
+                        self.given = given + 1;
+                        self.failed = false;
+                        Ok(Some(cell))
+                    }
+                    None => Err(Fault::Store),
+                }
+            }
             Ok(None) => {
                 self.failed = false;
                 Ok(None)

@@ -4,16 +4,17 @@
 //! journey. So the store reads no further than the next item. After the item that finishes the journey there is no
 //! further query.
 
-ghost use Rattle.std.specs.Prelude.{◌≡◌, ◌+◌, ◌<◌, ◌^◌, false, IfOk};
+ghost use Rattle.std.specs.Prelude.{◌≡◌, ◌+◌, ◌-◌, ◌<◌, ◌^◌, false, IfOk};
 ghost use Rattle.sqlite.specs.Held.{state};
 ghost use Rattle.sqlite.specs.State.{HasCleanDisk};
 ghost use Rattle.ledger.specs.Ledger.{history};
 ghost use Rattle.saga_core.specs.RowSources.{count_of, Hands};
+ghost use Rattle.sql_reads.specs.Causes.{FailsForReasonEach, FailsForReasonIn, StaysUp};
 ghost use Rattle.sql_reads.specs.RemainingRows.{ItemsRest, IsLeftAsItWas, BeginsKept};
 
 use crate::following::{is_finished_with, position_after};
 use crate::item_search::Sought;
-use crate::reads::{find_next, find_sought};
+use crate::reads::{LARGEST, find_next, find_sought};
 use crate::telling::item_told;
 use commands::{Fault, Item};
 use desk_sql::Version;
@@ -46,7 +47,12 @@ pub fn item_cursor<S: Alter>(
     ensures rows { IfOk result (λ it. BeginsKept S.Store conn.old conn.new version
         (λ s items. items ≡ history s.ledger id) (ItemsRest S.Store conn.new it)) }
     ensures none { IfOk result (λ it. it.given ≡ 0) }
+    ensures going { IfOk result (λ it. it.failed ≡ false) }
+    ensures version { IfOk result (λ it. it.version ≡ version) }
     ensures kept { IsLeftAsItWas S.Store conn.old conn.new }
+
+    ensures store { FailsForReasonEach S.Store conn.old conn.new result }
+    ensures up { StaysUp S.Store conn.old conn.new }
 {
     match find_sought(conn, id) {
         Ok(sought) => Ok(ItemCursor {
@@ -69,6 +75,10 @@ impl ItemCursor {
         ensures counted { IfOk result (λ found. self.new.given ≡ count_of found + self.old.given) }
         ensures few { self.new.given < 2 ^ 64 }
         ensures kept { IsLeftAsItWas S.Store conn.old conn.new }
+
+        ensures store { self.old.failed ≡ false → self.old.given < 2 ^ 64 - 1
+            → FailsForReasonIn S.Store conn.old conn.new self.old.version result }
+        ensures up { StaysUp S.Store conn.old conn.new }
     {
         let given = self.given;
         if self.failed {
@@ -79,17 +89,22 @@ impl ItemCursor {
         }
         self.failed = true;
         match find_next(conn, self.version, &self.sought) {
-            Ok(Some(found)) => match item_told(&found) {
-                Some(item) if given < u64::MAX => {
-                    self.sought.after = found.num;
-                    self.finished = is_finished_with(&item, self.sought.steps, self.pos);
-                    self.pos = position_after(&item, self.pos);
-                    self.given = given + 1;
-                    self.failed = false;
-                    Ok(Some(item))
+            Ok(Some(found)) => {
+                if given == u64::MAX || found.num > LARGEST {
+                    return Err(Fault::Store);
                 }
-                _ => Err(Fault::Store),
-            },
+                match item_told(&found) {
+                    Some(item) => {
+                        self.sought.after = found.num;
+                        self.finished = is_finished_with(&item, self.sought.steps, self.pos);
+                        self.pos = position_after(&item, self.pos);
+                        self.given = given + 1;
+                        self.failed = false;
+                        Ok(Some(item))
+                    }
+                    None => Err(Fault::Store),
+                }
+            }
             Ok(None) => {
                 self.failed = false;
                 Ok(None)

@@ -1,9 +1,13 @@
 //! Reads of the tables, in the desk's types. A read changes nothing, whether it succeeds or not.
-ghost use Rattle.std.specs.Prelude.{◌≡◌, ◌<◌, ◌^◌, false, IfOk};
+ghost use Rattle.std.specs.Prelude.{◌≡◌, ◌<◌, ◌≤◌, ◌^◌, false, IfOk, IfSome};
 ghost use Rattle.ledger.specs.Ledger.{history};
 ghost use Rattle.saga_core.specs.Views.{ShowsCells, IsStock};
 ghost use Rattle.sql_reads.specs.Reading.{ShowsKept, ShowsKeptIn, ShowsEach, KeepsOn, KeepsEach, LeavesAsBefore, WasClean};
 ghost use Rattle.sql_reads.specs.Reading.{IsFirstAbove, HasNone, IsRecordAt, IsStandAt, AreMarksAt, IsNone, IsPlanOf};
+ghost use Rattle.sql_reads.specs.Causes.{FailsForReason, FailsForReasonEach, FailsForReasonIn, ShowsSpelled, StaysUp};
+ghost use Rattle.ledger.specs.Answer.{most_events};
+ghost use Rattle.desk_sql.specs.Causes.{FailsForReasonIn as SqlFailsIn};
+ghost use Rattle.desk_sql.specs.Readable.{Any};
 ghost use Rattle.desk_sql.specs.Calls.{ReadsIn, ChangesNothing, LeavesNoMore};
 ghost use Rattle.desk_sql.specs.FoundRows.{FindsNextItem};
 ghost use Rattle.sql_reads.specs.ItemSearch.{AreSoughtAt, IsNextOf};
@@ -41,13 +45,21 @@ pub fn read_first_unfinished<S: Alter>(
     ensures same { KeepsOn S.Store conn.old conn.new }
     ensures stop { LeavesAsBefore S.Store conn.old conn.new }
     ensures less { WasClean S.Store conn.old conn.new }
+
+    ensures store { FailsForReason S.Store conn.old conn.new result }
+    ensures up { StaysUp S.Store conn.old conn.new }
 {
     match first_unfinished(conn, after.min(LARGEST)) {
         Ok(None) => Ok(None),
-        Ok(Some(found)) => match brief_of(&found) {
-            Some(brief) if after <= LARGEST => Ok(Some(brief)),
-            _ => Err(Fault::Store),
-        },
+        Ok(Some(found)) => {
+            if after > LARGEST {
+                return Err(Fault::Store);
+            }
+            match brief_of(&found) {
+                Some(brief) => Ok(Some(brief)),
+                None => Err(Fault::Store),
+            }
+        }
         Err(error) => Err(fault_of(&error)),
     }
 }
@@ -61,6 +73,9 @@ pub(crate) fn check_absent<S: Alter>(conn: &mut Connection<S>, id: u64) -> Resul
     ensures same { KeepsEach S.Store conn.old conn.new }
     ensures stop { LeavesAsBefore S.Store conn.old conn.new }
     ensures less { WasClean S.Store conn.old conn.new }
+
+    ensures store { 2 ^ 63 ≤ id → FailsForReasonEach S.Store conn.old conn.new result }
+    ensures up { StaysUp S.Store conn.old conn.new }
 {
     match read_meta(conn) {
         Ok(meta) if meta.journeys < id => Ok(()),
@@ -80,6 +95,9 @@ pub(crate) fn find_sought<S: Alter>(conn: &mut Connection<S>, id: u64) -> Result
     ensures same { KeepsEach S.Store conn.old conn.new }
     ensures stop { LeavesAsBefore S.Store conn.old conn.new }
     ensures less { WasClean S.Store conn.old conn.new }
+
+    ensures store { FailsForReasonEach S.Store conn.old conn.new result }
+    ensures up { StaysUp S.Store conn.old conn.new }
 {
     if id > LARGEST {
         check_absent(conn, id)?;
@@ -109,6 +127,7 @@ fn next_in<S: Alter>(
 
     ensures found { ReadsIn S.Store conn.old conn.new version result (FindsNextItem journey after) }
     ensures quiet { ChangesNothing S.Store conn.old conn.new }
+    ensures reason { SqlFailsIn S.Store conn.old conn.new version result Any }
     ensures mode { conn.old.in_transaction ≡ false → conn.new.in_transaction ≡ false }
     ensures survives { LeavesNoMore S.Store conn.old conn.new }
 {
@@ -126,13 +145,15 @@ pub(crate) fn find_next<S: Alter>(
 ) -> Result<Option<ItemFound>, Fault>
     ensures outside { conn.old.in_transaction ≡ false → conn.new.in_transaction ≡ false }
     ensures next { ShowsKeptIn S.Store conn.old conn.new version result (IsNextOf sought.now) }
+    ensures early { ShowsSpelled S.Store conn.old conn.new version result
+        (λ found. IfSome found (λ i. i.num ≤ most_events)) }
     ensures same { KeepsEach S.Store conn.old conn.new }
     ensures stop { LeavesAsBefore S.Store conn.old conn.new }
     ensures less { WasClean S.Store conn.old conn.new }
+
+    ensures store { FailsForReasonIn S.Store conn.old conn.new version result }
+    ensures up { StaysUp S.Store conn.old conn.new }
 {
-    if sought.journey > LARGEST || sought.after > LARGEST {
-        return Err(Fault::Store);
-    }
     match next_in(conn, version, sought.journey, sought.after) {
         Ok(found) => Ok(found),
         Err(error) => Err(fault_of(&error)),
@@ -153,6 +174,9 @@ pub fn read_history<S: Alter>(
     ensures same { KeepsOn S.Store conn.old conn.new }
     ensures stop { LeavesAsBefore S.Store conn.old conn.new }
     ensures less { WasClean S.Store conn.old conn.new }
+
+    ensures store { FailsForReason S.Store conn.old conn.new result }
+    ensures up { StaysUp S.Store conn.old conn.new }
 {
     let sought = find_sought(conn, id)?;
     match find_items(alloc, conn, sought.journey, sought.after) {
@@ -193,6 +217,9 @@ fn read_marks<S: Alter>(alloc: Global, conn: &mut Connection<S>, id: u64) -> Res
     ensures same { KeepsEach S.Store conn.old conn.new }
     ensures stop { LeavesAsBefore S.Store conn.old conn.new }
     ensures less { WasClean S.Store conn.old conn.new }
+
+    ensures store { FailsForReason S.Store conn.old conn.new result }
+    ensures up { StaysUp S.Store conn.old conn.new }
 {
     match find_marks(alloc, conn, id) {
         Ok(found) => match marks_told(found.as_slice()) {
@@ -220,6 +247,9 @@ fn read_taken<S: Alter>(
     ensures same { KeepsEach S.Store conn.old conn.new }
     ensures stop { LeavesAsBefore S.Store conn.old conn.new }
     ensures less { WasClean S.Store conn.old conn.new }
+
+    ensures store { FailsForReasonIn S.Store conn.old conn.new version result }
+    ensures up { StaysUp S.Store conn.old conn.new }
 {
     match version {
         Version::One => {
@@ -251,6 +281,9 @@ pub fn read_stand<S: Alter>(conn: &mut Connection<S>, id: u64) -> Result<Option<
     ensures same { KeepsOn S.Store conn.old conn.new }
     ensures stop { LeavesAsBefore S.Store conn.old conn.new }
     ensures less { WasClean S.Store conn.old conn.new }
+
+    ensures store { FailsForReason S.Store conn.old conn.new result }
+    ensures up { StaysUp S.Store conn.old conn.new }
 {
     if id > LARGEST {
         check_absent(conn, id)?;
@@ -313,6 +346,9 @@ pub fn read_cells<S: Alter>(
     ensures same { KeepsOn S.Store conn.old conn.new }
     ensures stop { LeavesAsBefore S.Store conn.old conn.new }
     ensures less { WasClean S.Store conn.old conn.new }
+
+    ensures store { FailsForReason S.Store conn.old conn.new result }
+    ensures up { StaysUp S.Store conn.old conn.new }
 {
     let supplier = want.supplier();
     let product = want.product();
@@ -343,6 +379,9 @@ pub fn read_stock<S: Alter>(
     ensures same { KeepsOn S.Store conn.old conn.new }
     ensures stop { LeavesAsBefore S.Store conn.old conn.new }
     ensures less { WasClean S.Store conn.old conn.new }
+
+    ensures store { FailsForReason S.Store conn.old conn.new result }
+    ensures up { StaysUp S.Store conn.old conn.new }
 {
     match find_stock(alloc, conn) {
         Ok(found) => cells_told(alloc, found.as_slice()),

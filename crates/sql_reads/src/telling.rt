@@ -1,13 +1,16 @@
 //! The desk's values for the rows of the tables. A row with a value out of range has none.
-ghost use Rattle.std.specs.Prelude.{◌≡◌, ◌==◌, ℕ, IfOk, IfSome};
-ghost use Rattle.std.specs.List.{list_any};
+ghost use Rattle.std.specs.Prelude.{◌≡◌, ◌≤◌, ◌==◌, ℕ, IfErr, IfOk, IfSome, IsSome, IsTrue, string_bytes};
+ghost use Rattle.std.specs.List.{AllByRecursion, list_any};
 ghost use Rattle.allotment.specs.Cells.{kind_number};
-ghost use Rattle.savepoints.specs.Marks.{is_taken_in, AreInRange};
+ghost use Rattle.allotment.specs.Limits.{is_between, is_night, most_places};
+ghost use Rattle.commands.specs.Names.{is_agent};
+ghost use Rattle.savepoints.specs.Marks.{is_taken_in, last_mark, AreInRange};
 ghost use Rattle.saga_core.specs.Views.{night_said};
 ghost use Rattle.desk_sql.specs.FoundRows.{item_of};
 ghost use Rattle.desk_sql.specs.Stock.{stock_of};
-ghost use Rattle.sql_model.specs.Reading.{phase_in, cause_in, item_in, night_seen, stock_row_of};
-ghost use Rattle.sql_reads.specs.Reading.{TellsCursor, TellsBrief, TellsStand, TellsRecord, TellItems, TellNights, TellCells};
+ghost use Rattle.sql_model.specs.Reading.{cursor_in, phase_in, cause_in, item_in, night_seen, stock_row_of};
+ghost use Rattle.sql_reads.specs.GoodRows.{IsGoodNight, IsGoodStock, IsMemory};
+ghost use Rattle.sql_reads.specs.Reading.{row_of, TellsCursor, TellsBrief, TellsStand, TellsRecord, TellItems, TellNights, TellCells};
 
 use crate::reads::Stand;
 use allotment::{Cell, Code, Held, Kind, MOST_PLACES, Night};
@@ -33,7 +36,8 @@ fn phase_of(number: u64, target: u64) -> Option<Phase>
 
 /// The cursor of a row.
 fn cursor_of(found: &CursorFound) -> Option<Cursor>
-    ensures { IfSome result (TellsCursor found.now) }
+    ensures told { IfSome result (TellsCursor found.now) }
+    ensures exact { result ≡ cursor_in (row_of found.now) }
 {
     let phase = phase_of(found.phase, found.target)?;
     Some(Cursor {
@@ -45,7 +49,9 @@ fn cursor_of(found: &CursorFound) -> Option<Cursor>
 
 /// The brief of a journey.
 pub(crate) fn brief_of(found: &JourneyFound) -> Option<Brief>
-    ensures { IfSome result (TellsBrief found.now) }
+    ensures told { IfSome result (TellsBrief found.now) }
+    ensures there { IsTrue (is_agent (string_bytes found.now.agent))
+        → IsSome (cursor_in (row_of found.now.cursor)) → IsSome result }
 {
     let agent = Agent::parse(found.agent.as_str())?;
     let cursor = cursor_of(&found.cursor)?;
@@ -58,7 +64,9 @@ pub(crate) fn brief_of(found: &JourneyFound) -> Option<Brief>
 
 /// The agent, the number of steps and the cursor of a journey.
 pub(crate) fn stand_of(found: &JourneyFound) -> Option<Stand>
-    ensures { IfSome result (TellsStand found.now) }
+    ensures told { IfSome result (TellsStand found.now) }
+    ensures there { IsTrue (is_agent (string_bytes found.now.agent))
+        → IsSome (cursor_in (row_of found.now.cursor)) → IsSome result }
 {
     let agent = Agent::parse(found.agent.as_str())?;
     let cursor = cursor_of(&found.cursor)?;
@@ -71,7 +79,9 @@ pub(crate) fn stand_of(found: &JourneyFound) -> Option<Stand>
 
 /// The record of a journey with this plan and these save-points.
 pub(crate) fn record_of(found: &JourneyFound, plan: Plan, marks: Marks) -> Option<Record>
-    ensures { IfSome result (TellsRecord found.now plan marks) }
+    ensures told { IfSome result (TellsRecord found.now plan marks) }
+    ensures there { IsTrue (is_agent (string_bytes found.now.agent))
+        → IsSome (cursor_in (row_of found.now.cursor)) → IsSome result }
 {
     let agent = Agent::parse(found.agent.as_str())?;
     let cursor = cursor_of(&found.cursor)?;
@@ -124,7 +134,8 @@ pub(crate) fn item_told(found: &ItemFound) -> Option<Item>
 
 /// The items of rows.
 pub(crate) fn items_told(alloc: Global, found: &[ItemFound]) -> Result<Vec<Item>, Fault>
-    ensures { IfOk result (λ items. TellItems found.now items.items) }
+    ensures told { IfOk result (λ items. TellItems found.now items.items) }
+    ensures there { AllByRecursion (λ i. IsSome (item_in (item_of 0 i))) found.now → IfErr result IsMemory }
 {
     let mut items = Vec::new(alloc);
     for row in found {
@@ -140,7 +151,8 @@ pub(crate) fn items_told(alloc: Global, found: &[ItemFound]) -> Result<Vec<Item>
 
 /// The night of a day.
 fn night_of(day: u64) -> Option<Night>
-    ensures { IfSome result (λ night. night ≡ day) }
+    ensures told { IfSome result (λ night. night ≡ day) }
+    ensures there { IsTrue (is_night day) → IsSome result }
 {
     if day > u64::from(u32::MAX) {
         return None;
@@ -150,7 +162,8 @@ fn night_of(day: u64) -> Option<Night>
 
 /// The places of a cell: how many are allotted, and how many of them are free.
 fn places_of(allot: u64, free: u64) -> Option<Held>
-    ensures { IfSome result (λ places. (places.allot ≡ allot) × (places.free ≡ free)) }
+    ensures told { IfSome result (λ places. (places.allot ≡ allot) × (places.free ≡ free)) }
+    ensures there { allot ≤ most_places → free ≤ allot → IsSome result }
 {
     if allot > u64::from(MOST_PLACES) || free > allot {
         return None;
@@ -163,7 +176,8 @@ fn places_of(allot: u64, free: u64) -> Option<Held>
 
 /// A night and its places.
 fn night_told(found: &NightFound) -> Option<(Night, Held)>
-    ensures { IfSome result (λ n. night_said n ≡ night_seen found.now) }
+    ensures told { IfSome result (λ n. night_said n ≡ night_seen found.now) }
+    ensures there { IsGoodNight (night_seen found.now) → IsSome result }
 {
     let night = night_of(found.night)?;
     let places = places_of(found.allot, found.free)?;
@@ -172,7 +186,8 @@ fn night_told(found: &NightFound) -> Option<(Night, Held)>
 
 /// The nights of rows, with their places.
 pub(crate) fn nights_told(alloc: Global, found: &[NightFound]) -> Result<Vec<(Night, Held)>, Fault>
-    ensures { IfOk result (λ nights. TellNights found.now nights.items) }
+    ensures told { IfOk result (λ nights. TellNights found.now nights.items) }
+    ensures there { AllByRecursion (λ n. IsGoodNight (night_seen n)) found.now → IfErr result IsMemory }
 {
     let mut nights = Vec::new(alloc);
     for row in found {
@@ -188,7 +203,8 @@ pub(crate) fn nights_told(alloc: Global, found: &[NightFound]) -> Result<Vec<(Ni
 
 /// The kind with this number.
 fn kind_of(number: u64) -> Option<Kind>
-    ensures { IfSome result (λ kind. kind_number kind ≡ number) }
+    ensures told { IfSome result (λ kind. kind_number kind ≡ number) }
+    ensures there { (kind : Kind) → kind_number kind ≡ number → IsSome result }
 {
     match number {
         0 => Some(Kind::Flight),
@@ -201,7 +217,8 @@ fn kind_of(number: u64) -> Option<Kind>
 
 /// A cell and its places.
 pub(crate) fn cell_told(found: &CellFound) -> Option<(Cell, Held)>
-    ensures { IfSome result (λ c. stock_row_of c ≡ stock_of found.now) }
+    ensures told { IfSome result (λ c. stock_row_of c ≡ stock_of found.now) }
+    ensures there { IsGoodStock (stock_of found.now) → IsSome result }
 {
     let kind = kind_of(found.kind)?;
     let supplier = Code::parse(found.supplier.as_str())?;
@@ -213,7 +230,8 @@ pub(crate) fn cell_told(found: &CellFound) -> Option<(Cell, Held)>
 
 /// The cells of rows, with their places.
 pub(crate) fn cells_told(alloc: Global, found: &[CellFound]) -> Result<Vec<(Cell, Held)>, Fault>
-    ensures { IfOk result (λ cells. TellCells found.now cells.items) }
+    ensures told { IfOk result (λ cells. TellCells found.now cells.items) }
+    ensures there { AllByRecursion (λ c. IsGoodStock (stock_of c)) found.now → IfErr result IsMemory }
 {
     let mut cells = Vec::new(alloc);
     for row in found {
@@ -232,6 +250,7 @@ pub(crate) fn marks_told(found: &[u64]) -> Option<Marks>
     ensures says { IfSome result (λ marks. (p : ℕ)
         → is_taken_in marks p ≡ list_any (λ q. q == p) found.now) }
     ensures low { IfSome result AreInRange }
+    ensures there { AllByRecursion (λ p. IsTrue (is_between 1 last_mark p)) found.now → IsSome result }
 {
     let mut marks = Marks::none();
     for at in found {

@@ -1,11 +1,14 @@
 //! Cells with their places, one at a time.
 
-ghost use Rattle.std.specs.Prelude.{◌≡◌, false, IfOk, option_map};
+ghost use Rattle.std.specs.Prelude.{◌≡◌, false, List, IfErr, IfOk, option_map};
 ghost use Rattle.sqlite.specs.Held.{state};
 ghost use Rattle.sqlite.specs.State.{HasCleanDisk};
 ghost use Rattle.desk_sql.specs.Calls.{ChangesNothing, LeavesNoMore};
 ghost use Rattle.desk_sql.specs.Stock.{stock_of};
 ghost use Rattle.desk_sql.specs.RemainingRows.{Hands, CellsRest, IsStockInOrder, Begins, StaysAsItIs};
+ghost use Rattle.desk_sql.specs.Causes.{HasReason, IsUp};
+ghost use Rattle.desk_sql.specs.Readable.{AreCellTexts, Each};
+ghost use Rattle.desk_sql.specs.Rows.{StockRow};
 
 use crate::stock::{CellFound, read_cell};
 use sqlite::{Alter, Connection, Error, Rows};
@@ -41,6 +44,10 @@ impl<'c, S: Alter> StockHanded<'c, S> {
             Hands (CellsRest S.Store self.old.rows.conn.now)
             (CellsRest S.Store self.new.rows.conn.now) (option_map stock_of found)) }
         ensures same { ChangesNothing S.Store self.old.rows.conn.now self.new.rows.conn.now }
+        ensures reason { HasCleanDisk (state S.Store self.new.rows.conn.now) → (later : List StockRow)
+            → CellsRest S.Store self.old.rows.conn.now later → Each AreCellTexts later
+            → IsUp (state S.Store self.old.rows.conn.now)
+            → IfErr result (HasReason (state S.Store self.old.rows.conn.now) (state S.Store self.new.rows.conn.now)) }
         ensures mode { self.old.rows.conn.now.in_transaction ≡ false
             → self.new.rows.conn.now.in_transaction ≡ false }
         ensures survives { LeavesNoMore S.Store self.old.rows.conn.now self.new.rows.conn.now }

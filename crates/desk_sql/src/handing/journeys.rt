@@ -1,11 +1,14 @@
 //! Unfinished journeys, one at a time.
 
-ghost use Rattle.std.specs.Prelude.{◌≡◌, ◌<◌, ◌^◌, false, IfOk, option_map};
+ghost use Rattle.std.specs.Prelude.{◌≡◌, ◌<◌, ◌^◌, false, List, IfErr, IfOk, option_map};
 ghost use Rattle.sqlite.specs.Held.{state};
 ghost use Rattle.sqlite.specs.State.{HasCleanDisk};
 ghost use Rattle.desk_sql.specs.Calls.{ChangesNothing, LeavesNoMore};
 ghost use Rattle.desk_sql.specs.FoundRows.{journey_of};
 ghost use Rattle.desk_sql.specs.RemainingRows.{Hands, JourneysRest, ListsUnfinished, Begins, StaysAsItIs};
+ghost use Rattle.desk_sql.specs.Causes.{HasReason, IsUp};
+ghost use Rattle.desk_sql.specs.Readable.{IsAgentText, Each};
+ghost use Rattle.desk_sql.specs.Rows.{JourneyRow};
 
 use crate::journeys::{JourneyFound, read_journey};
 use sqlite::types::ValueRef;
@@ -47,6 +50,10 @@ impl<'c, S: Alter> UnfinishedHanded<'c, S> {
             Hands (JourneysRest S.Store self.old.rows.conn.now)
             (JourneysRest S.Store self.new.rows.conn.now) (option_map journey_of found)) }
         ensures same { ChangesNothing S.Store self.old.rows.conn.now self.new.rows.conn.now }
+        ensures reason { HasCleanDisk (state S.Store self.new.rows.conn.now) → (later : List JourneyRow)
+            → JourneysRest S.Store self.old.rows.conn.now later → Each IsAgentText later
+            → IsUp (state S.Store self.old.rows.conn.now)
+            → IfErr result (HasReason (state S.Store self.old.rows.conn.now) (state S.Store self.new.rows.conn.now)) }
         ensures mode { self.old.rows.conn.now.in_transaction ≡ false
             → self.new.rows.conn.now.in_transaction ≡ false }
         ensures survives { LeavesNoMore S.Store self.old.rows.conn.now self.new.rows.conn.now }

@@ -2,7 +2,7 @@
 use Rattle.std.proofs.Common.{inl}
 use Rattle.sqlite.specs.Held.{state}
 use Rattle.sqlite.specs.Values.{bound}
-use Rattle.desk_sql.proofs.Selecting.{leaves_no_more, gives_row, gives_no_row, row_fails_quietly}
+use Rattle.desk_sql.proofs.Selecting.{leaves_no_more, gives_row, gives_no_row, row_fails_quietly, row_fails}
 use Rattle.desk_sql.proofs.queries.first_row.Goals as goal
 
 pub returns-in-Ok-clause-row : goal.returns-in-Ok-clause-row
@@ -20,28 +20,30 @@ returns-in-Ok-clause-survives g c =
     leaves_no_more c.args.text.now c.requires (bound c.args.params.now) (state g.S.Store c.args.conn.now)
     (state g.S.Store c.query_row.new.self) c.query_row.ensures.survives
 
-pub returns-in-Err-QueryReturnedNoRows-clause-row : goal.returns-in-Err-QueryReturnedNoRows-clause-row
-returns-in-Err-QueryReturnedNoRows-clause-row g c clean =
+pub returns-in-QueryReturnedNoRows-clause-row : goal.returns-in-QueryReturnedNoRows-clause-row
+returns-in-QueryReturnedNoRows-clause-row g c clean =
     gives_no_row c.args.text.now c.requires (bound c.args.params.now) (state g.S.Store c.args.conn.now)
-    (state g.S.Store c.query_row.new.self) _ c.in-Err-QueryReturnedNoRows.field-0-is
-    (c.in-Err-QueryReturnedNoRows.ensures.row clean)
+    (state g.S.Store c.query_row.new.self) _ c.in-QueryReturnedNoRows.is
+    (c.in-Err.ensures.row clean)
 
-pub returns-in-Err-QueryReturnedNoRows-clause-quiet : goal.returns-in-Err-QueryReturnedNoRows-clause-quiet
-returns-in-Err-QueryReturnedNoRows-clause-quiet g c clean =
+pub returns-in-QueryReturnedNoRows-clause-quiet : goal.returns-in-QueryReturnedNoRows-clause-quiet
+returns-in-QueryReturnedNoRows-clause-quiet g c clean =
     inl (gives_no_row c.args.text.now c.requires (bound c.args.params.now) (state g.S.Store c.args.conn.now)
-    (state g.S.Store c.query_row.new.self) _ c.in-Err-QueryReturnedNoRows.field-0-is
-    (c.in-Err-QueryReturnedNoRows.ensures.row clean)).0
+    (state g.S.Store c.query_row.new.self) _ c.in-QueryReturnedNoRows.is
+    (c.in-Err.ensures.row clean)).0
 
-pub returns-in-Err-QueryReturnedNoRows-clause-survives : goal.returns-in-Err-QueryReturnedNoRows-clause-survives
-returns-in-Err-QueryReturnedNoRows-clause-survives g c =
+pub returns-in-QueryReturnedNoRows-clause-survives : goal.returns-in-QueryReturnedNoRows-clause-survives
+returns-in-QueryReturnedNoRows-clause-survives g c =
     leaves_no_more c.args.text.now c.requires (bound c.args.params.now) (state g.S.Store c.args.conn.now)
     (state g.S.Store c.query_row.new.self) c.query_row.ensures.survives
 
-pub returns-in-Err : goal.returns-in-Err
-returns-in-Err g c = record {
+pub returns-in_default : goal.returns-in_default
+returns-in_default g c = record {
   row = λ _. tt;
   quiet = λ clean. row_fails_quietly c.args.text.now c.requires (bound c.args.params.now) (state g.S.Store c.args.conn.now)
       (state g.S.Store c.query_row.new.self) _ (c.in-Err.ensures.row clean);
+  reason = λ clean. row_fails c.args.text.now (bound c.args.params.now) (state g.S.Store c.args.conn.now)
+      (state g.S.Store c.query_row.new.self) _ c.in_default.not-QueryReturnedNoRows (c.in-Err.ensures.row clean);
   mode = c.query_row.ensures.mode;
   survives = leaves_no_more c.args.text.now c.requires (bound c.args.params.now) (state g.S.Store c.args.conn.now)
       (state g.S.Store c.query_row.new.self) c.query_row.ensures.survives;

@@ -49,7 +49,7 @@ returns-in-Some-clause-journey g c clean s desk keeps =
     (marks_either v (state g.S.Store c.args.conn.now).now.trees found.tables s found.rows found.stands id c.in_ok-marks-in-Ok-Some.marks
     c.in_ok-marks-in-Ok-Some.ensures.first
     (λ is. c.in_ok-marks-in-Ok-Some.ensures.marks is clean s desk (subst (λ x. KeepsIn x (state g.S.Store c.read_plan.new.conn) s) is keeps2)))
-    c.in-Some.ensures
+    c.in-Some.ensures.told
 
 pub returns-in-Some-clause-same : goal.returns-in-Some-clause-same
 returns-in-Some-clause-same g c v s keeps =

@@ -1,0 +1,228 @@
+-- Why a read of the desk fails. For the functions of `sql_reads`.
+use Rattle.std.proofs.Common.{◌≡◌, ◌≢◌, ◌≤◌, ◌<◌, ◌⊎◌, inl, inr, ℕ, zero, suc, List, [], ◌∷◌, Option, Some, None, Ok, Err, Result, IsTrue, true, length, filter, map, refl, sym, ap, subst, ◌∙◌, arith}
+use Rattle.std.specs.Prelude.{◌↔◌, IsUtf8, IsSome, IfSome, IfErr, IsErrOf, min, ◌^◌, ◌+◌, ◌-◌, slice_get, filter_map, nat_le, nat_lt}
+use Rattle.std.specs.List.{AllByRecursion}
+use Rattle.std.proofs.lemmas.Bool.{and_parts, ltb-true}
+use Rattle.sqlite.specs.Store.{Ghosts}
+use Rattle.sqlite.specs.State.{State as Connected, HasCleanDisk}
+use Rattle.sqlite.specs.Held.{Held, state}
+use Rattle.sqlite.specs.declared.error.Error.{Error}
+use Rattle.sqlite.specs.declared.error.Error.TheVariants.{SqliteFailure}
+use Rattle.sqlite.specs.declared.error.ErrorCode.TheVariants.{OutOfMemory}
+use Rattle.sqlite_rules.specs.Lists.{Has}
+use Rattle.sqlite_rules.proofs.ListLemmas.{all_has, has_filtered}
+use Rattle.allotment.proofs.ShortLemmas.{is_utf8}
+use Rattle.commands.specs.declared.faults.Fault.{Fault}
+use Rattle.commands.specs.declared.faults.Fault.TheVariants.{Memory, Store}
+use Rattle.commands.specs.declared.items.Item.{Item}
+use Rattle.commands.specs.declared.items.Item.TheVariants.{Transaction, Compensation, Turn, Save}
+use Rattle.commands.specs.Names.{is_agent}
+use Rattle.commands.proofs.NameLemmas.{agent_is_short}
+use Rattle.plan.specs.PlanModel.{numbered}
+use Rattle.desk_sql.specs.Calls.{LeavesNoMore, MaySeeIn}
+use Rattle.desk_sql.specs.Causes.{IsUp, HasFaulted, HasReason}
+use Rattle.desk_sql.specs.FoundRows.{is_numbered, is_unfinished_after, FindsJourney, FindsNextItem, FindsUnfinished, is_item_after, item_of, journey_of}
+use Rattle.desk_sql.specs.Readable.{HasAgentText, HasMeta, HaveAgentTexts}
+use Rattle.desk_sql.specs.Rows.{Tables, EntryRow, JourneyRow}
+use Rattle.desk_sql.specs.declared.journeys.JourneyFound.{JourneyFound}
+use Rattle.desk_sql.specs.declared.items.ItemFound.{ItemFound}
+use Rattle.desk_sql.specs.declared.versions.Version.{Version}
+use Rattle.desk_sql.proofs.Members.{permutation_from}
+use Rattle.ledger.specs.Answer.{State, most_events}
+use Rattle.ledger.specs.Ledger.{Event, Loaded, Began, Did, Journey, journeys, journey_at, history}
+use Rattle.saga_core.specs.Views.{cursor_of}
+use Rattle.sql_model.specs.ExpectedRows.{Begun, begun, begun_of, counted_from, cursor_row, entry_row_if, entry_row_of, meta_in}
+use Rattle.sql_model.specs.Reading.{cursor_in}
+use Rattle.sql_model.specs.Standing.{StandsIn}
+use Rattle.sql_model.specs.Spelling.{IsSpelled}
+use Rattle.sql_model.specs.Keeping.{KeepsIn, WasClean}
+use Rattle.sql_model.proofs.Cursors.{cursor_back}
+use Rattle.sql_model.proofs.JourneyRows.{journey_begins, journey_told, next_above}
+use Rattle.sql_model.proofs.KeepLemmas.{seen_by}
+use Rattle.sql_reads.specs.Causes.{StaysUp}
+use Rattle.sql_reads.specs.GoodRows.{IsMemory}
+use Rattle.sql_reads.specs.Reading.{row_of}
+use Rattle.sql_reads.proofs.ReadLemmas.{was_clean}
+
+-- a fault that an error of the store was turned into
+pub of_error : (old new : Connected) (e : Error) (f : Fault)
+    → (f ≡ Memory ↔ e ≡ SqliteFailure OutOfMemory) → HasReason old new e → f ≡ Store → HasFaulted old new
+of_error old new e f memory (inl is) store = absurd (let ran : Memory ≡ Store = sym (memory.1 is) ∙ store in cc)
+of_error old new e f memory (inr faulted) store = faulted
+
+-- what fails only out of memory is no fault of the store
+pub not_store : {V : Type 0} (r : Result V Fault) → IfErr r IsMemory → ¬ IsErrOf r Store
+not_store (Ok v) memory store = cc
+not_store {V} (Err f) memory store =
+    let same : ◌≡◌ {A = Result V Fault} (Err f) (Err Store) = store in
+    let is : f ≡ Store = cc in
+    let bad : Memory ≡ Store = sym memory ∙ is in cc
+
+-- what is told of each row is something
+pub all_some : {X Y : Type 0} (f : X → Option Y) (xs : List X) (ys : List Y) → map f xs ≡ map Some ys
+    → AllByRecursion (λ x. IsSome (f x)) xs
+all_some f [] ys e = tt
+all_some f (x ∷ xs) [] e = absurd (cc)
+all_some {X} {Y} f (x ∷ xs) (y ∷ ys) e =
+    let both : f x ∷ map f xs ≡ Some y ∷ map Some ys = e in
+    let head : f x ≡ Some y = cc in
+    let tail : map f xs ≡ map Some ys = cc in
+    (subst (λ o. IsSome o) (sym head) refl, all_some f xs ys tail)
+
+-- Rows of journeys.
+
+-- an agent is a text
+pub agent_text : (bytes : List ℕ) → IsTrue (is_agent bytes) → IsUtf8 bytes
+agent_text bytes good = is_utf8 bytes (and_parts _ _ (agent_is_short bytes good)).1
+
+-- there are no more journeys than events
+pub few_journeys : (l : List Event) → length (journeys l) ≤ length l
+few_journeys [] = omega arith
+few_journeys (Loaded name rows ∷ l) = omega (arith, few_journeys l)
+few_journeys (Began agent plan ∷ l) = omega (arith, few_journeys l)
+few_journeys (Did journey item ∷ l) = omega (arith, few_journeys l)
+
+-- no journey was begun by an event after the last one
+begun_low : (first : ℕ) (l : List Event) (i : ℕ) (b : Begun)
+    → slice_get (filter_map (λ (e : ℕ × Event). begun_of e.0 e.1) (counted_from first l)) i ≡ Some b → b.num < first + length l
+begun_low first [] i b e = absurd (cc)
+begun_low first (Loaded name rows ∷ l) i b e = let low = begun_low (suc first) l i b e in omega (arith, low)
+begun_low first (Did journey item ∷ l) i b e = let low = begun_low (suc first) l i b e in omega (arith, low)
+begun_low first (Began agent plan ∷ l) zero b e =
+    let same : Some (record { num = first; journey = record { agent = agent; plan = plan } }) ≡ Some b = e in
+    let is : first ≡ b.num = cc in omega (arith, is)
+begun_low first (Began agent plan ∷ l) (suc i) b e = let low = begun_low (suc first) l i b e in omega (arith, low)
+
+pub number_low : (l : List Event) (id : ℕ) (b : Begun) → numbered (begun l) id ≡ Some b → b.num ≤ length l
+number_low l zero b e = absurd (cc)
+number_low l (suc i) b e = let low = begun_low 1 l i b e in omega (arith, low)
+
+-- nor was an item made by one
+entry_low : (first : ℕ) (l : List Event) (r : EntryRow)
+    → Has (filter_map (λ (e : ℕ × Event). entry_row_if e.0 e.1) (counted_from first l)) r → r.num < first + length l
+entry_low first [] r h = absurd h
+entry_low first (Loaded name rows ∷ l) r h = let low = entry_low (suc first) l r h in omega (arith, low)
+entry_low first (Began agent plan ∷ l) r h = let low = entry_low (suc first) l r h in omega (arith, low)
+entry_low first (Did journey item ∷ l) r (inl is) =
+    let number : r.num ≡ first = ap (λ (x : EntryRow). x.num) is ∙ own item in omega (arith, number)
+  where
+    own : (i : Item) → (entry_row_of first journey i).num ≡ first
+    own (Transaction step option) = refl
+    own (Compensation step option) = refl
+    own (Turn target cause) = refl
+    own (Save position) = refl
+entry_low first (Did journey item ∷ l) r (inr h) = let low = entry_low (suc first) l r h in omega (arith, low)
+
+-- meta has its row
+pub meta_there : {v : Version} (t : Tables) (s : State) → StandsIn v t s → HasMeta t
+meta_there {v} t s st = (meta_in v s.ledger, st.meta)
+
+module _ {v : Version} (t : Tables) (s : State) (st : StandsIn v t s) (spelled : IsSpelled s.ledger) where
+  good_agent : (id : ℕ) (a : Journey) → journey_at s.ledger id ≡ Some a → IsTrue (is_agent a.agent)
+  good_agent id a at = subst (λ o. IfSome o (λ (x : Journey). IsTrue (is_agent x.agent))) at (spelled.agents id)
+
+  -- the agent of each row of a journey can be read
+  row_text : (j : JourneyRow) → Has t.journey j → IsUtf8 j.agent
+  row_text j has =
+      let told = journey_told s.ledger j (permutation_from _ t.journey j st.journey has) in
+      subst IsUtf8 (sym told.2.agent) (agent_text told.0.agent (good_agent j.id told.0 told.1))
+
+  pub has_text : (id : ℕ) → HasAgentText id t
+  has_text id j has = row_text j (has_filtered (is_numbered id) t.journey j has).0
+
+  pub have_texts : (after : ℕ) → HaveAgentTexts after t
+  have_texts after j has = row_text j (has_filtered (is_unfinished_after after) t.journey j has).0
+
+  -- a row that is found has an agent's name, tells where its journey is, and has a number of a journey and one of an event
+  pub row_agent : (r : JourneyFound) → Has t.journey (journey_of r) → IsTrue (is_agent (journey_of r).agent)
+  row_agent r has =
+      let told = journey_told s.ledger (journey_of r) (permutation_from _ t.journey (journey_of r) st.journey has) in
+      subst (λ x. IsTrue (is_agent x)) (sym told.2.agent) (good_agent r.id told.0 told.1)
+
+  pub row_cursor : (r : JourneyFound) → Has t.journey (journey_of r) → IsSome (cursor_in (row_of r.cursor))
+  row_cursor r has =
+      let told = journey_told s.ledger (journey_of r) (permutation_from _ t.journey (journey_of r) st.journey has) in
+      let at = cursor_of told.0.plan (history s.ledger r.id) in
+      let is : cursor_in (row_of r.cursor) ≡ Some at = ap cursor_in told.2.cursor ∙ cursor_back at in
+      rw is refl
+
+  pub row_low : (r : JourneyFound) → Has t.journey (journey_of r) → r.id ≤ most_events
+  row_low r has =
+      let low = all_has _ t.journey (journey_of r) (next_above s.ledger t.journey st.journey) has in
+      omega (arith, low, few_journeys s.ledger, spelled.few)
+
+  pub row_number : (id : ℕ) (r : JourneyFound) → FindsJourney id t (Some r) → r.num ≤ most_events
+  row_number id r finds =
+      let began = journey_begins s.ledger t.journey id (journey_of r) st.journey finds in
+      let low = number_low s.ledger id began.0 began.1 in
+      let is : r.num ≡ began.0.num = began.2 in omega (arith, low, is, spelled.few)
+
+  -- what is found of a number, or above one, is a row
+  pub found_there : (id : ℕ) (r : JourneyFound) → FindsJourney id t (Some r) → Has t.journey (journey_of r)
+  found_there id r finds = (has_filtered (is_numbered id) t.journey (journey_of r) finds).0
+
+  pub unfinished_there : (after : ℕ) (r : JourneyFound) → FindsUnfinished after t (Some r) → Has t.journey (journey_of r)
+  unfinished_there after r finds = (has_filtered (is_unfinished_after after) t.journey (journey_of r) finds.0).0
+
+  pub unfinished_above : (after : ℕ) (r : JourneyFound) → FindsUnfinished after t (Some r) → after < r.id
+  unfinished_above after r finds =
+      ltb-true after r.id
+      (and_parts (nat_lt after r.id) (nat_le r.cursor.phase 1) (has_filtered (is_unfinished_after after) t.journey (journey_of r) finds.0).1).0
+
+  -- the event of an item that is found is one of the ledger
+  pub item_early : (journey after : ℕ) (found : Option ItemFound) → FindsNextItem journey after t found
+      → IfSome found (λ (i : ItemFound). i.num ≤ most_events)
+  item_early journey after None finds = tt
+  item_early journey after (Some i) finds =
+      let has = (has_filtered (is_item_after journey after) t.entries (item_of journey i) finds.0).0 in
+      let low = entry_low 1 s.ledger (item_of journey i) (permutation_from _ t.entries (item_of journey i) st.entries has) in
+      omega (arith, low, spelled.few)
+
+module _ {S : Type 0} (g : Ghosts S) (old new : Held S) where
+  -- a read of rows fails for a reason on a desk that is kept
+  pub sql_reason : {v : Version} (Fits : Tables → Type 0) (e : Error)
+      → (HasCleanDisk (state g new) → (t : Tables) → MaySeeIn v (state g old) t → Fits t → IsUp (state g old)
+      → HasReason (state g old) (state g new) e)
+      → LeavesNoMore g old new → HasCleanDisk (state g new) → (s : State) → KeepsIn v (state g old) s
+      → ((t : Tables) → StandsIn v t s → Fits t) → IsUp (state g old) → HasReason (state g old) (state g new) e
+  sql_reason Fits e fails survives clean s keeps fits up =
+      let kept = keeps (was_clean g old new survives clean) in
+      let seen = seen_by (state g old) s kept in
+      fails clean seen.tables seen.may (fits seen.tables (seen.stands up.is_open)) up
+
+  -- a call that leaves no more counts on, and stays up
+  pub stays_up : LeavesNoMore g old new → StaysUp g old new
+  stays_up survives = record {
+    counts = survives.counts;
+    up = λ clean up. (elim (survives.closes clean up.is_open) [
+      | inl live ↦ inl (record { is_open = live; unlimited = survives.limit ∙ up.unlimited })
+      | inr faulted ↦ inr faulted
+    ]);
+  }
+
+-- One call after another.
+
+-- a fault in the later part is one in the whole, and so is one in the earlier
+later : (a b c : ℕ) → a ≤ b → min (b + 1) (2 ^ 64 - 1) ≤ c → min (a + 1) (2 ^ 64 - 1) ≤ c
+later a b c low more = omega (arith, low, more)
+
+earlier : (a b c : ℕ) → min (a + 1) (2 ^ 64 - 1) ≤ b → b ≤ c → min (a + 1) (2 ^ 64 - 1) ≤ c
+earlier a b c more low = omega (arith, low, more)
+
+module _ {S : Type 0} (g : Ghosts S) (a b c : Held S) where
+  pub stays_twice : StaysUp g a b → StaysUp g b c → WasClean g b c → StaysUp g a c
+  stays_twice one two less = record {
+    counts = (let low = one.counts in let high = two.counts in omega (arith, low, high));
+    up = λ clean up. (elim (one.up (less clean) up) [
+      | inr faulted ↦ inr (earlier _ _ _ faulted two.counts)
+      | inl mid ↦ (elim (two.up clean mid) [ inl still ↦ inl still | inr faulted ↦ inr (later _ _ _ one.counts faulted) ])
+    ]);
+  }
+
+  -- a call fails that only tells of a store which the one before shut
+  pub fails_twice : StaysUp g a b → StaysUp g b c → WasClean g b c → HasCleanDisk (state g c) → IsUp (state g a)
+      → (IsUp (state g b) → HasFaulted (state g b) (state g c)) → HasFaulted (state g a) (state g c)
+  fails_twice one two less clean up fails = elim (one.up (less clean) up) [
+    | inr faulted ↦ earlier _ _ _ faulted two.counts
+    | inl mid ↦ later _ _ _ one.counts (fails mid)
+  ]

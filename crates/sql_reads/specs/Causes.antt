@@ -1,0 +1,48 @@
+-- Why a read of the desk fails, and what is left of a store that was up.
+use Rattle.std.specs.Prelude.{◌≡◌, ◌≤◌, ◌⊎◌, Result, IfOk, IsErrOf}
+use Rattle.sqlite.specs.Store.{Ghosts}
+use Rattle.sqlite.specs.Held.{Held, state}
+use Rattle.sqlite.specs.State.{HasCleanDisk}
+use Rattle.commands.specs.declared.faults.Fault.{Fault}
+use Rattle.commands.specs.declared.faults.Fault.TheVariants.{Store}
+use Rattle.desk_sql.specs.declared.versions.Version.{Version}
+use Rattle.desk_sql.specs.declared.versions.Version.TheVariants.{Two}
+use Rattle.desk_sql.specs.Causes.{IsUp, HasFaulted}
+use Rattle.ledger.specs.Answer.{State}
+use Rattle.sql_model.specs.Keeping.{KeepsIn}
+use Rattle.sql_model.specs.Spelling.{IsSpelled}
+use Rattle.sql_model.specs.Standing.{IsDesk}
+
+module _ {S : Type 0} (g : Ghosts S) (old new : Held S) where
+  -- While the store returns what was written, and what the connection kept in tables of this version is a desk that fits: a
+  -- fault of a store that was up says that its disk failed or refused meanwhile. A look at the rows never is one.
+  abbrev pub FailsWhere : Version → (State → Type 0) → {V : Type 0} → Result V Fault → Type 0
+  FailsWhere v Fits result =
+      HasCleanDisk (state g new) → (s : State) → IsDesk s → IsSpelled s.ledger → KeepsIn v (state g old) s
+      → Fits s → IsUp (state g old) → IsErrOf result Store → HasFaulted (state g old) (state g new)
+
+  -- the same, of each desk
+  abbrev pub FailsForReasonIn : Version → {V : Type 0} → Result V Fault → Type 0
+  FailsForReasonIn v result =
+      HasCleanDisk (state g new) → (s : State) → IsDesk s → IsSpelled s.ledger → KeepsIn v (state g old) s
+      → IsUp (state g old) → IsErrOf result Store → HasFaulted (state g old) (state g new)
+
+  -- in tables of the newest version
+  abbrev pub FailsForReason : {V : Type 0} → Result V Fault → Type 0
+  FailsForReason result = FailsForReasonIn Two result
+
+  -- in tables of each version
+  abbrev pub FailsForReasonEach : {V : Type 0} → Result V Fault → Type 0
+  FailsForReasonEach result = (v : Version) → FailsForReasonIn v result
+
+  -- what is answered is so of each such desk
+  abbrev pub ShowsSpelled : Version → {V : Type 0} → Result V Fault → (V → Type 0) → Type 0
+  ShowsSpelled v result IsShown =
+      HasCleanDisk (state g new) → (s : State) → IsDesk s → IsSpelled s.ledger → KeepsIn v (state g old) s
+      → IfOk result IsShown
+
+  -- no fault is forgotten, and a store that was up is so until its disk fails or refuses
+  pub record StaysUp : Type 0 where
+    pub counts : (state g old).faults ≤ (state g new).faults
+    pub up : HasCleanDisk (state g new) → IsUp (state g old)
+        → IsUp (state g new) ⊎ HasFaulted (state g old) (state g new)
