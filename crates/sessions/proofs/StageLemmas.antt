@@ -1,0 +1,232 @@
+-- Where a stage of a session leaves the desk. For the stages.
+use Rattle.std.proofs.Common.{◌≡◌, ◌⊎◌, ℕ, List, [], ◌∷◌, ◌++◌, length, Bool, true, false, refl, sym, ap, subst, ◌∙◌, arith, append-nil, inl, inr}
+use Rattle.std.specs.Prelude.{Option, None, Some, IfSome}
+use Rattle.std.proofs.KnownBytes.{Appends-nil}
+use Rattle.sqlite.specs.Tree.{Trees}
+use Rattle.sqlite.specs.State.{State as Connected, HasCleanDisk}
+use Rattle.desk_sql.specs.declared.versions.Version.{Version}
+use Rattle.desk_sql.specs.declared.versions.Version.TheVariants.{Two}
+use Rattle.commands.specs.declared.faults.Fault.{Fault}
+use Rattle.ledger.specs.Answer.{State, start}
+use Rattle.ledger.specs.World.{Moment, after, IsWorld}
+use Rattle.saga_core.specs.Chains.{GoesOnTo}
+use Rattle.saga_core.specs.Runs.{Asks}
+use Rattle.saga_core.specs.Worlds.{KeepLimits, Progress, StandsAtEnd, EndsWith, EndsAmong, GoesOnWith, continued, crashed, is_store}
+use Rattle.sql_model.specs.Keeping.{Means, MeansOf, MayLeave}
+use Rattle.recovery.specs.Recovers.{HasOneRecovery}
+use Rattle.recovery.specs.Worlds.{EndsRecovered, EndsRecovering, orders_of}
+use Rattle.protocols.specs.Scenes.{Scene}
+use Rattle.protocols.specs.Faults as serving
+use Rattle.protocols.specs.declared.faults.ServeFault.{ServeFault}
+use Rattle.desk_lines.specs.Lines.{lines}
+use Rattle.desk_lines.specs.Serving as of_lines
+use Rattle.desk_lines.specs.Worlds as by_line
+use Rattle.desk_http.specs.Serving as of_messages
+use Rattle.desk_http.specs.Worlds as by_message
+use Rattle.sessions.specs.Openings.{Input, Lines, Messages, Answers, AsksFor, IsAnsweredBy}
+use Rattle.sessions.specs.Chains.{StandsAs}
+use Rattle.sessions.specs.Stages.{HasRecovered, Recovering, LeavesRecovering, Answering, LeavesAnswering}
+use Rattle.sessions.proofs.TellingLemmas.{Tells, lines_tell_all, lines_tell, messages_come, messages_tell_all, messages_tell}
+
+-- Asks that were carried out.
+
+-- all of them
+abbrev all_done : (asks : Asks) → KeepLimits asks → Progress asks
+all_done asks limits = record {
+  answered = asks;
+  under_way = [];
+  later = [];
+  in_order = sym (append-nil asks) ∙ sym (append-nil (asks ++ []));
+  at_most_one = omega arith;
+  limits = subst KeepLimits (sym (append-nil asks)) limits;
+}
+
+-- none of them
+abbrev none_done : (asks : Asks) → Progress asks
+none_done asks = record {
+  answered = [];
+  under_way = [];
+  later = asks;
+  in_order = refl;
+  at_most_one = omega arith;
+  limits = tt;
+}
+
+-- a world that does not go on
+abbrev pub goes_nowhere : (w : List Moment) (asks : Asks) → GoesOnTo w asks w
+goes_nowhere w asks = record { progress = none_done asks; was_kept = false; goes = sym (append-nil w) }
+
+-- What may be found.
+
+-- whatever may be found stands for one of two states
+pub either : (c : Connected) (s t : State) → HasCleanDisk c → MayLeave c s t → (db : Trees) → c.may_leave db
+    → StandsAs db s ⊎ StandsAs db t
+either c s t clean left db may =
+    elim (left clean db may) [
+      | inl m ↦ inl (Two, m)
+      | inr m ↦ inr (Two, m)
+    ]
+
+-- what is left stands for the end of a world that went on, as far as it came
+pub record Left {asks : Asks} (w : List Moment) (progress : Progress asks) (db : Trees) : Type 0 where
+  pub was_kept : Bool
+  pub world : IsWorld (crashed w progress was_kept)
+  pub stands : StandsAs db (after start (crashed w progress was_kept))
+
+module _ (c : Connected) (leaves : State → State → Type 0) (clean : HasCleanDisk c)
+    (told : (s t : State) → leaves s t → MayLeave c s t) where
+  pub left_among : (stands : State → Type 0) (w : List Moment) (asks : Asks) (failed : Bool)
+      (among : EndsAmong stands leaves w asks failed) (db : Trees) → c.may_leave db → Left w among.progress db
+  left_among stands w asks failed among db may =
+      elim (either c _ _ clean (told _ _ among.left.left) db may) [
+        | inl m ↦ record { was_kept = false; world = among.left.first; stands = m }
+        | inr m ↦ record { was_kept = true; world = among.left.second; stands = m }
+      ]
+
+  -- recovery stopped
+  pub stopped_recovering : (stands : State → Type 0) (w : List Moment) (fault : Fault)
+      → EndsRecovering stands leaves w fault → LeavesRecovering c.may_leave w
+  stopped_recovering stands w fault r db may =
+      let l = left_among stands w _ _ r.among db may in
+      record {
+        events = r.events ++ r.next ++ r.later;
+        is = r.is;
+        end = crashed w r.among.progress l.was_kept;
+        goes = record { progress = r.among.progress; was_kept = l.was_kept; goes = refl };
+        world = l.world;
+        stands = l.stands;
+      }
+
+-- it did not begin
+pub not_begun : (w : List Moment) (finds : Trees → Type 0) → IsWorld w → HasOneRecovery (after start w)
+    → ((db : Trees) → finds db → StandsAs db (after start w)) → LeavesRecovering finds w
+not_begun w finds world one means db may = record {
+  events = one.events;
+  is = one.is;
+  end = w;
+  goes = goes_nowhere w (orders_of one.events);
+  world = world;
+  stands = means db may;
+}
+
+-- it was completed
+pub has_recovered : (stands : State → Type 0) (leaves : State → State → Type 0) (w : List Moment)
+    → EndsRecovered stands leaves w → HasRecovered stands w
+has_recovered stands leaves w r = record { events = r.events; is = r.is; ends = r.ends.ends }
+
+-- Answers.
+
+-- all was answered
+module _ (x : Scene) (w : List Moment) (IsThere : State → Type 0) (stays : (s : State) → x.stands s → IsThere s) where
+  all_answered : (input : Input) (asks : Asks) → AsksFor input asks → EndsWith x.stands x.leaves w asks
+      → Tells x.held x.holds (after start w) input asks → Answering x.held x.holds w input IsThere
+  all_answered input asks come ends tells = record {
+    told = tells.told;
+    wrote = tells.wrote;
+    end = continued w asks [];
+    answers = record {
+      asks = asks;
+      come = come;
+      goes = record { progress = all_done asks ends.limits; was_kept = false; goes = refl };
+      is_told = tells.is_told;
+    };
+    world = ends.ends.world;
+    there = stays (after start (continued w asks [])) ends.ends.stands_there;
+  }
+
+  pub lines_answered : (bytes : List ℕ) (count : ℕ) → EndsWith x.stands x.leaves w (by_line.asks_in (lines bytes))
+      → of_lines.AnswersAll x (after start w) bytes count → Answering x.held x.holds w (Lines bytes) IsThere
+  lines_answered bytes count ends all =
+      all_answered (Lines bytes) (by_line.asks_in (lines bytes))
+      (lines bytes, [], sym (append-nil (lines bytes)), refl) ends (lines_tell_all x (after start w) bytes count all)
+
+  pub messages_answered : (bytes : List ℕ) (count : ℕ) → by_message.EndsWithMessages x w bytes count
+      → Answering x.held x.holds w (Messages bytes) IsThere
+  messages_answered bytes count e =
+      all_answered (Messages bytes) (by_message.asks_in e.all.messages)
+      (e.all.messages, e.all.rest, e.all.answered.begins, refl) e.ends
+      (messages_tell_all x (after start w) bytes count e.all)
+
+-- the same of lines that are known
+pub lines_answered_if_known : (x : Scene) (known : Option (List ℕ)) (count : ℕ) (stood IsThere : State → Type 0)
+    → ((s : State) → x.stands s → IsThere s)
+    → ((s : State) → stood s → IfSome known (λ bytes. of_lines.AnswersAll x s bytes count))
+    → IfSome known (λ bytes. GoesOnWith stood x.stands x.leaves (by_line.asks_in (lines bytes)))
+    → IfSome known (λ bytes. (w : List Moment) → StandsAtEnd stood w → Answering x.held x.holds w (Lines bytes) IsThere)
+lines_answered_if_known x None count stood IsThere stays all goes = tt
+lines_answered_if_known x (Some bytes) count stood IsThere stays all goes =
+    λ w here. lines_answered x w IsThere stays bytes count (goes w here) (all (after start w) here.stands_there)
+
+-- nothing was asked
+pub not_asked : (held : Option (List ℕ)) (stands : State → Type 0) (w : List Moment) (finds : Trees → Type 0)
+    (input : Input) → AsksFor input [] → IsAnsweredBy (after start w) input [] [] → StandsAtEnd stands w
+    → ((db : Trees) → finds db → StandsAs db (after start w)) → LeavesAnswering finds held held w input
+not_asked held stands w finds input come none here means db may = record {
+  told = [];
+  wrote = Appends-nil held;
+  end = w;
+  answers = record {
+    asks = [];
+    come = come;
+    goes = goes_nowhere w [];
+    is_told = record { answered = []; others = []; done = refl; answers = []; are = none; unsent = []; sent = refl };
+  };
+  world = here.world;
+  there = means db may;
+}
+
+pub no_lines_asked : (held : Option (List ℕ)) (stands : State → Type 0) (w : List Moment) (finds : Trees → Type 0)
+    (bytes : List ℕ) → StandsAtEnd stands w → ((db : Trees) → finds db → StandsAs db (after start w))
+    → LeavesAnswering finds held held w (Lines bytes)
+no_lines_asked held stands w finds bytes =
+    not_asked held stands w finds (Lines bytes) ([], lines bytes, refl, refl) ([], lines bytes, refl, refl, refl)
+
+pub no_messages_asked : (held : Option (List ℕ)) (stands : State → Type 0) (w : List Moment) (finds : Trees → Type 0)
+    (bytes : List ℕ) → StandsAtEnd stands w → ((db : Trees) → finds db → StandsAs db (after start w))
+    → LeavesAnswering finds held held w (Messages bytes)
+no_messages_asked held stands w finds bytes =
+    not_asked held stands w finds (Messages bytes) ([], bytes, refl, refl)
+    ([], bytes, [], record { begins = refl; are = refl }, refl, refl)
+
+-- a fault came
+module _ (x : Scene) (c : Connected) (clean : HasCleanDisk c) (told : (s t : State) → x.leaves s t → MayLeave c s t)
+    (w : List Moment) (bytes : List ℕ) where
+  pub stopped_at_line : (fault : ServeFault) → by_line.EndsAmongLines x w bytes fault
+      → LeavesAnswering c.may_leave x.held x.holds w (Lines bytes)
+  stopped_at_line fault e db may =
+      let l = left_among c x.leaves clean told x.stands w _ _ e.among db may in
+      let tells = lines_tell x (after start w) bytes fault e.some.answered e.some.later e.among.progress.answered
+      e.some.cut e.some.leaves e.carried_out in
+      record {
+        told = tells.told;
+        wrote = tells.wrote;
+        end = crashed w e.among.progress l.was_kept;
+        answers = record {
+          asks = by_line.asks_in (lines bytes);
+          come = (lines bytes, [], sym (append-nil (lines bytes)), refl);
+          goes = record { progress = e.among.progress; was_kept = l.was_kept; goes = refl };
+          is_told = tells.is_told;
+        };
+        world = l.world;
+        there = l.stands;
+      }
+
+  pub stopped_at_message : (fault : ServeFault) → by_message.EndsAmongMessages x w bytes fault
+      → LeavesAnswering c.may_leave x.held x.holds w (Messages bytes)
+  stopped_at_message fault e db may =
+      let l = left_among c x.leaves clean told x.stands w _ _ e.among db may in
+      let tells = messages_tell x (after start w) bytes e.some.rest fault e.some.messages e.next e.some.pages
+      e.among.progress.answered e.some.answered e.comes e.some.leaves e.carried_out in
+      record {
+        told = tells.told;
+        wrote = tells.wrote;
+        end = crashed w e.among.progress l.was_kept;
+        answers = record {
+          asks = by_message.asks_in (e.some.messages ++ e.next);
+          come = messages_come bytes e.some.rest e.some.messages e.next e.some.answered.begins e.comes;
+          goes = record { progress = e.among.progress; was_kept = l.was_kept; goes = refl };
+          is_told = tells.is_told;
+        };
+        world = l.world;
+        there = l.stands;
+      }

@@ -1,0 +1,67 @@
+-- How sessions lead from what might be found before them to what may be found after them.
+-- `found` and `finds` say of a database that an opening might find it before, and may find it after; `held` and `holds`
+-- are the bytes of the writer.
+use Rattle.std.specs.Prelude.{◌≡◌, ℕ, List, [], ◌∷◌, Option, Some, Result, Ok, Err}
+use Rattle.sqlite.specs.Tree.{Trees}
+use Rattle.sqlite.specs.Held.{Held, state}
+use Rattle.sqlite.specs.State.{HasCleanDisk}
+use Rattle.sqlite.specs.Store.{Ghosts}
+use Rattle.sqlite_trees.specs.View.{IsClean}
+use Rattle.desk_sql.specs.declared.versions.Version.{Version}
+use Rattle.ledger.specs.Answer.{State, start}
+use Rattle.ledger.specs.World.{Moment, after, IsWorld}
+use Rattle.sql_model.specs.Keeping.{MeansOf}
+use Rattle.sessions.specs.Openings.{Input, Lines, Messages}
+use Rattle.sessions.specs.Worlds.{GoesOnBy}
+use Rattle.sessions.specs.Promises.{IsKeptPromise}
+use Rattle.sessions.specs.declared.running.Session.{Session}
+
+-- the database stands for this state, in tables of some version; one without tables stands for a new desk
+abbrev pub StandsAs : Trees → State → Type 0
+StandsAs db s = (v : Version) × MeansOf v db s
+
+-- openings over these inputs go on from the world w, and this database stands for their end
+pub record Leads (held holds : Option (List ℕ)) (inputs : List Input) (w : List Moment) (db : Trees) : Type 0 where
+  pub end : List Moment
+  pub goes : GoesOnBy held holds inputs w end
+  pub stands : StandsAs db (after start end)
+
+-- each database that may be found stands for the end of such a world
+abbrev pub LeadsEach : (Trees → Type 0) → Option (List ℕ) → Option (List ℕ) → List Input → List Moment → Type 0
+LeadsEach finds held holds inputs w = (db : Trees) → finds db → Leads held holds inputs w db
+
+-- The step. Each database that may be found after the sessions comes from one that might be found before them: each
+-- world at whose end that one stood goes on, with the sessions, to a world at whose end this one stands.
+abbrev pub Comes : (Trees → Type 0) → (Trees → Type 0) → Option (List ℕ) → Option (List ℕ) → List Input → Type 0
+Comes found finds held holds inputs =
+    (db : Trees) → finds db → (before : Trees) × found before
+    × ((w : List Moment) → IsWorld w → StandsAs before (after start w) → Leads held holds inputs w db)
+
+-- whatever may be found is a new desk
+abbrev pub IsNewDesk : (Trees → Type 0) → Type 0
+IsNewDesk found = (db : Trees) → found db → StandsAs db start
+
+-- Whatever may be found stands for the end of a world of these sessions, whose ledger is as it is promised.
+abbrev pub Headline : (Trees → Type 0) → Option (List ℕ) → Option (List ℕ) → List Input → Type 0
+Headline finds held holds inputs =
+    (db : Trees) → finds db → (leads : Leads held holds inputs [] db) × IsKeptPromise leads.end
+
+-- these are the inputs of the sessions: of each its lines, and then its messages
+abbrev pub AreInputs : {R M : Type 0} → (R → Option (List ℕ)) → (M → Option (List ℕ)) → List (Session R M)
+    → List Input → Type 0
+AreInputs lines messages [] inputs = inputs ≡ []
+AreInputs lines messages (session ∷ later) inputs =
+    (text bytes : List ℕ) × (rest : List Input) × (inputs ≡ Lines text ∷ Messages bytes ∷ rest)
+    × (lines session.lines ≡ Some text) × (messages session.messages ≡ Some bytes)
+    × AreInputs lines messages later rest
+
+module _ {S : Type 0} (g : Ghosts S) where
+  -- what may be found after a crash of the connection; or of a store that could not be opened again
+  abbrev pub MayBeFound : Result (Held S) S → Trees → Type 0
+  MayBeFound (Ok conn) db = (state g conn).may_leave db
+  MayBeFound (Err store) db = g.recovers store db
+
+  -- the disk returned what was written, so far
+  abbrev pub IsSoundDisk : Result (Held S) S → Type 0
+  IsSoundDisk (Ok conn) = HasCleanDisk (state g conn)
+  IsSoundDisk (Err store) = IsClean (g.view store)

@@ -1,0 +1,76 @@
+-- What one opening of the store adds to a world: the desk is reopened and recovers, and then answers what comes to it.
+use Rattle.std.specs.Prelude.{◌≡◌, ◌⊎◌, ℕ, List, [], ◌∷◌, ◌++◌}
+use Rattle.std.specs.List.{concat}
+use Rattle.ledger.specs.Answer.{State, start}
+use Rattle.ledger.specs.Ledger.{Event}
+use Rattle.ledger.specs.World.{Moment, after}
+use Rattle.saga_core.specs.Chains.{GoesOnTo, reopened}
+use Rattle.saga_core.specs.Runs.{Asks}
+use Rattle.saga_core.specs.Worlds.{continued}
+use Rattle.recovery.specs.Recovers.{IsRecovery}
+use Rattle.recovery.specs.Worlds.{orders_of}
+use Rattle.desk_lines.specs.Lines.{lines, answer_lines, written}
+use Rattle.desk_lines.specs.Worlds as by_line
+use Rattle.http_messages.specs.Messages.{Message, BeginsWithAll}
+use Rattle.desk_http.specs.Serving.{Answered}
+use Rattle.desk_http.specs.Worlds as by_message
+
+-- what comes to a desk that was opened: the bytes of lines, or those of the messages of a connection
+pub data Input : Type 0 where
+  Lines : (bytes : List ℕ) → Input
+  Messages : (bytes : List ℕ) → Input
+
+-- the first lines, or the first messages, of an input ask for these
+abbrev pub AsksFor : Input → Asks → Type 0
+AsksFor (Lines bytes) asks =
+    (first later : List (List ℕ)) × (lines bytes ≡ first ++ later) × (asks ≡ by_line.asks_in first)
+AsksFor (Messages bytes) asks =
+    (first : List Message) × (rest : List ℕ) × BeginsWithAll bytes first rest × (asks ≡ by_message.asks_in first)
+
+-- the first lines, or the first messages, of an input ask for these, and these bytes answer them in this state
+abbrev pub IsAnsweredBy : State → Input → Asks → List ℕ → Type 0
+IsAnsweredBy s (Lines bytes) asks answers =
+    (first later : List (List ℕ)) × (lines bytes ≡ first ++ later) × (asks ≡ by_line.asks_in first)
+    × (answers ≡ written (answer_lines s first))
+IsAnsweredBy s (Messages bytes) asks answers =
+    (first : List Message) × (rest : List ℕ) × (pages : List (List ℕ)) × Answered s bytes first rest pages
+    × (asks ≡ by_message.asks_in first) × (answers ≡ concat pages)
+
+-- what was written is a prefix of the answers to asks that were carried out, from the first on
+pub record IsTold (s : State) (input : Input) (carried_out : Asks) (told : List ℕ) : Type 0 where
+  pub answered : Asks
+  pub others : Asks
+  pub done : carried_out ≡ answered ++ others
+  pub answers : List ℕ
+  pub are : IsAnsweredBy s input answered answers
+  pub unsent : List ℕ
+  pub sent : answers ≡ told ++ unsent
+
+-- The desk answered, and the world went on from w to v: with a prefix of what the input asks for, and perhaps the next
+-- ask cut off. Each answer that was written, in whole or in part, is that of an ask that was carried out.
+pub record Answers (w : List Moment) (input : Input) (told : List ℕ) (v : List Moment) : Type 0 where
+  pub asks : Asks
+  pub come : AsksFor input asks
+  pub goes : GoesOnTo w asks v
+  pub is_told : IsTold (after start w) input goes.progress.answered told
+
+-- the world, after a reopening and the house's commands that make these events
+abbrev pub recovered : List Moment → List Event → List Moment
+recovered w events = continued (reopened w) (orders_of events) []
+
+-- the desk stopped before it was recovered, and wrote nothing
+pub record StopsRecovering (w : List Moment) (told : List ℕ) (v : List Moment) : Type 0 where
+  pub events : List Event
+  pub is : IsRecovery (after start w) events
+  pub goes : GoesOnTo (reopened w) (orders_of events) v
+  pub silent : told ≡ []
+
+-- the desk recovered, and then answered
+pub record StopsAnswering (w : List Moment) (input : Input) (told : List ℕ) (v : List Moment) : Type 0 where
+  pub events : List Event
+  pub is : IsRecovery (after start w) events
+  pub answers : Answers (recovered w events) input told v
+
+-- one opening
+abbrev pub Opening : List Moment → Input → List ℕ → List Moment → Type 0
+Opening w input told v = StopsRecovering w told v ⊎ StopsAnswering w input told v

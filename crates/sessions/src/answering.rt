@@ -1,0 +1,97 @@
+//! What a recovered desk answers, and the connection that it leaves: `Ok` where all was answered.
+ghost use Rattle.std.specs.Prelude.{◌≡◌, false, None, List, IfOk, IfErr, IfSome, OnOk};
+ghost use Rattle.sqlite.specs.Held.{state};
+ghost use Rattle.sqlite.specs.State.{HasCleanDisk};
+ghost use Rattle.desk_sql.specs.declared.versions.Version.{Version};
+ghost use Rattle.ledger.specs.Answer.{State};
+ghost use Rattle.ledger.specs.World.{Moment};
+ghost use Rattle.saga_core.specs.Worlds.{StandsAtEnd};
+ghost use Rattle.sql_model.specs.Keeping.{MayLeave, StoodFor};
+ghost use Rattle.tables.specs.BookTerms.{StandsBook, LeavesBook};
+ghost use Rattle.sessions.specs.Openings.{Lines, Messages};
+ghost use Rattle.sessions.specs.Stages.{Answering, LeavesAnswering, Stood};
+
+use crate::power::Power;
+use desk_http::serve;
+use desk_lines::run_lines;
+use recovery::Ready;
+use saga_core::Book;
+use sqlite::{Alter, Connection};
+use std::alloc::Global;
+use std::io::{Read, Write};
+use tables::TableBook;
+
+/// The connection of a recovered desk, as it is.
+fn let_go<S: Alter>(ready: Ready<TableBook<S>>) -> Connection<S>
+    ensures found { (s : State) → StandsBook S.Store ready s → Stood (state S.Store result) s }
+    ensures left { (s t : State) → LeavesBook S.Store ready s t → MayLeave (state S.Store result) s t }
+    ensures outside { result.in_transaction ≡ false }
+    ensures unlimited { result.step_limit ≡ None }
+    ensures sound { HasCleanDisk (state S.Store result) → ⟦<TableBook<S> as Book>⟧.is_sound ready }
+{
+    ready.into_inner().into_store()
+}
+
+/// Answers the lines of a reader.
+pub(crate) fn answer_lines<S: Alter, P: Power, R: Read, W: Write>(
+    alloc: Global,
+    ready: Ready<TableBook<S>>,
+    power: &mut P,
+    lines: &mut R,
+    writer: &mut W,
+) -> Result<Connection<S>, Connection<S>>
+    ensures all { IfOk result (λ c. HasCleanDisk (state S.Store c) → IfSome (R.remaining lines.old)
+        (λ text. (w : List Moment) → StandsAtEnd (StandsBook S.Store ready) w
+        → Answering (W.contents writer.old) (W.contents writer.new) w (Lines text) (Stood (state S.Store c)))) }
+    ensures outside { IfOk result (λ c. c.in_transaction ≡ false) }
+    ensures unlimited { IfOk result (λ c. c.step_limit ≡ None) }
+    ensures sound { IfOk result (λ c. HasCleanDisk (state S.Store c)
+        → ⟦<TableBook<S> as Book>⟧.is_sound ready) }
+
+    ensures left { IfErr result (λ c. HasCleanDisk (state S.Store c) → IfSome (R.remaining lines.old)
+        (λ text. (w : List Moment) → StandsAtEnd (StandsBook S.Store ready) w
+        → LeavesAnswering (state S.Store c).may_leave (W.contents writer.old) (W.contents writer.new) w (Lines text))) }
+    ensures unharmed { IfErr result (λ c. HasCleanDisk (state S.Store c)
+        → ⟦<TableBook<S> as Book>⟧.is_sound ready) }
+{
+    let mut ready = ready;
+    if !power.is_on() {
+        return Err(let_go(ready));
+    }
+    match run_lines(alloc, lines, writer, &mut ready) {
+        Ok(_) => Ok(let_go(ready)),
+        Err(_) => Err(let_go(ready)),
+    }
+}
+
+/// Serves the messages of a connection.
+pub(crate) fn answer_messages<S: Alter, P: Power, R: Read, W: Write>(
+    alloc: Global,
+    ready: Ready<TableBook<S>>,
+    power: &mut P,
+    messages: &mut R,
+    writer: &mut W,
+) -> Result<Connection<S>, Connection<S>>
+    ensures all { IfOk result (λ c. HasCleanDisk (state S.Store c) → IfSome (R.remaining messages.old)
+        (λ bytes. (w : List Moment) → StandsAtEnd (StandsBook S.Store ready) w
+        → Answering (W.contents writer.old) (W.contents writer.new) w (Messages bytes) (Stood (state S.Store c)))) }
+    ensures outside { IfOk result (λ c. c.in_transaction ≡ false) }
+    ensures unlimited { IfOk result (λ c. c.step_limit ≡ None) }
+    ensures sound { IfOk result (λ c. HasCleanDisk (state S.Store c)
+        → ⟦<TableBook<S> as Book>⟧.is_sound ready) }
+
+    ensures left { IfErr result (λ c. HasCleanDisk (state S.Store c) → IfSome (R.remaining messages.old)
+        (λ bytes. (w : List Moment) → StandsAtEnd (StandsBook S.Store ready) w
+        → LeavesAnswering (state S.Store c).may_leave (W.contents writer.old) (W.contents writer.new) w (Messages bytes))) }
+    ensures unharmed { IfErr result (λ c. HasCleanDisk (state S.Store c)
+        → ⟦<TableBook<S> as Book>⟧.is_sound ready) }
+{
+    let mut ready = ready;
+    if !power.is_on() {
+        return Err(let_go(ready));
+    }
+    match serve(alloc, messages, writer, &mut ready) {
+        Ok(_) => Ok(let_go(ready)),
+        Err(_) => Err(let_go(ready)),
+    }
+}

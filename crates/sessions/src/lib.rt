@@ -1,0 +1,21 @@
+//! The headline, over public calls alone: sessions with crashes leave a legal ledger of what was answered.
+//!
+//! A session opens the store that the last one left, makes a book of it, recovers, answers the lines of a reader, lets the
+//! book go into its store, opens that once more, and serves the messages of a connection. It may be stopped between any
+//! two of its calls, and each call may fail. `run_sessions` runs any number of them, each after a crash of the computer.
+//!
+//! Words: an *opening* is what comes from one `open_from` to the next: the desk recovers, and answers an *input*, lines or
+//! messages; a session is two of them.
+#![tactic(auto)]
+
+mod answering;
+mod laws;
+mod opening;
+mod power;
+mod running;
+mod visiting;
+
+pub use laws::{promises, session_that_crashes_keeps_it};
+pub use power::{Power, Steady};
+pub use running::{Session, run_sessions};
+pub use visiting::run_session;

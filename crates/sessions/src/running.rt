@@ -1,0 +1,151 @@
+//! Sessions, one after another, each after a crash of the computer.
+ghost use Rattle.std.specs.Prelude.{◌≡◌, ◌∷◌, [], false, None, List, IfOk, IfErr};
+ghost use Rattle.sqlite.specs.Held.{state};
+ghost use Rattle.sqlite.specs.State.{HasCleanDisk};
+ghost use Rattle.sqlite.specs.Tree.{Trees};
+ghost use Rattle.ledger.specs.Answer.{State};
+ghost use Rattle.sql_restart.specs.Restarts.{LeavesNoMore};
+ghost use Rattle.sessions.specs.Chains.{AreInputs, Comes, Headline, IsNewDesk, IsSoundDisk, MayBeFound, StandsAs};
+ghost use Rattle.sessions.specs.Openings.{Input};
+ghost use Rattle.sessions.specs.Stages.{ComesUp};
+
+use crate::laws::promises;
+use crate::power::Power;
+use crate::visiting::run_session;
+use recovery::one_recovery;
+use saga_core::chains;
+use sql_model::{desks, openings};
+use sql_restart::restart;
+use sqlite::{Alter, Connection};
+use sqlite_trees::store::Reopen;
+use std::alloc::Global;
+use std::io::{Read, Write};
+
+/// What comes to the desk in one session.
+#[derive(Drop)]
+pub struct Session<R, M> {
+    /// Lines, which are answered first.
+    pub lines: R,
+    /// Messages of HTTP, which are served then.
+    pub messages: M,
+}
+
+/// The connection is let go, its store crashes, and is opened again.
+fn come_up<S: Alter + Reopen + Drop>(alloc: Global, conn: Connection<S>) -> Result<Connection<S>, S>
+    ensures up { IfOk result (λ c. HasCleanDisk (state S.Store c)
+        → ComesUp (state S.Store conn) (state S.Store c)) }
+    ensures sound { IfOk result (λ c. HasCleanDisk (state S.Store c) → HasCleanDisk (state S.Store conn)) }
+    ensures outside { IfOk result (λ c. c.in_transaction ≡ false) }
+    ensures unlimited { IfOk result (λ c. c.step_limit ≡ None) }
+
+    ensures left { IfErr result (λ s. LeavesNoMore (state S.Store conn) (S.Store.view s) (S.Store.recovers s)) }
+{
+    match restart(alloc, conn) {
+        Ok(conn) => {
+            openings(&conn);
+            Ok(conn)
+        }
+        Err(store) => Err(store),
+    }
+}
+
+/// A crash, and one session, if the store is opened again.
+fn run_after_crash<S: Alter + Reopen + Drop, P: Power, R: Read + Drop, M: Read + Drop, W: Write>(
+    alloc: Global,
+    conn: Connection<S>,
+    power: &mut P,
+    session: Session<R, M>,
+    writer: &mut W,
+) -> Result<Connection<S>, S>
+    ensures step { IsSoundDisk S.Store result → (inputs : List Input) →
+        AreInputs R.remaining M.remaining (session ∷ []) inputs →
+        Comes (state S.Store conn).may_leave (MayBeFound S.Store result)
+        (W.contents writer.old) (W.contents writer.new) inputs }
+    ensures sound { IsSoundDisk S.Store result → HasCleanDisk (state S.Store conn) }
+{
+    chains();
+    desks();
+    one_recovery();
+    let Session { lines, messages } = session;
+    let mut lines = lines;
+    let mut messages = messages;
+    match come_up(alloc, conn) {
+        Ok(conn) => Ok(run_session(alloc, conn, power, &mut lines, &mut messages, writer)),
+        Err(store) => Err(store),
+    }
+}
+
+/// The next session. A store that could not be opened again is not asked any more.
+fn run_next<S: Alter + Reopen + Drop, P: Power, R: Read + Drop, M: Read + Drop, W: Write>(
+    alloc: Global,
+    at: Result<Connection<S>, S>,
+    power: &mut P,
+    session: Session<R, M>,
+    writer: &mut W,
+) -> Result<Connection<S>, S>
+    ensures step { IsSoundDisk S.Store result → (inputs : List Input) →
+        AreInputs R.remaining M.remaining (session ∷ []) inputs →
+        Comes (MayBeFound S.Store at) (MayBeFound S.Store result)
+        (W.contents writer.old) (W.contents writer.new) inputs }
+    ensures sound { IsSoundDisk S.Store result → IsSoundDisk S.Store at }
+{
+    chains();
+    desks();
+    one_recovery();
+    match at {
+        Ok(conn) => run_after_crash(alloc, conn, power, session, writer),
+        Err(store) => Err(store),
+    }
+}
+
+/// The sessions, as a step alone.
+fn run_each<S: Alter + Reopen + Drop, P: Power, R: Read + Drop, M: Read + Drop, W: Write>(
+    alloc: Global,
+    conn: Connection<S>,
+    power: &mut P,
+    sessions: Vec<Session<R, M>>,
+    writer: &mut W,
+) -> Result<Connection<S>, S>
+    ensures step { IsSoundDisk S.Store result → (inputs : List Input) →
+        AreInputs R.remaining M.remaining sessions.items inputs →
+        Comes (state S.Store conn).may_leave (MayBeFound S.Store result)
+        (W.contents writer.old) (W.contents writer.new) inputs }
+    ensures sound { IsSoundDisk S.Store result → HasCleanDisk (state S.Store conn) }
+{
+    let mut at = Ok(conn);
+    let mut sessions = sessions;
+    while !sessions.is_empty() {
+        let session = sessions.remove(0);
+        at = run_next(alloc, at, power, session, writer);
+    }
+    at
+}
+
+/// Runs the sessions, each after a crash of the computer, and gives the connection as the last one left it; or the store,
+/// if it could not be opened again, and then the later sessions do not begin.
+///
+/// Whatever may be found then comes from what might have been found before, by these sessions. For a new desk: it stands
+/// for the end of a world of them, whose ledger is legal. Each answer that was written is that of an ask that was
+/// carried out, and the ledger has the event of each that was accepted, in order, once; of the ask under way it has the
+/// whole event, or nothing. Free and held places are the allotted ones, and where recovery is complete each journey's word
+/// is a whole one.
+pub fn run_sessions<S: Alter + Reopen + Drop, P: Power, R: Read + Drop, M: Read + Drop, W: Write>(
+    alloc: Global,
+    conn: Connection<S>,
+    power: &mut P,
+    sessions: Vec<Session<R, M>>,
+    writer: &mut W,
+) -> Result<Connection<S>, S>
+    ensures headline { IsSoundDisk S.Store result → (inputs : List Input) →
+        AreInputs R.remaining M.remaining sessions.items inputs →
+        IsNewDesk (state S.Store conn).may_leave →
+        Headline (MayBeFound S.Store result) (W.contents writer.old) (W.contents writer.new) inputs }
+    ensures step { IsSoundDisk S.Store result → (inputs : List Input) →
+        AreInputs R.remaining M.remaining sessions.items inputs →
+        Comes (state S.Store conn).may_leave (MayBeFound S.Store result)
+        (W.contents writer.old) (W.contents writer.new) inputs }
+    ensures sound { IsSoundDisk S.Store result → HasCleanDisk (state S.Store conn) }
+{
+    promises();
+    run_each(alloc, conn, power, sessions, writer)
+}
