@@ -13,19 +13,6 @@ use Rattle.http_conversations.specs.declared.stages.Stage.TheVariants.{Open, Clo
 use Rattle.http_conversations.specs.Exchanges.{Exchange, AreAnswered, IsAnswered, IsLost, bytes_of, pages_of}
 use Rattle.http_conversations.specs.History.{AnswersOne, GetsPage, History, IsServed, LosesPage, Passes, TakesFirst, after_answer, after_failure, after_loss, after_received, after_sent, exchange, kept, moved_on, new_history}
 
--- one more of a list
-pub adds : {X : Type 0} (f : X → List ℕ) (xs ys : List X) (x : X) (more : List ℕ) → ys ≡ xs ++ x ∷ [] → f x ≡ more
-    → flat_map f ys ≡ flat_map f xs ++ more
-adds f xs ys x more is same = grind (arith, common_steps, is, same, flat_map-append f xs (x ∷ []), append-nil (f x))
-
-pub maps_more : {X Y : Type 0} (f : X → Y) (xs ys : List X) (x : X) (y : Y) → ys ≡ xs ++ x ∷ [] → f x ≡ y
-    → map f ys ≡ map f xs ++ y ∷ []
-maps_more f xs ys x y is same = ap (map f) is ∙ map-append f xs (x ∷ []) ∙ ap (λ t. map f xs ++ t ∷ []) same
-
--- what follows a list
-pub behind : (xs more ys : List ℕ) (n : ℕ) → ys ≡ xs ++ more → n ≡ length xs → drop n ys ≡ more
-behind xs more ys n is at = grind (arith, common_steps, is, at)
-
 -- Nothing was done yet.
 pub begins : IsServed new_history
 begins = record { rest = []; received = refl; waits = refl; answered = All-nil (IsAnswered false); sent = refl }
@@ -232,28 +219,3 @@ pub receives_some : {E : Type 0} (h k : History) (a b : Option (List ℕ)) (room
     → IfOk result (λ count. (more : List ℕ) × (length more ≡ count) × Consumes a b more × (k ≡ after_received h more))
 receives_some h k a b room (Ok count) ok = (ok.0, ok.1, ok.3, ok.4)
 receives_some h k a b room (Err e) ok = tt
-
--- Steps of what a conversation holds, put together of their parts.
-
-pub same_received : (h k : History) (more r w : List ℕ) → k ≡ record h { received = r; waiting = kept h.stage w }
-    → r ≡ h.received ++ more → w ≡ h.waiting ++ more → k ≡ after_received h more
-same_received h k more r w is rs ws =
-    is ∙ ap (λ t. record h { received = t; waiting = kept h.stage w }) rs
-    ∙ ap (λ t. record h { received = h.received ++ more; waiting = kept h.stage t }) ws
-
-pub same_answer : (h k : History) (count : ℕ) (page : List ℕ) (c : Bool) (xs : List Exchange)
-    → k ≡ moved_on (record h { exchanges = xs; pending = page }) count c
-    → xs ≡ h.exchanges ++ exchange h count (Some page) ∷ [] → k ≡ after_answer h count page c
-same_answer h k count page c xs is more =
-    is ∙ ap (λ t. moved_on (record h { exchanges = t; pending = page }) count c) more
-
-pub same_loss : (h k : History) (count : ℕ) (xs : List Exchange)
-    → k ≡ after_failure (record h { exchanges = xs })
-    → xs ≡ h.exchanges ++ exchange h count None ∷ [] → k ≡ after_loss h count
-same_loss h k count xs is more = is ∙ ap (λ t. after_failure (record h { exchanges = t })) more
-
-pub same_sent : (h : History) (count : ℕ) (sent pending : List ℕ) → sent ≡ h.sent ++ take count h.pending
-    → pending ≡ drop count h.pending → record h { sent = sent; pending = pending } ≡ after_sent h count
-same_sent h count sent pending ss ps =
-    ap (λ t. record h { sent = t; pending = pending }) ss
-    ∙ ap (λ t. record h { sent = h.sent ++ take count h.pending; pending = t }) ps

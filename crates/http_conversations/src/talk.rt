@@ -60,7 +60,11 @@ impl Talk {
     }
 
     /// Reads once, by way of a buffer that many conversations may share.
-    pub(crate) fn receive<R: Read>(&mut self, buffer: &mut [u8], reader: &mut R) -> io::Result<usize>
+    pub(crate) fn receive<R: Read>(
+        &mut self,
+        buffer: &mut [u8],
+        reader: &mut R,
+    ) -> io::Result<usize>
         ensures ok { IfOk result (λ count. (more : List ℕ) × (length more ≡ count) × (count ≤ length buffer.old)
             × Consumes (R.remaining reader.old) (R.remaining reader.new) more
             × (history_of self.new ≡ after_received (history_of self.old) more)) }

@@ -4,14 +4,6 @@ use Rattle.std.specs.Io.KnownBytes.{Appends, Consumes, Keeps}
 use Rattle.http_conversations.specs.History.{History, after_received, after_sent, Passes}
 use Rattle.http_live.specs.Faithful.{Faithful}
 
-Consumes-none : (a : Option (List ℕ)) → Consumes a a []
-Consumes-none None = tt
-Consumes-none (Some xs) = refl
-
-Appends-none : (a : Option (List ℕ)) → Appends a a []
-Appends-none None = tt
-Appends-none (Some xs) = sym (append-nil xs)
-
 Consumes-then : (a b c : Option (List ℕ)) (xs ys : List ℕ) → Consumes a b xs → Consumes b c ys → Consumes a c (xs ++ ys)
 Consumes-then None b c xs ys x y = tt
 Consumes-then (Some ps) (Some bs) (Some cs) xs ys x y = x ∙ ap (λ t. xs ++ t) y ∙ sym (append_assoc xs ys cs)
@@ -39,15 +31,6 @@ Appends-kept (Some ps) None c xs x y = absurd x
 module _ {R W : Type 0} (remaining : R → Option (List ℕ)) (contents : W → Option (List ℕ)) (came : List (R × W)) where
   abbrev Of : R → W → History → Type 0
   Of reader writer h = Faithful remaining contents came reader writer h.received h.sent
-
-  pub comes : (reader : R) (writer : W) (h : History) → came ≡ (reader, writer) ∷ [] → h.received ≡ [] → h.sent ≡ [] → Of reader writer h
-  comes reader writer h is none unsent = record {
-    first_reader = reader;
-    first_writer = writer;
-    were = is;
-    read = subst (Consumes (remaining reader) (remaining reader)) (sym none) (Consumes-none (remaining reader));
-    written = subst (Appends (contents writer) (contents writer)) (sym unsent) (Appends-none (contents writer));
-  }
 
   pub passes : (reader : R) (writer : W) (h k : History) → Passes h k → Of reader writer h → Of reader writer k
   passes reader writer h k x y = record {

@@ -91,7 +91,9 @@ impl<R: Read + Drop, W: Write + Drop> Seat<R, W> {
 }
 
 /// As many seats as there may be connections, without any.
-pub fn empty_seats<R: Read + Drop, W: Write + Drop>(alloc: Global) -> Result<Vec<Seat<R, W>>, AllocError>
+pub fn empty_seats<R: Read + Drop, W: Write + Drop>(
+    alloc: Global,
+) -> Result<Vec<Seat<R, W>>, AllocError>
     ensures seats { IfOk result (λ seats. length seats.items ≡ SEATS) }
 {
     let mut seats = Vec::with_capacity(alloc, SEATS)?;

@@ -75,7 +75,8 @@ pub messages_stay : (texts : List (List ℕ)) (ms : List sent.Message) (rest : L
     → BeginsWithAll (concat texts ++ rest) ms rest
 messages_stay [] ms rest are = subst (λ (all : List sent.Message). BeginsWithAll rest all rest) (sym are) refl
 messages_stay (text ∷ texts) [] rest are = absurd are
-messages_stay (text ∷ texts) (m ∷ ms) rest are =
-    (concat texts ++ rest,
-     subst (λ stream. sent.BeginsWith stream m (concat texts ++ rest)) (sym (append_assoc text (concat texts) rest)) (are.0 (concat texts ++ rest)),
-     messages_stay texts ms rest are.1)
+messages_stay (text ∷ texts) (m ∷ ms) rest are = (
+  concat texts ++ rest,
+  subst (λ stream. sent.BeginsWith stream m (concat texts ++ rest)) (sym (append_assoc text (concat texts) rest)) (are.0 (concat texts ++ rest)),
+  messages_stay texts ms rest are.1,
+)

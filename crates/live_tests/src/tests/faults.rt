@@ -17,7 +17,13 @@ const PEERS: [(bool, usize, usize); 5] = [
 
 /// What a peer asks. The pages do not depend on what others do.
 fn asks(rt: &impl Abort, alloc: Global, peer: &mut Peer) {
-    for asked in ["GET /unfinished", "GET /journeys/7", "POST /journeys", "PUT /stock", "GET /none"] {
+    for asked in [
+        "GET /unfinished",
+        "GET /journeys/7",
+        "POST /journeys",
+        "PUT /stock",
+        "GET /none",
+    ] {
         let head = [asked, " HTTP/1.1\r\nDesk-Agent: ann\r\nDesk-Key: k1"];
         peer.ask(rt, alloc, &head, "no plan");
     }

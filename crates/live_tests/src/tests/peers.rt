@@ -3,7 +3,8 @@ use std::alloc::Global;
 use std::process::Abort;
 
 /// A plan of one flight.
-pub const FLIGHT: &str = r#"{"steps":[{"options":[{"kind":"flight","supplier":"AL","product":"A1","first":"2030-06-01","nights":1,"count":1}],"save":false}],"tries":0}"#;
+pub const FLIGHT: &str =
+    r#"{"steps":[{"options":[{"kind":"flight","supplier":"AL","product":"A1","first":"2030-06-01","nights":1,"count":1}],"save":false}],"tries":0}"#;
 
 /// Two seats of that flight.
 pub const TWO_SEATS: &str = "kind,supplier,product,night,places\nflight,AL,A1,2030-06-01,2\n";
@@ -57,5 +58,7 @@ impl Peer {
 
 /// Appends a text.
 fn put(rt: &impl Abort, bytes: &mut Vec<u8>, text: &str) {
-    bytes.extend_from_slice(text.as_bytes()).expect(rt, "memory");
+    bytes
+        .extend_from_slice(text.as_bytes())
+        .expect(rt, "memory");
 }

@@ -44,8 +44,19 @@ fn random_peers(rt: &impl Abort, alloc: Global, dice: &mut Dice) -> Vec<Peer> {
             let at = if i == 0 { 0 } else { dice.roll(8) as usize };
             let (asked, body) = ASKED.get(at).copied().unwrap_or(("GET /stock", ""));
             let key = i.to_string(alloc).expect(rt, "memory");
-            let close = if agent == "cy" && i == 6 { "\r\nConnection: close" } else { "" };
-            let head = [asked, " HTTP/1.1\r\nDesk-Agent: ", agent, "\r\nDesk-Key: k", &key, close];
+            let close = if agent == "cy" && i == 6 {
+                "\r\nConnection: close"
+            } else {
+                ""
+            };
+            let head = [
+                asked,
+                " HTTP/1.1\r\nDesk-Agent: ",
+                agent,
+                "\r\nDesk-Key: k",
+                &key,
+                close,
+            ];
             peer.ask(rt, alloc, &head, body);
         }
         peers.push(peer).expect(rt, "memory");
@@ -136,7 +147,12 @@ fn nobody_waits_for_a_hundred_requests_of_another(rt: HostRuntime) {
     for count in [100, 1] {
         let mut peer = Peer::new(alloc);
         for _ in 0..count {
-            peer.ask(&rt, alloc, &["GET /unfinished HTTP/1.1\r\nDesk-Agent: ann"], "");
+            peer.ask(
+                &rt,
+                alloc,
+                &["GET /unfinished HTTP/1.1\r\nDesk-Agent: ann"],
+                "",
+            );
         }
         peer.read_step = 8_000;
         peers.push(peer).expect(&rt, "memory");

@@ -17,8 +17,10 @@ returns-in_default c =
 -- the body is not whole
 pub returns-then-bytes-end : goal.returns-then-bytes-end
 returns-then-bytes-end c =
-    record { first = none_whole c.args.bytes.now c.go_on.new.self.looked c.body_length-count.result c.in-Some.head c.if-not-go_on.ensures.told
-        c.in-Some.ensures.head c.body_length-count.ensures.length (omega (arith, c.if-not-go_on.ensures.told.within, c.if-bytes-end.true)) }
+    record {
+      first = none_whole c.args.bytes.now c.go_on.new.self.looked c.body_length-count.result c.in-Some.head c.if-not-go_on.ensures.told
+          c.in-Some.ensures.head c.body_length-count.ensures.length (omega (arith, c.if-not-go_on.ensures.told.within, c.if-bytes-end.true));
+    }
 
 -- the request is whole
 pub returns : goal.returns
@@ -27,8 +29,10 @@ returns c =
     let count = c.body_length-count.result in
     let bytes = c.args.bytes.now in
     let exact : end + count - end ≡ count = omega arith in
-    record { first = request_first bytes end count c.in-Some.head c.if-not-go_on.ensures.told
-        c.in-Some.ensures.head c.body_length-count.ensures.length _ (omega (arith, c.if-not-go_on.ensures.told.within, c.if-bytes-end.false))
-        (with_body c.in_ok-request.request _ _ _ c.in_ok-request.ensures.request refl
-        (c.in_ok-extend_from_slice.ensures.items ∙ ap (λ front. front ++ take (end + count - end) (drop end bytes)) c.in_ok-request.ensures.request.body
-        ∙ ap (λ n. take n (drop end bytes)) exact)) }
+    record {
+      first = request_first bytes end count c.in-Some.head c.if-not-go_on.ensures.told
+          c.in-Some.ensures.head c.body_length-count.ensures.length _ (omega (arith, c.if-not-go_on.ensures.told.within, c.if-bytes-end.false))
+          (with_body c.in_ok-request.request _ _ _ c.in_ok-request.ensures.request refl
+          (c.in_ok-extend_from_slice.ensures.items ∙ ap (λ front. front ++ take (end + count - end) (drop end bytes)) c.in_ok-request.ensures.request.body
+          ∙ ap (λ n. take n (drop end bytes)) exact));
+    }

@@ -24,7 +24,7 @@ returns-in-Err-clause-goes_on g c =
     let h = history_of c.args.self.now in
     let k = history_of c.lose.new.self in
     subst (λ fault. GoesOn (book.is_sound new) (book.stands c.args.book.now) (book.stands new) (book.leaves new)
-        (has_broken {T = Bool} (Err fault)) h.exchanges k.exchanges)
+    (has_broken {T = Bool} (Err fault)) h.exchanges k.exchanges)
     (sym c.fault_of.ensures.fault)
     (failed (book.is_sound new) (book.stands c.args.book.now) (book.stands new) (book.leaves new)
     h k c.args.count first.message first.is_message c.in-Err.fault c.lose.ensures.lost
