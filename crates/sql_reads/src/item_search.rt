@@ -12,8 +12,6 @@ pub(crate) struct Sought {
     pub after: u64,
     /// How many steps its plan has; 0 where there is none.
     pub steps: u64,
-    ghost low: { journey < 2 ^ 63 },
-    ghost early: { after < 2 ^ 63 },
 }
 
 impl Sought {
