@@ -1,5 +1,5 @@
 -- Where the items of a journey are in a store.
-use Rattle.std.specs.Prelude.{◌≡◌, ℕ, List, [], ◌∷◌, take, drop, Option, Some, None}
+use Rattle.std.specs.Prelude.{◌≡◌, ◌<◌, ◌^◌, ℕ, List, [], ◌∷◌, take, drop, Option, Some, None}
 use Rattle.commands.specs.declared.items.Item.{Item}
 use Rattle.desk_sql.specs.FoundRows.{item_of}
 use Rattle.desk_sql.specs.declared.items.ItemFound.{ItemFound}
@@ -12,6 +12,11 @@ use Rattle.sql_reads.specs.declared.item_search.Sought.{Sought}
 -- each journey of this number has so many steps
 abbrev pub HasSteps : List Event → ℕ → ℕ → Type 0
 HasSteps l id steps = (a : Journey) → journey_at l id ≡ Some a → step_count a.plan ≡ steps
+
+-- a store can be asked for both numbers
+pub record IsLow (w : Sought) : Type 0 where
+  pub journey : w.journey < 2 ^ 63
+  pub after : w.after < 2 ^ 63
 
 -- the items of this number's journey are those of the search, and none of them is at or before its start
 pub record AreSoughtAt (id : ℕ) (s : State) (w : Sought) : Type 0 where

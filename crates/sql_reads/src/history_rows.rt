@@ -9,6 +9,7 @@ ghost use Rattle.sqlite.specs.Held.{state};
 ghost use Rattle.sqlite.specs.State.{HasCleanDisk};
 ghost use Rattle.ledger.specs.Ledger.{history};
 ghost use Rattle.saga_core.specs.RowSources.{count_of, Hands};
+ghost use Rattle.sql_reads.specs.ItemSearch.{IsLow};
 ghost use Rattle.sql_reads.specs.Causes.{FailsForReasonEach, FailsForReasonIn, StaysUp};
 ghost use Rattle.sql_reads.specs.RemainingRows.{ItemsRest, IsLeftAsItWas, BeginsKept};
 
@@ -48,6 +49,7 @@ pub fn item_cursor<S: Alter>(
         (λ s items. items ≡ history s.ledger id) (ItemsRest S.Store conn.new it)) }
     ensures none { IfOk result (λ it. it.given ≡ 0) }
     ensures going { IfOk result (λ it. it.failed ≡ false) }
+    ensures low { IfOk result (λ it. IsLow it.sought) }
     ensures version { IfOk result (λ it. it.version ≡ version) }
     ensures kept { IsLeftAsItWas S.Store conn.old conn.new }
 
@@ -76,7 +78,8 @@ impl ItemCursor {
         ensures few { self.new.given < 2 ^ 64 }
         ensures kept { IsLeftAsItWas S.Store conn.old conn.new }
 
-        ensures store { self.old.failed ≡ false → self.old.given < 2 ^ 64 - 1
+        ensures low { IsLow self.old.sought → IsLow self.new.sought }
+        ensures store { IsLow self.old.sought → self.old.failed ≡ false → self.old.given < 2 ^ 64 - 1
             → FailsForReasonIn S.Store conn.old conn.new self.old.version result }
         ensures up { StaysUp S.Store conn.old conn.new }
     {

@@ -12,8 +12,6 @@ pub(crate) struct Sought {
     pub after: u64,
     /// The number of steps in its plan; 0 if there is no journey.
     pub steps: u64,
-    ghost low: { journey < 2 ^ 63 },
-    ghost early: { after < 2 ^ 63 },
 }
 
 impl Sought {

@@ -10,7 +10,7 @@ ghost use Rattle.desk_sql.specs.Causes.{FailsForReasonIn as SqlFailsIn};
 ghost use Rattle.desk_sql.specs.Readable.{Any};
 ghost use Rattle.desk_sql.specs.Calls.{ReadsIn, ChangesNothing, LeavesNoMore};
 ghost use Rattle.desk_sql.specs.FoundRows.{FindsNextItem};
-ghost use Rattle.sql_reads.specs.ItemSearch.{AreSoughtAt, IsNextOf};
+ghost use Rattle.sql_reads.specs.ItemSearch.{AreSoughtAt, IsLow, IsNextOf};
 
 use crate::faults::fault_of;
 use crate::item_search::Sought;
@@ -151,9 +151,12 @@ pub(crate) fn find_next<S: Alter>(
     ensures stop { LeavesAsBefore S.Store conn.old conn.new }
     ensures less { WasClean S.Store conn.old conn.new }
 
-    ensures store { FailsForReasonIn S.Store conn.old conn.new version result }
+    ensures store { IsLow sought.now → FailsForReasonIn S.Store conn.old conn.new version result }
     ensures up { StaysUp S.Store conn.old conn.new }
 {
+    if sought.journey > LARGEST || sought.after > LARGEST {
+        return Err(Fault::Store);
+    }
     match next_in(conn, version, sought.journey, sought.after) {
         Ok(found) => Ok(found),
         Err(error) => Err(fault_of(&error)),

@@ -22,7 +22,7 @@ returns-in-Ok-clause-same g c =
 
 -- an error of the store has a reason
 pub returns-in-Err-clause-store : goal.returns-in-Err-clause-store
-returns-in-Err-clause-store g c clean s desk spelled keeps up store =
+returns-in-Err-clause-store g c low clean s desk spelled keeps up store =
     let reason = sql_reason g.S.Store c.args.conn.now c.next_in.new.conn Any c.in-Err.error c.in-Err.ensures.reason
     c.next_in.ensures.survives clean s keeps (λ t st. tt) up in
     let is : c.fault_of.result ≡ Store = cc in
