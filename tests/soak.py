@@ -79,9 +79,9 @@ class Planner:
 
     def first(self, desk):
         if self.chance.random() < 0.3:
-            rows = [fields_of(row) for row in self.office.rows(True)]
+            rows = [fields_of(row) for row in self.office.rows(desk, True)]
             return {"do": "load", "name": "first", "records": [HEADING, *rows]}
-        lines, ready = self.office.lines(), desk.copy()
+        lines, ready = self.office.lines(desk), desk.copy()
         for line in lines:
             answer(ready, line)
         later = self.run(ready, 8)
@@ -90,14 +90,14 @@ class Planner:
     def later(self, desk):
         do = self.chance.choices(("run", "serve", "recover", "load", "report"), (45, 40, 5, 5, 5))[0]
         ready = desk.recovery()[-1].copy()
-        size = self.chance.choice((1, 4, 8, 8, 15, 15, 30))
+        size = self.chance.choice((1, 5, 10, 15, 20, 30, 60))
         if do == "run":
             return self.run(ready, size)
         if do == "serve":
             return self.serve(ready, size)
         if do == "load":
             bad = self.chance.random() < 0.3
-            records = self.office.bad_records() if bad else [HEADING, *map(fields_of, self.office.rows())]
+            records = self.office.bad_records(desk) if bad else [HEADING, *map(fields_of, self.office.rows(desk))]
             return {"do": "load", "name": self.office.name(desk), "records": records}
         words = ["stock", "unfinished", f"history {self.office.identity(desk)}", "migrate" if desk.events else "stock"]
         return {"do": do if do == "recover" else self.chance.choice(words)}
@@ -142,7 +142,7 @@ class Planner:
 
     def end(self, life):
         """How the life ends: in order, or killed at a call or after a while, or with calls that fail."""
-        roll, count = self.chance.random(), str(self.call(life))
+        roll, count = self.chance.random(), self.place_in(life, 100, 7)
         if roll < 0.3:
             life["env"] = {"KILL": count, "TEAR": str(self.chance.choice((0, 0, 100, 512, 4096)))}
         elif roll < 0.42:
@@ -150,20 +150,15 @@ class Planner:
             if self.chance.random() < 0.4:
                 life["env"]["THEN"] = self.chance.choice(("1", "2", "3", "6", "all"))
         elif roll < 0.47 and not self.has_cuts:
-            life["env"] = {"REFUSE": str(self.allocation())}
+            life["env"] = {"REFUSE": self.place_in(life, 6300, 200)}
         elif roll < 0.57 and life["do"] in ("run", "serve"):
             life["end"] = self.chance.choice(("kill", self.chance.random() / 300))
 
-    def call(self, life):
-        """The number of a call: of the opening, or later."""
-        bursts = life.get("bursts", []) + [b for c in life.get("connections", []) for b in c["bursts"]]
-        sayings = sum(map(len, bursts))
-        is_early = self.chance.random() < 0.4
-        return self.chance.randint(1, 120) if is_early else self.chance.randint(60, 120 + 12 * sayings)
-
-    def allocation(self):
-        """The number of an allocation: of the opening, or later."""
-        return self.chance.randint(1, 2000) if self.chance.random() < 0.5 else self.chance.randint(1500, 6000)
+    def place_in(self, life, opening, each):
+        """The number of a call or an allocation of which an opening makes about so many, and a saying each so many more."""
+        sayings = sum(map(len, bursts_of(life)))
+        is_early = self.chance.random() < 0.3
+        return str(self.chance.randint(1, opening) if is_early else opening + self.chance.randint(0, each * (sayings + 3)))
 
     def lived(self, talk):
         """What was not answered is asked again, until it is."""
@@ -196,7 +191,7 @@ class Soak:
         """One file from its first life to its last."""
         chance = random.Random(f"{self.words.seed}/{number}")
         planner, place, script = Planner(chance, self.words.spoil), self.place(self.count), []
-        most = self.count["commands"] + min(chance.choice((40, 150, 150, 400, 1000)), self.words.count)
+        most = min(self.count["commands"] + chance.choice((40, 150, 150, 400, 1000)), self.words.count)
         self.count.add("files")
         try:
             while self.count["commands"] < most and len(script) < 400:

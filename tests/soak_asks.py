@@ -71,7 +71,7 @@ class Office:
         self.plans = [self.plan() for _ in range(chance.randint(2, 6))]
         self.agents = [Agent(name) for name in chance.sample(AGENTS, chance.randint(1, 4))]
         self.names = 0
-        self.most = chance.choice((2, 3, 5, 9))
+        self.most = chance.choice((3, 6, 12, 50))
 
     def some_cells(self):
         """Some products, each for some nights in a row."""
@@ -86,7 +86,7 @@ class Office:
     def want(self):
         cell = self.chance.choice(self.cells)
         after = sum(1 for other in self.cells if other[:3] == cell[:3] and other[3] >= cell[3])
-        return Want(*cell, self.chance.randint(1, after), self.chance.choice((1, 1, 1, 2, 3)))
+        return Want(*cell, self.chance.randint(1, after), self.chance.choice((1, 1, 1, 1, 2, 3)))
 
     def plan(self):
         chance = self.chance
@@ -102,11 +102,15 @@ class Office:
             self.plans[self.chance.randrange(len(self.plans))] = self.plan()
         return self.chance.choice(self.plans)
 
-    def rows(self, all_cells=False):
-        """Rows of a batch, as the records of a file."""
+    def rows(self, desk, all_cells=False):
+        """Rows of a batch, mostly with some places more than are held."""
         count = self.chance.randint(1, min(4, len(self.cells)))
         cells = list(self.cells) if all_cells else self.chance.sample(self.cells, count)
-        return [(cell_text(cell), self.chance.randint(int(self.chance.random() < 0.8), self.most)) for cell in cells]
+        return [(cell_text(cell), self.places(desk, cell)) for cell in cells]
+
+    def places(self, desk, cell):
+        held = desk.held(cell) if self.chance.random() < 0.8 else 0
+        return held + self.chance.randint(int(self.chance.random() < 0.8), self.most)
 
     def name(self, desk):
         """The name of a batch: mostly a new one, else one that is known or was used."""
@@ -115,10 +119,15 @@ class Office:
         self.names += 1
         return self.chance.choice((f"b{self.names}", f"{self.names}-{'x' * 18}"[:24]))
 
-    def identity(self, desk):
-        """The number of a journey, mostly of an open one."""
-        opened = [n + 1 for n, journey in enumerate(desk.journeys) if journey.is_open()]
-        if opened and self.chance.random() < 0.88:
+    def opened(self, desk, who=None):
+        """The numbers of the journeys that are open, of an agent or of all."""
+        journeys = enumerate(desk.journeys, 1)
+        return [n for n, journey in journeys if who in (None, journey.agent) and journey.is_open()]
+
+    def identity(self, desk, who=None):
+        """The number of a journey, mostly of one that is open and seen."""
+        opened = self.opened(desk, who)
+        if opened and self.chance.random() < 0.92:
             return self.chance.choice(opened[-6:])
         return self.chance.randint(1, len(desk.journeys) + 1)
 
@@ -128,23 +137,23 @@ class Office:
         points = [p for p in range(1, len(journey.plan.steps) + 1) if journey.is_save_point(p)]
         return self.chance.choice((0, *points, self.chance.choice((1, 2, 3, 5, 25, 99))))
 
-    def request(self, desk):
-        """Something that is asked of this desk."""
-        opened = sum(1 for journey in desk.journeys if journey.is_open())
-        weights = {"step": 50, "begin": 30 if opened < 3 else 8, "abort": 8, "save": 9, "load": 9}
+    def request(self, desk, who=None):
+        """Something that is asked of this desk, by an agent or the house."""
+        begin = (200, 30, 20)[min(2, len(self.opened(desk, who)))]
+        weights = {"step": 60, "begin": begin, "abort": 6, "save": 9, "load": 10}
         word = self.chance.choices(list(weights), list(weights.values()))[0]
         if word == "load":
             return self.load(desk)
         if word == "begin":
             return ["begin", plan_line(self.some_plan())]
-        identity = self.identity(desk)
+        identity = self.identity(desk, who)
         return [word, identity, self.position(desk, identity)] if word == "abort" else [word, identity]
 
     def load(self, desk):
         """A batch, of which the rows too may be those that are known."""
         name = self.name(desk)
         is_same = name in desk.batches and self.chance.random() < 0.5
-        return ["load", name, [list(row) for row in desk.batches[name]] if is_same else self.rows()]
+        return ["load", name, [list(row) for row in desk.batches[name]] if is_same else self.rows(desk)]
 
     # Lines.
 
@@ -171,9 +180,9 @@ class Office:
             f"{';'.join([steps] * 25)}!{tries}", f"{'|'.join(steps.split(';')[:1] * 9)}!{tries}", f"{steps}*!{tries}",
         ))
 
-    def lines(self):
+    def lines(self, desk):
         """A line for each cell, so that there is something to book."""
-        return [{"text": f"set {self.name_of_own()} {cell} {places}"} for cell, places in self.rows(True)]
+        return [{"text": f"set {self.name_of_own()} {cell} {places}"} for cell, places in self.rows(desk, True)]
 
     def name_of_own(self):
         self.names += 1
@@ -195,7 +204,7 @@ class Office:
             return self.bad_request()
         if roll < 0.34:
             return self.shown(agent, desk)
-        return self.asked(agent, self.key(agent), self.request(desk))
+        return self.asked(desk, agent, self.key(agent), self.request(desk, agent.name))
 
     def key(self, agent):
         agent.keys += 1
@@ -203,9 +212,9 @@ class Office:
 
     def reused(self, agent, desk):
         """Another request under a key that was sent before."""
-        return self.asked(agent, self.chance.choice(agent.sent)["means"][2], self.request(desk))
+        return self.asked(desk, agent, self.chance.choice(agent.sent)["means"][2], self.request(desk, agent.name))
 
-    def asked(self, agent, key, request):
+    def asked(self, desk, agent, key, request):
         """A request with a key."""
         body = ""
         if request[0] == "load":
@@ -215,7 +224,7 @@ class Office:
         else:
             target = "/".join(("/journeys", str(request[1]), request[0], *map(str, request[2:])))
         if body and self.chance.random() < 0.08:
-            return self.bad_body(agent, key, target)
+            return self.bad_body(desk, agent, key, target)
         means = ["ask", agent.name, key, f"{target}\n{body}", request]
         saying = {"text": self.message("POST", target, agent.name, key, body), "means": means}
         if self.chance.random() < 0.03:
@@ -253,7 +262,7 @@ class Office:
 
     def shown(self, agent, desk):
         """A request that shows something."""
-        what = self.chance.choice(("stock", "unfinished", self.identity(desk), self.identity(desk)))
+        what = self.chance.choice(("stock", "unfinished", self.identity(desk, agent.name), self.identity(desk)))
         target = f"/journeys/{what}" if isinstance(what, int) else f"/{what}"
         return {"text": self.message("GET", target, agent.name), "means": ["show", agent.name, what]}
 
@@ -265,7 +274,7 @@ class Office:
         saying = {"text": self.message(method, target, agent, key, body), "means": refused(Refusal(number), allow)}
         return {**saying, "head": True} if method == "HEAD" else saying
 
-    def bad_body(self, agent, key, target):
+    def bad_body(self, desk, agent, key, target):
         """A request of which the body has a fault by chance, or none in the end."""
         if target == "/journeys":
             value = self.bad_value()
@@ -275,7 +284,7 @@ class Office:
             except BadPlan as bad:
                 refusal = Refusal(5, step=bad.step, cause=bad.cause)
         else:
-            records = self.bad_records()
+            records = self.bad_records(desk)
             body, found = "".join(f"{','.join(fields)}\n" for fields in records), rows_of(records)
             request = ["load", target.split("/")[2], found] if isinstance(found, list) else None
             refusal = None if request else Refusal(6, row=found[0], cause=found[1])
@@ -298,9 +307,9 @@ class Office:
         place[name] = new
         return value
 
-    def bad_records(self):
+    def bad_records(self, desk):
         """The records of an allotment file, with something in them changed."""
-        records = [list(HEADING), *map(fields_of, self.rows())]
+        records = [list(HEADING), *map(fields_of, self.rows(desk))]
         row = self.chance.choice(records)
         change = self.chance.randrange(4)
         if change == 0:

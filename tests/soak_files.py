@@ -165,7 +165,7 @@ class Place:
         calls += [("history", str(self.chance.randint(1, journeys + 1)))] if journeys else []
         for word, *rest in calls:
             self.told(word, *rest, expected=report_of(self.desks[0], word, rest))
-        if tables_of(self.path("look/trips.db")) != found:
+        if tables_of(self.path("look/trips.db")) != (found or Desk().tables()):
             raise Wrong("a report changed the rows of a copy, or Python's SQLite finds others")
 
     def told(self, word, *rest, expected):
@@ -198,7 +198,7 @@ class Place:
         elif how == "forget-reply":
             connection.execute("DELETE FROM answer")
         elif how == "sell-twice":
-            connection.execute("UPDATE stock SET free = allot")
+            connection.execute("UPDATE stock SET allot = allot + 1, free = free + 1")
         connection.commit()
         connection.close()
         self.count.add("spoiled")

@@ -46,7 +46,7 @@ class Talk:
         self.opened()
         same = [(after, reply) for expected, after, reply in self.expected() if expected == found]
         if not same:
-            expected = " or ".join(repr(expected) for expected, _, _ in self.expected())
+            expected = " or ".join(sorted({repr(expected) for expected, _, _ in self.expected()}))
             raise Wrong(f"{self.pending[0]['text'][:300]!r} was answered by {found!r}, expected {expected}")
         is_kept = any(after.is_same(desk) for after, _ in same for desk in self.desks)
         self.desks = without_repeats([after for after, _ in same])
