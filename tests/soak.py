@@ -90,7 +90,8 @@ class Planner:
     def later(self, desk):
         do = self.chance.choices(("run", "serve", "recover", "load", "report"), (45, 40, 5, 5, 5))[0]
         ready = desk.recovery()[-1].copy()
-        size = self.chance.choice((1, 5, 10, 15, 20, 30, 60))
+        # now and then so many that the log is copied into the file meanwhile
+        size = 300 if self.chance.random() < 0.02 else self.chance.choice((1, 5, 10, 15, 20, 30, 60))
         if do == "run":
             return self.run(ready, size)
         if do == "serve":
@@ -135,6 +136,8 @@ class Planner:
                 if saying.get("closes"):
                     return {"bursts": bursts, "end": "closed"}
         connection = {"bursts": bursts, "end": end, "early": self.chance.random() < 0.3}
+        if self.chance.random() < 0.05:
+            connection["intrude"] = self.chance.choice(("recover", "stock"))
         if end == "cut":
             text = self.office.said(desk)["text"]
             connection["cut"] = text[: self.chance.randrange(1, len(text))]
@@ -152,7 +155,8 @@ class Planner:
         elif roll < 0.47 and not self.has_cuts:
             life["env"] = {"REFUSE": self.place_in(life, 6300, 200)}
         elif roll < 0.57 and life["do"] in ("run", "serve"):
-            life["end"] = self.chance.choice(("kill", self.chance.random() / 300))
+            # a kill that waits for a time may come between a call and its note
+            life["end"] = "kill" if self.has_cuts else self.chance.choice(("kill", self.chance.random() / 300))
 
     def place_in(self, life, opening, each):
         """The number of a call or an allocation of which an opening makes about so many, and a saying each so many more."""
@@ -191,7 +195,8 @@ class Soak:
         """One file from its first life to its last."""
         chance = random.Random(f"{self.words.seed}/{number}")
         planner, place, script = Planner(chance, self.words.spoil), self.place(self.count), []
-        most = min(self.count["commands"] + chance.choice((40, 150, 150, 400, 1000)), self.words.count)
+        size = min(chance.choice((30, 60, 120, 120, 250, 1000, 3000)), max(30, self.words.count // 5))
+        most = min(self.count["commands"] + size, self.words.count)
         self.count.add("files")
         try:
             while self.count["commands"] < most and len(script) < 400:
@@ -269,15 +274,18 @@ class Soak:
         names = sorted(count, key=by_number)
         made = [f"{name[5:]} {count[name]}" for name in names if name.startswith("made ")]
         refusals = [f"{name[8:]}: {count[name]}" for name in names if name.startswith("refused ")]
+        lives = [f"{name[8:]} {count[name]}" for name in names if name.startswith("life of ")]
         faults = [f"{name}: {count[name]}" for name in names if name.startswith("fault ")]
         lines = [
-            f"seed {self.words.seed}: {count['commands']} commands, {count['files']} files, {count['lives']} lives",
+            f"seed {self.words.seed}: {count['commands']} commands, {count['files']} files",
+            f"  lives {count['lives']} ({', '.join(lives)})",
             f"  acted {count['acted']} ({', '.join(made)}), given again {count['given again']}, shown {count['shown']}",
             f"  refused {count['refused']} ({', '.join(refusals)})",
             f"  ends: orderly {count['orderly']}, kills {count['killed']} "
             f"({count['killed in an opening']} in an opening), faults {count['by a fault']} ({', '.join(faults)})",
             f"  lives in which a call failed {count['lives with what failed']}, or an allocation was refused "
-            f"{count['lives with what refused']}; power cuts {count['power cuts']}",
+            f"{count['lives with what refused']}; power cuts {count['power cuts']}; calls over a file in use {count['in use']}",
+            f"  not answered, and done {count['cut off and done']}; not answered, and not done {count['cut off']}",
             f"wrong {len(self.wrong)}",
         ]
         print("\n".join(lines))

@@ -82,7 +82,7 @@ class Place:
         if env:
             env["LD_PRELOAD"] = f"{self.libraries}/{'refuse' if 'REFUSE' in env else 'calls'}.so"
         one = Life(self.folder, life, env, self.desks, self.count)
-        self.count.add("lives")
+        self.count.add("lives", f"life of {life['do'].split(' ')[0]}")
         try:
             self.desks = one.live()
         finally:
@@ -94,9 +94,13 @@ class Place:
                 os.remove(self.path(name))
                 self.count.add(f"lives with what {name}")
         self.power(life)
+        least = min(len(desk.events) for desk in self.desks)
+        is_unsure = one.talk.is_open and len(self.desks) > 1
         if life.get("spoil") == "lose-event":
             self.spoil(life["spoil"])
         self.look()
+        if is_unsure:
+            self.count.add("cut off and done" if len(self.desks[0].events) > least else "cut off")
         if life.get("spoil") not in (None, "lose-event"):
             self.spoil(life["spoil"])
         return one.talk

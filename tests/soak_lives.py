@@ -7,12 +7,13 @@ A life is a dictionary that JSON can hold:
   end            "": it ends by itself; "kill": once all is answered; seconds: killed so long after the last sayings were sent
   bursts         of run: the sayings, so many at once
   connections    of serve: bursts; an end, which is close, half, cut, reset or closed; the part of a request that is cut;
-                 early, where it is made before the one before it is over
+                 early, where it is made before the one before it is over; intrude, another call over the file meanwhile
   name, records  of load
   cut            the calls are noted; from 0 on the number for chance by which the power is cut afterwards
   spoil          how the file is spoiled afterwards
 """
 import os
+import select
 import signal
 import socket
 import struct
@@ -32,8 +33,8 @@ PORT_TAKEN, UNOPENED = "fault 27 Net\n", ("fault 21 Store\n", "fault 22 Memory\n
 class Life:
     """One life of the program."""
 
-    def __init__(self, place, life, env, desks, count):
-        self.place, self.life, self.before, self.count = place, life, desks, count
+    def __init__(self, folder, life, env, desks, count):
+        self.folder, self.life, self.before, self.count = folder, life, desks, count
         self.talk = Talk(desks, count)
         self.env = {**os.environ, **env}
         self.may_fail = bool(env.keys() & {"FAIL", "REFUSE"})
@@ -42,7 +43,14 @@ class Life:
 
     def start(self, *words):
         pipes = {"stdin": subprocess.PIPE, "stdout": subprocess.PIPE, "stderr": subprocess.PIPE}
-        self.process = subprocess.Popen([DESK, *words], env=self.env, cwd=self.place, **pipes)
+        self.process = subprocess.Popen([DESK, *words], env=self.env, cwd=self.folder, **pipes)
+
+    def said(self):
+        """Some of what it says, as soon as there is any; nothing at its end."""
+        out = self.process.stdout.fileno()
+        if not select.select([out], [], [], PATIENCE)[0]:
+            raise Wrong("it did not answer")
+        return os.read(out, 65536)
 
     def kill(self, after=0.0):
         time.sleep(after)
@@ -85,7 +93,7 @@ class Life:
 
     def run(self):
         self.start("run", "trips.db")
-        out = Stream(lambda: os.read(self.process.stdout.fileno(), 65536))
+        out = Stream(self.said)
         end, bursts = self.life.get("end", ""), self.life["bursts"]
         try:
             for n, burst in enumerate(bursts):
@@ -140,6 +148,7 @@ class Life:
                 break
             is_last = n + 1 == len(connections)
             early = self.connected(port) if not is_last and connections[n + 1].get("early") else None
+            self.intrude(connection.get("intrude"))
             self.speak(stream, connection, end if is_last and isinstance(end, float) else None)
         if end == "kill":
             self.kill()
@@ -158,18 +167,31 @@ class Life:
         for _ in range(4):
             port = free_port()
             self.start("serve", "trips.db", "--port", str(port), "--connections", str(connections))
-            said = self.process.stdout.readline()
-            if said == f"ready {port}\n".encode():
-                self.talk.opened()
-                return port
-            if said and not (self.may_break and f"ready {port}\n".encode().startswith(said)):
-                raise Wrong(f"it was to be ready, and said {said!r}")
+            out, ready = Stream(self.said), f"ready {port}\n".encode()
+            try:
+                if out.line() == ready:
+                    self.talk.opened()
+                    return port
+                raise Wrong(f"it was to be ready, and said {out.rest!r}")
+            except Gone:
+                if not ready.startswith(out.rest):
+                    raise Wrong(f"it was to be ready, and said {out.rest!r}") from None
             if self.may_break:
                 return None
             _, err, status = self.ended()
             if err != PORT_TAKEN:
                 raise Wrong(f"it was to be ready, and ended with status {status}, and said {err!r}")
         raise Wrong("no port is free")
+
+    def intrude(self, word):
+        """Another call over the file that is in use; it is told so, and changes nothing."""
+        if word and not self.may_break:
+            done = subprocess.run(
+                [DESK, word, "trips.db"], cwd=self.folder, capture_output=True, timeout=PATIENCE, check=False,
+            )
+            if (done.stdout, done.stderr, done.returncode) != (b"", UNOPENED[0].encode(), 1):
+                raise Wrong(f"{word} of a file in use: {done.stdout!r}, {done.stderr!r}")
+            self.count.add("in use")
 
     def use_up(self, port):
         """Ends a server that waits for connections which others took: each that is made counts as one."""
@@ -204,6 +226,7 @@ class Life:
                 self.talk.broke(pages.rest)
 
     def converse(self, stream, pages, connection, kill_after):
+        """Says all bursts, and compares each page; the last ones may not be waited for."""
         bursts, end = connection["bursts"], connection["end"]
         stream.settimeout(PATIENCE)
         for n, burst in enumerate(bursts):
@@ -251,7 +274,7 @@ class Life:
 
     def load(self):
         name, records = self.life["name"], self.life["records"]
-        with open(f"{self.place}/rows.csv", "w", encoding="ascii") as file:
+        with open(f"{self.folder}/rows.csv", "w", encoding="ascii") as file:
             file.write("".join(f"{','.join(fields)}\n" for fields in records))
         found = rows_of(records)
         request = ("load", name, found) if isinstance(found, list) else Refusal(6, row=found[0], cause=found[1])
@@ -260,18 +283,13 @@ class Life:
         for desk in self.talk.desks:
             after = desk.copy()
             reply = request if isinstance(request, Refusal) else after.outcome(request)
-            answers.append(((line_of(reply) + "\n").encode(), after, reply))
-        self.is_front(out, [text for text, _, _ in answers], status)
-        is_refused = any(text == out and isinstance(reply, Refusal) for text, _, reply in answers)
-        is_orderly = self.judge(err, status, is_refused)
-        done = [after for text, after, _ in answers if text == out]
-        if out in [text for text, _, _ in answers]:
+            answers.append(((line_of(reply) + "\n").encode(), after))
+        self.is_front(out, [text for text, _ in answers], status)
+        told = [after for text, after in answers if text == out]
+        if told:
             self.talk.opened()
-            self.talk.desks = without_repeats(done)
-        else:
-            self.talk.desks = without_repeats(self.talk.desks + [after for _, after, _ in answers])
-        self.count.add("load")
-        return is_orderly
+        self.talk.desks = without_repeats(told or self.talk.desks + [after for _, after in answers])
+        return self.judge(err, status, out.startswith(b"refused") and bool(told))
 
     def is_front(self, out, expected, status):
         """The output is one of these, or the front of one where the program did not end in order."""
@@ -284,7 +302,7 @@ class Life:
         self.talk.desks, self.talk.opening = self.before, []
         answers = [report_of(desk, word, rest) for desk in self.before]
         out, err, status = self.told(word, "trips.db", *rest)
-        if not os.path.exists(f"{self.place}/trips.db") and (out, err, status) == (b"", "fault 26 File\n", 1):
+        if not os.path.exists(f"{self.folder}/trips.db") and (out, err, status) == (b"", "fault 26 File\n", 1):
             self.count.add("orderly")
             return True
         self.is_front(out, answers, status)
