@@ -1,14 +1,15 @@
-"""The desk as a slow, plain program. It keeps its events and the kept replies, and reads all else off them, by the rules of
-docs/DEFINITIONS.md and docs/FORMATS.md. It shares no code with the desk.
+"""The desk as a slow, plain program. It keeps its events and the kept replies, and reads all else off them, by the rules
+of docs/DEFINITIONS.md and docs/FORMATS.md. It shares no code with the desk.
 
-A request is a tuple: ("load", name, rows), ("begin", plan line), ("step", id), ("abort", id, p), ("stop", id), ("save", id).
-A row is a cell's text and its places. A reply is ("loaded", name, rows), ("begun", id), ("moved", id, item, pos, phase), or
-a Refusal. An item is ("T", step, option), ("C", step, option), ("B", target, cause) or ("S", position, 0).
+A request is a tuple: ("load", name, rows), ("begin", plan line), ("step", id), ("abort", id, p), ("stop", id), or
+("save", id). A row is a cell's text and its places. A reply is ("loaded", name, rows), ("begun", id),
+("moved", id, item, pos, phase), or a Refusal. An item is ("T", step, option), ("C", step, option),
+("B", target, cause) or ("S", position, 0).
 """
 import functools
 from typing import NamedTuple
 
-from plain_texts import BadPlan, Plan, cell_in, day_in, number_in, plan_in, NAME
+from plain_texts import NAME, BadPlan, Plan, cell_in, number_in, plan_in
 
 CODES = {"T": 0, "C": 1, "B": 2, "S": 3}
 NAMES = {

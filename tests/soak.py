@@ -1,15 +1,8 @@
-"""A seeded simulation of the desk in use: agents, the house, kills, calls that fail, power cuts and reopenings, over the
-program itself. Every answer and every file is compared with a plain desk (plain_desk.py).
+"""A seeded simulation of the desk in use: agents, the house, kills, calls that fail, power cuts and reopenings, over
+the program itself. Every answer and every file is compared with a plain desk (plain_desk.py).
 
-soak.py LIBRARIES SEED COUNT [WORDS]    about so many commands are answered; says what it found; status 1 if anything is wrong;
-                                        LIBRARIES is the folder with calls.so and refuse.so
-
-  --file N          only the N-th file of this seed
-  --repeat SCRIPT   the lives of a script that a failure wrote, and what is said in them; without SEED and COUNT
-  --spoil HOW       the file is spoiled on purpose between two lives: forget-reply, lose-event or sell-twice
-  --blind           the files are not looked at: the answers alone have to show what is wrong
-  --keep FOLDER     where scripts of failures go; the present folder if it is not given
-  --trial           a slow program is taken too; its reports on copies are compared after each fifth life alone
+About COUNT commands are answered, which SEED decides. The last line says how many files went wrong, and the status is 1
+if any did. LIBRARIES, which ./soak gives, is the folder with calls.so and refuse.so.
 """
 import argparse
 import collections
@@ -159,10 +152,11 @@ class Planner:
             life["end"] = "kill" if self.has_cuts else self.chance.choice(("kill", self.chance.random() / 300))
 
     def place_in(self, life, opening, each):
-        """The number of a call or an allocation of which an opening makes about so many, and a saying each so many more."""
+        """The number of a call or an allocation, of which an opening makes about so many, and each saying so many."""
         sayings = sum(map(len, bursts_of(life)))
         is_early = self.chance.random() < 0.3
-        return str(self.chance.randint(1, opening) if is_early else opening + self.chance.randint(0, each * (sayings + 3)))
+        later = opening + self.chance.randint(0, each * (sayings + 3))
+        return str(self.chance.randint(1, opening) if is_early else later)
 
     def lived(self, talk):
         """What was not answered is asked again, until it is."""
@@ -284,7 +278,8 @@ class Soak:
             f"  ends: orderly {count['orderly']}, kills {count['killed']} "
             f"({count['killed in an opening']} in an opening), faults {count['by a fault']} ({', '.join(faults)})",
             f"  lives in which a call failed {count['lives with what failed']}, or an allocation was refused "
-            f"{count['lives with what refused']}; power cuts {count['power cuts']}; calls over a file in use {count['in use']}",
+            f"{count['lives with what refused']}; power cuts {count['power cuts']}; "
+            f"calls over a file in use {count['in use']}",
             f"  not answered, and done {count['cut off and done']}; not answered, and not done {count['cut off']}",
             f"wrong {len(self.wrong)}",
         ]
@@ -329,14 +324,14 @@ def words_of():
     layout = argparse.RawDescriptionHelpFormatter
     words = argparse.ArgumentParser(prog="./soak", description=__doc__, formatter_class=layout)
     words.add_argument("libraries", help=argparse.SUPPRESS)
-    words.add_argument("seed", nargs="?")
-    words.add_argument("count", nargs="?", type=int)
-    words.add_argument("--file", type=int)
-    words.add_argument("--repeat")
-    words.add_argument("--spoil", choices=SPOILS)
-    words.add_argument("--blind", action="store_true")
-    words.add_argument("--keep", default=".")
-    words.add_argument("--trial", action="store_true")
+    words.add_argument("seed", nargs="?", metavar="SEED", help="any word or number")
+    words.add_argument("count", nargs="?", metavar="COUNT", type=int, help="about how many commands")
+    words.add_argument("--file", metavar="N", type=int, help="only the N-th file of this seed")
+    words.add_argument("--repeat", metavar="SCRIPT", help="the lives of a script that a failure wrote")
+    words.add_argument("--spoil", choices=SPOILS, help="the file is spoiled on purpose between two lives")
+    words.add_argument("--blind", action="store_true", help="files are not looked at: the answers have to show all")
+    words.add_argument("--keep", metavar="FOLDER", default=".", help="where scripts of failures go")
+    words.add_argument("--trial", action="store_true", help="a slow program too; fewer reports are compared then")
     found = words.parse_args()
     if (found.count is None) == (found.repeat is None):
         words.error("SEED and COUNT, or --repeat SCRIPT")

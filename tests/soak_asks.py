@@ -1,8 +1,8 @@
 """What the house and the agents of a simulated office ask of the desk, by chance.
 
 A saying is a dictionary that JSON can hold: `text`, its bytes as Latin-1; `means`, which is one of
-["ask", agent, key, text, request], ["show", agent, what], ["refused", number, step, row, cause, allow]; and where it is so
-`closes` (the connection ends with its page) and `head` (its page has no body). A line of the house has a text alone.
+["ask", agent, key, text, request], ["show", agent, what], ["refused", number, step, row, cause, allow]; and where it is
+so `closes` (the connection ends with its page) and `head` (its page has no body). A line of the house has a text alone.
 """
 import json
 
@@ -13,10 +13,11 @@ from plain_texts import (
 )
 
 BAD_LINES = (
-    "", "hello", "step", "step 0", "step 01", "step 1 ", "step  1", " step 1", "step 1\r", "step 1000000000000", "Step 1",
-    "step x", "abort 1", "abort 1 100", "abort 1 -1", "save 1 1", "stop 1", "begin", "load a", "begin \xe9!0", "step \xe9",
-    "set a F/AL/A1/2030-06-01", "set A F/AL/A1/2030-06-01 1", "set a F/AL/A1/2030-02-30 1", "set a F/AL/A1/1999-12-31 1",
-    "set a X/AL/A1/2030-06-01 1", "set a F/AL/A1/2030-06-01 100001", "set a F/al/A1/2030-06-01 1",
+    "", "hello", "step", "step 0", "step 01", "step 1 ", "step  1", " step 1", "step 1\r", "step 1000000000000",
+    "Step 1", "step x", "abort 1", "abort 1 100", "abort 1 -1", "save 1 1", "stop 1", "begin", "load a", "begin \xe9!0",
+    "step \xe9", "set a F/AL/A1/2030-06-01", "set A F/AL/A1/2030-06-01 1", "set a F/AL/A1/2030-02-30 1",
+    "set a F/AL/A1/1999-12-31 1", "set a X/AL/A1/2030-06-01 1", "set a F/AL/A1/2030-06-01 100001",
+    "set a F/al/A1/2030-06-01 1",
     "set a F/AL/A1/2030-06-01 01", "x" * 8193, "begin " + "x" * 8187,
 )
 BAD_HEADS = (
@@ -33,11 +34,12 @@ BAD_HEADS = (
 )
 # the refusal, the method, the target, who asks, the key, the body; what allow is, where another method was asked
 BAD_REQUESTS = (
-    (7, "GET", "/", "ann", "", "", ""), (7, "GET", "/stock/", "ann", "", "", ""), (7, "GET", "/stock?x", "ann", "", "", ""),
-    (7, "POST", "/journeys/1/stop", "ann", "k", "", ""), (8, "DELETE", "/unfinished", "ann", "", "", "GET"),
+    (7, "GET", "/", "ann", "", "", ""), (7, "GET", "/stock/", "ann", "", "", ""),
+    (7, "GET", "/stock?x", "ann", "", "", ""), (7, "POST", "/journeys/1/stop", "ann", "k", "", ""),
+    (8, "DELETE", "/unfinished", "ann", "", "", "GET"),
     (8, "GET", "/journeys", "ann", "", "", "POST"), (8, "HEAD", "/stock", "ann", "", "", "GET"),
-    (8, "get", "/stock", "ann", "", "", "GET"), (2, "GET", "/stock", "", "", "", ""), (2, "GET", "/stock", "Ann", "", "", ""),
-    (2, "POST", "/journeys/1/step", "a" * 17, "k", "", ""),
+    (8, "get", "/stock", "ann", "", "", "GET"), (2, "GET", "/stock", "", "", "", ""),
+    (2, "GET", "/stock", "Ann", "", "", ""), (2, "POST", "/journeys/1/step", "a" * 17, "k", "", ""),
     (3, "POST", "/journeys/1/step", "ann", "", "", ""), (3, "POST", "/journeys", "ann", "k" * 33, "{}", ""),
     (4, "POST", "/journeys/0/step", "ann", "k", "", ""), (4, "POST", "/journeys/01/save", "ann", "k", "", ""),
     (4, "GET", "/journeys/x", "ann", "", "", ""), (4, "POST", "/journeys/1/abort/100", "ann", "k", "", ""),

@@ -4,10 +4,10 @@ A life is a dictionary that JSON can hold:
 
   do             run, serve, recover, load, or the words of a report
   env            what calls.c or refuse.c is told
-  end            "": it ends by itself; "kill": once all is answered; seconds: killed so long after the last sayings were sent
+  end            "": it ends by itself; "kill": once all is answered; seconds: killed so long after the last burst was sent
   bursts         of run: the sayings, so many at once
-  connections    of serve: bursts; an end, which is close, half, cut, reset or closed; the part of a request that is cut;
-                 early, where it is made before the one before it is over; intrude, another call over the file meanwhile
+  connections    of serve: bursts; an end, which is close, half, cut, reset or closed; the part of a request that is
+                 cut; early, where it is made before the one before it is over; intrude, another call over the file
   name, records  of load
   cut            the calls are noted; from 0 on the number for chance by which the power is cut afterwards
   spoil          how the file is spoiled afterwards
@@ -295,7 +295,8 @@ class Life:
         """The output is one of these, or the front of one where the program did not end in order."""
         is_front = any(text.startswith(out) for text in expected)
         if out not in expected and not (self.may_break and status != 0 and is_front):
-            raise Wrong(f"{self.life['do']} said {out!r}, expected {' or '.join(map(repr, expected))}")
+            told = " or ".join(sorted(set(map(repr, expected))))
+            raise Wrong(f"{self.life['do']} said {out!r}, expected {told}")
 
     def report(self):
         word, *rest = self.life["do"].split(" ")

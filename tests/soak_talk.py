@@ -1,4 +1,4 @@
-"""What was said to one life of the program, and the desks that may stand by then: each answer leaves those that give it."""
+"""What was said to one life of the program, and the desks that may stand by then: an answer leaves those that give it."""
 from soak_answers import answer
 
 
@@ -54,7 +54,7 @@ class Talk:
         self.count.answered(self.pending.pop(0), same[0][1], is_kept)
 
     def broke(self, part, most=1):
-        """The connection ended after this part of an answer; of what was said, at most so many were done, the first ones."""
+        """The connection ended after this part of an answer; at most so many of what was said were done, the first."""
         if part and not any(expected.startswith(part) for expected, _, _ in (self.expected() if self.pending else ())):
             raise Wrong(f"after the last answer came {part!r}")
         found = list(self.desks)
