@@ -25,7 +25,7 @@ from soak_talk import Wrong
 ERRORS = ("5", "28")  # EIO and ENOSPC
 MOST_WRONG = 5
 PATIENCE_TO_SHRINK = 60.0
-SPOILS = ("forget-reply", "lose-event", "sell-twice")
+SPOILS = ("forget-reply", "lose-event", "sell-twice", "no-syncs")
 
 
 class Count(collections.Counter):
@@ -55,7 +55,7 @@ class Planner:
     def __init__(self, chance, spoil):
         self.chance, self.spoil = chance, spoil
         self.office = Office(chance)
-        self.has_cuts = chance.random() < 0.2 and not spoil
+        self.has_cuts = spoil == "no-syncs" or (chance.random() < 0.2 and not spoil)
 
     def life(self, desk, number):
         """The next life of a file in which this desk stands."""
@@ -64,7 +64,7 @@ class Planner:
             self.end(life)
         if self.has_cuts:
             life["cut"] = self.chance.randrange(1 << 30) if self.chance.random() < 0.3 else -1
-        if self.spoil and number > 2 and life["do"] in ("run", "serve"):
+        if self.spoil not in (None, "no-syncs") and number > 2 and life["do"] in ("run", "serve"):
             life["spoil"] = self.spoil
             if self.spoil == "lose-event":
                 life.update({"env": {}, "end": "kill"})
@@ -173,8 +173,9 @@ class Soak:
         self.words, self.folder, self.count, self.wrong = words, folder, Count(), []
 
     def place(self, count, name="file"):
-        share = 0.2 if self.words.trial else 1.0
-        return Place(f"{self.folder}/{name}", self.words.libraries, count, random.Random(1), share, self.words.blind)
+        share, has_syncs = 0.2 if self.words.trial else 1.0, self.words.spoil != "no-syncs"
+        chance = random.Random(1)
+        return Place(f"{self.folder}/{name}", self.words.libraries, count, chance, share, self.words.blind, has_syncs)
 
     def run(self):
         number = self.words.file or 1

@@ -1,7 +1,7 @@
 #!/usr/bin/env bash
 # The simulation of tests/soak.py: a fixed seed and that of the day, and nothing is wrong; and files that are spoiled on
-# purpose between two lives, which it has to find: a kept reply that is gone, an event that is lost after a kill, places
-# that are sold twice. Then too where it looks at the answers alone.
+# purpose between two lives, which it has to find: kept replies that are gone, an event that is lost after a kill, a place
+# that is sold twice; these also where it looks at the answers alone. And files of which nothing is synced.
 #
 # COUNT=N SEED=N DESK=.. tests/soak.sh    so many commands of this seed, where the gate takes 1,000
 . "$(dirname "${BASH_SOURCE[0]}")/helping.bash"
@@ -34,4 +34,5 @@ for how in forget-reply lose-event sell-twice; do
   finds "$how"
   finds "$how" --blind
 done
+finds no-syncs
 finish

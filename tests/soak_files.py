@@ -47,9 +47,9 @@ def some(rows):
 class Place:
     """The file that lives through a script of lives, and what may stand in it."""
 
-    def __init__(self, folder, libraries, count, chance, share=1.0, is_blind=False):
+    def __init__(self, folder, libraries, count, chance, share=1.0, is_blind=False, has_syncs=True):
         self.folder, self.libraries, self.count, self.chance = folder, libraries, count, chance
-        self.share, self.is_blind = share, is_blind
+        self.share, self.is_blind, self.has_syncs = share, is_blind, has_syncs
         shutil.rmtree(folder, ignore_errors=True)
         os.makedirs(folder)
         self.desks, self.disk, self.lives = [Desk()], Disk(), 0
@@ -117,7 +117,7 @@ class Place:
         self.disk.restart()
         if os.path.exists(self.path("notes")):
             for note in notes_in(self.path("notes")):
-                self.disk.take(note)
+                self.disk.take(note, self.has_syncs)
             os.remove(self.path("notes"))
         whole = self.disk.whole()
         if {name: whole[name] for name in FILES if name in whole} != self.files():
