@@ -39,6 +39,10 @@ class Journey(NamedTuple):
     def net(self):
         return net(self.items)
 
+    def wants(self):
+        """The wants of the transactions that stand."""
+        return [self.plan.steps[step - 1].options[option - 1] for step, option in self.net()]
+
     def pos(self):
         return len(self.net())
 
@@ -101,14 +105,16 @@ def going_to(items):
 
 
 class Desk:
-    """The events of the ledger, and the kept replies."""
+    """The events of the ledger, and the kept replies. What is read off the events is kept as long as none comes."""
 
     def __init__(self):
         self.events, self.journeys, self.batches, self.allotted, self.kept = [], [], {}, {}, {}
+        self.wants, self.phases, self.rows = [], [], None
 
     def copy(self):
         other = Desk()
         other.events, other.journeys = list(self.events), list(self.journeys)
+        other.wants, other.phases = list(self.wants), list(self.phases)
         other.batches, other.allotted, other.kept = dict(self.batches), dict(self.allotted), dict(self.kept)
         return other
 
@@ -118,20 +124,23 @@ class Desk:
     def take(self, event):
         """One more event."""
         self.events.append(event)
+        self.rows = None
         kind, first, second = event
         if kind == "load":
             self.batches[first] = second
             self.allotted.update((cell_in(cell), places) for cell, places in second)
         elif kind == "begin":
             self.journeys.append(Journey(first, second))
+            self.wants.append([])
+            self.phases.append((RUN, None))
         else:
-            journey = self.journeys[first - 1]
-            self.journeys[first - 1] = journey._replace(items=(*journey.items, second))
+            at = first - 1
+            self.journeys[at] = self.journeys[at]._replace(items=(*self.journeys[at].items, second))
+            self.wants[at], self.phases[at] = self.journeys[at].wants(), self.journeys[at].phase()
 
     def held(self, cell):
         """How many places of a cell all journeys hold."""
-        wants = (j.plan.steps[step - 1].options[option - 1] for j in self.journeys for step, option in j.net())
-        return sum(want.count for want in wants if want.covers(cell))
+        return sum(want.count for wants in self.wants for want in wants if want.covers(cell))
 
     def fits(self, want):
         return all(c in self.allotted and self.held(c) + want.count <= self.allotted[c] for c in want.cells())
@@ -208,7 +217,7 @@ class Desk:
         return reply
 
     def numbers(self, *phases):
-        return [n + 1 for n, journey in enumerate(self.journeys) if journey.phase()[0] in phases]
+        return [n for n, phase in enumerate(self.phases, 1) if phase[0] in phases]
 
     def recovery(self):
         """The desks on the way of recovery, from this one to the one that is recovered."""
@@ -222,12 +231,21 @@ class Desk:
             make("stop", identity)
         for phases in ((BACK,), (RUN, BACK)):
             for identity in desks[-1].numbers(*phases):
-                while desks[-1].journeys[identity - 1].phase()[0] in phases:
+                while desks[-1].phases[identity - 1][0] in phases:
                     make("step", identity)
         return desks
 
     def tables(self):
         """The rows of each table, sorted, as docs/FORMATS.md has them."""
+        if self.rows is None:
+            self.rows = self.all_rows()
+        return self.rows
+
+    def stock_rows(self):
+        return sorted((*cell, allot, allot - self.held(cell)) for cell, allot in self.allotted.items())
+
+    def all_rows(self):
+        """The rows, worked out from the events."""
         tables = {"batch": [], "journey": [], "step": [], "entry": [], "entry2": [], "mark": []}
         begun = 0
         for number, (kind, first, second) in enumerate(self.events, 1):
@@ -241,7 +259,7 @@ class Desk:
                 item, a, b = second
                 tables["entry2"].append((number, first, CODES[item], a, "sra".index(b) if item == "B" else b))
         tables["meta"] = [(1, 2, len(self.events), begun)]
-        tables["stock"] = [(*cell, allot, allot - self.held(cell)) for cell, allot in self.allotted.items()]
+        tables["stock"] = self.stock_rows()
         tables["answer"] = [(*under, text, line_of(reply)) for under, (text, reply) in self.kept.items()]
         return {name: sorted(rows) for name, rows in tables.items()}
 
@@ -249,14 +267,15 @@ class Desk:
         """The rows of a journey but its items."""
         journey = self.journeys[identity - 1]
         agent, plan, items = journey
-        phase, target = journey.phase()
+        phase, target = self.phases[identity - 1]
         code = (RUN, BACK, ENDED, UNDONE).index(phase)
-        cursor = (journey.pos(), code, target or 0, journey.refusals())
+        net = journey.net()
+        cursor = (len(net), code, target or 0, journey.refusals())
         tables["journey"].append((identity, number, agent, len(plan.steps), plan.tries, *cursor))
         tables["mark"] += [(identity, p) for p in taken(items)]
         for place, step in enumerate(plan.steps, 1):
             for option, want in enumerate(step.options, 1):
-                is_taken = (place, option) in journey.net()
+                is_taken = (place, option) in net
                 tables["step"].append((identity, place, option, int(step.save), int(is_taken), *want))
 
 

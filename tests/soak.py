@@ -10,6 +10,7 @@ import json
 import os
 import random
 import shutil
+import signal
 import subprocess
 import sys
 import tempfile
@@ -342,6 +343,7 @@ def words_of():
 def main():
     words = words_of()
     words.libraries, words.keep = os.path.abspath(words.libraries), os.path.abspath(words.keep)
+    signal.signal(signal.SIGTERM, lambda *_: sys.exit(143))
     folder = tempfile.mkdtemp(prefix="soak-", dir="/dev/shm" if os.access("/dev/shm", os.W_OK) else None)
     try:
         if not words.trial and is_slow(folder):

@@ -2,7 +2,7 @@
 import json
 
 from ledger import history_report, stock_report, unfinished_report
-from plain_desk import NAMES, Refusal, item_text, line_of, request_in
+from plain_desk import BACK, NAMES, RUN, Refusal, item_text, line_of, request_in
 from soak_asks import bytes_of
 
 STATUSES = {
@@ -50,14 +50,14 @@ def page(saying, status, body, allow=""):
 def shown(desk, agent, what):
     """What an agent is shown: a report, a JSON value, or a refusal."""
     if what == "stock":
-        return stock_report(desk.tables())
-    own = [(n, j) for n, j in enumerate(desk.journeys, 1) if j.agent == agent]
+        return stock_report({"stock": desk.stock_rows()})
     if what == "unfinished":
-        return {"unfinished": [where(n, j.pos(), j.phase()) for n, j in own if j.is_open()]}
-    for n, j in own:
-        if n == what:
-            return {"history": [item_text(item) for item in j.items], **where(n, j.pos(), j.phase())}
-    return Refusal(9)
+        own = [n for n in desk.numbers(RUN, BACK) if desk.journeys[n - 1].agent == agent]
+        return {"unfinished": [where(n, desk.journeys[n - 1].pos(), desk.phases[n - 1]) for n in own]}
+    if not 1 <= what <= len(desk.journeys) or desk.journeys[what - 1].agent != agent:
+        return Refusal(9)
+    journey = desk.journeys[what - 1]
+    return {"history": [item_text(item) for item in journey.items], **where(what, journey.pos(), journey.phase())}
 
 
 def answer(desk, saying):

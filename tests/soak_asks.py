@@ -6,7 +6,7 @@ so `closes` (the connection ends with its page) and `head` (its page has no body
 """
 import json
 
-from plain_desk import Journey, Refusal
+from plain_desk import BACK, RUN, Journey, Refusal
 from plain_texts import (
     HEADING, LETTERS, WORDS, BadPlan, Plan, Step, Want, cell_text, day_in, plan_in, plan_line, plan_of, plan_value,
     rows_of,
@@ -123,8 +123,7 @@ class Office:
 
     def opened(self, desk, who=None):
         """The numbers of the journeys that are open, of an agent or of all."""
-        journeys = enumerate(desk.journeys, 1)
-        return [n for n, journey in journeys if who in (None, journey.agent) and journey.is_open()]
+        return [n for n in desk.numbers(RUN, BACK) if who in (None, desk.journeys[n - 1].agent)]
 
     def identity(self, desk, who=None):
         """The number of a journey, mostly of one that is open and seen."""
