@@ -27,8 +27,9 @@ soaks "${SEED:-$(date +%Y%m%d)}" "${COUNT:-300}" || wrong=$((wrong + 1))
 
 # finds HOW WORD ..: the simulation finds a file that is spoiled so
 finds() {
-  soaks 1987 400 --spoil "$@" >found 2>&1
+  soaks 1987 400 --spoil "$@" >found 2>err
   same "spoiled, $*: the status" 1 "$?"
+  same "spoiled, $*: what was found" "wrong 1" "$(tail -n 1 found)"
 }
 for how in forget-reply lose-event sell-twice; do
   finds "$how"
