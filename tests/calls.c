@@ -3,6 +3,8 @@
    NOTE=FILE     writes each call that changes a file or a folder, syncs one, or writes to a stream, to FILE, in order
    FAIL=N        the N-th call, from 1, fails, with the error number ERROR, and does nothing
    THEN=K        the K-th call after that fails too; THEN=all: all of them
+   KILL=N        the program is killed at the N-th call, which does nothing
+   TEAR=N        where that call is a write to a file at a place, it writes at most N bytes first
    PIECES=N      one call writes at most N bytes, and reads at most N of a stream
    PARTS=N       one call reads at most N bytes of a file at a place
 
@@ -12,6 +14,7 @@
 #include <dlfcn.h>
 #include <errno.h>
 #include <fcntl.h>
+#include <signal.h>
 #include <stdarg.h>
 #include <stdint.h>
 #include <stdlib.h>
@@ -27,9 +30,21 @@ static long number(const char *name) {
   return text ? atol(text) : 0;
 }
 
+static long calls = 0;
+
+/* Whether the program is killed at the next call. */
+static int is_last(void) {
+  static long at = -1;
+  if (at < 0)
+    at = number("KILL");
+  return at == calls + 1;
+}
+
 /* What the environment says of failing calls: says whether this one, the next one, fails. */
 static int fails(const char *name) {
-  static long at = -1, then = 0, all = 0, calls = 0;
+  static long at = -1, then = 0, all = 0;
+  if (is_last())
+    kill(getpid(), SIGKILL);
   if (at < 0) {
     const char *text = getenv("THEN");
     at = number("FAIL");
@@ -151,11 +166,14 @@ READS_AT(pread64)
 
 static ssize_t put_at(int file, const void *bytes, size_t size, off_t at) {
   NEXT(ssize_t, "pwrite64", int, const void *, size_t, off_t);
-  if (fails("pwrite"))
+  long torn = is_last() ? number("TEAR") : -1;
+  if (torn <= 0 && fails("pwrite"))
     return -1;
-  ssize_t put = next(file, bytes, piece(size), at);
+  ssize_t put = next(file, bytes, at_most(torn, piece(size)), at);
   if (put > 0)
     note('w', file, at, bytes, (size_t)put);
+  if (torn > 0)
+    fails("pwrite");
   return put;
 }
 ssize_t pwrite(int file, const void *bytes, size_t size, off_t at) { return put_at(file, bytes, size, at); }

@@ -180,19 +180,19 @@ class State:
 
 def is_settled(tables):
     """What is wrong with the tables of a desk that was recovered, in words; nothing where all is well."""
-    held = {}
+    held, taken = {}, {}
     for step in tables["step"]:
         if step[4]:
+            taken[step[0]] = taken.get(step[0], 0) + 1
             for day in range(step[8], step[8] + step[9]):
                 held[(*step[5:8], day)] = held.get((*step[5:8], day), 0) + step[10]
     for row in tables["stock"]:
         if row[4] - row[5] != held.get(row[:4], 0):
             return f"places of {row[:4]} are neither free nor held"
     for row in tables["journey"]:
-        taken = sum(step[4] for step in tables["step"] if step[0] == row[0])
         if row[6] < ENDED:
             return f"journey {row[0]} is unfinished"
-        if taken != (row[3] if row[6] == ENDED else 0):
+        if taken.get(row[0], 0) != (row[3] if row[6] == ENDED else 0):
             return f"journey {row[0]} is half done"
     return ""
 

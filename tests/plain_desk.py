@@ -1,0 +1,328 @@
+"""The desk as a slow, plain program. It keeps its events and the kept replies, and reads all else off them, by the rules
+of docs/DEFINITIONS.md and docs/FORMATS.md. It shares no code with the desk.
+
+A request is a tuple: ("load", name, rows), ("begin", plan line), ("step", id), ("abort", id, p), ("stop", id), or
+("save", id). A row is a cell's text and its places. A reply is ("loaded", name, rows), ("begun", id),
+("moved", id, item, pos, phase), or a Refusal. An item is ("T", step, option), ("C", step, option),
+("B", target, cause) or ("S", position, 0).
+"""
+import functools
+from typing import NamedTuple
+
+from plain_texts import NAME, BadPlan, Plan, cell_in, number_in, plan_in
+
+CODES = {"T": 0, "C": 1, "B": 2, "S": 3}
+NAMES = {
+    1: "BadHead", 2: "NoAgent", 3: "NoKey", 4: "BadBody", 5: "BadPlan", 6: "BadCsv", 7: "UnknownPath", 8: "WrongMethod",
+    9: "NoJourney", 10: "Finished", 11: "NoSavePoint", 12: "BelowHeld", 13: "BatchDiffers", 14: "KeyReused",
+    15: "TooLarge", 19: "NoLength", 23: "AlreadyNew", 28: "NoSave",
+}
+RUN, BACK, ENDED, UNDONE = "run", "back", "ended", "undone"
+
+
+class Refusal(NamedTuple):
+    """A reply that says no."""
+
+    number: int
+    step: object = None
+    row: object = None
+    cause: object = None
+
+
+class Journey(NamedTuple):
+    """A plan that an agent has begun, and the items that it made."""
+
+    agent: str
+    plan: Plan
+    items: tuple = ()
+
+    def net(self):
+        return net(self.items)
+
+    def wants(self):
+        """The wants of the transactions that stand."""
+        return [self.plan.steps[step - 1].options[option - 1] for step, option in self.net()]
+
+    def pos(self):
+        return len(self.net())
+
+    def refusals(self):
+        return sum(1 for kind, _, b in self.items if kind == "B" and b == "r")
+
+    def is_save_point(self, p):
+        is_marked = 1 <= p <= len(self.plan.steps) and self.plan.steps[p - 1].save
+        return (is_marked and p <= self.pos()) or p in taken(self.items)
+
+    def last_save(self):
+        return max((p for p in range(1, len(self.plan.steps) + 1) if self.is_save_point(p)), default=0)
+
+    def refused_target(self):
+        return self.last_save() if self.refusals() < self.plan.tries else 0
+
+    def next_option(self):
+        return min(self.refusals() + 1, len(self.plan.steps[self.pos()].options))
+
+    def next_want(self):
+        return self.plan.steps[self.pos()].options[self.next_option() - 1]
+
+    def phase(self):
+        """What the journey is doing, and where it goes back to, or None."""
+        pos = self.pos()
+        if pos == len(self.plan.steps):
+            return ENDED, None
+        if pos == 0 and any(kind == "B" and a == 0 for kind, a, _ in self.items):
+            return UNDONE, None
+        target = going_to(self.items)
+        return (BACK, target) if target is not None and target < pos else (RUN, None)
+
+    def is_open(self):
+        return self.phase()[0] in (RUN, BACK)
+
+
+@functools.lru_cache(4096)
+def net(items):
+    """The transactions after which no compensation of their step comes, each as step and option."""
+    done = ((n, a, b) for n, (kind, a, b) in enumerate(items) if kind == "T")
+    return tuple((a, b) for n, a, b in done if not is_compensated(items[n + 1 :], a))
+
+
+def is_compensated(items, step):
+    return any(kind == "C" and a == step for kind, a, _ in items)
+
+
+@functools.lru_cache(4096)
+def taken(items):
+    """The positions at which a save-point was taken that stands."""
+    return frozenset(a for n, (kind, a, _) in enumerate(items) if kind == "S" and not is_compensated(items[n + 1 :], a))
+
+
+def going_to(items):
+    """The target of the last turn, if no transaction came since."""
+    for kind, a, _ in reversed(items):
+        if kind in "TB":
+            return a if kind == "B" else None
+    return None
+
+
+class Desk:
+    """The events of the ledger, and the kept replies. What is read off the events is kept as long as none comes."""
+
+    def __init__(self):
+        self.events, self.journeys, self.batches, self.allotted, self.kept = [], [], {}, {}, {}
+        self.wants, self.phases, self.rows = [], [], None
+
+    def copy(self):
+        other = Desk()
+        other.events, other.journeys = list(self.events), list(self.journeys)
+        other.wants, other.phases = list(self.wants), list(self.phases)
+        other.batches, other.allotted, other.kept = dict(self.batches), dict(self.allotted), dict(self.kept)
+        return other
+
+    def is_same(self, other):
+        return self.events == other.events and self.kept == other.kept
+
+    def take(self, event):
+        """One more event."""
+        self.events.append(event)
+        self.rows = None
+        kind, first, second = event
+        if kind == "load":
+            self.batches[first] = second
+            self.allotted.update((cell_in(cell), places) for cell, places in second)
+        elif kind == "begin":
+            self.journeys.append(Journey(first, second))
+            self.wants.append([])
+            self.phases.append((RUN, None))
+        else:
+            at = first - 1
+            self.journeys[at] = self.journeys[at]._replace(items=(*self.journeys[at].items, second))
+            self.wants[at], self.phases[at] = self.journeys[at].wants(), self.journeys[at].phase()
+
+    def held(self, cell):
+        """How many places of a cell all journeys hold."""
+        return sum(want.count for wants in self.wants for want in wants if want.covers(cell))
+
+    def fits(self, want):
+        return all(c in self.allotted and self.held(c) + want.count <= self.allotted[c] for c in want.cells())
+
+    def answer_load(self, name, rows):
+        rows = tuple((cell, places) for cell, places in rows)
+        if name in self.batches:
+            return None, ("loaded", name, len(rows)) if self.batches[name] == rows else Refusal(13)
+        for n, (cell, places) in enumerate(rows):
+            if places < self.held(cell_in(cell)):
+                return None, Refusal(12, row=n + 1)
+        return ("load", name, rows), ("loaded", name, len(rows))
+
+    def may_come(self, journey, item):
+        """Whether this item may come next."""
+        kind, a, b = item
+        phase, target = journey.phase()
+        is_running = phase == RUN
+        if kind == "T":
+            is_next = (a, b) == (journey.pos() + 1, journey.next_option())
+            return is_running and is_next and self.fits(journey.next_want())
+        if kind == "C":
+            return phase == BACK and journey.net()[-1:] == ((a, b),)
+        if kind == "S":
+            return is_running and a == journey.pos() > 0 and not journey.is_save_point(a)
+        if b == "s":
+            return is_running and a == journey.last_save()
+        if b == "r":
+            return is_running and a == journey.refused_target() and not self.fits(journey.next_want())
+        return (a == 0 or journey.is_save_point(a)) and (is_running or a < target)
+
+    def choices(self, journey, word, position):
+        """What a request may make of an open journey."""
+        if word == "step":
+            forward = [("T", journey.pos() + 1, journey.next_option()), ("B", journey.refused_target(), "r")]
+            return [*forward, *(("C", *last) for last in journey.net()[-1:])]
+        if word == "abort":
+            return [("B", position, "a")]
+        return [("S", journey.pos(), 0)] if word == "save" else [("B", journey.last_save(), "s")]
+
+    def answer_move(self, who, word, identity, position=0):
+        """The answer to a request about a journey: the first of its choices that is allowed."""
+        journey = self.journeys[identity - 1] if 1 <= identity <= len(self.journeys) else None
+        if journey is None or who not in (None, journey.agent):
+            return None, Refusal(9)
+        if not journey.is_open():
+            return None, Refusal(10)
+        for item in self.choices(journey, word, position):
+            if self.may_come(journey, item):
+                grown = journey._replace(items=(*journey.items, item))
+                return ("did", identity, item), ("moved", identity, item, grown.pos(), grown.phase())
+        return None, Refusal(28 if word == "save" else 11)
+
+    def answer(self, who, request):
+        """The event of a request, if it makes one, and the reply."""
+        word, *rest = request
+        if word == "load":
+            return self.answer_load(*rest)
+        if word == "begin":
+            return ("begin", who or "desk", plan_in(rest[0])), ("begun", len(self.journeys) + 1)
+        return self.answer_move(who, word, *rest)
+
+    def outcome(self, request, ask=None):
+        """The reply to a request of the house, or of an agent with a key and a text; what it does is done."""
+        agent, key, text = ask or (None, None, None)
+        if (agent, key) in self.kept:
+            known, reply = self.kept[agent, key]
+            return reply if known == text else Refusal(14)
+        event, reply = self.answer(agent, request)
+        if event:
+            self.take(event)
+            if ask:
+                self.kept[agent, key] = (text, reply)
+        return reply
+
+    def numbers(self, *phases):
+        return [n for n, phase in enumerate(self.phases, 1) if phase[0] in phases]
+
+    def recovery(self):
+        """The desks on the way of recovery, from this one to the one that is recovered."""
+        desks = [self]
+
+        def make(word, identity):
+            desks.append(desks[-1].copy())
+            desks[-1].outcome((word, identity))
+
+        for identity in self.numbers(RUN):
+            make("stop", identity)
+        for phases in ((BACK,), (RUN, BACK)):
+            for identity in desks[-1].numbers(*phases):
+                while desks[-1].phases[identity - 1][0] in phases:
+                    make("step", identity)
+        return desks
+
+    def tables(self):
+        """The rows of each table, sorted, as docs/FORMATS.md has them."""
+        if self.rows is None:
+            self.rows = self.all_rows()
+        return self.rows
+
+    def stock_rows(self):
+        return sorted((*cell, allot, allot - self.held(cell)) for cell, allot in self.allotted.items())
+
+    def all_rows(self):
+        """The rows, worked out from the events."""
+        tables = {"batch": [], "journey": [], "step": [], "entry": [], "entry2": [], "mark": []}
+        begun = 0
+        for number, (kind, first, second) in enumerate(self.events, 1):
+            if kind == "load":
+                content = "".join(f"{cell}/{places}\n" for cell, places in second)
+                tables["batch"].append((first, number, content.encode()))
+            elif kind == "begin":
+                begun += 1
+                self.journey_rows(tables, begun, number)
+            else:
+                item, a, b = second
+                tables["entry2"].append((number, first, CODES[item], a, "sra".index(b) if item == "B" else b))
+        tables["meta"] = [(1, 2, len(self.events), begun)]
+        tables["stock"] = self.stock_rows()
+        tables["answer"] = [(*under, text, line_of(reply)) for under, (text, reply) in self.kept.items()]
+        return {name: sorted(rows) for name, rows in tables.items()}
+
+    def journey_rows(self, tables, identity, number):
+        """The rows of a journey but its items."""
+        journey = self.journeys[identity - 1]
+        agent, plan, items = journey
+        phase, target = self.phases[identity - 1]
+        code = (RUN, BACK, ENDED, UNDONE).index(phase)
+        net = journey.net()
+        cursor = (len(net), code, target or 0, journey.refusals())
+        tables["journey"].append((identity, number, agent, len(plan.steps), plan.tries, *cursor))
+        tables["mark"] += [(identity, p) for p in taken(items)]
+        for place, step in enumerate(plan.steps, 1):
+            for option, want in enumerate(step.options, 1):
+                is_taken = (place, option) in net
+                tables["step"].append((identity, place, option, int(step.save), int(is_taken), *want))
+
+
+# Texts of replies.
+
+
+def item_text(item):
+    kind, a, b = item
+    return {"T": f"T{a}.{b}", "C": f"C{a}.{b}", "B": f"B{a}{b}", "S": f"S{a}"}[kind]
+
+
+def state_text(pos, phase):
+    word, target = phase
+    return {RUN: f"run {pos}", BACK: f"back {pos} to {target}", ENDED: f"ended {pos}", UNDONE: "undone 0"}[word]
+
+
+def line_of(reply):
+    """The line of a reply."""
+    if isinstance(reply, Refusal):
+        told = (reply.step, reply.row, reply.cause)
+        return " ".join(["refused", str(reply.number), NAMES[reply.number], *(str(t) for t in told if t is not None)])
+    if reply[0] == "loaded":
+        return f"loaded {reply[1]} {reply[2]}"
+    if reply[0] == "begun":
+        return f"journey {reply[1]} begun"
+    _, identity, item, pos, phase = reply
+    return f"journey {identity} {item_text(item)} {state_text(pos, phase)}"
+
+
+def request_in(line):
+    """The request of a line of the house, or the refusal that it gets."""
+    try:
+        text = line.decode() if len(line) <= 8192 else ""
+    except UnicodeDecodeError:
+        return Refusal(4)
+    if text.startswith("begin "):
+        try:
+            plan_in(text[6:])
+        except BadPlan as bad:
+            return Refusal(5, step=bad.step, cause=bad.cause)
+        return ("begin", text[6:])
+    word, *rest = text.split(" ")
+    if word == "set" and len(rest) == 3:
+        name, cell, places = rest[0], cell_in(rest[1]), number_in(rest[2], 0, 100_000)
+        is_right = NAME.fullmatch(name) and cell and places is not None
+        return ("load", name, ((rest[1], places),)) if is_right else Refusal(4)
+    if (word, len(rest)) in (("step", 1), ("save", 1), ("abort", 2)):
+        numbers = [number_in(text, low, most) for text, low, most in zip(rest, (1, 0), (999_999_999_999, 99))]
+        return (word, *numbers) if None not in numbers else Refusal(4)
+    return Refusal(4)

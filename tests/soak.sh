@@ -1,0 +1,39 @@
+#!/usr/bin/env bash
+# The simulation of tests/soak.py: a fixed seed and that of the day, and nothing is wrong; and files that are spoiled on
+# purpose between two lives, which it has to find: kept replies that are gone, an event that is lost after a kill, a place
+# that is sold twice; these also where it looks at the answers alone. And files of which nothing is synced.
+#
+# COUNT=N SEED=N DESK=.. tests/soak.sh    so many commands of this seed, where the gate takes 1,000
+. "$(dirname "${BASH_SOURCE[0]}")/helping.bash"
+. "$tests/hostile.bash"
+
+needs_python
+for name in calls refuse; do
+  cc -O1 -shared -fPIC -o "$name.so" "$tests/$name.c" -ldl || exit 1
+done
+
+# soaks SEED COUNT WORD ..: runs the simulation
+soaks() { python3 "$tests/soak.py" . "$@"; }
+
+# count_of WORD: the number before this word of the summary, or after it
+count_of() { grep -o "$1 [0-9]*" said | head -n 1 | grep -o '[0-9]*$'; }
+
+soaks 1987 "${COUNT:-1000}" >said || wrong=$((wrong + 1))
+cat said
+for what in kills faults "given again" refused "power cuts"; do
+  same "it met $what" yes "$([ "$(count_of "$what")" -ge 5 ] && echo yes)"
+done
+soaks "${SEED:-$(date +%Y%m%d)}" "${COUNT:-300}" || wrong=$((wrong + 1))
+
+# finds HOW WORD ..: the simulation finds a file that is spoiled so
+finds() {
+  soaks 1987 400 --spoil "$@" >found 2>err
+  same "spoiled, $*: the status" 1 "$?"
+  same "spoiled, $*: what was found" "wrong 1" "$(tail -n 1 found)"
+}
+for how in forget-reply lose-event sell-twice; do
+  finds "$how"
+  finds "$how" --blind
+done
+finds no-syncs
+finish
