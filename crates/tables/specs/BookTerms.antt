@@ -1,5 +1,5 @@
 -- What a call of a book over tables returns, keeps and leaves: the terms of every book, at the fields of this one.
-use Rattle.std.specs.Prelude.{◌≡◌, ℕ, Option, Result}
+use Rattle.std.specs.Prelude.{◌≡◌, ℕ, Option, Result, IsErrOf}
 use Rattle.std.specs.Borrow.{Bor}
 use Rattle.std.specs.Option.{option_copied}
 use Rattle.sqlite.specs.Store.{Ghosts}
@@ -8,11 +8,14 @@ use Rattle.sqlite.specs.State.{HasCleanDisk}
 use Rattle.commands.specs.Asks.{Asked}
 use Rattle.commands.specs.Request.{Request}
 use Rattle.commands.specs.declared.faults.Fault.{Fault}
+use Rattle.commands.specs.declared.faults.Fault.TheVariants.{Store}
 use Rattle.commands.specs.declared.replies.Reply.{Reply}
+use Rattle.desk_sql.specs.Causes.{HasFaulted, IsUp}
 use Rattle.ledger.specs.Answer.{State}
 use Rattle.saga_core.specs.Books as books
 use Rattle.saga_core.specs.Views.{first_unfinished}
 use Rattle.saga_core.specs.declared.records.Brief.{Brief}
+use Rattle.sql_model.specs.Spelling.{IsSpelled}
 use Rattle.tables.specs.Keeping.{Stands, MayLeave}
 use Rattle.tables.specs.declared.books.TableBook.{TableBook}
 
@@ -36,6 +39,18 @@ module _ {S : Type 0} (g : Ghosts S) where
     abbrev pub KeepsKnowing : {V : Type 0} → Result V Fault → Type 0
     KeepsKnowing result =
         HasCleanDisk (state g new.conn) → books.Keeps (StandsBook old) (StandsBook new) result
+
+    -- where the book stood for a desk, and its store was up, a fault of the store says that its disk failed or refused
+    abbrev pub FailsForReason : {V : Type 0} → Result V Fault → Type 0
+    FailsForReason result =
+        HasCleanDisk (state g new.conn) → (s : State) → StandsBook old s → IsSpelled s.ledger
+        → IsUp (state g old.conn) → IsErrOf result Store
+        → HasFaulted (state g old.conn) (state g new.conn)
+
+    -- what is shown is so of each state that the book stood for
+    abbrev pub ShowsKept : {V : Type 0} → (State → V → Type 0) → Result V Fault → Type 0
+    ShowsKept IsShown result =
+        HasCleanDisk (state g new.conn) → books.Shows (StandsBook old) IsShown result
 
     abbrev pub Answers : Option (Bor Asked) → Request → Result Reply Fault → Type 0
     Answers ask asked result =

@@ -156,6 +156,10 @@ impl<S: Alter> Opened<S> {
 }
 
 impl<S: Alter> Book for TableBook<S> {
+    ghost use Rattle.ledger.specs.Ledger.{history};
+    ghost use Rattle.saga_core.specs.Views.{ShowsCells, IsStock};
+    ghost use Rattle.sql_reads.specs.Reading.{WasClean};
+    ghost use Rattle.tables.specs.BookTerms.{FailsForReason, KeepsKnowing, LeavesNoMore, ShowsKept};
     ghost use Rattle.sqlite.specs.State.{HasCleanDisk};
     ghost use Rattle.sqlite.specs.Held.{state};
     ghost use Rattle.tables.specs.Keeping.{MayLeave, Stands, settles};
@@ -194,7 +198,17 @@ impl<S: Alter> Book for TableBook<S> {
         }
     }
 
-    fn history(&mut self, id: u64) -> Result<Vec<Item>, Fault> {
+    fn history(&mut self, id: u64) -> Result<Vec<Item>, Fault>
+        ensures items { ShowsKept S.Store self.old self.new (λ s items. items.items ≡ history s.ledger id) result }
+        ensures same { KeepsKnowing S.Store self.old self.new result }
+        ensures stop { HasCleanDisk (state S.Store self.new.conn) → LeavesNoMore S.Store self.old self.new }
+        ensures fails { IsErrOf result Fault.Store ↔ IsTrue self.new.failed }
+        ensures stays_failed { IsTrue self.old.failed → IsTrue self.new.failed }
+        ensures stays_left { IsTrue self.old.failed → LeavesNoMore S.Store self.old self.new }
+        ensures sound { WasClean S.Store self.old.conn self.new.conn }
+
+        ensures store { FailsForReason S.Store self.old self.new result }
+    {
         if self.failed {
             return Err(Fault::Store);
         }
@@ -222,7 +236,17 @@ impl<S: Alter> Book for TableBook<S> {
         }
     }
 
-    fn cells(&mut self, want: &Want) -> Result<Vec<(Night, Held)>, Fault> {
+    fn cells(&mut self, want: &Want) -> Result<Vec<(Night, Held)>, Fault>
+        ensures cells { ShowsKept S.Store self.old self.new (λ s cells. ShowsCells want.now s cells.items) result }
+        ensures same { KeepsKnowing S.Store self.old self.new result }
+        ensures stop { HasCleanDisk (state S.Store self.new.conn) → LeavesNoMore S.Store self.old self.new }
+        ensures fails { IsErrOf result Fault.Store ↔ IsTrue self.new.failed }
+        ensures stays_failed { IsTrue self.old.failed → IsTrue self.new.failed }
+        ensures stays_left { IsTrue self.old.failed → LeavesNoMore S.Store self.old self.new }
+        ensures sound { WasClean S.Store self.old.conn self.new.conn }
+
+        ensures store { FailsForReason S.Store self.old self.new result }
+    {
         if self.failed {
             return Err(Fault::Store);
         }
@@ -236,7 +260,17 @@ impl<S: Alter> Book for TableBook<S> {
         }
     }
 
-    fn stock(&mut self) -> Result<Vec<(Cell, Held)>, Fault> {
+    fn stock(&mut self) -> Result<Vec<(Cell, Held)>, Fault>
+        ensures stock { ShowsKept S.Store self.old self.new (λ s rows. IsStock s.ledger rows.items) result }
+        ensures same { KeepsKnowing S.Store self.old self.new result }
+        ensures stop { HasCleanDisk (state S.Store self.new.conn) → LeavesNoMore S.Store self.old self.new }
+        ensures fails { IsErrOf result Fault.Store ↔ IsTrue self.new.failed }
+        ensures stays_failed { IsTrue self.old.failed → IsTrue self.new.failed }
+        ensures stays_left { IsTrue self.old.failed → LeavesNoMore S.Store self.old self.new }
+        ensures sound { WasClean S.Store self.old.conn self.new.conn }
+
+        ensures store { FailsForReason S.Store self.old self.new result }
+    {
         if self.failed {
             return Err(Fault::Store);
         }

@@ -3,10 +3,14 @@
 //! The rows borrow what was opened, and query it for each item. Once the rows are dropped, the caller has what was
 //! opened again: it was only read, even if the rows could not be started.
 
-ghost use Rattle.std.specs.Prelude.{◌≡◌, IfOk};
+ghost use Rattle.std.specs.Prelude.{◌≡◌, ◌<◌, ◌+◌, ◌-◌, ◌^◌, false, IfOk};
 ghost use Rattle.sqlite.specs.Held.{state};
 ghost use Rattle.sqlite.specs.State.{HasCleanDisk};
+ghost use Rattle.saga_core.specs.RowSources.{count_of, Hands};
+ghost use Rattle.sql_reads.specs.Causes.{FailsForReasonIn, StaysUp};
+ghost use Rattle.sql_reads.specs.ItemSearch.{IsLow};
 ghost use Rattle.sql_reads.specs.RemainingRows.{ItemsRest};
+ghost use Rattle.tables.specs.Lending.{StaysUnder};
 
 use crate::opening::Opened;
 use commands::{Fault, Item};
@@ -34,6 +38,13 @@ impl<S: Alter> Opened<S> {
             (ItemsRest S.Store self.new.conn it)) }
         ensures none { IfOk result (λ it. it.given ≡ 0) }
         ensures kept { IsOnlyRead S.Store self.old self.new }
+
+        ensures store { self.old.conn.in_transaction ≡ false
+            → FailsForReasonIn S.Store self.old.conn self.new.conn self.old.version result }
+        ensures up { StaysUp S.Store self.old.conn self.new.conn }
+        ensures going { IfOk result (λ it. it.failed ≡ false) }
+        ensures low { IfOk result (λ it. IsLow it.sought) }
+        ensures version { IfOk result (λ it. it.version ≡ self.old.version) }
     {
         if !self.is_outside() {
             return Err(Fault::Store);
@@ -54,6 +65,11 @@ impl<S: Alter> Opened<S> {
             (⟦<ItemRows<'c, S> as RowSource<Item>>⟧.rests it)) }
         ensures none { IfOk result (λ it. ⟦<ItemRows<'c, S> as RowSource<Item>>⟧.given it ≡ 0) }
         ensures kept { IfOk result (λ it. IsOnlyRead S.Store self.old it.opened.now) }
+
+        ensures going { IfOk result (λ it. it.cursor.failed ≡ false) }
+        ensures low { IfOk result (λ it. IsLow it.cursor.sought) }
+        ensures version { IfOk result (λ it. it.cursor.version ≡ self.old.version) }
+        ensures up { IfOk result (λ it. StaysUp S.Store self.old.conn it.opened.now.conn) }
     {
         match self.begin_items(id) {
             Ok(cursor) => Ok(ItemRows {
@@ -66,7 +82,7 @@ impl<S: Alter> Opened<S> {
 }
 
 impl<S: Alter> RowSource<Item> for ItemRows<'_, S> {
-    ghost use Rattle.tables.specs.Lending.{StaysUnder, stays_alone, stays_twice};
+    ghost use Rattle.tables.specs.Lending.{stays_alone, stays_twice};
 
     ghost is_sound = { λ s. HasCleanDisk (state S.Store s.opened.now.conn) };
 
@@ -80,7 +96,24 @@ impl<S: Alter> RowSource<Item> for ItemRows<'_, S> {
 
     ghost joins = { λ a b c. stays_twice a.opened b.opened c.opened };
 
-    fn next_row(&mut self) -> Result<Option<Item>, Fault> {
+    fn next_row(&mut self) -> Result<Option<Item>, Fault>
+        ensures next { HasCleanDisk (state S.Store self.new.opened.now.conn) → IfOk result (Hands
+            (ItemsRest S.Store self.old.opened.now.conn self.old.cursor)
+            (ItemsRest S.Store self.new.opened.now.conn self.new.cursor)) }
+        ensures counted { IfOk result (λ found. self.new.cursor.given ≡ count_of found + self.old.cursor.given) }
+        ensures few { self.new.cursor.given < 2 ^ 64 }
+
+        ensures kept { StaysUnder S.Store self.old.opened self.new.opened }
+        ensures sound { HasCleanDisk (state S.Store self.new.opened.now.conn)
+            → HasCleanDisk (state S.Store self.old.opened.now.conn) }
+
+        ensures low { IsLow self.old.cursor.sought → IsLow self.new.cursor.sought }
+        ensures store { IsLow self.old.cursor.sought → self.old.cursor.failed ≡ false
+            → self.old.cursor.given < 2 ^ 64 - 1
+            → FailsForReasonIn S.Store self.old.opened.now.conn self.new.opened.now.conn
+            self.old.cursor.version result }
+        ensures up { StaysUp S.Store self.old.opened.now.conn self.new.opened.now.conn }
+    {
         self.cursor.next_item(&mut self.opened.conn)
     }
 }

@@ -13,7 +13,7 @@ ghost use Rattle.desk_sql.specs.Schema.{no_schema};
 ghost use Rattle.desk_sql.specs.Versions.{number_of, SawVersion};
 ghost use Rattle.desk_sql.specs.declared.versions.Version.{Version};
 ghost use Rattle.ledger.specs.Answer.{State};
-ghost use Rattle.tables.specs.Opening.{KeepsIt, StandsOn, Tells};
+ghost use Rattle.tables.specs.Opening.{FailsToOpen, KeepsIt, StandsOn, Tells};
 ghost use Rattle.sql_reads.specs.Reading.{WasClean};
 
 use crate::faults::OpenFault;
@@ -171,6 +171,7 @@ fn read_version<S: Alter>(conn: &mut Connection<S>) -> Result<Version, OpenFault
     ensures stands { OnErr result (StandsOn S.Store conn.old conn.new) }
     ensures version { IfOk result (λ v. SawVersion S.Store conn.old conn.new (number_of v)) }
     ensures told { IfErr result (Tells S.Store conn.old conn.new) }
+    ensures store { IfErr result (FailsToOpen S.Store conn.old conn.new) }
 {
     match read_meta(conn) {
         Ok(meta) => match Version::from_number(meta.version) {
@@ -195,6 +196,7 @@ pub fn open_from<S: Alter>(mut conn: Connection<S>) -> Result<Opened<S>, (Connec
     ensures outside { IfErr result (λ e. e.0.in_transaction ≡ false) }
     ensures stands { IfErr result (λ e. StandsOn S.Store conn e.0) }
     ensures told { IfErr result (λ e. Tells S.Store conn e.0 e.1) }
+    ensures store { IfErr result (λ e. FailsToOpen S.Store conn e.0 e.1) }
     ensures unharmed { IfErr result (λ e. WasClean S.Store conn e.0) }
     ensures limit { IfErr result (λ e. e.0.step_limit ≡ None) }
 {

@@ -6,6 +6,9 @@ use Rattle.sqlite.specs.Held.{state}
 use Rattle.desk_sql.specs.declared.versions.Version.{Version}
 use Rattle.desk_sql.specs.Versions.{number_of, AreOfVersion}
 use Rattle.tables.proofs.OpenKept.{has_version, has_number, keeps_named, still_found}
+use Rattle.commands.specs.declared.faults.Fault.TheVariants.{Store as FaultStore}
+use Rattle.desk_sql.specs.Readable.{HasMeta}
+use Rattle.sql_reads.proofs.ReadReasons.{of_error, meta_there, sql_reason}
 use Rattle.tables.proofs.opening.read_version.Goals as goal
 
 pub returns-in-Some-clause-finds : goal.returns-in-Some-clause-finds
@@ -58,3 +61,13 @@ returns-in-Err-clause-stands g c v s stood clean =
     let told = c.read_meta.ensures in
     let at_old : HasCleanDisk old = omega (arith, told.survives.clean) in
     still_found old new s (told.quiet clean) told.survives clean v (stood at_old)
+
+-- an error of the store has a reason
+pub returns-in-Err-clause-store : goal.returns-in-Err-clause-store
+returns-in-Err-clause-store g c clean v s keeps up store =
+    let old = c.args.conn.now in
+    let new = c.read_meta.new.conn in
+    let reason = sql_reason g.S.Store old new HasMeta c.in-Err.error (c.in-Err.ensures.reason v) c.read_meta.ensures.survives clean s keeps
+    (λ t st. meta_there t s st) up in
+    let is : c.fault_of.result ≡ FaultStore = c.opening_fault.ensures.store.0 store in
+    of_error (state g.S.Store old) (state g.S.Store new) c.in-Err.error c.fault_of.result c.fault_of.ensures.memory reason is

@@ -5,7 +5,7 @@ use Rattle.sqlite.specs.State.{HasCleanDisk}
 use Rattle.sql_model.specs.Keeping.{Keeps}
 use Rattle.tables.specs.FinishedJourneys.{AreFinishedTo}
 use Rattle.tables.proofs.FinishedLemmas.{finished-found, finished-all}
-use Rattle.tables.proofs.LookLemmas.{uncounted}
+use Rattle.tables.proofs.LookLemmas.{still_stands, uncounted}
 use Rattle.tables.proofs.books.TableBook.look_on.Goals as goal
 use Rattle.tables.proofs.books.TableBook.look_on.Goals.{in-Some, in-None+in_ok-self-in-None}
 
@@ -56,3 +56,9 @@ returns-in_err-self-in-None-clause-same g c clean =
     (λ s keeps. c.in_ok-found.ensures.same s keeps)
     (λ s keeps is. c.in_err-self-in-None.ensures.memory s keeps (ap Err is))
     _ (search rules)
+
+-- the look alone changed nothing
+pub returns-in_err-found-clause-same : goal.returns-in_err-found-clause-same
+returns-in_err-found-clause-same g c clean =
+    still_stands c.args.self.now.failed c.args.self.now.finished (state g.S.Store c.args.self.now.conn)
+    (state g.S.Store c.read_first_unfinished.new.conn) c.read_first_unfinished.ensures.same c.from_residual.result
