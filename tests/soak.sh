@@ -23,7 +23,7 @@ cat said
 for what in kills faults "given again" refused "power cuts"; do
   same "it met $what" yes "$([ "$(count_of "$what")" -ge 5 ] && echo yes)"
 done
-soaks "${SEED:-$(date +%Y%m%d)}" "${COUNT:-300}" || wrong=$((wrong + 1))
+soaks "${SEED:-$(date +%Y%m%d)}" "${COUNT:-200}" || wrong=$((wrong + 1))
 
 # finds HOW WORD ..: the simulation finds a file that is spoiled so
 finds() {

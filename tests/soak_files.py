@@ -173,7 +173,7 @@ class Place:
         """The reports of a copy are those of the desk that stands."""
         self.lay(files, self.path("look"))
         journeys = len(self.desks[0].journeys)
-        calls = [("unfinished",), ("stock",)]
+        calls = [self.chance.choice((("unfinished",), ("stock",)))]
         calls += [("history", str(self.chance.randint(1, journeys + 1)))] if journeys else []
         for word, *rest in calls:
             self.told(word, *rest, expected=report_of(self.desks[0], word, rest))
