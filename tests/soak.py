@@ -62,7 +62,7 @@ class Planner:
         """The next life of a file in which this desk stands."""
         life = self.first(desk) if number == 0 else self.later(desk)
         if number or self.chance.random() < 0.5:
-            self.end(life)
+            self.end(life, len(desk.recovery()) - 1)
         if self.has_cuts:
             life["cut"] = self.chance.randrange(1 << 30) if self.chance.random() < 0.3 else -1
         if self.spoil not in (None, "no-syncs") and number > 2 and life["do"] in ("run", "serve"):
@@ -137,9 +137,9 @@ class Planner:
             connection["cut"] = text[: self.chance.randrange(1, len(text))]
         return connection
 
-    def end(self, life):
+    def end(self, life, recovered):
         """How the life ends: in order, or killed at a call or after a while, or with calls that fail."""
-        roll, count = self.chance.random(), self.place_in(life, 100, 7)
+        roll, count = self.chance.random(), self.place_in(life, 100 + 7 * recovered, 7)
         if roll < 0.3:
             life["env"] = {"KILL": count, "TEAR": str(self.chance.choice((0, 0, 100, 512, 4096)))}
         elif roll < 0.42:
@@ -147,7 +147,7 @@ class Planner:
             if self.chance.random() < 0.4:
                 life["env"]["THEN"] = self.chance.choice(("1", "2", "3", "6", "all"))
         elif roll < 0.47 and not self.has_cuts:
-            life["env"] = {"REFUSE": self.place_in(life, 6300, 200)}
+            life["env"] = {"REFUSE": self.place_in(life, 6300 + 200 * recovered, 200)}
         elif roll < 0.57 and life["do"] in ("run", "serve"):
             # a kill that waits for a time may come between a call and its note
             life["end"] = "kill" if self.has_cuts else self.chance.choice(("kill", self.chance.random() / 300))

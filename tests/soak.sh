@@ -18,12 +18,12 @@ soaks() { python3 "$tests/soak.py" . "$@"; }
 # count_of WORD: the number before this word of the summary, or after it
 count_of() { grep -o "$1 [0-9]*" said | head -n 1 | grep -o '[0-9]*$'; }
 
-soaks 1987 "${COUNT:-1000}" >said || wrong=$((wrong + 1))
+soaks 1990 "${COUNT:-1000}" >said || wrong=$((wrong + 1))
 cat said
 for what in kills faults "given again" refused "power cuts"; do
   same "it met $what" yes "$([ "$(count_of "$what")" -ge 5 ] && echo yes)"
 done
-soaks "${SEED:-$(date +%Y%m%d)}" "${COUNT:-300}" || wrong=$((wrong + 1))
+soaks "${SEED:-$(date +%Y%m%d)}" "${COUNT:-200}" || wrong=$((wrong + 1))
 
 # finds HOW WORD ..: the simulation finds a file that is spoiled so
 finds() {

@@ -12,7 +12,7 @@ from ledger import is_settled, tables_of
 from plain_desk import Desk
 from soak_answers import report_of
 from soak_lives import Life
-from soak_talk import Wrong
+from soak_talk import Wrong, without_repeats
 
 FILES = ("trips.db", "trips.db-wal")
 
@@ -53,6 +53,7 @@ class Place:
         shutil.rmtree(folder, ignore_errors=True)
         os.makedirs(folder)
         self.desks, self.disk, self.lives = [Desk()], Disk(), 0
+        self.unsynced = list(self.desks)  # what a power cut may leave
 
     def path(self, name="trips.db"):
         return f"{self.folder}/{name}"
@@ -93,12 +94,16 @@ class Place:
             if os.path.exists(self.path(name)):
                 os.remove(self.path(name))
                 self.count.add(f"lives with what {name}")
+        # an opening that comes to its end syncs what it found; what a kill left before may be lost until then
+        self.unsynced = without_repeats(self.desks if one.talk.is_open else self.unsynced + self.desks)
         self.power(life)
         least = min(len(desk.events) for desk in self.desks)
         is_unsure = one.talk.is_open and len(self.desks) > 1
         if life.get("spoil") == "lose-event":
             self.spoil(life["spoil"])
         self.look()
+        if self.is_cut(life):
+            self.unsynced = list(self.desks)
         if is_unsure:
             self.count.add("cut off and done" if len(self.desks[0].events) > least else "cut off")
         if life.get("spoil") not in (None, "lose-event"):
@@ -109,6 +114,9 @@ class Place:
 
     def is_noted(self, life):
         return life.get("cut") is not None
+
+    def is_cut(self, life):
+        return self.is_noted(life) and life["cut"] >= 0
 
     def power(self, life):
         """Cuts the power, where that is said: what was not synced is there in part."""
@@ -122,7 +130,7 @@ class Place:
         whole = self.disk.whole()
         if {name: whole[name] for name in FILES if name in whole} != self.files():
             raise Wrong("the notes of the calls do not give the files")
-        if life["cut"] >= 0:
+        if self.is_cut(life):
             chance = random.Random(life["cut"])
             files = self.disk.cut(Part(chance.choice(Part.KINDS), chance, self.disk))
             files = {name: files[name] for name in FILES if name in files}
@@ -132,7 +140,7 @@ class Place:
             for name, content in files.items():
                 with open(self.path(name), "wb") as file:
                     file.write(content)
-            self.disk = Disk(files)
+            self.disk, self.desks = Disk(files), self.unsynced
             self.count.add("power cuts")
 
     # A look at the file.
@@ -165,7 +173,7 @@ class Place:
         """The reports of a copy are those of the desk that stands."""
         self.lay(files, self.path("look"))
         journeys = len(self.desks[0].journeys)
-        calls = [("unfinished",), ("stock",)]
+        calls = [self.chance.choice((("unfinished",), ("stock",)))]
         calls += [("history", str(self.chance.randint(1, journeys + 1)))] if journeys else []
         for word, *rest in calls:
             self.told(word, *rest, expected=report_of(self.desks[0], word, rest))
