@@ -1,15 +1,14 @@
 -- Where the answer to one message leads the book. For Talk::answer.
-use Rattle.std.proofs.Common.{◌≡◌, ℕ, Bool, true, false, List, [], ◌∷◌, ◌++◌, take, Some, None, Err, refl, sym, ap, ◌∙◌, subst, append-nil, ◌⊎◌, inl, inr}
+use Rattle.std.proofs.Common.{◌≡◌, ℕ, Bool, true, false, List, [], ◌∷◌, take, Some, None, Err, refl, sym, ap, ◌∙◌, append-nil, ◌⊎◌, inl, inr}
 use Rattle.ledger.specs.Answer.{State}
 use Rattle.http_messages.specs.Messages.{Message, IsMessage}
 use Rattle.desk_http.specs.Answering.{Answers}
-use Rattle.desk_http.specs.Pages.{IsPage, closes, state_after}
-use Rattle.desk_http.specs.declared.answering.Answer.{Answer}
+use Rattle.desk_http.specs.Pages.{IsPage, state_after}
 use Rattle.protocols.specs.declared.faults.ServeFault.{ServeFault}
 use Rattle.protocols.specs.declared.faults.ServeFault.TheVariants.{Memory, Read, Store, Write}
 use Rattle.http_conversations.specs.Exchanges.{Exchange}
-use Rattle.http_conversations.specs.History.{History, after_answer, after_failure, after_loss, exchange}
-use Rattle.http_conversations.specs.Leading.{GoesOn, LeadsBy, fault_by, has_broken}
+use Rattle.http_conversations.specs.History.{History, after_answer, after_loss, exchange}
+use Rattle.http_conversations.specs.Leading.{GoesOn, fault_by, has_broken}
 
 module _ (sound : Type 0) (stood stands : State → Type 0) (leaves : State → State → Type 0) where
   -- nothing was taken, and the book stands for what it stood for

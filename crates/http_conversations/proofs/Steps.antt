@@ -1,8 +1,7 @@
 -- What each step of a conversation keeps true.
-use Rattle.std.proofs.Common.{◌≡◌, ◌≢◌, ℕ, zero, suc, ◌+◌, ◌<◌, ◌≤◌, Bool, true, false, if◌then◌else◌, List, [], ◌∷◌, ◌++◌, length, length-append, length-drop, take, drop, map, All, Option, Some, None, Result, Ok, Err, IfOk, OnErr, unwrap_or, refl, sym, ap, ◌∙◌, subst, append_assoc, append-nil, arith, inl, inr}
-use Rattle.std.specs.List.{flat_map}
+use Rattle.std.proofs.Common.{◌≡◌, ℕ, zero, suc, ◌+◌, ◌<◌, ◌≤◌, Bool, true, false, if◌then◌else◌, List, [], ◌∷◌, ◌++◌, length, length-append, length-drop, take, drop, All, Option, Some, None, Result, Ok, Err, IfOk, OnErr, unwrap_or, refl, sym, ap, ◌∙◌, subst, append_assoc, append-nil, arith, inl, inr}
 use Rattle.std.specs.Io.KnownBytes.{Appends, Consumes, Keeps}
-use Rattle.std.proofs.lemmas.List.{take-append-drop, map-append}
+use Rattle.std.proofs.lemmas.List.{take-append-drop}
 use Rattle.std.proofs.lemmas.List.Elements.{All-append, All-nil}
 use Rattle.std.proofs.lemmas.Grind.{flat_map-append, common_steps}
 use Rattle.commands.specs.declared.faults.Fault.{Fault}
@@ -10,8 +9,8 @@ use Rattle.http_messages.specs.Messages.{Message, IsMessage}
 use Rattle.desk_http.specs.Pages.{closes}
 use Rattle.http_conversations.specs.declared.stages.Stage.{Stage}
 use Rattle.http_conversations.specs.declared.stages.Stage.TheVariants.{Open, Closing, Failed}
-use Rattle.http_conversations.specs.Exchanges.{Exchange, AreAnswered, IsAnswered, IsLost, bytes_of, pages_of}
-use Rattle.http_conversations.specs.History.{AnswersOne, GetsPage, History, IsServed, LosesPage, Passes, TakesFirst, after_answer, after_failure, after_loss, after_received, after_sent, exchange, kept, moved_on, new_history}
+use Rattle.http_conversations.specs.Exchanges.{Exchange, AreAnswered, IsAnswered, bytes_of, pages_of}
+use Rattle.http_conversations.specs.History.{AnswersOne, History, IsServed, Passes, TakesFirst, after_answer, after_failure, after_loss, after_received, after_sent, exchange, kept, new_history}
 
 -- Nothing was done yet.
 pub begins : IsServed new_history

@@ -1,8 +1,7 @@
 -- A worked conversation, computed. Letters stand for messages, and digits for their pages; `c` closes.
-use Rattle.std.specs.Prelude.{◌≡◌, ℕ, true, false, List, [], ◌∷◌, codes, Some, None, refl}
-use Rattle.http_conversations.specs.Exchanges.{Exchange, bytes_of, pages_of}
+use Rattle.std.specs.Prelude.{◌≡◌, true, false, [], codes, refl}
+use Rattle.http_conversations.specs.Exchanges.{bytes_of, pages_of}
 use Rattle.http_conversations.specs.History.{History, after_answer, after_loss, after_received, after_sent, new_history}
-use Rattle.http_conversations.specs.declared.stages.Stage.TheVariants.{Open, Closing, Failed}
 
 -- `ac` came in one read, and `a` got the page `12`, one byte of which was handed out
 abbrev pub answered_once : History

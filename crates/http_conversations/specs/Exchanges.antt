@@ -1,5 +1,5 @@
 -- Messages that were answered, with their pages.
-use Rattle.std.specs.Prelude.{◌≡◌, ⊤, ℕ, Bool, true, false, List, [], ◌∷◌, ◌++◌, All, Option, Some, None, IsSome, unwrap_or}
+use Rattle.std.specs.Prelude.{◌≡◌, ⊤, ℕ, Bool, true, false, List, [], ◌∷◌, ◌++◌, All, Option, None, IsSome, unwrap_or}
 use Rattle.std.specs.List.{flat_map}
 use Rattle.http_messages.specs.Messages.{Message, IsMessage}
 use Rattle.desk_http.specs.Pages.{closes}

@@ -1,5 +1,5 @@
 -- The ends of a connection, over one read or write after another.
-use Rattle.std.proofs.Common.{◌≡◌, ℕ, List, [], ◌∷◌, ◌++◌, take, Option, Some, None, Result, Ok, Err, refl, sym, ap, ◌∙◌, subst, append_assoc, append-nil, IfOk, OnErr, length}
+use Rattle.std.proofs.Common.{◌≡◌, ℕ, List, ◌++◌, take, Option, Some, None, Result, Ok, Err, sym, ap, ◌∙◌, subst, append_assoc, IfOk, OnErr, length}
 use Rattle.std.specs.Io.KnownBytes.{Appends, Consumes, Keeps}
 use Rattle.http_conversations.specs.History.{History, after_received, after_sent, Passes}
 use Rattle.http_live.specs.Faithful.{Faithful}

@@ -1,9 +1,8 @@
 -- Exchanges that lead from one state to another, and then others.
-use Rattle.std.proofs.Common.{◌≡◌, Bool, true, false, List, [], ◌∷◌, ◌++◌, refl, sym, ap, ◌∙◌, subst, append_assoc, append-nil, inl, inr}
+use Rattle.std.proofs.Common.{◌≡◌, Bool, true, false, List, [], ◌∷◌, ◌++◌, refl, sym, ap, ◌∙◌, subst, append_assoc, append-nil}
 use Rattle.ledger.specs.Answer.{State}
-use Rattle.http_messages.specs.Messages.{Message}
 use Rattle.http_conversations.specs.Exchanges.{Exchange}
-use Rattle.http_conversations.specs.Leading.{Ends, GoesOn, LeadsBy, Leads}
+use Rattle.http_conversations.specs.Leading.{Ends, GoesOn, Leads}
 
 pub leads_then : (xs ys : List Exchange) (a b c : State) → Leads a xs b → Leads b ys c → Leads a (xs ++ ys) c
 leads_then [] ys a b c x y = subst (λ s. Leads s ys c) x y

@@ -1,5 +1,5 @@
 -- What a connection waits for. For Connection::serve.
-use Rattle.std.proofs.Common.{◌≡◌, ◌≢◌, ◌⊎◌, ℕ, Bool, false, List, [], ◌∷◌, refl, sym, subst, inl, inr}
+use Rattle.std.proofs.Common.{◌≡◌, ◌≢◌, ℕ, Bool, false, List, [], ◌∷◌, refl, sym, subst, inl, inr}
 use Rattle.std.specs.Prelude.{IsTrue}
 use Rattle.http_conversations.specs.History.{HasNoTurn, History}
 use Rattle.http_live.specs.Resting.{IsUsedUp}

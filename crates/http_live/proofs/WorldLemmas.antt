@@ -1,5 +1,5 @@
 -- How worlds go on with the messages of all connections. For serve_many.
-use Rattle.std.proofs.Common.{◌≡◌, ◌∙◌, ℕ, Bool, true, false, List, [], ◌∷◌, ◌++◌, map, refl, sym, ap, subst, inl, inr, Option, Some, None}
+use Rattle.std.proofs.Common.{◌≡◌, ◌∙◌, ℕ, Bool, true, false, List, [], ◌∷◌, map, refl, ap, subst, inl, inr, Option, Some, None}
 use Rattle.ledger.specs.Answer.{State, start}
 use Rattle.ledger.specs.World.{Moment, after}
 use Rattle.saga_core.specs.Worlds.{StandsAtEnd}
@@ -10,9 +10,9 @@ use Rattle.desk_http.specs.Worlds.{asks_in}
 use Rattle.desk_http.proofs.WorldLemmas.{cuts, in-limits, leads}
 use Rattle.protocols.specs.Scenes.{scene}
 use Rattle.http_conversations.specs.Exchanges.{Exchange}
-use Rattle.http_conversations.specs.Leading.{BreaksOff, Comes, Ends, Leads, LeadsBy}
+use Rattle.http_conversations.specs.Leading.{Comes, Ends, Leads, LeadsBy}
 use Rattle.http_live.specs.Merging.{Merges, exchange_of}
-use Rattle.http_live.specs.Worlds.{AreDone, GoesOnBy, IsDone, WorldsGoOn}
+use Rattle.http_live.specs.Worlds.{AreDone, GoesOnBy, WorldsGoOn}
 
 -- what was done of exchanges, and where it leads
 record Done (s : State) (xs : List Exchange) (t : State) : Type 0 where

@@ -1,7 +1,7 @@
 -- Three exchanges of two seats, as they were merged, computed.
-use Rattle.std.specs.Prelude.{◌≡◌, ℕ, List, [], ◌∷◌, codes, Some, map, refl}
+use Rattle.std.specs.Prelude.{◌≡◌, ℕ, List, [], ◌∷◌, codes, Some, refl}
 use Rattle.http_conversations.specs.Exchanges.{Exchange}
-use Rattle.http_live.specs.Merging.{Seated, exchange_of, of_seat}
+use Rattle.http_live.specs.Merging.{Seated, of_seat}
 
 -- a message, and its page
 abbrev pub exchange : List ℕ → List ℕ → Exchange

@@ -1,5 +1,5 @@
 -- How a world goes on with the messages of all connections.
-use Rattle.std.specs.Prelude.{◌≡◌, ◌⊎◌, ⊤, Bool, true, false, List, [], ◌∷◌, ◌++◌, map, None, Some}
+use Rattle.std.specs.Prelude.{◌≡◌, ◌⊎◌, Bool, true, false, List, [], ◌∷◌, ◌++◌, map, None}
 use Rattle.ledger.specs.Answer.{State}
 use Rattle.ledger.specs.World.{Moment}
 use Rattle.saga_core.specs.Worlds.{StandsAtEnd, EndsWith, EndsAmong}

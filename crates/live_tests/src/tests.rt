@@ -4,3 +4,4 @@ mod faults;
 mod peers;
 mod plain;
 mod schedule;
+mod sockets;

@@ -1,8 +1,7 @@
 -- Turn after turn is merged.
-use Rattle.std.proofs.Common.{Bool, Err, false, map, refl}
+use Rattle.std.proofs.Common.{Bool, Err, false, refl}
 use Rattle.std.proofs.lemmas.Result.{err_from_is_err_and}
 use Rattle.http_conversations.specs.Leading.{has_broken}
-use Rattle.http_live.specs.Seats.{exchanges_at}
 use Rattle.http_live.proofs.Merged.{merges_none, merges_then}
 use Rattle.http_live.proofs.serving.serve_turns.Goals as goal
 

@@ -1,5 +1,5 @@
 -- A turn is one of a seat, or none.
-use Rattle.std.proofs.Common.{Bool, Err, false, map, refl}
+use Rattle.std.proofs.Common.{Bool, Err, false, refl}
 use Rattle.std.proofs.lemmas.Result.{err_from_is_err_and}
 use Rattle.http_conversations.specs.Leading.{has_broken}
 use Rattle.http_live.specs.Seats.{exchanges_at}

@@ -1,7 +1,6 @@
 -- Nothing was done yet.
-use Rattle.std.proofs.Common.{◌<◌, ◌+◌, ap, arith, length, subst, sym}
+use Rattle.std.proofs.Common.{ap, arith, length, subst, sym}
 use Rattle.http_conversations.specs.History.{History, IsServed}
-use Rattle.http_conversations.specs.declared.limits.TheConstants.{MOST_READ, MOST_WAITING}
 use Rattle.http_conversations.proofs.Steps.{begins}
 use Rattle.http_conversations.proofs.conversation.Conversation.new.Goals as goal
 

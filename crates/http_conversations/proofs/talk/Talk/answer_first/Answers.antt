@@ -1,6 +1,5 @@
 -- The message got its page, or lost it.
 use Rattle.std.proofs.Common.{Bool, Err, subst, sym}
-use Rattle.http_conversations.specs.History.{History}
 use Rattle.http_conversations.specs.Leading.{GoesOn, has_broken}
 use Rattle.http_conversations.specs.Talks.{history_of}
 use Rattle.http_conversations.proofs.AnswerSteps.{failed, got}

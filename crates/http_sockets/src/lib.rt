@@ -1,0 +1,15 @@
+//! The desk over sockets, on one thread: a port of 127.0.0.1, and a Unix socket that the user alone may open.
+//!
+//! What no contract can say is kept here: what the system reports, and who comes and goes. All that is answered is
+//! answered by `http_live`.
+//!
+//! Words: a *tick* is a tenth of a second; a *round* is one turn of each seat that may go on.
+#![tactic(auto)]
+
+mod ends;
+mod places;
+mod serving;
+mod sockets;
+
+pub use serving::serve_sockets;
+pub use sockets::{Limits, Sockets};

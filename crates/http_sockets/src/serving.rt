@@ -1,0 +1,34 @@
+//! Serving sockets over a book.
+ghost use Rattle.std.specs.Prelude.{◌≡◌, IsErrOf, IsTrue};
+ghost use Rattle.saga_core.specs.Books.{LeavesNoMore};
+ghost use Rattle.http_conversations.specs.Leading.{has_broken};
+ghost use Rattle.http_sockets.specs.Going.{GoOnBySome};
+
+use crate::sockets::Sockets;
+use commands::Fault;
+use http_live::{empty_seats, serve_many};
+use recovery::Ready;
+use saga_core::Book;
+use std::alloc::Global;
+
+/// Serves the sockets until their limits end it, or the store fails. Out of memory, nobody was served.
+pub fn serve_sockets<B: Book>(
+    alloc: Global,
+    sockets: &mut Sockets<'_>,
+    book: &mut Ready<B>,
+) -> Result<(), Fault>
+    ensures worlds { GoOnBySome (B.is_sound book.new) (B.stands book.old) (B.stands book.new) (B.leaves book.new)
+        (has_broken result) }
+
+    ensures failed { IsErrOf result Fault.Store → IsTrue (B.has_failed book.new) }
+    ensures stays_failed { IsTrue (B.has_failed book.old) → IsTrue (B.has_failed book.new) }
+    ensures stays_left { IsTrue (B.has_failed book.old) →
+        LeavesNoMore (B.leaves book.old) (B.leaves book.new) }
+
+    ensures sound { B.is_sound book.new → B.is_sound book.old }
+{
+    let Ok(mut seats) = empty_seats(alloc) else {
+        return Err(Fault::Memory);
+    };
+    serve_many(alloc, seats.as_mut_slice(), sockets, book)
+}
