@@ -1,0 +1,98 @@
+-- A run that ends early wrote a prefix of the answers to all lines. For run_over.
+use Rattle.std.proofs.Common.{◌≡◌, ◌∙◌, ap, sym, subst, refl, min, ◌+◌, List, [], ◌∷◌, ◌++◌, ℕ, length, take, append_assoc, arith, Option}
+use Rattle.std.proofs.lemmas.List.{take_min}
+use Rattle.std.proofs.Math.Seq.{take-append-add, take-append-le}
+use Rattle.std.specs.Prelude.{IfSome, None, Some}
+use Rattle.std.specs.Io.KnownBytes.{Appends}
+use Rattle.ledger.specs.Answer.{State}
+use Rattle.streams.specs.Written.{WroteFront}
+use Rattle.protocols.specs.Scenes.{Scene, ended}
+use Rattle.protocols.specs.declared.faults.ServeFault.{ServeFault}
+use Rattle.protocols.specs.declared.faults.ServeFault.TheVariants.{Memory, Read, Store, Write}
+use Rattle.desk_lines.specs.Lines.{answer_line, answer_lines, lines, state_after_lines, written}
+use Rattle.desk_lines.specs.Serving.{AnswersAll, AnswersSome, ForNext, IsCut, WroteAll}
+use Rattle.reports.proofs.FrontLemmas.{front_before, front_whole}
+use Rattle.desk_jobs.specs.Running.{Answers, AnswersFront, answers_to}
+
+-- the answers to lines, and to the lines after them
+answer_lines-append : (s : State) (first later : List (List ℕ))
+    → answer_lines s (first ++ later) ≡ answer_lines s first ++ answer_lines (state_after_lines s first) later
+answer_lines-append s [] later = refl
+answer_lines-append s (line ∷ first) later =
+    ap (λ texts. (answer_line s line).text ∷ texts) (answer_lines-append (answer_line s line).after first later)
+
+-- the bytes of texts, and of the texts after them
+written-append : (first later : List (List ℕ)) → written (first ++ later) ≡ written first ++ written later
+written-append [] later = refl
+written-append (text ∷ first) later =
+    ap (λ rest. ended text ++ rest) (written-append first later)
+    ∙ sym (append_assoc (ended text) (written first) (written later))
+
+-- the bytes of the answers to lines, and to the lines after them
+written_lines : (s : State) (first later : List (List ℕ))
+    → written (answer_lines s (first ++ later))
+    ≡ written (answer_lines s first) ++ written (answer_lines (state_after_lines s first) later)
+written_lines s first later = ap written (answer_lines-append s first later) ∙ written-append _ _
+
+-- bytes, and a prefix of the next text, are a prefix of all
+front_cut : (x y : Option (List ℕ)) (us text rest : List ℕ) (part : ℕ)
+    → Appends x y (us ++ take part text)
+    → WroteFront x y (us ++ (text ++ rest))
+front_cut x y us text rest part sent =
+    let few = min part (length text) in
+    let same : take few (text ++ rest) ≡ take part text =
+    take-append-le few text rest (omega arith) ∙ take_min part text in
+    (length us + few, subst (Appends x y) (sym (take-append-add us (text ++ rest) few ∙ ap (λ bs. us ++ bs) same)) sent)
+
+-- the answers to the first lines are a prefix of the answers to all
+front_of_first : (x : Scene) (s : State) (first later : List (List ℕ)) → WroteAll x s first
+    → WroteFront x.held x.holds (written (answer_lines s (first ++ later)))
+front_of_first x s first later sent =
+    subst (WroteFront x.held x.holds) (sym (written_lines s first later))
+    (front_before x.held x.holds _ _ (front_whole x.held x.holds _ sent))
+
+-- and so they are with a prefix of the next answer
+front_of_cut : (x : Scene) (s : State) (first later : List (List ℕ)) → ForNext later (IsCut x s first)
+    → WroteFront x.held x.holds (written (answer_lines s (first ++ later)))
+front_of_cut x s first [] cut = absurd cut
+front_of_cut x s first (line ∷ later) cut =
+    subst (WroteFront x.held x.holds) (sym (written_lines s first (line ∷ later)))
+    (front_cut x.held x.holds _ (ended (answer_line (state_after_lines s first) line).text) _ cut.0 cut.1)
+
+-- whatever the fault
+front_at : (fault : ServeFault) (x : Scene) (s : State) (input : List ℕ) (some : AnswersSome x s input fault)
+    → WroteFront x.held x.holds (written (answer_lines s (some.answered ++ some.later)))
+front_at Read x s input some = front_of_first x s some.answered some.later some.leaves.0
+front_at Write x s input some = front_of_cut x s some.answered some.later some.leaves
+front_at Memory x s input some = front_of_first x s some.answered some.later some.leaves.0
+front_at Store x s input some = front_of_first x s some.answered some.later some.leaves.0
+
+-- at a fault a prefix of the answers was written
+pub front_of_some : (fault : ServeFault) (x : Scene) (s : State) (input : List ℕ) → AnswersSome x s input fault
+    → WroteFront x.held x.holds (answers_to s input)
+front_of_some fault x s input some =
+    subst (λ all. WroteFront x.held x.holds (written (answer_lines s all))) (sym some.cut) (front_at fault x s input some)
+
+-- all answers are a prefix of them
+pub front_of_all : (x : Scene) (s : State) (input : List ℕ) (count : ℕ) → AnswersAll x s input count
+    → WroteFront x.held x.holds (answers_to s input)
+front_of_all x s input count all = front_whole x.held x.holds _ all.sent
+
+-- and the state after them is represented
+pub answers_of_all : (x : Scene) {represents : State → Type 0} (s : State) (input : List ℕ) (count : ℕ)
+    → ((t : State) → x.stands t → represents t)
+    → AnswersAll x s input count → Answers x.held x.holds represents s input
+answers_of_all x s input count on all = record { sent = all.sent; left = on _ all.left }
+
+-- the same of an input that may be known
+pub front_for_all : (x : Scene) (s : State) (known : Option (List ℕ)) (count : ℕ)
+    → IfSome known (λ input. AnswersAll x s input count)
+    → IfSome known (AnswersFront x.held x.holds s)
+front_for_all x s None count all = tt
+front_for_all x s (Some input) count all = front_of_all x s input count all
+
+pub front_for_some : (x : Scene) (s : State) (known : Option (List ℕ)) (fault : ServeFault)
+    → IfSome known (λ input. AnswersSome x s input fault)
+    → IfSome known (AnswersFront x.held x.holds s)
+front_for_some x s None fault some = tt
+front_for_some x s (Some input) fault some = front_of_some fault x s input some

@@ -1,0 +1,5 @@
+pub mod JobLemmas
+pub mod AnswerLemmas
+pub mod LoadLemmas
+pub mod RecoveredLemmas
+pub mod ReportLemmas

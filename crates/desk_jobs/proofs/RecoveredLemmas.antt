@@ -1,0 +1,53 @@
+-- The answers of a desk that was recovered are those over the recovery of what its connection represented. For run_over.
+use Rattle.std.proofs.Common.{◌≤◌, sym, subst, ℕ, List, Option}
+use Rattle.std.specs.Prelude.{IfSome, None, Some}
+use Rattle.ledger.specs.Answer.{State}
+use Rattle.recovery.specs.Growing.{Grew, room_of, with_events}
+use Rattle.recovery.specs.Recovers.{AreRecovery, HasOneRecovery, IsRecovery}
+use Rattle.reports.proofs.FrontLemmas.{front_none}
+use Rattle.program_ends.specs.Ends.{IfDone}
+use Rattle.program_ends.specs.declared.ends.End.{End}
+use Rattle.program_ends.specs.declared.ends.End.TheVariants as finish
+use Rattle.desk_jobs.specs.Running.{Answers, AnswersAfterRecovery, AnswersFront, AnswersFrontAfterRecovery}
+
+-- what follows where all was done
+done_as : {P Q : Type 0} (e : End) → (P → Q) → IfDone e P → IfDone e Q
+done_as finish.Done follows holds = follows holds
+done_as (finish.Refused why) follows holds = tt
+done_as (finish.Fault fault) follows holds = tt
+done_as (finish.Usage text) follows holds = tt
+
+-- the events that recovery appended are the recovery of the state
+recovery_of : {stands : State → Type 0} (s : State) (made : ℕ) (grew : Grew stands (AreRecovery s.ledger) s made)
+    → IsRecovery s grew.events
+recovery_of s made grew =
+    record { are = grew.are; within = subst (λ n. n ≤ room_of s) (sym grew.counted) grew.within }
+
+module _ (held holds : Option (List ℕ)) {stands : State → Type 0} (s : State) (made : ℕ)
+    (grew : Grew stands (AreRecovery s.ledger) s made) where
+  -- all lines were answered
+  pub all_after_recovery : (represents : State → Type 0) (known : Option (List ℕ)) (e : End)
+      → ((t : State) → stands t → IfSome known (λ input. IfDone e (Answers held holds represents t input)))
+      → IfSome known (λ input. IfDone e (AnswersAfterRecovery held holds represents s input))
+  all_after_recovery represents None e all = tt
+  all_after_recovery represents (Some input) e all =
+      done_as e (λ answers. record { events = grew.events; is = recovery_of s made grew; answers = answers })
+      (all (with_events s grew.events) grew.stands_there)
+
+  -- a prefix of the answers was written
+  pub front_after_recovery : (known : Option (List ℕ))
+      → ((t : State) → stands t → IfSome known (AnswersFront held holds t))
+      → IfSome known (AnswersFrontAfterRecovery held holds s)
+  front_after_recovery None front = tt
+  front_after_recovery (Some input) front = record {
+    events = grew.events;
+    is = recovery_of s made grew;
+    front = front (with_events s grew.events) grew.stands_there;
+  }
+
+-- where nothing was written
+pub front_without_recovery : (held : Option (List ℕ)) (s : State) (known : Option (List ℕ)) → HasOneRecovery s
+    → IfSome known (AnswersFrontAfterRecovery held held s)
+front_without_recovery held s None one = tt
+front_without_recovery held s (Some input) one =
+    record { events = one.events; is = one.is; front = front_none held _ }

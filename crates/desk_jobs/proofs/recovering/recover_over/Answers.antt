@@ -1,0 +1,20 @@
+-- The connection represents what its desk stood for.
+use Rattle.std.proofs.Common.{sym, subst}
+use Rattle.sqlite.specs.Held.{state}
+use Rattle.sqlite.specs.State.{HasCleanDisk}
+use Rattle.tables.specs.BookTerms.{StandsBook}
+use Rattle.desk_jobs.specs.Connections.{Represents}
+use Rattle.desk_jobs.proofs.JobLemmas.{recovers_as, represented}
+use Rattle.desk_jobs.proofs.recovering.recover_over.Goals as goal
+
+pub returns-in-Ok-clause-recovered : goal.returns-in-Ok-clause-recovered
+returns-in-Ok-clause-recovered g c clean =
+    let store = g.S.Store in
+    let same = c.into_inner.ensures.same in
+    let sound = subst (λ b. HasCleanDisk (state store b.conn)) same (c.into_store.ensures.sound clean) in
+    recovers_as {stood = Represents store c.args.conn} {before = Represents store c.args.conn}
+    {stands = StandsBook store c.in-Ok.desk} {after = Represents store c.into_store.result} c.in-Ok.made
+    (λ s was. was)
+    (λ s stood. represented store c.into_inner.result c.into_store.result c.into_store.ensures.found s
+    (subst (λ b. StandsBook store b s) (sym same) stood))
+    (c.in-Ok.ensures.recovered sound)

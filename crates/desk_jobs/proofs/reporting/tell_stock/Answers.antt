@@ -1,0 +1,9 @@
+-- What was written is reported by the end.
+use Rattle.desk_jobs.proofs.ReportLemmas.{reads_before, reported}
+use Rattle.desk_jobs.proofs.reporting.tell_stock.Goals as goal
+
+pub returns-clause-told : goal.returns-clause-told
+returns-clause-told g c =
+    reads_before g.S.Store c.args.opened.conn c.args.opened.conn (λ clean. clean) (λ clean s is. is)
+    (λ s wrote rows stock. reported _ _ _ c.write_stock-told.result _ c.from.ensures (wrote rows stock))
+    c.write_stock-told.ensures.told

@@ -1,0 +1,28 @@
+-- Whatever the end, a prefix of the answers was written.
+use Rattle.std.proofs.Common.{sym, subst}
+use Rattle.sqlite.specs.Held.{state}
+use Rattle.sqlite.specs.State.{HasCleanDisk}
+use Rattle.protocols.specs.Scenes.{scene}
+use Rattle.tables.specs.BookTerms.{LeavesBook, StandsBook}
+use Rattle.desk_jobs.proofs.AnswerLemmas.{front_for_all, front_for_some}
+use Rattle.desk_jobs.proofs.running.run_desk.Goals as goal
+
+pub returns-in-Ok-clause-front : goal.returns-in-Ok-clause-front
+returns-in-Ok-clause-front g c clean s stands =
+    let store = g.S.Store in
+    let contents = g.O.Write.contents in
+    let new = c.run_lines-answered.new in
+    let sound = subst (λ b. HasCleanDisk (state store b.conn)) c.into_inner.ensures.same
+    (c.into_store-conn.ensures.sound clean) in
+    front_for_all (scene (contents c.args.out.now) (contents new.writer) (StandsBook store new.book) (LeavesBook store new.book))
+    s (g.R.Read.remaining c.args.reader.now) _ (c.in-Ok.ensures.all sound s stands)
+
+pub returns-in-Err-clause-front : goal.returns-in-Err-clause-front
+returns-in-Err-clause-front g c clean s stands =
+    let store = g.S.Store in
+    let contents = g.O.Write.contents in
+    let new = c.run_lines-answered.new in
+    let sound = subst (λ b. HasCleanDisk (state store b.conn)) c.into_inner.ensures.same
+    (c.into_store-conn.ensures.sound clean) in
+    front_for_some (scene (contents c.args.out.now) (contents new.writer) (StandsBook store new.book) (LeavesBook store new.book))
+    s (g.R.Read.remaining c.args.reader.now) c.in-Err.fault (c.in-Err.ensures.some sound s stands)

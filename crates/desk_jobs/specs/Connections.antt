@@ -1,0 +1,26 @@
+-- What a connection represents of a desk, and what a crash may leave of it.
+use Rattle.sqlite.specs.Store.{Ghosts}
+use Rattle.sqlite.specs.Held.{Held, state}
+use Rattle.desk_sql.specs.declared.versions.Version.{Version}
+use Rattle.desk_sql.specs.declared.versions.Version.TheVariants.{Two}
+use Rattle.ledger.specs.Answer.{State}
+use Rattle.sql_model.specs.Standing.{IsDesk}
+use Rattle.tables.specs.Keeping.{MayLeave, StoodFor}
+
+module _ {S : Type 0} (g : Ghosts S) (h : Held S) where
+  -- an opening finds this state of a desk in the connection, in tables of this version
+  pub record RepresentsIn (v : Version) (s : State) : Type 0 where
+    pub desk : IsDesk s
+    pub stood : StoodFor v (state g h) s
+
+  -- the same, in tables of the newest version, or without tables where the desk is new
+  abbrev pub Represents : State → Type 0
+  Represents s = RepresentsIn Two s
+
+  -- whatever a crash leaves of the connection represents one of these two states
+  abbrev pub MayBeLeft : State → State → Type 0
+  MayBeLeft s t = MayLeave (state g h) s t
+
+  -- an opening finds this state in the connection, in tables of some version
+  abbrev pub StillRepresents : State → Type 0
+  StillRepresents s = (v : Version) × RepresentsIn v s

@@ -1,0 +1,33 @@
+-- How a job ends, and the lines that it writes.
+use Rattle.std.specs.Prelude.{⊤, ℕ, List, [], ◌∷◌, codes, decimal, Option}
+use Rattle.std.specs.Io.KnownBytes.{Appends}
+use Rattle.commands.specs.Texts.{reply_line, sentence}
+use Rattle.commands.specs.declared.refusals.Refusal.TheVariants as refusal
+use Rattle.commands.specs.declared.replies.Reply.{Reply}
+use Rattle.commands.specs.declared.replies.Reply.TheVariants as reply
+use Rattle.tables.specs.declared.faults.OpenFault.{OpenFault}
+use Rattle.tables.specs.declared.faults.OpenFault.TheVariants as opening
+use Rattle.protocols.specs.Scenes.{ended}
+use Rattle.program_ends.specs.declared.ends.End.{End}
+use Rattle.program_ends.specs.declared.ends.End.TheVariants as finish
+use Rattle.program_ends.specs.declared.faults.ProgramFault.TheVariants as fault
+
+-- the end if a store cannot be opened as a desk: a store of another version is refused
+abbrev pub end_of_open : OpenFault → End
+end_of_open (opening.UnknownSchema version) = finish.Refused (refusal.UnknownSchema version)
+end_of_open opening.Store = finish.Fault fault.OpeningStore
+end_of_open opening.Memory = finish.Fault fault.OpeningMemory
+
+-- the line with the number of recovery's events: `recovered 3`
+abbrev pub recovered_line : ℕ → List ℕ
+recovered_line made = ended (sentence (codes "recovered" ∷ decimal made ∷ []))
+
+-- the reply is not a refusal
+abbrev pub IsAccepted : Reply → Type 0
+IsAccepted (reply.Refused refusal) = ⊥
+IsAccepted _ = ⊤
+
+-- the line of a reply that is not a refusal was written, and nothing else
+abbrev pub TellsAccepted : Option (List ℕ) → Option (List ℕ) → Type 0
+TellsAccepted held holds =
+    (told : Reply) × IsAccepted told × Appends held holds (ended (reply_line told))

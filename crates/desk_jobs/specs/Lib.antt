@@ -1,0 +1,5 @@
+pub mod Connections
+pub mod Ends
+pub mod Loading
+pub mod Reporting
+pub mod Running

@@ -1,0 +1,20 @@
+//! The jobs of the desk over any store of the SQL library: what each writes, and what the connection represents after it.
+//!
+//! A job takes a connection that is in no transaction and has no limit of steps, and returns it so, to be closed, with
+//! its end. `ready_over` opens and recovers the desk for a job that goes on with it.
+//!
+//! Words: a connection *represents* a state where an opening finds that state in it; a store without tables represents
+//! a new desk.
+#![tactic(auto)]
+
+mod loading;
+mod opening;
+mod recovering;
+mod reporting;
+mod running;
+
+pub use loading::load_over;
+pub use opening::ready_over;
+pub use recovering::{Recovered, recover_over};
+pub use reporting::{history_over, stock_over, unfinished_over};
+pub use running::run_over;

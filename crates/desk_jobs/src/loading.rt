@@ -1,0 +1,119 @@
+//! Loads of allotment files into a recovered desk.
+ghost use Rattle.std.specs.Prelude.{◌≡◌, false, None, OnOk};
+ghost use Rattle.std.specs.Io.KnownBytes.{Appends};
+ghost use Rattle.sqlite.specs.Held.{state};
+ghost use Rattle.sqlite.specs.State.{HasCleanDisk};
+ghost use Rattle.commands.specs.Texts.{reply_line};
+ghost use Rattle.allotment_csv.specs.Files.{batch_of};
+ghost use Rattle.ledger.specs.Answer.{State};
+ghost use Rattle.streams.specs.Written.{WroteFront};
+ghost use Rattle.protocols.specs.Scenes.{ended};
+ghost use Rattle.tables.specs.BookTerms.{StandsBook};
+ghost use Rattle.program_ends.specs.Ends.{EndsJob, IfDone};
+ghost use Rattle.desk_jobs.specs.Connections.{Represents, MayBeLeft};
+ghost use Rattle.desk_jobs.specs.Ends.{TellsAccepted};
+ghost use Rattle.desk_jobs.specs.Loading.{EndsLoad, LoadsFile, TellsLoaded};
+
+use allotment_csv::{CsvFault, read_batch};
+use commands::{Command, Refusal, Reply};
+use program_ends::End;
+use protocols::ServeFault;
+use recovery::Ready;
+use saga_core::Book;
+use sqlite::{Alter, Connection};
+use std::alloc::Global;
+use std::io::Write;
+use streams::send;
+use tables::TableBook;
+
+/// Loads the bytes of an allotment file under a name into a recovered desk, and writes the line of the reply. Returns the
+/// connection, and the end. A refusal is the end, and nothing was written then.
+pub fn load_over<S: Alter + Drop, O: Write>(
+    alloc: Global,
+    desk: Ready<TableBook<S>>,
+    name: &str,
+    bytes: &[u8],
+    out: &mut O,
+) -> (Connection<S>, End)
+    ensures loaded { HasCleanDisk (state S.Store result.0) → (s : State) → StandsBook S.Store desk s →
+        EndsLoad (O.contents out.old) (O.contents out.new) (Represents S.Store result.0)
+        (MayBeLeft S.Store result.0) s (batch_of name.now bytes.now) result.1 }
+    ensures told { IfDone result.1 (TellsAccepted (O.contents out.old) (O.contents out.new)) }
+    ensures end { EndsJob result.1 }
+
+    ensures outside { result.0.in_transaction ≡ false }
+    ensures unlimited { result.0.step_limit ≡ None }
+    ensures sound { HasCleanDisk (state S.Store result.0) → ⟦<TableBook<S> as Book>⟧.is_sound desk }
+{
+    let mut desk = desk;
+    let end = load_into(alloc, name, bytes, &mut desk, out);
+    (desk.into_inner().into_store(), end)
+}
+
+/// Does the same into any book.
+fn load_into<B: Book, O: Write>(
+    alloc: Global,
+    name: &str,
+    bytes: &[u8],
+    book: &mut B,
+    out: &mut O,
+) -> End
+    ensures loaded { B.is_sound book.new → (s : State) → B.stands book.old s →
+        EndsLoad (O.contents out.old) (O.contents out.new) (B.stands book.new)
+        (B.leaves book.new) s (batch_of name.now bytes.now) result }
+    ensures told { IfDone result (TellsAccepted (O.contents out.old) (O.contents out.new)) }
+    ensures end { EndsJob result }
+
+    ensures sound { B.is_sound book.new → B.is_sound book.old }
+{
+    match load(alloc, name, bytes, book) {
+        Ok(reply) => tell_loaded(alloc, reply, out),
+        Err(fault) => End::Fault(fault.into()),
+    }
+}
+
+/// Loads the bytes of an allotment file under a name. Returns the reply of the book, or the refusal of the name or the
+/// bytes.
+fn load<B: Book>(alloc: Global, name: &str, bytes: &[u8], book: &mut B) -> Result<Reply, ServeFault>
+    ensures loads { B.is_sound book.new → (s : State) → B.stands book.old s →
+        LoadsFile (B.stands book.new) (B.leaves book.new) s (batch_of name.now bytes.now) result }
+    ensures sound { B.is_sound book.new → B.is_sound book.old }
+{
+    let batch = match read_batch(alloc, name, bytes) {
+        Ok(batch) => batch,
+        Err(CsvFault::Memory) => return Err(ServeFault::Memory),
+        Err(CsvFault::BadBody) => return Ok(Reply::Refused(Refusal::BadBody)),
+        Err(CsvFault::BadCsv { row, cause }) => {
+            return Ok(Reply::Refused(Refusal::BadCsv { row, cause }));
+        }
+    };
+    match book.act(&Command::Load(batch), None) {
+        Ok(reply) => Ok(reply),
+        Err(fault) => Err(fault.into()),
+    }
+}
+
+/// The end after a reply: its refusal, or its line was written.
+fn tell_loaded<O: Write>(alloc: Global, reply: Reply, out: &mut O) -> End
+    ensures told { TellsLoaded (O.contents out.old) (O.contents out.new) reply result }
+    ensures end { EndsJob result }
+{
+    match reply {
+        Reply::Refused(refusal) => End::Refused(refusal),
+        reply => match send_reply(alloc, &reply, out) {
+            Ok(()) => End::Done,
+            Err(fault) => End::Fault(fault.into()),
+        },
+    }
+}
+
+/// Writes the line of a reply, and flushes it.
+fn send_reply<O: Write>(alloc: Global, reply: &Reply, out: &mut O) -> Result<(), ServeFault>
+    ensures sent { OnOk result (Appends (O.contents out.old) (O.contents out.new)
+        (ended (reply_line reply.now))) }
+    ensures front { WroteFront (O.contents out.old) (O.contents out.new) (ended (reply_line reply.now)) }
+{
+    let mut line = reply.line(alloc)?;
+    line.push('\n')?;
+    Ok(send(out, line.as_bytes())?)
+}

@@ -1,0 +1,83 @@
+//! Recovery as a job, and the line that reports it.
+ghost use Rattle.std.specs.Prelude.{◌≡◌, false, None, IfErr, IfOk, OnOk};
+ghost use Rattle.std.specs.Io.KnownBytes.{Appends};
+ghost use Rattle.sqlite.specs.Held.{state};
+ghost use Rattle.sqlite.specs.State.{HasCleanDisk};
+ghost use Rattle.streams.specs.Written.{WroteFront};
+ghost use Rattle.recovery.specs.Recovers.{Recovers};
+ghost use Rattle.sql_reads.specs.Reading.{WasClean};
+ghost use Rattle.program_ends.specs.Ends.{EndsBadly, EndsJob, IfDone};
+ghost use Rattle.desk_jobs.specs.Connections.{Represents};
+ghost use Rattle.desk_jobs.specs.Ends.{recovered_line};
+
+use crate::opening::ready_over;
+use program_ends::End;
+use protocols::ServeFault;
+use sqlite::{Alter, Connection};
+use std::alloc::Global;
+use std::io::Write;
+use std::marker::Model;
+use streams::send;
+
+/// How many events a recovery made. Only `recover_over` makes one. In a contract it is that number.
+#[derive(Clone, Copy, Debug)]
+pub struct Recovered {
+    made: u64,
+}
+
+impl Model for Recovered {
+    ghost use Rattle.std.specs.Prelude.{ℕ};
+
+    ghost Value = { ℕ };
+
+    ghost view = { λ r. r.made };
+
+    ghost inverse = { λ made. record { made = made } };
+}
+
+impl Recovered {
+    /// Writes the line with the number of events, and flushes it. At a fault a prefix of the line was written.
+    pub fn tell<O: Write>(self, alloc: Global, out: &mut O) -> End
+        ensures told { IfDone result (Appends (O.contents out.old) (O.contents out.new)
+            (recovered_line self)) }
+        ensures front { WroteFront (O.contents out.old) (O.contents out.new) (recovered_line self) }
+        ensures end { EndsJob result }
+    {
+        match send_recovered(alloc, self.made, out) {
+            Ok(()) => End::Done,
+            Err(fault) => End::Fault(fault.into()),
+        }
+    }
+}
+
+/// Recovers the desk of a connection. Returns the connection, and how many events recovery made or why it failed.
+pub fn recover_over<S: Alter + Drop>(
+    alloc: Global,
+    conn: Connection<S>,
+) -> (Connection<S>, Result<Recovered, End>)
+    requires outside { conn.in_transaction ≡ false }
+    requires unlimited { conn.step_limit ≡ None }
+
+    ensures recovered { HasCleanDisk (state S.Store result.0) → IfOk result.1 (λ made.
+        Recovers (Represents S.Store conn) (Represents S.Store result.0) made) }
+    ensures end { IfErr result.1 EndsBadly }
+
+    ensures outside { result.0.in_transaction ≡ false }
+    ensures unlimited { result.0.step_limit ≡ None }
+    ensures sound { WasClean S.Store conn result.0 }
+{
+    match ready_over(alloc, conn) {
+        Ok((desk, made)) => (desk.into_inner().into_store(), Ok(Recovered { made })),
+        Err((conn, end)) => (conn, Err(end)),
+    }
+}
+
+/// Writes the line with the number of recovery's events, and flushes it.
+fn send_recovered<O: Write>(alloc: Global, made: u64, out: &mut O) -> Result<(), ServeFault>
+    ensures sent { OnOk result (Appends (O.contents out.old) (O.contents out.new)
+        (recovered_line made)) }
+    ensures front { WroteFront (O.contents out.old) (O.contents out.new) (recovered_line made) }
+{
+    let line = format!(in alloc; "recovered {made}\n")?;
+    Ok(send(out, line.as_bytes())?)
+}

@@ -1,0 +1,218 @@
+//! Reports of a desk that is not recovered.
+ghost use Rattle.std.specs.Prelude.{◌≡◌, false, None};
+ghost use Rattle.std.specs.Io.KnownBytes.{Keeps};
+ghost use Rattle.sqlite.specs.Held.{state};
+ghost use Rattle.sqlite.specs.State.{HasCleanDisk};
+ghost use Rattle.desk_sql.specs.declared.versions.Version.{Version};
+ghost use Rattle.ledger.specs.Answer.{State};
+ghost use Rattle.ledger.specs.Ledger.{history};
+ghost use Rattle.reports.specs.Layouts.{history_report};
+ghost use Rattle.sql_reads.specs.Reading.{WasClean};
+ghost use Rattle.tables.specs.Lending.{IsOnlyRead};
+ghost use Rattle.program_ends.specs.Ends.{EndsJob};
+ghost use Rattle.desk_jobs.specs.Connections.{RepresentsIn, StillRepresents};
+ghost use Rattle.desk_jobs.specs.Reporting.{IsDeskIn, ReadsOf, ReportsHistory, ReportsStock, ReportsUnfinished, WritesStock, WritesText, WritesUnfinished};
+
+use crate::opening::end_of_opening;
+use commands::Refusal;
+use program_ends::{End, ProgramFault};
+use reports::{history_text, stock_text, unfinished_text};
+use saga_core::Record;
+use sqlite::{Alter, Connection};
+use std::alloc::Global;
+use std::io::Write;
+use tables::{Opened, open_from};
+
+/// Writes the stock report of the desk of a connection, and flushes it. Returns the connection, of which nothing is
+/// promised but that it can be closed, and the end.
+pub fn stock_over<S: Alter + Drop, O: Write>(
+    alloc: Global,
+    conn: Connection<S>,
+    out: &mut O,
+) -> (Connection<S>, End)
+    requires outside { conn.in_transaction ≡ false }
+    requires unlimited { conn.step_limit ≡ None }
+
+    ensures told { ReadsOf S.Store conn (StillRepresents S.Store conn)
+        (ReportsStock (O.contents out.old) (O.contents out.new) result.1) }
+    ensures end { EndsJob result.1 }
+{
+    match open_from(conn) {
+        Ok(opened) => tell_stock(alloc, opened, out),
+        Err((conn, fault)) => (conn, end_of_opening(fault)),
+    }
+}
+
+/// Writes the report of the unfinished journeys of the desk of a connection, and flushes it. Returns the connection, of
+/// which nothing is promised but that it can be closed, and the end.
+pub fn unfinished_over<S: Alter + Drop, O: Write>(
+    alloc: Global,
+    conn: Connection<S>,
+    out: &mut O,
+) -> (Connection<S>, End)
+    requires outside { conn.in_transaction ≡ false }
+    requires unlimited { conn.step_limit ≡ None }
+
+    ensures told { ReadsOf S.Store conn (StillRepresents S.Store conn)
+        (ReportsUnfinished (O.contents out.old) (O.contents out.new) result.1) }
+    ensures end { EndsJob result.1 }
+{
+    match open_from(conn) {
+        Ok(opened) => tell_unfinished(alloc, opened, out),
+        Err((conn, fault)) => (conn, end_of_opening(fault)),
+    }
+}
+
+/// Writes the history of the journey of this number in the desk of a connection, and flushes it. A journey that is absent
+/// is refused. Returns the connection, and the end.
+pub fn history_over<S: Alter + Drop, O: Write>(
+    alloc: Global,
+    conn: Connection<S>,
+    id: u64,
+    out: &mut O,
+) -> (Connection<S>, End)
+    requires outside { conn.in_transaction ≡ false }
+    requires unlimited { conn.step_limit ≡ None }
+
+    ensures told { HasCleanDisk (state S.Store result.0) → (v : Version) (s : State) →
+        RepresentsIn S.Store conn v s →
+        ReportsHistory (O.contents out.old) (O.contents out.new) id result.1 s }
+    ensures end { EndsJob result.1 }
+
+    ensures same { HasCleanDisk (state S.Store result.0) → (v : Version) (s : State) →
+        RepresentsIn S.Store conn v s → StillRepresents S.Store result.0 s }
+    ensures outside { result.0.in_transaction ≡ false }
+    ensures unlimited { result.0.step_limit ≡ None }
+    ensures sound { WasClean S.Store conn result.0 }
+{
+    let mut opened = match open_from(conn) {
+        Ok(opened) => opened,
+        Err((conn, fault)) => return (conn, end_of_opening(fault)),
+    };
+    let end = tell_history(alloc, id, &mut opened, out);
+    (opened.into_store(), end)
+}
+
+/// Writes the stock report of what was opened. Returns its connection, and the end.
+fn tell_stock<S: Alter + Drop, O: Write>(
+    alloc: Global,
+    opened: Opened<S>,
+    out: &mut O,
+) -> (Connection<S>, End)
+    ensures told { ReadsOf S.Store opened.conn (IsDeskIn S.Store opened)
+        (ReportsStock (O.contents out.old) (O.contents out.new) result.1) }
+    ensures end { EndsJob result.1 }
+{
+    let mut opened = opened;
+    let told = write_stock(alloc, &mut opened, out);
+    (opened.into_store(), End::from(told))
+}
+
+/// Writes the report of the unfinished journeys of what was opened. Returns its connection, and the end.
+fn tell_unfinished<S: Alter + Drop, O: Write>(
+    alloc: Global,
+    opened: Opened<S>,
+    out: &mut O,
+) -> (Connection<S>, End)
+    ensures told { ReadsOf S.Store opened.conn (IsDeskIn S.Store opened)
+        (ReportsUnfinished (O.contents out.old) (O.contents out.new) result.1) }
+    ensures end { EndsJob result.1 }
+{
+    let mut opened = opened;
+    let told = write_unfinished(alloc, &mut opened, out);
+    (opened.into_store(), End::from(told))
+}
+
+/// Writes the stock report of what was opened, and flushes it.
+fn write_stock<S: Alter, O: Write>(
+    alloc: Global,
+    opened: &mut Opened<S>,
+    out: &mut O,
+) -> Result<(), ProgramFault>
+    ensures told { ReadsOf S.Store opened.old.conn (IsDeskIn S.Store opened.old)
+        (WritesStock (O.contents out.old) (O.contents out.new) result) }
+{
+    let mut rows = match opened.stock_rows() {
+        Ok(rows) => rows,
+        Err(fault) => return Err(fault.into()),
+    };
+    match stock_text(alloc, &mut rows, out) {
+        Ok(_) => flush(out),
+        Err(fault) => Err(fault.into()),
+    }
+}
+
+/// Writes the report of the unfinished journeys of what was opened, and flushes it.
+fn write_unfinished<S: Alter, O: Write>(
+    alloc: Global,
+    opened: &mut Opened<S>,
+    out: &mut O,
+) -> Result<(), ProgramFault>
+    ensures told { ReadsOf S.Store opened.old.conn (IsDeskIn S.Store opened.old)
+        (WritesUnfinished (O.contents out.old) (O.contents out.new) result) }
+{
+    let mut rows = match opened.unfinished_rows() {
+        Ok(rows) => rows,
+        Err(fault) => return Err(fault.into()),
+    };
+    match unfinished_text(alloc, &mut rows, out) {
+        Ok(_) => flush(out),
+        Err(fault) => Err(fault.into()),
+    }
+}
+
+/// Writes the history of the journey of this number in what was opened, or refuses one that is absent.
+fn tell_history<S: Alter, O: Write>(
+    alloc: Global,
+    id: u64,
+    opened: &mut Opened<S>,
+    out: &mut O,
+) -> End
+    ensures told { HasCleanDisk (state S.Store opened.new.conn) → (s : State) →
+        IsDeskIn S.Store opened.old s →
+        ReportsHistory (O.contents out.old) (O.contents out.new) id result s }
+    ensures end { EndsJob result }
+
+    ensures kept { IsOnlyRead S.Store opened.old opened.new }
+{
+    match opened.journey_of(alloc, id) {
+        Ok(Some(journey)) => End::from(write_history(alloc, id, &journey, opened, out)),
+        Ok(None) => End::Refused(Refusal::NoJourney),
+        Err(fault) => End::Fault(fault.into()),
+    }
+}
+
+/// Writes the history of a journey in what was opened, and flushes it.
+fn write_history<S: Alter, O: Write>(
+    alloc: Global,
+    id: u64,
+    journey: &Record,
+    opened: &mut Opened<S>,
+    out: &mut O,
+) -> Result<(), ProgramFault>
+    ensures told { HasCleanDisk (state S.Store opened.new.conn) → (s : State) →
+        IsDeskIn S.Store opened.old s →
+        WritesText (O.contents out.old) (O.contents out.new)
+        (history_report id journey.now (history s.ledger id)) result }
+
+    ensures kept { IsOnlyRead S.Store opened.old opened.new }
+{
+    let mut rows = match opened.item_rows(id) {
+        Ok(rows) => rows,
+        Err(fault) => return Err(fault.into()),
+    };
+    match history_text(alloc, id, journey, &mut rows, out) {
+        Ok(_) => flush(out),
+        Err(fault) => Err(fault.into()),
+    }
+}
+
+/// Flushes the writer.
+fn flush<O: Write>(out: &mut O) -> Result<(), ProgramFault>
+    ensures same { Keeps (O.contents out.old) (O.contents out.new) }
+{
+    match out.flush() {
+        Ok(()) => Ok(()),
+        Err(_) => Err(ProgramFault::Write),
+    }
+}
