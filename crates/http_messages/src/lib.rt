@@ -22,5 +22,5 @@ mod words;
 
 pub use faults::ReadFault;
 pub use incoming::Incoming;
-pub use laws::{heads_are_told, one_reading};
+pub use laws::{heads_are_told, one_reading, page_is_asked_twice};
 pub use requests::{Message, Request};
