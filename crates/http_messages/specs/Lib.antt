@@ -5,4 +5,5 @@ pub mod Fields
 pub mod Requests
 pub mod Reading
 pub mod Laws
+pub mod Examples
 pub mod Rows

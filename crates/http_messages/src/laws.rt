@@ -1,5 +1,8 @@
 //! Laws of all streams. A call does nothing at run time.
+ghost use Rattle.std.specs.Prelude.{◌≡◌, ◌++◌, ◌∷◌, [], List, Some};
+ghost use Rattle.http_messages.specs.Examples.{get_bytes, get_page};
 ghost use Rattle.http_messages.specs.Laws.{HasOneReading, HeadsAreTold, MessagesStay};
+ghost use Rattle.http_messages.specs.Messages.{AreMessages, Asks, Message, first_told};
 
 /// A head is decided where it ends, and not before, whatever follows.
 pub fn heads_are_told()
@@ -15,3 +18,14 @@ pub fn one_reading()
 pub fn messages_stay()
     ensures law { MessagesStay }
 {}
+
+/// The laws of streams, used on a request for a page that comes twice, and on one that comes alone.
+///
+/// Its proof hands the laws that request. So a premise more in a law, which the request does not meet, is refused here.
+pub fn page_is_asked_twice()
+    ensures told { first_told (get_bytes ++ get_bytes) ≡ Some get_bytes }
+    ensures one { (ms : List Message) → AreMessages get_bytes ms → ms ≡ Asks get_page [] ∷ [] }
+{
+    heads_are_told();
+    one_reading();
+}

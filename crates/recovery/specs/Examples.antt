@@ -1,12 +1,15 @@
 -- A worked example of recovery's commands, computed by the definitions.
-use Rattle.std.specs.Prelude.{◌≡◌, List, [], ◌∷◌, ◌++◌, None, refl}
+use Rattle.std.specs.Prelude.{◌≡◌, List, [], ◌∷◌, ◌++◌, length, None, refl}
+use Rattle.std.proofs.lemmas.Bool.{leb-true}
 use Rattle.commands.specs.Request.{Step, Stop}
 use Rattle.ledger.specs.Answer.{State, start}
 use Rattle.ledger.specs.Examples.{done, undone}
-use Rattle.ledger.specs.Ledger.{Event, Did}
-use Rattle.ledger.specs.RecoveryExamples.{two_want_one_room, both_turn_back}
+use Rattle.ledger.specs.Ledger.{Event, Did, IsLegal}
+use Rattle.ledger.specs.RecoveryExamples.{allowed_by_test, two_want_one_room, both_turn_back, second_journey_goes_back_before_the_first_goes_on}
 use Rattle.ledger.specs.World.{events_of}
 use Rattle.saga_core.specs.Worlds.{dones}
+use Rattle.recovery.specs.Growing.{room_of}
+use Rattle.recovery.specs.Recovers.{IsRecovery}
 use Rattle.recovery.specs.Worlds.{orders_of}
 
 -- two journeys want one room: both turn back, the second gives the room back, and the first takes it
@@ -28,3 +31,21 @@ pub commands_make_their_events :
     events_of room_is_wanted_twice (dones room_is_wanted_twice (orders_of room_changes_hands))
     ≡ room_changes_hands
 commands_make_their_events = refl
+
+-- these events are its recovery
+pub room_is_recovered : IsRecovery room_is_wanted_twice room_changes_hands
+room_is_recovered = record {
+  are = record {
+    recovered = two_want_one_room ++ room_changes_hands;
+    is_recovered = second_journey_goes_back_before_the_first_goes_on;
+    rest = [];
+    beginning = refl;
+    whole = λ _. refl;
+    cut_off = λ _. refl;
+  };
+  within = leb-true (length room_changes_hands) (room_of room_is_wanted_twice) refl;
+}
+
+-- its ledger is legal
+pub room_ledger_is_legal : IsLegal room_is_wanted_twice.ledger
+room_ledger_is_legal = allowed_by_test [] two_want_one_room refl

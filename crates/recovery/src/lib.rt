@@ -14,6 +14,6 @@ mod passes;
 mod ready;
 mod recovering;
 
-pub use laws::one_recovery;
+pub use laws::{one_recovery, recovery_of_one_room};
 pub use ready::Ready;
 pub use recovering::recover;
