@@ -1,5 +1,4 @@
-//! What no clause says: that sessions succeed where the store lets them, with each stop, and with a store that fails at each
-//! call in turn.
+//! What no clause says: that sessions succeed where nothing fails, and that after each stop a session finds what was answered.
 use crate::{Power, Session, Steady, run_sessions};
 use sqlite::Connection;
 use std::alloc::Global;
@@ -56,7 +55,13 @@ fn sessions_answer_where_nothing_fails(rt: HostRuntime) -> Result<(), Fail> {
     let alloc = rt.alloc();
     let mut out = Vec::new(alloc);
     let conn = Connection::open_in_memory(alloc)?;
-    let end = run_sessions(alloc, conn, &mut Steady, sessions(alloc, &INPUTS)?, &mut out);
+    let end = run_sessions(
+        alloc,
+        conn,
+        &mut Steady,
+        sessions(alloc, &INPUTS)?,
+        &mut out,
+    );
     assert!(rt; end.is_ok());
     assert_eq!(rt; std::str::from_utf8(&out)?, TOLD);
     Ok(())
@@ -78,7 +83,11 @@ fn after_each_stop_a_session_finds_what_was_answered(rt: HostRuntime) -> Result<
         let last = sessions(alloc, &[("step 1\n", "")])?;
         let end = run_sessions(alloc, conn, &mut Steady, last, &mut more);
         assert!(rt; end.is_ok());
-        let expected = if has_begun { "refused 10 Finished\n" } else { "refused 9 NoJourney\n" };
+        let expected = if has_begun {
+            "refused 10 Finished\n"
+        } else {
+            "refused 9 NoJourney\n"
+        };
         assert_eq!(rt; std::str::from_utf8(&more)?, expected, "{left}");
     }
     Ok(())
