@@ -12,10 +12,10 @@ use Rattle.saga_core.specs.Chains.{Reopens, reopened}
 use Rattle.sql_model.specs.Worlds.{EachWorldIsADesk}
 use Rattle.recovery.specs.Recovers.{HasOneRecovery, IsRecovery}
 use Rattle.recovery.specs.Worlds.{orders_of}
-use Rattle.sessions.specs.Openings.{Input, Opening, Answers, recovered}
+use Rattle.sessions.specs.Openings.{Input, Opening, recovered}
 use Rattle.sessions.specs.Worlds.{Visit, input_of, told_in, Openings, GoesOnBy}
 use Rattle.sessions.specs.Chains.{StandsAs, Leads, LeadsEach}
-use Rattle.sessions.specs.Stages.{HasRecovered, Recovering, LeavesRecovering, Answering, LeavesAnswering, HasOpened}
+use Rattle.sessions.specs.Stages.{HasRecovered, LeavesRecovering, Answering, LeavesAnswering, HasOpened}
 use Rattle.sessions.proofs.StageLemmas.{goes_nowhere}
 
 -- Lists of openings.

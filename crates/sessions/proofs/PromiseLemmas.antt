@@ -1,21 +1,21 @@
 -- What is promised of the ledger after a world, by the laws of the ledger. For `run_sessions`.
-use Rattle.std.proofs.Common.{◌≡◌, ◌⊎◌, ℕ, zero, suc, ◌+◌, ◌-◌, ◌<◌, ◌≤◌, ◌==◌, Bool, true, false, not, List, [], ◌∷◌, ◌++◌, length, refl, sym, ap, subst, ◌∙◌, arith, inl, inr, eqb-true, ltb-true, ltb-false, IsTrue}
+use Rattle.std.proofs.Common.{◌≡◌, ◌⊎◌, ℕ, zero, suc, ◌+◌, ◌-◌, ◌<◌, ◌≤◌, ◌==◌, Bool, true, false, not, List, length, refl, sym, ap, subst, ◌∙◌, arith, inl, inr, eqb-true, ltb-true, ltb-false}
 use Rattle.std.specs.Prelude.{Option, Some, None, option_map, unwrap_or, nat_lt, slice_get, ◌||◌}
 use Rattle.std.specs.List.{list_any}
 use Rattle.std.proofs.lemmas.Bool.{eqb-false}
 use Rattle.std.proofs.lemmas.Option.{slice_get_past}
 use Rattle.allotment.specs.Cells.{numbers_from}
-use Rattle.plan.specs.PlanModel.{Planned, numbered}
+use Rattle.plan.specs.PlanModel.{Planned}
 use Rattle.commands.specs.declared.items.Item.{Item}
 use Rattle.commands.specs.declared.items.Phase.{Phase}
 use Rattle.commands.specs.declared.items.Phase.TheVariants.{Run, Back, Ended, Undone}
 use Rattle.ledger.specs.Answer.{start}
 use Rattle.ledger.specs.History.{is_open, phase}
 use Rattle.ledger.specs.Laws.{IsSound, NoCellIsOverfull, EveryJourneyIsUpAndDown, EachPlainJourneyIsAllOrNothing, IsUpAndDownSoFar, HasNoSavePoint, IsAllOrNothing}
-use Rattle.ledger.specs.Ledger.{Event, Journey, IsLegal, allotment, held, history, is_in, journey_at, journeys, numbers, phase_of}
+use Rattle.ledger.specs.Ledger.{Event, Journey, IsLegal, allotment, held, history, is_in, journey_at, journeys}
 use Rattle.ledger.specs.Recovery.{has_none, IsRecovered}
 use Rattle.ledger.specs.World.{Moment, after, IsWorld}
-use Rattle.saga_core.specs.Views.{Places, places_of}
+use Rattle.saga_core.specs.Views.{Places}
 use Rattle.sessions.specs.Promises.{FreeAndHeldAreAllotted, IsWhole, EachJourneyIsWhole, IsKeptPromise}
 
 -- Places.

@@ -1,31 +1,28 @@
 -- Where a stage of a session leaves the desk. For the stages.
-use Rattle.std.proofs.Common.{◌≡◌, ◌⊎◌, ℕ, List, [], ◌∷◌, ◌++◌, length, Bool, true, false, refl, sym, ap, subst, ◌∙◌, arith, append-nil, inl, inr}
+use Rattle.std.proofs.Common.{◌⊎◌, ℕ, List, [], ◌++◌, Bool, true, false, refl, sym, subst, ◌∙◌, arith, append-nil, inl, inr}
 use Rattle.std.specs.Prelude.{Option, None, Some, IfSome}
 use Rattle.std.proofs.KnownBytes.{Appends-nil}
 use Rattle.sqlite.specs.Tree.{Trees}
 use Rattle.sqlite.specs.State.{State as Connected, HasCleanDisk}
-use Rattle.desk_sql.specs.declared.versions.Version.{Version}
 use Rattle.desk_sql.specs.declared.versions.Version.TheVariants.{Two}
 use Rattle.commands.specs.declared.faults.Fault.{Fault}
 use Rattle.ledger.specs.Answer.{State, start}
 use Rattle.ledger.specs.World.{Moment, after, IsWorld}
 use Rattle.saga_core.specs.Chains.{GoesOnTo}
 use Rattle.saga_core.specs.Runs.{Asks}
-use Rattle.saga_core.specs.Worlds.{KeepLimits, Progress, StandsAtEnd, EndsWith, EndsAmong, GoesOnWith, continued, crashed, is_store}
-use Rattle.sql_model.specs.Keeping.{Means, MeansOf, MayLeave}
+use Rattle.saga_core.specs.Worlds.{KeepLimits, Progress, StandsAtEnd, EndsWith, EndsAmong, GoesOnWith, continued, crashed}
+use Rattle.sql_model.specs.Keeping.{MayLeave}
 use Rattle.recovery.specs.Recovers.{HasOneRecovery}
 use Rattle.recovery.specs.Worlds.{EndsRecovered, EndsRecovering, orders_of}
 use Rattle.protocols.specs.Scenes.{Scene}
-use Rattle.protocols.specs.Faults as serving
 use Rattle.protocols.specs.declared.faults.ServeFault.{ServeFault}
 use Rattle.desk_lines.specs.Lines.{lines}
 use Rattle.desk_lines.specs.Serving as of_lines
 use Rattle.desk_lines.specs.Worlds as by_line
-use Rattle.desk_http.specs.Serving as of_messages
 use Rattle.desk_http.specs.Worlds as by_message
-use Rattle.sessions.specs.Openings.{Input, Lines, Messages, Answers, AsksFor, IsAnsweredBy}
+use Rattle.sessions.specs.Openings.{Input, Lines, Messages, AsksFor, IsAnsweredBy}
 use Rattle.sessions.specs.Chains.{StandsAs}
-use Rattle.sessions.specs.Stages.{HasRecovered, Recovering, LeavesRecovering, Answering, LeavesAnswering}
+use Rattle.sessions.specs.Stages.{HasRecovered, LeavesRecovering, Answering, LeavesAnswering}
 use Rattle.sessions.proofs.TellingLemmas.{Tells, lines_tell_all, lines_tell, messages_come, messages_tell_all, messages_tell}
 
 -- Asks that were carried out.

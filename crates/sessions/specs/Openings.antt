@@ -1,5 +1,5 @@
 -- What one opening of the store adds to a world: the desk is reopened and recovers, and then answers what comes to it.
-use Rattle.std.specs.Prelude.{◌≡◌, ◌⊎◌, ℕ, List, [], ◌∷◌, ◌++◌}
+use Rattle.std.specs.Prelude.{◌≡◌, ◌⊎◌, ℕ, List, [], ◌++◌}
 use Rattle.std.specs.List.{concat}
 use Rattle.ledger.specs.Answer.{State, start}
 use Rattle.ledger.specs.Ledger.{Event}

@@ -1,5 +1,4 @@
-//! What no clause says: that sessions succeed where the store lets them, with each stop, and with a store that fails at each
-//! call in turn.
+//! What no clause says: that sessions succeed where nothing fails, and that after each stop a session finds what was answered.
 use crate::{Power, Session, Steady, run_sessions};
 use sqlite::Connection;
 use std::alloc::Global;
