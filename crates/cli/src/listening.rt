@@ -4,17 +4,20 @@ ghost use Rattle.saga_core.specs.Books.{LeavesNoMore};
 ghost use Rattle.program_ends.specs.Ends.{EndsJob, IfDone};
 ghost use Rattle.cli.specs.Ends.{TellsReady};
 
-use crate::desks::{close_desk, open_recovered};
+use crate::desks::{close, connect};
 use crate::lingering::linger;
 use desk_http::{Served, serve};
+use desk_jobs::ready_over;
 use program_ends::{End, ProgramFault};
 use protocols::ServeFault;
 use recovery::Ready;
 use saga_core::Book;
+use sqlite::{Alter, Connection};
 use std::alloc::Global;
 use std::io::Write;
 use std::net::{Ipv4Addr, TcpListener, TcpStream};
 use streams::send;
+use tables::TableBook;
 
 /// Serves so many connections to a port of 127.0.0.1 over the database in a file, after recovery.
 ///
@@ -30,12 +33,32 @@ pub(crate) fn serve_file<O: Write>(
     ensures job { EndsJob result }
     ensures told { IfDone result (TellsReady port (O.contents out.old) (O.contents out.new)) }
 {
-    let mut desk = match open_recovered(rt, alloc, file) {
-        Ok((desk, _)) => desk,
+    let conn = match connect(rt, file) {
+        Ok(conn) => conn,
         Err(end) => return end,
     };
-    let served = End::from(listen(rt, alloc, port, connections, &mut desk, out));
-    served.then(close_desk(desk))
+    let (conn, end) = match ready_over(alloc, conn) {
+        Ok((desk, _)) => serve_desk(rt, alloc, port, connections, desk, out),
+        Err((conn, end)) => (conn, end),
+    };
+    end.then(close(conn))
+}
+
+/// Does the same over a recovered desk. Returns its connection, and the end.
+fn serve_desk<S: Alter + Drop, O: Write>(
+    rt: &HostRuntime,
+    alloc: Global,
+    port: u16,
+    connections: u16,
+    desk: Ready<TableBook<S>>,
+    out: &mut O,
+) -> (Connection<S>, End)
+    ensures job { EndsJob result.1 }
+    ensures told { IfDone result.1 (TellsReady port (O.contents out.old) (O.contents out.new)) }
+{
+    let mut desk = desk;
+    let served = listen(rt, alloc, port, connections, &mut desk, out);
+    (desk.into_inner().into_store(), End::from(served))
 }
 
 /// Does the same over a recovered book.
