@@ -10,7 +10,8 @@ const ASKED: &[u8] = b"GET /unfinished HTTP/1.1\r\nHost: d\r\nDesk-Agent: ann\r\
     GET /unfinished HTTP/1.1\r\nHost: d\r\nDesk-Agent: ann\r\n\r\nGET /unf";
 
 /// The page of each.
-const PAGE: &[u8] = b"HTTP/1.1 200 OK\r\nContent-Length: 17\r\nContent-Type: application/json\r\n\r\n{\"unfinished\":[]}";
+const PAGE: &[u8] =
+    b"HTTP/1.1 200 OK\r\nContent-Length: 17\r\nContent-Type: application/json\r\n\r\n{\"unfinished\":[]}";
 
 #[test]
 fn clients_are_answered_beside_a_silent_one(rt: HostRuntime) -> Result<(), Fail> {
