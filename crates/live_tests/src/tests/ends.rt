@@ -47,7 +47,7 @@ pub struct Sink<'a> {
 
 impl Sink<'_> {
     /// Notes these bytes.
-    fn note(&mut self, bytes: &[u8]) -> io::Result<usize> {
+    fn note(&mut self, bytes: &[u8]) -> io::Result<()> {
         let Ok(mut notes) = self.notes.try_borrow_mut() else {
             return Err(io::Error::from(ErrorKind::Other));
         };
@@ -55,7 +55,7 @@ impl Sink<'_> {
             taken.extend_from_slice(bytes)?;
         }
         self.room = self.room.saturating_sub(bytes.len());
-        Ok(bytes.len())
+        Ok(())
     }
 }
 
@@ -71,7 +71,8 @@ impl Write for Sink<'_> {
         }
         let most = self.dice.roll(self.step).saturating_add(1) as usize;
         let count = most.min(self.room).min(bytes.len());
-        self.note(&bytes[..count])
+        self.note(&bytes[..count])?;
+        Ok(count)
     }
 
     fn flush(&mut self) -> io::Result<()> {

@@ -4,7 +4,7 @@ use crate::tests::ends::Notes;
 use crate::tests::peers::{FLIGHT, Peer, TWO_SEATS};
 use crate::tests::schedule::Schedule;
 use desk_http::serve;
-use http_live::{Seat, empty_seats, serve_many};
+use http_live::{Turns, empty_seats, serve_many};
 use memory_book::MemBook;
 use recovery::{Ready, recover};
 use std::alloc::Global;
@@ -35,6 +35,14 @@ const ASKED: [(&str, &str); 8] = [
     ("GET /stock",               ""),
 ];
 
+/// What is asked at this place of the list, and with which body.
+fn request_at(at: usize) -> (&'static str, &'static str) {
+    match ASKED.get(at) {
+        Some(request) => *request,
+        None => ("GET /stock", ""),
+    }
+}
+
 /// Peers that each send some of these requests, under keys of their own. One of them asks to close within.
 fn random_peers(rt: &impl Abort, alloc: Global, dice: &mut Dice) -> Vec<Peer> {
     let mut peers = Vec::new(alloc);
@@ -42,7 +50,7 @@ fn random_peers(rt: &impl Abort, alloc: Global, dice: &mut Dice) -> Vec<Peer> {
         let mut peer = Peer::new(alloc);
         for i in 0..10u64 {
             let at = if i == 0 { 0 } else { dice.roll(8) as usize };
-            let (asked, body) = ASKED.get(at).copied().unwrap_or(("GET /stock", ""));
+            let (asked, body) = request_at(at);
             let key = i.to_string(alloc).expect(rt, "memory");
             let close = if agent == "cy" && i == 6 {
                 "\r\nConnection: close"
@@ -71,6 +79,13 @@ pub struct Run {
     pub order: Vec<usize>,
 }
 
+/// The turns of a schedule are served by a desk, on seats of their own.
+fn serve_all<T: Turns>(rt: &impl Abort, alloc: Global, turns: &mut T, desk: &mut Ready<MemBook>) {
+    let mut seats = empty_seats(alloc).expect(rt, "memory");
+    let ended = serve_many(alloc, seats.as_mut_slice(), turns, desk);
+    assert!(rt; ended == Ok(()), "{ended:?}");
+}
+
 /// The peers are served by a desk.
 pub fn served(
     rt: &impl Abort,
@@ -94,10 +109,7 @@ pub fn served(
         left: 6000,
         order: Vec::new(alloc),
     };
-    let mut seats = empty_seats(alloc).expect(rt, "memory");
-    let ended = serve_many(alloc, seats.as_mut_slice(), &mut schedule, desk);
-    assert!(rt; ended == Ok(()), "{ended:?}");
-    drop(seats);
+    serve_all(rt, alloc, &mut schedule, desk);
     let Schedule { order, .. } = schedule;
     Run {
         written: notes.into_inner(),
