@@ -52,8 +52,7 @@ Documentation=man:desk(1)
 StartLimitIntervalSec=0
 
 [Service]
-ExecStart="$prefix/$program_at" serve %S/desk/trips.db --port 8080 --connections 1000
-# The program ends after its last connection, and is started again.
+ExecStart="$prefix/$program_at" serve %S/desk/trips.db --port 8080
 Restart=always
 RestartSec=1
 RestartPreventExitStatus=2

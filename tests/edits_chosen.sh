@@ -1,7 +1,7 @@
 #!/usr/bin/env bash
 # ./check tries all edits of a crate where a source of it, or of one below, has changed, and each of the others once in four
 # days. It says what is left out, leaves out nothing else, and fails where anything fails. In place of rt stands a script,
-# which notes the edits that it is given.
+# which notes the edits that it is given. The scripts run side by side, those first that take longest.
 . "$(dirname "${BASH_SOURCE[0]}")/helping.bash"
 if ! command -v git >/dev/null 2>&1; then
   echo "edits_chosen.sh: skipped, there is no git" >&2
@@ -157,20 +157,45 @@ for day in {20000..20015}; do
 done | sort | uniq -c | awk '{ print $1 }' | uniq -c | awk '{ print $1, $2 }' >turns
 same "each edit of a crate gets its turn" "8 12" "$(cat turns)"
 
-# a gate that is ended leaves nothing
-rm -f "$FAKE/edits"
+# ends_gate WHAT FILE: a gate that is ended once this file has something leaves nothing
+ends_gate() {
+  local check
+  rm -f "$2"
+  ./check >"$work/said" 2>&1 &
+  check=$!
+  for _ in {1..100}; do
+    [ ! -s "$2" ] || break
+    sleep 0.1
+  done
+  kill "$check"
+  { wait "$check"; } 2>/dev/null
+  same "$1: the status" 143 $?
+  same "$1: what is left" "gate.lock" "$(ls out)"
+}
+
 touch "$FAKE/hold"
-./check >"$work/said" 2>&1 &
-check=$!
-for _ in {1..100}; do
-  [ ! -e "$FAKE/edits" ] || break
-  sleep 0.1
-done
-kill "$check"
-{ wait "$check"; } 2>/dev/null
-same "a gate that is ended: the status" 143 $?
-same "a gate that is ended: what is left" "gate.lock" "$(ls out)"
+ends_gate "a gate that is ended" "$FAKE/edits"
 rm "$FAKE/hold"
+
+# scripts run side by side, the longest first: each of these two waits for the other
+waits='touch "$FAKE/$0"; for _ in {1..100}; do [ ! -e "$FAKE/${OTHER[$0]}" ] || exit 0; sleep 0.1; done; exit 1'
+mkdir "$FAKE/tests"
+printf 'declare -A OTHER=([tests/left.sh]=tests/right.sh [tests/right.sh]=tests/left.sh)\n%s\n' "$waits" | tee tests/left.sh >tests/right.sh
+RT_JOBS=2 gate 0
+says "scripts side by side" "3 passed, 0 failed, 1 skipped"
+rm tests/left.sh tests/right.sh
+for name in good lacks long; do echo 'echo "$0 runs"' >tests/$name.sh; done
+printf 'long.sh\t5\t-\t-\n' >>docs/minutes.tsv
+RT_JOBS=1 gate 0
+same "the longest script comes first" "tests/long.sh runs tests/good.sh runs tests/lacks.sh runs" \
+  "$(grep ' runs$' "$work/said" | tr '\n' ' ' | sed 's/ $//')"
+
+# a gate that is ended while scripts run ends these
+echo 'echo $$ >"$FAKE/script"; sleep 100' >tests/long.sh
+ends_gate "a gate that is ended amid scripts" "$FAKE/script"
+same "a gate that is ended amid scripts: the script" gone "$(kill -0 "$(cat "$FAKE/script")" 2>/dev/null || echo gone)"
+git checkout -q tests docs
+rm tests/long.sh
 
 # what fails
 gate 2 --since nowhere

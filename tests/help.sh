@@ -154,7 +154,7 @@ completes "desk u" "unfinished" desk u
 completes "desk --h" "--help" desk --h
 completes "desk --v" "--version" desk --v
 completes "desk help r" "run recover" desk help r
-completes "desk serve --" "--port --connections --help" desk serve --
+completes "desk serve --" "--port --connections --house --help" desk serve --
 completes "desk load --b" "--batch" desk load --b
 completes "desk stock --p" "" desk stock --p
 completes "desk run t" "trips.db" desk run t
@@ -201,7 +201,7 @@ share/zsh/site-functions/_desk" "$(cd below && find . -type f | sed 's,^\./,,' |
   for line in NoNewPrivileges=yes ProtectSystem=strict StateDirectory=desk; do
     same "the unit: $line" 1 "$(grep -cx "$line" below/lib/systemd/system/desk.service)"
   done
-  same "the unit: what it starts" "ExecStart=\"$work/below/bin/desk\" serve %S/desk/trips.db --port 8080 --connections 1000" \
+  same "the unit: what it starts" "ExecStart=\"$work/below/bin/desk\" serve %S/desk/trips.db --port 8080" \
     "$(grep '^ExecStart=' below/lib/systemd/system/desk.service)"
   if command -v systemd-analyze >/dev/null; then
     same "the unit is sound" "" "$(systemd-analyze verify --man=no "$work/below/lib/systemd/system/desk.service" 2>&1 | grep desk.service)"

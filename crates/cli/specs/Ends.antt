@@ -2,28 +2,19 @@
 use Rattle.std.specs.Prelude.{◌≡◌, ⊤, ℕ, List, [], ◌∷◌, codes, decimal, Option, None}
 use Rattle.std.specs.String.{string_bytes}
 use Rattle.std.specs.Io.KnownBytes.{Appends, IsAtEnd}
-use Rattle.commands.specs.Texts.{reply_line, sentence}
+use Rattle.commands.specs.Texts.{sentence}
 use Rattle.commands.specs.declared.refusals.Refusal.TheVariants as refusal
-use Rattle.commands.specs.declared.replies.Reply.{Reply}
-use Rattle.commands.specs.declared.replies.Reply.TheVariants as reply
-use Rattle.tables.specs.declared.faults.OpenFault.{OpenFault}
-use Rattle.tables.specs.declared.faults.OpenFault.TheVariants as opening
 use Rattle.migrate.specs.declared.faults.MigrateFault.{MigrateFault}
 use Rattle.migrate.specs.declared.faults.MigrateFault.TheVariants as migration
 use Rattle.protocols.specs.Scenes.{ended}
 use Rattle.desk_lines.specs.Lines.{journey_in}
+use Rattle.desk_jobs.specs.Ends.{recovered_line, TellsAccepted}
 use Rattle.command_line.specs.declared.jobs.Job.{Job}
 use Rattle.command_line.specs.Version.{version_line}
 use Rattle.command_line.specs.declared.jobs.Job.TheVariants.{Run, Serve, Recover, Load, Stock, Unfinished, History, Migrate, Version}
 use Rattle.program_ends.specs.declared.ends.End.{End}
 use Rattle.program_ends.specs.declared.ends.End.TheVariants as finish
 use Rattle.program_ends.specs.declared.faults.ProgramFault.TheVariants as fault
-
--- the end if a store cannot be opened as a desk: a store of another version is refused
-abbrev pub end_of_open : OpenFault → End
-end_of_open (opening.UnknownSchema version) = finish.Refused (refusal.UnknownSchema version)
-end_of_open opening.Store = finish.Fault fault.OpeningStore
-end_of_open opening.Memory = finish.Fault fault.OpeningMemory
 
 -- the end if a file cannot be migrated: one of schema 2, or of another schema, is refused
 abbrev pub end_of_migration : MigrateFault → End
@@ -32,11 +23,7 @@ end_of_migration (migration.UnknownSchema version) = finish.Refused (refusal.Unk
 end_of_migration migration.Store = finish.Fault fault.OpeningStore
 end_of_migration migration.Memory = finish.Fault fault.OpeningMemory
 
--- the line with the number of recovery's commits: `recovered 3`
-abbrev pub recovered_line : ℕ → List ℕ
-recovered_line made = ended (sentence (codes "recovered" ∷ decimal made ∷ []))
-
--- the line with the number of recovery's commits was written, and nothing else
+-- the line with the number of recovery's events was written, and nothing else
 abbrev pub TellsRecovered : Option (List ℕ) → Option (List ℕ) → Type 0
 TellsRecovered held holds = (made : ℕ) × Appends held holds (recovered_line made)
 
@@ -56,20 +43,10 @@ ready_line port = ended (sentence (codes "ready" ∷ decimal port ∷ []))
 abbrev pub TellsReady : ℕ → Option (List ℕ) → Option (List ℕ) → Type 0
 TellsReady port held holds = Appends held holds (ready_line port)
 
--- the reply is not a refusal
-abbrev pub IsAccepted : Reply → Type 0
-IsAccepted (reply.Refused refusal) = ⊥
-IsAccepted _ = ⊤
-
--- the line of a reply that is not a refusal was written, and nothing else
-abbrev pub TellsAccepted : Option (List ℕ) → Option (List ℕ) → Type 0
-TellsAccepted held holds =
-    (told : Reply) × IsAccepted told × Appends held holds (ended (reply_line told))
-
 -- what a job that is done prints on standard output; nothing is said here of the answers of `run` and of reports
 abbrev pub TellsOf : Job → Option (List ℕ) → Option (List ℕ) → Type 0
 TellsOf (Run file) held holds = ⊤
-TellsOf (Serve file port connections) held holds = TellsReady port held holds
+TellsOf (Serve file port connections house) held holds = TellsReady port held holds
 TellsOf (Recover file) held holds = TellsRecovered held holds
 TellsOf (Load file csv batch) held holds = TellsAccepted held holds
 TellsOf (Stock file) held holds = ⊤

@@ -1,3 +1,1 @@
-pub mod Loading
-pub mod Lingering
 pub mod Ends

@@ -6,7 +6,6 @@
 #![tactic(auto)]
 
 mod desks;
-mod lingering;
 mod listening;
 mod loads;
 mod migrations;

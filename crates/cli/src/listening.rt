@@ -1,122 +1,188 @@
-//! Connections to a port of this host, served one after another over the database in a file.
-ghost use Rattle.std.specs.Prelude.{◌≡◌, ◌↔◌, IfErr, IsErr, IsErrOf, IsTrue, OnErr, OnOk};
+//! Connections to a port of this host, and to a Unix socket, served over the database in a file.
+ghost use Rattle.std.specs.Prelude.{◌≡◌, ◌≢◌, false, None, IfErr, IsErrOf, IsTrue, OnOk};
 ghost use Rattle.saga_core.specs.Books.{LeavesNoMore};
+ghost use Rattle.http_sockets.specs.Going.{GoOnBySome};
 ghost use Rattle.program_ends.specs.Ends.{EndsJob, IfDone};
 ghost use Rattle.cli.specs.Ends.{TellsReady};
 
-use crate::desks::{close_desk, open_recovered};
-use crate::lingering::linger;
-use desk_http::{Served, serve};
+use crate::desks::{close, connect};
+use commands::Fault;
+use desk_jobs::ready_over;
+use http_sockets::{Limits, PATIENCE, Sockets, serve_sockets};
 use program_ends::{End, ProgramFault};
-use protocols::ServeFault;
 use recovery::Ready;
 use saga_core::Book;
+use sqlite::{Alter, Connection};
 use std::alloc::Global;
-use std::io::Write;
-use std::net::{Ipv4Addr, TcpListener, TcpStream};
+use std::io::{ErrorKind, Write};
 use streams::send;
+use tables::TableBook;
 
-/// Serves so many connections to a port of 127.0.0.1 over the database in a file, after recovery.
+/// What is served.
+#[derive(Clone, Copy)]
+pub(crate) struct Served<'a> {
+    /// The port of 127.0.0.1.
+    pub port: u16,
+    /// How many connections there are in all, if that is limited.
+    pub connections: Option<u16>,
+    /// The path of the Unix socket, if there is one.
+    pub house: Option<&'a str>,
+}
+
+/// Serves connections over the database in a file, after recovery. Where a Unix socket was made, its file is removed when
+/// the database is closed.
 ///
 /// When connections are accepted, the line `ready PORT` is printed.
 pub(crate) fn serve_file<O: Write>(
     rt: &HostRuntime,
     alloc: Global,
     file: &str,
-    port: u16,
-    connections: u16,
+    served: Served<'_>,
     out: &mut O,
 ) -> End
     ensures job { EndsJob result }
-    ensures told { IfDone result (TellsReady port (O.contents out.old) (O.contents out.new)) }
+    ensures told { IfDone result
+        (TellsReady served.entry.port (O.contents out.old) (O.contents out.new)) }
 {
-    let mut desk = match open_recovered(rt, alloc, file) {
-        Ok((desk, _)) => desk,
+    let conn = match connect(rt, file) {
+        Ok(conn) => conn,
         Err(end) => return end,
     };
-    let served = End::from(listen(rt, alloc, port, connections, &mut desk, out));
-    served.then(close_desk(desk))
+    let (conn, sockets, end) = serve_over(rt, alloc, served, conn, out);
+    let end = end.then(close(conn));
+    end_sockets(sockets);
+    end
 }
 
-/// Does the same over a recovered book.
+/// Ends the sockets, if they were made.
+fn end_sockets(sockets: Option<Sockets<'_>>) {
+    if let Some(sockets) = sockets {
+        sockets.end();
+    }
+}
+
+/// Does the same over a connection to a database of any store. Returns the connection, the sockets, and the end.
+fn serve_over<'a, S: Alter + Drop, O: Write>(
+    rt: &'a HostRuntime,
+    alloc: Global,
+    served: Served<'a>,
+    conn: Connection<S>,
+    out: &mut O,
+) -> (Connection<S>, Option<Sockets<'a>>, End)
+    requires outside { conn.in_transaction ≡ false }
+    requires unlimited { conn.step_limit ≡ None }
+
+    ensures job { EndsJob result.2 }
+    ensures told { IfDone result.2
+        (TellsReady served.entry.port (O.contents out.old) (O.contents out.new)) }
+{
+    match ready_over(alloc, conn) {
+        Ok((desk, _)) => serve_desk(rt, alloc, served, desk, out),
+        Err((conn, end)) => (conn, None, end),
+    }
+}
+
+/// Does the same over a recovered desk. Returns its connection, the sockets, and the end.
+fn serve_desk<'a, S: Alter + Drop, O: Write>(
+    rt: &'a HostRuntime,
+    alloc: Global,
+    served: Served<'a>,
+    desk: Ready<TableBook<S>>,
+    out: &mut O,
+) -> (Connection<S>, Option<Sockets<'a>>, End)
+    ensures job { EndsJob result.2 }
+    ensures told { IfDone result.2
+        (TellsReady served.entry.port (O.contents out.old) (O.contents out.new)) }
+{
+    let mut desk = desk;
+    match bind(rt, alloc, served) {
+        Ok(mut sockets) => {
+            let done = listen(alloc, served.port, &mut sockets, &mut desk, out);
+            (
+                desk.into_inner().into_store(),
+                Some(sockets),
+                End::from(done),
+            )
+        }
+        Err(fault) => (desk.into_inner().into_store(), None, End::Fault(fault)),
+    }
+}
+
+/// Listens on the port, and at the Unix socket.
+fn bind<'a>(
+    rt: &'a HostRuntime,
+    alloc: Global,
+    served: Served<'a>,
+) -> Result<Sockets<'a>, ProgramFault> {
+    let limits = Limits {
+        connections: served.connections,
+        patience: PATIENCE,
+    };
+    match Sockets::bind(rt, alloc, served.port, served.house, limits) {
+        Ok(sockets) => Ok(sockets),
+        Err(error) if error.kind() == ErrorKind::OutOfMemory => Err(ProgramFault::Memory),
+        Err(_) => Err(ProgramFault::Net),
+    }
+}
+
+/// Serves the sockets over a recovered book, and reports first that connections to the port are accepted.
 fn listen<B: Book, O: Write>(
-    rt: &HostRuntime,
     alloc: Global,
     port: u16,
-    connections: u16,
+    sockets: &mut Sockets<'_>,
     book: &mut Ready<B>,
     out: &mut O,
 ) -> Result<(), ProgramFault>
     ensures told { OnOk result (TellsReady port (O.contents out.old) (O.contents out.new)) }
+
+    ensures served { OnOk result (GoOnBySome (B.is_sound book.new) (B.stands book.old)
+        (B.stands book.new) (B.leaves book.new) false) }
+    ensures failed { IsErrOf result ProgramFault.Store → IsTrue (B.has_failed book.new) }
+    ensures stays_failed { IsTrue (B.has_failed book.old) → IsTrue (B.has_failed book.new) }
+    ensures stays_left { IsTrue (B.has_failed book.old) →
+        LeavesNoMore (B.leaves book.old) (B.leaves book.new) }
+
+    ensures sound { B.is_sound book.new → B.is_sound book.old }
 {
-    let Ok(listener) = TcpListener::bind(rt, (Ipv4Addr::LOCALHOST, port)) else {
-        return Err(ProgramFault::Net);
-    };
-    send_ready(alloc, port, out)?;
-    serve_all(alloc, &listener, connections, book)
+    match send_ready(alloc, port, out) {
+        Ok(()) => serve_all(alloc, sockets, book),
+        Err(fault) => Err(fault),
+    }
+}
+
+/// Serves the sockets over a recovered book.
+fn serve_all<B: Book>(
+    alloc: Global,
+    sockets: &mut Sockets<'_>,
+    book: &mut Ready<B>,
+) -> Result<(), ProgramFault>
+    ensures served { OnOk result (GoOnBySome (B.is_sound book.new) (B.stands book.old)
+        (B.stands book.new) (B.leaves book.new) false) }
+    ensures failed { IsErrOf result ProgramFault.Store → IsTrue (B.has_failed book.new) }
+    ensures stays_failed { IsTrue (B.has_failed book.old) → IsTrue (B.has_failed book.new) }
+    ensures stays_left { IsTrue (B.has_failed book.old) →
+        LeavesNoMore (B.leaves book.old) (B.leaves book.new) }
+
+    ensures sound { B.is_sound book.new → B.is_sound book.old }
+{
+    match serve_sockets(alloc, sockets, book) {
+        Ok(()) if sockets.has_failed() => Err(ProgramFault::Net),
+        Ok(()) => Ok(()),
+        Err(Fault::Memory) => Err(ProgramFault::Memory),
+        Err(Fault::Store) => Err(ProgramFault::Store),
+    }
 }
 
 /// Writes the line that reports that connections to a port are accepted, and flushes it.
-fn send_ready<O: Write>(alloc: Global, port: u16, out: &mut O) -> Result<(), ServeFault>
+fn send_ready<O: Write>(alloc: Global, port: u16, out: &mut O) -> Result<(), ProgramFault>
     ensures sent { OnOk result (TellsReady port (O.contents out.old) (O.contents out.new)) }
+    ensures fault { IfErr result (λ fault. fault ≢ ProgramFault.Store) }
 {
-    let line = format!(in alloc; "ready {port}\n")?;
-    Ok(send(out, line.as_bytes())?)
-}
-
-/// Serves so many connections over a book, one after another. One that cannot be accepted counts as one.
-fn serve_all<B: Book>(
-    alloc: Global,
-    listener: &TcpListener,
-    connections: u16,
-    book: &mut Ready<B>,
-) -> Result<(), ProgramFault>
-    ensures fault { IfErr result (λ fault. fault ≡ ProgramFault.Store) }
-    ensures failed { OnErr result (IsTrue (B.has_failed book.new)) }
-    ensures stays_failed { IsTrue (B.has_failed book.old) → IsTrue (B.has_failed book.new) }
-    ensures stays_left { IsTrue (B.has_failed book.old) →
-        LeavesNoMore (B.leaves book.old) (B.leaves book.new) }
-
-    ensures sound { B.is_sound book.new → B.is_sound book.old }
-{
-    for _ in 0..connections {
-        let Ok((stream, _)) = listener.accept() else {
-            continue;
-        };
-        serve_one(alloc, &stream, book)?;
-    }
-    Ok(())
-}
-
-/// Serves a connection over a book. Every fault but a failure of the store ends only the connection.
-fn serve_one<B: Book>(
-    alloc: Global,
-    stream: &TcpStream,
-    book: &mut Ready<B>,
-) -> Result<(), ProgramFault>
-    ensures fault { IfErr result (λ fault. fault ≡ ProgramFault.Store) }
-    ensures failed { OnErr result (IsTrue (B.has_failed book.new)) }
-    ensures stays_failed { IsTrue (B.has_failed book.old) → IsTrue (B.has_failed book.new) }
-    ensures stays_left { IsTrue (B.has_failed book.old) →
-        LeavesNoMore (B.leaves book.old) (B.leaves book.new) }
-
-    ensures sound { B.is_sound book.new → B.is_sound book.old }
-{
-    // A page is sent at once, and does not wait for the next one.
-    let _ = stream.set_nodelay(true);
-    let (mut reader, mut writer) = (stream, stream);
-    let served = serve(alloc, &mut reader, &mut writer, book);
-    linger(alloc, stream);
-    outlive(served)
-}
-
-/// The fault of a connection that ends the program: a failure of the store.
-fn outlive(served: Result<Served, ServeFault>) -> Result<(), ProgramFault>
-    ensures store { IsErr result ↔ IsErrOf served ServeFault.Store }
-    ensures fault { IfErr result (λ fault. fault ≡ ProgramFault.Store) }
-{
-    match served {
-        Err(ServeFault::Store) => Err(ProgramFault::Store),
-        Ok(_) | Err(ServeFault::Memory | ServeFault::Read | ServeFault::Write) => Ok(()),
+    let Ok(line) = format!(in alloc; "ready {port}\n") else {
+        return Err(ProgramFault::Memory);
+    };
+    match send(out, line.as_bytes()) {
+        Ok(()) => Ok(()),
+        Err(_) => Err(ProgramFault::Write),
     }
 }

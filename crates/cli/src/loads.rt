@@ -1,25 +1,18 @@
 //! Loads of allotment files.
-ghost use Rattle.std.specs.Prelude.{◌≡◌, OnOk};
-ghost use Rattle.std.specs.Io.KnownBytes.{Appends};
-ghost use Rattle.ledger.specs.Answer.{State};
-ghost use Rattle.commands.specs.Texts.{reply_line};
-ghost use Rattle.allotment_csv.specs.Files.{batch_of};
-ghost use Rattle.protocols.specs.Scenes.{ended};
+ghost use Rattle.std.specs.Prelude.{◌≡◌, false, None};
 ghost use Rattle.program_ends.specs.Ends.{EndsJob, IfDone};
-ghost use Rattle.cli.specs.Ends.{TellsAccepted};
-ghost use Rattle.cli.specs.Loading.{LoadsFile};
+ghost use Rattle.desk_jobs.specs.Ends.{TellsAccepted};
 
-use crate::desks::{close_desk, open_recovered};
-use allotment_csv::{CsvFault, read_batch};
-use commands::{Command, MOST_BYTES, Refusal, Reply};
+use crate::desks::{close, connect};
+use commands::MOST_BYTES;
+use desk_jobs::{load_over, ready_over};
 use program_ends::{End, ProgramFault};
-use protocols::ServeFault;
 use recovery::Ready;
-use saga_core::Book;
+use sqlite::{Alter, Connection};
 use std::alloc::Global;
 use std::fs;
 use std::io::{ErrorKind, Read, Write};
-use streams::send;
+use tables::TableBook;
 
 /// The most bytes that are read of an allotment file: one more than it may have.
 const MOST_READ: u64 = MOST_BYTES as u64 + 1;
@@ -36,58 +29,50 @@ pub(crate) fn load_file<O: Write>(
     ensures job { EndsJob result }
     ensures told { IfDone result (TellsAccepted (O.contents out.old) (O.contents out.new)) }
 {
-    let mut desk = match open_recovered(rt, alloc, file) {
-        Ok((desk, _)) => desk,
+    let conn = match connect(rt, file) {
+        Ok(conn) => conn,
         Err(end) => return end,
     };
-    let loaded = load_into(rt, alloc, csv, name, &mut desk, out);
-    let closed = close_desk(desk);
-    loaded.then(closed)
+    let (conn, end) = load_on(rt, alloc, csv, name, conn, out);
+    end.then(close(conn))
 }
 
-/// Does the same into a recovered book.
-fn load_into<B: Book, O: Write>(
+/// Does the same over a connection to a database of any store. Returns the connection, and the end.
+fn load_on<S: Alter + Drop, O: Write>(
     rt: &HostRuntime,
     alloc: Global,
     csv: &str,
     name: &str,
-    book: &mut Ready<B>,
+    conn: Connection<S>,
     out: &mut O,
-) -> End
-    ensures job { EndsJob result }
-    ensures told { IfDone result (TellsAccepted (O.contents out.old) (O.contents out.new)) }
+) -> (Connection<S>, End)
+    requires outside { conn.in_transaction ≡ false }
+    requires unlimited { conn.step_limit ≡ None }
+
+    ensures job { EndsJob result.1 }
+    ensures told { IfDone result.1 (TellsAccepted (O.contents out.old) (O.contents out.new)) }
 {
-    let bytes = match read_csv(rt, alloc, csv) {
-        Ok(bytes) => bytes,
-        Err(fault) => return End::Fault(fault),
-    };
-    match load(alloc, name, bytes.as_slice(), book) {
-        Ok(Reply::Refused(refusal)) => End::Refused(refusal),
-        Ok(reply) => match send_reply(alloc, &reply, out) {
-            Ok(()) => End::Done,
-            Err(fault) => End::Fault(fault.into()),
-        },
-        Err(fault) => End::Fault(fault.into()),
+    match ready_over(alloc, conn) {
+        Ok((desk, _)) => load_into(rt, alloc, csv, name, desk, out),
+        Err(failed) => failed,
     }
 }
 
-/// Loads the bytes of an allotment file under a name. Returns the reply of the book, or the refusal of the name or the
-/// bytes.
-fn load<B: Book>(alloc: Global, name: &str, bytes: &[u8], book: &mut B) -> Result<Reply, ServeFault>
-    ensures loads { B.is_sound book.new → (s : State) → B.stands book.old s →
-        LoadsFile (B.stands book.new) (B.leaves book.new) s (batch_of name.now bytes.now) result }
+/// Does the same into a recovered desk. Returns its connection, and the end.
+fn load_into<S: Alter + Drop, O: Write>(
+    rt: &HostRuntime,
+    alloc: Global,
+    csv: &str,
+    name: &str,
+    desk: Ready<TableBook<S>>,
+    out: &mut O,
+) -> (Connection<S>, End)
+    ensures job { EndsJob result.1 }
+    ensures told { IfDone result.1 (TellsAccepted (O.contents out.old) (O.contents out.new)) }
 {
-    let batch = match read_batch(alloc, name, bytes) {
-        Ok(batch) => batch,
-        Err(CsvFault::Memory) => return Err(ServeFault::Memory),
-        Err(CsvFault::BadBody) => return Ok(Reply::Refused(Refusal::BadBody)),
-        Err(CsvFault::BadCsv { row, cause }) => {
-            return Ok(Reply::Refused(Refusal::BadCsv { row, cause }));
-        }
-    };
-    match book.act(&Command::Load(batch), None) {
-        Ok(reply) => Ok(reply),
-        Err(fault) => Err(fault.into()),
+    match read_csv(rt, alloc, csv) {
+        Ok(bytes) => load_over(alloc, desk, name, bytes.as_slice(), out),
+        Err(fault) => (desk.into_inner().into_store(), End::Fault(fault)),
     }
 }
 
@@ -103,14 +88,4 @@ fn read_csv(rt: &HostRuntime, alloc: Global, csv: &str) -> Result<Vec<u8>, Progr
         Err(error) if error.kind() == ErrorKind::OutOfMemory => Err(ProgramFault::Memory),
         Err(_) => Err(ProgramFault::File),
     }
-}
-
-/// Writes the line of a reply, and flushes it.
-fn send_reply<O: Write>(alloc: Global, reply: &Reply, out: &mut O) -> Result<(), ServeFault>
-    ensures sent { OnOk result (Appends (O.contents out.old) (O.contents out.new)
-        (ended (reply_line reply.now))) }
-{
-    let mut line = reply.line(alloc)?;
-    line.push('\n')?;
-    Ok(send(out, line.as_bytes())?)
 }

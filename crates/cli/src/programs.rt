@@ -1,23 +1,22 @@
 //! The jobs of the program, each over its file, from the opening to an orderly end.
-ghost use Rattle.std.specs.Prelude.{◌≡◌, ◌≤◌, OnOk};
+ghost use Rattle.std.specs.Prelude.{◌≡◌, ◌≤◌};
 ghost use Rattle.std.specs.Io.KnownBytes.{Appends, IsAtEnd, Keeps};
 ghost use Rattle.commands.specs.Texts.{refusal_line};
 ghost use Rattle.streams.specs.Written.{WroteFront};
 ghost use Rattle.protocols.specs.Scenes.{ended};
 ghost use Rattle.program_ends.specs.Ends.{EndsJob, IfDone, TellsNoneOrFault};
 ghost use Rattle.command_line.specs.Version.{version_line as line_of_version};
-ghost use Rattle.cli.specs.Ends.{HasBadId, ReadsFor, TellsOf, TellsRecovered, recovered_line};
+ghost use Rattle.cli.specs.Ends.{HasBadId, ReadsFor, TellsOf, TellsRecovered};
 
-use crate::desks::{close_desk, open_recovered};
-use crate::listening::serve_file;
+use crate::desks::{close, connect};
+use crate::listening::{Served, serve_file};
 use crate::loads::load_file;
 use crate::migrations::migrate_file;
-use crate::telling::{history_file, stock_file, unfinished_file};
+use crate::telling::{Report, history_file, report_file};
 use command_line::{Job, version_line};
 use commands::Refusal;
-use desk_lines::run_lines;
+use desk_jobs::{recover_over, run_over};
 use program_ends::{End, ProgramFault};
-use protocols::ServeFault;
 use std::alloc::Global;
 use std::io::{Read, Write};
 use streams::send;
@@ -68,13 +67,23 @@ fn carry_out<R: Read, O: Write>(
             file,
             port,
             connections,
-        } => serve_file(rt, alloc, file.as_str(), port, connections, out),
+            house,
+        } => {
+            let served = Served {
+                port,
+                connections,
+                house: house.as_ref().map(|path| path.as_str()),
+            };
+            serve_file(rt, alloc, file.as_str(), served, out)
+        }
         Job::Recover { file } => recover_file(rt, alloc, file.as_str(), out),
         Job::Load { file, csv, batch } => {
             load_file(rt, alloc, file.as_str(), csv.as_str(), batch.as_str(), out)
         }
-        Job::Stock { file } => stock_file(rt, alloc, file.as_str(), out),
-        Job::Unfinished { file } => unfinished_file(rt, alloc, file.as_str(), out),
+        Job::Stock { file } => report_file(rt, alloc, file.as_str(), Report::Stock, out),
+        Job::Unfinished { file } => {
+            report_file(rt, alloc, file.as_str(), Report::Unfinished, out)
+        }
         Job::History { file, id } => history_file(rt, alloc, file.as_str(), id.as_str(), out),
         Job::Migrate { file } => migrate_file(rt, alloc, file.as_str(), out),
         Job::Version => tell_version(out),
@@ -92,43 +101,29 @@ fn run_file<R: Read, O: Write>(
     ensures job { EndsJob result }
     ensures read { IfDone result (IsAtEnd (R.remaining reader.new)) }
 {
-    let mut desk = match open_recovered(rt, alloc, file) {
-        Ok((desk, _)) => desk,
+    let conn = match connect(rt, file) {
+        Ok(conn) => conn,
         Err(end) => return end,
     };
-    let answered = run_lines(alloc, reader, out, &mut desk);
-    let closed = close_desk(desk);
-    match answered {
-        Err(fault) => End::Fault(fault.into()),
-        Ok(_) => closed,
-    }
+    let (conn, end) = run_over(alloc, conn, reader, out);
+    end.then(close(conn))
 }
 
-/// Recovers the desk over the database in a file, and prints how many commits recovery made.
+/// Recovers the desk over the database in a file, and, once it is closed, prints how many events recovery made.
 fn recover_file<O: Write>(rt: &HostRuntime, alloc: Global, file: &str, out: &mut O) -> End
     ensures job { EndsJob result }
     ensures told { IfDone result (TellsRecovered (O.contents out.old) (O.contents out.new)) }
 {
-    let made = match open_recovered(rt, alloc, file) {
-        Ok((desk, made)) => match close_desk(desk) {
-            End::Done => made,
-            end => return end,
-        },
+    let conn = match connect(rt, file) {
+        Ok(conn) => conn,
         Err(end) => return end,
     };
-    match send_recovered(alloc, made, out) {
-        Ok(()) => End::Done,
-        Err(fault) => End::Fault(fault.into()),
+    let (conn, recovered) = recover_over(alloc, conn);
+    match (recovered, close(conn)) {
+        (Ok(made), End::Done) => made.tell(alloc, out),
+        (Ok(_), end) => end,
+        (Err(end), _) => end,
     }
-}
-
-/// Writes the line with the number of recovery's commits, and flushes it.
-fn send_recovered<O: Write>(alloc: Global, made: u64, out: &mut O) -> Result<(), ServeFault>
-    ensures sent { OnOk result (Appends (O.contents out.old) (O.contents out.new)
-        (recovered_line made)) }
-{
-    let line = format!(in alloc; "recovered {made}\n")?;
-    Ok(send(out, line.as_bytes())?)
 }
 
 /// Prints the version of the program.

@@ -1,6 +1,6 @@
 -- A command to which the values of a subcommand were added reads them, and each parse has them all.
 use Rattle.std.proofs.Common.{◌≡◌, ◌∙◌, ◌<◌, ◌⊎◌, ℕ, Bor, Some, zero, suc, Bool, true, false, not, List, [], ◌∷◌, map, length, codes, sym, ap, refl, inl, inr, arith, subst, is_some}
-use Rattle.std.specs.Prelude.{◌||◌, ◌&&◌, bytes_eq}
+use Rattle.std.specs.Prelude.{◌||◌, ◌&&◌, bytes_eq, if◌then◌else◌}
 use Rattle.std.specs.List.{All, list_all, list_any, slice_index_or}
 use Rattle.clap.specs.Words.{App, Rule, Text, first_of, matches_of, rows_of, AddsArg, AddsInTurn, app_of, args_of, groups_of, first_value, found_of, rule_of}
 use Rattle.clap.specs.Built.{FitsChain, HasDistinctIds}
@@ -12,21 +12,21 @@ use Rattle.clap.specs.declared.builder.Command.{Command}
 use Rattle.clap.specs.declared.builder.command.Command.TheViews.{out-Command}
 use Rattle.clap.specs.declared.parser.ArgMatches.{ArgMatches}
 use Rattle.command_line.specs.Jobs.{value_in}
-use Rattle.command_line.specs.Subcommands.{bare_app, has_any, ids_in, ids_of, needed, rules_for, with_rules, IsNeeded, Requires}
+use Rattle.command_line.specs.Subcommands.{bare_app, has_any, ids_in, needed, needed_in, rules_for, with_rules, IsValue, Requires}
 use Rattle.command_line.specs.declared.subcommands.Subcommand.{Subcommand}
 use Rattle.command_line.specs.declared.subcommands.Subcommand.TheVariants.{Run, Serve, Recover, Load, Stock, Unfinished, History, Migrate}
 
--- the values after the first one are required too
-rest_needed : (x : Arg) (xs : List Arg) → All IsNeeded (x ∷ xs) → All IsNeeded xs
-rest_needed x xs all = λ k d lt. all (suc k) d (omega arith)
+-- the arguments after the first one are values too
+rest_values : (x : Arg) (xs : List Arg) → All IsValue (x ∷ xs) → All IsValue xs
+rest_values x xs all = λ k d lt. all (suc k) d (omega arith)
 
 -- how clap reads the words when each value was added
-app_of-chain : (start cmd : Command) (xs : List Arg) → AddsInTurn AddsArg start xs cmd → All IsNeeded xs
+app_of-chain : (start cmd : Command) (xs : List Arg) → AddsInTurn AddsArg start xs cmd → All IsValue xs
     → app_of cmd ≡ with_rules (app_of start) (map rule_of xs)
-app_of-chain start cmd [] chain needed = ap app_of (sym chain)
-app_of-chain start cmd (x ∷ xs) chain needed =
-    app_of-chain chain.0 cmd xs chain.2 (rest_needed x xs needed)
-    ∙ ap (λ app. with_rules app (map rule_of xs)) (chain.1.shape (needed 0 x (omega arith)).global)
+app_of-chain start cmd [] chain values = ap app_of (sym chain)
+app_of-chain start cmd (x ∷ xs) chain values =
+    app_of-chain chain.0 cmd xs chain.2 (rest_values x xs values)
+    ∙ ap (λ app. with_rules app (map rule_of xs)) (chain.1.shape (values 0 x (omega arith)).global)
 
 -- the two names are the same
 abbrev is_same : Text → Text → Bool
@@ -109,52 +109,56 @@ own_fits id own = (
 )
 
 -- such values can be added one after another
-fits_chain : (xs : List Arg) → All IsNeeded xs → list_all is_own (ids_in (map rule_of xs)) ≡ true → All FitsChain xs
-fits_chain xs needed own = λ k d lt.
-    let here = needed k d lt in
+fits_chain : (xs : List Arg) → All IsValue xs → list_all is_own (ids_in (map rule_of xs)) ≡ true → All FitsChain xs
+fits_chain xs values own = λ k d lt.
+    let here = values k d lt in
     let named = own_fits (slice_index_or xs k d).id.now (each_passes is_own xs k d own lt) in
     (here.plain, here.global, named.0, named.1)
 
--- the name at an index is that of the value there
-id_at : (xs : List Arg) (k : ℕ) (id : Text) (d : Arg) → k < length xs
-    → slice_index_or (ids_in (map rule_of xs)) k id ≡ (slice_index_or xs k d).id.now
-id_at [] k id d lt = absurd (omega arith)
-id_at (x ∷ xs) zero id d lt = refl
-id_at (x ∷ xs) (suc k) id d lt = id_at xs k id d (omega arith)
+-- what each required argument has, the names of the required ones have
+needed_have : (P : Text → Type 0) (xs : List Arg)
+    → ((k : ℕ) (d : Arg) → k < length xs → (slice_index_or xs k d).required ≡ true → P (slice_index_or xs k d).id.now)
+    → All P (needed_in (map rule_of xs))
+needed_have P [] each = λ k id lt. absurd (omega arith)
+needed_have P (x ∷ xs) each = from x.required refl (needed_have P xs (λ k d lt. each (suc k) d (omega arith)))
+  where
+    with_first : P x.id.now → All P (needed_in (map rule_of xs)) → (k : ℕ) (id : Text)
+        → k < length (x.id.now ∷ needed_in (map rule_of xs))
+        → P (slice_index_or (x.id.now ∷ needed_in (map rule_of xs)) k id)
+    with_first here later zero id lt = here
+    with_first here later (suc k) id lt = later k id (omega arith)
 
--- there are as many names as values
-length-ids : (xs : List Arg) → length (ids_in (map rule_of xs)) ≡ length xs
-length-ids [] = refl
-length-ids (x ∷ xs) = ap suc (length-ids xs)
+    from : (b : Bool) → x.required ≡ b → All P (needed_in (map rule_of xs))
+        → All P (if b then x.id.now ∷ needed_in (map rule_of xs) else needed_in (map rule_of xs))
+    from true is later = with_first (each 0 x (omega arith) is) later
+    from false is later = later
 
--- each parse by a command with such values has them all
+-- each parse by a command with such values has those that are required
 all_required : (start cmd : Command) (xs : List Arg) → AddsInTurn AddsArg start xs cmd
     → args_of start ≡ [] → groups_of start ≡ [] → (out-Command start).has_globals ≡ false → (out-Command start).subcommand_negates_reqs ≡ false
-    → All IsNeeded xs → fit_together (ids_in (map rule_of xs)) ≡ true → All (Requires cmd) (ids_in (map rule_of xs))
-all_required start cmd [] chain args groups globals negates needed good = λ k d lt. absurd (omega arith)
-all_required start cmd (x ∷ xs) chain args groups globals negates needed good = λ k id lt m parsed.
-    let all = x ∷ xs in
-    let ids = ids_in (map rule_of all) in
+    → All IsValue xs → fit_together (ids_in (map rule_of xs)) ≡ true → All (Requires cmd) (needed_in (map rule_of xs))
+all_required start cmd xs chain args groups globals negates values good =
+    let ids = ids_in (map rule_of xs) in
     let tests = both (list_all is_own ids) (differ ids) good in
-    let here : k < length all = subst (λ n. k < n) (length-ids all) lt in
-    subst (λ t. is_some (first_value (found_of m) t) ≡ true) (sym (id_at all k id x here))
-    (required_in_chain start cmd all k x m chain args groups globals negates
-    (fits_chain all needed tests.0) (differ_by_id all tests.1) here (needed k x here).value parsed)
+    needed_have (Requires cmd) xs (λ k d lt is m parsed.
+    let here = values k d lt in
+    required_in_chain start cmd xs k d m chain args groups globals negates
+    (fits_chain xs values tests.0) (differ_by_id xs tests.1) lt (is, here.action, here.whole, here.least) parsed)
 
--- a command to which these values were added is read by their rules, and each parse has them all
+-- a command to which these values were added is read by their rules, and each parse has those that are required
 pub with_values : (name : Text) (start cmd : Command) (xs : List Arg) (wanted : List Rule) → AddsInTurn AddsArg start xs cmd
     → app_of start ≡ bare_app name
     → args_of start ≡ [] → groups_of start ≡ [] → (out-Command start).has_globals ≡ false → (out-Command start).subcommand_negates_reqs ≡ false
-    → All IsNeeded xs → map rule_of xs ≡ wanted → fit_together (ids_in wanted) ≡ true
-    → (app_of cmd ≡ with_rules (bare_app name) wanted) × All (Requires cmd) (ids_in wanted)
-with_values name start cmd xs wanted chain app args groups globals negates needed rules good =
+    → All IsValue xs → map rule_of xs ≡ wanted → fit_together (ids_in wanted) ≡ true
+    → (app_of cmd ≡ with_rules (bare_app name) wanted) × All (Requires cmd) (needed_in wanted)
+with_values name start cmd xs wanted chain app args groups globals negates values rules good =
     let fit : fit_together (ids_in (map rule_of xs)) ≡ true = subst (λ rs. fit_together (ids_in rs) ≡ true) (sym rules) good in (
-      app_of-chain start cmd xs chain needed ∙ ap (λ a. with_rules a (map rule_of xs)) app ∙ ap (with_rules (bare_app name)) rules,
-      subst (λ rs. All (Requires cmd) (ids_in rs)) rules (all_required start cmd xs chain args groups globals negates needed fit),
+      app_of-chain start cmd xs chain values ∙ ap (λ a. with_rules a (map rule_of xs)) app ∙ ap (with_rules (bare_app name)) rules,
+      subst (λ rs. All (Requires cmd) (needed_in rs)) rules (all_required start cmd xs chain args groups globals negates values fit),
     )
 
 -- the names of the values of each subcommand fit together
-pub ids_fit : (s : Subcommand) → fit_together (ids_of s) ≡ true
+pub ids_fit : (s : Subcommand) → fit_together (ids_in (rules_for s)) ≡ true
 unfolding clap_on_literals
 ids_fit Run = refl
 ids_fit Serve = refl
@@ -177,26 +181,27 @@ rules_for-others Unfinished serve load history = refl
 rules_for-others History serve load history = absurd (history refl)
 rules_for-others Migrate serve load history = refl
 
--- one more required value, before the others
-pub and_needed : (x : Arg) (xs : List Arg) → IsNeeded x → All IsNeeded xs → All IsNeeded (x ∷ xs)
-and_needed x xs here rest = λ k d lt. at k d lt
+-- one more value, before the others
+pub and_value : (x : Arg) (xs : List Arg) → IsValue x → All IsValue xs → All IsValue (x ∷ xs)
+and_value x xs here rest = λ k d lt. at k d lt
   where
-    at : (k : ℕ) (d : Arg) → k < length (x ∷ xs) → IsNeeded (slice_index_or (x ∷ xs) k d)
+    at : (k : ℕ) (d : Arg) → k < length (x ∷ xs) → IsValue (slice_index_or (x ∷ xs) k d)
     at zero d lt = here
     at (suc k) d lt = rest k d (omega arith)
 
 -- no value
-pub none_needed : All IsNeeded []
-none_needed = λ k d lt. absurd (omega arith)
+pub no_value : All IsValue []
+no_value = λ k d lt. absurd (omega arith)
 
--- a value that follows an option is required as before
-pub long_needed : (a b : Arg) (name : Bor Text) → b ≡ record a { long = Some name } → IsNeeded a → IsNeeded b
-long_needed a b name e is = subst IsNeeded (sym e) (record { plain = is.plain; global = is.global; value = is.value })
+-- a value that follows an option is one as before
+pub long_value : (a b : Arg) (name : Bor Text) → b ≡ record a { long = Some name } → IsValue a → IsValue b
+long_value a b name e is =
+    subst IsValue (sym e) (record { plain = is.plain; global = is.global; action = is.action; whole = is.whole; least = is.least })
 
 -- the rule of such a value has the option
-pub long_rule : (a b : Arg) (name : Bor Text) (id : Text) → b ≡ record a { long = Some name } → rule_of a ≡ needed id
-    → rule_of b ≡ record (needed id) { long = Some name.now }
-long_rule a b name id e is = ap rule_of e ∙ ap (λ (r : Rule). record r { long = Some name.now }) is
+pub long_rule : (a b : Arg) (name : Bor Text) (rule : Rule) → b ≡ record a { long = Some name } → rule_of a ≡ rule
+    → rule_of b ≡ record rule { long = Some name.now }
+long_rule a b name rule e is = ap rule_of e ∙ ap (λ (r : Rule). record r { long = Some name.now }) is
 
 -- the value that clap reads under a name is the one of the matches
 pub value_in-matches : (app : App) (words : List Text) (m : ArgMatches) (id : Text) → rows_of (found_of m) ≡ matches_of app words

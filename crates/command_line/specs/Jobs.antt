@@ -1,6 +1,6 @@
 -- The jobs of the words of the command line. The first word names the subcommand, and the other words are read by
 -- clap's rules for that subcommand.
-use Rattle.std.specs.Prelude.{◌≡◌, ◌||◌, ◌⊎◌, ⊤, ℕ, Bool, true, false, is_none, bytes_eq, if◌then◌else◌, List, [], ◌∷◌, codes, Option, None, Some, Result, Ok, Err}
+use Rattle.std.specs.Prelude.{◌≡◌, ◌||◌, ◌⊎◌, ⊤, ℕ, Bool, true, false, is_none, bytes_eq, if◌then◌else◌, List, [], ◌∷◌, codes, Option, None, Some, option_map, Result, Ok, Err}
 use Rattle.std.specs.Option.{option_and_then, option_map_or}
 use Rattle.std.specs.String.{string_bytes}
 use Rattle.allotment.specs.Texts.{number_from}
@@ -16,7 +16,7 @@ use Rattle.command_line.specs.declared.subcommands.Subcommand.TheVariants as sub
 -- the subcommand of a job; the job that prints the version has none
 abbrev pub subcommand_of : Job → Option Subcommand
 subcommand_of (Run file) = Some sub.Run
-subcommand_of (Serve file port connections) = Some sub.Serve
+subcommand_of (Serve file port connections house) = Some sub.Serve
 subcommand_of (Recover file) = Some sub.Recover
 subcommand_of (Load file csv batch) = Some sub.Load
 subcommand_of (Stock file) = Some sub.Stock
@@ -40,6 +40,11 @@ most_connections = 1000
 abbrev pub number_named : ℕ → Option Text → Option ℕ
 number_named most value = option_and_then (number_from 1 most) value
 
+-- the value is there, and spells no such number
+abbrev pub is_malformed : ℕ → Option Text → Bool
+is_malformed most None = false
+is_malformed most (Some word) = is_none (number_from 1 most word)
+
 -- the port, and the number of connections, by their names
 abbrev pub port_in : (Text → Option Text) → Option ℕ
 port_in value = number_named most_port (value (codes "PORT"))
@@ -47,12 +52,17 @@ port_in value = number_named most_port (value (codes "PORT"))
 abbrev pub connections_in : (Text → Option Text) → Option ℕ
 connections_in value = number_named most_connections (value (codes "N"))
 
+-- the path of the house's door, by its name
+abbrev pub house_in : (Text → Option Text) → Option Text
+house_in value = value (codes "PATH")
+
 -- the values of a job are those under their names
 abbrev pub HasValues : (Text → Option Text) → Job → Type 0
 HasValues value (Run file) = NamesFile value (string_bytes file)
-HasValues value (Serve file port connections) = NamesFile value (string_bytes file)
+HasValues value (Serve file port connections house) = NamesFile value (string_bytes file)
     × (port_in value ≡ Some port)
-    × (connections_in value ≡ Some connections)
+    × (connections_in value ≡ connections)
+    × (house_in value ≡ option_map string_bytes house)
 HasValues value (Recover file) = NamesFile value (string_bytes file)
 HasValues value (Load file csv batch) = NamesFile value (string_bytes file)
     × (value (codes "CSV") ≡ Some (string_bytes csv))
@@ -93,9 +103,9 @@ abbrev pub IsJob : List Text → Job → Type 0
 IsJob [] job = ⊥
 IsJob (word ∷ others) job = IsVersionJob word job ⊎ IsSubcommandJob word others job
 
--- the subcommand reads numbers, and one of them is missing or malformed
+-- the subcommand reads numbers, and one of them is malformed, or missing where it is required
 abbrev pub lacks_number : Subcommand → (Text → Option Text) → Bool
-lacks_number sub.Serve value = is_none (port_in value) || is_none (connections_in value)
+lacks_number sub.Serve value = is_none (port_in value) || is_malformed most_connections (value (codes "N"))
 lacks_number _ value = false
 
 -- the words after a subcommand are refused: by clap, or for a value that is no number

@@ -1,11 +1,12 @@
 -- The subcommands: the word that names each, and how clap reads the words after it.
-use Rattle.std.specs.Prelude.{◌≡◌, Bool, true, false, List, [], ◌∷◌, map, codes, bytes_eq, if◌then◌else◌, Option, Some, None, is_some}
+use Rattle.std.specs.Prelude.{◌≡◌, ◌≤◌, Bool, true, false, List, [], ◌∷◌, map, codes, bytes_eq, if◌then◌else◌, Option, Some, None, is_some}
 use Rattle.clap.specs.Words.{App, Rule, Text, first_value, found_of, fault_of, new_app, new_rule, with_rule, IsParsedFrom, IsPlainArg}
-use Rattle.clap.specs.Built.{TakesValue}
+use Rattle.clap.specs.Facts.{least_values}
 use Rattle.clap.specs.Simple.{on_top}
 use Rattle.clap.specs.declared.builder.ArgAction.TheVariants.{Set}
 use Rattle.clap.specs.declared.builder.Arg.{Arg}
 use Rattle.clap.specs.declared.builder.Command.{Command}
+use Rattle.clap.specs.declared.builder.command.Command.TheViews.{out-Command}
 use Rattle.clap.specs.declared.parser.ArgMatches.{ArgMatches}
 use Rattle.command_line.specs.declared.subcommands.Subcommand.{Subcommand}
 use Rattle.command_line.specs.declared.subcommands.Subcommand.TheVariants.{Run, Serve, Recover, Load, Stock, Unfinished, History, Migrate}
@@ -42,17 +43,24 @@ needed id = record (new_rule id) { action = Some Set; required = true }
 abbrev pub batch_name : Rule
 batch_name = record (needed (codes "NAME")) { long = Some (codes "batch") }
 
--- the port follows `--port`, and the number of connections `--connections`
+-- a value that may be left out
+abbrev pub optional : Text → Rule
+optional id = record (new_rule id) { action = Some Set }
+
+-- the port follows `--port`, the number of connections `--connections`, and the path of the house's door `--house`
 abbrev pub port_number : Rule
 port_number = record (needed (codes "PORT")) { long = Some (codes "port") }
 
 abbrev pub connections_number : Rule
-connections_number = record (needed (codes "N")) { long = Some (codes "connections") }
+connections_number = record (optional (codes "N")) { long = Some (codes "connections") }
+
+abbrev pub house_path : Rule
+house_path = record (optional (codes "PATH")) { long = Some (codes "house") }
 
 -- the values that a subcommand reads, in their order
 abbrev pub rules_for : Subcommand → List Rule
 rules_for Run = needed (codes "FILE") ∷ []
-rules_for Serve = needed (codes "FILE") ∷ port_number ∷ connections_number ∷ []
+rules_for Serve = needed (codes "FILE") ∷ port_number ∷ connections_number ∷ house_path ∷ []
 rules_for Recover = needed (codes "FILE") ∷ []
 rules_for Load = needed (codes "FILE") ∷ needed (codes "CSV") ∷ batch_name ∷ []
 rules_for Stock = needed (codes "FILE") ∷ []
@@ -64,9 +72,14 @@ rules_for Migrate = needed (codes "FILE") ∷ []
 abbrev pub ids_in : List Rule → List Text
 ids_in = map (λ r. r.id)
 
--- the names of the values that a subcommand reads
-abbrev pub ids_of : Subcommand → List Text
-ids_of s = ids_in (rules_for s)
+-- the names of those that are required
+abbrev pub needed_in : List Rule → List Text
+needed_in [] = []
+needed_in (rule ∷ more) = if rule.required then rule.id ∷ needed_in more else needed_in more
+
+-- the names of the values that a subcommand requires
+abbrev pub needed_for : Subcommand → List Text
+needed_for s = needed_in (rules_for s)
 
 -- a subcommand without values, whose words start after its name
 abbrev pub bare_app : Text → App
@@ -90,11 +103,21 @@ has_any (x ∷ more) = true
 abbrev pub is_refused_by : App → List Text → Bool
 is_refused_by app words = has_any (fault_of app words)
 
--- an argument is a required value, whatever the other arguments are
-pub record IsNeeded (arg : Arg) : Type 0 where
+-- a command has an argument that its subcommands have too
+abbrev pub has_globals : Command → Bool
+has_globals command = (out-Command command).has_globals
+
+-- a subcommand of a command takes the place of its required arguments
+abbrev pub negates_needs : Command → Bool
+negates_needs command = (out-Command command).subcommand_negates_reqs
+
+-- an argument is one value, required or not, whatever the other arguments are
+pub record IsValue (arg : Arg) : Type 0 where
   pub plain : IsPlainArg arg
   pub global : arg.global ≡ false
-  pub value : TakesValue arg
+  pub action : arg.action ≡ Some Set
+  pub whole : arg.val_delim ≡ None
+  pub least : 1 ≤ least_values arg
 
 -- each parse by the command has a value of this name
 abbrev pub Requires : Command → Text → Type 0

@@ -21,7 +21,7 @@ Faults:
   24 Read        The input could not be read
   25 Write       The output could not be written
   26 File        A file is absent or cannot be read
-  27 Net         The port could not be listened on
+  27 Net         The port or the path could not be listened on
 
 Exit status:
   0  Done
@@ -84,12 +84,12 @@ Example:
   journey 1 T1.1 ended 1";
 
 const SERVE: &str = "\
-Answer requests over HTTP, one connection after another
+Answer requests over HTTP, of many clients at once
 
 Opens the database FILE, or makes it. Every journey under way is finished or
 undone first, as after a crash. Then it listens on 127.0.0.1, prints
-'ready PORT', serves so many connections, and ends. Standard input is not
-read.";
+'ready PORT', and serves up to 256 connections at once: N in all, or, without
+--connections, until it is stopped. Standard input is not read.";
 
 const SERVE_NOTES: &str = "\
 Requests:
@@ -108,7 +108,7 @@ Fields:
               once under it
 
 Exit status:
-  0  All connections were served
+  0  All N connections were served
   1  A refusal that ends the program, on standard output, or a fault, on
      standard error
   2  Wrong usage, or help, on standard error

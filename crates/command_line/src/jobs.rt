@@ -11,13 +11,15 @@ pub enum Job {
     Run {
         file: String,
     },
-    /// Recover the desk over this file, and serve so many connections on a port of this host, one after another.
+    /// Recover the desk over this file, and serve connections to a port of this host.
     Serve {
         file: String,
         /// 1 to 65,535.
         port: u16,
-        /// 1 to 1,000.
-        connections: u16,
+        /// How many it takes in all, 1 to 1,000. Without it, it serves until it is stopped.
+        connections: Option<u16>,
+        /// The path of a Unix socket that it serves too.
+        house: Option<String>,
     },
     /// Recover the desk over this file.
     Recover {

@@ -1,7 +1,7 @@
 //! The subcommands of the program: their words, and the values that each of them reads.
-ghost use Rattle.std.specs.Prelude.{◌≡◌, All, IfOk, IfSome};
-ghost use Rattle.clap.specs.Words.{app_of, rule_of};
-ghost use Rattle.command_line.specs.Subcommands.{app_for, ids_of, name_of, needed, subcommand_in, IsNeeded, Requires};
+ghost use Rattle.std.specs.Prelude.{◌≡◌, [], false, All, IfOk, IfSome};
+ghost use Rattle.clap.specs.Words.{app_of, args_of, groups_of, rule_of};
+ghost use Rattle.command_line.specs.Subcommands.{app_for, bare_app, has_globals, name_of, needed, needed_for, negates_needs, optional, subcommand_in, IsValue, Requires};
 
 use clap::{Arg, ArgAction, Command};
 use std::alloc::{AllocError, Global};
@@ -84,7 +84,7 @@ impl Subcommand {
     fn about<'a>(self) -> &'a str {
         match self {
             Subcommand::Run => "Answer the lines of standard input, one by one",
-            Subcommand::Serve => "Answer requests over HTTP, one connection after another",
+            Subcommand::Serve => "Answer requests over HTTP, of many clients at once",
             Subcommand::Recover => "Finish or undo every journey under way, as after a crash",
             Subcommand::Load => "Load the allotments of a file, as one batch",
             Subcommand::Stock => "Print the allotted, held and free places of each cell",
@@ -107,23 +107,35 @@ impl Subcommand {
         }
     }
 
-    /// The `clap` command that reads the words after the subcommand.
-    pub(crate) fn command<'a>(self, alloc: Global) -> Result<Command<'a>, AllocError>
-        ensures app { IfOk result (λ command. app_of command ≡ app_for self) }
-        ensures each { IfOk result (λ command. All (Requires command) (ids_of self)) }
+    /// The `clap` command of the subcommand, without its values.
+    fn bare<'a>(self, alloc: Global) -> Result<Command<'a>, AllocError>
+        ensures app { IfOk result (λ command. app_of command ≡ bare_app (name_of self)) }
+        ensures args { IfOk result (λ command. args_of command ≡ []) }
+        ensures groups { IfOk result (λ command. groups_of command ≡ []) }
+        ensures globals { IfOk result (λ command. has_globals command ≡ false) }
+        ensures negates { IfOk result (λ command. negates_needs command ≡ false) }
     {
-        let bare = Command::new(alloc, self.name())
+        Command::new(alloc, self.name())
             .about(self.about())
             .long_about(self.long_about())
             .after_long_help(self.notes())
             .no_binary_name(true)
-            .bin_name(self.called())?;
+            .bin_name(self.called())
+    }
+
+    /// The `clap` command that reads the words after the subcommand.
+    pub(crate) fn command<'a>(self, alloc: Global) -> Result<Command<'a>, AllocError>
+        ensures app { IfOk result (λ command. app_of command ≡ app_for self) }
+        ensures each { IfOk result (λ command. All (Requires command) (needed_for self)) }
+    {
+        let bare = self.bare(alloc)?;
         let over_file = bare.arg(value(alloc, "FILE", self.file()))?;
         match self {
             Subcommand::Serve => {
                 let port = value(alloc, "PORT", "The port to listen on, 1 to 65535").long("port");
-                let number = value(alloc, "N", "How many to serve, 1 to 1000").long("connections");
-                over_file.arg(port)?.arg(number)
+                let number = extra(alloc, "N", "Serve N in all, 1 to 1000").long("connections");
+                let house = extra(alloc, "PATH", "A Unix socket to serve too").long("house");
+                over_file.arg(port)?.arg(number)?.arg(house)
             }
             Subcommand::Load => {
                 let csv = value(alloc, "CSV", "The allotment file");
@@ -139,10 +151,18 @@ impl Subcommand {
 /// A required value.
 fn value<'a>(alloc: Global, id: &'a str, help: &'a str) -> Arg<'a>
     ensures rule { rule_of result ≡ needed id.entry.now }
-    ensures needed { IsNeeded result }
+    ensures value { IsValue result }
 {
     Arg::new(alloc, id)
         .help(help)
         .required(true)
         .action(ArgAction::Set)
+}
+
+/// A value that may be left out.
+fn extra<'a>(alloc: Global, id: &'a str, help: &'a str) -> Arg<'a>
+    ensures rule { rule_of result ≡ optional id.entry.now }
+    ensures value { IsValue result }
+{
+    Arg::new(alloc, id).help(help).action(ArgAction::Set)
 }

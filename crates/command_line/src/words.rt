@@ -2,11 +2,12 @@
 //!
 //! The first word names the subcommand, or asks for the version. `clap` reads the others, by its rules for that
 //! subcommand alone. If the first word does neither, the usage of all subcommands is returned.
-ghost use Rattle.std.specs.Prelude.{◌≡◌, ◌≢◌, None, false, true, map, All, IfErr, IfOk, IsOk, Some, is_some};
+ghost use Rattle.std.specs.Prelude.{◌≡◌, ◌≢◌, None, false, true, map, option_map, All, IfErr, IfOk, IsOk, Some, is_some};
 ghost use Rattle.std.specs.String.{string_bytes};
+ghost use Rattle.allotment.specs.Texts.{number_from};
 ghost use Rattle.clap.specs.Words.{first_value, found_of, kind_of, matches_of, rows_of};
-ghost use Rattle.command_line.specs.Jobs.{are_refused, names_version, number_named, refuses, IsJob, IsJobOf, IsText, IsUsage};
-ghost use Rattle.command_line.specs.Subcommands.{app_for, ids_of, is_refused_by};
+ghost use Rattle.command_line.specs.Jobs.{are_refused, is_malformed, names_version, number_named, refuses, IsJob, IsJobOf, IsText, IsUsage};
+ghost use Rattle.command_line.specs.Subcommands.{app_for, is_refused_by, needed_for};
 
 use crate::help::PROGRAM;
 use crate::jobs::{Job, JobFault};
@@ -20,7 +21,7 @@ use std::alloc::{AllocError, Global};
 /// The highest port.
 const MOST_PORT: u16 = 65_535;
 
-/// The most connections that are served.
+/// The most connections that are served in all, where a number is given.
 const MOST_CONNECTIONS: u16 = 1000;
 
 /// The job of these words, which follow the program's name. Errors are the text of a usage, and out of memory.
@@ -61,11 +62,19 @@ fn job_of(alloc: Global, subcommand: Subcommand, words: &[String]) -> Result<Job
         Subcommand::Run => Ok(Job::Run { file }),
         Subcommand::Serve => {
             let port = number_of(alloc, &matches, "PORT", "--port", MOST_PORT)?;
-            let connections = number_of(alloc, &matches, "N", "--connections", MOST_CONNECTIONS)?;
+            let connections = number_if_given(
+                alloc,
+                &matches,
+                "N",
+                "--connections",
+                MOST_CONNECTIONS,
+            )?;
+            let house = value_if_given(alloc, &matches, "PATH")?;
             Ok(Job::Serve {
                 file,
                 port,
                 connections,
+                house,
             })
         }
         Subcommand::Recover => Ok(Job::Recover { file }),
@@ -93,7 +102,7 @@ fn matches_in<'a>(
     ensures rows { IfOk result (λ matches. rows_of (found_of matches)
         ≡ matches_of (app_for subcommand) (map string_bytes words.entry.now)) }
     ensures each { IfOk result (λ matches.
-        All (λ id. is_some (first_value (found_of matches) id) ≡ true) (ids_of subcommand)) }
+        All (λ id. is_some (first_value (found_of matches) id) ≡ true) (needed_for subcommand)) }
     ensures taken { IsOk result →
         is_refused_by (app_for subcommand) (map string_bytes words.entry.now) ≡ false }
     ensures usage { IsUsage result →
@@ -115,6 +124,21 @@ fn value_of(alloc: Global, matches: &ArgMatches, id: &str) -> Result<String, All
     String::from_str(alloc, matches.get_str(id).unwrap())
 }
 
+/// The value of this name, if there is one.
+fn value_if_given(
+    alloc: Global,
+    matches: &ArgMatches,
+    id: &str,
+) -> Result<Option<String>, AllocError>
+    ensures value { IfOk result (λ value.
+        first_value (found_of matches.now) id.now ≡ option_map string_bytes value) }
+{
+    match matches.get_str(id) {
+        Some(word) => Ok(Some(String::from_str(alloc, word)?)),
+        None => Ok(None),
+    }
+}
+
 /// The number under this name, from 1 to `most`. An error names its option.
 fn number_of(
     alloc: Global,
@@ -130,6 +154,38 @@ fn number_of(
         number_named most (first_value (found_of matches.now) id.now) ≡ None }
 {
     let word = matches.get_str(id).unwrap();
+    number_in(alloc, word, id, option, most)
+}
+
+/// The same, if there is a value of this name.
+fn number_if_given(
+    alloc: Global,
+    matches: &ArgMatches,
+    id: &str,
+    option: &str,
+    most: u16,
+) -> Result<Option<u16>, JobFault>
+    ensures number { IfOk result (λ number.
+        number_named most (first_value (found_of matches.now) id.now) ≡ number) }
+    ensures taken { IsOk result →
+        is_malformed most (first_value (found_of matches.now) id.now) ≡ false }
+    ensures usage { IsUsage result →
+        is_malformed most (first_value (found_of matches.now) id.now) ≡ true }
+{
+    let Some(word) = matches.get_str(id) else {
+        return Ok(None);
+    };
+    match number_in(alloc, word, id, option, most) {
+        Ok(number) => Ok(Some(number)),
+        Err(fault) => Err(fault),
+    }
+}
+
+/// The number that a word spells, from 1 to `most`. An error names its option.
+fn number_in(alloc: Global, word: &str, id: &str, option: &str, most: u16) -> Result<u16, JobFault>
+    ensures number { IfOk result (λ number. number_from 1 most word.now ≡ Some number) }
+    ensures usage { IsUsage result → number_from 1 most word.now ≡ None }
+{
     match number_between(word, 1, usize::from(most)) {
         Some(number) => Ok(number as u16),
         None => Err(no_number(alloc, word, id, option, most)),

@@ -1,5 +1,5 @@
 -- What was written of a report, and how its job ends. For the reports.
-use Rattle.std.proofs.Common.{◌≡◌, sym, subst, refl, ℕ, List, Option, Result}
+use Rattle.std.proofs.Common.{◌≡◌, sym, subst, ℕ, List, Option, Result}
 use Rattle.std.specs.Prelude.{None, Some, Ok, Err, OnOk}
 use Rattle.std.specs.Io.KnownBytes.{Appends, Keeps}
 use Rattle.sqlite.specs.Store.{Ghosts}
@@ -15,7 +15,6 @@ use Rattle.streams.specs.Written.{WroteFront}
 use Rattle.streams.proofs.ByteLemmas.{appends_before, keeps_same}
 use Rattle.reports.proofs.FrontLemmas.{front_none, front_whole}
 use Rattle.reports.specs.Layouts.{history_report}
-use Rattle.sql_reads.specs.Reading.{WasClean}
 use Rattle.tables.specs.Keeping.{StoodFor}
 use Rattle.tables.specs.Opening.{Tells}
 use Rattle.tables.specs.declared.faults.OpenFault.{OpenFault}
@@ -25,7 +24,7 @@ use Rattle.program_ends.specs.declared.ends.End.{End}
 use Rattle.program_ends.specs.declared.ends.End.TheVariants as finish
 use Rattle.program_ends.specs.declared.faults.ProgramFault.{ProgramFault}
 use Rattle.desk_jobs.specs.Ends.{end_of_open}
-use Rattle.desk_jobs.specs.Reporting.{IsNotRefused, ReadsOf, ReportsHistory, ReportsJourney, ReportsText, WritesText}
+use Rattle.desk_jobs.specs.Reporting.{IsNotRefused, ReportsHistory, ReportsJourney, ReportsText, WritesText}
 
 -- what holds, holds where there was no fault
 on_ok : {T E P : Type 0} (r : Result T E) → P → OnOk r P
@@ -72,18 +71,6 @@ pub reported : {T : Type 0} (held holds : Option (List ℕ)) (text : List ℕ) (
 reported held holds text r e is wrote =
     subst (ReportsText held holds text) (sym is)
     (record { whole = done_if_ok _ r wrote.whole; front = wrote.front })
-
-module _ {S : Type 0} (g : Ghosts S) where
-  -- of more states, with a connection before
-  pub reads_before : (old new : Held S) {Was Is So Then : State → Type 0} → WasClean g old new
-      → (HasCleanDisk (state g new) → (s : State) → Was s → Is s)
-      → ((s : State) → So s → Then s)
-      → ReadsOf g new Is So → ReadsOf g old Was Then
-  reads_before old new less is follows reads = record {
-    last = reads.last;
-    less = λ clean. less (reads.less clean);
-    holds = λ clean s was. follows s (reads.holds clean s (is (reads.less clean) s was));
-  }
 
 -- The history of a journey.
 

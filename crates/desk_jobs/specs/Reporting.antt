@@ -2,8 +2,6 @@
 use Rattle.std.specs.Prelude.{◌≡◌, ⊤, ℕ, List, Option, None, Some, Result, OnOk}
 use Rattle.std.specs.Io.KnownBytes.{Appends, Keeps}
 use Rattle.sqlite.specs.Store.{Ghosts}
-use Rattle.sqlite.specs.Held.{Held, state}
-use Rattle.sqlite.specs.State.{HasCleanDisk}
 use Rattle.allotment.specs.declared.cells.Cell.{Cell}
 use Rattle.allotment.specs.declared.places.Held.{Held as Places}
 use Rattle.commands.specs.declared.items.Item.{Item}
@@ -15,7 +13,6 @@ use Rattle.saga_core.specs.declared.records.Record.{Record}
 use Rattle.reports.specs.Layouts.{history_report, stock_report, unfinished_report}
 use Rattle.streams.specs.Written.{WroteFront}
 use Rattle.sql_model.specs.Standing.{IsDesk}
-use Rattle.sql_reads.specs.Reading.{WasClean}
 use Rattle.tables.specs.Lending.{OpenedKeeps}
 use Rattle.tables.specs.declared.opening.Opened.{Opened}
 use Rattle.program_ends.specs.declared.ends.End.{End}
@@ -28,13 +25,6 @@ module _ {S : Type 0} (g : Ghosts S) where
   pub record IsDeskIn (o : Opened S) (s : State) : Type 0 where
     pub desk : IsDesk s
     pub keeps : OpenedKeeps g o s
-
-  -- of each of these states this holds, if the store still returned what was written when the last row was read
-  pub record ReadsOf (old : Held S) (IsFound Holds : State → Type 0) : Type 0 where
-    -- the connection as it was then
-    pub last : Held S
-    pub less : WasClean g old last
-    pub holds : HasCleanDisk (state g last) → (s : State) → IsFound s → Holds s
 
 -- a journey that is there is not refused
 abbrev pub IsNotRefused : End → Type 0

@@ -1,30 +1,34 @@
 //! Reports of a desk that is not recovered.
-ghost use Rattle.std.specs.Prelude.{◌≡◌, false, None};
+ghost use Rattle.std.specs.Prelude.{◌≡◌, false, None, List};
 ghost use Rattle.std.specs.Io.KnownBytes.{Keeps};
 ghost use Rattle.sqlite.specs.Held.{state};
 ghost use Rattle.sqlite.specs.State.{HasCleanDisk};
 ghost use Rattle.desk_sql.specs.declared.versions.Version.{Version};
 ghost use Rattle.ledger.specs.Answer.{State};
 ghost use Rattle.ledger.specs.Ledger.{history};
-ghost use Rattle.reports.specs.Layouts.{history_report};
+ghost use Rattle.reports.specs.Layouts.{history_report, stock_report, unfinished_report};
+ghost use Rattle.sql_model.specs.Standing.{IsDesk};
 ghost use Rattle.sql_reads.specs.Reading.{WasClean};
+ghost use Rattle.sql_reads.specs.RemainingRows.{BriefsRest, IsLeftAsItWas, StaysUnder, StockRests};
+ghost use Rattle.tables.specs.Keeping.{KeepsIn};
 ghost use Rattle.tables.specs.Lending.{IsOnlyRead};
 ghost use Rattle.program_ends.specs.Ends.{EndsJob};
 ghost use Rattle.desk_jobs.specs.Connections.{RepresentsIn, StillRepresents};
-ghost use Rattle.desk_jobs.specs.Reporting.{IsDeskIn, ReadsOf, ReportsHistory, ReportsStock, ReportsUnfinished, WritesStock, WritesText, WritesUnfinished};
+ghost use Rattle.desk_jobs.specs.Reporting.{IsDeskIn, ReportsHistory, ReportsStock, ReportsUnfinished, WritesStock, WritesText, WritesUnfinished};
 
 use crate::opening::end_of_opening;
+use allotment::{Cell, Held};
 use commands::Refusal;
 use program_ends::{End, ProgramFault};
 use reports::{history_text, stock_text, unfinished_text};
-use saga_core::Record;
-use sqlite::{Alter, Connection};
+use saga_core::{Brief, Record};
+use sql_reads::{Progress, StockRows, UnfinishedRows, fault_of, start_stock, start_unfinished};
+use sqlite::{Alter, Connection, Rows};
 use std::alloc::Global;
 use std::io::Write;
 use tables::{Opened, open_from};
 
-/// Writes the stock report of the desk of a connection, and flushes it. Returns the connection, of which nothing is
-/// promised but that it can be closed, and the end.
+/// Writes the stock report of the desk of a connection, and flushes it. Returns the connection, and the end.
 pub fn stock_over<S: Alter + Drop, O: Write>(
     alloc: Global,
     conn: Connection<S>,
@@ -33,18 +37,27 @@ pub fn stock_over<S: Alter + Drop, O: Write>(
     requires outside { conn.in_transaction ≡ false }
     requires unlimited { conn.step_limit ≡ None }
 
-    ensures told { ReadsOf S.Store conn (StillRepresents S.Store conn)
-        (ReportsStock (O.contents out.old) (O.contents out.new) result.1) }
+    ensures told { HasCleanDisk (state S.Store result.0) → (v : Version) (s : State) →
+        RepresentsIn S.Store conn v s →
+        ReportsStock (O.contents out.old) (O.contents out.new) result.1 s }
     ensures end { EndsJob result.1 }
+
+    ensures same { HasCleanDisk (state S.Store result.0) → (v : Version) (s : State) →
+        RepresentsIn S.Store conn v s → StillRepresents S.Store result.0 s }
+    ensures outside { result.0.in_transaction ≡ false }
+    ensures unlimited { result.0.step_limit ≡ None }
+    ensures sound { WasClean S.Store conn result.0 }
 {
-    match open_from(conn) {
-        Ok(opened) => tell_stock(alloc, opened, out),
-        Err((conn, fault)) => (conn, end_of_opening(fault)),
-    }
+    let mut opened = match open_from(conn) {
+        Ok(opened) => opened,
+        Err((conn, fault)) => return (conn, end_of_opening(fault)),
+    };
+    let end = tell_stock(alloc, &mut opened, out);
+    (opened.into_store(), end)
 }
 
-/// Writes the report of the unfinished journeys of the desk of a connection, and flushes it. Returns the connection, of
-/// which nothing is promised but that it can be closed, and the end.
+/// Writes the report of the unfinished journeys of the desk of a connection, and flushes it. Returns the connection, and
+/// the end.
 pub fn unfinished_over<S: Alter + Drop, O: Write>(
     alloc: Global,
     conn: Connection<S>,
@@ -53,14 +66,23 @@ pub fn unfinished_over<S: Alter + Drop, O: Write>(
     requires outside { conn.in_transaction ≡ false }
     requires unlimited { conn.step_limit ≡ None }
 
-    ensures told { ReadsOf S.Store conn (StillRepresents S.Store conn)
-        (ReportsUnfinished (O.contents out.old) (O.contents out.new) result.1) }
+    ensures told { HasCleanDisk (state S.Store result.0) → (v : Version) (s : State) →
+        RepresentsIn S.Store conn v s →
+        ReportsUnfinished (O.contents out.old) (O.contents out.new) result.1 s }
     ensures end { EndsJob result.1 }
+
+    ensures same { HasCleanDisk (state S.Store result.0) → (v : Version) (s : State) →
+        RepresentsIn S.Store conn v s → StillRepresents S.Store result.0 s }
+    ensures outside { result.0.in_transaction ≡ false }
+    ensures unlimited { result.0.step_limit ≡ None }
+    ensures sound { WasClean S.Store conn result.0 }
 {
-    match open_from(conn) {
-        Ok(opened) => tell_unfinished(alloc, opened, out),
-        Err((conn, fault)) => (conn, end_of_opening(fault)),
-    }
+    let mut opened = match open_from(conn) {
+        Ok(opened) => opened,
+        Err((conn, fault)) => return (conn, end_of_opening(fault)),
+    };
+    let end = tell_unfinished(alloc, &mut opened, out);
+    (opened.into_store(), end)
 }
 
 /// Writes the history of the journey of this number in the desk of a connection, and flushes it. A journey that is absent
@@ -93,69 +115,99 @@ pub fn history_over<S: Alter + Drop, O: Write>(
     (opened.into_store(), end)
 }
 
-/// Writes the stock report of what was opened. Returns its connection, and the end.
-fn tell_stock<S: Alter + Drop, O: Write>(
-    alloc: Global,
-    opened: Opened<S>,
-    out: &mut O,
-) -> (Connection<S>, End)
-    ensures told { ReadsOf S.Store opened.conn (IsDeskIn S.Store opened)
-        (ReportsStock (O.contents out.old) (O.contents out.new) result.1) }
-    ensures end { EndsJob result.1 }
-{
-    let mut opened = opened;
-    let told = write_stock(alloc, &mut opened, out);
-    (opened.into_store(), End::from(told))
-}
-
-/// Writes the report of the unfinished journeys of what was opened. Returns its connection, and the end.
-fn tell_unfinished<S: Alter + Drop, O: Write>(
-    alloc: Global,
-    opened: Opened<S>,
-    out: &mut O,
-) -> (Connection<S>, End)
-    ensures told { ReadsOf S.Store opened.conn (IsDeskIn S.Store opened)
-        (ReportsUnfinished (O.contents out.old) (O.contents out.new) result.1) }
-    ensures end { EndsJob result.1 }
-{
-    let mut opened = opened;
-    let told = write_unfinished(alloc, &mut opened, out);
-    (opened.into_store(), End::from(told))
-}
-
 /// Writes the stock report of what was opened, and flushes it.
+fn tell_stock<S: Alter, O: Write>(alloc: Global, opened: &mut Opened<S>, out: &mut O) -> End
+    ensures told { HasCleanDisk (state S.Store opened.new.conn) → (s : State) →
+        IsDeskIn S.Store opened.old s →
+        ReportsStock (O.contents out.old) (O.contents out.new) result s }
+    ensures end { EndsJob result }
+
+    ensures kept { IsOnlyRead S.Store opened.old opened.new }
+{
+    End::from(write_stock(alloc, opened.connection(), out))
+}
+
+/// Writes the report of the unfinished journeys of what was opened, and flushes it.
+fn tell_unfinished<S: Alter, O: Write>(alloc: Global, opened: &mut Opened<S>, out: &mut O) -> End
+    ensures told { HasCleanDisk (state S.Store opened.new.conn) → (s : State) →
+        IsDeskIn S.Store opened.old s →
+        ReportsUnfinished (O.contents out.old) (O.contents out.new) result s }
+    ensures end { EndsJob result }
+
+    ensures kept { IsOnlyRead S.Store opened.old opened.new }
+{
+    End::from(write_unfinished(alloc, opened.connection(), out))
+}
+
+/// Writes the stock report of the desk of a connection, and flushes it.
 fn write_stock<S: Alter, O: Write>(
     alloc: Global,
-    opened: &mut Opened<S>,
+    conn: &mut Connection<S>,
     out: &mut O,
 ) -> Result<(), ProgramFault>
-    ensures told { ReadsOf S.Store opened.old.conn (IsDeskIn S.Store opened.old)
-        (WritesStock (O.contents out.old) (O.contents out.new) result) }
+    ensures told { HasCleanDisk (state S.Store conn.new) → (v : Version) (s : State) → IsDesk s →
+        KeepsIn v (state S.Store conn.old) s →
+        WritesStock (O.contents out.old) (O.contents out.new) result s }
+    ensures kept { IsLeftAsItWas S.Store conn.old conn.new }
 {
-    let mut rows = match opened.stock_rows() {
+    let mut rows = match start_stock(conn) {
         Ok(rows) => rows,
-        Err(fault) => return Err(fault.into()),
+        Err(error) => return Err(fault_of(&error).into()),
     };
-    match stock_text(alloc, &mut rows, out) {
+    write_cells(alloc, &mut rows, out)
+}
+
+/// Writes the report of the cells that remain, and flushes it.
+fn write_cells<S: Alter, O: Write>(
+    alloc: Global,
+    rows: &mut Rows<'_, S>,
+    out: &mut O,
+) -> Result<(), ProgramFault>
+    ensures told { HasCleanDisk (state S.Store rows.new.conn.now) → (all : List (Cell × Held)) →
+        StockRests S.Store rows.old.conn.now all →
+        WritesText (O.contents out.old) (O.contents out.new) (stock_report all) result }
+    ensures kept { StaysUnder S.Store rows.old.conn rows.new.conn }
+{
+    let progress = Progress::new();
+    let mut cells = StockRows { rows, progress };
+    match stock_text(alloc, &mut cells, out) {
         Ok(_) => flush(out),
         Err(fault) => Err(fault.into()),
     }
 }
 
-/// Writes the report of the unfinished journeys of what was opened, and flushes it.
+/// Writes the report of the unfinished journeys of the desk of a connection, and flushes it.
 fn write_unfinished<S: Alter, O: Write>(
     alloc: Global,
-    opened: &mut Opened<S>,
+    conn: &mut Connection<S>,
     out: &mut O,
 ) -> Result<(), ProgramFault>
-    ensures told { ReadsOf S.Store opened.old.conn (IsDeskIn S.Store opened.old)
-        (WritesUnfinished (O.contents out.old) (O.contents out.new) result) }
+    ensures told { HasCleanDisk (state S.Store conn.new) → (v : Version) (s : State) → IsDesk s →
+        KeepsIn v (state S.Store conn.old) s →
+        WritesUnfinished (O.contents out.old) (O.contents out.new) result s }
+    ensures kept { IsLeftAsItWas S.Store conn.old conn.new }
 {
-    let mut rows = match opened.unfinished_rows() {
+    let mut rows = match start_unfinished(conn) {
         Ok(rows) => rows,
-        Err(fault) => return Err(fault.into()),
+        Err(error) => return Err(fault_of(&error).into()),
     };
-    match unfinished_text(alloc, &mut rows, out) {
+    write_briefs(alloc, &mut rows, out)
+}
+
+/// Writes the report of the unfinished journeys that remain, and flushes it.
+fn write_briefs<S: Alter, O: Write>(
+    alloc: Global,
+    rows: &mut Rows<'_, S>,
+    out: &mut O,
+) -> Result<(), ProgramFault>
+    ensures told { HasCleanDisk (state S.Store rows.new.conn.now) → (all : List Brief) →
+        BriefsRest S.Store rows.old.conn.now all →
+        WritesText (O.contents out.old) (O.contents out.new) (unfinished_report all) result }
+    ensures kept { StaysUnder S.Store rows.old.conn rows.new.conn }
+{
+    let progress = Progress::new();
+    let mut briefs = UnfinishedRows { rows, progress };
+    match unfinished_text(alloc, &mut briefs, out) {
         Ok(_) => flush(out),
         Err(fault) => Err(fault.into()),
     }

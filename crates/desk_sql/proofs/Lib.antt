@@ -1,5 +1,6 @@
 pub mod Answering
 pub mod Ascending
+pub mod Beginning
 pub mod Changing
 pub mod Causing
 pub mod Creating

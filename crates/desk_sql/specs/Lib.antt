@@ -3,6 +3,7 @@ pub mod Causes
 pub mod Changes
 pub mod FoundRows
 pub mod RemainingRows
+pub mod Lending
 pub mod Lists
 pub mod Meanings
 pub mod Queries

@@ -9,5 +9,5 @@
 mod cells;
 mod journeys;
 
-pub use cells::{StockHanded, hand_stock};
-pub use journeys::{UnfinishedHanded, hand_unfinished};
+pub use cells::{hand_stock, next_cell};
+pub use journeys::{hand_unfinished, next_unfinished};

@@ -24,7 +24,7 @@ mod versions;
 pub use answers::{KeptAnswer, find_answer, insert_answer};
 pub use batches::{BatchFound, find_batch, insert_batch};
 pub use founding::{has_no_tables, make_tables};
-pub use handing::{StockHanded, UnfinishedHanded, hand_stock, hand_unfinished};
+pub use handing::{hand_stock, hand_unfinished, next_cell, next_unfinished};
 pub use item_by_item::next_item;
 pub use items::{ItemFound, find_items, insert_item};
 pub use journeys::{

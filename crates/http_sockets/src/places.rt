@@ -1,19 +1,35 @@
-//! What is known of each seat: its socket, what its connection waits for, and since when.
+//! What is known of each seat: its socket, what its peer owes, and since when.
 use crate::ends::Socket;
 use http_live::Standing;
 use std::alloc::{AllocError, Global};
 use std::collections::VecDeque;
 use std::rc::Rc;
 
+/// For how many ticks a peer may be silent after its closing page.
+const LINGERING: u64 = 10;
+
+/// What a peer owes.
+#[derive(Clone, Copy, Debug, PartialEq, Eq)]
+enum Owed {
+    /// Nothing: it may be silent.
+    Nothing,
+    /// The rest of a message.
+    Message,
+    /// To take a page.
+    Page,
+    /// To end, after its closing page.
+    End,
+}
+
 /// What is known of a seat.
 #[derive(Drop)]
 struct Place {
     socket: Option<Rc<Socket>>,
-    standing: Standing,
+    owed: Owed,
+    /// Since when that is owed, in ticks.
+    since: u64,
     /// When its peer last sent or took something, in ticks.
     heard: u64,
-    /// When it was last between two messages, or had one answered, in ticks.
-    since: u64,
     is_queued: bool,
 }
 
@@ -30,9 +46,9 @@ impl Places {
         for _ in 0..count {
             places.push(Place {
                 socket: None,
-                standing: Standing::Over,
-                heard: 0,
+                owed: Owed::Nothing,
                 since: 0,
+                heard: 0,
                 is_queued: false,
             })?;
         }
@@ -53,13 +69,18 @@ impl Places {
         best
     }
 
+    /// Whether no seat has a peer.
+    pub(crate) fn are_free(&self) -> bool {
+        self.places.iter().all(|place| place.socket.is_none())
+    }
+
     /// A peer takes the seat at this tick.
     pub(crate) fn take(&mut self, at: usize, socket: Rc<Socket>, tick: u64) {
         if let Some(place) = self.places.get_mut(at) {
             place.socket = Some(socket);
-            place.standing = Standing::Between;
-            place.heard = tick;
+            place.owed = Owed::Nothing;
             place.since = tick;
+            place.heard = tick;
         }
     }
 
@@ -67,7 +88,7 @@ impl Places {
     pub(crate) fn clear(&mut self, at: usize) {
         if let Some(place) = self.places.get_mut(at) {
             place.socket = None;
-            place.standing = Standing::Over;
+            place.owed = Owed::Nothing;
         }
     }
 
@@ -76,28 +97,30 @@ impl Places {
         let Some(place) = self.places.get_mut(at) else {
             return;
         };
-        if standing == Standing::Lingering && place.standing != Standing::Lingering {
+        let owed = owed_after(place.owed, standing);
+        if owed == Owed::End && place.owed != Owed::End {
             if let Some(socket) = &place.socket {
                 socket.end_writing();
             }
-            place.since = tick;
         }
-        if standing == Standing::Between || standing == Standing::Answered {
+        if owed != place.owed || standing == Standing::Answered {
             place.since = tick;
         }
         if standing == Standing::Busy || standing == Standing::Answered {
             place.heard = tick;
         }
-        place.standing = standing;
+        place.owed = owed;
     }
 
-    /// Whether the seat is to be queued, which it then is: it is none yet.
+    /// Whether the seat is to be queued, which it then is: it is not queued yet.
     pub(crate) fn queues(&mut self, at: usize) -> bool {
         let Some(place) = self.places.get_mut(at) else {
             return false;
         };
         let is_new = !place.is_queued && place.socket.is_some();
-        place.is_queued = true;
+        if is_new {
+            place.is_queued = true;
+        }
         is_new
     }
 
@@ -108,7 +131,7 @@ impl Places {
         }
     }
 
-    /// Adds the seats whose peers owed something for more than so many ticks.
+    /// Adds the seats whose peers have owed something for more than so many ticks.
     pub(crate) fn add_overdue(
         &self,
         tick: u64,
@@ -116,11 +139,35 @@ impl Places {
         overdue: &mut VecDeque<usize>,
     ) -> Result<(), AllocError> {
         for (at, place) in self.places.iter().enumerate() {
-            let owes = place.socket.is_some() && place.standing != Standing::Between;
-            if owes && tick.saturating_sub(place.since) > patience {
+            if place.socket.is_some() && place.is_overdue(tick, patience) {
                 overdue.push_back(at)?;
             }
         }
         Ok(())
+    }
+}
+
+impl Place {
+    /// Whether the peer owes something for too long at this tick.
+    fn is_overdue(&self, tick: u64, patience: u64) -> bool {
+        let owes_long = tick.saturating_sub(self.since) > patience;
+        let is_silent = tick.saturating_sub(self.heard) > LINGERING;
+        match self.owed {
+            Owed::Nothing => false,
+            Owed::Message | Owed::Page => owes_long,
+            Owed::End => owes_long || is_silent,
+        }
+    }
+}
+
+/// What a peer owes after a turn, by what it owed before. Its first byte begins a message.
+fn owed_after(before: Owed, standing: Standing) -> Owed {
+    match standing {
+        Standing::Between | Standing::Over => Owed::Nothing,
+        Standing::Amid => Owed::Message,
+        Standing::Unsent | Standing::Answered => Owed::Page,
+        Standing::Lingering => Owed::End,
+        Standing::Busy if before == Owed::Nothing => Owed::Message,
+        Standing::Busy => before,
     }
 }

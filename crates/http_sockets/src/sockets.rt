@@ -1,102 +1,105 @@
 //! Turns from the system: what epoll reports, and who comes and goes.
 use crate::ends::{ReadEnd, Socket, WriteEnd, ends_of};
+use crate::limits::Limits;
+use crate::listeners::{Accepted, FIRST, Listeners};
 use crate::places::Places;
 use http_live::{SEATS, Standing, Turn, Turns};
-use mio::net::{TcpListener, UnixListener};
-use mio::{Events, Interest, Poll, Token};
+use mio::{Events, Poll, Token};
 use std::alloc::Global;
 use std::collections::VecDeque;
-use std::fs::{self, Permissions};
 use std::io::{self, ErrorKind};
 use std::mem;
-use std::net::{IpAddr, Ipv4Addr, SocketAddr};
-use std::os::unix::fs::PermissionsExt;
 use std::rc::Rc;
 use std::time::{Duration, Instant};
 
 /// How long a tick is, in milliseconds. A wait lasts no longer.
 const TICK: u64 = 100;
 
+/// By how many ticks the time goes on after a wait, at most: a desk that was stopped meanwhile does not blame its peers.
+const MOST_TICKS: u64 = 10;
+
 /// How many events one wait gives, at most.
 const EVENTS: usize = 256;
 
-/// The tokens of the two listeners, and of the first seat.
-const PORT: usize = 0;
-
-const PATH: usize = 1;
-
-const FIRST: usize = 2;
-
-/// How long a peer may owe something, and when no turn comes any more.
-#[derive(Clone, Copy, Debug, PartialEq, Eq)]
-pub struct Limits {
-    /// For how many ticks a message may be not whole, or a page not taken.
-    pub patience: u64,
-    /// After how many ticks the desk ends. It never ends where this is 0.
-    pub ticks: u64,
-}
+/// How many peers take a seat in one round, at most.
+const WELCOMES: usize = 32;
 
 /// The sockets, and the seats that may go on.
 #[derive(Drop)]
 pub struct Sockets<'a> {
     rt: &'a HostRuntime,
     alloc: Global,
-    limits: Limits,
-    start: Instant,
+    patience: u64,
+    /// How many peers may still come, if that is limited.
+    to_come: Option<u16>,
+    /// How many came in this round.
+    welcomed: usize,
+    /// When the last wait was over, and how many ticks there were until then.
+    clock: Instant,
     tick: u64,
     poll: Poll,
     events: Events,
-    port: TcpListener,
-    path: Option<UnixListener>,
+    listeners: Listeners<'a>,
     places: Places,
-    /// The listeners that may have someone.
-    waiting: VecDeque<usize>,
     /// The seats that go on in this round, and those of the next one.
     round: VecDeque<usize>,
     next: VecDeque<usize>,
     /// The seats that are ended.
     leaving: VecDeque<usize>,
+    /// Whether the system has failed to report what happens.
+    has_failed: bool,
 }
 
-impl Sockets<'_> {
-    /// Listens on a port of 127.0.0.1, and on a path if there is one, which the user alone may open.
-    pub fn bind<'a>(
+impl<'a> Sockets<'a> {
+    /// Listens on a port of 127.0.0.1, and on a path if there is one, which its owner alone may open.
+    pub fn bind(
         rt: &'a HostRuntime,
         alloc: Global,
         port: u16,
-        path: Option<&str>,
+        path: Option<&'a str>,
         limits: Limits,
     ) -> io::Result<Sockets<'a>> {
         let poll = Poll::new(rt)?;
-        let address = SocketAddr::new(IpAddr::V4(Ipv4Addr::LOCALHOST), port);
-        let mut port = TcpListener::bind(rt, address)?;
-        poll.registry()
-            .register(&mut port, Token(PORT), Interest::READABLE)?;
-        let path = match path {
-            Some(path) => Some(bind_path(rt, &poll, path)?),
-            None => None,
-        };
+        let events = Events::with_capacity(alloc, EVENTS)?;
+        let places = Places::new(alloc, SEATS)?;
+        let round = VecDeque::with_capacity(alloc, SEATS)?;
+        let next = VecDeque::with_capacity(alloc, SEATS)?;
+        let leaving = VecDeque::with_capacity(alloc, SEATS)?;
+        let clock = Instant::now(rt)?;
+        let listeners = Listeners::bind(rt, alloc, poll.registry(), port, path)?;
         Ok(Sockets {
             rt,
             alloc,
-            limits,
-            start: Instant::now(rt)?,
+            patience: limits.patience,
+            to_come: limits.connections,
+            welcomed: 0,
+            clock,
             tick: 0,
             poll,
-            events: Events::with_capacity(alloc, EVENTS)?,
-            port,
-            path,
-            places: Places::new(alloc, SEATS)?,
-            waiting: VecDeque::new(alloc),
-            round: VecDeque::with_capacity(alloc, SEATS)?,
-            next: VecDeque::with_capacity(alloc, SEATS)?,
-            leaving: VecDeque::new(alloc),
+            events,
+            listeners,
+            places,
+            round,
+            next,
+            leaving,
+            has_failed: false,
         })
     }
 
     /// The port that is listened on: where 0 was asked for, the system chose it.
     pub fn port(&self) -> io::Result<u16> {
-        Ok(self.port.local_addr()?.port())
+        self.listeners.port()
+    }
+
+    /// Whether no turn came since the system failed to report what happens.
+    pub fn has_failed(&self) -> bool {
+        self.has_failed
+    }
+
+    /// Ends all connections, listens no more, and removes the file of the Unix socket.
+    pub fn end(self) {
+        let rt = self.rt;
+        self.listeners.end(rt);
     }
 
     /// The next turn of this round.
@@ -105,33 +108,45 @@ impl Sockets<'_> {
             self.places.clear(at);
             return Some(Turn::Leaves(at));
         }
-        if let Some(listener) = self.waiting.pop_front() {
-            return self.welcome(listener);
+        if let Some(turn) = self.welcome() {
+            return Some(turn);
         }
         let at = self.round.pop_front()?;
         self.places.has_turn(at);
         Some(Turn::Ready(at))
     }
 
-    /// Who waits at a listener takes a seat. Another one may wait, so it is asked again.
-    fn welcome(&mut self, listener: usize) -> Option<Turn<ReadEnd, WriteEnd>> {
-        let socket = self.accepted(listener)?;
-        let at = self.places.choose();
-        let turn = self.seated(socket, at);
-        let _ = self.waiting.push_back(listener);
-        turn.ok()
+    /// Whether one more peer may take a seat in this round.
+    fn welcomes(&self) -> bool {
+        self.welcomed < WELCOMES && self.to_come != Some(0) && self.listeners.may_wait()
     }
 
-    /// Who waits at a listener, if anybody does. After a failure the listener is asked again at the next tick.
-    fn accepted(&self, listener: usize) -> Option<Socket> {
-        if listener == PORT {
-            let (stream, _) = self.port.accept().ok()?;
-            // A page goes out at once, and does not wait for the next one.
-            let _ = stream.set_nodelay(true);
-            return Some(Socket::Port(stream));
+    /// The next peer takes a seat, if one waits.
+    fn welcome(&mut self) -> Option<Turn<ReadEnd, WriteEnd>> {
+        for _ in 0..WELCOMES {
+            if !self.welcomes() {
+                return None;
+            }
+            self.welcomed = self.welcomed.saturating_add(1);
+            match self.listeners.accept() {
+                Accepted::Came(socket) => {
+                    self.count_one();
+                    let at = self.places.choose();
+                    // A peer that finds no memory is let go.
+                    if let Ok(turn) = self.seated(socket, at) {
+                        return Some(turn);
+                    }
+                }
+                Accepted::Lost => self.count_one(),
+                Accepted::Nobody => {}
+            }
         }
-        let (stream, _) = self.path.as_ref()?.accept().ok()?;
-        Some(Socket::Path(stream))
+        None
+    }
+
+    /// One of the peers that may still come has come.
+    fn count_one(&mut self) {
+        self.to_come = self.to_come.map(|count| count.saturating_sub(1));
     }
 
     /// A peer takes a seat.
@@ -146,52 +161,55 @@ impl Sockets<'_> {
 
     /// Begins the next round: waits until a seat may go on or somebody comes, or a tick is over.
     fn wait(&mut self) -> io::Result<()> {
-        let most = if self.next.is_empty() { TICK } else { 0 };
-        let most = Some(Duration::from_millis(most));
-        match self.poll.poll(&mut self.events, most) {
-            Err(error) if error.kind() != ErrorKind::Interrupted => return Err(error),
-            _ => {}
+        self.welcomed = 0;
+        let is_idle = self.next.is_empty() && !self.welcomes();
+        let most = Duration::from_millis(if is_idle { TICK } else { 0 });
+        match self.poll.poll(&mut self.events, Some(most)) {
+            Err(error) if error.kind() == ErrorKind::Interrupted => {}
+            Err(error) => return Err(error),
+            Ok(()) => self.take_in()?,
         }
         // The round before is over.
         mem::swap(&mut self.round, &mut self.next);
-        for event in self.events.iter() {
-            let token = event.token().0;
-            if token < FIRST {
-                self.waiting.push_back(token)?;
-            } else if self.places.queues(token - FIRST) {
-                self.round.push_back(token - FIRST)?;
-            }
-        }
         self.count_ticks()
     }
 
-    /// At each tick the listeners are asked again, and the seats whose peers owe something for too long are ended.
-    fn count_ticks(&mut self) -> io::Result<()> {
-        let passed = self.start.elapsed(self.rt)?.as_millis() / u128::from(TICK);
-        let tick = passed.min(u128::from(u64::MAX)) as u64;
-        if tick != self.tick {
-            self.tick = tick;
-            self.waiting.push_back(PORT)?;
-            self.waiting.push_back(PATH)?;
-            self.places
-                .add_overdue(tick, self.limits.patience, &mut self.leaving)?;
+    /// Takes in what the system reported: who may come, and which seats may go on.
+    fn take_in(&mut self) -> io::Result<()> {
+        for event in self.events.iter() {
+            let token = event.token().0;
+            if token < FIRST {
+                self.listeners.hear(token);
+            } else if self.places.queues(token - FIRST) {
+                self.next.push_back(token - FIRST)?;
+            }
         }
         Ok(())
     }
 
-    /// Whether no turn comes any more.
-    fn is_at_end(&self) -> bool {
-        self.limits.ticks > 0 && self.tick >= self.limits.ticks
+    /// At each tick the listeners are asked again, and the seats whose peers owe something for too long are ended.
+    fn count_ticks(&mut self) -> io::Result<()> {
+        let now = Instant::now(self.rt)?;
+        let passed = now.duration_since(self.clock).as_millis() / u128::from(TICK);
+        if passed > 0 {
+            let counted = passed.min(u128::from(MOST_TICKS)) as u64;
+            let whole = Duration::from_millis(counted.saturating_mul(TICK));
+            self.clock = match self.clock.checked_add(whole) {
+                Some(clock) if passed == u128::from(counted) => clock,
+                _ => now,
+            };
+            self.tick = self.tick.saturating_add(counted);
+            self.listeners.hear_all();
+            self.places
+                .add_overdue(self.tick, self.patience, &mut self.leaving)?;
+        }
+        Ok(())
     }
-}
 
-/// Listens on a path, which the user alone may open.
-fn bind_path(rt: &HostRuntime, poll: &Poll, path: &str) -> io::Result<UnixListener> {
-    let mut listener = UnixListener::bind(rt, path)?;
-    fs::set_permissions(rt, path, Permissions::from_mode(0o600))?;
-    poll.registry()
-        .register(&mut listener, Token(PATH), Interest::READABLE)?;
-    Ok(listener)
+    /// Whether no turn comes any more: all peers came, and have left.
+    fn is_at_end(&self) -> bool {
+        self.to_come == Some(0) && self.places.are_free()
+    }
 }
 
 impl Turns for Sockets<'_> {
@@ -204,8 +222,11 @@ impl Turns for Sockets<'_> {
             if let Some(turn) = self.turn_of_round() {
                 return turn;
             }
-            let is_idle = self.waiting.is_empty() && self.round.is_empty();
-            if is_idle && (self.is_at_end() || self.wait().is_err()) {
+            if self.is_at_end() {
+                return Turn::End;
+            }
+            if self.wait().is_err() {
+                self.has_failed = true;
                 return Turn::End;
             }
         }
@@ -213,8 +234,7 @@ impl Turns for Sockets<'_> {
     }
 
     fn hear(&mut self, at: usize, standing: Standing) {
-        let tick = self.tick;
-        self.places.hear(at, standing, tick);
+        self.places.hear(at, standing, self.tick);
         match standing {
             Standing::Over => self.places.clear(at),
             Standing::Busy | Standing::Answered => {

@@ -12,3 +12,4 @@ pub mod ReadPlans
 pub mod ReadReasons
 pub mod ReadSought
 pub mod ReadStock
+pub mod Starting

@@ -14,6 +14,7 @@ use Rattle.ledger.specs.Ledger.{history}
 use Rattle.saga_core.specs.declared.records.Brief.{Brief}
 use Rattle.sqlite.specs.Store.{Ghosts}
 use Rattle.sqlite.specs.Held.{Held, state}
+use Rattle.sqlite.specs.declared.rows.stream.Rows.{Rows}
 use Rattle.sqlite.specs.State.{HasCleanDisk}
 use Rattle.desk_sql.specs.RemainingRows.{CellsRest, JourneysRest}
 use Rattle.desk_sql.specs.Rows.{JourneyRow, CursorRow}
@@ -104,6 +105,11 @@ module _ {S : Type 0} (g : Ghosts S) where
     pub same_reference : b.ghost_name ≡ a.ghost_name
     pub left : IsLeftAsItWas a.now b.now
 
+-- the reference to the rows is the same, they borrow the same connection, and it is left as it was
+pub record RowsStay {S : Type 0} (g : Ghosts S) (a b : MutBor (Rows S g)) : Type 0 where
+  pub same_reference : b.ghost_name ≡ a.ghost_name
+  pub under : StaysUnder g a.now.conn b.now.conn
+
 -- a connection is left as it was if no call is made, and by two calls if by each of them
 pub left_alone : {S : Type 0} (g : Ghosts S) (h : Held S) → IsLeftAsItWas g h h
 left_alone g h = record {
@@ -132,4 +138,15 @@ pub stays_twice : {S : Type 0} {g : Ghosts S} (a b c : MutBor (Held S))
 stays_twice {S} {g} a b c one two = record {
   same_reference = two.same_reference ∙ one.same_reference;
   left = left_twice g a.now b.now c.now one.left two.left;
+}
+
+-- the same, for the rows that a source borrows
+pub rows_stay_alone : {S : Type 0} {g : Ghosts S} (a : MutBor (Rows S g)) → RowsStay g a a
+rows_stay_alone a = record { same_reference = refl; under = stays_alone a.now.conn }
+
+pub rows_stay_twice : {S : Type 0} {g : Ghosts S} (a b c : MutBor (Rows S g))
+    → RowsStay g a b → RowsStay g b c → RowsStay g a c
+rows_stay_twice a b c one two = record {
+  same_reference = two.same_reference ∙ one.same_reference;
+  under = stays_twice a.now.conn b.now.conn c.now.conn one.under two.under;
 }

@@ -1,108 +1,100 @@
 //! Briefs of the unfinished journeys, in order of number, read one at a time.
 
 ghost use Rattle.std.specs.Prelude.{◌≡◌, ◌<◌, ◌+◌, ◌-◌, ◌^◌, false, IfOk, IsErrOf};
+ghost use Rattle.std.specs.Borrow.{sem};
 ghost use Rattle.sqlite.specs.Held.{state};
 ghost use Rattle.sqlite.specs.State.{HasCleanDisk};
 ghost use Rattle.saga_core.specs.Views.{unfinished_of};
 ghost use Rattle.desk_sql.specs.declared.versions.Version.{Version};
+ghost use Rattle.sql_reads.specs.Lending.{LeavesIfErr};
 ghost use Rattle.sql_reads.specs.RemainingRows.{BriefsRest, IsLeftAsItWas, BeginsKept};
 ghost use Rattle.saga_core.specs.RowSources.{count_of, Hands};
 ghost use Rattle.desk_sql.specs.Causes.{HasFaulted, IsUp};
 ghost use Rattle.sql_reads.specs.Causes.{StaysUp};
-ghost use Rattle.sql_reads.specs.RemainingRows.{AreGoodBriefsRest, StaysUnder};
+ghost use Rattle.sql_reads.specs.RemainingRows.{AreGoodBriefsRest, RowsStay};
 
 use crate::faults::fault_of;
+use crate::progress::Progress;
 use crate::telling::brief_of;
 use commands::Fault;
-use desk_sql::{UnfinishedHanded, hand_unfinished};
+use desk_sql::{hand_unfinished, next_unfinished};
 use saga_core::{Brief, RowSource};
-use sqlite::{Alter, Connection};
+use sqlite::{Alter, Connection, Error, Rows};
 
-/// The unfinished journeys that remain. After a fault every call returns `Store`.
+/// The unfinished journeys that remain of rows that `start_unfinished` returned. After a fault every call returns
+/// `Store`.
 #[derive(Drop)]
-pub struct UnfinishedRows<'c, S: Alter> {
-    handed: UnfinishedHanded<'c, S>,
-    given: u64,
-    // A row could not be read, or has a value out of range, and no row may be returned after it.
-    failed: bool,
+pub struct UnfinishedRows<'r, 'c, S: Alter> {
+    pub rows: &'r mut Rows<'c, S>,
+    pub progress: Progress,
 }
 
-/// Starts to read all unfinished journeys, in order of number.
-pub fn unfinished_rows<'c, S: Alter>(
-    conn: &'c mut Connection<S>,
-) -> Result<UnfinishedRows<'c, S>, Fault>
-    ensures same_reference { IfOk result (λ it.
-        it.handed.rows.conn.ghost_name ≡ conn.entry.ghost_name) }
+/// Starts to read all unfinished journeys, in order of number. If that fails, nothing has changed.
+pub fn start_unfinished<S: Alter>(conn: &mut Connection<S>) -> Result<Rows<'_, S>, Error>
+    ensures* fault { sem 𝓛 (LeavesIfErr S.row S.Store conn.entry result) }
+    ensures same_reference { IfOk result (λ it. it.conn.ghost_name ≡ conn.entry.ghost_name) }
     ensures rows { IfOk result (λ it. (v : Version)
-        → BeginsKept S.Store conn.old it.handed.rows.conn.now v (λ s briefs. briefs ≡ unfinished_of s.ledger)
-        (⟦<UnfinishedRows<'c, S> as RowSource<Brief>>⟧.rests it)) }
-    ensures none { IfOk result (λ it.
-        ⟦<UnfinishedRows<'c, S> as RowSource<Brief>>⟧.given it ≡ 0) }
-    ensures kept { IfOk result (λ it. IsLeftAsItWas S.Store conn.old it.handed.rows.conn.now) }
+        → BeginsKept S.Store conn.old it.conn.now v (λ s briefs. briefs ≡ unfinished_of s.ledger)
+        (BriefsRest S.Store it.conn.now)) }
+    ensures kept { IfOk result (λ it. IsLeftAsItWas S.Store conn.old it.conn.now) }
+    ensures up { IfOk result (λ it. StaysUp S.Store conn.old it.conn.now) }
 {
-    match hand_unfinished(conn, 0) {
-        Ok(handed) => Ok(UnfinishedRows {
-            handed,
-            given: 0,
-            failed: false,
-        }),
-        Err(error) => Err(fault_of(&error)),
-    }
+    hand_unfinished(conn, 0)
 }
 
-impl<S: Alter> RowSource<Brief> for UnfinishedRows<'_, S> {
-    ghost use Rattle.sql_reads.specs.RemainingRows.{stays_alone, stays_twice};
+impl<S: Alter> RowSource<Brief> for UnfinishedRows<'_, '_, S> {
+    ghost use Rattle.sql_reads.specs.RemainingRows.{rows_stay_alone, rows_stay_twice};
 
-    ghost is_sound = { λ s. HasCleanDisk (state S.Store s.handed.rows.conn.now) };
+    ghost is_sound = { λ s. HasCleanDisk (state S.Store s.rows.now.conn.now) };
 
-    ghost rests = { λ s briefs. (s.failed ≡ false) × BriefsRest S.Store s.handed.rows.conn.now briefs };
+    ghost rests = { λ s briefs. (s.progress.failed ≡ false) × BriefsRest S.Store s.rows.now.conn.now briefs };
 
-    ghost given = { λ s. s.given };
+    ghost given = { λ s. s.progress.given };
 
-    ghost becomes = { λ a b. StaysUnder S.Store a.handed.rows.conn b.handed.rows.conn };
+    ghost becomes = { λ a b. RowsStay S.Store a.rows b.rows };
 
-    ghost stays = { λ s. stays_alone s.handed.rows.conn };
+    ghost stays = { λ s. rows_stay_alone s.rows };
 
-    ghost joins = { λ a b c. stays_twice a.handed.rows.conn b.handed.rows.conn c.handed.rows.conn };
+    ghost joins = { λ a b c. rows_stay_twice a.rows b.rows c.rows };
 
     fn next_row(&mut self) -> Result<Option<Brief>, Fault>
-        ensures next { HasCleanDisk (state S.Store self.new.handed.rows.conn.now) → IfOk result (Hands
-            (λ rows. (self.old.failed ≡ false) × BriefsRest S.Store self.old.handed.rows.conn.now rows)
-            (λ rows. (self.new.failed ≡ false) × BriefsRest S.Store self.new.handed.rows.conn.now rows)) }
-        ensures counted { IfOk result (λ found. self.new.given ≡ count_of found + self.old.given) }
-        ensures few { self.new.given < 2 ^ 64 }
+        ensures next { HasCleanDisk (state S.Store self.new.rows.now.conn.now) → IfOk result (Hands
+            (λ rows. (self.old.progress.failed ≡ false) × BriefsRest S.Store self.old.rows.now.conn.now rows)
+            (λ rows. (self.new.progress.failed ≡ false) × BriefsRest S.Store self.new.rows.now.conn.now rows)) }
+        ensures counted { IfOk result (λ found. self.new.progress.given ≡ count_of found + self.old.progress.given) }
+        ensures few { self.new.progress.given < 2 ^ 64 }
 
-        ensures kept { StaysUnder S.Store self.old.handed.rows.conn self.new.handed.rows.conn }
-        ensures sound { HasCleanDisk (state S.Store self.new.handed.rows.conn.now)
-            → HasCleanDisk (state S.Store self.old.handed.rows.conn.now) }
+        ensures kept { RowsStay S.Store self.old.rows self.new.rows }
+        ensures sound { HasCleanDisk (state S.Store self.new.rows.now.conn.now)
+            → HasCleanDisk (state S.Store self.old.rows.now.conn.now) }
 
-        ensures store { HasCleanDisk (state S.Store self.new.handed.rows.conn.now) → self.old.failed ≡ false
-            → AreGoodBriefsRest S.Store self.old.handed.rows.conn.now → self.old.given < 2 ^ 64 - 1
-            → IsUp (state S.Store self.old.handed.rows.conn.now) → IsErrOf result Fault.Store
-            → HasFaulted (state S.Store self.old.handed.rows.conn.now) (state S.Store self.new.handed.rows.conn.now) }
-        ensures up { StaysUp S.Store self.old.handed.rows.conn.now self.new.handed.rows.conn.now }
+        ensures store { HasCleanDisk (state S.Store self.new.rows.now.conn.now) → self.old.progress.failed ≡ false
+            → AreGoodBriefsRest S.Store self.old.rows.now.conn.now → self.old.progress.given < 2 ^ 64 - 1
+            → IsUp (state S.Store self.old.rows.now.conn.now) → IsErrOf result Fault.Store
+            → HasFaulted (state S.Store self.old.rows.now.conn.now) (state S.Store self.new.rows.now.conn.now) }
+        ensures up { StaysUp S.Store self.old.rows.now.conn.now self.new.rows.now.conn.now }
     {
-        let given = self.given;
-        if self.failed {
+        let given = self.progress.given;
+        if self.progress.failed {
             return Err(Fault::Store);
         }
-        self.failed = true;
-        match self.handed.next() {
+        self.progress.failed = true;
+        match next_unfinished(self.rows) {
             Ok(Some(found)) => {
                 if given == u64::MAX {
                     return Err(Fault::Store);
                 }
                 match brief_of(&found) {
                     Some(brief) => {
-                        self.given = given + 1;
-                        self.failed = false;
+                        self.progress.given = given + 1;
+                        self.progress.failed = false;
                         Ok(Some(brief))
                     }
                     None => Err(Fault::Store),
                 }
             }
             Ok(None) => {
-                self.failed = false;
+                self.progress.failed = false;
                 Ok(None)
             }
             Err(error) => Err(fault_of(&error)),

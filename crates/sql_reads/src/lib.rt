@@ -13,14 +13,16 @@ mod following;
 mod history_rows;
 mod item_search;
 mod plan_rows;
+mod progress;
 mod reads;
 mod telling;
 
-pub use brief_rows::{UnfinishedRows, unfinished_rows};
-pub use cell_rows::{StockRows, stock_rows};
+pub use brief_rows::{UnfinishedRows, start_unfinished};
+pub use cell_rows::{StockRows, start_stock};
 pub use faults::fault_of;
 pub use history_rows::{ItemCursor, item_cursor};
 pub use plan_rows::want_told;
+pub use progress::Progress;
 pub use reads::{
     LARGEST, Stand, read_cells, read_first_unfinished, read_history, read_journey, read_stand,
     read_stock,

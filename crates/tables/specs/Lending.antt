@@ -1,10 +1,13 @@
 -- What was opened, what it keeps, and how the sources of its rows leave it.
-use Rattle.std.specs.Prelude.{◌≡◌, Result, refl}
-use Rattle.std.specs.Borrow.{Fml, GName, MutBor, RattleType, RestsIfErr}
+use Rattle.std.specs.Prelude.{◌≡◌, false, Result, refl}
+use Rattle.std.specs.Borrow.{Fml, GName, Lends, MutBor, RattleType, RestsIfErr}
 use Rattle.std.proofs.Common.{◌∙◌}
 use Rattle.sqlite.specs.Store.{Ghosts}
-use Rattle.sqlite.specs.Held.{state}
+use Rattle.sqlite.specs.Held.{Held, state}
+use Rattle.sqlite.specs.contracts.connection.Connection as connection
+use Rattle.commands.specs.declared.faults.Fault.{Fault}
 use Rattle.ledger.specs.Answer.{State}
+use Rattle.sql_reads.specs.Causes.{FailsForReasonIn, StaysUp}
 use Rattle.sql_reads.specs.RemainingRows.{IsLeftAsItWas, left_alone, left_twice}
 use Rattle.tables.specs.Keeping.{KeepsIn}
 use Rattle.tables.specs.declared.opening.Opened.{Opened}
@@ -20,15 +23,25 @@ module _ {S : Type 0} (g : Ghosts S) where
     pub version : new.version ≡ old.version
     pub left : IsLeftAsItWas g old.conn new.conn
 
+  -- the items could not be started: what was opened was only read, and Store has a reason
+  pub record IsNotStarted {V : Type 0} (result : Result V Fault) (old new : Opened S) : Type 0 where
+    pub read : IsOnlyRead old new
+    pub store : old.conn.in_transaction ≡ false → FailsForReasonIn g old.conn new.conn old.version result
+    pub up : StaysUp g old.conn new.conn
+
   -- the reference is the same, and what was opened was only read
   pub record StaysUnder (a b : MutBor (Opened S)) : Type 0 where
     pub same_reference : b.ghost_name ≡ a.ghost_name
     pub read : IsOnlyRead a.now b.now
 
 module _ (S : RattleType) (g : Ghosts S.Denot) where
-  -- if a source of rows cannot be started, what was opened was only read; else the source borrows what was opened
-  abbrev pub LeavesIfErr : {X E : Type 0} → (X → GName) → MutBor (Opened S.Denot) → Result X E → Fml
-  LeavesIfErr name o r = RestsIfErr (opened.the_row S g) o name r (λ last. IsOnlyRead g o.now last)
+  -- if the items could not be started, what was opened is left so; else their source borrows what was opened
+  abbrev pub LeavesIfErr : {X : Type 0} → (X → GName) → MutBor (Opened S.Denot) → Result X Fault → Fml
+  LeavesIfErr name o r = RestsIfErr (opened.the_row S g) o name r (λ last. IsNotStarted g r o.now last)
+
+  -- what was opened ends with the connection that is left behind the reference
+  abbrev pub LendsConnection : MutBor (Opened S.Denot) → MutBor (Held S.Denot) → Fml
+  LendsConnection o r = Lends (opened.the_row S g) (connection.the_row S g) o r (λ w. record o.now { conn = w })
 
 -- what was opened was only read if no row is read, and by two calls if by each of them
 pub stays_alone : {S : Type 0} {g : Ghosts S} (a : MutBor (Opened S)) → StaysUnder g a a

@@ -17,11 +17,10 @@ ghost use Rattle.tables.specs.Opening.{FailsToOpen, KeepsIt, StandsOn, Tells};
 ghost use Rattle.sql_reads.specs.Reading.{WasClean};
 
 use crate::faults::OpenFault;
-use allotment::{Cell, Held};
 use commands::Fault;
 use desk_sql::{Version, has_no_tables, make_tables, read_meta};
-use saga_core::{Brief, Record, RowSource};
-use sql_reads::{StockRows, UnfinishedRows, fault_of, read_journey, stock_rows, unfinished_rows};
+use saga_core::Record;
+use sql_reads::{fault_of, read_journey};
 use sqlite::{Alter, Connection};
 use std::alloc::Global;
 
@@ -74,10 +73,9 @@ impl<S: Alter> Opened<S> {
 }
 
 impl<S: Alter> Opened<S> {
-    ghost use Rattle.saga_core.specs.Views.{IsStock};
-    ghost use Rattle.sql_reads.specs.RemainingRows.{BeginsKept, IsLeftAsItWas};
-    ghost use Rattle.saga_core.specs.Views.{unfinished_of};
+    ghost use Rattle.std.specs.Borrow.{sem};
     ghost use Rattle.sql_reads.specs.Reading.{IsRecordAt, KeepsEach, LeavesAsBefore, ShowsKeptIn};
+    ghost use Rattle.tables.specs.Lending.{LendsConnection};
 
     /// Returns the journey of that number, if there is one. A fault changes nothing, and the call may be retried.
     pub fn journey_of(&mut self, alloc: Global, id: u64) -> Result<Option<Record>, Fault>
@@ -96,31 +94,13 @@ impl<S: Alter> Opened<S> {
         read_journey(alloc, &mut self.conn, self.version, id)
     }
 
-    /// Reads the cells that have an allotment, with their places, in order of kind, supplier, product and night. No row
-    /// is buffered before it is returned.
-    pub fn stock_rows<'c>(&'c mut self) -> Result<StockRows<'c, S>, Fault>
-        ensures rows { IfOk result (λ it. (v : Version)
-            → BeginsKept S.Store self.old.conn it.handed.rows.conn.now v (λ s rows. IsStock s.ledger rows)
-            (⟦<StockRows<'c, S> as RowSource<(Cell, Held)>>⟧.rests it)) }
-        ensures none { IfOk result (λ it.
-            ⟦<StockRows<'c, S> as RowSource<(Cell, Held)>>⟧.given it ≡ 0) }
-        ensures kept { IfOk result (λ it.
-            IsLeftAsItWas S.Store self.old.conn it.handed.rows.conn.now) }
+    /// Lends the connection, for instance to `sql_reads::start_stock` and `start_unfinished`, whose rows borrow it. When
+    /// they are let go, what was opened has the connection as they left it.
+    pub fn connection(&mut self) -> &mut Connection<S>
+        ensures* lends { sem 𝓛 (LendsConnection S.row S.Store self.entry result) }
+        ensures same { result.now ≡ self.old.conn }
     {
-        stock_rows(&mut self.conn)
-    }
-
-    /// Reads the briefs of the unfinished journeys, in order of number.
-    pub fn unfinished_rows<'c>(&'c mut self) -> Result<UnfinishedRows<'c, S>, Fault>
-        ensures rows { IfOk result (λ it. (v : Version)
-            → BeginsKept S.Store self.old.conn it.handed.rows.conn.now v (λ s briefs. briefs ≡ unfinished_of s.ledger)
-            (⟦<UnfinishedRows<'c, S> as RowSource<Brief>>⟧.rests it)) }
-        ensures none { IfOk result (λ it.
-            ⟦<UnfinishedRows<'c, S> as RowSource<Brief>>⟧.given it ≡ 0) }
-        ensures kept { IfOk result (λ it.
-            IsLeftAsItWas S.Store self.old.conn it.handed.rows.conn.now) }
-    {
-        unfinished_rows(&mut self.conn)
+        &mut self.conn
     }
 }
 

@@ -13,6 +13,22 @@ fn words_of(alloc: Global, text: &str) -> Result<Vec<String>, AllocError> {
     Ok(words)
 }
 
+/// The text in the table of a desk that serves: without a number of connections, or a path, there is a dash for it.
+fn served_text(
+    alloc: Global,
+    file: &str,
+    port: u16,
+    connections: Option<u16>,
+    house: Option<String>,
+) -> Result<String, AllocError> {
+    let count = match connections {
+        Some(count) => format!(in alloc; "{count}")?,
+        None => String::from_str(alloc, "-")?,
+    };
+    let house = house.as_ref().map_or("-", |path| path.as_str());
+    format!(in alloc; "serve|{file}|{port}|{count}|{house}")
+}
+
 /// The job of words as a text in the table: the job with its values, or only the usage.
 fn asked(alloc: Global, words: Vec<String>) -> Result<String, AllocError> {
     match job(alloc, words) {
@@ -22,8 +38,9 @@ fn asked(alloc: Global, words: Vec<String>) -> Result<String, AllocError> {
                 file,
                 port,
                 connections,
+                house,
             },
-        ) => format!(in alloc; "serve|{file}|{port}|{connections}"),
+        ) => served_text(alloc, file.as_str(), port, connections, house),
         Ok(Job::Recover { file }) => format!(in alloc; "recover|{file}"),
         Ok(Job::Load { file, csv, batch }) => format!(in alloc; "load|{file}|{csv}|{batch}"),
         Ok(Job::Stock { file }) => format!(in alloc; "stock|{file}"),
@@ -38,18 +55,21 @@ fn asked(alloc: Global, words: Vec<String>) -> Result<String, AllocError> {
 
 // the words, separated by bars, and the job with its values; a bad number of a journey is no usage
 #[rattlefmt::skip]
-const JOBS: [(&str, &str); 34] = [
+const JOBS: [(&str, &str); 37] = [
     ("run|x.db",                    "run|x.db"),
     ("run|a b/x.db",                "run|a b/x.db"),
     ("run|--|-x.db",                "run|-x.db"),
     ("run|-",                       "run|-"),
-    ("serve|x.db|--port|8099|--connections|2",        "serve|x.db|8099|2"),
-    ("serve|--connections|2|x.db|--port|8099",        "serve|x.db|8099|2"),
-    ("serve|--port=8099|--connections=2|a b/x.db",    "serve|a b/x.db|8099|2"),
-    ("serve|--port|1|--connections|1|--|-x.db",       "serve|-x.db|1|1"),
-    ("serve|x.db|--port|65535|--connections|1000",    "serve|x.db|65535|1000"),
-    ("serve|x.db|--port|65534|--connections|999",     "serve|x.db|65534|999"),
-    ("serve|-|--port|10|--connections|100",           "serve|-|10|100"),
+    ("serve|x.db|--port|8099|--connections|2",        "serve|x.db|8099|2|-"),
+    ("serve|--connections|2|x.db|--port|8099",        "serve|x.db|8099|2|-"),
+    ("serve|--port=8099|--connections=2|a b/x.db",    "serve|a b/x.db|8099|2|-"),
+    ("serve|--port|1|--connections|1|--|-x.db",       "serve|-x.db|1|1|-"),
+    ("serve|x.db|--port|65535|--connections|1000",    "serve|x.db|65535|1000|-"),
+    ("serve|x.db|--port|65534|--connections|999",     "serve|x.db|65534|999|-"),
+    ("serve|-|--port|10|--connections|100",           "serve|-|10|100|-"),
+    ("serve|x.db|--port|8099",                        "serve|x.db|8099|-|-"),
+    ("serve|x.db|--port|8099|--house|d.sock",         "serve|x.db|8099|-|d.sock"),
+    ("serve|--house=a b/d|x.db|--connections|2|--port|1", "serve|x.db|1|2|a b/d"),
     ("recover|x.db",                "recover|x.db"),
     ("recover|a b/x.db",            "recover|a b/x.db"),
     ("recover|--|-x.db",            "recover|-x.db"),
@@ -86,7 +106,7 @@ fn words_name_a_job_with_its_values(rt: HostRuntime) -> Result<(), Fail> {
 
 // what the row shows, the words, and the prefix of the usage
 #[rattlefmt::skip]
-const REFUSED: [(&str, &str, &str); 58] = [
+const REFUSED: [(&str, &str, &str); 61] = [
     ("another subcommand",       "fly|x.db",       "error: unrecognized subcommand 'fly'"),
     ("a subcommand in capitals", "RUN|x.db",       "error: unrecognized subcommand 'RUN'"),
     ("a part of a subcommand",   "ru|x.db",        "error: unrecognized subcommand 'ru'"),
@@ -123,14 +143,17 @@ const REFUSED: [(&str, &str, &str); 58] = [
     ("connections 1001",         "serve|x|--port|80|--connections|1001", "error: invalid value '1001' for '--connections <N>': not a number from 1 to 1000\n"),
     ("both out of range",        "serve|x|--port|0|--connections|0", "error: invalid value '0' for '--port <PORT>'"),
     ("no port",                  "serve|x|--connections|1", "error: the following required arguments were not provided:\n  --port <PORT>\n"),
-    ("no connections",           "serve|x|--port|80", "error: the following required arguments were not provided:\n  --connections <N>\n"),
+    ("neither",                  "serve|x", "error: the following required arguments were not provided:\n  --port <PORT>\n"),
+    ("a house without a path",   "serve|x|--port|80|--house", "error: a value is required for '--house <PATH>' but none was supplied\n"),
+    ("two houses",               "serve|x|--port|80|--house|a|--house|b", "error: the argument '--house <PATH>' cannot be used multiple times\n"),
+    ("connections of no digit",  "serve|x|--port|80|--connections|all", "error: invalid value 'all' for '--connections <N>'"),
     ("no file to serve",         "serve|--port|80|--connections|1", "error: the following required arguments were not provided:\n  <FILE>\n"),
     ("two files to serve",       "serve|x|y|--port|80|--connections|1", "error: unexpected argument 'y' found\n"),
     ("a flag without a port",    "serve|x|--connections|1|--port", "error: a value is required for '--port <PORT>' but none was supplied\n"),
     ("two ports",                "serve|x|--port|80|--port|81|--connections|1", "error: the argument '--port <PORT>' cannot be used multiple times\n"),
     ("a part of a flag",         "serve|x|--por|80|--connections|1", "error: unexpected argument '--por' found\n"),
-    ("help of serve",            "serve|--help", "Answer requests over HTTP, one connection after another\n\nOpens the database FILE, or makes it."),
-    ("serve, in short",          "serve|-h", "Answer requests over HTTP, one connection after another\n\nUsage: desk serve --port <PORT> --connections <N> <FILE>\n"),
+    ("help of serve",            "serve|--help", "Answer requests over HTTP, of many clients at once\n\nOpens the database FILE, or makes it."),
+    ("serve, in short",          "serve|-h", "Answer requests over HTTP, of many clients at once\n\nUsage: desk serve [OPTIONS] --port <PORT> <FILE>\n"),
     ("no file for stock",        "stock",          "error: the following required arguments were not provided:\n  <FILE>\n\nUsage: desk stock <FILE>\n"),
     ("two files for stock",      "stock|x|y",      "error: unexpected argument 'y' found\n\nUsage: desk stock <FILE>\n"),
     ("two for unfinished",       "unfinished|x|y", "error: unexpected argument 'y' found\n\nUsage: desk unfinished <FILE>\n"),

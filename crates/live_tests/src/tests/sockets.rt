@@ -17,8 +17,8 @@ const PAGE: &[u8] =
 fn clients_are_answered_beside_a_silent_one(rt: HostRuntime) -> Result<(), Fail> {
     let alloc = rt.alloc();
     let limits = Limits {
+        connections: Some(3),
         patience: 3,
-        ticks: 10,
     };
     let mut sockets = Sockets::bind(&rt, alloc, 0, None, limits)?;
     let address = (Ipv4Addr::LOCALHOST, sockets.port()?);

@@ -3,8 +3,10 @@
 use crate::tests::helping::{bring_over, holds, open, open_for};
 use crate::tests::old_desks::{IN_A_ROUND, OldJourney, cells, is_unfinished, journeys};
 use crate::tests::old_files::old_file;
+use allotment::{Cell, Held};
 use memory_files::Session;
-use saga_core::RowSource;
+use saga_core::{Brief, RowSource};
+use sql_reads::{Progress, StockRows, UnfinishedRows, start_stock, start_unfinished};
 use sqlite::{Alter, Connection};
 use std::alloc::{AllocError, Global};
 use std::process::Abort;
@@ -15,9 +17,21 @@ use tables::{OpenFault, Opened, TableBook};
 const MOST_ROWS: u32 = 100_000;
 
 /// The report of the places of each cell.
-pub fn stock_of<S: Alter>(alloc: Global, opened: &mut Opened<S>) -> Result<String, Fail> {
+pub fn stock_of<S: Alter>(alloc: Global, conn: &mut Connection<S>) -> Result<String, Fail> {
+    let mut rows = start_stock(conn)?;
+    let progress = Progress::new();
+    cells_in(
+        alloc,
+        &mut StockRows {
+            rows: &mut rows,
+            progress,
+        },
+    )
+}
+
+/// The report of the cells that remain.
+fn cells_in<R: RowSource<(Cell, Held)>>(alloc: Global, rows: &mut R) -> Result<String, Fail> {
     let mut text = String::new(alloc);
-    let mut rows = opened.stock_rows()?;
     for _ in 0..MOST_ROWS {
         let Some((cell, held)) = rows.next_row()? else {
             break;
@@ -28,9 +42,21 @@ pub fn stock_of<S: Alter>(alloc: Global, opened: &mut Opened<S>) -> Result<Strin
 }
 
 /// The report of the unfinished journeys.
-pub fn unfinished_of<S: Alter>(alloc: Global, opened: &mut Opened<S>) -> Result<String, Fail> {
+pub fn unfinished_of<S: Alter>(alloc: Global, conn: &mut Connection<S>) -> Result<String, Fail> {
+    let mut rows = start_unfinished(conn)?;
+    let progress = Progress::new();
+    briefs_in(
+        alloc,
+        &mut UnfinishedRows {
+            rows: &mut rows,
+            progress,
+        },
+    )
+}
+
+/// The report of the journeys that remain.
+fn briefs_in<R: RowSource<Brief>>(alloc: Global, rows: &mut R) -> Result<String, Fail> {
     let mut text = String::new(alloc);
-    let mut rows = opened.unfinished_rows()?;
     for _ in 0..MOST_ROWS {
         let Some(brief) = rows.next_row()? else {
             break;
@@ -143,10 +169,10 @@ pub fn shows_all<S: Alter>(
     opened: &mut Opened<S>,
     rounds: u64,
 ) -> Result<(), Fail> {
-    let stock = stock_of(alloc, opened)?;
+    let stock = stock_of(alloc, opened.connection())?;
     let expected = expected_stock(alloc, rounds)?;
     holds(rt, "stock", stock.as_str() == expected.as_str());
-    let unfinished = unfinished_of(alloc, opened)?;
+    let unfinished = unfinished_of(alloc, opened.connection())?;
     let expected = expected_unfinished(alloc, rounds)?;
     holds(rt, "unfinished", unfinished.as_str() == expected.as_str());
     if rounds > 0 {

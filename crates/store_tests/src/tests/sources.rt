@@ -6,6 +6,7 @@ use allotment::{Cell, Held};
 use commands::{Fault, Item};
 use memory_files::{ClosedFile, Session};
 use saga_core::{Brief, RowSource};
+use sql_reads::{Progress, StockRows, UnfinishedRows, start_stock, start_unfinished};
 use sqlite::{Alter, Connection};
 use std::alloc::{AllocError, Global};
 use std::process::Abort;
@@ -88,10 +89,38 @@ fn handed<T: Shown + Drop, R: RowSource<T>>(
     Ok(text)
 }
 
+/// What the source of stock returns in so many calls.
+fn stock_told<S: Alter>(
+    alloc: Global,
+    conn: &mut Connection<S>,
+    calls: u8,
+) -> Result<String, Fail> {
+    let mut rows = start_stock(conn)?;
+    let mut source = StockRows {
+        rows: &mut rows,
+        progress: Progress::new(),
+    };
+    handed(alloc, &mut source, calls)
+}
+
+/// What the source of unfinished journeys returns in so many calls.
+fn unfinished_told<S: Alter>(
+    alloc: Global,
+    conn: &mut Connection<S>,
+    calls: u8,
+) -> Result<String, Fail> {
+    let mut rows = start_unfinished(conn)?;
+    let mut source = UnfinishedRows {
+        rows: &mut rows,
+        progress: Progress::new(),
+    };
+    handed(alloc, &mut source, calls)
+}
+
 /// What the sources of stock, of unfinished journeys and of the second journey's items return in so many calls.
 fn told<S: Alter>(alloc: Global, opened: &mut Opened<S>, calls: u8) -> Result<[String; 3], Fail> {
-    let stock = handed(alloc, &mut opened.stock_rows()?, calls)?;
-    let unfinished = handed(alloc, &mut opened.unfinished_rows()?, calls)?;
+    let stock = stock_told(alloc, opened.connection(), calls)?;
+    let unfinished = unfinished_told(alloc, opened.connection(), calls)?;
     let items = handed(alloc, &mut opened.item_rows(2)?, calls)?;
     Ok([stock, unfinished, items])
 }

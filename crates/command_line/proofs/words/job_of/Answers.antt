@@ -3,9 +3,9 @@ use Rattle.std.proofs.Common.{◌∙◌, ap, map, codes, refl, subst, sym}
 use Rattle.std.specs.Prelude.{Err, Some}
 use Rattle.std.proofs.lemmas.Result.{err_from_is_err_and}
 use Rattle.std.specs.String.{string_bytes}
-use Rattle.command_line.specs.Jobs.{number_named, most_port, most_connections, IsUsage}
+use Rattle.command_line.specs.Jobs.{is_malformed, number_named, most_port, most_connections, IsUsage}
 use Rattle.command_line.specs.Subcommands.{app_for}
-use Rattle.command_line.proofs.NumberLemmas.{refuses-no_connections, refuses-no_port, refuses-numbers}
+use Rattle.command_line.proofs.NumberLemmas.{refuses-bad_number, refuses-no_port, refuses-numbers}
 use Rattle.command_line.proofs.SubcommandLemmas.{value_in-matches, value_read}
 use Rattle.command_line.proofs.words.job_of.Goals as goal
 
@@ -17,7 +17,7 @@ returns-in-Run-clause-job c =
       values = read (codes "FILE") _ c.in_ok-matches.ensures.rows c.in_ok-file.ensures.value;
     }
 
--- the numbers are those of the matches
+-- the numbers and the path are those of the matches
 pub returns-in-Serve-clause-job : goal.returns-in-Serve-clause-job
 returns-in-Serve-clause-job c =
     let app = app_for c.args.subcommand in
@@ -30,6 +30,7 @@ returns-in-Serve-clause-job c =
         value_read app words m (codes "FILE") _ rows c.in_ok-file.ensures.value,
         ap (number_named most_port) (value_in-matches app words m (codes "PORT") rows) ∙ c.in_ok-port-in-Serve.ensures.number,
         ap (number_named most_connections) (value_in-matches app words m (codes "N") rows) ∙ c.in_ok-connections-in-Serve.ensures.number,
+        value_in-matches app words m (codes "PATH") rows ∙ c.in_ok-house-in-Serve.ensures.value,
       );
     }
 
@@ -39,10 +40,10 @@ returns-in-Serve-clause-taken c = λ _.
     let words = map string_bytes c.args.words.now in
     let m = c.in_ok-matches.matches in
     let rows = c.in_ok-matches.ensures.rows in
-    refuses-numbers c.args.subcommand words c.in_ok-port-in-Serve.port c.in_ok-connections-in-Serve.connections c.in-Serve.is
+    refuses-numbers c.args.subcommand words c.in_ok-port-in-Serve.port c.in-Serve.is
     (c.in_ok-matches.ensures.taken refl)
     (ap (number_named most_port) (value_in-matches app words m (codes "PORT") rows) ∙ c.in_ok-port-in-Serve.ensures.number)
-    (ap (number_named most_connections) (value_in-matches app words m (codes "N") rows) ∙ c.in_ok-connections-in-Serve.ensures.number)
+    (ap (is_malformed most_connections) (value_in-matches app words m (codes "N") rows) ∙ c.in_ok-connections-in-Serve.ensures.taken refl)
 
 -- a usage is returned for a port only where no port is given
 pub returns-in_err-port-in-Serve-clause-usage : goal.returns-in_err-port-in-Serve-clause-usage
@@ -55,15 +56,15 @@ returns-in_err-port-in-Serve-clause-usage c = λ usage.
     (ap (number_named most_port) (value_in-matches app words m (codes "PORT") c.in_ok-matches.ensures.rows)
     ∙ c.in_err-port-in-Serve.ensures.usage (subst IsUsage (failed.1 ∙ ap Err failed.2) usage))
 
--- a usage is returned for a number of connections only where none is given
+-- a usage is returned for a number of connections only where it is malformed
 pub returns-in_err-connections-in-Serve-clause-usage : goal.returns-in_err-connections-in-Serve-clause-usage
 returns-in_err-connections-in-Serve-clause-usage c = λ usage.
     let app = app_for c.args.subcommand in
     let words = map string_bytes c.args.words.now in
     let m = c.in_ok-matches.matches in
     let failed = err_from_is_err_and c.from_residual-in_err-connections-in-Serve.result c.from_residual-in_err-connections-in-Serve.ensures.1 in
-    refuses-no_connections c.args.subcommand words c.in-Serve.is
-    (ap (number_named most_connections) (value_in-matches app words m (codes "N") c.in_ok-matches.ensures.rows)
+    refuses-bad_number c.args.subcommand words c.in-Serve.is
+    (ap (is_malformed most_connections) (value_in-matches app words m (codes "N") c.in_ok-matches.ensures.rows)
     ∙ c.in_err-connections-in-Serve.ensures.usage (subst IsUsage (failed.1 ∙ ap Err failed.2) usage))
 
 pub returns-in-Recover-clause-job : goal.returns-in-Recover-clause-job

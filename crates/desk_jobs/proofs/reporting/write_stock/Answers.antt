@@ -1,42 +1,18 @@
--- The rows that were handed out are those of each state that was kept.
+-- The rows that are written are those of the state that is kept.
+use Rattle.std.proofs.Common.{rules}
+use Rattle.sqlite.specs.Held.{state}
+use Rattle.sqlite.specs.State.{HasCleanDisk}
 use Rattle.reports.proofs.FrontLemmas.{front_none}
-use Rattle.desk_jobs.proofs.ReportLemmas.{wrote_front, wrote_whole}
+use Rattle.desk_jobs.proofs.ReportLemmas.{wrote_front}
 use Rattle.desk_jobs.proofs.reporting.write_stock.Goals as goal
 
--- the report was written, and flushed or not
-pub returns-in-Ok-stock_text : goal.returns-in-Ok-stock_text
-returns-in-Ok-stock_text g c =
-    let stayed = c.stock_text.ensures.kept in
-    record {
-      told = record {
-        last = c.stock_text.new.rows.handed.rows.conn.now;
-        less = λ clean. c.in-Ok.ensures.kept.reads.less (stayed.left.reads.less clean);
-        holds = λ clean s is rows stock.
-            let rests = c.in-Ok.ensures.rows c.args.opened.now.version (stayed.left.reads.less clean) s is.desk is.keeps rows stock in
-            wrote_whole _ _ _ _ c.flush.result (c.in-Ok-stock_text.ensures.written clean rows rests) c.flush.ensures.same;
-      };
-    }
+pub returns-clause-told : goal.returns-clause-told
+returns-clause-told g c clean v s desk keeps rows stock =
+    let stayed = c.write_cells.ensures.kept in
+    -- the connection is the one that the rows give back when they are let go
+    let read : HasCleanDisk (state g.S.Store c.write_cells.new.rows.conn.now) = search rules in
+    c.write_cells.ensures.told read rows (c.in-Ok.ensures.rows v (stayed.left.reads.less read) s desk keeps rows stock)
 
--- a prefix of it was
-pub returns : goal.returns
-returns g c =
-    let stayed = c.stock_text.ensures.kept in
-    record {
-      told = record {
-        last = c.stock_text.new.rows.handed.rows.conn.now;
-        less = λ clean. c.in-Ok.ensures.kept.reads.less (stayed.left.reads.less clean);
-        holds = λ clean s is rows stock.
-            let rests = c.in-Ok.ensures.rows c.args.opened.now.version (stayed.left.reads.less clean) s is.desk is.keeps rows stock in
-            wrote_front _ _ _ _ (c.stock_text.ensures.front clean rows rests);
-      };
-    }
-
--- nothing was
-pub returns-in-Err : goal.returns-in-Err
-returns-in-Err g c = record {
-  told = record {
-    last = c.args.opened.now.conn;
-    less = λ clean. clean;
-    holds = λ clean s is rows stock. wrote_front _ _ _ _ (front_none _ _);
-  };
-}
+-- nothing was written
+pub returns-in-Err-clause-told : goal.returns-in-Err-clause-told
+returns-in-Err-clause-told g c clean v s desk keeps rows stock = wrote_front _ _ _ _ (front_none _ _)

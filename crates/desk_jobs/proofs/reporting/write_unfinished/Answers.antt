@@ -1,43 +1,18 @@
--- The rows that were handed out are those of each state that was kept.
-use Rattle.std.proofs.Common.{refl}
+-- The rows that are written are those of the state that is kept.
+use Rattle.std.proofs.Common.{refl, rules}
+use Rattle.sqlite.specs.Held.{state}
+use Rattle.sqlite.specs.State.{HasCleanDisk}
 use Rattle.reports.proofs.FrontLemmas.{front_none}
-use Rattle.desk_jobs.proofs.ReportLemmas.{wrote_front, wrote_whole}
+use Rattle.desk_jobs.proofs.ReportLemmas.{wrote_front}
 use Rattle.desk_jobs.proofs.reporting.write_unfinished.Goals as goal
 
--- the report was written, and flushed or not
-pub returns-in-Ok-unfinished_text : goal.returns-in-Ok-unfinished_text
-returns-in-Ok-unfinished_text g c =
-    let stayed = c.unfinished_text.ensures.kept in
-    record {
-      told = record {
-        last = c.unfinished_text.new.rows.handed.rows.conn.now;
-        less = λ clean. c.in-Ok.ensures.kept.reads.less (stayed.left.reads.less clean);
-        holds = λ clean s is.
-            let rests = c.in-Ok.ensures.rows c.args.opened.now.version (stayed.left.reads.less clean) s is.desk is.keeps _ refl in
-            wrote_whole _ _ _ _ c.flush.result (c.in-Ok-unfinished_text.ensures.written clean _ rests) c.flush.ensures.same;
-      };
-    }
+pub returns-clause-told : goal.returns-clause-told
+returns-clause-told g c clean v s desk keeps =
+    let stayed = c.write_briefs.ensures.kept in
+    -- the connection is the one that the rows give back when they are let go
+    let read : HasCleanDisk (state g.S.Store c.write_briefs.new.rows.conn.now) = search rules in
+    c.write_briefs.ensures.told read _ (c.in-Ok.ensures.rows v (stayed.left.reads.less read) s desk keeps _ refl)
 
--- a prefix of it was
-pub returns : goal.returns
-returns g c =
-    let stayed = c.unfinished_text.ensures.kept in
-    record {
-      told = record {
-        last = c.unfinished_text.new.rows.handed.rows.conn.now;
-        less = λ clean. c.in-Ok.ensures.kept.reads.less (stayed.left.reads.less clean);
-        holds = λ clean s is.
-            let rests = c.in-Ok.ensures.rows c.args.opened.now.version (stayed.left.reads.less clean) s is.desk is.keeps _ refl in
-            wrote_front _ _ _ _ (c.unfinished_text.ensures.front clean _ rests);
-      };
-    }
-
--- nothing was
-pub returns-in-Err : goal.returns-in-Err
-returns-in-Err g c = record {
-  told = record {
-    last = c.args.opened.now.conn;
-    less = λ clean. clean;
-    holds = λ clean s is. wrote_front _ _ _ _ (front_none _ _);
-  };
-}
+-- nothing was written
+pub returns-in-Err-clause-told : goal.returns-in-Err-clause-told
+returns-in-Err-clause-told g c clean v s desk keeps = wrote_front _ _ _ _ (front_none _ _)

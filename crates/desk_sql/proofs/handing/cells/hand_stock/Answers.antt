@@ -1,32 +1,37 @@
--- The rows that remain of the query are its only answer, and it changes nothing.
-use Rattle.std.proofs.Common.{inl, [], map}
+-- The rows that remain of the query are its only answer, and it changes nothing, whether it starts or not.
+use Rattle.std.proofs.Common.{inl, [], map, refl}
 use Rattle.sqlite.specs.Held.{state}
 use Rattle.desk_sql.specs.declared.versions.Version.TheVariants.{Two}
 use Rattle.desk_sql.specs.RemainingRows.{stock_shown}
 use Rattle.desk_sql.specs.Texts.{find_stock_text}
 use Rattle.desk_sql.specs.Meanings.{find_stock_query, find_stock_names}
+use Rattle.desk_sql.proofs.Beginning.{not_begun}
 use Rattle.desk_sql.proofs.Meaning.{find_stock_means}
-use Rattle.desk_sql.proofs.Selecting.{leaves_no_more}
+use Rattle.desk_sql.proofs.Selecting.{leaves_no_more, ok_then}
+use Rattle.desk_sql.proofs.Taking.{find_stock_takes}
 use Rattle.desk_sql.proofs.HandedRows.{starts, begun_same}
 use Rattle.desk_sql.proofs.HandedCells.{stock_answer}
 use Rattle.desk_sql.proofs.handing.cells.hand_stock.Goals as goal
 
-pub returns-clause-begun : goal.returns-clause-begun
-returns-clause-begun g c clean v t sees later is =
+pub returns : goal.returns
+returns g c =
     let old = c.args.conn.now in
-    inl (
-      [],
-      starts g.S.Store find_stock_text find_stock_query find_stock_names find_stock_means [] v old c.in_ok-rows.rows.conn.now
-          (map stock_shown later) (λ live. (sees live).schema) (c.in_ok-rows.ensures.begun clean)
-          (λ live. stock_answer (state g.S.Store old).now.trees t.stock later (sees live).rows.stock is),
+    let store = g.S.Store in
+    let made = c.query.ensures in (
+      (refl, c.query.follows.holds, not_begun store find_stock_means find_stock_takes old c.query.follows.lender-at-none c.query.result c.query.follows.holds-at-none),
+      record {
+        fault = tt;
+        same_reference = made.same_reference;
+        begun = ok_then _ _ c.query.result (λ rows begun clean v t sees later is. inl (
+          [],
+          starts store find_stock_text find_stock_query find_stock_names find_stock_means [] v old rows.conn.now
+              (map stock_shown later) (λ live. (sees live).schema) (begun clean)
+              (λ live. stock_answer (state store old).now.trees t.stock later (sees live).rows.stock is),
+        )) made.begun;
+        same = ok_then _ _ c.query.result (λ rows begun clean.
+            begun_same store find_stock_text find_stock_query find_stock_names find_stock_means [] old rows.conn.now (begun clean)) made.begun;
+        mode = made.mode;
+        survives = ok_then _ _ c.query.result (λ rows survives.
+            leaves_no_more find_stock_text (find_stock_means Two).selects [] (state store old) (state store rows.conn.now) survives) made.survives;
+      },
     )
-
-pub returns-clause-same : goal.returns-clause-same
-returns-clause-same g c clean =
-    begun_same g.S.Store find_stock_text find_stock_query find_stock_names find_stock_means [] c.args.conn.now
-    c.in_ok-rows.rows.conn.now (c.in_ok-rows.ensures.begun clean)
-
-pub returns-clause-survives : goal.returns-clause-survives
-returns-clause-survives g c =
-    leaves_no_more find_stock_text (find_stock_means Two).selects [] (state g.S.Store c.args.conn.now)
-    (state g.S.Store c.in_ok-rows.rows.conn.now) c.in_ok-rows.ensures.survives

@@ -1,0 +1,10 @@
+mod answering;
+mod commands_stopped;
+mod failing;
+mod helping;
+mod memory;
+mod places;
+mod recoveries_stopped;
+mod recovery_rows;
+mod rows;
+mod stories;

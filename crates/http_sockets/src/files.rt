@@ -1,0 +1,57 @@
+//! The file of a Unix socket, which its owner alone may open.
+use mio::net::{UnixListener, UnixStream};
+use std::alloc::Global;
+use std::fs::{self, DirBuilder, Permissions};
+use std::io::{self, ErrorKind};
+use std::os::unix::fs::{DirBuilderExt, FileTypeExt, PermissionsExt};
+
+/// Listens on a path. A socket that a stopped desk left there is replaced; another file is not, nor is a socket that somebody
+/// listens on.
+///
+/// The socket is made in a folder that its owner alone may enter, and gets its path when it has its mode: nobody else can
+/// open it meanwhile.
+pub(crate) fn listen_at(rt: &HostRuntime, alloc: Global, path: &str) -> io::Result<UnixListener> {
+    check_free(rt, path)?;
+    let folder = format!(in alloc; "{path}.new")?;
+    let inside = format!(in alloc; "{path}.new/s")?;
+    remove_folder(rt, folder.as_str(), inside.as_str());
+    DirBuilder::new().mode(0o700).create(rt, folder.as_str())?;
+    let listener = listen_inside(rt, inside.as_str(), path);
+    remove_folder(rt, folder.as_str(), inside.as_str());
+    listener
+}
+
+/// Removes the file of a socket.
+pub(crate) fn remove_socket(rt: &HostRuntime, path: &str) {
+    let _ = fs::remove_file(rt, path);
+}
+
+/// Reports an error unless the path has no file, or a socket that nobody listens on.
+fn check_free(rt: &HostRuntime, path: &str) -> io::Result<()> {
+    let there = match fs::symlink_metadata(rt, path) {
+        Ok(there) => there,
+        Err(error) if error.kind() == ErrorKind::NotFound => return Ok(()),
+        Err(error) => return Err(error),
+    };
+    if !there.file_type().is_socket() {
+        return Err(io::Error::from(ErrorKind::AlreadyExists));
+    }
+    match UnixStream::connect(rt, path) {
+        Err(error) if error.kind() == ErrorKind::ConnectionRefused => Ok(()),
+        _ => Err(io::Error::from(ErrorKind::AddrInUse)),
+    }
+}
+
+/// Listens on a path inside the folder, and moves the socket to its own path.
+fn listen_inside(rt: &HostRuntime, inside: &str, path: &str) -> io::Result<UnixListener> {
+    let listener = UnixListener::bind(rt, inside)?;
+    fs::set_permissions(rt, inside, Permissions::from_mode(0o600))?;
+    fs::rename(rt, inside, path)?;
+    Ok(listener)
+}
+
+/// Removes the folder, and the socket in it, where they are there.
+fn remove_folder(rt: &HostRuntime, folder: &str, inside: &str) {
+    let _ = fs::remove_file(rt, inside);
+    let _ = fs::remove_dir(rt, folder);
+}

@@ -1,0 +1,425 @@
+"""Many clients of one desk at once, over real sockets. Prints what went wrong, and nothing else."""
+import os
+import resource
+import signal
+import socket
+import stat
+import subprocess
+import threading
+import time
+
+from driving import DESK, Client, desk, free_port, is_whole, request
+
+FLIGHT = b'{"count":1,"first":"2030-06-01","kind":"flight","nights":1,"product":"A1","supplier":"AL"}'
+PLAN = b'{"steps":[{"options":[' + FLIGHT + b'],"save":false}],"tries":0}'
+FILE = b"kind,supplier,product,night,places\nflight,AL,A1,2030-06-01,1000\n"
+STOCK = request("GET", "/stock")
+UNFINISHED = request("GET", "/unfinished")
+MEANWHILE = 10  # seconds: the most that a client may wait for a page beside others
+wrong = []
+telling = threading.Lock()
+
+
+def same(what, expected, found):
+    if expected != found:
+        with telling:
+            wrong.append(f"{what}\n  expected: {expected!r}\n  found:    {found!r}")
+
+
+def holds(what, is_so):
+    same(what, True, bool(is_so))
+
+
+class Desk:
+    """The program at its port, and perhaps at a path."""
+
+    def __init__(self, file, *words, port=None, files=None):
+        limits = (lambda: resource.setrlimit(resource.RLIMIT_NOFILE, (files, files))) if files else None
+        for _ in range(3):
+            self.port = port or free_port()
+            self.process = subprocess.Popen(
+                [DESK, "serve", file, "--port", str(self.port), *words], stdin=subprocess.DEVNULL,
+                stdout=subprocess.PIPE, stderr=subprocess.PIPE, preexec_fn=limits,
+            )
+            self.said = self.process.stdout.readline()
+            if self.said:
+                return
+            self.process.communicate()
+        raise SystemExit(f"no desk over {file}")
+
+    def signal(self, number):
+        self.process.send_signal(number)
+
+    def ends(self, what, status=0, within=30):
+        """It ends by itself, and has told nothing but that it is ready."""
+        try:
+            out, err = self.process.communicate(timeout=within)
+        except subprocess.TimeoutExpired:
+            self.kill()
+            same(f"{what}: it ends", True, False)
+            return
+        same(f"{what}: the status", status, self.process.returncode)
+        same(f"{what}: what it told", (f"ready {self.port}\n".encode(), b""), (self.said + out, err))
+
+    def kill(self):
+        self.signal(signal.SIGKILL)
+        self.process.communicate()
+
+
+def body_of(page):
+    return page.partition(b"\r\n\r\n")[2]
+
+
+def post(path, key, body=b"", agent="ann"):
+    return request("POST", path, key, body).replace(b"Desk-Agent: ann", f"Desk-Agent: {agent}".encode())
+
+
+def opened(port):
+    return socket.create_connection(("127.0.0.1", port), 60)
+
+
+def is_served(what, port):
+    """Another client is served meanwhile, and at once."""
+    begun = time.monotonic()
+    client = Client(port)
+    holds(f"{what}: another one is served", body_of(client.ask(STOCK)).rstrip().endswith(b"cells 1"))
+    holds(f"{what}: and at once", time.monotonic() - begun < MEANWHILE)
+    client.close()
+
+
+def sockets_of(served):
+    """How many sockets a desk has, of those that listen and those of connections."""
+    folder = f"/proc/{served.process.pid}/fd"
+    return sum(os.readlink(f"{folder}/{name}").startswith("socket:") for name in os.listdir(folder))
+
+
+def seconds_until(is_so, most, begun):
+    """After how many seconds this was so; at most so many."""
+    while not is_so() and time.monotonic() - begun < most:
+        time.sleep(0.2)
+    return time.monotonic() - begun
+
+
+def seconds_to_end(stream, begun):
+    """After how many seconds the desk ended this connection, of which nothing was read before."""
+    try:
+        while stream.recv(65536):
+            pass
+    except OSError:
+        pass
+    return time.monotonic() - begun
+
+
+def loads(port):
+    client = Client(port)
+    same("the file", b'{"batch":"b1","rows":1}', body_of(client.ask(post("/batches/b1", "k0", FILE))))
+    client.close()
+
+
+# ---- what waits
+
+def half_a_head(port):
+    stream = opened(port)
+    stream.sendall(STOCK[:20])
+    begun = time.monotonic()
+    is_served("half a head", port)
+    took = seconds_to_end(stream, begun)
+    holds(f"half a head: ended after 30 seconds, {took:.1f}", 29.5 < took < 45)
+
+
+def byte_by_byte(port):
+    """A byte each half second: it is never silent, and its request is never whole."""
+    stream = opened(port)
+    stream.setblocking(False)
+    begun = time.monotonic()
+    ended = None
+    for at in range(80):
+        try:
+            stream.send(b"GET /stock HTTP/1.1\r\nHost: d\r\nX: "[at : at + 1] or b"x")
+            if stream.recv(1) == b"":
+                ended = time.monotonic() - begun
+                break
+        except BlockingIOError:
+            pass
+        except OSError:
+            ended = time.monotonic() - begun
+            break
+        if at == 4:
+            is_served("byte by byte", port)
+        time.sleep(0.5)
+    holds(f"byte by byte: ended after 30 seconds, {ended}", ended and 29.5 < ended < 45)
+
+
+def never_reads():
+    """Requests without end, of which no page is read: the pages that wait are bounded, and so is what is taken in."""
+    greedy = Desk("greedy.db")
+    nights = [f"flight,AL,A{n},2030-06-{night:02},9\n" for n in range(20) for night in range(1, 31)]
+    same("a file of 600 rows", b'{"batch":"b1","rows":600}',
+         body_of(Client(greedy.port).ask(post("/batches/b1", "k0", FILE[:35] + "".join(nights).encode()))))
+    stream = socket.socket()
+    stream.setsockopt(socket.SOL_SOCKET, socket.SO_RCVBUF, 4096)
+    stream.connect(("127.0.0.1", greedy.port))
+    stream.settimeout(5)
+    sent = 0
+    started = time.monotonic()
+    try:
+        while sent < 50_000_000:
+            sent += stream.send(STOCK * 100)
+    except OSError:
+        pass
+    holds(f"never reads: no more is taken in after {sent} bytes", sent < 50_000_000)
+    begun = time.monotonic()
+    holds("never reads: another one is served", is_whole(Client(greedy.port).ask(UNFINISHED)))
+    holds("never reads: and at once", time.monotonic() - begun < MEANWHILE)
+    took = seconds_until(lambda: sockets_of(greedy) == 1, 200, started)
+    holds(f"never reads: it is ended 30 seconds after it took no more, {took:.1f}", 29.5 < took < 200)
+    seconds_to_end(stream, begun)
+    with open(f"/proc/{greedy.process.pid}/status", encoding="ascii") as lines:
+        peak = next(int(line.split()[1]) for line in lines if line.startswith("VmHWM"))
+    holds(f"never reads: the desk takes less than 64 MB, {peak} kB", peak < 65536)
+    greedy.kill()
+
+
+def silent(port):
+    """Silent for more than 30 seconds between two requests, of which the second comes in two pieces: it is served."""
+    client = Client(port)
+    is_whole(client.ask(STOCK))
+    time.sleep(33)
+    client.stream.sendall(STOCK[:30])
+    time.sleep(0.5)
+    holds("silent, and then in two pieces", body_of(client.ask(STOCK[30:])).rstrip().endswith(b"cells 1"))
+    client.close()
+
+
+def stopped_for_long():
+    """A desk that was stopped for more than 30 seconds does not blame the client whose request was half there."""
+    stopped = Desk("stopped.db")
+    client = Client(stopped.port)
+    client.stream.sendall(STOCK[:30])
+    time.sleep(0.5)
+    stopped.signal(signal.SIGSTOP)
+    time.sleep(32)
+    stopped.signal(signal.SIGCONT)
+    time.sleep(0.5)
+    holds("after a stop of 32 seconds", body_of(client.ask(STOCK[30:])).rstrip().endswith(b"cells 0"))
+    stopped.kill()
+
+
+# ---- what does not
+
+def books(port, number, pages):
+    """One agent books, over one connection that is kept open."""
+    agent = f"a{number}"
+    client = Client(port)
+    begun = body_of(client.ask(post("/journeys", "k1", PLAN, agent)))
+    journey = begun.partition(b":")[2].rstrip(b"}").decode()
+    stepped = body_of(client.ask(post(f"/journeys/{journey}/step", "k2", b"", agent)))
+    same(f"the step of {agent}", b'{"item":"T1.1","journey":%s,"pos":1,"state":"ended"}' % journey.encode(), stepped)
+    pages.append(journey)
+    for _ in range(20):
+        client.ask(request("GET", f"/journeys/{journey}").replace(b"ann", agent.encode()))
+    client.close()
+
+
+def ten_book(port):
+    journeys = []
+    side_by_side(*[(books, port, number, journeys) for number in range(10)])
+    same("ten clients: as many journeys", 10, len(set(journeys)))
+
+
+def places_taken():
+    """256 at once are served, each again; the one that is silent for longest is ended for one more."""
+    full = Desk("full.db")
+    clients = []
+    for number in range(256):
+        clients.append(Client(full.port))
+        holds(f"connection {number}", is_whole(clients[-1].ask(UNFINISHED)))
+    time.sleep(0.3)
+    for number in [*range(0, 100), *range(101, 256)]:
+        holds(f"connection {number} again", is_whole(clients[number].ask(UNFINISHED)))
+    holds("one more", is_whole(Client(full.port).ask(UNFINISHED)))
+    same("the one that was silent for longest", b"", clients[100].stream.recv(1))
+    for number in [*range(0, 100), *range(101, 256)]:
+        holds(f"connection {number} once more", is_whole(clients[number].ask(UNFINISHED)))
+    full.kill()
+
+
+def few_descriptors():
+    """Where there is no descriptor for one more connection, it waits until another one ends."""
+    few = Desk("few.db", files=40)
+    clients = [Client(few.port) for _ in range(60)]
+    for client in clients:
+        client.stream.sendall(UNFINISHED)
+    time.sleep(1)
+    holds("the first one", is_whole(clients[0].ask(b"")))
+    for client in clients[1:]:
+        client.stream.settimeout(10)
+    for number, client in enumerate(clients[1:], 1):
+        clients[number - 1].close()
+        holds(f"connection {number} of 60, with 40 descriptors", is_whole(client.ask(b"")))
+    few.kill()
+
+
+def stopped_shortly():
+    """A signal that stops the desk ends nothing: not a wait, not a connection, not a request that is half there."""
+    stopped = Desk("short.db", "--connections", "2")
+    clients = [Client(stopped.port), Client(stopped.port)]
+    clients[0].stream.sendall(UNFINISHED[:30])
+    for _ in range(20):
+        stopped.signal(signal.SIGSTOP)
+        time.sleep(0.02)
+        stopped.signal(signal.SIGCONT)
+        time.sleep(0.02)
+        holds("beside stops", is_whole(clients[1].ask(UNFINISHED)))
+    holds("what was half there", is_whole(clients[0].ask(UNFINISHED[30:])))
+    for client in clients:
+        client.close()
+    stopped.ends("a desk that was stopped and continued")
+
+
+def answered(port, message):
+    """Sends a request again and again, over a new connection each time, until its page comes."""
+    for _ in range(2400):
+        try:
+            client = Client(port)
+            client.stream.settimeout(5)
+            page = client.ask(message)
+            client.close()
+            if is_whole(page):
+                return body_of(page)
+        except OSError:
+            pass
+        time.sleep(0.05)
+    return b"no page"
+
+
+def retries(port, number, journeys):
+    """Begins three journeys, each request until it is answered."""
+    for count in range(3):
+        page = answered(port, post("/journeys", f"k{count}", PLAN, f"a{number}"))
+        journeys.append(page)
+        same("a page, whatever was killed", True, page.startswith(b'{"journey":'))
+
+
+def kills():
+    """The desk is killed again and again while ten clients begin journeys: each begins just three."""
+    killed = Desk("killed.db")
+    journeys = []
+    clients = [threading.Thread(target=retries, args=(killed.port, number, journeys)) for number in range(10)]
+    for client in clients:
+        client.start()
+    count = 0
+    while any(client.is_alive() for client in clients) and count < 12:
+        time.sleep(0.15 + 0.05 * (count % 4))
+        killed.kill()
+        killed = Desk("killed.db", port=killed.port)
+        count += 1
+    for client in clients:
+        client.join()
+    same("after the kills: as many journeys as were asked for", 30, len(set(journeys)))
+    killed.kill()
+    last = desk("run", "killed.db", lines="begin F/AL/A1/2030-06-01/1/1!0\n").out
+    same("after the kills: the next journey", "journey 31 begun\n", last)
+
+
+def asks_at(path, message):
+    """The page of a request at a Unix socket."""
+    with socket.socket(socket.AF_UNIX) as stream:
+        stream.settimeout(60)
+        stream.connect(path)
+        stream.sendall(message)
+        page = b""
+        while not is_whole(page):
+            piece = stream.recv(65536)
+            if not piece:
+                break
+            page += piece
+    return page
+
+
+def refused_at(what, path):
+    """A desk that is to listen at this path ends with the fault of the net, and leaves what is there."""
+    before = os.lstat(path)
+    ended = desk("serve", "refused.db", "--port", str(free_port()), "--connections", "1", "--house", path)
+    same(f"{what}: how it ends", (1, "", "fault 27 Net\n"), (ended.status, ended.out, ended.err))
+    after = os.lstat(path)
+    same(f"{what}: what is there", (before.st_ino, before.st_mode, before.st_size), (after.st_ino, after.st_mode, after.st_size))
+
+
+def unix_socket():
+    """The file of the Unix socket: its mode and owner; one that a kill left, one that is in use, and other files."""
+    with open("a_file", "w", encoding="ascii") as file:
+        file.write("as it was")
+    os.symlink("nowhere", "a_link")
+    refused_at("a file at the path", "a_file")
+    refused_at("a link at the path", "a_link")
+    old = Desk("house.db", "--house", "desk.sock")
+    there = os.lstat("desk.sock")
+    same("the file: a socket", True, stat.S_ISSOCK(there.st_mode))
+    same("the file: its mode", 0o600, stat.S_IMODE(there.st_mode))
+    same("the file: its owner", os.getuid(), there.st_uid)
+    holds("a request at the path", is_whole(asks_at("desk.sock", UNFINISHED)))
+    holds("a request at the port", is_whole(Client(old.port).ask(UNFINISHED)))
+    for _ in range(3):  # clients that go away before they take their pages
+        with socket.socket(socket.AF_UNIX) as hasty:
+            hasty.connect("desk.sock")
+            hasty.sendall(UNFINISHED * 50)
+    holds("after hasty clients", is_whole(asks_at("desk.sock", UNFINISHED)))
+    refused_at("a desk listens at the path", "desk.sock")
+    old.signal(signal.SIGSTOP)
+    refused_at("a desk that is stopped listens at the path", "desk.sock")
+    old.signal(signal.SIGCONT)
+    old.kill()
+    same("a kill leaves the file", True, os.path.exists("desk.sock"))
+    new = Desk("house.db", "--house", "desk.sock", "--connections", "2")
+    holds("a request at the path after a kill", is_whole(asks_at("desk.sock", UNFINISHED)))
+    client = Client(new.port)
+    holds("a request at the port after a kill", is_whole(client.ask(UNFINISHED)))
+    client.close()
+    new.ends("a desk with a path")
+    same("what an orderly end leaves", [], [name for name in os.listdir(".") if name.startswith("desk.sock")])
+
+
+def given_number():
+    """With a number of connections the desk ends when all of them were there and have ended."""
+    counted = Desk("counted.db", "--connections", "5")
+    clients = [Client(counted.port) for _ in range(5)]
+    for client in clients:
+        holds("one of five", is_whole(client.ask(UNFINISHED)))
+    for client in clients:
+        client.close()
+    counted.ends("five connections")
+
+
+def side_by_side(*calls):
+    """Makes these calls at the same time, each a function with its words."""
+    threads = [threading.Thread(target=guarded, args=call) for call in calls]
+    for thread in threads:
+        thread.start()
+    for thread in threads:
+        thread.join()
+
+
+def guarded(call, *words):
+    try:
+        call(*words)
+    except Exception as error:  # what a thread raises is said too
+        same(call.__name__, None, repr(error))
+
+
+def main():
+    whole = Desk("trips.db")
+    loads(whole.port)
+    waiting = [half_a_head, byte_by_byte, silent]
+    calls = [(case, whole.port) for case in waiting] + [(never_reads,), (stopped_for_long,)]
+    beside = [(ten_book, whole.port), (places_taken,), (few_descriptors,), (stopped_shortly,), (kills,), (given_number,),
+        (unix_socket,)]
+    side_by_side(*calls, *beside)
+    is_served("at the end", whole.port)
+    whole.kill()
+    told = desk("unfinished", "trips.db")
+    same("nothing is unfinished", "unfinished 0\n", told.out)
+    print("\n".join(wrong))
+
+
+main()
