@@ -39,7 +39,7 @@ def draw_way():
 # each picture, and how it is drawn
 PICTURES = {
     "crates": lambda: crates.draw(source("crates.txt")),
-    "journey": lambda: journey.draw(printed("README.md", "./desk history trips.db 1"), "Journey 1 of the README"),
+    "journey": lambda: journey.draw(printed("README.md", "./desk history first.db 1"), "Journey 1 of the README"),
     "phases": lambda: phases.draw(source(f"{FOLDER}/phases.txt"), "The phases of a journey"),
     "two_stops": lambda: journey.draw(source(f"{FOLDER}/two_stops.txt"), "Six steps, stopped twice"),
     "way": draw_way,

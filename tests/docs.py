@@ -1,5 +1,5 @@
-"""Runs the commands of Markdown pages as printed, in order, each page in a folder of its own, and compares what they print
-with what the page prints: DESK FOLDER PAGE ..
+"""Runs the commands of Markdown pages as printed, in order, all pages in one folder, and compares what they print with what
+the page prints: DESK FOLDER PAGE ..
 
 A block that begins with ```console has commands, each after "$ ", its further lines after "> ", and its output below. What a
 command prints on standard output and standard error is compared line by line; a line feed at the end may be absent. A command
@@ -18,10 +18,6 @@ import time
 
 # commands that are not run here, by how they begin, and why
 NOT_RUN = {
-    "./build": "it proves the whole program, which takes most of an hour",
-    "scripts/limit.bash": "it proves the whole program once more",
-    "./check": "it is the gate, of which this is a part",
-    "./bench": "it measures, and its numbers differ from run to run",
     "sudo": "it changes the machine",
 }
 
@@ -188,17 +184,22 @@ def compare(command, found, port):
         raise Wrong(f"line {command.line}:\n{shown}")
 
 
-def run_page(desk, room, page):
-    """Runs the commands of a page, and gives how many ran and how many did not."""
+def make_folder(desk, room):
+    """A new folder below the room, with the program and the tools."""
+    folder = tempfile.mkdtemp(dir=room)
+    os.symlink(desk, os.path.join(folder, "desk"))
+    os.symlink(os.path.join(os.path.dirname(HERE), "tools"), os.path.join(folder, "tools"))
+    return folder
+
+
+def run_page(desk, folder, page):
+    """Runs the commands of a page in this folder, and gives how many ran and how many did not."""
     with open(page, encoding="utf-8") as text:
         lines = text.read().splitlines()
     check_links(page, lines)
     commands = commands_on(lines)
     run = [command for command in commands if command.is_run()]
     if run:
-        folder = tempfile.mkdtemp(dir=room)
-        os.symlink(desk, os.path.join(folder, "desk"))
-        os.symlink(os.path.join(os.path.dirname(HERE), "tools"), os.path.join(folder, "tools"))
         port = free_port()
         shell = Shell(folder, desk)
         try:
@@ -223,9 +224,10 @@ def took_too_long(*_):
 def main(desk, room, pages):
     signal.signal(signal.SIGALRM, took_too_long)
     ran, left, wrong = 0, 0, 0
+    desk, folder = os.path.abspath(desk), make_folder(os.path.abspath(desk), os.path.abspath(room))
     for page in pages:
         try:
-            counts = run_page(os.path.abspath(desk), os.path.abspath(room), page)
+            counts = run_page(desk, folder, page)
             ran, left = ran + counts[0], left + counts[1]
         except Wrong as why:
             print(f"{page}: {why}", file=sys.stderr)
