@@ -30,6 +30,10 @@ accepts_page() {
 # the script can fail
 accepts_page "what is printed" '```console\n$ printf "a\\nb"\na\nb\n```\n'
 accepts_page "more lines of a command" '```console\n$ cat <<X\n> a\n> X\na\n```\n'
+printf '%b' '```console\n$ echo a >f\n```\n' >pages/one.md
+printf '%b' '```console\n$ cat f\na\n$ sudo false\n```\n' >pages/two.md
+same "all pages in one folder" "2 commands of 2 pages printed what the pages print; 1 were not run" \
+  "$(python3 "$tests/docs.py" "$DESK" rooms pages/one.md pages/two.md 2>&1)"
 refuses_page "another output" "line 2:" '```console\n$ echo a\nb\n```\n'
 refuses_page "no output" "line 2:" '```console\n$ true\nb\n```\n'
 refuses_page "more output" "line 2:" '```console\n$ echo a; echo b\na\n```\n'
