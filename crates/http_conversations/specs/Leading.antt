@@ -7,12 +7,13 @@ use Rattle.protocols.specs.declared.faults.ServeFault.{ServeFault}
 use Rattle.protocols.specs.declared.faults.ServeFault.TheVariants as serve
 use Rattle.http_messages.specs.Messages.{Message, IsMessage}
 use Rattle.desk_http.specs.Pages.{IsPage, state_after}
+use Rattle.desk_http.specs.declared.doors.Door.TheVariants.{Port}
 use Rattle.http_conversations.specs.Exchanges.{Exchange}
 
 -- the message gets its page, and is carried out; where the page was lost, it is carried out or not
 abbrev pub Comes : State → Message → Option (List ℕ) → State → Type 0
-Comes s m (Some page) t = IsPage s m page × (t ≡ state_after s m)
-Comes s m None t = (t ≡ s) ⊎ (t ≡ state_after s m)
+Comes s m (Some page) t = IsPage Port s m page × (t ≡ state_after Port s m)
+Comes s m None t = (t ≡ s) ⊎ (t ≡ state_after Port s m)
 
 -- an exchange leads from one state to the next
 pub record LeadsBy (s : State) (x : Exchange) (t : State) : Type 0 where
@@ -39,7 +40,7 @@ pub record BreaksOff (leaves : State → State → Type 0) (s : State) (exchange
   pub is_lost : last.page ≡ None
   pub at : State
   pub leads : Leads s before at
-  pub left : leaves at (state_after at message)
+  pub left : leaves at (state_after Port at message)
 
 -- where the exchanges lead, if the store did not fail at the last, or if it did
 abbrev pub Ends : Bool → (State → Type 0) → (State → State → Type 0) → State → List Exchange → Type 0

@@ -9,7 +9,7 @@ ghost use Rattle.http_conversations.specs.Talks.{history_of};
 
 use crate::stages::Stage;
 use commands::Fault;
-use desk_http::{Answer, answer_to};
+use desk_http::{Answer, Door, answer_to};
 use http_messages::{Message, first_message};
 use http_pages::Paths;
 use http_server::Log;
@@ -144,7 +144,7 @@ impl Talk {
 
         ensures sound { B.is_sound book.new → B.is_sound book.old }
     {
-        match answer_to(self.alloc, paths, message, book) {
+        match answer_to(self.alloc, paths, Door::Port, message, book) {
             Ok(answer) => {
                 self.keep(count, answer);
                 Ok(true)

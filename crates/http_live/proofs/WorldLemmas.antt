@@ -7,6 +7,7 @@ use Rattle.saga_core.proofs.WorldLemmas.{ends-with}
 use Rattle.http_messages.specs.Messages.{Message}
 use Rattle.desk_http.specs.Pages.{state_after, state_after_all}
 use Rattle.desk_http.specs.Worlds.{asks_in}
+use Rattle.desk_http.specs.declared.doors.Door.TheVariants.{Port}
 use Rattle.desk_http.proofs.WorldLemmas.{cuts, in-limits, leads}
 use Rattle.protocols.specs.Scenes.{scene}
 use Rattle.http_conversations.specs.Exchanges.{Exchange}
@@ -22,7 +23,7 @@ record Done (s : State) (xs : List Exchange) (t : State) : Type 0 where
 
 module _ (x : Exchange) (xs : List Exchange) (s u t : State) (one : LeadsBy s x u) (rest : Done u xs t) where
   -- its message was carried out
-  carried : u ≡ state_after s one.message → Done s (x ∷ xs) t
+  carried : u ≡ state_after Port s one.message → Done s (x ∷ xs) t
   carried is = record {
     messages = one.message ∷ rest.messages;
     done = (rest.messages, record { message = one.message; is_message = one.is_message; done = inl refl }, rest.done);
@@ -71,7 +72,7 @@ goes_on_by true stands leaves w xs settled here e =
       done = d.done;
       next = e.message;
       is_next = e.is_message;
-      among = cuts (scene None None stands leaves) w d.messages e.message here (subst (λ u. leaves u (state_after u e.message)) d.leads_to e.left);
+      among = cuts (scene None None stands leaves) w d.messages e.message here (subst (λ u. leaves u (state_after Port u e.message)) d.leads_to e.left);
       answered = refl;
       under_way = refl;
     }
