@@ -1,74 +1,138 @@
 #!/usr/bin/env bash
-# Each allocation of the tests of these crates is refused in turn. The test then fails for want of memory, or passes
-# still: no call answers another value in place of that fault, nor at the next call. Left out are tests that do one thing
-# again behind each byte.
+# Each allocation of the tests of these crates is refused in turn. The test passes still, or it ends by the one fault that
+# names want of memory, as the value that a call gave or as its own result: no call answers another value in place of that
+# fault, nor at the next call. Of a test that does one thing again at each byte so many are refused, evenly over it, from
+# another one on each day.
 #
 # The tests of memory of fault_tests pass always: what is refused to the desk they send again, and where memory is refused
 # to themselves they begin again. They make 25,000 allocations; each fifth is refused, from another one on each day, and
 # with EACH=1 every one. Each fifth takes 40 seconds of one processor, by a program with checks at run time.
+#
+# MEMORY_TESTS=FOLDER: takes the programs of the tests, CRATE_tests, from there, and not from where ./check leaves them
 [ -w /dev/shm ] && in_memory=/dev/shm
 . "$(dirname "${BASH_SOURCE[0]}")/helping.bash"
 
 cc -O1 -shared -fPIC -o refuse.so "$tests/refuse.c" || exit 1
 
-# refuses_each PROGRAM TEST: the allocations of the test, one after another, until it makes no such one
-refuses_each() {
-  local n told status
-  for ((n = 1; ; n++)); do
-    rm -f refused
-    told=$(REFUSE=$n LD_PRELOAD=./refuse.so "$1" "$2" 2>&1)
-    status=$?
-    [ -e refused ] || break
+# a test that does one thing again at each byte, and how many of its allocations are refused
+at_each_byte='anywhere|cut|a_failed_read_leaves_the_lines|a_failed_write_leaves_a_beginning_of_the_answers'
+few=10
+today=$(($(date +%s) / 86400))
+
+# the fault as a test prints it; how it ends where that is its own result; and where a check stops it at the value of a call
+fault='(AllocError|AllocFailed \{ \.\. \}|Memory|(Some|Err)\(Memory\)|Error\(out of memory\)|"out of memory")'
+by_result=$'^[Ee]rror: '$fault$'\nthe test failed: its result gives status 1$'
+stopped=$'\n\ntest stopped at src/[a-z_/]+\\.rt:[0-9]+:[0-9]+$'
+by_check=$'(: |;)'$fault$stopped
+by_comparison=$'\n  left: '$fault$'\n right: [^\n]*'$stopped
+
+# program_of CRATE: sets program to the tests of a crate, where they are built
+program_of() {
+  program=${MEMORY_TESTS:-$tests/../crates/$1/out}/${1}_tests
+  [ -x "$program" ] || { same "the tests of $1, which ./check leaves" built absent; return 1; }
+}
+
+# tests_of PROGRAM: the names of its tests
+tests_of() { "$1" --list | sed -n 's/: test$//p'; }
+
+# count_allocations PROGRAM TEST: sets count to how many allocations a test makes, which passes where none is refused
+count_allocations() {
+  rm -f refused
+  REFUSE=none LD_PRELOAD=./refuse.so "$1" "$2" >told 2>&1
+  same "$2, no allocation refused" "0: test result: ok" "$?: $(tail -n 1 told)"
+  read -r count <refused
+}
+
+# passes STATUS TEXT: the test passed
+passes() { [ "$1" -eq 0 ] && [[ $'\n'$2 == *$'\ntest result: ok' ]]; }
+
+# names_fault STATUS TEXT: the test ended by the one fault, and by nothing else
+names_fault() {
+  case $1 in
+    101) [[ $2 =~ $by_result ]] ;;
+    134) if [[ $2 == *$'\n  left: '* ]]; then [[ $2 =~ $by_comparison ]]; else [[ $2 =~ $by_check ]]; fi ;;
+    *) false ;;
+  esac
+}
+
+# refuses PROGRAM TEST N: one run with the N-th allocation refused; sets status and told
+refuses() {
+  rm -f refused
+  told=$(REFUSE=$3 LD_PRELOAD=./refuse.so "$1" "$2" 2>&1)
+  status=$?
+  [ -e refused ] || same "$2, allocation $3" "refused" "not made"
+}
+
+# names_each PROGRAM TEST: it passes, or names the fault, at each of its allocations, or at a few of them
+names_each() {
+  local n step=1 first=1 count
+  count_allocations "$1" "$2"
+  if [[ $2 =~ $at_each_byte ]] && [ "$count" -gt "$few" ]; then
+    step=$((count / few))
+    first=$((today * 7919 % step + 1))
+  fi
+  for ((n = first; n <= count; n += step)); do
+    refuses "$1" "$2" "$n"
     runs=$((runs + 1))
-    case $status:$told in
-      0:* | *Alloc* | *[Mm]emory*) ;;
-      *) same "$2, allocation $n" "want of memory" "$told" ;;
-    esac
+    if passes "$status" "$told"; then
+      passed=$((passed + 1))
+    elif ! names_fault "$status" "$told"; then
+      same "$2, allocation $n" "the test passes, or the one fault" "$status: $told"
+    fi
   done
-  same "$2, no allocation refused" 0 "$status"
 }
 
 # passes_at_each PROGRAM TEST FIRST STEP: so many allocations apart, from this one on; the test passes each time
 passes_at_each() {
-  local n status
-  for ((n = $3; ; n += $4)); do
-    rm -f refused
-    REFUSE=$n LD_PRELOAD=./refuse.so "$1" "$2" >told 2>&1
-    status=$?
-    [ -e refused ] || break
+  local n count
+  count_allocations "$1" "$2"
+  for ((n = $3; n <= count; n += $4)); do
+    refuses "$1" "$2" "$n"
     kept=$((kept + 1))
-    if [ "$status" -ne 0 ] || [ "$(tail -n 1 told)" != "test result: ok" ]; then
-      same "$2, allocation $n" "0: test result: ok" "$status: $(cat told)"
-    fi
+    passes "$status" "$told" || same "$2, allocation $n" "0: test result: ok" "$status: $told"
   done
-  same "$2, no allocation refused" 0 "$status"
 }
 
-runs=0
-for crate in allotment plan savepoints commands saga_core memory_book allotment_csv message_tests http_pages \
-  report_tests http_tests; do
-  program=$tests/../crates/$crate/out/${crate}_tests
-  if [ ! -x "$program" ]; then
-    same "the tests of $crate, which ./check leaves" built absent
-    continue
-  fi
-  for test in $("$program" --list | sed -n 's/: test$//p' | grep -v 'anywhere\|cut'); do
-    refuses_each "$program" "$test"
+# judges STATUS TEXT EXPECTED: what this script makes of such an end of a test
+judges() {
+  local found=wrong
+  if passes "$1" "$2"; then found=passed; elif names_fault "$1" "$2"; then found=named; fi
+  same "what '$2' with status $1 is" "$3" "$found"
+}
+at=$'\n\ntest stopped at src/tests.rt:24:5'
+result=$'\nthe test failed: its result gives status 1'
+judges 0 $'\ntest result: ok' passed
+judges 1 $'\ntest result: ok' wrong
+judges 0 "out of memory" wrong
+judges 101 "error: AllocError$result" named
+judges 101 "error: Store$result" wrong
+judges 101 "error: the memory differs$result" wrong
+judges 101 $'Memory\nerror: Store'"$result" wrong
+judges 134 "a plan of 24 steps: Some(Memory)$at" named
+judges 134 "out of memory: Some(Tries)$at" wrong
+judges 134 "out of memory changes nothing$at" wrong
+judges 134 $'assertion failed: a cell\n  left: Some(Memory)\n right: Some(Twice)'"$at" named
+judges 134 $'assertion failed: a cell\n  left: Some(Twice)\n right: Some(Memory)'"$at" wrong
+judges 139 "a plan: Memory$at" wrong
+
+runs=0 passed=0
+for crate in ${CRATES:-streams allotment plan savepoints commands saga_core memory_book allotment_csv recovery_tests \
+  message_tests line_tests http_pages report_tests http_tests}; do
+  program_of "$crate" || continue
+  for test in $(tests_of "$program"); do
+    names_each "$program" "$test"
   done
 done
+same "$runs allocations were refused" yes "$([ "$runs" -gt 100 ] && echo yes)"
 
 kept=0
-step=5 first=$(($(date +%s) / 86400 % 5 + 1))
+step=5 first=$((today % 5 + 1))
 [ "${EACH:-}" != 1 ] || step=1 first=1
-program=$tests/../crates/fault_tests/out/fault_tests_tests
-if [ -x "$program" ]; then
-  for test in $("$program" --list | sed -n 's/: test$//p' | grep '::memory::'); do
+if [ -z "${CRATES:-}" ] && program_of fault_tests; then
+  for test in $(tests_of "$program" | grep '::memory::'); do
     passes_at_each "$program" "$test" "$first" "$step"
   done
-else
-  same "the tests of fault_tests, which ./check leaves" built absent
+  same "$kept allocations were refused to commands, loads and recovery" yes "$([ "$kept" -gt 1000 ] && echo yes)"
 fi
-same "$kept allocations were refused to commands, loads and recovery" yes "$([ "$kept" -gt 1000 ] && echo yes)"
-
-same "$runs allocations were refused" yes "$([ "$runs" -gt 100 ] && echo yes)"
+echo "$runs allocations refused to tests, of which $passed passed still; $kept to commands, loads and recovery"
 finish

@@ -1,8 +1,11 @@
 /* Loaded before the C library, refuses one allocation: the one whose place, from 1, is in the environment as REFUSE.
-   Where the program comes that far, it leaves an empty file "refused" in its folder. Needs the GNU C library. */
+   Where the program comes that far, it leaves an empty file "refused" in its folder. With REFUSE=none it refuses none, and
+   at its end the file "refused" says how many there were. Needs the GNU C library. */
 #include <errno.h>
 #include <fcntl.h>
+#include <stdio.h>
 #include <stdlib.h>
+#include <string.h>
 #include <unistd.h>
 
 extern void *__libc_malloc(size_t size);
@@ -25,6 +28,18 @@ static int is_refused(void) {
     close(file);
   errno = ENOMEM;
   return 1;
+}
+
+/* At the end of a run that is refused nothing. */
+__attribute__((destructor)) static void tell(void) {
+  const char *text = getenv("REFUSE");
+  if (!text || strcmp(text, "none") != 0)
+    return;
+  int file = open("refused", O_CREAT | O_WRONLY | O_TRUNC, 0600);
+  if (file >= 0) {
+    dprintf(file, "%ld\n", allocations);
+    close(file);
+  }
 }
 
 void *malloc(size_t size) { return is_refused() ? NULL : __libc_malloc(size); }

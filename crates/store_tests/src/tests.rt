@@ -6,4 +6,3 @@ mod helping;
 mod moves;
 mod opening;
 mod sources;
-mod stops;

@@ -221,6 +221,12 @@ static LOG_FAILS: [Case; 3] = [
     (true, End::Killed, End::Killed),
 ];
 
+// the log is empty when recovery begins, and has what was written when it ends
+#[rattlefmt::skip]
+static LOG_FAILS_IN_A_KILLED_RUN: [Case; 1] = [
+    (true, End::Closed, End::Killed),
+];
+
 #[rattlefmt::skip]
 static DATABASE_FAILS: [Case; 3] = [
     (false, End::Closed, End::Closed),
@@ -278,6 +284,11 @@ fn back_to_the_start_while_the_database_fails(rt: HostRuntime) -> Result<(), Fai
 #[test]
 fn two_of_six_steps_while_the_log_fails(rt: HostRuntime) -> Result<(), Fail> {
     stops(&rt, rt.alloc(), six_steps(), &LOG_FAILS)
+}
+
+#[test]
+fn two_of_six_steps_while_the_log_fails_in_a_killed_run(rt: HostRuntime) -> Result<(), Fail> {
+    stops(&rt, rt.alloc(), six_steps(), &LOG_FAILS_IN_A_KILLED_RUN)
 }
 
 #[test]

@@ -114,14 +114,23 @@ fn answers_before(read: usize) -> &'static str {
     }
 }
 
+/// By which fault the run of lines ended. One that is out of memory ends the test by that fault.
+fn fault_of(ended: Result<u64, ServeFault>) -> Result<Option<ServeFault>, Fail> {
+    match ended {
+        Ok(_) => Ok(None),
+        Err(ServeFault::Memory) => Err(Fail::from(ServeFault::Memory)),
+        Err(fault) => Ok(Some(fault)),
+    }
+}
+
 /// If the input breaks off after so many bytes, the lines before that are answered.
 fn breaks_off(rt: &impl Abort, alloc: Global, read: usize, step: usize) -> Result<(), Fail> {
     let mut book = new_desk(alloc)?;
     let mut sink = Sink::of_flushed_lines(alloc, ALL, ROOM)?;
     let mut reader = Pieces::cut(CUT.get(..read).ok_or("a cut")?, step);
-    let ended = run_lines(alloc, &mut reader, &mut sink, &mut book);
+    let fault = fault_of(run_lines(alloc, &mut reader, &mut sink, &mut book))?;
     let expected = answers_before(read);
-    holds(rt, expected, ended == Err(ServeFault::Read));
+    holds(rt, expected, fault == Some(ServeFault::Read));
     reads(rt, expected, sink.taken(), expected);
     Ok(())
 }
@@ -141,8 +150,9 @@ fn fills_up(rt: &impl Abort, alloc: Global, room: usize, step: usize) -> Result<
     let mut book = new_desk(alloc)?;
     let mut sink = Sink::of_flushed_lines(alloc, step, room)?;
     let ended = run_lines(alloc, &mut Pieces::of(CUT, step), &mut sink, &mut book);
+    let fault = fault_of(ended)?;
     let front = ANSWERS.get(..room).ok_or("a front")?;
-    holds(rt, front, ended == Err(ServeFault::Write));
+    holds(rt, front, fault == Some(ServeFault::Write));
     reads(rt, front, sink.taken(), front);
     holds(rt, front, book.journey(1)?.is_some());
     holds(rt, front, book.journey(2)?.is_some() == (room >= 16));
@@ -165,7 +175,7 @@ fn a_failed_flush_ends_the_run(rt: HostRuntime) -> Result<(), Fail> {
     let mut book = new_desk(alloc)?;
     let mut stuck = Stuck::new(alloc, ROOM)?;
     let ended = run_lines(alloc, &mut Pieces::of(CUT, ALL), &mut stuck, &mut book);
-    holds(&rt, "a fault", ended == Err(ServeFault::Write));
+    holds(&rt, "a fault", fault_of(ended)? == Some(ServeFault::Write));
     reads(&rt, "the answer", stuck.taken(), "journey 1 begun\n");
     holds(&rt, "no journey", book.journey(2)?.is_none());
     Ok(())
