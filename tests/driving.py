@@ -88,7 +88,7 @@ class Server:
                 env={**os.environ, **(env or {})}, cwd=folder,
             )
             self.said = self.process.stdout.readline()
-            if self.said or (env and "FAIL" in env):
+            if self.said or (env and ("FAIL" in env or "REFUSE" in env)):
                 return
             self.process.communicate()
 
