@@ -22,8 +22,9 @@ install_absent() {
   [ ${#absent[@]} -gt 0 ] || return 0
   if command -v apt-get >/dev/null 2>&1 && as_root true 2>/dev/null; then
     say "installing ${absent[*]}"
-    if as_root apt-get update -qq >/dev/null &&
-      as_root env DEBIAN_FRONTEND=noninteractive apt-get install -y -qq "${absent[@]}" >/dev/null; then
+    # The update fails where one source of several does not answer; what is absent may come from another one.
+    as_root apt-get update -qq >/dev/null
+    if as_root env DEBIAN_FRONTEND=noninteractive apt-get install -y -qq "${absent[@]}" >/dev/null; then
       absent=()
       return 0
     fi
