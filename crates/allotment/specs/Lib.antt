@@ -9,3 +9,4 @@ pub mod Rows
 pub mod Short
 pub mod Texts
 pub mod Laws
+pub mod Examples

@@ -28,7 +28,7 @@ pub use cells::{Cell, Row};
 pub use codes::Code;
 pub use faults::Bad;
 pub use kinds::Kind;
-pub use laws::values_have_one_text;
+pub use laws::{texts_of_a_room, values_have_one_text};
 pub use limits::MOST_PLACES;
 pub use nights::Night;
 pub use places::Held;

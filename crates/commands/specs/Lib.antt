@@ -9,3 +9,4 @@ pub mod BatchData
 pub mod Batches
 pub mod Making
 pub mod CellKeys
+pub mod Examples

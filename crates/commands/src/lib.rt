@@ -32,7 +32,7 @@ pub use cell_keys::CellKey;
 pub use faults::Fault;
 pub use items::{Cause, Cursor, Item, Phase};
 pub use keys::Key;
-pub use laws::replies_have_one_line;
+pub use laws::{line_of_a_first_step, replies_have_one_line};
 pub use limits::{MOST_BYTES, MOST_EVENTS, MOST_NAMED_POSITION, MOST_ROWS};
 pub use names::Name;
 pub use orders::Command;

@@ -5,3 +5,4 @@ pub mod Answering
 pub mod Serving
 pub mod Worlds
 pub mod Laws
+pub mod Examples

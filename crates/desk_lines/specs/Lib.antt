@@ -4,3 +4,4 @@ pub mod Orders
 pub mod Serving
 pub mod Worlds
 pub mod Answering
+pub mod Examples

@@ -13,7 +13,7 @@ mod orders;
 mod runs;
 mod unread;
 
-pub use laws::commands_have_one_line;
+pub use laws::{commands_have_one_line, line_of_an_abort};
 pub use orders::journey_in;
 pub use protocols::ServeFault;
 pub use runs::run_lines;

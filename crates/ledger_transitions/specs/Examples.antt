@@ -1,14 +1,20 @@
 -- Worked examples of what one item changes: each is computed by the definitions.
-use Rattle.std.specs.Prelude.{◌≡◌, ℕ, ◌+◌, ◌==◌, Bool, true, false, [], ◌∷◌, map, refl}
+use Rattle.std.specs.Prelude.{◌≡◌, ℕ, ◌+◌, ◌==◌, Bool, true, false, List, [], ◌∷◌, map, refl}
 use Rattle.plan.specs.PlanModel.{Planned}
+use Rattle.commands.specs.Names.{house}
+use Rattle.commands.specs.Request.{Begin, Step}
 use Rattle.commands.specs.declared.items.Cause.TheVariants.{Stop, Refused, Asked}
 use Rattle.commands.specs.declared.items.Cursor.{Cursor}
 use Rattle.commands.specs.declared.items.Item.{Item}
 use Rattle.commands.specs.declared.items.Item.TheVariants.{Transaction, Compensation, Turn, Save}
 use Rattle.commands.specs.declared.items.Phase.{Phase}
 use Rattle.commands.specs.declared.items.Phase.TheVariants.{Run, Back, Ended, Undone}
-use Rattle.ledger.specs.Examples.{step, untried, flight}
+use Rattle.ledger.specs.Answer.{start}
+use Rattle.ledger.specs.Examples.{after_all, done, flight, load, six_flights, step, untried}
+use Rattle.ledger.specs.Ledger.{Event}
+use Rattle.ledger.specs.RecoveryExamples.{allowed_by_test}
 use Rattle.ledger_transitions.specs.JourneyChanges.{cursor_after, is_taken_after}
+use Rattle.ledger_transitions.specs.Legal.{HasHistory}
 
 -- a journey at this position, in this phase, with so many refusals
 abbrev pub at : ℕ → Phase → ℕ → Cursor
@@ -61,3 +67,19 @@ pub compensation_takes_its_own_save_point :
     is_taken_after (Compensation 1 1) only_1 1 ∷ is_taken_after (Compensation 2 1) only_1 1 ∷ []
     ≡ false ∷ true ∷ []
 compensation_takes_its_own_save_point = refl
+
+-- a ledger in which a journey of three flights has done its first step
+abbrev pub first_step_done : List Event
+first_step_done = (after_all start (load 97 six_flights ∷ Begin three_flights ∷ Step 1 ∷ [])).ledger
+
+-- so three flights have this history
+pub three_flights_have_a_history : HasHistory three_flights (done 1 ∷ [])
+three_flights_have_a_history = record {
+  ledger = first_step_done;
+  number = 1;
+  journey = record { agent = house; plan = three_flights };
+  legal = allowed_by_test [] first_step_done refl;
+  at = refl;
+  planned = refl;
+  past = refl;
+}

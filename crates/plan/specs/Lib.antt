@@ -9,3 +9,4 @@ pub mod Levels
 pub mod PlanJson
 pub mod JsonLevels
 pub mod PlanData
+pub mod Examples

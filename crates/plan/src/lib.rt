@@ -23,7 +23,7 @@ mod steps;
 
 pub use causes::PlanCause;
 pub use faults::{BadPlan, PlanFault};
-pub use laws::{json_is_read_back, one_spelling};
+pub use laws::{json_is_read_back, one_spelling, texts_of_a_plan};
 pub use limits::{MOST_OPTIONS, MOST_STEPS, MOST_TRIES};
 pub use plans::Plan;
 pub use steps::PlanStep;

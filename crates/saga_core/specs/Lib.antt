@@ -8,3 +8,5 @@ pub mod Chains
 pub mod ChainExamples
 pub mod Deciding
 pub mod Examples
+pub mod DecidingExamples
+pub mod BookExamples

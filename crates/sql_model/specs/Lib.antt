@@ -6,3 +6,4 @@ pub mod Keeping
 pub mod Worlds
 pub mod Openings
 pub mod Spelling
+pub mod Examples

@@ -10,4 +10,4 @@
 
 mod laws;
 
-pub use laws::{desks, openings};
+pub use laws::{desk_after_a_crash, desks, new_desk_is_found, openings};

@@ -11,5 +11,5 @@ mod restarting;
 #[cfg(test)]
 mod tests;
 
-pub use laws::schemas;
+pub use laws::{schema_of_notes, schemas};
 pub use restarting::restart;

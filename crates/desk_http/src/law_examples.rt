@@ -1,0 +1,18 @@
+//! The law of messages, applied to an example. A call does nothing at run time.
+ghost use Rattle.std.specs.Prelude.{[], ◌∷◌};
+ghost use Rattle.ledger.specs.KeyExamples.{ann_began};
+ghost use Rattle.ledger.specs.World.{Reopened};
+ghost use Rattle.desk_http.specs.Examples.{step_message};
+ghost use Rattle.desk_http.specs.Laws.{AnswersAgain};
+
+use crate::laws::again;
+
+/// The law of messages, applied to a step that is retried after the desk was opened again.
+///
+/// The proof applies the law to that message. A law with one more premise, which the message does not meet, is refused
+/// here.
+pub fn step_is_retried()
+    ensures again { AnswersAgain ann_began step_message (Reopened ∷ []) }
+{
+    again();
+}
