@@ -6,13 +6,15 @@ use lib.Utf8.{encode}
 use Rattle.httparse.specs.Grammar.{trim_ows}
 use Rattle.matchit.specs.Route.{scan}
 use Rattle.matchit.specs.Seek.{seek, param_step}
+use Rattle.commands.specs.Asks.{Asked}
 use Rattle.commands.specs.Request.{Step}
 use Rattle.ledger.specs.KeyExamples.{ann, ann_began}
 use Rattle.http_messages.specs.Examples.{get_page}
 use Rattle.http_messages.specs.Messages.{Message, Asks}
 use Rattle.http_pages.specs.Routes.{routes}
 use Rattle.desk_http.specs.Laws.{MakesEvent}
-use Rattle.desk_http.specs.Pages.{Command, command_in}
+use Rattle.desk_http.specs.Pages.{command_in}
+use Rattle.desk_http.specs.declared.doors.Door.TheVariants.{Port}
 
 -- ann steps journey 1, under the key k1
 abbrev pub step_message : Message
@@ -29,14 +31,14 @@ step_message = Asks (record {
   last = get_page.last;
 }) []
 
--- the command that it makes
-abbrev pub step_command : Command
-step_command = (Step 1, record { agent = ann; key = codes "k1"; text = codes "/journeys/1/step\n" })
+-- under which ask
+abbrev pub step_ask : Asked
+step_ask = record { agent = ann; key = codes "k1"; text = codes "/journeys/1/step\n" }
 
-pub step_message_makes_it : command_in step_message ≡ Some step_command
+pub step_message_makes_it : command_in Port step_message ≡ Some (Step 1, Some step_ask)
 unfolding routes digits trim_ows is_utf8 chars encode seek scan param_step
 step_message_makes_it = refl
 
 -- ann has begun the journey, so the step is done
-pub step_makes_an_event : MakesEvent ann_began step_message
-step_makes_an_event = record { command = step_command; asks = step_message_makes_it; made = refl }
+pub step_makes_an_event : MakesEvent Port ann_began step_message
+step_makes_an_event = record { asked = Step 1; ask = step_ask; asks = step_message_makes_it; made = refl }

@@ -5,14 +5,15 @@ ghost use Rattle.ledger.specs.World.{Reopened};
 ghost use Rattle.desk_http.specs.Examples.{step_message};
 ghost use Rattle.desk_http.specs.Laws.{AnswersAgain};
 
+use crate::doors::Door;
 use crate::laws::again;
 
-/// The law of messages, applied to a step that is retried after the desk was opened again.
+/// The law of messages, applied to a step at the port that is retried after the desk was opened again.
 ///
 /// The proof applies the law to that message. A law with one more premise, which the message does not meet, is refused
 /// here.
 pub fn step_is_retried()
-    ensures again { AnswersAgain ann_began step_message (Reopened ∷ []) }
+    ensures again { AnswersAgain Door.Port ann_began step_message (Reopened ∷ []) }
 {
     again();
 }
