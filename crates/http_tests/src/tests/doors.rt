@@ -17,11 +17,7 @@ fn ask_unnamed(rt: &impl Abort, alloc: Global, talk: &mut Talk, asked: &str, bod
     put(rt, &mut talk.sent, &[asked, " HTTP/1.1\r\nHost: d\r\n"]);
     if asked.starts_with("POST") {
         let length = body.len().to_string(alloc).expect(rt, "memory");
-        put(
-            rt,
-            &mut talk.sent,
-            &["Content-Length: ", &length, "\r\n"],
-        );
+        put(rt, &mut talk.sent, &["Content-Length: ", &length, "\r\n"]);
     }
     put(rt, &mut talk.sent, &["\r\n"]);
     talk.send(rt, body);
@@ -106,7 +102,15 @@ fn at_its_own_door_the_house_sees_and_moves_every_journey(rt: HostRuntime) {
         SEATS_AND_ROOMS.as_bytes(),
     );
     talk.page(&rt, alloc, LOADED);
-    begin(&rt, alloc, &mut talk, "ann", "k1", &[FLIGHT, BUS], JOURNEY_1);
+    begin(
+        &rt,
+        alloc,
+        &mut talk,
+        "ann",
+        "k1",
+        &[FLIGHT, BUS],
+        JOURNEY_1,
+    );
     let plan = plan_of(&rt, alloc, &[FLIGHT]);
     ask_unnamed(&rt, alloc, &mut talk, "POST /journeys", &plan);
     talk.page(&rt, alloc, JOURNEY_2);
