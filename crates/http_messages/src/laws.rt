@@ -1,8 +1,9 @@
 //! Laws of all streams. A call does nothing at run time.
-ghost use Rattle.std.specs.Prelude.{◌≡◌, ◌++◌, ◌∷◌, [], List, Some};
+ghost use Rattle.std.specs.Prelude.{◌≡◌, ◌++◌, ◌∷◌, [], ℕ, List, Some};
+ghost use Rattle.std.specs.List.{concat};
 ghost use Rattle.http_messages.specs.Examples.{get_bytes, get_page};
 ghost use Rattle.http_messages.specs.Laws.{HasOneReading, HeadsAreTold, MessagesStay};
-ghost use Rattle.http_messages.specs.Messages.{AreMessages, Asks, Message, first_told};
+ghost use Rattle.http_messages.specs.Messages.{AreMessages, Asks, BeginsWithAll, Message, first_told};
 
 /// A head is decided where it ends, and not before, whatever follows.
 pub fn heads_are_told()
@@ -28,4 +29,16 @@ pub fn page_is_asked_twice()
 {
     heads_are_told();
     one_reading();
+}
+
+/// The law of messages that stay, applied to two requests for a page, one after another: they are the first two messages
+/// of every stream that begins with them.
+///
+/// The proof applies the law to these requests. A law with one more premise, which they do not meet, is refused here.
+pub fn pages_come_first()
+    ensures stay { (rest : List ℕ) → BeginsWithAll (concat (get_bytes ∷ get_bytes ∷ []) ++ rest)
+        (Asks get_page [] ∷ Asks get_page [] ∷ []) rest }
+{
+    heads_are_told();
+    messages_stay();
 }

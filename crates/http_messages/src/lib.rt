@@ -22,6 +22,6 @@ mod words;
 pub use faults::ReadFault;
 pub use first::first_message;
 pub use incoming::Incoming;
-pub use laws::{heads_are_told, messages_stay, one_reading, page_is_asked_twice};
+pub use laws::{heads_are_told, messages_stay, one_reading, page_is_asked_twice, pages_come_first};
 pub use places::LONGEST_HEAD;
 pub use requests::{Message, Request};
