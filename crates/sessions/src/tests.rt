@@ -46,18 +46,18 @@ impl Write for Sink<'_> {
 /// A peer that takes seat 0, sends a text, and has some turns.
 #[derive(Drop)]
 struct Peer<'a> {
-    text: &'a str,
+    text: &'static str,
     notes: &'a Notes,
     has_come: bool,
     turns: u32,
 }
 
 impl<'a> Turns for Peer<'a> {
-    type Reader = &'a [u8];
+    type Reader = &'static [u8];
 
     type Writer = Sink<'a>;
 
-    fn next_turn(&mut self) -> Turn<&'a [u8], Sink<'a>> {
+    fn next_turn(&mut self) -> Turn<&'static [u8], Sink<'a>> {
         if !self.has_come {
             self.has_come = true;
             return Turn::Comes(0, self.text.as_bytes(), Sink { notes: self.notes });
@@ -73,14 +73,14 @@ impl<'a> Turns for Peer<'a> {
 }
 
 /// What comes in a session: lines, messages, and what a peer sends.
-type Inputs<'a> = (&'a str, &'a str, &'a str);
+type Inputs = (&'static str, &'static str, &'static str);
 
 const GET: &str = "GET /unfinished HTTP/1.1\r\nHost: d\r\nDesk-Agent: desk\r\n\r\n";
 
 // One flight with two places. The first journey takes one, and is turned back when the desk is opened for the messages,
 // which find nothing unfinished. So the second journey may take both, and both have finished then.
 #[rattlefmt::skip]
-const INPUTS: [Inputs<'static>; 3] = [
+const INPUTS: [Inputs; 3] = [
     ("set a F/AL/A1/2030-06-01 2\nbegin F/AL/A1/2030-06-01/1/1;R/INN/A/2030-06-01/1/1!0\nstep 1\n", GET, ""),
     ("begin F/AL/A1/2030-06-01/1/2!0\nstep 2\n", "", GET),
     ("step 1\nstep 2\n", GET, GET),
@@ -97,24 +97,40 @@ const SENT: &str =
     "HTTP/1.1 200 OK\r\nContent-Length: 17\r\nContent-Type: application/json\r\n\r\n{\"unfinished\":[]}\
     HTTP/1.1 200 OK\r\nContent-Length: 17\r\nContent-Type: application/json\r\n\r\n{\"unfinished\":[]}";
 
-type Texts<'a> = Vec<Session<&'a [u8], &'a [u8], Peer<'a>, &'a [u8], Sink<'a>>>;
+/// A session of lines, messages and the turns of a peer, with one seat for it.
+fn session<L: Drop, M: Drop, T: Turns + Drop>(
+    alloc: Global,
+    lines: L,
+    messages: M,
+    turns: T,
+) -> Result<Session<L, M, T, T::Reader, T::Writer>, Fail> {
+    let mut seats = Vec::new(alloc);
+    seats.push(Seat::new())?;
+    Ok(Session {
+        lines,
+        messages,
+        turns,
+        seats,
+    })
+}
 
-fn sessions<'a>(alloc: Global, inputs: &[Inputs<'a>], notes: &'a Notes) -> Result<Texts<'a>, Fail> {
-    let mut sessions = Vec::new(alloc);
+type Texts<'a> = Vec<Session<&'static [u8], &'static [u8], Peer<'a>, &'static [u8], Sink<'a>>>;
+
+fn sessions<'a>(alloc: Global, inputs: &[Inputs], notes: &'a Notes) -> Result<Texts<'a>, Fail> {
+    let mut sessions: Texts<'a> = Vec::new(alloc);
     for &(lines, messages, text) in inputs {
-        let mut seats = Vec::new(alloc);
-        seats.push(Seat::new())?;
-        sessions.push(Session {
-            lines: lines.as_bytes(),
-            messages: messages.as_bytes(),
-            turns: Peer {
-                text,
-                notes,
-                has_come: false,
-                turns: 8,
-            },
-            seats,
-        })?;
+        let peer = Peer {
+            text,
+            notes,
+            has_come: false,
+            turns: 8,
+        };
+        sessions.push(session(
+            alloc,
+            lines.as_bytes(),
+            messages.as_bytes(),
+            peer,
+        )?)?;
     }
     Ok(sessions)
 }
