@@ -125,12 +125,7 @@ fn sessions<'a>(alloc: Global, inputs: &[Inputs], notes: &'a Notes) -> Result<Te
             has_come: false,
             turns: 8,
         };
-        sessions.push(session(
-            alloc,
-            lines.as_bytes(),
-            messages.as_bytes(),
-            peer,
-        )?)?;
+        sessions.push(session(alloc, lines.as_bytes(), messages.as_bytes(), peer)?)?;
     }
     Ok(sessions)
 }
