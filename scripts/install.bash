@@ -52,13 +52,16 @@ Documentation=man:desk(1)
 StartLimitIntervalSec=0
 
 [Service]
-ExecStart="$prefix/$program_at" serve %S/desk/trips.db --port 8080
+ExecStart="$prefix/$program_at" serve %S/desk/trips.db --port 8080 --house %t/desk/house.sock
+ExecStop=-curl --silent --output /dev/null --unix-socket %t/desk/house.sock --data '' http://desk/stop
 Restart=always
 RestartSec=1
 RestartPreventExitStatus=2
 DynamicUser=yes
 StateDirectory=desk
 StateDirectoryMode=0700
+RuntimeDirectory=desk
+RuntimeDirectoryMode=0700
 UMask=0077
 NoNewPrivileges=yes
 ProtectSystem=strict
@@ -73,7 +76,7 @@ ProtectControlGroups=yes
 PrivateTmp=yes
 PrivateDevices=yes
 CapabilityBoundingSet=
-RestrictAddressFamilies=AF_INET
+RestrictAddressFamilies=AF_INET AF_UNIX
 IPAddressDeny=any
 IPAddressAllow=localhost
 RestrictNamespaces=yes

@@ -17,7 +17,8 @@ use Rattle.http_messages.specs.Heads.{complaint_of, is_method, parts_of}
 use Rattle.http_messages.specs.Messages.{Message, NoHead, Asks}
 use Rattle.http_pages.specs.Pages.{page_text, reply_page}
 use Rattle.http_pages.specs.declared.admitting.Denied.{Denied}
-use Rattle.desk_http.specs.Demands.{Demand, Carry, SeeJourney, SeeUnfinished, SeeStock, demand_of}
+use Rattle.desk_http.specs.Demands.{Demand, Carry, SeeJourney, SeeUnfinished, SeeStock, Stop, demand_of}
+use Rattle.desk_http.specs.declared.doors.Door.{Door}
 use Rattle.desk_http.specs.Laws.{AnswersAgain, MakesEvent, later}
 use Rattle.desk_http.specs.Pages.{Command, IsPage, Says, SaysUnless, closes, command_in, command_unless, state_after, state_by}
 
@@ -66,12 +67,16 @@ after-same s (Cut asked ask true ∷ w) agent key k is =
 after-same s (Cut asked ask false ∷ w) agent key k is = after-same s w agent key k is
 after-same s (Reopened ∷ w) agent key k is = after-same s w agent key k is
 
+-- a command of an agent with its ask
+abbrev Sent : Type 0
+Sent = Request × Asked
+
 -- the kept reply of a command
-abbrev kept_of : State → Command → KeptReply
+abbrev kept_of : State → Sent → KeptReply
 kept_of s c = record { text = c.1.text; reply = (outcome s (Some c.1) c.0).reply }
 
 -- a command that made an event is kept with its reply
-made-kept : (s : State) (c : Command) → IsTrue (is_some (outcome s (Some c.1) c.0).event)
+made-kept : (s : State) (c : Sent) → IsTrue (is_some (outcome s (Some c.1) c.0).event)
     → (outcome s (Some c.1) c.0).state.kept c.1.agent c.1.key ≡ Some (kept_of s c)
 made-kept s c made = go (s.kept c.1.agent c.1.key) refl made
   where
@@ -92,7 +97,7 @@ made-kept s c made = go (s.kept c.1.agent c.1.key) refl made
     go None at = free (answer s.ledger (Some c.1.agent) c.0).event
 
 -- a command whose reply is kept gets it again, and nothing changes
-kept-again : (t : State) (c : Command) (k : KeptReply) → k.text ≡ c.1.text → t.kept c.1.agent c.1.key ≡ Some k
+kept-again : (t : State) (c : Sent) (k : KeptReply) → k.text ≡ c.1.text → t.kept c.1.agent c.1.key ≡ Some k
     → ((outcome t (Some c.1) c.0).reply ≡ k.reply) × ((outcome t (Some c.1) c.0).state ≡ t)
 kept-again t c k text is = (
   ap (λ o. (outcome_for t (Some c.1) c.0 o).reply) is
@@ -107,9 +112,10 @@ pub carry_of : (o : Option Refusal) (d : Result Demand Denied) (c : Command) →
     → (o ≡ None) × (d ≡ Ok (Carry c.0 c.1))
 carry_of (Some why) d c = λ is. cc
 carry_of None (Ok (Carry asked ask)) c = λ is. let e : (asked, ask) ≡ c = cc in (refl, ap (λ (x : Command). Ok (Carry x.0 x.1)) e)
-carry_of None (Ok (SeeJourney agent id)) c = λ is. cc
-carry_of None (Ok (SeeUnfinished agent)) c = λ is. cc
+carry_of None (Ok (SeeJourney asker id)) c = λ is. cc
+carry_of None (Ok (SeeUnfinished asker)) c = λ is. cc
 carry_of None (Ok SeeStock) c = λ is. cc
+carry_of None (Ok Stop) c = λ is. cc
 carry_of None (Err denied) c = λ is. cc
 
 -- the message's page has no body
@@ -117,29 +123,32 @@ abbrev is_head_in : Message → Bool
 is_head_in NoHead = false
 is_head_in (Asks h body) = is_method (codes "HEAD") (parts_of h)
 
--- the page of a command that is executed
-carried_page : (s : State) (m : Message) (c : Command) (bytes : List ℕ) → command_in m ≡ Some c → IsPage s m bytes
+-- the page of an agent's command that is executed
+carried_page : (door : Door) (s : State) (m : Message) (c : Sent) (bytes : List ℕ)
+    → command_in door m ≡ Some (c.0, Some c.1) → IsPage door s m bytes
     → bytes ≡ page_text (is_head_in m) (closes m) (reply_page (outcome s (Some c.1) c.0).reply)
-carried_page s NoHead c bytes asks page = let bad : None ≡ Some c = asks in cc
-carried_page s (Asks h body) c bytes asks page =
+carried_page door s NoHead c bytes asks page = let bad : None ≡ Some (c.0, Some c.1) = asks in cc
+carried_page door s (Asks h body) c bytes asks page =
     let parts = parts_of h in
-    let of = carry_of (complaint_of parts) (demand_of parts body) c asks in
-    let says : Says s (demand_of parts body) page.page = subst (λ o. SaysUnless o s parts body page.page) of.0 page.says in
-    let said : Says s (Ok (Carry c.0 c.1)) page.page = subst (λ d. Says s d page.page) of.1 says in
+    let of = carry_of (complaint_of parts) (demand_of door parts body) (c.0, Some c.1) asks in
+    let says : Says s (demand_of door parts body) page.page =
+    subst (λ o. SaysUnless o door s parts body page.page) of.0 page.says in
+    let said : Says s (Ok (Carry c.0 (Some c.1))) page.page = subst (λ d. Says s d page.page) of.1 says in
     page.text ∙ ap (page_text (is_method (codes "HEAD") parts) (closes (Asks h body))) said
 
 -- a message that made an event gets the same page again, and nothing changes
-pub answered_as_before : (s : State) (m : Message) (between : List Moment) → MakesEvent s m → AnswersAgain s m between
-answered_as_before s m between event =
-    let c = event.command in
-    let t = later s m between in
-    let there : state_after s m ≡ (outcome s (Some c.1) c.0).state = ap (state_by s) event.asks in
-    let kept : (state_after s m).kept c.1.agent c.1.key ≡ Some (kept_of s c) =
+pub answered_as_before : (door : Door) (s : State) (m : Message) (between : List Moment) → MakesEvent door s m
+    → AnswersAgain door s m between
+answered_as_before door s m between event =
+    let c : Sent = (event.asked, event.ask) in
+    let t = later door s m between in
+    let there : state_after door s m ≡ (outcome s (Some c.1) c.0).state = ap (state_by s) event.asks in
+    let kept : (state_after door s m).kept c.1.agent c.1.key ≡ Some (kept_of s c) =
     ap (λ (x : State). x.kept c.1.agent c.1.key) there ∙ made-kept s c event.made in
-    let again = kept-again t c (kept_of s c) refl (after-same (state_after s m) between c.1.agent c.1.key (kept_of s c) kept) in
+    let again = kept-again t c (kept_of s c) refl (after-same (state_after door s m) between c.1.agent c.1.key (kept_of s c) kept) in
     record {
       page = λ first second one two.
-          carried_page t m c second event.asks two ∙ ap (λ r. page_text (is_head_in m) (closes m) (reply_page r)) again.0
-          ∙ sym (carried_page s m c first event.asks one);
+          carried_page door t m c second event.asks two ∙ ap (λ r. page_text (is_head_in m) (closes m) (reply_page r)) again.0
+          ∙ sym (carried_page door s m c first event.asks one);
       state = ap (state_by t) event.asks ∙ again.1;
     }

@@ -1,9 +1,9 @@
 -- The outcome of messages and demands. For the answer to one message.
-use Rattle.std.proofs.Common.{◌≡◌, ◌∙◌, ap, sym, subst, refl, inl, inr, ℕ, List, Bool, true, false, ◌||◌}
-use Rattle.std.specs.Prelude.{None, Result, Ok, Err, IfOk, IfErr, is_some, codes}
+use Rattle.std.proofs.Common.{◌≡◌, ◌∙◌, ap, sym, subst, refl, inl, inr, ℕ, List, Bool, true, false, ◌&&◌, ◌||◌}
+use Rattle.std.specs.Prelude.{None, Result, Ok, Err, IfOk, IfErr, is_some, not, codes}
 use Rattle.ledger.specs.Answer.{State}
 use Rattle.http_messages.specs.Requests.{IsRequest, IsTaken}
-use Rattle.http_messages.specs.Heads.{Parts, asks_to_close, complaint_of, is_method, parts_of}
+use Rattle.http_messages.specs.Heads.{Parts, asks_to_close, complaint_of, is_method, is_unnamed, parts_of}
 use Rattle.http_messages.specs.Messages as sent
 use Rattle.http_messages.specs.declared.requests.Message.{Message}
 use Rattle.http_messages.specs.declared.requests.Message.TheVariants as taken
@@ -13,19 +13,21 @@ use Rattle.http_pages.specs.Pages.{Paged, denied_page, page_said, page_text, ref
 use Rattle.http_pages.specs.declared.admitting.Denied.{Denied}
 use Rattle.http_pages.specs.declared.answers.Page.{Page}
 use Rattle.desk_http.specs.Answering.{Answers, Tells}
-use Rattle.desk_http.specs.Demands.{demand_of}
-use Rattle.desk_http.specs.Pages.{SaysUnless, closes, command_unless, state_by}
+use Rattle.desk_http.specs.Demands.{asks_to_stop, demand_of}
+use Rattle.desk_http.specs.Pages.{SaysUnless, closes, command_unless, state_by, stops}
 use Rattle.desk_http.specs.declared.answering.Answer.{Answer}
+use Rattle.desk_http.specs.declared.doors.Door.{Door}
+use Rattle.desk_http.specs.declared.doors.Door.TheVariants.{Port, House}
 use Rattle.protocols.specs.declared.faults.ServeFault.{ServeFault}
 use Rattle.protocols.specs.declared.faults.ServeFault.TheVariants.{Memory, Read, Store, Write}
 
 -- a denied request changes nothing
-pub denied_says : (stands : State → Type 0) (s : State) (parts : Parts) (body : List ℕ) (page : Paged)
-    (denied : Denied) → complaint_of parts ≡ None → demand_of parts body ≡ Err denied
+pub denied_says : (stands : State → Type 0) (door : Door) (s : State) (parts : Parts) (body : List ℕ) (page : Paged)
+    (denied : Denied) → complaint_of parts ≡ None → demand_of door parts body ≡ Err denied
     → page ≡ denied_page denied.refusal denied.allow → stands s
-    → SaysUnless (complaint_of parts) s parts body page
-    × stands (state_by s (command_unless (complaint_of parts) (demand_of parts body)))
-denied_says stands s parts body page denied none is said here = rw (none, is) (said, here)
+    → SaysUnless (complaint_of parts) door s parts body page
+    × stands (state_by s (command_unless (complaint_of parts) (demand_of door parts body)))
+denied_says stands door s parts body page denied none is said here = rw (none, is) (said, here)
 
 -- the page was laid out as bytes, or out of memory
 pub record LaidOut (result : Result Answer ServeFault) (page : Paged) (is_head ends : Bool) : Type 0 where
@@ -34,25 +36,25 @@ pub record LaidOut (result : Result Answer ServeFault) (page : Paged) (is_head e
   pub memory : IfErr result (λ fault. fault ≡ Memory)
 
 -- a message without a head gets the page that says so
-pub no_head_answered : (stands : State → Type 0) (leaves : State → State → Type 0) (s : State)
+pub no_head_answered : (stands : State → Type 0) (leaves : State → State → Type 0) (door : Door) (s : State)
     (m : sent.Message) (result : Result Answer ServeFault) (page : Page) → IsTaken taken.NoHead m
     → page_said page ≡ refused_page BadHead → LaidOut result (page_said page) false true → stands s
-    → Answers stands leaves s m result
-no_head_answered stands leaves s sent.NoHead (Ok answer) page is said out here =
+    → Answers stands leaves s door m result
+no_head_answered stands leaves door s sent.NoHead (Ok answer) page is said out here =
     ((out.bytes ∙ ap (page_text false true) said, out.closes), here)
-no_head_answered stands leaves s sent.NoHead (Err fault) page is said out here =
-    subst (λ f. Answers stands leaves s sent.NoHead (Err f)) (sym out.memory) (inl here)
-no_head_answered stands leaves s (sent.Asks h body) result page is said out here = absurd is
+no_head_answered stands leaves door s sent.NoHead (Err fault) page is said out here =
+    subst (λ f. Answers stands leaves s door sent.NoHead (Err f)) (sym out.memory) (inl here)
+no_head_answered stands leaves door s (sent.Asks h body) result page is said out here = absurd is
 
 -- a request gets the page that reports its outcome
-pub request_answered : (stands : State → Type 0) (leaves : State → State → Type 0) (s : State)
+pub request_answered : (stands : State → Type 0) (leaves : State → State → Type 0) (door : Door) (s : State)
     (r : Request) (m : sent.Message) (result : Result Answer ServeFault) (page : Page) (closes : Bool)
     → IsTaken (taken.Asks r) m
-    → ((parts : Parts) (body : List ℕ) → IsRequest r parts body → Tells stands leaves s parts body (Ok page))
+    → ((parts : Parts) (body : List ℕ) → IsRequest r parts body → Tells stands leaves s door parts body (Ok page))
     → closes ≡ (is_some r.complaint || r.closes) → LaidOut result (page_said page) r.is_head closes
-    → Answers stands leaves s m result
-request_answered stands leaves s r sent.NoHead result page closes is told ends out = absurd is
-request_answered stands leaves s r (sent.Asks h body) (Ok answer) page closes is told ends out =
+    → Answers stands leaves s door m result
+request_answered stands leaves door s r sent.NoHead result page closes is told ends out = absurd is
+request_answered stands leaves door s r (sent.Asks h body) (Ok answer) page closes is told ends out =
     let parts = parts_of h in
     let closing : closes ≡ (is_some (complaint_of parts) || asks_to_close parts) =
     ends ∙ ap (λ c. is_some c || r.closes) is.complaint ∙ ap (λ c. is_some (complaint_of parts) || c) is.closes in (
@@ -67,20 +69,20 @@ request_answered stands leaves s r (sent.Asks h body) (Ok answer) page closes is
       ),
       (told parts body is).1,
     )
-request_answered stands leaves s r (sent.Asks h body) (Err fault) page closes is told ends out =
-    subst (λ f. Answers stands leaves s (sent.Asks h body) (Err f)) (sym out.memory)
+request_answered stands leaves door s r (sent.Asks h body) (Err fault) page closes is told ends out =
+    subst (λ f. Answers stands leaves s door (sent.Asks h body) (Err f)) (sym out.memory)
     (inr (told (parts_of h) body is).1)
 
 -- a request that met a fault leaves the states of that fault
-pub request_failed : (stands : State → Type 0) (leaves : State → State → Type 0) (s : State)
+pub request_failed : (stands : State → Type 0) (leaves : State → State → Type 0) (door : Door) (s : State)
     (r : Request) (m : sent.Message) (fault : ServeFault) → IsTaken (taken.Asks r) m
-    → ((parts : Parts) (body : List ℕ) → IsRequest r parts body → Tells stands leaves s parts body (Err fault))
-    → Answers stands leaves s m (Err fault)
-request_failed stands leaves s r sent.NoHead fault is told = absurd is
-request_failed stands leaves s r (sent.Asks h body) Memory is told = told (parts_of h) body is
-request_failed stands leaves s r (sent.Asks h body) Store is told = told (parts_of h) body is
-request_failed stands leaves s r (sent.Asks h body) Read is told = absurd (told (parts_of h) body is)
-request_failed stands leaves s r (sent.Asks h body) Write is told = absurd (told (parts_of h) body is)
+    → ((parts : Parts) (body : List ℕ) → IsRequest r parts body → Tells stands leaves s door parts body (Err fault))
+    → Answers stands leaves s door m (Err fault)
+request_failed stands leaves door s r sent.NoHead fault is told = absurd is
+request_failed stands leaves door s r (sent.Asks h body) Memory is told = told (parts_of h) body is
+request_failed stands leaves door s r (sent.Asks h body) Store is told = told (parts_of h) body is
+request_failed stands leaves door s r (sent.Asks h body) Read is told = absurd (told (parts_of h) body is)
+request_failed stands leaves door s r (sent.Asks h body) Write is told = absurd (told (parts_of h) body is)
 
 -- Whether a page closes.
 
@@ -103,3 +105,31 @@ pub page_closes : (message : Message) (result : Result Answer ServeFault) (c : B
     → IfOk result (λ answer. (m : sent.Message) → IsTaken message m → answer.closes ≡ closes m)
 page_closes message (Ok answer) c is as_said = λ m taken. is ∙ as_said m taken
 page_closes message (Err fault) c is as_said = tt
+
+-- Whether the desk is asked to stop.
+
+-- bytes that are no head ask nothing
+pub no_head_stops : (door : Door) (m : sent.Message) → IsTaken taken.NoHead m → false ≡ stops door m
+no_head_stops Port m is = refl
+no_head_stops House sent.NoHead is = refl
+no_head_stops House (sent.Asks h body) is = absurd is
+
+-- a request at the house's door stops it where it names nobody and asks for that, with a head that is not refused
+pub house_stops : (r : Request) (asked refused c : Bool)
+    → ((parts : Parts) (body : List ℕ) → IsRequest r parts body → asked ≡ asks_to_stop parts)
+    → refused ≡ is_some r.complaint → c ≡ (r.is_unnamed && asked && not refused)
+    → (m : sent.Message) → IsTaken (taken.Asks r) m → c ≡ stops House m
+house_stops r asked refused c asks why is sent.NoHead it = absurd it
+house_stops r asked refused c asks why is (sent.Asks h body) it =
+    let parts = parts_of h in
+    is ∙ ap (λ u. u && asked && not refused) it.is_unnamed
+    ∙ ap (λ a. is_unnamed parts && a && not refused) (asks parts body it)
+    ∙ ap (λ w. is_unnamed parts && asks_to_stop parts && not w) (why ∙ ap is_some it.complaint)
+
+-- a page that was laid out stops the desk as it was to
+pub page_stops : (door : Door) (message : Message) (result : Result Answer ServeFault) (c : Bool)
+    → IfOk result (λ answer. answer.stops ≡ c)
+    → ((m : sent.Message) → IsTaken message m → c ≡ stops door m)
+    → IfOk result (λ answer. (m : sent.Message) → IsTaken message m → answer.stops ≡ stops door m)
+page_stops door message (Ok answer) c is as_said = λ m taken. is ∙ as_said m taken
+page_stops door message (Err fault) c is as_said = tt

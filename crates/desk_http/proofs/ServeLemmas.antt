@@ -17,6 +17,7 @@ use Rattle.protocols.specs.Faults.{IsOfReading}
 use Rattle.protocols.specs.Scenes.{Scene, Wrote, scene}
 use Rattle.desk_http.specs.Serving.{Answered, Leaves, ServesAll, ServesSome}
 use Rattle.desk_http.specs.declared.answering.Answer.{Answer}
+use Rattle.desk_http.specs.declared.doors.Door.TheVariants.{Port}
 use Rattle.protocols.specs.declared.faults.ServeFault.{ServeFault}
 use Rattle.protocols.specs.declared.faults.ServeFault.TheVariants.{Memory, Read, Store, Write}
 
@@ -29,16 +30,16 @@ begins_more input stream rest (first ∷ ms) m all next =
     (all.0, all.1, begins_more all.0 stream rest ms m all.2 next)
 
 pages_more : (s : State) (ms : List sent.Message) (m : sent.Message) (ps : List (List ℕ)) (p : List ℕ)
-    → ArePages s ms ps → IsPage (state_after_all s ms) m p → ArePages s (ms ++ m ∷ []) (ps ++ p ∷ [])
+    → ArePages s ms ps → IsPage Port (state_after_all s ms) m p → ArePages s (ms ++ m ∷ []) (ps ++ p ∷ [])
 pages_more s [] m [] p are page = (page, refl)
 pages_more s [] m (q ∷ ps) p are page = cc
 pages_more s (first ∷ ms) m [] p are page = absurd are
-pages_more s (first ∷ ms) m (q ∷ ps) p are page = (are.0, pages_more (state_after s first) ms m ps p are.1 page)
+pages_more s (first ∷ ms) m (q ∷ ps) p are page = (are.0, pages_more (state_after Port s first) ms m ps p are.1 page)
 
 pub after_more : (s : State) (ms : List sent.Message) (m : sent.Message)
-    → state_after_all s (ms ++ m ∷ []) ≡ state_after (state_after_all s ms) m
+    → state_after_all s (ms ++ m ∷ []) ≡ state_after Port (state_after_all s ms) m
 after_more s [] m = refl
-after_more s (first ∷ ms) m = after_more (state_after s first) ms m
+after_more s (first ∷ ms) m = after_more (state_after Port s first) ms m
 
 open_more : (ms : List sent.Message) (m : sent.Message) → stays_open ms ≡ true → closes m ≡ false
     → stays_open (ms ++ m ∷ []) ≡ true
@@ -167,7 +168,7 @@ pub goes_on : (held holds now : Option (List ℕ)) (stands0 stands1 : State → 
     (leaves0 leaves1 : State → State → Type 0) (s : State) (input : List ℕ)
     (left rest : Option (List ℕ)) (count : ℕ) (taken : Message) (answer : Answer)
     → SoFar (scene held holds stands0 leaves0) s input left count → IsNext left rest (Some taken)
-    → ((t : State) → stands0 t → (m : sent.Message) → IsTaken taken m → Answers stands1 leaves1 t m (Ok answer))
+    → ((t : State) → stands0 t → (m : sent.Message) → IsTaken taken m → Answers stands1 leaves1 t Port m (Ok answer))
     → Appends holds now answer.bytes.items
     → HasMore (scene held now stands1 leaves1) s input rest count answer
 goes_on held holds now stands0 stands1 leaves0 leaves1 s input left rest count taken answer so_far next told sent =
@@ -226,7 +227,7 @@ pub write_fails : (held holds now : Option (List ℕ)) (stands0 stands1 : State 
     (leaves0 leaves1 : State → State → Type 0) (s : State) (input : List ℕ)
     (left rest : Option (List ℕ)) (count : ℕ) (taken : Message) (answer : Answer)
     → SoFar (scene held holds stands0 leaves0) s input left count → IsNext left rest (Some taken)
-    → ((t : State) → stands0 t → (m : sent.Message) → IsTaken taken m → Answers stands1 leaves1 t m (Ok answer))
+    → ((t : State) → stands0 t → (m : sent.Message) → IsTaken taken m → Answers stands1 leaves1 t Port m (Ok answer))
     → WroteFront holds now answer.bytes.items
     → ServesSome (scene held now stands1 leaves1) s input Write
 write_fails held holds now stands0 stands1 leaves0 leaves1 s input left rest count taken answer so_far next told cut =
@@ -257,7 +258,7 @@ write_fails held holds now stands0 stands1 leaves0 leaves1 s input left rest cou
 answer_leaves : (held holds : Option (List ℕ)) (stands : State → Type 0) (leaves : State → State → Type 0)
     (t : State) (pages : List (List ℕ)) (rest after : List ℕ) (m : sent.Message) (fault : ServeFault)
     → Wrote (scene held holds stands leaves) (concat pages) → BeginsWith rest m after
-    → Answers stands leaves t m (Err fault) → Leaves fault (scene held holds stands leaves) t pages rest
+    → Answers stands leaves t Port m (Err fault) → Leaves fault (scene held holds stands leaves) t pages rest
 answer_leaves held holds stands leaves t pages rest after m Memory sent begins told = (
   sent,
   elim told [
@@ -274,7 +275,7 @@ pub answer_fails : (held holds : Option (List ℕ)) (stands0 stands1 : State →
     (leaves0 leaves1 : State → State → Type 0) (s : State) (input : List ℕ)
     (left rest : Option (List ℕ)) (count : ℕ) (taken : Message) (fault : ServeFault)
     → SoFar (scene held holds stands0 leaves0) s input left count → IsNext left rest (Some taken)
-    → ((t : State) → stands0 t → (m : sent.Message) → IsTaken taken m → Answers stands1 leaves1 t m (Err fault))
+    → ((t : State) → stands0 t → (m : sent.Message) → IsTaken taken m → Answers stands1 leaves1 t Port m (Err fault))
     → ServesSome (scene held holds stands1 leaves1) s input fault
 answer_fails held holds stands0 stands1 leaves0 leaves1 s input left rest count taken fault so_far next told =
     let n = next_of left rest so_far.rest taken so_far.left_is next in

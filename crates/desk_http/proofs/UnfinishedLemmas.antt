@@ -1,6 +1,6 @@
 -- Unfinished journeys, found one after another. For own_unfinished.
 use Rattle.std.proofs.Common.{◌≡◌, ◌∙◌, ap, sym, subst, refl, ℕ, zero, suc, ◌<◌, ◌≤◌, List, [], ◌∷◌, ◌++◌, cond, Bool, true, false, Option, Some, None, arith, append_assoc}
-use Rattle.std.specs.Prelude.{filter, filter_map, find, option_map, nat_lt, not, ◌&&◌, bytes_eq}
+use Rattle.std.specs.Prelude.{filter, filter_map, find, option_map, nat_lt, not, ◌&&◌}
 use Rattle.std.specs.List.{cons_option}
 use Rattle.std.proofs.lemmas.Bool.{le-ltb, lt-ltb, ltb-true}
 use Rattle.allotment.specs.Cells.{numbers_from}
@@ -8,7 +8,8 @@ use Rattle.ledger.specs.History.{is_finished}
 use Rattle.ledger.specs.Ledger.{Event, Journey, journey_at, numbers, history}
 use Rattle.saga_core.specs.Views.{brief_of, brief_of_journey, first_unfinished, is_unfinished_above}
 use Rattle.saga_core.specs.declared.records.Brief.{Brief}
-use Rattle.desk_http.specs.Pages.{own_unfinished}
+use Rattle.desk_http.specs.Pages.{own_unfinished, sees}
+use Rattle.desk_http.specs.declared.doors.Asker.{Asker}
 
 abbrev goes_on : Brief → Bool
 goes_on b = not (is_finished b.cursor.phase)
@@ -96,49 +97,49 @@ none_found test (x ∷ bs) is = go (test x) is (none_found test bs)
     go true same later = cc
     go false same later = later same
 
--- Journeys of an agent.
+-- Journeys that who asks sees.
 
 -- the summaries of a ledger's journeys
 abbrev pub briefs_of : List Event → List Brief
 briefs_of l = filter_map (brief_of l) (numbers l)
 
--- the journey is the agent's
-abbrev pub is_own : List ℕ → Brief → Bool
-is_own agent b = bytes_eq agent b.agent
+-- who asks sees the journey
+abbrev pub is_own : Asker → Brief → Bool
+is_own asker b = sees asker b.agent
 
--- the agent's own unfinished journeys above a number
-abbrev pub own_above : List Event → List ℕ → ℕ → List Brief
-own_above l agent a = filter (is_own agent) (filter (is_unfinished_above a) (briefs_of l))
+-- the unfinished journeys above a number that who asks sees
+abbrev pub own_above : List Event → Asker → ℕ → List Brief
+own_above l asker a = filter (is_own asker) (filter (is_unfinished_above a) (briefs_of l))
 
 -- all journeys are above 0
-pub own_at_first : (l : List Event) (agent : List ℕ) → own_above l agent 0 ≡ own_unfinished l agent
-own_at_first l agent =
-    ap (filter (is_own agent)) (all_above 0 (briefs_of l) (rises_from l 1 _))
+pub own_at_first : (l : List Event) (asker : Asker) → own_above l asker 0 ≡ own_unfinished l asker
+own_at_first l asker =
+    ap (filter (is_own asker)) (all_above 0 (briefs_of l) (rises_from l 1 _))
 
 -- no journey is above the last
-pub own_at_last : (l : List Event) (agent : List ℕ) (a : ℕ) → None ≡ first_unfinished l a → own_above l agent a ≡ []
-own_at_last l agent a is = ap (filter (is_own agent)) (none_found (is_unfinished_above a) (briefs_of l) (sym is))
+pub own_at_last : (l : List Event) (asker : Asker) (a : ℕ) → None ≡ first_unfinished l a → own_above l asker a ≡ []
+own_at_last l asker a is = ap (filter (is_own asker)) (none_found (is_unfinished_above a) (briefs_of l) (sym is))
 
--- the next journey is the agent's, or is skipped
-pub own_next : (l : List Event) (agent : List ℕ) (a : ℕ) (b : Brief) (v : Bool) → Some b ≡ first_unfinished l a
-    → is_own agent b ≡ v → own_above l agent a ≡ cond v (b ∷ own_above l agent b.id) (own_above l agent b.id)
-own_next l agent a b v is own =
-    ap (filter (is_own agent)) (first_above 1 a (briefs_of l) b (rises_from l 1 _) (sym is))
-    ∙ ap (λ w. cond w (b ∷ own_above l agent b.id) (own_above l agent b.id)) own
+-- the next journey is seen, or is skipped
+pub own_next : (l : List Event) (asker : Asker) (a : ℕ) (b : Brief) (v : Bool) → Some b ≡ first_unfinished l a
+    → is_own asker b ≡ v → own_above l asker a ≡ cond v (b ∷ own_above l asker b.id) (own_above l asker b.id)
+own_next l asker a b v is own =
+    ap (filter (is_own asker)) (first_above 1 a (briefs_of l) b (rises_from l 1 _) (sym is))
+    ∙ ap (λ w. cond w (b ∷ own_above l asker b.id) (own_above l asker b.id)) own
 
 -- the journeys that were found, with the next one
-pub own_grows : (l : List Event) (agent : List ℕ) (a : ℕ) (before now : List Brief) (b : Brief)
-    → before ++ own_above l agent a ≡ own_unfinished l agent → Some b ≡ first_unfinished l a → is_own agent b ≡ true
-    → now ≡ before ++ b ∷ [] → now ++ own_above l agent b.id ≡ own_unfinished l agent
-own_grows l agent a before now b so_far is own more =
-    ap (λ items. items ++ own_above l agent b.id) more
-    ∙ append_assoc before (b ∷ []) (own_above l agent b.id)
-    ∙ sym (ap (λ later. before ++ later) (own_next l agent a b true is own)) ∙ so_far
+pub own_grows : (l : List Event) (asker : Asker) (a : ℕ) (before now : List Brief) (b : Brief)
+    → before ++ own_above l asker a ≡ own_unfinished l asker → Some b ≡ first_unfinished l a → is_own asker b ≡ true
+    → now ≡ before ++ b ∷ [] → now ++ own_above l asker b.id ≡ own_unfinished l asker
+own_grows l asker a before now b so_far is own more =
+    ap (λ items. items ++ own_above l asker b.id) more
+    ∙ append_assoc before (b ∷ []) (own_above l asker b.id)
+    ∙ sym (ap (λ later. before ++ later) (own_next l asker a b true is own)) ∙ so_far
 
--- the journeys that were found, where the next one is another agent's
-pub own_stays : (l : List Event) (agent : List ℕ) (a : ℕ) (before now : List Brief) (b : Brief)
-    → before ++ own_above l agent a ≡ own_unfinished l agent → Some b ≡ first_unfinished l a → is_own agent b ≡ false
-    → now ≡ before → now ++ own_above l agent b.id ≡ own_unfinished l agent
-own_stays l agent a before now b so_far is own same =
-    ap (λ items. items ++ own_above l agent b.id) same
-    ∙ sym (ap (λ later. before ++ later) (own_next l agent a b false is own)) ∙ so_far
+-- the journeys that were found, where the next one is not seen
+pub own_stays : (l : List Event) (asker : Asker) (a : ℕ) (before now : List Brief) (b : Brief)
+    → before ++ own_above l asker a ≡ own_unfinished l asker → Some b ≡ first_unfinished l a → is_own asker b ≡ false
+    → now ≡ before → now ++ own_above l asker b.id ≡ own_unfinished l asker
+own_stays l asker a before now b so_far is own same =
+    ap (λ items. items ++ own_above l asker b.id) same
+    ∙ sym (ap (λ later. before ++ later) (own_next l asker a b false is own)) ∙ so_far

@@ -1,5 +1,5 @@
 -- How an execution continues with the messages of a connection. For serve.
-use Rattle.std.proofs.Common.{◌≡◌, ◌≤◌, ◌∙◌, ap, sym, subst, refl, inl, inr, arith, List, [], ◌∷◌, ◌++◌, ℕ, Bool, true, false, length, append_assoc, append-nil, IsTrue}
+use Rattle.std.proofs.Common.{◌≡◌, ◌≤◌, ◌∙◌, ap, sym, subst, refl, inl, inr, arith, List, [], ◌∷◌, ◌++◌, ℕ, Bool, true, false, if◌then◌else◌, length, append_assoc, append-nil, IsTrue}
 use Rattle.std.specs.Prelude.{Option, Some, None, Result, Ok, Err, IfOk, IfErr, IfSome}
 use Rattle.serde_json.specs.Data.{Data}
 use Rattle.plan.specs.PlanModel.{Planned}
@@ -16,7 +16,7 @@ use Rattle.allotment_csv.specs.declared.faults.CsvFault.TheVariants as csv
 use Rattle.allotment_csv.proofs.LimitLemmas.{batch_keeps_limits}
 use Rattle.ledger.specs.Answer.{State, start, is_request}
 use Rattle.ledger.specs.World.{Moment, after}
-use Rattle.http_messages.specs.Heads.{Parts, agent_of, complaint_of, key_of, parts_of}
+use Rattle.http_messages.specs.Heads.{Parts, agent_of, complaint_of, is_unnamed, key_of, parts_of}
 use Rattle.http_messages.specs.Messages as sent
 use Rattle.http_messages.specs.Messages.{Message, NoHead, BeginsWithAll}
 use Rattle.http_pages.specs.declared.admitting.Denied.{Denied}
@@ -26,7 +26,11 @@ use Rattle.saga_core.specs.Runs as runs
 use Rattle.saga_core.specs.Runs.{Asks}
 use Rattle.saga_core.specs.Worlds.{KeepLimits, StandsAtEnd, EndsWith, EndsAmong}
 use Rattle.saga_core.proofs.WorldLemmas.{KeepLimits-append, ends-with, ends-after, ends-cut}
-use Rattle.desk_http.specs.Demands.{Carry, Sender, admitted_by, asked_by, asked_if, bare, begin_by, begin_of, carried, carried_under, demand_of, demanded, denied_by, load_of, value_in}
+use Rattle.desk_http.specs.Demands.{Carry, Sender, Stop, admitted_by, admitted_of_house, agents_demand, asked_by, asked_if, asked_of_house, asks_to_stop, bare, begin_by, begin_of, carried, carried_by, demand_of, demanded, denied_by, load_of, sender_of, value_in}
+use Rattle.desk_http.specs.declared.doors.Asker.{Asker}
+use Rattle.desk_http.specs.declared.doors.Asker.TheVariants as who
+use Rattle.desk_http.specs.declared.doors.Door.{Door}
+use Rattle.desk_http.specs.declared.doors.Door.TheVariants.{Port, House}
 use Rattle.desk_http.specs.Pages.{Command, command_in, state_after, state_after_all, state_by, stays_open}
 use Rattle.protocols.specs.Scenes.{Scene}
 use Rattle.desk_http.specs.Serving.{Answered, Leaves, ServesAll, ServesSome}
@@ -67,11 +71,13 @@ bare_within (byte ∷ body) made good asked = λ same. cc
 
 carried_within : (sender : Sender) (r : Result Request Refusal) (c : Command) → Within r
     → denied_by (carried sender r) ≡ Ok (Carry c.0 c.1) → IsTrue (is_request c.0)
-carried_within sender (Ok asked) c good = go sender.key
+carried_within sender (Ok asked) c good = go sender.asker sender.key
   where
-    go : (key : Option (List ℕ)) → denied_by (carried_under key sender asked) ≡ Ok (Carry c.0 c.1) → IsTrue (is_request c.0)
-    go (Some key) = λ same. let e : asked ≡ c.0 = cc in good c.0 (ap Ok e)
-    go None = λ same. cc
+    go : (asker : Asker) (key : Option (List ℕ)) → denied_by (carried_by asker key sender asked) ≡ Ok (Carry c.0 c.1)
+        → IsTrue (is_request c.0)
+    go (who.Agent agent) (Some key) = λ same. let e : asked ≡ c.0 = cc in good c.0 (ap Ok e)
+    go (who.Agent agent) None = λ same. cc
+    go who.House key = λ same. let e : asked ≡ c.0 = cc in good c.0 (ap Ok e)
 carried_within sender (Err why) c good = λ same. cc
 
 demanded_within : (route : Route) (sender : Sender) (c : Command) → denied_by (demanded route sender) ≡ Ok (Carry c.0 c.1)
@@ -85,31 +91,51 @@ demanded_within (ShowJourney id) sender c = λ same. cc
 demanded_within ShowUnfinished sender c = λ same. cc
 demanded_within ShowStock sender c = λ same. cc
 
+-- those of agents
 asked_within : (found : Result Route Denied) (parts : Parts) (body : List ℕ) (c : Command)
     → asked_if found parts body ≡ Ok (Carry c.0 c.1) → IsTrue (is_request c.0)
 asked_within (Err denied) parts body c = λ same. cc
 asked_within (Ok route) parts body c = go (agent_of parts)
   where
     go : (agent : Option (List ℕ)) → asked_by agent parts body route ≡ Ok (Carry c.0 c.1) → IsTrue (is_request c.0)
-    go (Some agent) = demanded_within route (record { agent = agent; key = key_of parts; target = parts.target; body = body }) c
+    go (Some agent) = demanded_within route (sender_of (who.Agent agent) parts body) c
     go None = λ same. cc
 
+-- those of the house
+house_within : (found : Result Route Denied) (parts : Parts) (body : List ℕ) (c : Command)
+    → asked_of_house found parts body ≡ Ok (Carry c.0 c.1) → IsTrue (is_request c.0)
+house_within (Err denied) parts body c = λ same. cc
+house_within (Ok route) parts body c = demanded_within route (sender_of who.House parts body) c
+
+-- those at the house's door
+at_house_within : (unnamed stop : Bool) (parts : Parts) (body : List ℕ) (c : Command)
+    → (if unnamed then (if stop then Ok Stop else asked_of_house (admitted_of_house parts) parts body) else agents_demand parts body)
+    ≡ Ok (Carry c.0 c.1) → IsTrue (is_request c.0)
+at_house_within true true parts body c = λ same. cc
+at_house_within true false parts body c = house_within (admitted_of_house parts) parts body c
+at_house_within false stop parts body c = asked_within (admitted_by parts) parts body c
+
+demand_within : (door : Door) (parts : Parts) (body : List ℕ) (c : Command)
+    → demand_of door parts body ≡ Ok (Carry c.0 c.1) → IsTrue (is_request c.0)
+demand_within Port parts body c = asked_within (admitted_by parts) parts body c
+demand_within House parts body c = at_house_within (is_unnamed parts) (asks_to_stop parts) parts body c
+
 -- the command of a message keeps the limits
-limits_of : (m : Message) (c : Command) → command_in m ≡ Some c → IsTrue (is_request c.0)
-limits_of NoHead c = λ same. cc
-limits_of (sent.Asks h body) c = λ same.
+pub limits_of : (door : Door) (m : Message) (c : Command) → command_in door m ≡ Some c → IsTrue (is_request c.0)
+limits_of door NoHead c = λ same. cc
+limits_of door (sent.Asks h body) c = λ same.
     let parts = parts_of h in
-    asked_within (admitted_by parts) parts body c (carry_of (complaint_of parts) (demand_of parts body) c same).1
+    demand_within door parts body c (carry_of (complaint_of parts) (demand_of door parts body) c same).1
 
 -- the commands of messages keep the limits
-by-in_limits : (o : Option Command) (rest : Asks) → ((c : Command) → o ≡ Some c → IsTrue (is_request c.0))
+pub by-in_limits : (o : Option Command) (rest : Asks) → ((c : Command) → o ≡ Some c → IsTrue (is_request c.0))
     → KeepLimits rest → KeepLimits (asks_by o ++ rest)
 by-in_limits (Some c) rest limits all = (limits c refl, all)
 by-in_limits None rest limits all = all
 
 pub in-limits : (ms : List Message) → KeepLimits (asks_in ms)
 in-limits [] = tt
-in-limits (m ∷ ms) = by-in_limits (command_in m) (asks_in ms) (limits_of m) (in-limits ms)
+in-limits (m ∷ ms) = by-in_limits (command_in Port m) (asks_in ms) (limits_of Port m) (in-limits ms)
 
 -- The commands of messages.
 
@@ -117,8 +143,8 @@ in-limits (m ∷ ms) = by-in_limits (command_in m) (asks_in ms) (limits_of m) (i
 pub asks_in-append : (ms ns : List Message) → asks_in (ms ++ ns) ≡ asks_in ms ++ asks_in ns
 asks_in-append [] ns = refl
 asks_in-append (m ∷ ms) ns =
-    ap (λ l. asks_by (command_in m) ++ l) (asks_in-append ms ns)
-    ∙ sym (append_assoc (asks_by (command_in m)) (asks_in ms) (asks_in ns))
+    ap (λ l. asks_by (command_in Port m) ++ l) (asks_in-append ms ns)
+    ∙ sym (append_assoc (asks_by (command_in Port m)) (asks_in ms) (asks_in ns))
 
 -- one message makes at most one command
 pub one-asked : (o : Option Command) → length (asks_by o ++ []) ≤ 1
@@ -126,14 +152,14 @@ one-asked (Some c) = omega arith
 one-asked None = omega arith
 
 -- a message leads to the state to which its command leads
-leads-by : (s : State) (o : Option Command) (rest : Asks)
+pub leads-by : (s : State) (o : Option Command) (rest : Asks)
     → runs.state_after (state_by s o) rest ≡ runs.state_after s (asks_by o ++ rest)
 leads-by s (Some c) rest = refl
 leads-by s None rest = refl
 
 pub leads : (s : State) (ms : List Message) → state_after_all s ms ≡ runs.state_after s (asks_in ms)
 leads s [] = refl
-leads s (m ∷ ms) = leads (state_after s m) ms ∙ leads-by s (command_in m) (asks_in ms)
+leads s (m ∷ ms) = leads (state_after Port s m) ms ∙ leads-by s (command_in Port m) (asks_in ms)
 
 -- Executions that continue.
 
@@ -160,7 +186,7 @@ stops-after x w ms settled here now =
 -- the next message was executed too
 abbrev stops-with : {stood : State → Type 0} (x : Scene) (w : List Moment) (ms : List Message) (m : Message)
     → ((u : State) → x.stands u → x.leaves u u) → StandsAtEnd stood w
-    → x.stands (state_after (state_after_all (after start w) ms) m)
+    → x.stands (state_after Port (state_after_all (after start w) ms) m)
     → EndsAmong x.stands x.leaves w (asks_in (ms ++ m ∷ [])) false
 stops-with x w ms m settled here now =
     let all = asks_in (ms ++ m ∷ []) in
@@ -170,10 +196,10 @@ stops-with x w ms m settled here now =
 
 -- what a crash leaves of the next message
 pub message-cut : (leaves : State → State → Type 0) (s : State) (ms : List Message) (m : Message)
-    → leaves (state_after_all s ms) (state_after (state_after_all s ms) m)
+    → leaves (state_after_all s ms) (state_after Port (state_after_all s ms) m)
     → leaves (runs.state_after s (asks_in ms)) (runs.state_after s (asks_in ms ++ asks_in (m ∷ [])))
 message-cut leaves s ms m left =
-    let both : runs.state_after s (asks_in ms ++ asks_in (m ∷ [])) ≡ state_after (state_after_all s ms) m =
+    let both : runs.state_after s (asks_in ms ++ asks_in (m ∷ [])) ≡ state_after Port (state_after_all s ms) m =
     ap (runs.state_after s) (sym (asks_in-append ms (m ∷ [])))
     ∙ sym (leads s (ms ++ m ∷ [])) ∙ after_more s ms m in
     subst (λ t. leaves t (runs.state_after s (asks_in ms ++ asks_in (m ∷ [])))) (leads s ms)
@@ -182,12 +208,12 @@ message-cut leaves s ms m left =
 -- the next message was cut off
 abbrev pub cuts : {stood : State → Type 0} (x : Scene) (w : List Moment) (ms : List Message) (m : Message)
     → StandsAtEnd stood w
-    → x.leaves (state_after_all (after start w) ms) (state_after (state_after_all (after start w) ms) m)
+    → x.leaves (state_after_all (after start w) ms) (state_after Port (state_after_all (after start w) ms) m)
     → EndsAmong x.stands x.leaves w (asks_in (ms ++ m ∷ [])) true
 cuts x w ms m here left =
     ends-cut x.stands x.leaves w (asks_in (ms ++ m ∷ [])) (asks_in ms) (asks_in (m ∷ [])) [] here
     (asks_in-append ms (m ∷ []) ∙ sym (append-nil (asks_in ms ++ asks_in (m ∷ []))))
-    (one-asked (command_in m)) (KeepLimits-append (asks_in ms) (asks_in (m ∷ [])) (in-limits ms) (in-limits (m ∷ [])))
+    (one-asked (command_in Port m)) (KeepLimits-append (asks_in ms) (asks_in (m ∷ [])) (in-limits ms) (in-limits (m ∷ [])))
     (message-cut x.leaves (after start w) ms m left)
 
 -- a fault ended the run

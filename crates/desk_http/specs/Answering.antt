@@ -8,6 +8,7 @@ use Rattle.http_pages.specs.declared.answers.Page.{Page}
 use Rattle.desk_http.specs.Demands.{Demand, demand_of}
 use Rattle.desk_http.specs.Pages.{IsPage, Says, SaysUnless, closes, command_by, command_unless, state_after, state_by}
 use Rattle.desk_http.specs.declared.answering.Answer.{Answer}
+use Rattle.desk_http.specs.declared.doors.Door.{Door}
 use Rattle.protocols.specs.declared.faults.ServeFault.{ServeFault}
 use Rattle.protocols.specs.declared.faults.ServeFault.TheVariants.{Memory, Store}
 
@@ -29,12 +30,12 @@ module _ (stands : State → Type 0) (leaves : State → State → Type 0) (s : 
       Comes (state_by s (command_by (Ok demand))) (λ page. Says s (Ok demand) (page_said page)) result
 
   -- the page reports the outcome of a request with these parts and this body, whose head may be refused
-  abbrev pub Tells : Parts → List ℕ → Result Page ServeFault → Type 0
-  Tells parts body result =
-      Comes (state_by s (command_unless (complaint_of parts) (demand_of parts body)))
-      (λ page. SaysUnless (complaint_of parts) s parts body (page_said page)) result
+  abbrev pub Tells : Door → Parts → List ℕ → Result Page ServeFault → Type 0
+  Tells door parts body result =
+      Comes (state_by s (command_unless (complaint_of parts) (demand_of door parts body)))
+      (λ page. SaysUnless (complaint_of parts) door s parts body (page_said page)) result
 
-  -- these are the bytes of the page of a message
-  abbrev pub Answers : Message → Result Answer ServeFault → Type 0
-  Answers m result =
-      Comes (state_after s m) (λ answer. IsPage s m answer.bytes.items × (answer.closes ≡ closes m)) result
+  -- these are the bytes of the page of a message that came in at a door
+  abbrev pub Answers : Door → Message → Result Answer ServeFault → Type 0
+  Answers door m result =
+      Comes (state_after door s m) (λ answer. IsPage door s m answer.bytes.items × (answer.closes ≡ closes m)) result

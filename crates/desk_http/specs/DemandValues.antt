@@ -11,7 +11,7 @@ use Rattle.http_pages.specs.declared.admitting.Denied.{Denied}
 use Rattle.desk_http.specs.Demands as sent
 pub use Rattle.desk_http.specs.Demands.{denied_by}
 use Rattle.desk_http.specs.declared.demands.Demand.{Demand}
-use Rattle.desk_http.specs.declared.demands.Demand.TheVariants.{Carry, SeeJourney, SeeUnfinished, SeeStock}
+use Rattle.desk_http.specs.declared.demands.Demand.TheVariants.{Carry, SeeJourney, SeeUnfinished, SeeStock, Stop}
 use Rattle.desk_http.specs.declared.demands.Unmet.{Unmet}
 use Rattle.desk_http.specs.declared.demands.Unmet.TheVariants.{Refused, Memory}
 use Rattle.desk_http.specs.declared.senders.Sender.{Sender}
@@ -23,7 +23,7 @@ ReadsAs value found = option_map view found ≡ value
 -- the sender of a request, with its target and body
 abbrev pub sender_said : Sender → sent.Sender
 sender_said sender = record {
-  agent = sender.agent;
+  asker = sender.asker;
   key = sender.key;
   target = sender.target.now;
   body = sender.body.now;
@@ -32,9 +32,10 @@ sender_said sender = record {
 -- the demand that a value represents
 abbrev pub demand_said : Demand → sent.Demand
 demand_said (Carry command ask) = sent.Carry (request_of command) ask
-demand_said (SeeJourney agent id) = sent.SeeJourney agent id
-demand_said (SeeUnfinished agent) = sent.SeeUnfinished agent
+demand_said (SeeJourney asker id) = sent.SeeJourney asker id
+demand_said (SeeUnfinished asker) = sent.SeeUnfinished asker
 demand_said SeeStock = sent.SeeStock
+demand_said Stop = sent.Stop
 
 -- the value is the command of this request, or the refusal of it, or out of memory
 abbrev pub AsksFor : Result Request Refusal → Result Command Unmet → Type 0

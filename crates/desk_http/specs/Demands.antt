@@ -1,5 +1,5 @@
 -- The demand of a request, or the first thing that is wrong with the request.
-use Rattle.std.specs.Prelude.{ℕ, List, [], ◌∷◌, ◌++◌, codes, if◌then◌else◌, Option, Some, None, is_some, Result, Ok, Err}
+use Rattle.std.specs.Prelude.{ℕ, ◌&&◌, Bool, true, List, [], ◌∷◌, ◌++◌, codes, bytes_eq, if◌then◌else◌, Option, Some, None, is_some, Result, Ok, Err}
 use Rattle.std.specs.Str.{is_utf8}
 use Rattle.serde_json.specs.Data.{Data}
 use Rattle.serde_json.specs.Read.{read}
@@ -16,12 +16,16 @@ use Rattle.commands.specs.declared.refusals.Refusal.TheVariants as refusal
 use Rattle.allotment_csv.specs.Files.{batch_of}
 use Rattle.allotment_csv.specs.declared.faults.CsvFault.{CsvFault}
 use Rattle.allotment_csv.specs.declared.faults.CsvFault.TheVariants as csv
-use Rattle.http_messages.specs.Heads.{Parts, agent_of, is_method, key_of}
+use Rattle.http_messages.specs.Heads.{Parts, agent_of, is_method, is_unnamed, key_of}
 use Rattle.http_pages.specs.Admitting.{admitted, plain}
 use Rattle.http_pages.specs.Routes.{route_of}
 use Rattle.http_pages.specs.declared.admitting.Denied.{Denied}
 use Rattle.http_pages.specs.declared.routes.Route.{Route}
 use Rattle.http_pages.specs.declared.routes.Route.TheVariants.{LoadBatch, Begin, Step, Abort, Save, ShowJourney, ShowUnfinished, ShowStock}
+use Rattle.desk_http.specs.declared.doors.Asker.{Asker}
+use Rattle.desk_http.specs.declared.doors.Asker.TheVariants as who
+use Rattle.desk_http.specs.declared.doors.Door.{Door}
+use Rattle.desk_http.specs.declared.doors.Door.TheVariants as doors
 
 -- What a body says.
 
@@ -57,16 +61,17 @@ bare (byte ∷ later) asked = Err refusal.BadBody
 
 -- The demand of a request.
 
--- a command to execute, under an agent and a key; or a view for an agent
+-- a command to execute, of an agent under a key or of the house; a view for whoever asks; or that the desk stops
 pub data Demand : Type 0 where
-  Carry : (asked : Request) (ask : Asked) → Demand
-  SeeJourney : (agent : List ℕ) (id : ℕ) → Demand
-  SeeUnfinished : (agent : List ℕ) → Demand
+  Carry : (asked : Request) (ask : Option Asked) → Demand
+  SeeJourney : (asker : Asker) (id : ℕ) → Demand
+  SeeUnfinished : (asker : Asker) → Demand
   SeeStock : Demand
+  Stop : Demand
 
--- the agent and the key of a request, its target and its body
+-- who sends a request, its key, its target and its body
 pub record Sender : Type 0 where
-  pub agent : List ℕ
+  pub asker : Asker
   pub key : Option (List ℕ)
   pub target : List ℕ
   pub body : List ℕ
@@ -75,15 +80,16 @@ pub record Sender : Type 0 where
 abbrev pub text_of : Sender → List ℕ
 text_of sender = sender.target ++ line_feed ∷ sender.body
 
--- a command is executed under the sender's key, and refused without a key
-abbrev pub carried_under : Option (List ℕ) → Sender → Request → Result Demand Refusal
-carried_under (Some key) sender asked =
-    Ok (Carry asked (record { agent = sender.agent; key = key; text = text_of sender }))
-carried_under None sender asked = Err refusal.NoKey
+-- an agent's command is executed under the sender's key, and refused without a key; the house's needs none
+abbrev pub carried_by : Asker → Option (List ℕ) → Sender → Request → Result Demand Refusal
+carried_by (who.Agent agent) (Some key) sender asked =
+    Ok (Carry asked (Some (record { agent = agent; key = key; text = text_of sender })))
+carried_by (who.Agent agent) None sender asked = Err refusal.NoKey
+carried_by who.House key sender asked = Ok (Carry asked None)
 
--- the command that a body makes, under the sender's key
+-- the command that a body makes, of its sender
 abbrev pub carried : Sender → Result Request Refusal → Result Demand Refusal
-carried sender (Ok asked) = carried_under sender.key sender asked
+carried sender (Ok asked) = carried_by sender.asker sender.key sender asked
 carried sender (Err why) = Err why
 
 -- the demand of a sender on a route
@@ -93,8 +99,8 @@ demanded Begin sender = carried sender (begin_by (value_in sender.body))
 demanded (Step id) sender = carried sender (bare sender.body (asks.Step id))
 demanded (Abort id position) sender = carried sender (bare sender.body (asks.Abort id position))
 demanded (Save id) sender = carried sender (bare sender.body (asks.Save id))
-demanded (ShowJourney id) sender = Ok (SeeJourney sender.agent id)
-demanded ShowUnfinished sender = Ok (SeeUnfinished sender.agent)
+demanded (ShowJourney id) sender = Ok (SeeJourney sender.asker id)
+demanded ShowUnfinished sender = Ok (SeeUnfinished sender.asker)
 demanded ShowStock sender = Ok SeeStock
 
 -- a refusal that does not depend on the method
@@ -102,10 +108,17 @@ abbrev pub denied_by : {X : Type 0} → Result X Refusal → Result X Denied
 denied_by (Ok x) = Ok x
 denied_by (Err why) = Err (plain why)
 
+-- who sends a request with these parts and this body
+abbrev pub sender_of : Asker → Parts → List ℕ → Sender
+sender_of asker parts body =
+    record { asker = asker; key = key_of parts; target = parts.target; body = body }
+
+-- At the port.
+
 -- the demand of an agent on a route; a request without an agent is refused
 abbrev pub asked_by : Option (List ℕ) → Parts → List ℕ → Route → Result Demand Denied
 asked_by (Some agent) parts body route =
-    denied_by (demanded route (record { agent = agent; key = key_of parts; target = parts.target; body = body }))
+    denied_by (demanded route (sender_of (who.Agent agent) parts body))
 asked_by None parts body route = Err (plain refusal.NoAgent)
 
 -- the demand of a request whose head was admitted
@@ -119,6 +132,33 @@ admitted_by parts =
     admitted (route_of parts.method parts.target) (is_some (agent_of parts)) (is_some (key_of parts))
     (is_method (codes "POST") parts)
 
--- the demand of a request, or the first thing that is wrong with it
-abbrev pub demand_of : Parts → List ℕ → Result Demand Denied
-demand_of parts body = asked_if (admitted_by parts) parts body
+-- the demand of an agent's request, or the first thing that is wrong with it
+abbrev pub agents_demand : Parts → List ℕ → Result Demand Denied
+agents_demand parts body = asked_if (admitted_by parts) parts body
+
+-- At the house's door.
+
+-- it asks the desk to stop
+abbrev pub asks_to_stop : Parts → Bool
+asks_to_stop parts = is_method (codes "POST") parts && bytes_eq parts.target (codes "/stop")
+
+-- the demand of the house on a route that was admitted
+abbrev pub asked_of_house : Result Route Denied → Parts → List ℕ → Result Demand Denied
+asked_of_house (Ok route) parts body = denied_by (demanded route (sender_of who.House parts body))
+asked_of_house (Err denied) parts body = Err denied
+
+-- the route of a request of the house, or the first thing that is wrong with it: path, method, parts of the path
+abbrev pub admitted_of_house : Parts → Result Route Denied
+admitted_of_house parts =
+    admitted (route_of parts.method parts.target) true true (is_method (codes "POST") parts)
+
+-- the demand of a request of the house, or the first thing that is wrong with it
+abbrev pub house_demand : Parts → List ℕ → Result Demand Denied
+house_demand parts body =
+    if asks_to_stop parts then Ok Stop else asked_of_house (admitted_of_house parts) parts body
+
+-- the demand of a request at a door: at the house's, one that names nobody is the house's
+abbrev pub demand_of : Door → Parts → List ℕ → Result Demand Denied
+demand_of doors.Port parts body = agents_demand parts body
+demand_of doors.House parts body =
+    if is_unnamed parts then house_demand parts body else agents_demand parts body

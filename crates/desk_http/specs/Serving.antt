@@ -1,4 +1,4 @@
--- The result of serving a connection: what was written, and the state of the book after it.
+-- The result of serving a connection at the port: what was written, and the state of the book after it.
 use Rattle.std.specs.Prelude.{◌≡◌, ◌⊎◌, ℕ, true, List, [], ◌∷◌, ◌++◌, length, take}
 use Rattle.std.specs.List.{concat}
 use Rattle.ledger.specs.Answer.{State}
@@ -6,6 +6,7 @@ use Rattle.http_messages.specs.declared.faults.ReadFault.{ReadFault}
 use Rattle.http_messages.specs.declared.faults.ReadFault.TheVariants as reading
 use Rattle.http_messages.specs.Messages.{Message, BeginsWith, BeginsWithAll, HasNoMessage}
 use Rattle.desk_http.specs.Pages.{ArePages, IsPage, closes, state_after, state_after_all, stays_open}
+use Rattle.desk_http.specs.declared.doors.Door.TheVariants.{Port}
 use Rattle.protocols.specs.Scenes.{Scene, Wrote}
 use Rattle.protocols.specs.declared.faults.ServeFault.{ServeFault}
 use Rattle.protocols.specs.declared.faults.ServeFault.TheVariants.{Memory, Store, Read, Write}
@@ -49,17 +50,17 @@ ForNext rest So = (next : Message) × (after : List ℕ) × BeginsWith rest next
 -- besides, a prefix of the page of this message was written, and the book represents the state after the message
 abbrev pub IsCut : Scene → State → List (List ℕ) → Message → Type 0
 IsCut x t pages next =
-    (page : List ℕ) × (part : ℕ) × IsPage t next page × Wrote x (concat pages ++ take part page)
-    × x.stands (state_after t next)
+    (page : List ℕ) × (part : ℕ) × IsPage Port t next page × Wrote x (concat pages ++ take part page)
+    × x.stands (state_after Port t next)
 
 -- the state at each fault, where these pages were written, this state was reached, and this rest of the input follows
 abbrev pub Leaves : ServeFault → Scene → State → List (List ℕ) → List ℕ → Type 0
 Leaves Read x t pages rest = Wrote x (concat pages) × x.stands t
 Leaves Write x t pages rest = ForNext rest (IsCut x t pages)
 Leaves Memory x t pages rest =
-    Wrote x (concat pages) × (x.stands t ⊎ ForNext rest (λ next. x.stands (state_after t next)))
+    Wrote x (concat pages) × (x.stands t ⊎ ForNext rest (λ next. x.stands (state_after Port t next)))
 Leaves Store x t pages rest =
-    Wrote x (concat pages) × ForNext rest (λ next. x.leaves t (state_after t next))
+    Wrote x (concat pages) × ForNext rest (λ next. x.leaves t (state_after Port t next))
 
 -- a prefix of the messages was answered, of which none closes, and then a fault came
 pub record ServesSome (x : Scene) (s : State) (input : List ℕ) (fault : ServeFault) : Type 0 where

@@ -8,6 +8,7 @@ use Rattle.saga_core.specs.Worlds.{StandsAtEnd, EndsWith, EndsAmong}
 use Rattle.http_messages.specs.Messages.{Message, BeginsWith}
 use Rattle.desk_http.specs.Pages.{Command, command_in}
 use Rattle.desk_http.specs.Serving.{ServesAll, ServesSome}
+use Rattle.desk_http.specs.declared.doors.Door.TheVariants.{Port}
 use Rattle.protocols.specs.Faults.{is_store}
 use Rattle.protocols.specs.Scenes.{Scene}
 use Rattle.protocols.specs.declared.faults.ServeFault.{ServeFault}
@@ -15,13 +16,13 @@ use Rattle.protocols.specs.declared.faults.ServeFault.TheVariants.{Memory, Store
 
 -- the command of a message, if it makes one
 abbrev pub asks_by : Option Command → Asks
-asks_by (Some command) = (command.0, Some command.1) ∷ []
+asks_by (Some command) = command ∷ []
 asks_by None = []
 
--- the commands of these messages, in order
+-- the commands of these messages at the port, in order
 abbrev pub asks_in : List Message → Asks
 asks_in [] = []
-asks_in (m ∷ later) = asks_by (command_in m) ++ asks_in later
+asks_in (m ∷ later) = asks_by (command_in Port m) ++ asks_in later
 
 -- the messages of the input up to and including the first that closes were answered, and the execution continues with
 -- their commands

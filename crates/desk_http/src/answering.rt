@@ -1,5 +1,5 @@
 //! The page of a message.
-ghost use Rattle.std.specs.Prelude.{◌≡◌, ◌||◌, ℕ, List, is_some, IfErr, IfOk, IsErrOf, IsTrue};
+ghost use Rattle.std.specs.Prelude.{◌≡◌, ◌&&◌, ◌||◌, not, ℕ, List, is_some, IfErr, IfOk, IsErrOf, IsTrue};
 ghost use Rattle.ledger.specs.Answer.{State};
 ghost use Rattle.saga_core.specs.Books.{LeavesNoMore};
 ghost use Rattle.http_messages.specs.Requests.{IsRequest, IsTaken};
@@ -8,13 +8,17 @@ ghost use Rattle.http_messages.specs.Messages as sent;
 ghost use Rattle.http_pages.specs.Pages.{page_said, page_text};
 ghost use Rattle.desk_http.specs.Answering.{Answers, Meets, Tells};
 ghost use Rattle.desk_http.specs.DemandValues.{demand_said};
-ghost use Rattle.desk_http.specs.Pages.{closes};
+ghost use Rattle.http_messages.specs.declared.requests.Message.TheVariants as taken;
+ghost use Rattle.desk_http.specs.Pages.{closes, stops};
 
-use crate::demands::{Demand, Unmet, demand_in};
+use crate::demands::{Demand, Unmet, asks_to_stop, demand_in};
+use crate::doors::Door;
 use crate::showing::{see_journey, see_stock, see_unfinished};
 use commands::Refusal;
 use http_messages::{Message, Request};
-use http_pages::{Page, Paths, denied_page, page_bytes, refused_page, reply_page};
+use http_pages::{
+    Body, Page, Paths, denied_page, page_bytes, refused_page, reply_page, shown_page, stopping_body,
+};
 use protocols::ServeFault;
 use saga_core::Book;
 use std::alloc::Global;
@@ -26,36 +30,52 @@ pub struct Answer {
     pub bytes: Vec<u8>,
     /// Whether it is a closing page.
     pub closes: bool,
+    /// Whether the house asked the desk to stop.
+    pub stops: bool,
 }
 
 impl Answer {
     /// The bytes of a page. The page of a HEAD request has no body. The only fault is out of memory.
-    fn new(alloc: Global, page: &Page, closes: bool, is_head: bool) -> Result<Answer, ServeFault>
+    fn new(
+        alloc: Global,
+        page: &Page,
+        closes: bool,
+        stops: bool,
+        is_head: bool,
+    ) -> Result<Answer, ServeFault>
         ensures bytes { IfOk result (λ answer.
             answer.bytes.items ≡ page_text is_head closes (page_said page.now)) }
         ensures closes { IfOk result (λ answer. answer.closes ≡ closes) }
+        ensures stops { IfOk result (λ answer. answer.stops ≡ stops) }
 
         ensures memory { IfErr result (λ fault. fault ≡ ServeFault.Memory) }
     {
         let bytes = page_bytes(alloc, page, closes, is_head)?;
-        Ok(Answer { bytes, closes })
+        Ok(Answer {
+            bytes,
+            closes,
+            stops,
+        })
     }
 }
 
-/// Answers a message: carries out what it asks for, and lays out its page.
+/// Answers a message that came in at a door: carries out what it asks for, and lays out its page.
 ///
 /// Out of memory, it was carried out or not, and has no page.
 pub fn answer_to<B: Book>(
     alloc: Global,
     paths: &Paths,
+    door: Door,
     message: &Message,
     book: &mut B,
 ) -> Result<Answer, ServeFault>
     ensures answer { B.is_sound book.new → (s : State) → B.stands book.old s →
         (m : sent.Message) → IsTaken message.now m →
-        Answers (B.stands book.new) (B.leaves book.new) s m result }
+        Answers (B.stands book.new) (B.leaves book.new) s door m result }
     ensures closes { IfOk result (λ answer. (m : sent.Message) → IsTaken message.now m →
         answer.closes ≡ closes m) }
+    ensures stops { IfOk result (λ answer. (m : sent.Message) → IsTaken message.now m →
+        answer.stops ≡ stops door m) }
 
     ensures failed { IsErrOf result ServeFault.Store → IsTrue (B.has_failed book.new) }
     ensures stays_failed { IsTrue (B.has_failed book.old) → IsTrue (B.has_failed book.new) }
@@ -67,11 +87,17 @@ pub fn answer_to<B: Book>(
     match message {
         Message::NoHead => {
             let page = refused_page(alloc, &Refusal::BadHead)?;
-            Answer::new(alloc, &page, true, false)
+            Answer::new(alloc, &page, true, false, false)
         }
         Message::Asks(request) => {
-            let page = page_of(alloc, paths, request, book)?;
-            Answer::new(alloc, &page, closes(request), request.is_head)
+            let page = page_of(alloc, paths, door, request, book)?;
+            Answer::new(
+                alloc,
+                &page,
+                closes(request),
+                stops(door, request),
+                request.is_head,
+            )
         }
     }
 }
@@ -83,16 +109,45 @@ fn closes(request: &Request) -> bool
     request.complaint.is_some() || request.closes
 }
 
-/// The page of a request.
+/// Whether a request at a door is one of the house that the desk stop.
+fn stops(door: Door, request: &Request) -> bool
+    ensures stops { (m : sent.Message) → IsTaken (taken.Asks request.now) m →
+        result ≡ stops door m }
+{
+    match door {
+        Door::Port => false,
+        Door::House => stops_at_house(request),
+    }
+}
+
+/// Whether a request at the house's door is one of the house that the desk stop.
+fn stops_at_house(request: &Request) -> bool
+    ensures stops { (m : sent.Message) → IsTaken (taken.Asks request.now) m →
+        result ≡ stops Door.House m }
+{
+    let (asked, refused) = (asks_to_stop(request), request.complaint.is_some());
+    is_stop(request.is_unnamed, asked, refused)
+}
+
+/// Whether a request that names nobody, or does, asks for a stop, or does not, with a head that is refused, or is not, is
+/// to stop the desk.
+fn is_stop(unnamed: bool, asked: bool, refused: bool) -> bool
+    ensures stop { result ≡ (unnamed && asked && not refused) }
+{
+    unnamed && asked && !refused
+}
+
+/// The page of a request at a door.
 fn page_of<B: Book>(
     alloc: Global,
     paths: &Paths,
+    door: Door,
     request: &Request,
     book: &mut B,
 ) -> Result<Page, ServeFault>
     ensures page { B.is_sound book.new → (s : State) → B.stands book.old s →
         (parts : Parts) → (body : List ℕ) → IsRequest request.now parts body →
-        Tells (B.stands book.new) (B.leaves book.new) s parts body result }
+        Tells (B.stands book.new) (B.leaves book.new) s door parts body result }
 
     ensures failed { IsErrOf result ServeFault.Store → IsTrue (B.has_failed book.new) }
     ensures stays_failed { IsTrue (B.has_failed book.old) → IsTrue (B.has_failed book.new) }
@@ -104,7 +159,7 @@ fn page_of<B: Book>(
     if let Some(complaint) = &request.complaint {
         return Ok(refused_page(alloc, complaint)?);
     }
-    match demand_in(alloc, paths, request) {
+    match demand_in(alloc, paths, door, request) {
         Ok(demand) => meet(alloc, &demand, book),
         Err(Unmet::Refused(denied)) => Ok(denied_page(alloc, &denied)?),
         Err(Unmet::Memory) => Err(ServeFault::Memory),
@@ -125,11 +180,12 @@ fn meet<B: Book>(alloc: Global, demand: &Demand, book: &mut B) -> Result<Page, S
 {
     match demand {
         Demand::Carry(command, ask) => {
-            let reply = book.act(command, Some(ask))?;
+            let reply = book.act(command, ask.as_ref())?;
             Ok(reply_page(alloc, &reply)?)
         }
-        Demand::SeeJourney(agent, id) => see_journey(alloc, book, *agent, *id),
-        Demand::SeeUnfinished(agent) => see_unfinished(alloc, book, *agent),
+        Demand::SeeJourney(asker, id) => see_journey(alloc, book, asker, *id),
+        Demand::SeeUnfinished(asker) => see_unfinished(alloc, book, asker),
         Demand::SeeStock => see_stock(alloc, book),
+        Demand::Stop => Ok(shown_page(Body::Json(stopping_body(alloc)?))),
     }
 }

@@ -3,13 +3,14 @@ ghost use Rattle.std.specs.Prelude.{◌≡◌, List, ℕ};
 ghost use Rattle.http_messages.specs.Requests.{IsRequest};
 ghost use Rattle.http_messages.specs.Heads.{Parts};
 ghost use Rattle.http_pages.specs.Admitting.{plain};
-ghost use Rattle.desk_http.specs.Demands.{demand_of, demanded};
+ghost use Rattle.desk_http.specs.Demands.{agents_demand, asks_to_stop, demand_of, demanded, house_demand};
 ghost use Rattle.desk_http.specs.DemandValues.{Demands, denied_by, sender_said};
 ghost use Rattle.desk_http.specs.declared.demands.Unmet.TheVariants.{Memory, Refused};
 
 use crate::bodies::{bare, begin, load};
+use crate::doors::{Asker, Door};
 use crate::senders::Sender;
-use commands::{Agent, Ask, Command, Refusal};
+use commands::{Ask, Command, Refusal};
 use http_messages::Request;
 use http_pages::{Denied, Paths, Route, admit};
 use std::alloc::{AllocError, Global};
@@ -17,14 +18,16 @@ use std::alloc::{AllocError, Global};
 /// The demand of a request with which nothing is wrong.
 #[derive(Drop)]
 pub(crate) enum Demand {
-    /// Execute this command, under an agent and a key.
-    Carry(Command, Ask),
-    /// Show an agent the journey of this number.
-    SeeJourney(Agent, u64),
-    /// Show an agent its unfinished journeys.
-    SeeUnfinished(Agent),
+    /// Execute this command, under an agent and a key, or for the house.
+    Carry(Command, Option<Ask>),
+    /// Show who asks the journey of this number.
+    SeeJourney(Asker, u64),
+    /// Show who asks its unfinished journeys.
+    SeeUnfinished(Asker),
     /// Show the stock.
     SeeStock,
+    /// Stop the desk.
+    Stop,
 }
 
 /// Why a request has no demand.
@@ -60,11 +63,70 @@ impl From<AllocError> for Unmet {
     }
 }
 
-/// The demand of a request, or the first thing that is wrong with it, in this order: path, method, agent, key, the
-/// parts of the path, the body.
-pub(crate) fn demand_in(alloc: Global, paths: &Paths, request: &Request) -> Result<Demand, Unmet>
+/// The demand of a request at a door, or the first thing that is wrong with it. At the house's door a request that names
+/// nobody is the house's.
+pub(crate) fn demand_in(
+    alloc: Global,
+    paths: &Paths,
+    door: Door,
+    request: &Request,
+) -> Result<Demand, Unmet>
     ensures demand { (parts : Parts) → (body : List ℕ) → IsRequest request.now parts body →
-        Demands (demand_of parts body) result }
+        Demands (demand_of door parts body) result }
+{
+    match door {
+        Door::Port => agents_demand(alloc, paths, request),
+        Door::House => demand_at_house(alloc, paths, request),
+    }
+}
+
+/// The demand of a request at the house's door.
+fn demand_at_house(alloc: Global, paths: &Paths, request: &Request) -> Result<Demand, Unmet>
+    ensures demand { (parts : Parts) → (body : List ℕ) → IsRequest request.now parts body →
+        Demands (demand_of Door.House parts body) result }
+{
+    if request.is_unnamed {
+        house_demand(alloc, paths, request)
+    } else {
+        agents_demand(alloc, paths, request)
+    }
+}
+
+/// The demand of a request of the house, or the first thing that is wrong with it, in this order: path, method, the parts
+/// of the path, the body.
+fn house_demand(alloc: Global, paths: &Paths, request: &Request) -> Result<Demand, Unmet>
+    ensures demand { (parts : Parts) → (body : List ℕ) → IsRequest request.now parts body →
+        Demands (house_demand parts body) result }
+{
+    if asks_to_stop(request) {
+        return Ok(Demand::Stop);
+    }
+    let found = paths.route(&request.method, &request.target);
+    let is_post = request.method.as_slice() == b"POST".as_slice();
+    let route = admit(found, true, true, is_post)?;
+    let sender = Sender {
+        asker: Asker::House,
+        key: request.key,
+        target: &request.target,
+        body: &request.body,
+    };
+    demand_by(alloc, route, &sender)
+}
+
+/// Whether a request asks the desk to stop.
+pub(crate) fn asks_to_stop(request: &Request) -> bool
+    ensures stop { (parts : Parts) → (body : List ℕ) → IsRequest request.now parts body →
+        result ≡ asks_to_stop parts }
+{
+    request.method.as_slice() == b"POST".as_slice()
+        && request.target.as_slice() == b"/stop".as_slice()
+}
+
+/// The demand of an agent's request, or the first thing that is wrong with it, in this order: path, method, agent, key,
+/// the parts of the path, the body.
+fn agents_demand(alloc: Global, paths: &Paths, request: &Request) -> Result<Demand, Unmet>
+    ensures demand { (parts : Parts) → (body : List ℕ) → IsRequest request.now parts body →
+        Demands (agents_demand parts body) result }
 {
     let found = paths.route(&request.method, &request.target);
     let (has_agent, has_key) = (request.agent.is_some(), request.key.is_some());
@@ -74,7 +136,7 @@ pub(crate) fn demand_in(alloc: Global, paths: &Paths, request: &Request) -> Resu
         return Err(Unmet::from(Refusal::NoAgent));
     };
     let sender = Sender {
-        agent,
+        asker: Asker::Agent(agent),
         key: request.key,
         target: &request.target,
         body: &request.body,
@@ -94,8 +156,8 @@ fn demand_by(alloc: Global, route: Route, sender: &Sender<'_>) -> Result<Demand,
             sender.carry(alloc, bare(sender.body, Command::Abort(id, position))?)
         }
         Route::Save(id) => sender.carry(alloc, bare(sender.body, Command::Save(id))?),
-        Route::ShowJourney(id) => Ok(Demand::SeeJourney(sender.agent, id)),
-        Route::ShowUnfinished => Ok(Demand::SeeUnfinished(sender.agent)),
+        Route::ShowJourney(id) => Ok(Demand::SeeJourney(sender.asker, id)),
+        Route::ShowUnfinished => Ok(Demand::SeeUnfinished(sender.asker)),
         Route::ShowStock => Ok(Demand::SeeStock),
     }
 }

@@ -3,6 +3,8 @@
 //! `serve` reads messages from a reader, executes their demands over a book, and writes the page of each message before
 //! it reads the next.
 //!
+//! A request comes in at a *door*: the port, or the house's own, where one that names no agent is the house's.
+//!
 //! Words: a *demand* is what a request asks for if nothing is wrong with it, a *page* is the answer to a message, and
 //! after a *closing* page the connection ends.
 #![tactic(auto)]
@@ -10,6 +12,7 @@
 mod answering;
 mod bodies;
 mod demands;
+mod doors;
 mod faults;
 mod laws;
 mod senders;
@@ -17,6 +20,7 @@ mod serving;
 mod showing;
 
 pub use answering::{Answer, answer_to};
+pub use doors::Door;
 pub use faults::reading_fault;
 pub use laws::again;
 pub use protocols::ServeFault;

@@ -9,6 +9,7 @@ ghost use Rattle.desk_http.specs.Serving.{ServesAll, ServesSome};
 ghost use Rattle.desk_http.specs.Worlds.{GoesOnWithMessages, GoesOnAmongMessages};
 
 use crate::answering::answer_to;
+use crate::doors::Door;
 use crate::faults::reading_fault;
 use http_messages::{Incoming, Message};
 use http_pages::Paths;
@@ -26,7 +27,7 @@ pub struct Served {
     pub pages: u64,
 }
 
-/// Answers the messages of a connection, each by its page, up to and including the first closing one.
+/// Answers the messages of a connection at the port, each by its page, up to and including the first closing one.
 ///
 /// Each page is written and flushed before the next message is read, and nothing is read while a whole message is
 /// buffered. A message that the end of the input cuts off gets no page.
@@ -93,7 +94,7 @@ fn serve_book<R: Read, W: Write, B: Book>(
         let Some(message) = next_message(&mut incoming, reader)? else {
             return Ok(Served { pages });
         };
-        let answer = answer_to(alloc, &paths, &message, book)?;
+        let answer = answer_to(alloc, &paths, Door::Port, &message, book)?;
         send(writer, &answer.bytes)?;
         if answer.closes {
             return Ok(Served { pages: pages + 1 });

@@ -1,29 +1,33 @@
-//! Views of a book for agents. A view changes nothing.
+//! Views of a book for agents and the house. A view changes nothing.
 ghost use Rattle.std.specs.Prelude.{◌≡◌, IfOk, IsErrOf, IsTrue};
 ghost use Rattle.ledger.specs.Answer.{State};
 ghost use Rattle.saga_core.specs.Books.{LeavesNoMore};
 ghost use Rattle.http_pages.specs.Pages.{page_said, value_page};
-ghost use Rattle.http_pages.specs.Bodies.{unfinished_data};
-ghost use Rattle.desk_http.specs.Pages.{journey_page, own_journey, own_unfinished, ShowsStock};
+ghost use Rattle.std.specs.String.{string_bytes};
+ghost use Rattle.serde_json.specs.Written.{compact_text};
+ghost use Rattle.desk_http.specs.Pages.{journey_page, own_journey, own_unfinished, unfinished_shown, ShowsStock};
 ghost use Rattle.desk_http.specs.Answering.{Shows};
 
-use commands::{Agent, Refusal};
-use http_pages::{Body, Page, journey_body, refused_page, shown_page, unfinished_body};
+use crate::doors::Asker;
+use commands::Refusal;
+use http_pages::{
+    Body, Page, all_unfinished_body, journey_body, refused_page, shown_page, unfinished_body,
+};
 use protocols::ServeFault;
 use reports::stock_text;
 use saga_core::{Book, Brief, Listed};
 use std::alloc::{AllocError, Global};
 
-/// The page of an agent's own journey. A journey of another agent gets the page of one that does not exist.
+/// The page of a journey that who asks sees. A journey of another agent gets the page of one that does not exist.
 pub(crate) fn see_journey<B: Book>(
     alloc: Global,
     book: &mut B,
-    agent: Agent,
+    asker: &Asker,
     id: u64,
 ) -> Result<Page, ServeFault>
     ensures page { B.is_sound book.new → (s : State) → B.stands book.old s →
         Shows (B.stands book.new) (B.leaves book.new) s (λ page.
-        page_said page ≡ journey_page s.ledger id (own_journey s.ledger agent id)) result }
+        page_said page ≡ journey_page s.ledger id (own_journey s.ledger asker.now id)) result }
 
     ensures failed { IsErrOf result ServeFault.Store → IsTrue (B.has_failed book.new) }
     ensures stays_failed { IsTrue (B.has_failed book.old) → IsTrue (B.has_failed book.new) }
@@ -33,7 +37,7 @@ pub(crate) fn see_journey<B: Book>(
     ensures sound { B.is_sound book.new → B.is_sound book.old }
 {
     match book.journey(id)? {
-        Some(journey) if journey.agent == agent => {
+        Some(journey) if asker.sees(&journey.agent) => {
             let items = book.history(id)?;
             let body = journey_body(alloc, id, journey.cursor, &items)?;
             Ok(shown_page(Body::Json(body)))
@@ -42,15 +46,15 @@ pub(crate) fn see_journey<B: Book>(
     }
 }
 
-/// The page of an agent's own unfinished journeys, by rising number.
+/// The page of the unfinished journeys that who asks sees, by rising number.
 pub(crate) fn see_unfinished<B: Book>(
     alloc: Global,
     book: &mut B,
-    agent: Agent,
+    asker: &Asker,
 ) -> Result<Page, ServeFault>
     ensures page { B.is_sound book.new → (s : State) → B.stands book.old s →
         Shows (B.stands book.new) (B.leaves book.new) s (λ page.
-        page_said page ≡ value_page (unfinished_data (own_unfinished s.ledger agent))) result }
+        page_said page ≡ value_page (unfinished_shown asker.now (own_unfinished s.ledger asker.now))) result }
 
     ensures failed { IsErrOf result ServeFault.Store → IsTrue (B.has_failed book.new) }
     ensures stays_failed { IsTrue (B.has_failed book.old) → IsTrue (B.has_failed book.new) }
@@ -59,20 +63,31 @@ pub(crate) fn see_unfinished<B: Book>(
 
     ensures sound { B.is_sound book.new → B.is_sound book.old }
 {
-    let briefs = own_unfinished(alloc, book, agent)?;
-    let body = unfinished_body(alloc, &briefs)?;
+    let briefs = own_unfinished(alloc, book, asker)?;
+    let body = body_of(alloc, asker, &briefs)?;
     Ok(shown_page(Body::Json(body)))
 }
 
-/// An agent's own unfinished journeys, by rising number.
+/// The body that shows unfinished journeys, to the house each with its agent. The only fault is out of memory.
+fn body_of(alloc: Global, asker: &Asker, briefs: &[Brief]) -> Result<String, AllocError>
+    ensures body { IfOk result
+        (λ body. string_bytes body ≡ compact_text (unfinished_shown asker.now briefs.now)) }
+{
+    match asker {
+        Asker::Agent(_) => unfinished_body(alloc, briefs),
+        Asker::House => all_unfinished_body(alloc, briefs),
+    }
+}
+
+/// The unfinished journeys that who asks sees, by rising number.
 fn own_unfinished<B: Book>(
     alloc: Global,
     book: &mut B,
-    agent: Agent,
+    asker: &Asker,
 ) -> Result<Vec<Brief>, ServeFault>
     ensures briefs { B.is_sound book.new → (s : State) → B.stands book.old s →
         Shows (B.stands book.new) (B.leaves book.new) s
-        (λ briefs. briefs.items ≡ own_unfinished s.ledger agent) result }
+        (λ briefs. briefs.items ≡ own_unfinished s.ledger asker.now) result }
 
     ensures failed { IsErrOf result ServeFault.Store → IsTrue (B.has_failed book.new) }
     ensures stays_failed { IsTrue (B.has_failed book.old) → IsTrue (B.has_failed book.new) }
@@ -87,7 +102,7 @@ fn own_unfinished<B: Book>(
         let Some(brief) = book.first_unfinished(after)? else {
             return Ok(briefs);
         };
-        if agent == brief.agent {
+        if asker.sees(&brief.agent) {
             briefs.push(brief)?;
         }
         after = brief.id;

@@ -2,12 +2,14 @@
 use Rattle.std.specs.Prelude.{◌≡◌, ⊤, ℕ, Bool, true, false, List, [], ◌∷◌, ◌++◌, All, Option, None, IsSome, unwrap_or}
 use Rattle.std.specs.List.{flat_map}
 use Rattle.http_messages.specs.Messages.{Message, IsMessage}
-use Rattle.desk_http.specs.Pages.{closes}
+use Rattle.desk_http.specs.Pages.{closes, stops}
+use Rattle.desk_http.specs.declared.doors.Door.{Door}
 use Rattle.http_conversations.specs.declared.stages.Stage.{Stage}
 use Rattle.http_conversations.specs.declared.stages.Stage.TheVariants.{Open, Closing, Failed}
 
--- the bytes of a message, and those of its page, unless the page was lost
+-- the door at which a message came in, its bytes, and those of its page, unless the page was lost
 pub record Exchange : Type 0 where
+  pub door : Door
   pub bytes : List ℕ
   pub page : Option (List ℕ)
 
@@ -31,6 +33,19 @@ pub record IsLost (x : Exchange) : Type 0 where
   pub message : Message
   pub is_message : IsMessage x.bytes message
   pub has_none : x.page ≡ None
+
+-- the message came in at this door
+abbrev pub IsAt : Door → Exchange → Type 0
+IsAt door x = x.door ≡ door
+
+-- the last message is a request of the house that the desk stop
+pub record EndWithStop (exchanges : List Exchange) : Type 0 where
+  pub before : List Exchange
+  pub last : Exchange
+  pub at_last : exchanges ≡ before ++ last ∷ []
+  pub message : Message
+  pub is_message : IsMessage last.bytes message
+  pub asked : stops last.door message ≡ true
 
 -- at most one page was lost
 abbrev pub AreLost : List Exchange → Type 0

@@ -1,6 +1,6 @@
 -- The exchanges of a seat.
-use Rattle.std.specs.Prelude.{List, [], ◌++◌, Option, Some, None}
-use Rattle.std.specs.List.{flat_map}
+use Rattle.std.specs.Prelude.{◌≡◌, true, List, [], ◌++◌, Option, Some, None}
+use Rattle.std.specs.List.{Any, flat_map}
 use Rattle.std.specs.declared.io.traits.Read as Read
 use Rattle.std.specs.declared.io.traits.Write as Write
 use Rattle.http_conversations.specs.Conversations.{history}
@@ -16,6 +16,18 @@ module _ {R W : Type 0} {r : Read.Ghosts R} {w : Write.Ghosts W} where
   abbrev pub exchanges_now : Option (Connection R W r w) → List Exchange
   exchanges_now None = []
   exchanges_now (Some c) = exchanges_with c
+
+  -- the message that was answered last asked the desk to stop
+  abbrev pub HasStop : Option (Connection R W r w) → Type 0
+  HasStop None = ⊥
+  HasStop (Some c) = (history c.conversation).stops ≡ true
+
+  abbrev pub HasStopAt : Seat R W r w → Type 0
+  HasStopAt s = HasStop s.connection
+
+  -- some seat has such a connection
+  abbrev pub HasStopAmong : List (Seat R W r w) → Type 0
+  HasStopAmong seats = Any HasStopAt seats
 
   -- those of the connections that ended, and of the one that is there
   abbrev pub exchanges_at : Seat R W r w → List Exchange

@@ -8,6 +8,7 @@ ghost use Rattle.http_live.specs.Faithful.{Faithful};
 
 use crate::standing::Standing;
 use commands::Fault;
+use desk_http::Door;
 use http_conversations::{Conversation, MOST_READ, Stage};
 use http_pages::Paths;
 use http_server::Log;
@@ -31,15 +32,16 @@ impl<R: Read + Drop, W: Write + Drop> Connection<R, W> {
     ghost use Rattle.http_live.specs.Seats.{exchanges_with};
     ghost use Rattle.http_live.specs.Resting.{IsUsedUp, Rests};
 
-    /// Nothing was read or written.
-    pub(crate) fn new(alloc: Global, reader: R, writer: W) -> Connection<R, W>
+    /// Nothing was read or written. Its messages come in at this door.
+    pub(crate) fn new(alloc: Global, door: Door, reader: R, writer: W) -> Connection<R, W>
         ensures none { exchanges_with result ≡ [] }
+        ensures door { (history result.conversation).door ≡ door }
     {
         let came = Log::new().and(&reader, &writer);
         Connection {
             reader,
             writer,
-            conversation: Conversation::new(alloc),
+            conversation: Conversation::new(alloc, door),
             came,
         }
     }
@@ -85,10 +87,21 @@ impl<R: Read + Drop, W: Write + Drop> Connection<R, W> {
             return Ok(self.push(buffer));
         }
         match self.answer(paths, book) {
-            Ok(true) => Ok(Standing::Answered),
+            Ok(true) => Ok(self.answered()),
             Ok(false) => Ok(self.pull(buffer)),
             Err(Fault::Memory) => Ok(Standing::Over),
             Err(Fault::Store) => Err(Fault::Store),
+        }
+    }
+
+    /// What it waits for once a message was answered.
+    fn answered(&self) -> Standing
+        ensures rests { Rests result (history self.now.conversation) }
+    {
+        if self.conversation.stops() {
+            Standing::Stopped
+        } else {
+            Standing::Answered
         }
     }
 
@@ -143,6 +156,24 @@ impl<R: Read + Drop, W: Write + Drop> Connection<R, W> {
             Ok(_) => Standing::Busy,
             Err(error) => match error.kind() {
                 ErrorKind::WouldBlock => self.read_on(buffer),
+                ErrorKind::Interrupted => Standing::Busy,
+                _ => Standing::Over,
+            },
+        }
+    }
+
+    /// Hands out what waits, and does nothing else. It is over where nothing waits.
+    pub(crate) fn hand_out(&mut self) -> Standing
+        ensures kept { exchanges_with self.new ≡ exchanges_with self.old }
+    {
+        if !self.conversation.wants_write() {
+            return Standing::Over;
+        }
+        match self.write() {
+            Ok(0) => Standing::Over,
+            Ok(_) => Standing::Busy,
+            Err(error) => match error.kind() {
+                ErrorKind::WouldBlock => Standing::Unsent,
                 ErrorKind::Interrupted => Standing::Busy,
                 _ => Standing::Over,
             },

@@ -126,6 +126,10 @@ the_one (x ∷ y ∷ later) = None
 abbrev pub agent_of : Parts → Option (List ℕ)
 agent_of parts = option_and_then (keep_if is_agent) (the_one (values_named (codes "desk-agent") parts.fields))
 
+-- nobody is named: there is no field `Desk-Agent`
+abbrev pub is_unnamed : Parts → Bool
+is_unnamed parts = length (values_named (codes "desk-agent") parts.fields) == 0
+
 -- the key: the value of the one field `Desk-Key`, where it is good
 abbrev pub key_of : Parts → Option (List ℕ)
 key_of parts = option_and_then (keep_if is_key) (the_one (values_named (codes "desk-key") parts.fields))

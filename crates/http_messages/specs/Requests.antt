@@ -1,6 +1,6 @@
 -- What the desk takes from a message.
 use Rattle.std.specs.Prelude.{◌≡◌, ⊤, ℕ, List, codes}
-use Rattle.http_messages.specs.Heads.{Parts, agent_of, asks_to_close, complaint_of, is_method, key_of, parts_of}
+use Rattle.http_messages.specs.Heads.{Parts, agent_of, asks_to_close, complaint_of, is_method, is_unnamed, key_of, parts_of}
 use Rattle.http_messages.specs.Messages as sent
 use Rattle.http_messages.specs.declared.requests.Request.{Request}
 use Rattle.http_messages.specs.declared.requests.Message.{Message}
@@ -11,6 +11,7 @@ pub record IsRequest (r : Request) (parts : Parts) (bytes : List ℕ) : Type 0 w
   pub method : r.method.items ≡ parts.method
   pub target : r.target.items ≡ parts.target
   pub agent : r.agent ≡ agent_of parts
+  pub is_unnamed : r.is_unnamed ≡ is_unnamed parts
   pub key : r.key ≡ key_of parts
   pub body : r.body.items ≡ bytes
   pub closes : r.closes ≡ asks_to_close parts

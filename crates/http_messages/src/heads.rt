@@ -20,7 +20,7 @@ pub(crate) struct Head {
 
 impl Head {
     ghost use Rattle.std.specs.Prelude.{◌≡◌, ◌≤◌, length, IfSome, IfNone, IfOk, Some, [], take};
-    ghost use Rattle.http_messages.specs.Heads.{values_named, asks_to_close, agent_of, key_of, lengths};
+    ghost use Rattle.http_messages.specs.Heads.{values_named, asks_to_close, agent_of, is_unnamed, key_of, lengths};
     ghost use Rattle.http_messages.specs.Heads.{is_plain, is_method, complaint_of, body_length};
     ghost use Rattle.http_messages.specs.Places.{IsToldAt};
     ghost use Rattle.http_messages.specs.Fields.{IsFound, IsNoHead, IsSomeHeadAt, LiesIn, Tells, parts_in};
@@ -48,6 +48,7 @@ impl Head {
             method: self.line.method.of(front).to_vec(alloc)?,
             target: self.line.path.of(front).to_vec(alloc)?,
             agent: self.agent(front),
+            is_unnamed: self.is_unnamed(front),
             key: self.key(front),
             body: Vec::new(alloc),
             closes: says(front, self.fields(), b"connection", b"close"),
@@ -117,6 +118,14 @@ impl Head {
             Found::Once(value) => agent_in(value.of(front)),
             Found::Absent | Found::Again => None,
         }
+    }
+
+    /// Whether no field says who asks.
+    fn is_unnamed(&self, front: &[u8]) -> bool
+        requires { LiesIn front.now self.now }
+        ensures unnamed { result ≡ is_unnamed (parts_in front.now self.now) }
+    {
+        matches!(self.find(front, b"desk-agent"), Found::Absent)
     }
 
     /// Under which key.

@@ -10,6 +10,8 @@ pub struct Request {
     pub target: Vec<u8>,
     /// Who asks: the value of the one field `Desk-Agent`, where it is good.
     pub agent: Option<Agent>,
+    /// Whether there is no field `Desk-Agent`, good or not.
+    pub is_unnamed: bool,
     /// The value of the one field `Desk-Key`, where it is good.
     pub key: Option<Key>,
     /// As many bytes as the head says; none if the head is refused.

@@ -7,7 +7,7 @@ use Rattle.commands.specs.declared.items.Item.{Item}
 use Rattle.commands.specs.declared.items.Phase.{Phase}
 use Rattle.commands.specs.declared.items.Phase.TheVariants.{Run, Back, Ended, Undone}
 use Rattle.saga_core.specs.declared.records.Brief.{Brief}
-use Rattle.http_pages.specs.Bodies.{members, list, item_data, brief_data, unfinished_data, standing_members, json}
+use Rattle.http_pages.specs.Bodies.{members, list, item_data, brief_data, owned_data, all_unfinished_data, unfinished_data, standing_members, json}
 
 -- where a journey is contains no float
 no_float-standing : (id pos : ℕ) (phase : Phase) → members_have_float (members (standing_members id pos phase)) ≡ false
@@ -35,3 +35,13 @@ no_float-journey id pos phase history = rw (no_float-items history) (no_float-st
 -- journeys that are not finished contain no float
 pub no_float-unfinished : (briefs : List Brief) → has_float (unfinished_data briefs) ≡ false
 no_float-unfinished briefs = rw (no_float-briefs briefs) refl
+
+-- a list of journeys with their agents contains no float
+no_float-owned : (briefs : List Brief) → items_have_float (items_of (map owned_data briefs)) ≡ false
+no_float-owned [] = refl
+no_float-owned (brief ∷ later) =
+    rw (no_float-standing brief.id brief.cursor.pos brief.cursor.phase) (no_float-owned later)
+
+-- journeys of all agents that are not finished contain no float
+pub no_float-all_unfinished : (briefs : List Brief) → has_float (all_unfinished_data briefs) ≡ false
+no_float-all_unfinished briefs = rw (no_float-owned briefs) refl

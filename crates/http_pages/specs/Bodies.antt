@@ -72,6 +72,21 @@ brief_data brief = json (standing_members brief.id brief.cursor.pos brief.cursor
 abbrev pub unfinished_data : List Brief → Data
 unfinished_data briefs = json ((codes "unfinished", list (map brief_data briefs)) ∷ [])
 
+-- a journey without its history, with the agent whose it is
+abbrev pub owned_data : Brief → Data
+owned_data brief =
+    json ((codes "agent", string brief.agent) ∷ standing_members brief.id brief.cursor.pos brief.cursor.phase)
+
+-- journeys of all agents that are not finished
+abbrev pub all_unfinished_data : List Brief → Data
+all_unfinished_data briefs = json ((codes "unfinished", list (map owned_data briefs)) ∷ [])
+
+-- The desk.
+
+-- the desk stops
+abbrev pub stopping_data : Data
+stopping_data = json ((codes "state", string (codes "stopping")) ∷ [])
+
 -- Answers to commands.
 
 -- a refusal: its name and number, and its cause, row and step if it has them

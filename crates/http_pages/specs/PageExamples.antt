@@ -9,7 +9,7 @@ use Rattle.commands.specs.declared.items.Item.TheVariants.{Transaction, Turn, Sa
 use Rattle.commands.specs.declared.items.Phase.TheVariants.{Run, Back, Ended}
 use Rattle.commands.specs.declared.refusals.Refusal.TheVariants as refusal
 use Rattle.commands.specs.declared.replies.Reply.TheVariants.{Loaded, Begun, Moved, Refused}
-use Rattle.http_pages.specs.Bodies.{refusal_data, reply_data, journey_data, unfinished_data}
+use Rattle.http_pages.specs.Bodies.{refusal_data, reply_data, all_unfinished_data, journey_data, unfinished_data}
 use Rattle.http_pages.specs.Pages.{line, page_text, denied_page, refused_page, reply_page, value_page}
 use Rattle.http_pages.specs.declared.verbs.Verb.TheVariants.{Get}
 
@@ -51,6 +51,13 @@ pub journey_is_shown :
     ≡ codes "{\"history\":[\"T1.1\"],\"journey\":1,\"pos\":1,\"state\":\"ended\"}"
 unfolding digits serde_json_on_literals
 journey_is_shown = refl
+
+-- journeys of all agents, as the house sees them
+pub unfinished_are_shown_with_their_agents :
+    compact_text (all_unfinished_data (record { id = 7; agent = codes "ann"; cursor = record { pos = 1; phase = Back 0; used = 0 } } ∷ []))
+    ≡ codes "{\"unfinished\":[{\"agent\":\"ann\",\"journey\":7,\"pos\":1,\"state\":\"back\",\"target\":0}]}"
+unfolding digits serde_json_on_literals
+unfinished_are_shown_with_their_agents = refl
 
 -- a plan whose first step has a malformed night
 pub bad_plan_is_told_with_step_and_cause :

@@ -1,7 +1,8 @@
 // Values from outside: the tables of routes and codes, and bodies and pages as the formats give them.
 use crate::{
-    Body, Denied, Page, Paths, Route, Status, Unrouted, Verb, admit, denied_page, journey_body,
-    page_bytes, refusal_body, refused_page, reply_body, reply_page, shown_page, unfinished_body,
+    Body, Denied, Page, Paths, Route, Status, Unrouted, Verb, admit, all_unfinished_body,
+    denied_page, journey_body, page_bytes, refusal_body, refused_page, reply_body, reply_page,
+    shown_page, stopping_body, unfinished_body,
 };
 use commands::{Agent, Cause, CsvCause, Cursor, Item, Name, Phase, Refusal, Reply};
 use plan::{BadPlan, PlanCause};
@@ -317,6 +318,34 @@ fn journeys_that_are_not_finished_are_shown(rt: HostRuntime) {
     let body = unfinished_body(alloc, &[brief]);
     let expected = r#"{"unfinished":[{"journey":7,"pos":1,"state":"back","target":0}]}"#;
     reads(&rt, body, expected, 64);
+}
+
+#[test]
+fn the_house_is_shown_whose_the_journeys_are(rt: HostRuntime) {
+    let alloc = rt.alloc();
+    let body = all_unfinished_body(alloc, &[]);
+    reads(&rt, body, r#"{"unfinished":[]}"#, 17);
+    let ann = Agent::parse("ann").expect(&rt, "an agent");
+    let first = Brief {
+        id: 7,
+        agent: ann,
+        cursor: AT_ONE,
+    };
+    let second = Brief {
+        id: 8,
+        agent: Agent::house(),
+        cursor: AT_THE_END,
+    };
+    let body = all_unfinished_body(alloc, &[first, second]);
+    let expected =
+        r#"{"unfinished":[{"agent":"ann","journey":7,"pos":1,"state":"back","target":0},{"agent":"desk","journey":8,"pos":1,"state":"ended"}]}"#;
+    reads(&rt, body, expected, 131);
+}
+
+#[test]
+fn the_desk_says_that_it_stops(rt: HostRuntime) {
+    let body = stopping_body(rt.alloc());
+    reads(&rt, body, r#"{"state":"stopping"}"#, 20);
 }
 
 const NOT_ALLOWED: Denied = Denied {

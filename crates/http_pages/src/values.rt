@@ -3,6 +3,7 @@ ghost use Rattle.std.specs.Prelude.{◌≡◌, IfOk, OnOk, map};
 ghost use Rattle.serde_json.specs.View.{view, members_view};
 ghost use Rattle.http_pages.specs.Bodies.{item_data, moved_data, refusal_data, reply_data, list};
 ghost use Rattle.http_pages.specs.Bodies.{journey_data, brief_data, unfinished_data};
+ghost use Rattle.http_pages.specs.Bodies.{all_unfinished_data, owned_data, stopping_data};
 ghost use Rattle.http_pages.specs.Members.{with_standing};
 
 use commands::{Cursor, Item, Phase, Refusal, Reply};
@@ -125,6 +126,50 @@ fn brief_value(alloc: Global, brief: &Brief) -> Result<Value, AllocError>
     let cursor = brief.cursor;
     put_standing(alloc, &mut members, brief.id, cursor.pos, cursor.phase)?;
     Ok(Value::Object(members))
+}
+
+/// The value of journeys of all agents that are not finished, each with its agent, in the order in which they are given.
+pub fn all_unfinished_value(alloc: Global, briefs: &[Brief]) -> Result<Value, AllocError>
+    ensures value { IfOk result (λ value. view value ≡ all_unfinished_data briefs.now) }
+{
+    let mut members = Map::new(alloc);
+    put(
+        &mut members,
+        alloc,
+        "unfinished",
+        owned_values(alloc, briefs)?,
+    )?;
+    Ok(Value::Object(members))
+}
+
+/// The list of journeys without their histories, each with its agent, in the order in which they are given.
+fn owned_values(alloc: Global, briefs: &[Brief]) -> Result<Value, AllocError>
+    ensures value { IfOk result (λ value. view value ≡ list (map owned_data briefs.now)) }
+{
+    let mut values = Vec::with_capacity(alloc, briefs.len())?;
+    for brief in briefs {
+        values.push(owned_value(alloc, brief)?)?;
+    }
+    Ok(Value::Array(values))
+}
+
+/// The value of a journey without its history, with its agent.
+fn owned_value(alloc: Global, brief: &Brief) -> Result<Value, AllocError>
+    ensures value { IfOk result (λ value. view value ≡ owned_data brief.now) }
+{
+    let mut members = Map::new(alloc);
+    let owner = Value::try_from_str(alloc, brief.agent.as_str())?;
+    put(&mut members, alloc, "agent", owner)?;
+    let Cursor { pos, phase, .. } = brief.cursor;
+    put_standing(alloc, &mut members, brief.id, pos, phase)?;
+    Ok(Value::Object(members))
+}
+
+/// The value that says that the desk stops.
+pub fn stopping_value(alloc: Global) -> Result<Value, AllocError>
+    ensures value { IfOk result (λ value. view value ≡ stopping_data) }
+{
+    json!(in alloc; {"state": "stopping"})
 }
 
 /// The value of an item, its text.

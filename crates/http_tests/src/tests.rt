@@ -1,5 +1,6 @@
 mod closing;
 mod desks;
+mod doors;
 mod fakes;
 mod faults;
 mod heads;

@@ -16,6 +16,7 @@ use Rattle.http_messages.specs.Messages.{Message, BeginsWith, BeginsWithAll}
 use Rattle.http_messages.proofs.MessageLemmas.{one_message}
 use Rattle.desk_http.specs.Pages.{ArePages, IsPage, command_in, state_after, state_after_all}
 use Rattle.desk_http.specs.Serving as of_messages
+use Rattle.desk_http.specs.declared.doors.Door.TheVariants.{Port}
 use Rattle.desk_http.specs.Worlds as by_message
 use Rattle.sessions.specs.Openings.{Input, Lines, Messages, AsksFor, IsTold}
 
@@ -136,8 +137,8 @@ messages-append : (ms ns : List Message)
     → by_message.asks_in (ms ++ ns) ≡ by_message.asks_in ms ++ by_message.asks_in ns
 messages-append [] ns = refl
 messages-append (m ∷ ms) ns =
-    ap (λ l. by_message.asks_by (command_in m) ++ l) (messages-append ms ns)
-    ∙ sym (append_assoc (by_message.asks_by (command_in m)) (by_message.asks_in ms) (by_message.asks_in ns))
+    ap (λ l. by_message.asks_by (command_in Port m) ++ l) (messages-append ms ns)
+    ∙ sym (append_assoc (by_message.asks_by (command_in Port m)) (by_message.asks_in ms) (by_message.asks_in ns))
 
 -- messages, and one more
 begins-more : (input stream rest : List ℕ) (ms : List Message) (m : Message)
@@ -148,11 +149,11 @@ begins-more input stream rest (first ∷ ms) m all next =
 
 -- their pages, and one more
 pages-more : (s : State) (ms : List Message) (m : Message) (ps : List (List ℕ)) (p : List ℕ)
-    → ArePages s ms ps → IsPage (state_after_all s ms) m p → ArePages s (ms ++ m ∷ []) (ps ++ p ∷ [])
+    → ArePages s ms ps → IsPage Port (state_after_all s ms) m p → ArePages s (ms ++ m ∷ []) (ps ++ p ∷ [])
 pages-more s [] m [] p are page = (page, refl)
 pages-more s [] m (q ∷ ps) p are page = cc
 pages-more s (first ∷ ms) m [] p are page = absurd are
-pages-more s (first ∷ ms) m (q ∷ ps) p are page = (are.0, pages-more (state_after s first) ms m ps p are.1 page)
+pages-more s (first ∷ ms) m (q ∷ ps) p are page = (are.0, pages-more (state_after Port s first) ms m ps p are.1 page)
 
 concat-more : (ps : List (List ℕ)) (p : List ℕ) → concat (ps ++ p ∷ []) ≡ concat ps ++ p
 concat-more [] p = append-nil p
@@ -205,7 +206,7 @@ module _ (x : Scene) (s : State) (bytes rest : List ℕ) (ms : List Message) (pa
 
   -- and a prefix of the next one
   part_of_page : (m : Message) (after page : List ℕ) (part : ℕ) (carried : Asks) → BeginsWith rest m after
-      → IsPage (state_after_all s ms) m page → Appends x.held x.holds (concat pages ++ take part page)
+      → IsPage Port (state_after_all s ms) m page → Appends x.held x.holds (concat pages ++ take part page)
       → carried ≡ by_message.asks_in (ms ++ m ∷ []) → Tells x.held x.holds s (Messages bytes) carried
   part_of_page m after page part carried next is wrote done = record {
     told = concat pages ++ take part page;

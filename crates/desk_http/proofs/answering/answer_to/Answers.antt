@@ -1,8 +1,8 @@
 -- A message gets the page that reports its outcome.
-use Rattle.std.proofs.Common.{subst, true}
+use Rattle.std.proofs.Common.{subst, false, true}
 use Rattle.std.proofs.lemmas.Result.{err_from_is_err_and}
 use Rattle.http_messages.specs.Requests.{IsTaken}
-use Rattle.desk_http.proofs.AnswerLemmas.{no_head_answered, no_head_closes, page_closes, request_answered, request_closes, request_failed}
+use Rattle.desk_http.proofs.AnswerLemmas.{no_head_answered, no_head_closes, no_head_stops, page_closes, page_stops, request_answered, request_closes, request_failed}
 use Rattle.desk_http.proofs.answering.answer_to.Goals as goal
 
 pub returns-in_err-page-in-Asks-clause-answer : goal.returns-in_err-page-in-Asks-clause-answer
@@ -10,20 +10,20 @@ returns-in_err-page-in-Asks-clause-answer g c = λ sound s stood m is.
     let book = g.B.Book in
     let failed = err_from_is_err_and c.from_residual-in_err-page-in-Asks.result c.from_residual-in_err-page-in-Asks.ensures.1 in
     rw (failed.1, failed.2)
-    (request_failed (book.stands c.page_of.new.book) (book.leaves c.page_of.new.book) s c.in-Asks.request m c.in_err-page-in-Asks.field-0.0
+    (request_failed (book.stands c.page_of.new.book) (book.leaves c.page_of.new.book) c.args.door s c.in-Asks.request m c.in_err-page-in-Asks.field-0.0
     (subst (λ taken. IsTaken taken m) c.in-Asks.is is) (c.in_err-page-in-Asks.ensures.page sound s stood))
 
 pub returns-in_ok-page-in-NoHead-clause-answer : goal.returns-in_ok-page-in-NoHead-clause-answer
 returns-in_ok-page-in-NoHead-clause-answer g c = λ sound s stood m is.
     let book = g.B.Book in
-    no_head_answered (book.stands c.args.book.now) (book.leaves c.args.book.now) s m _ c.in_ok-page-in-NoHead.page
+    no_head_answered (book.stands c.args.book.now) (book.leaves c.args.book.now) c.args.door s m _ c.in_ok-page-in-NoHead.page
     (subst (λ taken. IsTaken taken m) c.in-NoHead.is is) c.in_ok-page-in-NoHead.ensures.page
     (record { bytes = c.new.ensures.bytes; closes = c.new.ensures.closes; memory = c.new.ensures.memory }) stood
 
 pub returns-in_ok-page-in-Asks-clause-answer : goal.returns-in_ok-page-in-Asks-clause-answer
 returns-in_ok-page-in-Asks-clause-answer g c = λ sound s stood m is.
     let book = g.B.Book in
-    request_answered (book.stands c.page_of.new.book) (book.leaves c.page_of.new.book) s c.in-Asks.request m _ c.in_ok-page-in-Asks.page _
+    request_answered (book.stands c.page_of.new.book) (book.leaves c.page_of.new.book) c.args.door s c.in-Asks.request m _ c.in_ok-page-in-Asks.page _
     (subst (λ taken. IsTaken taken m) c.in-Asks.is is) (c.in_ok-page-in-Asks.ensures.page sound s stood) c.closes.ensures.closes
     (record { bytes = c.new-in-Asks.ensures.bytes; closes = c.new-in-Asks.ensures.closes; memory = c.new-in-Asks.ensures.memory })
 
@@ -38,3 +38,15 @@ pub returns-in_ok-page-in-Asks-clause-closes : goal.returns-in_ok-page-in-Asks-c
 returns-in_ok-page-in-Asks-clause-closes g c =
     page_closes c.args.message.now _ c.closes.result c.new-in-Asks.ensures.closes
     (λ m is. request_closes c.in-Asks.request c.closes.result c.closes.ensures.closes m (subst (λ taken. IsTaken taken m) c.in-Asks.is is))
+
+-- bytes that are no head do not stop the desk
+pub returns-in_ok-page-in-NoHead-clause-stops : goal.returns-in_ok-page-in-NoHead-clause-stops
+returns-in_ok-page-in-NoHead-clause-stops g c =
+    page_stops c.args.door c.args.message.now _ false c.new.ensures.stops
+    (λ m is. no_head_stops c.args.door m (subst (λ taken. IsTaken taken m) c.in-NoHead.is is))
+
+-- a request stops it where the house asks for that
+pub returns-in_ok-page-in-Asks-clause-stops : goal.returns-in_ok-page-in-Asks-clause-stops
+returns-in_ok-page-in-Asks-clause-stops g c =
+    page_stops c.args.door c.args.message.now _ c.stops.result c.new-in-Asks.ensures.stops
+    (λ m is. c.stops.ensures.stops m (subst (λ taken. IsTaken taken m) c.in-Asks.is is))

@@ -1,0 +1,21 @@
+-- The demand is that of the door.
+use Rattle.std.proofs.Common.{sym, subst}
+use Rattle.desk_http.specs.Demands.{demand_of}
+use Rattle.desk_http.specs.DemandValues.{Demands}
+use Rattle.desk_http.proofs.demands.demand_in.Goals as goal
+
+-- at the port
+pub returns-in-Port : goal.returns-in-Port
+returns-in-Port c = record {
+  demand = λ parts body is.
+      subst (λ door. Demands (demand_of door parts body) c.agents_demand.result) (sym c.in-Port.is)
+      (c.agents_demand.ensures.demand parts body is);
+}
+
+-- at the house's door
+pub returns-in-House : goal.returns-in-House
+returns-in-House c = record {
+  demand = λ parts body is.
+      subst (λ door. Demands (demand_of door parts body) c.demand_at_house.result) (sym c.in-House.is)
+      (c.demand_at_house.ensures.demand parts body is);
+}
