@@ -240,12 +240,8 @@ if [ "$(id -u)" -eq 0 ] && command -v setpriv >/dev/null; then
   cp "$tool" "$work/backup"
   cp b6.db theirs/mine.db
   chmod 644 theirs/mine.db
-  if "${other[@]}" sh -c ': >/dev/null' 2>/dev/null; then
-    DESK=$work/desk "${other[@]}" "$work/backup" theirs/mine.db theirs/b.db >out 2>err
-    has_said "another user's file" 1 "backup: the file cannot be locked: Permission denied. Run this as root or as its user" $?
-  else
-    echo "backup.sh: another user cannot write to /dev/null here ($(stat -c %A /dev/null)): another user's file is not tried"
-  fi
+  DESK=$work/desk "${other[@]}" "$work/backup" theirs/mine.db theirs/b.db >out 2>err
+  has_said "another user's file" 1 "backup: the file cannot be locked: Permission denied. Run this as root or as its user" $?
 fi
 
 mkdir work

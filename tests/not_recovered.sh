@@ -26,7 +26,7 @@ EDIT
   cp kept "$1"
 }
 
-is_refused crates/desk_jobs/src/running.rt 'run_lines(alloc, reader, out, &mut desk)' \
+is_refused crates/cli/src/programs.rt 'run_lines(alloc, reader, out, &mut desk)' \
   'run_lines(alloc, reader, out, &mut desk.into_inner())'
 is_refused crates/cli/src/listening.rt 'book: &mut Ready<B>' 'book: &mut B'
 finish

@@ -1,5 +1,5 @@
 -- How worlds go on with the messages of all connections. For serve_many.
-use Rattle.std.proofs.Common.{◌≡◌, ◌∙◌, ℕ, Bool, true, false, List, [], ◌∷◌, map, refl, ap, subst, inl, inr, Option, Some, None}
+use Rattle.std.proofs.Common.{◌≡◌, ◌∙◌, ℕ, Bool, true, false, List, [], ◌∷◌, map, refl, sym, ap, subst, inl, inr, Option, Some, None}
 use Rattle.ledger.specs.Answer.{State, start}
 use Rattle.ledger.specs.World.{Moment, after}
 use Rattle.saga_core.specs.Worlds.{StandsAtEnd}
@@ -12,28 +12,38 @@ use Rattle.protocols.specs.Scenes.{scene}
 use Rattle.http_conversations.specs.Exchanges.{Exchange}
 use Rattle.http_conversations.specs.Leading.{Comes, Ends, Leads, LeadsBy}
 use Rattle.http_live.specs.Merging.{Merges, exchange_of}
-use Rattle.http_live.specs.Worlds.{AreDone, GoesOnBy, WorldsGoOn}
+use Rattle.http_live.specs.Worlds.{AreDone, GoesOnBy, HasPage, WorldsGoOn}
 
 -- what was done of exchanges, and where it leads
 record Done (s : State) (xs : List Exchange) (t : State) : Type 0 where
   messages : List Message
-  done : AreDone xs messages
+  done : AreDone s xs messages
   leads_to : t ≡ state_after_all s messages
 
 module _ (x : Exchange) (xs : List Exchange) (s u t : State) (one : LeadsBy s x u) (rest : Done u xs t) where
   -- its message was carried out
-  carried : u ≡ state_after s one.message → Done s (x ∷ xs) t
-  carried is = record {
+  carried : HasPage s one.message x.page → u ≡ state_after s one.message → Done s (x ∷ xs) t
+  carried page is = record {
     messages = one.message ∷ rest.messages;
-    done = (rest.messages, record { message = one.message; is_message = one.is_message; done = inl refl }, rest.done);
+    done = (
+      u,
+      rest.messages,
+      record { message = one.message; is_message = one.is_message; page = page; done = inl (refl, is) },
+      rest.done,
+    );
     leads_to = rest.leads_to ∙ ap (λ v. state_after_all v rest.messages) is;
   }
 
   -- its page was lost, and nothing was done
-  lost : x.page ≡ None → u ≡ s → Done s (x ∷ xs) t
-  lost none is = record {
+  lost : x.page ≡ None → HasPage s one.message x.page → u ≡ s → Done s (x ∷ xs) t
+  lost none page is = record {
     messages = rest.messages;
-    done = (rest.messages, record { message = one.message; is_message = one.is_message; done = inr (none, refl) }, rest.done);
+    done = (
+      u,
+      rest.messages,
+      record { message = one.message; is_message = one.is_message; page = page; done = inr (none, refl, is) },
+      rest.done,
+    );
     leads_to = rest.leads_to ∙ ap (λ v. state_after_all v rest.messages) is;
   }
 
@@ -41,11 +51,13 @@ module _ (x : Exchange) (xs : List Exchange) (s u t : State) (one : LeadsBy s x 
   done_more = go x.page refl one.comes
     where
       go : (page : Option (List ℕ)) → x.page ≡ page → Comes s one.message page u → Done s (x ∷ xs) t
-      go (Some bytes) is comes = carried comes.1
-      go None is comes = elim comes [
-        | inl same ↦ lost is same
-        | inr same ↦ carried same
-      ]
+      go (Some bytes) is comes = carried (subst (HasPage s one.message) (sym is) comes.0) comes.1
+      go None is comes =
+          let none = subst (HasPage s one.message) (sym is) tt in
+          elim comes [
+            | inl same ↦ lost is none same
+            | inr same ↦ carried none same
+          ]
 
 -- exchanges lead where what was done of them leads
 done_of : (xs : List Exchange) (s t : State) → Leads s xs t → Done s xs t
@@ -67,6 +79,7 @@ goes_on_by true stands leaves w xs settled here e =
       before = e.before;
       last = e.last;
       at_last = e.at_last;
+      is_lost = e.is_lost;
       messages = d.messages;
       done = d.done;
       next = e.message;

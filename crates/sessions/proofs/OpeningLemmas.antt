@@ -12,7 +12,7 @@ use Rattle.saga_core.specs.Chains.{Reopens, reopened}
 use Rattle.sql_model.specs.Worlds.{EachWorldIsADesk}
 use Rattle.recovery.specs.Recovers.{HasOneRecovery, IsRecovery}
 use Rattle.recovery.specs.Worlds.{orders_of}
-use Rattle.sessions.specs.Openings.{Input, Opening, recovered}
+use Rattle.sessions.specs.Openings.{Input, IsUnserved, Opening, recovered}
 use Rattle.sessions.specs.Worlds.{Visit, input_of, told_in, Openings, GoesOnBy}
 use Rattle.sessions.specs.Chains.{StandsAs, Leads, LeadsEach}
 use Rattle.sessions.specs.Stages.{HasRecovered, LeavesRecovering, Answering, LeavesAnswering, HasOpened}
@@ -75,14 +75,20 @@ module _ (reopens : Reopens) (w : List Moment) (world : IsWorld w) where
   same_recovery events is = subst (λ (s : State). IsRecovery s events) same_state is
 
   -- it stopped before it was recovered
-  pub recovering_leads : (finds : Trees → Type 0) (held : Option (List ℕ)) (input : Input)
+  pub recovering_leads : (finds : Trees → Type 0) (held : Option (List ℕ)) (input : Input) → IsUnserved input
       → LeavesRecovering finds (reopened w) → LeadsEach finds held held (input ∷ []) w
-  recovering_leads finds held input left db may =
+  recovering_leads finds held input unserved left db may =
       let r = left db may in
       record {
         end = r.end;
         goes = goes_on_by_one held held input [] w r.end
-            (inl (record { events = r.events; is = same_recovery r.events r.is; goes = r.goes; silent = refl }))
+            (inl (record {
+              events = r.events;
+              is = same_recovery r.events r.is;
+              goes = r.goes;
+              unserved = unserved;
+              silent = refl;
+            }))
             (Appends-nil held) r.world;
         stands = r.stands;
       }
@@ -128,9 +134,9 @@ opened_then finds a b c input second w IsThere o later db may =
 
 module _ (reopens : Reopens) (desks : EachWorldIsADesk) (one : (s : State) → IsLegal s.ledger → HasOneRecovery s) where
   -- of a world at whose end the database stands
-  pub late : (held : Option (List ℕ)) (input : Input) (w : List Moment) (db : Trees) → IsWorld w
+  pub late : (held : Option (List ℕ)) (input : Input) (w : List Moment) (db : Trees) → IsUnserved input → IsWorld w
       → StandsAs db (after start w) → Leads held held (input ∷ []) w db
-  late held input w db world stands =
+  late held input w db unserved world stands =
       let r = one (after start w) (desks w world).legal in
       let again = reopens w world in
       record {
@@ -140,6 +146,7 @@ module _ (reopens : Reopens) (desks : EachWorldIsADesk) (one : (s : State) → I
               events = r.events;
               is = r.is;
               goes = goes_nowhere (reopened w) (orders_of r.events);
+              unserved = unserved;
               silent = refl;
             }))
             (Appends-nil held) again.world;
@@ -148,9 +155,9 @@ module _ (reopens : Reopens) (desks : EachWorldIsADesk) (one : (s : State) → I
 
   -- after others
   pub and_late : (held holds : Option (List ℕ)) (inputs : List Input) (input : Input) (w : List Moment) (db : Trees)
-      → Leads held holds inputs w db → Leads held holds (inputs ++ input ∷ []) w db
-  and_late held holds inputs input w db leads =
-      let l = late holds input leads.end db leads.goes.world leads.stands in
+      → IsUnserved input → Leads held holds inputs w db → Leads held holds (inputs ++ input ∷ []) w db
+  and_late held holds inputs input w db unserved leads =
+      let l = late holds input leads.end db unserved leads.goes.world leads.stands in
       record {
         end = l.end;
         goes = goes_on_by_both held holds holds inputs (input ∷ []) w leads.end l.end leads.goes l.goes;

@@ -1,5 +1,5 @@
 -- Where a stage of a session leaves the desk. For the stages.
-use Rattle.std.proofs.Common.{◌⊎◌, ℕ, List, [], ◌++◌, Bool, true, false, refl, sym, subst, ◌∙◌, arith, append-nil, inl, inr}
+use Rattle.std.proofs.Common.{◌⊎◌, ℕ, List, [], ◌∷◌, ◌++◌, Bool, true, false, refl, sym, subst, ◌∙◌, arith, append-nil, inl, inr}
 use Rattle.std.specs.Prelude.{Option, None, Some, IfSome}
 use Rattle.std.proofs.KnownBytes.{Appends-nil}
 use Rattle.sqlite.specs.Tree.{Trees}
@@ -20,10 +20,12 @@ use Rattle.desk_lines.specs.Lines.{lines}
 use Rattle.desk_lines.specs.Serving as of_lines
 use Rattle.desk_lines.specs.Worlds as by_line
 use Rattle.desk_http.specs.Worlds as by_message
-use Rattle.sessions.specs.Openings.{Input, Lines, Messages, AsksFor, IsAnsweredBy}
+use Rattle.http_conversations.specs.Exchanges.{Exchange}
+use Rattle.http_live.specs.Worlds as by_exchange
+use Rattle.sessions.specs.Openings.{Input, Lines, Messages, Connections, AsksFor, IsAnsweredBy}
 use Rattle.sessions.specs.Chains.{StandsAs}
 use Rattle.sessions.specs.Stages.{HasRecovered, LeavesRecovering, Answering, LeavesAnswering}
-use Rattle.sessions.proofs.TellingLemmas.{Tells, lines_tell_all, lines_tell, messages_come, messages_tell_all, messages_tell}
+use Rattle.sessions.proofs.TellingLemmas.{Tells, lines_tell_all, lines_tell, messages_come, messages_tell_all, messages_tell, done_next, done_but_last, exchanges_told}
 
 -- Asks that were carried out.
 
@@ -115,7 +117,7 @@ has_recovered stands leaves w r = record { events = r.events; is = r.is; ends = 
 
 -- all was answered
 module _ (x : Scene) (w : List Moment) (IsThere : State → Type 0) (stays : (s : State) → x.stands s → IsThere s) where
-  all_answered : (input : Input) (asks : Asks) → AsksFor input asks → EndsWith x.stands x.leaves w asks
+  all_answered : (input : Input) (asks : Asks) → AsksFor (after start w) input asks → EndsWith x.stands x.leaves w asks
       → Tells x.held x.holds (after start w) input asks → Answering x.held x.holds w input IsThere
   all_answered input asks come ends tells = record {
     told = tells.told;
@@ -156,7 +158,7 @@ lines_answered_if_known x (Some bytes) count stood IsThere stays all goes =
 
 -- nothing was asked
 pub not_asked : (held : Option (List ℕ)) (stands : State → Type 0) (w : List Moment) (finds : Trees → Type 0)
-    (input : Input) → AsksFor input [] → IsAnsweredBy (after start w) input [] [] → StandsAtEnd stands w
+    (input : Input) → AsksFor (after start w) input [] → IsAnsweredBy (after start w) input [] [] → StandsAtEnd stands w
     → ((db : Trees) → finds db → StandsAs db (after start w)) → LeavesAnswering finds held held w input
 not_asked held stands w finds input come none here means db may = record {
   told = [];
@@ -184,6 +186,12 @@ pub no_messages_asked : (held : Option (List ℕ)) (stands : State → Type 0) (
 no_messages_asked held stands w finds bytes =
     not_asked held stands w finds (Messages bytes) ([], bytes, refl, refl)
     ([], bytes, [], record { begins = refl; are = refl }, refl, refl)
+
+pub no_connections_asked : (held : Option (List ℕ)) (stands : State → Type 0) (w : List Moment) (finds : Trees → Type 0)
+    → StandsAtEnd stands w → ((db : Trees) → finds db → StandsAs db (after start w))
+    → LeavesAnswering finds held held w (Connections [])
+no_connections_asked held stands w finds =
+    not_asked held stands w finds (Connections []) ([], refl, refl) ([], refl, refl, refl)
 
 -- a fault came
 module _ (x : Scene) (c : Connected) (clean : HasCleanDisk c) (told : (s t : State) → x.leaves s t → MayLeave c s t)
@@ -220,10 +228,68 @@ module _ (x : Scene) (c : Connected) (clean : HasCleanDisk c) (told : (s t : Sta
         end = crashed w e.among.progress l.was_kept;
         answers = record {
           asks = by_message.asks_in (e.some.messages ++ e.next);
-          come = messages_come bytes e.some.rest e.some.messages e.next e.some.answered.begins e.comes;
+          come = messages_come (after start w) bytes e.some.rest e.some.messages e.next e.some.answered.begins e.comes;
           goes = record { progress = e.among.progress; was_kept = l.was_kept; goes = refl };
           is_told = tells.is_told;
         };
         world = l.world;
         there = l.stands;
       }
+
+-- connections were served: all turns were taken, or the store failed
+module _ (c : Connected) (leaves : State → State → Type 0) (clean : HasCleanDisk c)
+    (told : (s t : State) → leaves s t → MayLeave c s t) (stands : State → Type 0) (w : List Moment)
+    (held : Option (List ℕ)) where
+  all_served : (exchanges : List Exchange) → by_exchange.EndsWithExchanges stands leaves w exchanges
+      → LeavesAnswering c.may_leave held held w (Connections exchanges)
+  all_served exchanges e db may =
+      let asks = by_message.asks_in e.messages in
+      record {
+        told = [];
+        wrote = Appends-nil held;
+        end = continued w asks [];
+        answers = record {
+          asks = asks;
+          come = (e.messages, e.done, refl);
+          goes = record { progress = all_done asks e.ends.limits; was_kept = false; goes = refl };
+          is_told = exchanges_told (after start w) exchanges e.messages asks e.done refl;
+        };
+        world = e.ends.left.first;
+        there = elim (either c _ _ clean (told _ _ e.ends.left.left) db may) [
+          | inl m ↦ m
+          | inr m ↦ m
+        ];
+      }
+
+  some_served : (exchanges : List Exchange) → by_exchange.EndsAmongExchanges stands leaves w exchanges
+      → LeavesAnswering c.may_leave held held w (Connections exchanges)
+  some_served exchanges e db may =
+      let s = after start w in
+      let l = left_among c leaves clean told stands w _ _ e.among db may in
+      record {
+        told = [];
+        wrote = Appends-nil held;
+        end = crashed w e.among.progress l.was_kept;
+        answers = record {
+          asks = by_message.asks_in (e.messages ++ e.next ∷ []);
+          come = (
+            e.messages ++ e.next ∷ [],
+            subst (λ xs. by_exchange.AreDone s xs (e.messages ++ e.next ∷ [])) (sym e.at_last)
+                (done_next e.last e.next e.is_next e.is_lost s e.before e.messages e.done),
+            refl,
+          );
+          goes = record { progress = e.among.progress; was_kept = l.was_kept; goes = refl };
+          is_told = exchanges_told s exchanges e.messages e.among.progress.answered
+              (subst (λ xs. by_exchange.AreDone s xs e.messages) (sym e.at_last)
+              (done_but_last e.last e.next e.is_next e.is_lost s e.before e.messages e.done))
+              e.answered;
+        };
+        world = l.world;
+        there = l.stands;
+      }
+
+  pub exchanges_served : (failed : Bool) (exchanges : List Exchange)
+      → by_exchange.GoesOnBy failed stands leaves w exchanges
+      → LeavesAnswering c.may_leave held held w (Connections exchanges)
+  exchanges_served false exchanges e = all_served exchanges e
+  exchanges_served true exchanges e = some_served exchanges e

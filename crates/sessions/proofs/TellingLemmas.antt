@@ -1,6 +1,6 @@
 -- What was written are answers to asks that were carried out. For the answers over lines and messages.
 use Rattle.std.proofs.Common.{◌≡◌, ℕ, List, [], ◌∷◌, ◌++◌, length, take, drop, refl, sym, ap, subst, ◌∙◌, append_assoc, append-nil, inl, inr}
-use Rattle.std.specs.Prelude.{Option}
+use Rattle.std.specs.Prelude.{Option, None}
 use Rattle.std.specs.List.{concat}
 use Rattle.std.specs.Io.KnownBytes.{Appends}
 use Rattle.std.proofs.lemmas.List.{take-append-drop}
@@ -12,12 +12,14 @@ use Rattle.protocols.specs.declared.faults.ServeFault.TheVariants.{Memory, Store
 use Rattle.desk_lines.specs.Lines.{lines, answer_line, answer_lines, state_after_lines, meaning_in, written}
 use Rattle.desk_lines.specs.Serving as of_lines
 use Rattle.desk_lines.specs.Worlds as by_line
-use Rattle.http_messages.specs.Messages.{Message, BeginsWith, BeginsWithAll}
+use Rattle.http_messages.specs.Messages.{Message, BeginsWith, BeginsWithAll, IsMessage}
 use Rattle.http_messages.proofs.MessageLemmas.{one_message}
 use Rattle.desk_http.specs.Pages.{ArePages, IsPage, command_in, state_after, state_after_all}
 use Rattle.desk_http.specs.Serving as of_messages
 use Rattle.desk_http.specs.Worlds as by_message
-use Rattle.sessions.specs.Openings.{Input, Lines, Messages, AsksFor, IsTold}
+use Rattle.http_conversations.specs.Exchanges.{Exchange}
+use Rattle.http_live.specs.Worlds.{AreDone, HasPage}
+use Rattle.sessions.specs.Openings.{Input, Lines, Messages, Connections, AsksFor, IsTold}
 
 -- these bytes were written, and are answers to asks that were carried out
 pub record Tells (held holds : Option (List ℕ)) (s : State) (input : Input) (carried_out : Asks) : Type 0 where
@@ -159,12 +161,12 @@ concat-more [] p = append-nil p
 concat-more (q ∷ ps) p = ap (λ rest. q ++ rest) (concat-more ps p) ∙ sym (append_assoc q (concat ps) p)
 
 -- what messages ask for, and the next one, if there is one
-pub messages_come : (bytes rest : List ℕ) (ms next : List Message) → BeginsWithAll bytes ms rest
-    → by_message.ComesNext rest next → AsksFor (Messages bytes) (by_message.asks_in (ms ++ next))
-messages_come bytes rest ms [] begins comes = (ms, rest, begins, ap by_message.asks_in (append-nil ms))
-messages_come bytes rest ms (m ∷ []) begins comes =
+pub messages_come : (s : State) (bytes rest : List ℕ) (ms next : List Message) → BeginsWithAll bytes ms rest
+    → by_message.ComesNext rest next → AsksFor s (Messages bytes) (by_message.asks_in (ms ++ next))
+messages_come s bytes rest ms [] begins comes = (ms, rest, begins, ap by_message.asks_in (append-nil ms))
+messages_come s bytes rest ms (m ∷ []) begins comes =
     (ms ++ m ∷ [], comes.0, begins-more bytes rest comes.0 ms m begins comes.1, refl)
-messages_come bytes rest ms (m ∷ n ∷ later) begins comes = absurd comes
+messages_come s bytes rest ms (m ∷ n ∷ later) begins comes = absurd comes
 
 -- the pages of the first messages
 pages_told : (s : State) (bytes : List ℕ) (ms : List Message) (rest : List ℕ) (pages : List (List ℕ))
@@ -247,3 +249,65 @@ messages_tell x s bytes rest Memory ms next pages carried answered comes left do
     ]
 messages_tell x s bytes rest Store ms next pages carried answered comes left done =
     just_pages x s bytes rest ms pages answered carried [] left.0 (no_others carried _ done)
+
+-- Exchanges.
+
+module _ (last : Exchange) (m : Message) (is_message : IsMessage last.bytes m) (is_lost : last.page ≡ None) where
+  -- the last one was carried out, and its page was lost
+  pub done_next : (s : State) (before : List Exchange) (ms : List Message) → AreDone s before ms
+      → AreDone s (before ++ last ∷ []) (ms ++ m ∷ [])
+  done_next s [] ms none = (
+    state_after s m,
+    [],
+    record {
+      message = m;
+      is_message = is_message;
+      page = subst (HasPage s m) (sym is_lost) tt;
+      done = inl (ap (λ l. l ++ m ∷ []) none, refl);
+    },
+    refl,
+  )
+  done_next s (x ∷ before) ms all =
+      let one = all.2 in (
+        all.0,
+        all.1 ++ m ∷ [],
+        record {
+          message = one.message;
+          is_message = one.is_message;
+          page = one.page;
+          done = elim one.done [
+            | inl carried ↦ inl (ap (λ l. l ++ m ∷ []) carried.0, carried.1)
+            | inr lost ↦ inr (lost.0, ap (λ l. l ++ m ∷ []) lost.1, lost.2)
+          ];
+        },
+        done_next all.0 before all.1 all.3,
+      )
+
+  -- the last one was not carried out
+  pub done_but_last : (s : State) (before : List Exchange) (ms : List Message) → AreDone s before ms
+      → AreDone s (before ++ last ∷ []) ms
+  done_but_last s [] ms none = (
+    s,
+    [],
+    record {
+      message = m;
+      is_message = is_message;
+      page = subst (HasPage s m) (sym is_lost) tt;
+      done = inr (is_lost, none, refl);
+    },
+    refl,
+  )
+  done_but_last s (x ∷ before) ms all = (all.0, all.1, all.2, done_but_last all.0 before all.1 all.3)
+
+-- the pages of exchanges are answers to what was carried out of them
+pub exchanges_told : (s : State) (exchanges : List Exchange) (ms : List Message) (carried : Asks)
+    → AreDone s exchanges ms → carried ≡ by_message.asks_in ms → IsTold s (Connections exchanges) carried []
+exchanges_told s exchanges ms carried all is = record {
+  answered = by_message.asks_in ms;
+  others = [];
+  done = no_others carried _ is;
+  answers = [];
+  are = (ms, all, refl, refl);
+  unsent = [];
+  sent = refl;
+}

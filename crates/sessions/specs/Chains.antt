@@ -1,7 +1,9 @@
 -- How sessions lead from what might be found before them to what may be found after them.
 -- `found` and `finds` say of a database that an opening might find it before, and may find it after; `held` and `holds`
 -- are the bytes of the writer.
-use Rattle.std.specs.Prelude.{◌≡◌, ℕ, List, [], ◌∷◌, Option, Some, Result, Ok, Err}
+use Rattle.std.specs.Prelude.{◌≡◌, ⊤, ℕ, List, [], ◌∷◌, map, Option, Some, Result, Ok, Err}
+use Rattle.std.specs.declared.io.traits.Read as Read
+use Rattle.std.specs.declared.io.traits.Write as Write
 use Rattle.sqlite.specs.Tree.{Trees}
 use Rattle.sqlite.specs.Held.{Held, state}
 use Rattle.sqlite.specs.State.{HasCleanDisk}
@@ -10,8 +12,10 @@ use Rattle.sqlite_trees.specs.View.{IsClean}
 use Rattle.desk_sql.specs.declared.versions.Version.{Version}
 use Rattle.ledger.specs.Answer.{State, start}
 use Rattle.ledger.specs.World.{Moment, after, IsWorld}
+use Rattle.http_live.specs.Merging.{Seated, exchange_of}
 use Rattle.sql_model.specs.Keeping.{MeansOf}
-use Rattle.sessions.specs.Openings.{Input, Lines, Messages}
+use Rattle.sessions.specs.Openings.{Input, Lines, Messages, Connections}
+use Rattle.sessions.specs.Accounts.{IsAccount}
 use Rattle.sessions.specs.Worlds.{GoesOnBy}
 use Rattle.sessions.specs.Promises.{IsKeptPromise}
 use Rattle.sessions.specs.declared.running.Session.{Session}
@@ -46,14 +50,30 @@ abbrev pub Headline : (Trees → Type 0) → Option (List ℕ) → Option (List 
 Headline finds held holds inputs =
     (db : Trees) → finds db → (leads : Leads held holds inputs [] db) × IsKeptPromise leads.end
 
--- these are the inputs of the sessions: of each its lines, and then its messages
-abbrev pub AreInputs : {R M : Type 0} → (R → Option (List ℕ)) → (M → Option (List ℕ)) → List (Session R M)
-    → List Input → Type 0
-AreInputs lines messages [] inputs = inputs ≡ []
-AreInputs lines messages (session ∷ later) inputs =
-    (text bytes : List ℕ) × (rest : List Input) × (inputs ≡ Lines text ∷ Messages bytes ∷ rest)
-    × (lines session.lines ≡ Some text) × (messages session.messages ≡ Some bytes)
-    × AreInputs lines messages later rest
+module _ {L M T R W : Type 0} {r : Read.Ghosts R} {w : Write.Ghosts W} (lines : L → Option (List ℕ))
+    (messages : M → Option (List ℕ)) where
+  -- the bytes of the lines and of the messages of each session are known
+  abbrev pub AreKnown : List (Session L M T R W r w) → Type 0
+  AreKnown [] = ⊤
+  AreKnown (session ∷ later) =
+      (text bytes : List ℕ) × (lines session.lines ≡ Some text) × (messages session.messages ≡ Some bytes)
+      × AreKnown later
+
+  -- These are the inputs of sessions, by what they were and how they ended: of each its lines, its messages, and then the
+  -- exchanges with the connections of its seats, merged.
+  abbrev pub AreInputs : List (Session L M T R W r w) → List (Session L M T R W r w) → List Input → Type 0
+  AreInputs [] [] inputs = inputs ≡ []
+  AreInputs [] (end ∷ others) inputs = ⊥
+  AreInputs (session ∷ later) [] inputs = ⊥
+  AreInputs (session ∷ later) (end ∷ others) inputs =
+      (text bytes : List ℕ) × (merged : List Seated) × (rest : List Input)
+      × (inputs ≡ Lines text ∷ Messages bytes ∷ Connections (map exchange_of merged) ∷ rest)
+      × (lines session.lines ≡ Some text) × (messages session.messages ≡ Some bytes)
+      × IsAccount session.seats.items end.seats.items merged × AreInputs later others rest
+
+  -- the sessions had inputs of which this holds
+  abbrev pub Came : List (Session L M T R W r w) → List (Session L M T R W r w) → (List Input → Type 0) → Type 0
+  Came sessions ended So = (inputs : List Input) × AreInputs sessions ended inputs × So inputs
 
 module _ {S : Type 0} (g : Ghosts S) where
   -- what may be found after a crash of the connection; or of a store that could not be opened again

@@ -1,5 +1,5 @@
 -- What one opening of the store adds to a world: the desk is reopened and recovers, and then answers what comes to it.
-use Rattle.std.specs.Prelude.{◌≡◌, ◌⊎◌, ℕ, List, [], ◌++◌}
+use Rattle.std.specs.Prelude.{◌≡◌, ◌⊎◌, ⊤, ℕ, List, [], ◌++◌}
 use Rattle.std.specs.List.{concat}
 use Rattle.ledger.specs.Answer.{State, start}
 use Rattle.ledger.specs.Ledger.{Event}
@@ -14,20 +14,28 @@ use Rattle.desk_lines.specs.Worlds as by_line
 use Rattle.http_messages.specs.Messages.{Message, BeginsWithAll}
 use Rattle.desk_http.specs.Serving.{Answered}
 use Rattle.desk_http.specs.Worlds as by_message
+use Rattle.http_conversations.specs.Exchanges.{Exchange}
+use Rattle.http_live.specs.Worlds.{AreDone}
 
--- what comes to a desk that was opened: the bytes of lines, or those of the messages of a connection
+-- What comes to a desk that was opened: the bytes of lines, or those of the messages of a connection, or the exchanges
+-- with many connections, in the order in which their messages were carried out.
 pub data Input : Type 0 where
   Lines : (bytes : List ℕ) → Input
   Messages : (bytes : List ℕ) → Input
+  Connections : (exchanges : List Exchange) → Input
 
--- the first lines, or the first messages, of an input ask for these
-abbrev pub AsksFor : Input → Asks → Type 0
-AsksFor (Lines bytes) asks =
+-- from this state on the first lines, or the first messages, of an input ask for these; or those messages of exchanges
+-- that were carried out
+abbrev pub AsksFor : State → Input → Asks → Type 0
+AsksFor s (Lines bytes) asks =
     (first later : List (List ℕ)) × (lines bytes ≡ first ++ later) × (asks ≡ by_line.asks_in first)
-AsksFor (Messages bytes) asks =
+AsksFor s (Messages bytes) asks =
     (first : List Message) × (rest : List ℕ) × BeginsWithAll bytes first rest × (asks ≡ by_message.asks_in first)
+AsksFor s (Connections exchanges) asks =
+    (carried_out : List Message) × AreDone s exchanges carried_out × (asks ≡ by_message.asks_in carried_out)
 
--- the first lines, or the first messages, of an input ask for these, and these bytes answer them in this state
+-- The first lines, or the first messages, of an input ask for these, and these bytes answer them in this state. The pages
+-- of exchanges answer their messages in the states in which these were carried out, and no bytes go to the writer.
 abbrev pub IsAnsweredBy : State → Input → Asks → List ℕ → Type 0
 IsAnsweredBy s (Lines bytes) asks answers =
     (first later : List (List ℕ)) × (lines bytes ≡ first ++ later) × (asks ≡ by_line.asks_in first)
@@ -35,6 +43,9 @@ IsAnsweredBy s (Lines bytes) asks answers =
 IsAnsweredBy s (Messages bytes) asks answers =
     (first : List Message) × (rest : List ℕ) × (pages : List (List ℕ)) × Answered s bytes first rest pages
     × (asks ≡ by_message.asks_in first) × (answers ≡ concat pages)
+IsAnsweredBy s (Connections exchanges) asks answers =
+    (carried_out : List Message) × AreDone s exchanges carried_out × (asks ≡ by_message.asks_in carried_out)
+    × (answers ≡ [])
 
 -- what was written is a prefix of the answers to asks that were carried out, from the first on
 pub record IsTold (s : State) (input : Input) (carried_out : Asks) (told : List ℕ) : Type 0 where
@@ -50,7 +61,7 @@ pub record IsTold (s : State) (input : Input) (carried_out : Asks) (told : List 
 -- ask cut off. Each answer that was written, in whole or in part, is that of an ask that was carried out.
 pub record Answers (w : List Moment) (input : Input) (told : List ℕ) (v : List Moment) : Type 0 where
   pub asks : Asks
-  pub come : AsksFor input asks
+  pub come : AsksFor (after start w) input asks
   pub goes : GoesOnTo w asks v
   pub is_told : IsTold (after start w) input goes.progress.answered told
 
@@ -58,11 +69,18 @@ pub record Answers (w : List Moment) (input : Input) (told : List ℕ) (v : List
 abbrev pub recovered : List Moment → List Event → List Moment
 recovered w events = continued (reopened w) (orders_of events) []
 
--- the desk stopped before it was recovered, and wrote nothing
-pub record StopsRecovering (w : List Moment) (told : List ℕ) (v : List Moment) : Type 0 where
+-- no message of a connection was answered
+abbrev pub IsUnserved : Input → Type 0
+IsUnserved (Lines bytes) = ⊤
+IsUnserved (Messages bytes) = ⊤
+IsUnserved (Connections exchanges) = exchanges ≡ []
+
+-- the desk stopped before it was recovered: it answered nobody, and wrote nothing
+pub record StopsRecovering (w : List Moment) (input : Input) (told : List ℕ) (v : List Moment) : Type 0 where
   pub events : List Event
   pub is : IsRecovery (after start w) events
   pub goes : GoesOnTo (reopened w) (orders_of events) v
+  pub unserved : IsUnserved input
   pub silent : told ≡ []
 
 -- the desk recovered, and then answered
@@ -73,4 +91,4 @@ pub record StopsAnswering (w : List Moment) (input : Input) (told : List ℕ) (v
 
 -- one opening
 abbrev pub Opening : List Moment → Input → List ℕ → List Moment → Type 0
-Opening w input told v = StopsRecovering w told v ⊎ StopsAnswering w input told v
+Opening w input told v = StopsRecovering w input told v ⊎ StopsAnswering w input told v

@@ -1,5 +1,5 @@
-//! What a recovered desk answers, and the connection that it leaves: `Ok` where all was answered.
-ghost use Rattle.std.specs.Prelude.{◌≡◌, false, None, List, IfOk, IfErr, IfSome, OnOk};
+//! What a recovered desk answers, and the connection to its store that it leaves: `Ok` where all was answered.
+ghost use Rattle.std.specs.Prelude.{◌≡◌, ℕ, false, None, List, Option, IfOk, IfErr, IfSome};
 ghost use Rattle.sqlite.specs.Held.{state};
 ghost use Rattle.sqlite.specs.State.{HasCleanDisk};
 ghost use Rattle.desk_sql.specs.declared.versions.Version.{Version};
@@ -8,12 +8,14 @@ ghost use Rattle.ledger.specs.World.{Moment};
 ghost use Rattle.saga_core.specs.Worlds.{StandsAtEnd};
 ghost use Rattle.sql_model.specs.Keeping.{MayLeave, StoodFor};
 ghost use Rattle.tables.specs.BookTerms.{StandsBook, LeavesBook};
-ghost use Rattle.sessions.specs.Openings.{Lines, Messages};
+ghost use Rattle.sessions.specs.Accounts.{Exchanged};
+ghost use Rattle.sessions.specs.Openings.{Connections, Lines, Messages};
 ghost use Rattle.sessions.specs.Stages.{Answering, LeavesAnswering, Stood};
 
 use crate::power::Power;
 use desk_http::serve;
 use desk_lines::run_lines;
+use http_live::{Seat, Turns, serve_many};
 use recovery::Ready;
 use saga_core::Book;
 use sqlite::{Alter, Connection};
@@ -94,4 +96,25 @@ pub(crate) fn answer_messages<S: Alter, P: Power, R: Read, W: Write>(
         Ok(_) => Ok(let_go(ready)),
         Err(_) => Err(let_go(ready)),
     }
+}
+
+/// Serves the connections of the seats, turn by turn.
+pub(crate) fn answer_connections<S: Alter, P: Power, T: Turns>(
+    alloc: Global,
+    ready: Ready<TableBook<S>>,
+    power: &mut P,
+    seats: &mut Vec<Seat<T::Reader, T::Writer>>,
+    turns: &mut T,
+) -> Connection<S>
+    ensures left { Exchanged seats.old.items seats.new.items (λ exchanges. HasCleanDisk (state S.Store result)
+        → (w : List Moment) → StandsAtEnd (StandsBook S.Store ready) w → (held : Option (List ℕ))
+        → LeavesAnswering (state S.Store result).may_leave held held w (Connections exchanges)) }
+    ensures sound { HasCleanDisk (state S.Store result) → ⟦<TableBook<S> as Book>⟧.is_sound ready }
+{
+    let mut ready = ready;
+    if !power.is_on() {
+        return let_go(ready);
+    }
+    let _ = serve_many(alloc, seats.as_mut_slice(), turns, &mut ready);
+    let_go(ready)
 }

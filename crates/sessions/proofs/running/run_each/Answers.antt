@@ -1,56 +1,77 @@
 -- One more session is one more step.
-use Rattle.std.proofs.Common.{◌≡◌, ◌<◌, ◌++◌, [], ◌∷◌, refl, sym, ap, subst, ◌∙◌, append_assoc, length, arith, rules, tests}
+use Rattle.std.proofs.Common.{◌≡◌, ◌+◌, ◌<◌, ◌≤◌, ◌++◌, [], ◌∷◌, length, length-append, get_or, refl, sym, ap, subst, ◌∙◌, arith}
 use Rattle.sqlite.specs.Held.{state}
-use Rattle.sessions.specs.Chains.{AreInputs, Comes, MayBeFound}
-use Rattle.sessions.specs.Openings.{Lines, Messages}
-use Rattle.sessions.proofs.ChainLemmas.{all_done, comes_none, comes_then, first_of}
+use Rattle.sessions.specs.Chains.{AreKnown, Came, Comes, MayBeFound}
+use Rattle.sessions.proofs.ChainLemmas.{at_end, came_then, comes_none, known_first, known_rest, sets_next}
 use Rattle.sessions.proofs.running.run_each.Goals as goal
 
-pub loop-alloc-init : goal.loop-alloc-init
-loop-alloc-init g c = record {
+pub loop-session-init : goal.loop-session-init
+loop-session-init g c = record {
   sound = λ h. h;
-  so_far = λ clean inputs are. (
+  so_far = (
     [],
-    inputs,
+    [],
+    c.args.sessions.now,
     refl,
-    are,
-    comes_none (state g.S.Store c.args.conn).may_leave (g.W.Write.contents c.args.writer.now),
+    refl,
+    refl,
+    refl,
+    λ clean known. (
+      [],
+      refl,
+      comes_none (state g.S.Store c.args.conn).may_leave (g.W.Write.contents c.args.writer.now),
+    ),
   );
 }
 
-pub loop-alloc-preserved : goal.loop-alloc-preserved
-loop-alloc-preserved g c =
-    let at = c.loop-alloc in
+pub loop-session-preserved : goal.loop-session-preserved
+loop-session-preserved g c =
+    let l = g.L.Read.remaining in
+    let m = g.M.Read.remaining in
     let contents = g.W.Write.contents in
-    let one = c.remove-session.ensures.len in
-    let many = at.sessions.ok.0 in
-    let some : 0 < length at.sessions.items = omega (arith, one, many) in
-    let split = first_of at.sessions.items c.remove-session.new.self.items c.remove-session.result some
-    c.remove-session.ensures.value c.remove-session.ensures.by_index.2 in
+    let at = c.loop-session in
+    let was = at.invariant.so_far in
+    let x = get_or at.sessions at.session-index c.session-item.result in
+    let v = c.run_next-at.new.session in
+    let test = c.loop-session-test.true in
+    let within : at.session-index < length at.sessions = omega (arith, test) in
+    let next = sets_next was.0 was.1 was.2 c.args.sessions.now at.sessions at.session-index c.session-item.result x v
+    was.5 was.6 was.3 within refl in
     record {
       sound = λ h. at.invariant.sound (c.run_next-at.ensures.sound h);
-      so_far = λ clean inputs are.
-          let was = at.invariant.so_far (c.run_next-at.ensures.sound clean) inputs are in
-          let next = subst (λ l. AreInputs g.R.Read.remaining g.M.Read.remaining l was.1) split was.3 in
-          let now = Lines next.0 ∷ Messages next.1 ∷ [] in (
-            was.0 ++ now,
-            next.2,
-            was.2 ∙ ap (λ l. was.0 ++ l) next.3 ∙ sym (append_assoc was.0 now next.2),
-            next.6,
-            comes_then (state g.S.Store c.args.conn).may_leave (MayBeFound g.S.Store at.at)
-                (MayBeFound g.S.Store c.run_next-at.result) (contents c.args.writer.now) (contents at.writer)
-                (contents c.run_next-at.new.writer) was.0 now was.4
-                (c.run_next-at.ensures.step clean now (next.0, next.1, [], refl, next.4, next.5, refl)),
-          );
+      so_far = (
+        was.0 ++ x ∷ [],
+        was.1 ++ v ∷ [],
+        next.later,
+        length-append was.1 (v ∷ []) ∙ ap (λ k. k + 1) was.3,
+        length-append was.0 (x ∷ []) ∙ ap (λ k. k + 1) was.4,
+        next.first,
+        next.second,
+        λ clean known.
+            came_then l m (state g.S.Store c.args.conn).may_leave (MayBeFound g.S.Store at.at)
+            (MayBeFound g.S.Store c.run_next-at.result) (contents c.args.writer.now) (contents at.writer)
+            (contents c.run_next-at.new.writer) was.0 was.1 (x ∷ []) (v ∷ [])
+            (was.7 (c.run_next-at.ensures.sound clean) (known_first l m was.0 (x ∷ []) known))
+            (c.run_next-at.ensures.step clean (known_rest l m was.0 (x ∷ []) known)),
+      );
     }
 
 -- no session is left
 pub returns-clause-step : goal.returns-clause-step
-returns-clause-step g c clean inputs are =
-    let at = c.loop-alloc in
-    let was = at.invariant.so_far clean inputs are in
-    let none : length at.sessions.items ≡ 0 = search (rules, tests) in
+returns-clause-step g c clean known =
+    let l = g.L.Read.remaining in
+    let m = g.M.Read.remaining in
+    let at = c.loop-session in
+    let was = at.invariant.so_far in
+    let held = g.W.Write.contents c.args.writer.now in
+    let holds = g.W.Write.contents at.writer in
+    let here = was.3 in
+    let test = c.loop-session-test.false in
+    let over : length at.sessions ≤ length was.1 = omega (arith, here, test) in
+    let ends = at_end was.0 was.1 was.2 c.args.sessions.now at.sessions was.5 was.6 over in
     subst
-    (Comes (state g.S.Store c.args.conn).may_leave (MayBeFound g.S.Store at.at) (g.W.Write.contents c.args.writer.now)
-    (g.W.Write.contents at.writer))
-    (all_done g.R.Read.remaining g.M.Read.remaining at.sessions.items inputs was.0 was.1 none was.2 was.3) was.4
+    (λ xs. Came l m xs at.sessions (Comes (state g.S.Store c.args.conn).may_leave (MayBeFound g.S.Store at.at) held holds))
+    (sym ends.0)
+    (subst
+    (λ ys. Came l m was.0 ys (Comes (state g.S.Store c.args.conn).may_leave (MayBeFound g.S.Store at.at) held holds))
+    (sym ends.1) (was.7 clean (subst (AreKnown l m) ends.0 known)))

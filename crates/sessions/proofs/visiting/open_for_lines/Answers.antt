@@ -33,4 +33,4 @@ pub returns-in-Err-clause-left : goal.returns-in-Err-clause-left
 returns-in-Err-clause-left g c clean =
     if_some_each (g.R.Read.remaining c.args.lines.now) _ (λ text w world stood.
     recovering_leads c.chains.ensures.reopens w world (state g.S.Store c.in-Err.conn).may_leave
-    (g.W.Write.contents c.args.writer.now) (Lines text) (c.in-Err.ensures.left clean w world stood))
+    (g.W.Write.contents c.args.writer.now) (Lines text) tt (c.in-Err.ensures.left clean w world stood))

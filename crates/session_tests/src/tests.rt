@@ -1,0 +1,4 @@
+mod again;
+mod dice;
+mod failing;
+mod peers;
