@@ -38,7 +38,7 @@ fn is_answered_at(rt: &impl Abort, alloc: Global, door: Door, talk: &Talk, stops
     let mut incoming = Incoming::new(alloc).expect(rt, "memory");
     let mut reader = Pieces::of(&talk.sent, ALL);
     let mut told = Vec::new(alloc);
-    let mut stopped = 0;
+    let mut stopped = 0usize;
     for _ in 0..talk.sent.len() {
         let Some(message) = incoming.next_message(&mut reader).expect(rt, "a read") else {
             break;
@@ -47,7 +47,7 @@ fn is_answered_at(rt: &impl Abort, alloc: Global, door: Door, talk: &Talk, stops
         let answer = answer.expect(rt, "memory");
         told.extend_from_slice(&answer.bytes).expect(rt, "memory");
         if answer.stops {
-            stopped += 1;
+            stopped = stopped.saturating_add(1);
         }
     }
     reads(rt, "at a door", &told, &talk.told);
