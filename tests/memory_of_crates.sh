@@ -23,7 +23,7 @@ today=$(($(date +%s) / 86400))
 fault='(AllocError|AllocFailed \{ \.\. \}|Memory|(Some|Err)\(Memory\)|Error\(out of memory\)|"out of memory")'
 by_result=$'^[Ee]rror: '$fault$'\nthe test failed: its result gives status 1$'
 stopped=$'\n\ntest stopped at src/[a-z_/]+\\.rt:[0-9]+:[0-9]+$'
-by_check=$'(: |;)'$fault$stopped
+by_check=$'(^|: |;)'$fault$stopped
 by_comparison=$'\n  left: '$fault$'\n right: [^\n]*'$stopped
 
 # program_of CRATE: sets program to the tests of a crate, where they are built
@@ -109,6 +109,8 @@ judges 101 "error: Store$result" wrong
 judges 101 "error: the memory differs$result" wrong
 judges 101 $'Memory\nerror: Store'"$result" wrong
 judges 134 "a plan of 24 steps: Some(Memory)$at" named
+judges 134 "Err(Memory)$at" named
+judges 134 "Err(Write)$at" wrong
 judges 134 "out of memory: Some(Tries)$at" wrong
 judges 134 "out of memory changes nothing$at" wrong
 judges 134 $'assertion failed: a cell\n  left: Some(Memory)\n right: Some(Twice)'"$at" named
