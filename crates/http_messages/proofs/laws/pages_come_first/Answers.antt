@@ -1,5 +1,5 @@
 -- Each law is used as it stands.
-use Rattle.std.proofs.Common.{ℕ, List, [], ◌∷◌, refl}
+use Rattle.std.proofs.Common.{[], ◌∷◌, refl}
 use Rattle.http_messages.specs.Examples.{get_bytes, get_page, get_is_a_head}
 use Rattle.http_messages.specs.Messages.{Asks, IsMessage}
 use Rattle.http_messages.proofs.laws.pages_come_first.Goals as goal
