@@ -14,7 +14,8 @@ use Rattle.saga_core.specs.declared.records.Brief.{Brief}
 use Rattle.saga_core.specs.declared.records.Record.{Record}
 use Rattle.http_messages.specs.Heads.{Parts, asks_to_close, complaint_of, is_method, is_unnamed, parts_of}
 use Rattle.http_messages.specs.Messages.{Message, NoHead, Asks}
-use Rattle.http_pages.specs.Bodies.{all_unfinished_data, journey_data, stopping_data, unfinished_data}
+use Rattle.http_pages.specs.Bodies.{journey_data, stopping_data, unfinished_data}
+use Rattle.http_pages.specs.declared.bodies.Owners.TheVariants.{Hidden, Shown}
 use Rattle.serde_json.specs.Data.{Data}
 use Rattle.http_pages.specs.Pages.{Paged, denied_page, page_text, refused_page, reply_page, report_page, value_page}
 use Rattle.http_pages.specs.declared.admitting.Denied.{Denied}
@@ -48,8 +49,8 @@ own_unfinished l asker = filter (λ (b : Brief). sees asker b.agent) (unfinished
 
 -- unfinished journeys as they are shown: to the house each with its agent
 abbrev pub unfinished_shown : Asker → List Brief → Data
-unfinished_shown (who.Agent agent) briefs = unfinished_data briefs
-unfinished_shown who.House briefs = all_unfinished_data briefs
+unfinished_shown (who.Agent agent) briefs = unfinished_data Hidden briefs
+unfinished_shown who.House briefs = unfinished_data Shown briefs
 
 -- the page shows the stock
 pub record ShowsStock (l : List Event) (page : Paged) : Type 0 where

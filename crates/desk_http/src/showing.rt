@@ -10,9 +10,7 @@ ghost use Rattle.desk_http.specs.Answering.{Shows};
 
 use crate::doors::Asker;
 use commands::Refusal;
-use http_pages::{
-    Body, Page, all_unfinished_body, journey_body, refused_page, shown_page, unfinished_body,
-};
+use http_pages::{Body, Owners, Page, journey_body, refused_page, shown_page, unfinished_body};
 use protocols::ServeFault;
 use reports::stock_text;
 use saga_core::{Book, Brief, Listed};
@@ -74,8 +72,8 @@ fn body_of(alloc: Global, asker: &Asker, briefs: &[Brief]) -> Result<String, All
         (λ body. string_bytes body ≡ compact_text (unfinished_shown asker.now briefs.now)) }
 {
     match asker {
-        Asker::Agent(_) => unfinished_body(alloc, briefs),
-        Asker::House => all_unfinished_body(alloc, briefs),
+        Asker::Agent(_) => unfinished_body(alloc, Owners::Hidden, briefs),
+        Asker::House => unfinished_body(alloc, Owners::Shown, briefs),
     }
 }
 

@@ -7,7 +7,9 @@ use Rattle.commands.specs.declared.items.Item.{Item}
 use Rattle.commands.specs.declared.items.Phase.{Phase}
 use Rattle.commands.specs.declared.items.Phase.TheVariants.{Run, Back, Ended, Undone}
 use Rattle.saga_core.specs.declared.records.Brief.{Brief}
-use Rattle.http_pages.specs.Bodies.{members, list, item_data, brief_data, owned_data, all_unfinished_data, unfinished_data, standing_members, json}
+use Rattle.http_pages.specs.declared.bodies.Owners.{Owners}
+use Rattle.http_pages.specs.declared.bodies.Owners.TheVariants.{Hidden, Shown}
+use Rattle.http_pages.specs.Bodies.{members, list, item_data, brief_data, unfinished_data, standing_members, json}
 
 -- where a journey is contains no float
 no_float-standing : (id pos : ℕ) (phase : Phase) → members_have_float (members (standing_members id pos phase)) ≡ false
@@ -22,10 +24,13 @@ no_float-items [] = refl
 no_float-items (item ∷ later) = no_float-items later
 
 -- a list of journeys contains no float
-no_float-briefs : (briefs : List Brief) → items_have_float (items_of (map brief_data briefs)) ≡ false
-no_float-briefs [] = refl
-no_float-briefs (brief ∷ later) =
-    rw (no_float-standing brief.id brief.cursor.pos brief.cursor.phase) (no_float-briefs later)
+no_float-briefs : (owners : Owners) (briefs : List Brief)
+    → items_have_float (items_of (map (brief_data owners) briefs)) ≡ false
+no_float-briefs owners [] = refl
+no_float-briefs Hidden (brief ∷ later) =
+    rw (no_float-standing brief.id brief.cursor.pos brief.cursor.phase) (no_float-briefs Hidden later)
+no_float-briefs Shown (brief ∷ later) =
+    rw (no_float-standing brief.id brief.cursor.pos brief.cursor.phase) (no_float-briefs Shown later)
 
 -- a journey with its history contains no float
 pub no_float-journey : (id pos : ℕ) (phase : Phase) (history : List Item)
@@ -33,15 +38,5 @@ pub no_float-journey : (id pos : ℕ) (phase : Phase) (history : List Item)
 no_float-journey id pos phase history = rw (no_float-items history) (no_float-standing id pos phase)
 
 -- journeys that are not finished contain no float
-pub no_float-unfinished : (briefs : List Brief) → has_float (unfinished_data briefs) ≡ false
-no_float-unfinished briefs = rw (no_float-briefs briefs) refl
-
--- a list of journeys with their agents contains no float
-no_float-owned : (briefs : List Brief) → items_have_float (items_of (map owned_data briefs)) ≡ false
-no_float-owned [] = refl
-no_float-owned (brief ∷ later) =
-    rw (no_float-standing brief.id brief.cursor.pos brief.cursor.phase) (no_float-owned later)
-
--- journeys of all agents that are not finished contain no float
-pub no_float-all_unfinished : (briefs : List Brief) → has_float (all_unfinished_data briefs) ≡ false
-no_float-all_unfinished briefs = rw (no_float-owned briefs) refl
+pub no_float-unfinished : (owners : Owners) (briefs : List Brief) → has_float (unfinished_data owners briefs) ≡ false
+no_float-unfinished owners briefs = rw (no_float-briefs owners briefs) refl

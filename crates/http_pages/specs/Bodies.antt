@@ -11,6 +11,8 @@ use Rattle.commands.specs.declared.refusals.Refusal.{Refusal}
 use Rattle.commands.specs.declared.replies.Reply.{Reply}
 use Rattle.commands.specs.declared.replies.Reply.TheVariants.{Loaded, Begun, Moved, Refused}
 use Rattle.saga_core.specs.declared.records.Brief.{Brief}
+use Rattle.http_pages.specs.declared.bodies.Owners.{Owners}
+use Rattle.http_pages.specs.declared.bodies.Owners.TheVariants.{Hidden, Shown}
 
 -- Values.
 
@@ -64,22 +66,19 @@ journey_data id cursor history =
     json ((codes "history", list (map item_data history))
     ∷ standing_members id cursor.pos cursor.phase)
 
+-- the agent whose a journey is, if it is shown
+abbrev pub owner_member : Owners → Brief → List Named
+owner_member Hidden brief = []
+owner_member Shown brief = (codes "agent", string brief.agent) ∷ []
+
 -- a journey without its history
-abbrev pub brief_data : Brief → Data
-brief_data brief = json (standing_members brief.id brief.cursor.pos brief.cursor.phase)
+abbrev pub brief_data : Owners → Brief → Data
+brief_data owners brief =
+    json (owner_member owners brief ++ standing_members brief.id brief.cursor.pos brief.cursor.phase)
 
 -- journeys that are not finished
-abbrev pub unfinished_data : List Brief → Data
-unfinished_data briefs = json ((codes "unfinished", list (map brief_data briefs)) ∷ [])
-
--- a journey without its history, with the agent whose it is
-abbrev pub owned_data : Brief → Data
-owned_data brief =
-    json ((codes "agent", string brief.agent) ∷ standing_members brief.id brief.cursor.pos brief.cursor.phase)
-
--- journeys of all agents that are not finished
-abbrev pub all_unfinished_data : List Brief → Data
-all_unfinished_data briefs = json ((codes "unfinished", list (map owned_data briefs)) ∷ [])
+abbrev pub unfinished_data : Owners → List Brief → Data
+unfinished_data owners briefs = json ((codes "unfinished", list (map (brief_data owners) briefs)) ∷ [])
 
 -- The desk.
 

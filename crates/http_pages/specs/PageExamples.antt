@@ -9,7 +9,8 @@ use Rattle.commands.specs.declared.items.Item.TheVariants.{Transaction, Turn, Sa
 use Rattle.commands.specs.declared.items.Phase.TheVariants.{Run, Back, Ended}
 use Rattle.commands.specs.declared.refusals.Refusal.TheVariants as refusal
 use Rattle.commands.specs.declared.replies.Reply.TheVariants.{Loaded, Begun, Moved, Refused}
-use Rattle.http_pages.specs.Bodies.{refusal_data, reply_data, all_unfinished_data, journey_data, unfinished_data}
+use Rattle.http_pages.specs.Bodies.{refusal_data, reply_data, journey_data, unfinished_data}
+use Rattle.http_pages.specs.declared.bodies.Owners.TheVariants.{Hidden, Shown}
 use Rattle.http_pages.specs.Pages.{line, page_text, denied_page, refused_page, reply_page, value_page}
 use Rattle.http_pages.specs.declared.verbs.Verb.TheVariants.{Get}
 
@@ -54,7 +55,7 @@ journey_is_shown = refl
 
 -- journeys of all agents, as the house sees them
 pub unfinished_are_shown_with_their_agents :
-    compact_text (all_unfinished_data (record { id = 7; agent = codes "ann"; cursor = record { pos = 1; phase = Back 0; used = 0 } } ∷ []))
+    compact_text (unfinished_data Shown (record { id = 7; agent = codes "ann"; cursor = record { pos = 1; phase = Back 0; used = 0 } } ∷ []))
     ≡ codes "{\"unfinished\":[{\"agent\":\"ann\",\"journey\":7,\"pos\":1,\"state\":\"back\",\"target\":0}]}"
 unfolding digits serde_json_on_literals
 unfinished_are_shown_with_their_agents = refl
@@ -79,7 +80,7 @@ abbrev sent : List (List ℕ) → List ℕ → List ℕ
 sent lines body = flat_map line lines ++ line [] ++ body
 
 -- no journey is unfinished
-pub none_unfinished_is_shown : page_text false false (value_page (unfinished_data []))
+pub none_unfinished_is_shown : page_text false false (value_page (unfinished_data Hidden []))
     ≡ sent (codes "HTTP/1.1 200 OK"
     ∷ codes "Content-Length: 17"
     ∷ codes "Content-Type: application/json" ∷ [])

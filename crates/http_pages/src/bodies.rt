@@ -3,12 +3,9 @@ ghost use Rattle.std.specs.Prelude.{◌≡◌, IfOk};
 ghost use Rattle.std.specs.String.{string_bytes};
 ghost use Rattle.serde_json.specs.Written.{compact_text};
 ghost use Rattle.http_pages.specs.Bodies.{refusal_data, reply_data, journey_data, unfinished_data};
-ghost use Rattle.http_pages.specs.Bodies.{all_unfinished_data, stopping_data};
+ghost use Rattle.http_pages.specs.Bodies.{stopping_data};
 
-use crate::values::{
-    all_unfinished_value, journey_value, refusal_value, reply_value, stopping_value,
-    unfinished_value,
-};
+use crate::values::{journey_value, refusal_value, reply_value, stopping_value, unfinished_value};
 use commands::{Cursor, Item, Refusal, Reply};
 use saga_core::Brief;
 use std::alloc::{AllocError, Global};
@@ -44,23 +41,26 @@ pub fn journey_body(
     value.to_string(alloc)
 }
 
-/// The body that shows journeys that are not finished, in the order in which they are given. The only fault is out of
-/// memory.
-pub fn unfinished_body(alloc: Global, briefs: &[Brief]) -> Result<String, AllocError>
-    ensures body { IfOk result
-        (λ body. string_bytes body ≡ compact_text (unfinished_data briefs.now)) }
-{
-    let value = unfinished_value(alloc, briefs)?;
-    value.to_string(alloc)
+/// Whether a list of journeys shows whose each is.
+#[derive(Clone, Copy, Debug, PartialEq, Eq)]
+pub enum Owners {
+    /// It does not: all are those of who asks.
+    Hidden,
+    /// Each has its agent.
+    Shown,
 }
 
-/// The body that shows the house journeys of all agents that are not finished, each with its agent, in the order in which
-/// they are given. The only fault is out of memory.
-pub fn all_unfinished_body(alloc: Global, briefs: &[Brief]) -> Result<String, AllocError>
+/// The body that shows journeys that are not finished, in the order in which they are given. The only fault is out of
+/// memory.
+pub fn unfinished_body(
+    alloc: Global,
+    owners: Owners,
+    briefs: &[Brief],
+) -> Result<String, AllocError>
     ensures body { IfOk result
-        (λ body. string_bytes body ≡ compact_text (all_unfinished_data briefs.now)) }
+        (λ body. string_bytes body ≡ compact_text (unfinished_data owners briefs.now)) }
 {
-    let value = all_unfinished_value(alloc, briefs)?;
+    let value = unfinished_value(alloc, owners, briefs)?;
     value.to_string(alloc)
 }
 

@@ -5,7 +5,6 @@ ghost use Rattle.http_pages.specs.Routes.{routes, with_line, found_route, asked_
 
 use crate::places::{Entry, Place};
 use crate::routes::{Route, Unrouted};
-use crate::targets::asked;
 use crate::verbs::Verb;
 use matchit::Router;
 use std::alloc::{AllocError, Global};
@@ -78,7 +77,7 @@ fn asked_by(method: &[u8], target: &str, entry: Entry) -> Result<Route, Unrouted
     if method != entry.verb.text().as_bytes() {
         return Err(Unrouted::WrongMethod(entry.verb));
     }
-    match asked(entry.place, target) {
+    match entry.place.asked(target) {
         Some(route) => Ok(route),
         None => Err(Unrouted::BadPart),
     }

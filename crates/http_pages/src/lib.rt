@@ -16,7 +16,6 @@ mod heads;
 mod places;
 mod routes;
 mod statuses;
-mod targets;
 #[cfg(test)]
 mod tests;
 mod values;
@@ -24,9 +23,7 @@ mod verbs;
 
 pub use admitting::{Denied, admit};
 pub use answers::{Body, Page, denied_page, refused_page, reply_page, shown_page};
-pub use bodies::{
-    all_unfinished_body, journey_body, refusal_body, reply_body, stopping_body, unfinished_body,
-};
+pub use bodies::{Owners, journey_body, refusal_body, reply_body, stopping_body, unfinished_body};
 pub use finding::Paths;
 pub use heads::page_bytes;
 pub use routes::{Route, Unrouted};

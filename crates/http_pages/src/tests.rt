@@ -1,8 +1,8 @@
 // Values from outside: the tables of routes and codes, and bodies and pages as the formats give them.
 use crate::{
-    Body, Denied, Page, Paths, Route, Status, Unrouted, Verb, admit, all_unfinished_body,
-    denied_page, journey_body, page_bytes, refusal_body, refused_page, reply_body, reply_page,
-    shown_page, stopping_body, unfinished_body,
+    Body, Denied, Owners, Page, Paths, Route, Status, Unrouted, Verb, admit, denied_page,
+    journey_body, page_bytes, refusal_body, refused_page, reply_body, reply_page, shown_page,
+    stopping_body, unfinished_body,
 };
 use commands::{Agent, Cause, CsvCause, Cursor, Item, Name, Phase, Refusal, Reply};
 use plan::{BadPlan, PlanCause};
@@ -308,14 +308,14 @@ fn a_journey_is_shown_with_its_history(rt: HostRuntime) {
 #[test]
 fn journeys_that_are_not_finished_are_shown(rt: HostRuntime) {
     let alloc = rt.alloc();
-    let body = unfinished_body(alloc, &[]);
+    let body = unfinished_body(alloc, Owners::Hidden, &[]);
     reads(&rt, body, r#"{"unfinished":[]}"#, 17);
     let brief = Brief {
         id: 7,
         agent: Agent::house(),
         cursor: AT_ONE,
     };
-    let body = unfinished_body(alloc, &[brief]);
+    let body = unfinished_body(alloc, Owners::Hidden, &[brief]);
     let expected = r#"{"unfinished":[{"journey":7,"pos":1,"state":"back","target":0}]}"#;
     reads(&rt, body, expected, 64);
 }
@@ -323,7 +323,7 @@ fn journeys_that_are_not_finished_are_shown(rt: HostRuntime) {
 #[test]
 fn the_house_is_shown_whose_the_journeys_are(rt: HostRuntime) {
     let alloc = rt.alloc();
-    let body = all_unfinished_body(alloc, &[]);
+    let body = unfinished_body(alloc, Owners::Shown, &[]);
     reads(&rt, body, r#"{"unfinished":[]}"#, 17);
     let ann = Agent::parse("ann").expect(&rt, "an agent");
     let first = Brief {
@@ -336,7 +336,7 @@ fn the_house_is_shown_whose_the_journeys_are(rt: HostRuntime) {
         agent: Agent::house(),
         cursor: AT_THE_END,
     };
-    let body = all_unfinished_body(alloc, &[first, second]);
+    let body = unfinished_body(alloc, Owners::Shown, &[first, second]);
     let expected =
         r#"{"unfinished":[{"agent":"ann","journey":7,"pos":1,"state":"back","target":0},{"agent":"desk","journey":8,"pos":1,"state":"ended"}]}"#;
     reads(&rt, body, expected, 131);
@@ -392,7 +392,7 @@ fn a_page_tells_its_status_its_fields_and_its_body(rt: HostRuntime) {
 #[test]
 fn what_is_shown_goes_out_whole(rt: HostRuntime) {
     let alloc = rt.alloc();
-    let nothing = unfinished_body(alloc, &[]).expect(&rt, "memory");
+    let nothing = unfinished_body(alloc, Owners::Hidden, &[]).expect(&rt, "memory");
     let page = Ok(shown_page(Body::Json(nothing)));
     let expected =
         "HTTP/1.1 200 OK\r\nContent-Length: 17\r\nContent-Type: application/json\r\n\r\n{\"unfinished\":[]}";

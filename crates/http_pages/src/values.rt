@@ -3,9 +3,10 @@ ghost use Rattle.std.specs.Prelude.{◌≡◌, IfOk, OnOk, map};
 ghost use Rattle.serde_json.specs.View.{view, members_view};
 ghost use Rattle.http_pages.specs.Bodies.{item_data, moved_data, refusal_data, reply_data, list};
 ghost use Rattle.http_pages.specs.Bodies.{journey_data, brief_data, unfinished_data};
-ghost use Rattle.http_pages.specs.Bodies.{all_unfinished_data, owned_data, stopping_data};
+ghost use Rattle.http_pages.specs.Bodies.{stopping_data};
 ghost use Rattle.http_pages.specs.Members.{with_standing};
 
+use crate::bodies::Owners;
 use commands::{Cursor, Item, Phase, Refusal, Reply};
 use plan::BadPlan;
 use saga_core::Brief;
@@ -83,16 +84,16 @@ pub fn journey_value(
 }
 
 /// The value of journeys that are not finished, in the order in which they are given.
-pub fn unfinished_value(alloc: Global, briefs: &[Brief]) -> Result<Value, AllocError>
-    ensures value { IfOk result (λ value. view value ≡ unfinished_data briefs.now) }
+pub fn unfinished_value(
+    alloc: Global,
+    owners: Owners,
+    briefs: &[Brief],
+) -> Result<Value, AllocError>
+    ensures value { IfOk result (λ value. view value ≡ unfinished_data owners briefs.now) }
 {
     let mut members = Map::new(alloc);
-    put(
-        &mut members,
-        alloc,
-        "unfinished",
-        briefs_value(alloc, briefs)?,
-    )?;
+    let listed = briefs_value(alloc, owners, briefs)?;
+    put(&mut members, alloc, "unfinished", listed)?;
     Ok(Value::Object(members))
 }
 
@@ -108,58 +109,25 @@ fn items_value(alloc: Global, history: &[Item]) -> Result<Value, AllocError>
 }
 
 /// The list of journeys without their histories, in the order in which they are given.
-fn briefs_value(alloc: Global, briefs: &[Brief]) -> Result<Value, AllocError>
-    ensures value { IfOk result (λ value. view value ≡ list (map brief_data briefs.now)) }
+fn briefs_value(alloc: Global, owners: Owners, briefs: &[Brief]) -> Result<Value, AllocError>
+    ensures value { IfOk result (λ value. view value ≡ list (map (brief_data owners) briefs.now)) }
 {
     let mut values = Vec::with_capacity(alloc, briefs.len())?;
     for brief in briefs {
-        values.push(brief_value(alloc, brief)?)?;
+        values.push(brief_value(alloc, owners, brief)?)?;
     }
     Ok(Value::Array(values))
 }
 
 /// The value of a journey without its history.
-fn brief_value(alloc: Global, brief: &Brief) -> Result<Value, AllocError>
-    ensures value { IfOk result (λ value. view value ≡ brief_data brief.now) }
+fn brief_value(alloc: Global, owners: Owners, brief: &Brief) -> Result<Value, AllocError>
+    ensures value { IfOk result (λ value. view value ≡ brief_data owners brief.now) }
 {
     let mut members = Map::new(alloc);
-    let cursor = brief.cursor;
-    put_standing(alloc, &mut members, brief.id, cursor.pos, cursor.phase)?;
-    Ok(Value::Object(members))
-}
-
-/// The value of journeys of all agents that are not finished, each with its agent, in the order in which they are given.
-pub fn all_unfinished_value(alloc: Global, briefs: &[Brief]) -> Result<Value, AllocError>
-    ensures value { IfOk result (λ value. view value ≡ all_unfinished_data briefs.now) }
-{
-    let mut members = Map::new(alloc);
-    put(
-        &mut members,
-        alloc,
-        "unfinished",
-        owned_values(alloc, briefs)?,
-    )?;
-    Ok(Value::Object(members))
-}
-
-/// The list of journeys without their histories, each with its agent, in the order in which they are given.
-fn owned_values(alloc: Global, briefs: &[Brief]) -> Result<Value, AllocError>
-    ensures value { IfOk result (λ value. view value ≡ list (map owned_data briefs.now)) }
-{
-    let mut values = Vec::with_capacity(alloc, briefs.len())?;
-    for brief in briefs {
-        values.push(owned_value(alloc, brief)?)?;
+    if owners == Owners::Shown {
+        let agent = Value::try_from_str(alloc, brief.agent.as_str())?;
+        put(&mut members, alloc, "agent", agent)?;
     }
-    Ok(Value::Array(values))
-}
-
-/// The value of a journey without its history, with its agent.
-fn owned_value(alloc: Global, brief: &Brief) -> Result<Value, AllocError>
-    ensures value { IfOk result (λ value. view value ≡ owned_data brief.now) }
-{
-    let mut members = Map::new(alloc);
-    let owner = Value::try_from_str(alloc, brief.agent.as_str())?;
-    put(&mut members, alloc, "agent", owner)?;
     let Cursor { pos, phase, .. } = brief.cursor;
     put_standing(alloc, &mut members, brief.id, pos, phase)?;
     Ok(Value::Object(members))

@@ -7,5 +7,5 @@ use Rattle.http_pages.proofs.bodies.unfinished_body.Goals as goal
 pub returns : goal.returns
 returns c =
     let is = c.in_ok-value.ensures.value in
-    let none = no_float-unfinished c.args.briefs.now in
+    let none = no_float-unfinished c.args.owners c.args.briefs.now in
     record { body = IfOk-weaker c.to_string.result _ _ (λ body told. rw is at told none) c.to_string.ensures.text }

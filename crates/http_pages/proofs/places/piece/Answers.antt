@@ -2,7 +2,7 @@
 use Rattle.std.proofs.Common.{arith}
 use Rattle.std.proofs.lemmas.Iterator.Consumers.{nth_from_yields_List}
 use Rattle.std.proofs.lemmas.Iterator.Splits.{YieldsList-from_str_split}
-use Rattle.http_pages.proofs.targets.piece.Goals as goal
+use Rattle.http_pages.proofs.places.piece.Goals as goal
 
 -- `/` is one byte
 pub returns : goal.returns
