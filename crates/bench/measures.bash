@@ -517,3 +517,12 @@ measure_http() (
   table_of_bytewise
   table_of_heads
 )
+
+# A day of agencies: how long agents wait in their busiest hour, and what one desk carries at most. Syncs count here, so the
+# file is on a disk.
+measure_day() (
+  command -v python3 >/dev/null || { say "python3 is absent, so day is skipped"; exit 0; }
+  work=$(mktemp -d "${TMPDIR:-/tmp}/desk-day.XXXXXX") && trap 'rm -rf "$work"' EXIT && cd "$work" || exit 2
+  if [ -z "${DESK:-}" ]; then "$top/build" >&2 || exit 126; fi
+  python3 "$top/crates/bench/day.py" "$desk" 120
+)

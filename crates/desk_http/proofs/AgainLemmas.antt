@@ -17,7 +17,7 @@ use Rattle.http_messages.specs.Heads.{complaint_of, is_method, parts_of}
 use Rattle.http_messages.specs.Messages.{Message, NoHead, Asks}
 use Rattle.http_pages.specs.Pages.{page_text, reply_page}
 use Rattle.http_pages.specs.declared.admitting.Denied.{Denied}
-use Rattle.desk_http.specs.Demands.{Demand, Carry, SeeJourney, SeeUnfinished, SeeStock, Stop, demand_of}
+use Rattle.desk_http.specs.Demands.{Demand, Carry, SeeJourney, SeePlan, SeeUnfinished, SeeStock, Stop, demand_of}
 use Rattle.desk_http.specs.declared.doors.Door.{Door}
 use Rattle.desk_http.specs.Laws.{AnswersAgain, MakesEvent, later}
 use Rattle.desk_http.specs.Pages.{Command, IsPage, Says, SaysUnless, closes, command_in, command_unless, state_after, state_by}
@@ -113,6 +113,7 @@ pub carry_of : (o : Option Refusal) (d : Result Demand Denied) (c : Command) →
 carry_of (Some why) d c = λ is. cc
 carry_of None (Ok (Carry asked ask)) c = λ is. let e : (asked, ask) ≡ c = cc in (refl, ap (λ (x : Command). Ok (Carry x.0 x.1)) e)
 carry_of None (Ok (SeeJourney asker id)) c = λ is. cc
+carry_of None (Ok (SeePlan asker id)) c = λ is. cc
 carry_of None (Ok (SeeUnfinished asker)) c = λ is. cc
 carry_of None (Ok SeeStock) c = λ is. cc
 carry_of None (Ok Stop) c = λ is. cc

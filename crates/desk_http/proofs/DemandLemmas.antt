@@ -1,8 +1,6 @@
 -- A body that is refused. For demand_by.
-use Rattle.std.proofs.Common.{◌≡◌, ap, refl, ℕ, List, Bool, true, false}
+use Rattle.std.proofs.Common.{◌≡◌, ap}
 use Rattle.std.specs.Prelude.{Result, Ok, Err}
-use Rattle.std.specs.Str.{IsUtf8, is_utf8}
-use Rattle.std.proofs.lemmas.Str.{IsUtf8-from_is_utf8}
 use Rattle.commands.specs.Request.{Request}
 use Rattle.commands.specs.declared.refusals.Refusal.{Refusal}
 use Rattle.http_pages.specs.Admitting.{plain}

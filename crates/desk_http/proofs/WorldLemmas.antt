@@ -16,15 +16,15 @@ use Rattle.allotment_csv.specs.declared.faults.CsvFault.TheVariants as csv
 use Rattle.allotment_csv.proofs.LimitLemmas.{batch_keeps_limits}
 use Rattle.ledger.specs.Answer.{State, start, is_request}
 use Rattle.ledger.specs.World.{Moment, after}
-use Rattle.http_messages.specs.Heads.{Parts, agent_of, complaint_of, is_unnamed, key_of, parts_of}
+use Rattle.http_messages.specs.Heads.{Parts, agent_of, complaint_of, is_unnamed, parts_of}
 use Rattle.http_messages.specs.Messages as sent
 use Rattle.http_messages.specs.Messages.{Message, NoHead, BeginsWithAll}
 use Rattle.http_pages.specs.declared.admitting.Denied.{Denied}
 use Rattle.http_pages.specs.declared.routes.Route.{Route}
-use Rattle.http_pages.specs.declared.routes.Route.TheVariants.{LoadBatch, Begin, Step, Abort, Save, ShowJourney, ShowUnfinished, ShowStock}
+use Rattle.http_pages.specs.declared.routes.Route.TheVariants.{LoadBatch, Begin, Step, Abort, Save, ShowJourney, ShowPlan, ShowUnfinished, ShowStock}
 use Rattle.saga_core.specs.Runs as runs
 use Rattle.saga_core.specs.Runs.{Asks}
-use Rattle.saga_core.specs.Worlds.{KeepLimits, StandsAtEnd, EndsWith, EndsAmong}
+use Rattle.saga_core.specs.Worlds.{KeepLimits, StandsAtEnd, EndsAmong}
 use Rattle.saga_core.proofs.WorldLemmas.{KeepLimits-append, ends-with, ends-after, ends-cut}
 use Rattle.desk_http.specs.Demands.{Carry, Sender, Stop, admitted_by, admitted_of_house, agents_demand, asked_by, asked_if, asked_of_house, asks_to_stop, bare, begin_by, begin_of, carried, carried_by, demand_of, demanded, denied_by, load_of, sender_of, value_in}
 use Rattle.desk_http.specs.declared.doors.Asker.{Asker}
@@ -88,6 +88,7 @@ demanded_within (Step id) sender c = carried_within sender _ c (bare_within send
 demanded_within (Abort id position) sender c = carried_within sender _ c (bare_within sender.body (asks.Abort id position) refl)
 demanded_within (Save id) sender c = carried_within sender _ c (bare_within sender.body (asks.Save id) refl)
 demanded_within (ShowJourney id) sender c = λ same. cc
+demanded_within (ShowPlan id) sender c = λ same. cc
 demanded_within ShowUnfinished sender c = λ same. cc
 demanded_within ShowStock sender c = λ same. cc
 

@@ -21,7 +21,7 @@ use Rattle.http_pages.specs.Admitting.{admitted, plain}
 use Rattle.http_pages.specs.Routes.{route_of}
 use Rattle.http_pages.specs.declared.admitting.Denied.{Denied}
 use Rattle.http_pages.specs.declared.routes.Route.{Route}
-use Rattle.http_pages.specs.declared.routes.Route.TheVariants.{LoadBatch, Begin, Step, Abort, Save, ShowJourney, ShowUnfinished, ShowStock}
+use Rattle.http_pages.specs.declared.routes.Route.TheVariants.{LoadBatch, Begin, Step, Abort, Save, ShowJourney, ShowPlan, ShowUnfinished, ShowStock}
 use Rattle.desk_http.specs.declared.doors.Asker.{Asker}
 use Rattle.desk_http.specs.declared.doors.Asker.TheVariants as who
 use Rattle.desk_http.specs.declared.doors.Door.{Door}
@@ -65,6 +65,7 @@ bare (byte ∷ later) asked = Err refusal.BadBody
 pub data Demand : Type 0 where
   Carry : (asked : Request) (ask : Option Asked) → Demand
   SeeJourney : (asker : Asker) (id : ℕ) → Demand
+  SeePlan : (asker : Asker) (id : ℕ) → Demand
   SeeUnfinished : (asker : Asker) → Demand
   SeeStock : Demand
   Stop : Demand
@@ -100,6 +101,7 @@ demanded (Step id) sender = carried sender (bare sender.body (asks.Step id))
 demanded (Abort id position) sender = carried sender (bare sender.body (asks.Abort id position))
 demanded (Save id) sender = carried sender (bare sender.body (asks.Save id))
 demanded (ShowJourney id) sender = Ok (SeeJourney sender.asker id)
+demanded (ShowPlan id) sender = Ok (SeePlan sender.asker id)
 demanded ShowUnfinished sender = Ok (SeeUnfinished sender.asker)
 demanded ShowStock sender = Ok SeeStock
 

@@ -1,5 +1,5 @@
 -- The page of a message, and the state of the desk after it.
-use Rattle.std.specs.Prelude.{◌≡◌, ℕ, ◌&&◌, ◌||◌, not, Bool, true, false, List, [], ◌∷◌, filter, filter_map, bytes_eq, codes, if◌then◌else◌, Option, Some, None, is_some, option_and_then, Result, Ok, Err}
+use Rattle.std.specs.Prelude.{◌≡◌, ℕ, ◌&&◌, ◌||◌, not, Bool, true, false, List, [], ◌∷◌, filter, bytes_eq, codes, if◌then◌else◌, Option, Some, None, is_some, option_and_then, Result, Ok, Err}
 use Rattle.allotment.specs.declared.cells.Cell.{Cell}
 use Rattle.allotment.specs.declared.places.Held.{Held}
 use Rattle.commands.specs.Asks.{Asked}
@@ -7,8 +7,7 @@ use Rattle.commands.specs.Request.{Request}
 use Rattle.commands.specs.declared.refusals.Refusal.{Refusal}
 use Rattle.commands.specs.declared.refusals.Refusal.TheVariants.{BadHead, NoJourney}
 use Rattle.ledger.specs.Answer.{State, outcome}
-use Rattle.ledger.specs.History.{is_finished}
-use Rattle.ledger.specs.Ledger.{Event, history, numbers}
+use Rattle.ledger.specs.Ledger.{Event, history}
 use Rattle.saga_core.specs.Views.{IsStock, record_of, unfinished_of}
 use Rattle.saga_core.specs.declared.records.Brief.{Brief}
 use Rattle.saga_core.specs.declared.records.Record.{Record}
@@ -17,10 +16,11 @@ use Rattle.http_messages.specs.Messages.{Message, NoHead, Asks}
 use Rattle.http_pages.specs.Bodies.{journey_data, stopping_data, unfinished_data}
 use Rattle.http_pages.specs.declared.bodies.Owners.TheVariants.{Hidden, Shown}
 use Rattle.serde_json.specs.Data.{Data}
+use Rattle.plan.specs.PlanData.{plan_data}
 use Rattle.http_pages.specs.Pages.{Paged, denied_page, page_text, refused_page, reply_page, report_page, value_page}
 use Rattle.http_pages.specs.declared.admitting.Denied.{Denied}
 use Rattle.reports.specs.Layouts.{stock_report}
-use Rattle.desk_http.specs.Demands.{Demand, Carry, SeeJourney, SeeUnfinished, SeeStock, Stop, asks_to_stop, demand_of}
+use Rattle.desk_http.specs.Demands.{Demand, Carry, SeeJourney, SeePlan, SeeUnfinished, SeeStock, Stop, asks_to_stop, demand_of}
 use Rattle.desk_http.specs.declared.doors.Asker.{Asker}
 use Rattle.desk_http.specs.declared.doors.Asker.TheVariants as who
 use Rattle.desk_http.specs.declared.doors.Door.{Door}
@@ -42,6 +42,11 @@ own_journey l asker id =
 abbrev pub journey_page : List Event → ℕ → Option Record → Paged
 journey_page l id (Some r) = value_page (journey_data id r.cursor (history l id))
 journey_page l id None = refused_page NoJourney
+
+-- the plan of a journey; one that is not seen looks the same as one that does not exist
+abbrev pub plan_page : Option Record → Paged
+plan_page (Some r) = value_page (plan_data r.plan)
+plan_page None = refused_page NoJourney
 
 -- the summaries of the unfinished journeys that who asks sees, by rising number
 abbrev pub own_unfinished : List Event → Asker → List Brief
@@ -65,6 +70,7 @@ abbrev pub Says : State → Result Demand Denied → Paged → Type 0
 Says s (Err denied) page = page ≡ denied_page denied.refusal denied.allow
 Says s (Ok (Carry asked ask)) page = page ≡ reply_page (outcome s ask asked).reply
 Says s (Ok (SeeJourney asker id)) page = page ≡ journey_page s.ledger id (own_journey s.ledger asker id)
+Says s (Ok (SeePlan asker id)) page = page ≡ plan_page (own_journey s.ledger asker id)
 Says s (Ok (SeeUnfinished asker)) page =
     page ≡ value_page (unfinished_shown asker (own_unfinished s.ledger asker))
 Says s (Ok SeeStock) page = ShowsStock s.ledger page
@@ -108,6 +114,7 @@ Command = Request × Option Asked
 abbrev pub command_by : Result Demand Denied → Option Command
 command_by (Ok (Carry asked ask)) = Some (asked, ask)
 command_by (Ok (SeeJourney asker id)) = None
+command_by (Ok (SeePlan asker id)) = None
 command_by (Ok (SeeUnfinished asker)) = None
 command_by (Ok SeeStock) = None
 command_by (Ok Stop) = None

@@ -13,7 +13,7 @@ ghost use Rattle.desk_http.specs.Pages.{closes, stops};
 
 use crate::demands::{Demand, Unmet, asks_to_stop, demand_in};
 use crate::doors::Door;
-use crate::showing::{see_journey, see_stock, see_unfinished};
+use crate::showing::{see_journey, see_plan, see_stock, see_unfinished};
 use commands::Refusal;
 use http_messages::{Message, Request};
 use http_pages::{
@@ -184,6 +184,7 @@ fn meet<B: Book>(alloc: Global, demand: &Demand, book: &mut B) -> Result<Page, S
             Ok(reply_page(alloc, &reply)?)
         }
         Demand::SeeJourney(asker, id) => see_journey(alloc, book, asker, *id),
+        Demand::SeePlan(asker, id) => see_plan(alloc, book, asker, *id),
         Demand::SeeUnfinished(asker) => see_unfinished(alloc, book, asker),
         Demand::SeeStock => see_stock(alloc, book),
         Demand::Stop => Ok(shown_page(Body::Json(stopping_body(alloc)?))),

@@ -3,7 +3,7 @@ ghost use Rattle.std.specs.Prelude.{◌≡◌, List, ℕ};
 ghost use Rattle.http_messages.specs.Requests.{IsRequest};
 ghost use Rattle.http_messages.specs.Heads.{Parts};
 ghost use Rattle.http_pages.specs.Admitting.{plain};
-ghost use Rattle.desk_http.specs.Demands.{agents_demand, asks_to_stop, demand_of, demanded, house_demand};
+ghost use Rattle.desk_http.specs.Demands.{admitted_of_house, agents_demand, asked_of_house, asks_to_stop, demand_of, demanded, house_demand};
 ghost use Rattle.desk_http.specs.DemandValues.{Demands, denied_by, sender_said};
 ghost use Rattle.desk_http.specs.declared.demands.Unmet.TheVariants.{Memory, Refused};
 
@@ -22,6 +22,8 @@ pub(crate) enum Demand {
     Carry(Command, Option<Ask>),
     /// Show who asks the journey of this number.
     SeeJourney(Asker, u64),
+    /// Show who asks the plan of the journey of this number.
+    SeePlan(Asker, u64),
     /// Show who asks its unfinished journeys.
     SeeUnfinished(Asker),
     /// Show the stock.
@@ -92,8 +94,7 @@ fn demand_at_house(alloc: Global, paths: &Paths, request: &Request) -> Result<De
     }
 }
 
-/// The demand of a request of the house, or the first thing that is wrong with it, in this order: path, method, the parts
-/// of the path, the body.
+/// The demand of a request of the house, or the first thing that is wrong with it.
 fn house_demand(alloc: Global, paths: &Paths, request: &Request) -> Result<Demand, Unmet>
     ensures demand { (parts : Parts) → (body : List ℕ) → IsRequest request.now parts body →
         Demands (house_demand parts body) result }
@@ -101,6 +102,15 @@ fn house_demand(alloc: Global, paths: &Paths, request: &Request) -> Result<Deman
     if asks_to_stop(request) {
         return Ok(Demand::Stop);
     }
+    asked_of_house(alloc, paths, request)
+}
+
+/// What the house asks for by a request that is not for a stop, or the first thing that is wrong with it, in this order:
+/// path, method, the parts of the path, the body.
+fn asked_of_house(alloc: Global, paths: &Paths, request: &Request) -> Result<Demand, Unmet>
+    ensures demand { (parts : Parts) → (body : List ℕ) → IsRequest request.now parts body →
+        Demands (asked_of_house (admitted_of_house parts) parts body) result }
+{
     let found = paths.route(&request.method, &request.target);
     let is_post = request.method.as_slice() == b"POST".as_slice();
     let route = admit(found, true, true, is_post)?;
@@ -157,6 +167,7 @@ fn demand_by(alloc: Global, route: Route, sender: &Sender<'_>) -> Result<Demand,
         }
         Route::Save(id) => sender.carry(alloc, bare(sender.body, Command::Save(id))?),
         Route::ShowJourney(id) => Ok(Demand::SeeJourney(sender.asker, id)),
+        Route::ShowPlan(id) => Ok(Demand::SeePlan(sender.asker, id)),
         Route::ShowUnfinished => Ok(Demand::SeeUnfinished(sender.asker)),
         Route::ShowStock => Ok(Demand::SeeStock),
     }

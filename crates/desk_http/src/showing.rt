@@ -5,15 +5,17 @@ ghost use Rattle.saga_core.specs.Books.{LeavesNoMore};
 ghost use Rattle.http_pages.specs.Pages.{page_said, value_page};
 ghost use Rattle.std.specs.String.{string_bytes};
 ghost use Rattle.serde_json.specs.Written.{compact_text};
-ghost use Rattle.desk_http.specs.Pages.{journey_page, own_journey, own_unfinished, unfinished_shown, ShowsStock};
+ghost use Rattle.desk_http.specs.Pages.{journey_page, plan_page, own_journey, own_unfinished, unfinished_shown, ShowsStock};
 ghost use Rattle.desk_http.specs.Answering.{Shows};
 
 use crate::doors::Asker;
 use commands::Refusal;
-use http_pages::{Body, Owners, Page, journey_body, refused_page, shown_page, unfinished_body};
+use http_pages::{
+    Body, Owners, Page, journey_body, plan_body, refused_page, shown_page, unfinished_body,
+};
 use protocols::ServeFault;
 use reports::stock_text;
-use saga_core::{Book, Brief, Listed};
+use saga_core::{Book, Brief, Listed, Record};
 use std::alloc::{AllocError, Global};
 
 /// The page of a journey that who asks sees. A journey of another agent gets the page of one that does not exist.
@@ -34,13 +36,57 @@ pub(crate) fn see_journey<B: Book>(
 
     ensures sound { B.is_sound book.new → B.is_sound book.old }
 {
-    match book.journey(id)? {
-        Some(journey) if asker.sees(&journey.agent) => {
+    match own_journey(book, asker, id)? {
+        Some(journey) => {
             let items = book.history(id)?;
             let body = journey_body(alloc, id, journey.cursor, &items)?;
             Ok(shown_page(Body::Json(body)))
         }
-        _ => Ok(refused_page(alloc, &Refusal::NoJourney)?),
+        None => Ok(refused_page(alloc, &Refusal::NoJourney)?),
+    }
+}
+
+/// The page of the plan of a journey that who asks sees. A journey of another agent gets the page of one that does not exist.
+pub(crate) fn see_plan<B: Book>(
+    alloc: Global,
+    book: &mut B,
+    asker: &Asker,
+    id: u64,
+) -> Result<Page, ServeFault>
+    ensures page { B.is_sound book.new → (s : State) → B.stands book.old s →
+        Shows (B.stands book.new) (B.leaves book.new) s (λ page.
+        page_said page ≡ plan_page (own_journey s.ledger asker.now id)) result }
+
+    ensures failed { IsErrOf result ServeFault.Store → IsTrue (B.has_failed book.new) }
+    ensures stays_failed { IsTrue (B.has_failed book.old) → IsTrue (B.has_failed book.new) }
+    ensures stays_left { IsTrue (B.has_failed book.old) →
+        LeavesNoMore (B.leaves book.old) (B.leaves book.new) }
+
+    ensures sound { B.is_sound book.new → B.is_sound book.old }
+{
+    let Some(journey) = own_journey(book, asker, id)? else {
+        return Ok(refused_page(alloc, &Refusal::NoJourney)?);
+    };
+    let body = plan_body(alloc, &journey.plan)?;
+    Ok(shown_page(Body::Json(body)))
+}
+
+/// The journey of this number, if who asks sees it.
+fn own_journey<B: Book>(book: &mut B, asker: &Asker, id: u64) -> Result<Option<Record>, ServeFault>
+    ensures journey { B.is_sound book.new → (s : State) → B.stands book.old s →
+        Shows (B.stands book.new) (B.leaves book.new) s
+        (λ found. found ≡ own_journey s.ledger asker.now id) result }
+
+    ensures failed { IsErrOf result ServeFault.Store → IsTrue (B.has_failed book.new) }
+    ensures stays_failed { IsTrue (B.has_failed book.old) → IsTrue (B.has_failed book.new) }
+    ensures stays_left { IsTrue (B.has_failed book.old) →
+        LeavesNoMore (B.leaves book.old) (B.leaves book.new) }
+
+    ensures sound { B.is_sound book.new → B.is_sound book.old }
+{
+    match book.journey(id)? {
+        Some(journey) if asker.sees(&journey.agent) => Ok(Some(journey)),
+        _ => Ok(None),
     }
 }
 

@@ -1,3 +1,4 @@
 pub mod TextLemmas
 pub mod FloatLemmas
+pub mod PlanLemmas
 pub mod HeadLemmas

@@ -7,7 +7,7 @@ use Rattle.matchit.proofs.OnLiterals.{matchit_on_literals}
 use Rattle.commands.specs.declared.refusals.Refusal.TheVariants as refusal
 use Rattle.http_pages.specs.Admitting.{admitted, plain}
 use Rattle.http_pages.specs.Routes.{routes, route_of}
-use Rattle.http_pages.specs.declared.routes.Route.TheVariants.{LoadBatch, Step, Abort, Save, ShowJourney, ShowStock}
+use Rattle.http_pages.specs.declared.routes.Route.TheVariants.{LoadBatch, Step, Abort, Save, ShowJourney, ShowPlan, ShowStock}
 use Rattle.http_pages.specs.declared.routes.Unrouted.TheVariants.{UnknownPath, WrongMethod, BadPart}
 use Rattle.http_pages.specs.declared.verbs.Verb.TheVariants.{Get}
 
@@ -37,6 +37,11 @@ batch_is_found = refl
 pub journey_is_found : route_of (codes "GET") (codes "/journeys/1") ≡ Ok (ShowJourney 1)
 unfolding routes digits is_utf8 chars encode matchit_on_literals
 journey_is_found = refl
+
+-- the plan of a journey
+pub plan_is_found : route_of (codes "GET") (codes "/journeys/1/plan") ≡ Ok (ShowPlan 1)
+unfolding routes digits is_utf8 chars encode matchit_on_literals
+plan_is_found = refl
 
 -- Targets without one.
 

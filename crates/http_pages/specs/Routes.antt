@@ -15,7 +15,7 @@ use Rattle.http_pages.specs.declared.places.Entry.{Entry}
 use Rattle.http_pages.specs.declared.places.Place.{Place}
 use Rattle.http_pages.specs.declared.places.Place.TheVariants as place
 use Rattle.http_pages.specs.declared.routes.Route.{Route}
-use Rattle.http_pages.specs.declared.routes.Route.TheVariants.{LoadBatch, Begin, Step, Abort, Save, ShowJourney, ShowUnfinished, ShowStock}
+use Rattle.http_pages.specs.declared.routes.Route.TheVariants.{LoadBatch, Begin, Step, Abort, Save, ShowJourney, ShowPlan, ShowUnfinished, ShowStock}
 use Rattle.http_pages.specs.declared.routes.Unrouted.{Unrouted}
 use Rattle.http_pages.specs.declared.routes.Unrouted.TheVariants.{UnknownPath, WrongMethod, BadPart}
 use Rattle.http_pages.specs.declared.verbs.Verb.TheVariants.{Get, Post}
@@ -43,6 +43,7 @@ table =
     ∷ post (codes "/journeys/{id}/abort/{p}") place.Abort
     ∷ post (codes "/journeys/{id}/save") place.Save
     ∷ get (codes "/journeys/{id}") place.Journey
+    ∷ get (codes "/journeys/{id}/plan") place.Plan
     ∷ get (codes "/unfinished") place.Unfinished
     ∷ get (codes "/stock") place.Stock
     ∷ []
@@ -110,6 +111,7 @@ asked place.Step target = option_map Step (journey_at target)
 asked place.Abort target = abort_of (journey_at target) (position_at target)
 asked place.Save target = option_map Save (journey_at target)
 asked place.Journey target = option_map ShowJourney (journey_at target)
+asked place.Plan target = option_map ShowPlan (journey_at target)
 asked place.Unfinished target = Some ShowUnfinished
 asked place.Stock target = Some ShowStock
 

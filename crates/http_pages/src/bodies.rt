@@ -4,9 +4,12 @@ ghost use Rattle.std.specs.String.{string_bytes};
 ghost use Rattle.serde_json.specs.Written.{compact_text};
 ghost use Rattle.http_pages.specs.Bodies.{refusal_data, reply_data, journey_data, unfinished_data};
 ghost use Rattle.http_pages.specs.Bodies.{stopping_data};
+ghost use Rattle.plan.specs.PlanData.{plan_data};
 
+use crate::plans::plan_value;
 use crate::values::{journey_value, refusal_value, reply_value, stopping_value, unfinished_value};
 use commands::{Cursor, Item, Refusal, Reply};
+use plan::Plan;
 use saga_core::Brief;
 use std::alloc::{AllocError, Global};
 
@@ -38,6 +41,15 @@ pub fn journey_body(
         (λ body. string_bytes body ≡ compact_text (journey_data id cursor history.now)) }
 {
     let value = journey_value(alloc, id, cursor, history)?;
+    value.to_string(alloc)
+}
+
+/// The body that shows a plan: its steps, each with its options, and its tries, in the form in which a plan is sent. The only
+/// fault is out of memory.
+pub fn plan_body(alloc: Global, plan: &Plan) -> Result<String, AllocError>
+    ensures body { IfOk result (λ body. string_bytes body ≡ compact_text (plan_data plan.now)) }
+{
+    let value = plan_value(alloc, plan)?;
     value.to_string(alloc)
 }
 

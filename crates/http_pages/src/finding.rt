@@ -43,6 +43,7 @@ impl Paths {
         )?;
         add(&mut router, "/journeys/{id}/save", Verb::Post, Place::Save)?;
         add(&mut router, "/journeys/{id}", Verb::Get, Place::Journey)?;
+        add(&mut router, "/journeys/{id}/plan", Verb::Get, Place::Plan)?;
         add(&mut router, "/unfinished", Verb::Get, Place::Unfinished)?;
         add(&mut router, "/stock", Verb::Get, Place::Stock)?;
         Ok(Paths { router })

@@ -14,6 +14,7 @@ mod bodies;
 mod finding;
 mod heads;
 mod places;
+mod plans;
 mod routes;
 mod statuses;
 #[cfg(test)]
@@ -23,7 +24,9 @@ mod verbs;
 
 pub use admitting::{Denied, admit};
 pub use answers::{Body, Page, denied_page, refused_page, reply_page, shown_page};
-pub use bodies::{Owners, journey_body, refusal_body, reply_body, stopping_body, unfinished_body};
+pub use bodies::{
+    Owners, journey_body, plan_body, refusal_body, reply_body, stopping_body, unfinished_body,
+};
 pub use finding::Paths;
 pub use heads::page_bytes;
 pub use routes::{Route, Unrouted};

@@ -27,6 +27,8 @@ pub enum Place {
     Save,
     /// A journey.
     Journey,
+    /// The plan of a journey.
+    Plan,
     /// The journeys that are not finished.
     Unfinished,
     /// The stock.
@@ -52,6 +54,7 @@ impl Place {
             Place::Abort => Some(Route::Abort(journey_at(target)?, position_at(target)?)),
             Place::Save => journey_at(target).map(Route::Save),
             Place::Journey => journey_at(target).map(Route::ShowJourney),
+            Place::Plan => journey_at(target).map(Route::ShowPlan),
             Place::Unfinished => Some(Route::ShowUnfinished),
             Place::Stock => Some(Route::ShowStock),
         }

@@ -17,6 +17,8 @@ pub enum Route {
     Save(u64),
     /// Show a journey.
     ShowJourney(u64),
+    /// Show the plan of a journey.
+    ShowPlan(u64),
     /// Show the journeys of the agent that are not finished.
     ShowUnfinished,
     /// Show the stock.

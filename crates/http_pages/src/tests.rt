@@ -1,11 +1,11 @@
 // Values from outside: the tables of routes and codes, and bodies and pages as the formats give them.
 use crate::{
     Body, Denied, Owners, Page, Paths, Route, Status, Unrouted, Verb, admit, denied_page,
-    journey_body, page_bytes, refusal_body, refused_page, reply_body, reply_page, shown_page,
-    stopping_body, unfinished_body,
+    journey_body, page_bytes, plan_body, refusal_body, refused_page, reply_body, reply_page,
+    shown_page, stopping_body, unfinished_body,
 };
 use commands::{Agent, Cause, CsvCause, Cursor, Item, Name, Phase, Refusal, Reply};
-use plan::{BadPlan, PlanCause};
+use plan::{BadPlan, Plan, PlanCause};
 use saga_core::Brief;
 use std::alloc::{AllocError, Global};
 use std::process::Abort;
@@ -30,7 +30,7 @@ fn asks(rt: &impl Abort, paths: &Paths, method: &str, target: &[u8], expected: F
 
 // the method, the target, what they ask for
 #[rattlefmt::skip]
-const ROUTES: [(&str, &str, Route); 9] = [
+const ROUTES: [(&str, &str, Route); 10] = [
     ("POST", "/journeys",                   Route::Begin),
     ("POST", "/journeys/1/step",            Route::Step(1)),
     ("POST", "/journeys/999999999999/step", Route::Step(999_999_999_999)),
@@ -38,6 +38,7 @@ const ROUTES: [(&str, &str, Route); 9] = [
     ("POST", "/journeys/12/abort/99",       Route::Abort(12, 99)),
     ("POST", "/journeys/1/save",            Route::Save(1)),
     ("GET",  "/journeys/1",                 Route::ShowJourney(1)),
+    ("GET",  "/journeys/1/plan",            Route::ShowPlan(1)),
     ("GET",  "/unfinished",                 Route::ShowUnfinished),
     ("GET",  "/stock",                      Route::ShowStock),
 ];
@@ -303,6 +304,18 @@ fn a_journey_is_shown_with_its_history(rt: HostRuntime) {
     let body = journey_body(alloc, 2, AT_ONE, &[FIRST_STEP, ASKED_BACK]);
     let expected = r#"{"history":["T1.1","B0a"],"journey":2,"pos":1,"state":"back","target":0}"#;
     reads(&rt, body, expected, 72);
+}
+
+#[test]
+fn a_plan_is_shown_as_it_is_sent(rt: HostRuntime) {
+    let alloc = rt.alloc();
+    let line = "F/AL/A1/2030-06-01/1/2*;R/INN/SEA/2030-06-01/3/1|R/INN/YARD/2030-06-02/2/1!1";
+    let Ok(plan) = Plan::from_line(alloc, line) else {
+        panic!(rt; "a plan");
+    };
+    let expected =
+        r#"{"steps":[{"options":[{"count":2,"first":"2030-06-01","kind":"flight","nights":1,"product":"A1","supplier":"AL"}],"save":true},{"options":[{"count":1,"first":"2030-06-01","kind":"room","nights":3,"product":"SEA","supplier":"INN"},{"count":1,"first":"2030-06-02","kind":"room","nights":2,"product":"YARD","supplier":"INN"}],"save":false}],"tries":1}"#;
+    reads(&rt, plan_body(alloc, &plan), expected, 348);
 }
 
 #[test]

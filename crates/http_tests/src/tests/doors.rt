@@ -63,13 +63,22 @@ const ONLY_GET: Page = (
     r#"{"name":"WrongMethod","refused":8}"#,
 );
 
+// the plan of journey 1
+const PLAN: Page = (
+    "200 OK",
+    "",
+    259,
+    r#"{"steps":[{"options":[{"count":1,"first":"2030-06-01","kind":"flight","nights":1,"product":"A1","supplier":"AL"}],"save":false},{"options":[{"count":1,"first":"2030-06-01","kind":"transfer","nights":1,"product":"X","supplier":"BUS"}],"save":false}],"tries":0}"#,
+);
+
 // what the house asks at its own door, after ann began journey 1 and the house journey 2
 #[rattlefmt::skip]
-const OF_THE_HOUSE: [(&str, Page); 9] = [
+const OF_THE_HOUSE: [(&str, Page); 10] = [
     ("GET /unfinished",         ("200 OK", "", 117, r#"{"unfinished":[{"agent":"ann","journey":1,"pos":0,"state":"run"},{"agent":"desk","journey":2,"pos":0,"state":"run"}]}"#)),
     ("POST /journeys/1/step",   ("200 OK", "", 49,  r#"{"item":"T1.1","journey":1,"pos":1,"state":"run"}"#)),
     ("POST /journeys/1/save",   ("200 OK", "", 47,  r#"{"item":"S1","journey":1,"pos":1,"state":"run"}"#)),
     ("GET /journeys/1",         ("200 OK", "", 59,  r#"{"history":["T1.1","S1"],"journey":1,"pos":1,"state":"run"}"#)),
+    ("GET /journeys/1/plan",    PLAN),
     ("GET /journeys/3",         NO_JOURNEY),
     ("POST /journeys/x/step",   BAD_BODY),
     ("POST /unfinished",        ONLY_GET),
@@ -79,10 +88,12 @@ const OF_THE_HOUSE: [(&str, Page); 9] = [
 
 // what agents ask there: as at the port
 #[rattlefmt::skip]
-const OF_AGENTS: [Asked; 8] = [
+const OF_AGENTS: [Asked; 10] = [
     ("GET /unfinished",         "ann", "",   "", ("200 OK", "", 52, r#"{"unfinished":[{"journey":1,"pos":1,"state":"run"}]}"#)),
     ("GET /unfinished",         "bob", "",   "", ("200 OK", "", 17, r#"{"unfinished":[]}"#)),
     ("GET /journeys/1",         "bob", "",   "", NO_JOURNEY),
+    ("GET /journeys/1/plan",    "ann", "",   "", PLAN),
+    ("GET /journeys/1/plan",    "bob", "",   "", NO_JOURNEY),
     ("POST /journeys/2/step",   "ann", "k3", "", NO_JOURNEY),
     ("POST /journeys/1/step",   "ann", "",   "", NO_KEY),
     ("POST /journeys/1/step",   "",    "k4", "", NO_AGENT),

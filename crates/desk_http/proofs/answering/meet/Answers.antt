@@ -9,3 +9,9 @@ returns-in-SeeJourney-clause-page g c = λ sound s stood.
     let book = g.B.Book in
     subst (λ demand. Meets (book.stands c.see_journey.new.book) (book.leaves c.see_journey.new.book) s (demand_said demand) c.see_journey.result)
     (sym c.in-SeeJourney.is) (c.see_journey.ensures.page sound s stood)
+
+pub returns-in-SeePlan-clause-page : goal.returns-in-SeePlan-clause-page
+returns-in-SeePlan-clause-page g c = λ sound s stood.
+    let book = g.B.Book in
+    subst (λ demand. Meets (book.stands c.see_plan.new.book) (book.leaves c.see_plan.new.book) s (demand_said demand) c.see_plan.result)
+    (sym c.in-SeePlan.is) (c.see_plan.ensures.page sound s stood)

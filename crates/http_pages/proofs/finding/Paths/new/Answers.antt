@@ -8,13 +8,14 @@ use Rattle.http_pages.proofs.finding.Paths.new.Goals as goal
 pub invariant_of-result : goal.invariant_of-result
 unfolding routes
 invariant_of-result c = record {
-  whole = c.in_ok-add-8.ensures.added
-      ∙ ap (with_line (get (codes "/stock") place.Stock)) (c.in_ok-add-7.ensures.added
-      ∙ ap (with_line (get (codes "/unfinished") place.Unfinished)) (c.in_ok-add-6.ensures.added
+  whole = c.in_ok-add-9.ensures.added
+      ∙ ap (with_line (get (codes "/stock") place.Stock)) (c.in_ok-add-8.ensures.added
+      ∙ ap (with_line (get (codes "/unfinished") place.Unfinished)) (c.in_ok-add-7.ensures.added
+      ∙ ap (with_line (get (codes "/journeys/{id}/plan") place.Plan)) (c.in_ok-add-6.ensures.added
       ∙ ap (with_line (get (codes "/journeys/{id}") place.Journey)) (c.in_ok-add-5.ensures.added
       ∙ ap (with_line (post (codes "/journeys/{id}/save") place.Save)) (c.in_ok-add-4.ensures.added
       ∙ ap (with_line (post (codes "/journeys/{id}/abort/{p}") place.Abort)) (c.in_ok-add-3.ensures.added
       ∙ ap (with_line (post (codes "/journeys/{id}/step") place.Step)) (c.in_ok-add-2.ensures.added
       ∙ ap (with_line (post (codes "/journeys") place.Journeys)) (c.in_ok-add.ensures.added
-      ∙ ap (with_line (post (codes "/batches/{name}") place.Batch)) c.new-router.ensures)))))));
+      ∙ ap (with_line (post (codes "/batches/{name}") place.Batch)) c.new-router.ensures))))))));
 }
