@@ -9,7 +9,9 @@
    rounds the shortest counts; each goes through all sorts, so that a slow moment of the machine spoils one round of
    some and not all rounds of one. The requests of a round are made before the clock starts.
 
-   The last page of each sort is written to the file PAGES. Any page but a good one ends the program. */
+   The last page of each sort is written to the file PAGES. Any page but a good one ends the program.
+
+   The program send.c is compiled with this file in front of it, without its `main`. */
 #define _GNU_SOURCE /* memmem */
 #include <arpa/inet.h>
 #include <netinet/in.h>
@@ -24,7 +26,7 @@
 
 /* how many journeys have not ended while GET is timed; how many begin for a round of steps; how many steps each has */
 enum { FEW = 3, JOURNEYS = 10, STEPS = 24, ROUNDS = 6, MOST_REQUESTS = 1000,
-       MOST_BYTES = 1 << 20, LONGEST_PAGE = 1 << 16 };
+       MOST_BYTES = 1 << 20, LONGEST_PAGE = 1 << 20 };
 
 /* requests, one behind the other, with the end of each */
 struct list {
@@ -210,6 +212,7 @@ static void open_stream(int port) {
     stop("no connection");
 }
 
+#ifndef WITHOUT_MAIN
 int main(int words, char **word) {
   /* These have just a few journeys that have not ended; further ones begin for the steps. Each round of heads has
      as many bytes as the others. */
@@ -238,3 +241,4 @@ int main(int words, char **word) {
   close(stream);
   return fclose(pages) == 0 ? 0 : 1;
 }
+#endif

@@ -10,8 +10,11 @@
    GET /unfinished             the agent's journeys that have not ended
 
    A POST is one transaction, and keeps its reply under agent and key. With the word `reading` it first reads
-   what a desk has to read for its decision. Only what ask.c sends is understood, and nothing is refused: what
-   is anything else ends the program. */
+   what a desk has to read for its decision. Only what ask.c and ask_many.c send is understood, and nothing is
+   refused: what is anything else ends the program.
+
+   The program serve_many.c serves many connections: it is compiled with this file in front of it, without its
+   `main`. */
 #define _GNU_SOURCE /* memmem */
 #define WITHOUT_MAIN
 #include "rows.c"
@@ -32,33 +35,37 @@ struct request {
 static struct want flight = {0, FIRST, 1, PLACES, "F", "AL", "A1"};
 /* how many steps of each journey have taken their place */
 static int taken[MOST_JOURNEYS + 1];
-/* what was read and is not yet answered */
-static char waiting[MOST_BYTES];
-static size_t held;
+/* the page that is sent next */
+static char page[MOST_BYTES + 128];
+static size_t page_length;
+
+/* a connection, with what was read of it and is not yet answered */
+struct connection {
+  int stream;
+  size_t held;
+  char waiting[MOST_BYTES];
+};
 
 static void stop(const char *why) {
   fprintf(stderr, "http: %s\n", why);
   exit(1);
 }
 
-/* Reads more behind what waits, and says whether there was any. */
-static int fill(int stream) {
-  if (held == sizeof waiting) stop("a request is too long");
-  ssize_t count = read(stream, waiting + held, sizeof waiting - held);
-  if (count < 0) stop("a read failed");
-  held += (size_t)count;
-  return count > 0;
+/* Reads more behind what waits, and says how much it was: 0 at the end of the connection, -1 where there is nothing
+   now. */
+static ssize_t fill(struct connection *from) {
+  if (from->held == sizeof from->waiting) stop("a request is too long");
+  ssize_t count = read(from->stream, from->waiting + from->held, sizeof from->waiting - from->held);
+  if (count > 0) from->held += (size_t)count;
+  return count;
 }
 
-/* Reads until a head waits, and says how long it is; 0 at the end of the connection. No byte is searched again
-   but the last three. */
-static size_t wait_for_head(int stream) {
-  for (size_t looked = 0;;) {
-    char *end = memmem(waiting + looked, held - looked, "\r\n\r\n", 4);
-    if (end) return (size_t)(end - waiting) + 4;
-    looked = held > 3 ? held - 3 : 0;
-    if (!fill(stream)) return 0;
-  }
+/* How long the head that waits is; 0 where it is not whole. The first bytes were searched before, when so many had
+   come in. */
+static size_t length_of_head(const struct connection *of, size_t looked) {
+  size_t from = looked > 3 ? looked - 3 : 0;
+  char *end = memmem(of->waiting + from, of->held - from, "\r\n\r\n", 4);
+  return end ? (size_t)(end - of->waiting) + 4 : 0;
 }
 
 /* The request line and the fields that count of a head, which is cut into texts. */
@@ -80,6 +87,7 @@ static struct request parse(char *head, size_t length) {
   return request;
 }
 
+#ifndef WITHOUT_SERVER
 static void write_all(int stream, const char *bytes, size_t count) {
   while (count > 0) {
     ssize_t written = write(stream, bytes, count);
@@ -88,14 +96,13 @@ static void write_all(int stream, const char *bytes, size_t count) {
     count -= (size_t)written;
   }
 }
+#endif
 
-/* Writes a page with this body, by one call. */
-static void send_page(int stream, const char *body) {
-  static char page[MOST_BYTES + 128];
-  int length = snprintf(page, sizeof page,
-                        "HTTP/1.1 200 OK\r\nContent-Length: %zu\r\nContent-Type: application/json\r\n\r\n%s",
-                        strlen(body), body);
-  write_all(stream, page, (size_t)length);
+/* Makes the page with this body, which is sent next. */
+static void make_page(const char *body) {
+  page_length = (size_t)snprintf(page, sizeof page,
+                                 "HTTP/1.1 200 OK\r\nContent-Length: %zu\r\nContent-Type: application/json\r\n\r\n%s",
+                                 strlen(body), body);
 }
 
 /* what a desk reads of a key before anything else */
@@ -115,7 +122,7 @@ static void keep(const struct request *request, const char *reply) {
 }
 
 /* A journey begins. */
-static void answer_begin(int stream, const struct request *request) {
+static void answer_begin(const struct request *request) {
   char reply[64], body[64];
   if (journeys == MOST_JOURNEYS) stop("too many journeys");
   read_answer(request);
@@ -129,11 +136,11 @@ static void answer_begin(int stream, const struct request *request) {
   sprintf(reply, "journey %d begun", journeys);
   keep(request, reply);
   sprintf(body, "{\"journey\":%d}", journeys);
-  send_page(stream, body);
+  make_page(body);
 }
 
 /* The next step of a journey takes its place. */
-static void answer_step(int stream, const struct request *request, int id) {
+static void answer_step(const struct request *request, int id) {
   char reply[64], body[128];
   if (id < 1 || id > journeys || taken[id] == STEPS) stop("a journey has no such step");
   read_answer(request);
@@ -148,11 +155,11 @@ static void answer_step(int stream, const struct request *request, int id) {
   keep(request, reply);
   sprintf(body, "{\"item\":\"T%d.1\",\"journey\":%d,\"pos\":%d,\"state\":\"%s\"}", pos, id, pos,
           ends ? "ended" : "run");
-  send_page(stream, body);
+  make_page(body);
 }
 
 /* The agent's journeys that have not ended; there are few. */
-static void answer_unfinished(int stream, const struct request *request) {
+static void answer_unfinished(const struct request *request) {
   static char body[MOST_BYTES];
   sqlite3_stmt *rows = statements[UNFINISHED];
   int status, length = sprintf(body, "{\"unfinished\":["), first = length;
@@ -165,55 +172,79 @@ static void answer_unfinished(int stream, const struct request *request) {
   }
   if (status != SQLITE_DONE || sqlite3_reset(rows) != SQLITE_OK) fail();
   strcpy(body + length, "]}");
-  send_page(stream, body);
+  make_page(body);
 }
 
-static void answer(int stream, const struct request *request) {
+static void answer(const struct request *request) {
   int id, end = 0;
   if (strcmp(request->method, "GET") == 0 && strcmp(request->target, "/unfinished") == 0) {
-    answer_unfinished(stream, request);
+    answer_unfinished(request);
     return;
   }
   if (strcmp(request->method, "POST") != 0 || !request->key) stop("a request is not understood");
   if (strcmp(request->target, "/journeys") == 0)
-    answer_begin(stream, request);
+    answer_begin(request);
   else if (sscanf(request->target, "/journeys/%d/step%n", &id, &end) == 1 && end && !request->target[end])
-    answer_step(stream, request, id);
+    answer_step(request, id);
   else
     stop("a path is not understood");
 }
 
-/* Answers the requests of a connection, one behind the other, until its end. */
-static void serve(int stream) {
-  for (size_t end; (end = wait_for_head(stream)) > 0;) {
-    if (end > LONGEST_HEAD) stop("a head is too long");
-    struct request request = parse(waiting, end);
-    request.body = waiting + end;
-    while (held - end < request.length)
-      if (!fill(stream)) stop("a request is cut off");
-    answer(stream, &request);
-    held -= end + request.length;
-    memmove(waiting, request.body + request.length, held);
-  }
+/* The request that waits behind a head of this length. The head is cut into texts, in a place of its own: it may
+   have to be read again, where the body has not come in. */
+static struct request request_of(struct connection *from, size_t end) {
+  static char head[LONGEST_HEAD + 1];
+  if (end > LONGEST_HEAD) stop("a head is too long");
+  memcpy(head, from->waiting, end);
+  struct request request = parse(head, end);
+  request.body = from->waiting + end;
+  return request;
 }
 
-/* Takes one connection to a port of this host. */
-static int take_connection(int port) {
+/* What waits behind a request of this length is next. */
+static void consume(struct connection *from, size_t length) {
+  from->held -= length;
+  memmove(from->waiting, from->waiting + length, from->held);
+}
+
+#ifndef WITHOUT_SERVER
+/* Answers the requests of a connection, one behind the other, until its end. */
+static void serve(struct connection *from) {
+  for (;;) {
+    size_t looked = 0, end;
+    while ((end = length_of_head(from, looked)) == 0) {
+      looked = from->held;
+      ssize_t count = fill(from);
+      if (count < 0) stop("a read failed");
+      if (count == 0) return;
+    }
+    struct request request = request_of(from, end);
+    while (from->held - end < request.length)
+      if (fill(from) <= 0) stop("a request is cut off");
+    answer(&request);
+    write_all(from->stream, page, page_length);
+    consume(from, end + request.length);
+  }
+}
+#endif
+
+/* Listens on a port of this host, and says so. */
+static int listen_on(int port) {
   int yes = 1, listener = socket(AF_INET, SOCK_STREAM, 0);
   struct sockaddr_in address = {.sin_family = AF_INET, .sin_port = htons((unsigned short)port),
                                 .sin_addr.s_addr = htonl(INADDR_LOOPBACK)};
   if (listener < 0 || setsockopt(listener, SOL_SOCKET, SO_REUSEADDR, &yes, sizeof yes) != 0 ||
-      bind(listener, (struct sockaddr *)&address, sizeof address) != 0 || listen(listener, 1) != 0)
+      bind(listener, (struct sockaddr *)&address, sizeof address) != 0 || listen(listener, 128) != 0)
     stop("the port could not be listened on");
   printf("ready %d\n", port);
   fflush(stdout);
-  int stream = accept(listener, NULL, NULL);
-  if (stream < 0 || setsockopt(stream, IPPROTO_TCP, TCP_NODELAY, &yes, sizeof yes) != 0)
-    stop("no connection could be taken");
-  return stream;
+  return listener;
 }
 
+#ifndef WITHOUT_SERVER
 int main(int words, char **word) {
+  static struct connection only;
+  int yes = 1;
   if (words < 3 || words > 4) {
     fprintf(stderr, "usage: http FILE PORT [reading]\n");
     return 2;
@@ -221,8 +252,11 @@ int main(int words, char **word) {
   open_rows(word[1]);
   set(&flight);
   reads = words == 4;
-  int stream = take_connection(atoi(word[2]));
-  serve(stream);
-  close(stream);
+  only.stream = accept(listen_on(atoi(word[2])), NULL, NULL);
+  if (only.stream < 0 || setsockopt(only.stream, IPPROTO_TCP, TCP_NODELAY, &yes, sizeof yes) != 0)
+    stop("no connection could be taken");
+  serve(&only);
+  close(only.stream);
   return close_rows();
 }
+#endif

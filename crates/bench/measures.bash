@@ -169,17 +169,18 @@ makes_grown() {
   refused_none
 }
 
-# Commits behind 10^5 events, beside those behind 10^3: journeys of one step begin and end.
+# Commits behind 10^5 events, or as many as EVENTS names, beside those behind 10^3: journeys of one step begin and end.
 measure_growth() (
   works_in_memory
+  events=${EVENTS:-100000}
   makes_grown grown.db 1000 || exit 1
   ends 1000 501 | times few 2000 >few
-  ends 48500 1501 | asks 97000
-  ends 1000 50001 | times many 2000 >many
+  ends $((events / 2 - 1500)) 1501 | asks $((events - 3000))
+  ends 1000 $((events / 2 + 1)) | times many 2000 >many
   refused_none || exit 1
   closes
-  echo "commits at-1000-events at-100000-events ratio at-most"
-  paste -d ' ' few many | awk '{ printf "begin+T %.1f %.1f %.2f 1.3\n", $3, $6, $6 / $3 }'
+  echo "commits at-1000-events at-$events-events ratio at-most"
+  paste -d ' ' few many | awk '{ printf "begin+T %.1f %.1f %.2f 1.2\n", $3, $6, $6 / $3 }'
 )
 
 # synced FILE COUNT: how often a run that commits so many events syncs
@@ -210,16 +211,17 @@ peak() {
   closes
 }
 
-# Memory of a run over a file of 10^5 events.
+# Memory of a run over a file of 10^5 events, or as many as EVENTS names.
 measure_memory() (
   works_in_memory
-  makes_grown grown.db 100000 || exit 1
+  events=${EVENTS:-100000}
+  makes_grown grown.db "$events" || exit 1
   closes
   few=$(peak few.db)
   many=$(peak grown.db)
   echo "events new-file-kB file-kB kB-an-event at-most"
-  awk -v few="$few" -v many="$many" \
-    'BEGIN { printf "100000 %d %d %.3f 0.3\n", few, many, (many - few) / 100000 }'
+  awk -v events="$events" -v few="$few" -v many="$many" \
+    'BEGIN { printf "%d %d %d %.3f 0.2\n", events, few, many, (many - few) / events }'
 )
 
 # has_recover: the program has the subcommand
@@ -341,6 +343,7 @@ measure_stock() (
   many=$(peak_of_report cells.db 90000)
   echo "stock few-kB many-kB more-kB at-most"
   awk -v few="$few" -v many="$many" 'BEGIN { printf "100000 %d %d %d 20000\n", few, many, many - few }'
+  count_stock
 )
 
 # has_migrate: the program has the subcommand

@@ -3,6 +3,7 @@
    rows FILE moves COUNT [reading]    so many journeys go through a step of one night and back, then as many
                                       through one of 30 nights
    rows FILE loads COUNT [reading]    so many batches of 2,000 new rows are loaded
+   rows FILE known COUNT [reading]    the same, each after the first with the cells of the first and other places
 
    It makes FILE, which is not there yet, and prints a line for each kind of event: its name, how many there
    were, and how many microseconds of the processor one took; of loads the shortest time. With the word
@@ -92,6 +93,8 @@ struct want {
 static sqlite3 *db;
 static sqlite3_stmt *statements[STATEMENTS];
 static int reads, events, journeys;
+/* how many places each cell of a batch gets */
+static int places = PLACES;
 
 static void fail(void) {
   fprintf(stderr, "rows: %s\n", db ? sqlite3_errmsg(db) : "out of memory");
@@ -114,7 +117,7 @@ static void run(int which, const char *kinds, const long *numbers, const char *c
 #define RUN(which, kinds, ...) run(which, kinds, (const long[]){__VA_ARGS__}, NULL)
 
 static void put(const struct want *want, long night, long free) {
-  run(PUT, "ittiii", (const long[]){want->kind, night, PLACES, free},
+  run(PUT, "ittiii", (const long[]){want->kind, night, places, free},
       (const char *const[]){want->supplier, want->product});
 }
 
@@ -153,7 +156,7 @@ static void load(const char *name, const struct want *wants, int products) {
       time_t seconds = night * 86400L;
       length += sprintf(content + length, "%s/%s/%s/", want->letter, want->supplier, want->product);
       length += strftime(content + length, 11, "%Y-%m-%d", gmtime(&seconds));
-      length += sprintf(content + length, "/%d\n", PLACES);
+      length += sprintf(content + length, "/%d\n", places);
       if (reads) read_nights(want, night, night);
     }
   RUN(BEGIN, "", 0);
@@ -161,7 +164,7 @@ static void load(const char *name, const struct want *wants, int products) {
   if (sqlite3_bind_blob(batch, 3, content, length, SQLITE_STATIC) != SQLITE_OK) fail();
   run(BATCH, "ti", (const long[]){++events}, &name);
   for (const struct want *want = wants; want < wants + products; want++)
-    for (int night = want->first; night < want->first + want->nights; night++) put(want, night, PLACES);
+    for (int night = want->first; night < want->first + want->nights; night++) put(want, night, places);
   RUN(META, "ii", events, journeys);
   RUN(COMMIT, "", 0);
 }
@@ -261,17 +264,18 @@ static void go(struct want *want, int count) {
   }
 }
 
-/* Loads so many batches: 250 nights of eight products. */
-static void load_batches(int count) {
+/* Loads so many batches: 250 nights of eight products, which are new in each batch, or known after the first. */
+static void load_batches(int count, int are_known) {
   char products[8][9], name[16];
   struct want wants[8];
   double shortest = 1e18;
   for (int batch = 0; batch < count; batch++) {
     for (int at = 0; at < 8; at++) {
-      sprintf(products[at], "P%d%03d", at, batch);
+      sprintf(products[at], "P%d%03d", at, are_known ? 0 : batch);
       wants[at] = (struct want){0, FIRST, 250, PLACES, "F", "LOAD", products[at]};
     }
     sprintf(name, "load-%d", batch);
+    if (are_known) places = PLACES - batch;
     double start = now();
     load(name, wants, 8);
     double time = now() - start;
@@ -301,13 +305,13 @@ int main(int words, char **word) {
   struct want flight = {0, FIRST, 1, PLACES, "F", "AL", "A1"};
   struct want room = {1, FIRST, 30, PLACES, "R", "HOT", "DBL"};
   if (words < 4 || words > 5) {
-    fprintf(stderr, "usage: rows FILE moves|loads COUNT [reading]\n");
+    fprintf(stderr, "usage: rows FILE moves|loads|known COUNT [reading]\n");
     return 2;
   }
   reads = words == 5;
   open_rows(word[1]);
-  if (strcmp(word[2], "loads") == 0) {
-    load_batches(atoi(word[3]));
+  if (strcmp(word[2], "moves") != 0) {
+    load_batches(atoi(word[3]), strcmp(word[2], "known") == 0);
   } else {
     set(&flight);
     set(&room);

@@ -5,14 +5,16 @@
 //! second the desk in memory executes, a row for each number of earlier events. With the word `file` it prints how long
 //! it takes to read an allotment file of 2,000 rows, and only its records. With `load FILE COUNT` it loads so many
 //! batches of 2,000 new rows into the database FILE, and prints the shortest time of a load. With
-//! `history FILE JOURNEY` it prints how long it takes to read a journey and its items from the database FILE. No time
-//! is promised. The program is proved safe, like every other.
+//! `history FILE JOURNEY` it prints how long it takes to read a journey and its items from the database FILE. With
+//! `statements FILE` it executes the statements of its input over the database FILE. No time is promised. The program is
+//! proved safe, like every other.
 #![tactic(auto)]
 
 mod files;
 mod histories;
 mod loads;
 mod plan_lines;
+mod statements;
 mod stepping;
 
 use std::{env, io};
@@ -36,10 +38,13 @@ fn main(rt: HostRuntime) -> io::Result<()> {
             file.as_str(),
             journey.as_str(),
         ),
+        ("statements", Some(file), None) => statements::run_statements(&rt, file.as_str()),
         _ => usage(&rt),
     }
 }
 
 fn usage(rt: &impl Print) -> io::Result<()> {
-    println!(rt; "usage: bench plan-line | steps | file | load FILE COUNT | history FILE JOURNEY")
+    println!(rt;
+        "usage: bench plan-line | steps | file | load FILE COUNT | history FILE JOURNEY | statements FILE"
+    )
 }
