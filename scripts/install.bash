@@ -43,7 +43,8 @@ place() {
   make_folder "$(dirname "$1")" && cat >"$prefix/$1.new" && chmod "$2" "$prefix/$1.new" && mv -f "$prefix/$1.new" "$prefix/$1"
 }
 
-# unit_file: the unit of systemd that serves the database trips.db in its state folder
+# unit_file: the unit of systemd that serves the database trips.db in its state folder. The stop is asked for at the house's
+# door, and waits for the end of the program: systemd signals what still runs when ExecStop is over.
 unit_file() {
   cat <<EOF
 [Unit]
@@ -52,13 +53,16 @@ Documentation=man:desk(1)
 StartLimitIntervalSec=0
 
 [Service]
-ExecStart="$prefix/$program_at" serve %S/desk/trips.db --port 8080
+ExecStart="$prefix/$program_at" serve %S/desk/trips.db --port 8080 --house %t/desk/house.sock
+ExecStop=-sh -c "curl --silent --output /dev/null --unix-socket %t/desk/house.sock --data '' http://desk/stop && exec tail --pid=\${MAINPID} -f /dev/null"
 Restart=always
 RestartSec=1
 RestartPreventExitStatus=2
 DynamicUser=yes
 StateDirectory=desk
 StateDirectoryMode=0700
+RuntimeDirectory=desk
+RuntimeDirectoryMode=0700
 UMask=0077
 NoNewPrivileges=yes
 ProtectSystem=strict
@@ -73,7 +77,7 @@ ProtectControlGroups=yes
 PrivateTmp=yes
 PrivateDevices=yes
 CapabilityBoundingSet=
-RestrictAddressFamilies=AF_INET
+RestrictAddressFamilies=AF_INET AF_UNIX
 IPAddressDeny=any
 IPAddressAllow=localhost
 RestrictNamespaces=yes

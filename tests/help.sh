@@ -201,7 +201,7 @@ share/zsh/site-functions/_desk" "$(cd below && find . -type f | sed 's,^\./,,' |
   for line in NoNewPrivileges=yes ProtectSystem=strict StateDirectory=desk; do
     same "the unit: $line" 1 "$(grep -cx "$line" below/lib/systemd/system/desk.service)"
   done
-  same "the unit: what it starts" "ExecStart=\"$work/below/bin/desk\" serve %S/desk/trips.db --port 8080" \
+  same "the unit: what it starts" "ExecStart=\"$work/below/bin/desk\" serve %S/desk/trips.db --port 8080 --house %t/desk/house.sock" \
     "$(grep '^ExecStart=' below/lib/systemd/system/desk.service)"
   if command -v systemd-analyze >/dev/null; then
     same "the unit is sound" "" "$(systemd-analyze verify --man=no "$work/below/lib/systemd/system/desk.service" 2>&1 | grep desk.service)"

@@ -380,6 +380,38 @@ def unix_socket():
     same("what an orderly end leaves", [], [name for name in os.listdir(".") if name.startswith("desk.sock")])
 
 
+def unnamed(method, path, body=b""):
+    """The bytes of a request that names no agent."""
+    fields = ["Host: d"]
+    if method == "POST":
+        fields.append(f"Content-Length: {len(body)}")
+    return "\r\n".join([f"{method} {path} HTTP/1.1", *fields, "", ""]).encode() + body
+
+
+def house():
+    """The house at its own door: what it sees and moves, and that the port knows nothing of it; and the stop."""
+    path = "own.sock"
+    served = Desk("own.db", "--house", path)
+    begin = request("POST", "/journeys", "h1", PLAN)
+    same("ann begins", b'{"journey":1}', body_of(asks_at(path, begin)))
+    same("the house begins", b'{"journey":2}', body_of(asks_at(path, unnamed("POST", "/journeys", PLAN))))
+    both = b'{"unfinished":[{"agent":"ann","journey":1,"pos":0,"state":"run"},{"agent":"desk","journey":2,"pos":0,"state":"run"}]}'
+    own = b'{"unfinished":[{"journey":1,"pos":0,"state":"run"}]}'
+    same("what the house sees", both, body_of(asks_at(path, unnamed("GET", "/unfinished"))))
+    same("what ann sees there", own, body_of(asks_at(path, UNFINISHED)))
+    turn = unnamed("POST", "/journeys/1/abort/0")
+    same("the house turns back", b'{"item":"B0a","journey":1,"pos":0,"state":"undone"}', body_of(asks_at(path, turn)))
+    no_agent, unknown = b'{"name":"NoAgent","refused":2}', b'{"name":"UnknownPath","refused":7}'
+    client = Client(served.port)
+    same("nobody at the port", no_agent, body_of(client.ask(unnamed("GET", "/unfinished"))))
+    same("nobody stops it at the port", unknown, body_of(client.ask(unnamed("POST", "/stop"))))
+    same("no agent stops it", unknown, body_of(asks_at(path, request("POST", "/stop", "h2"))))
+    same("the house stops it", b'{"state":"stopping"}', body_of(asks_at(path, unnamed("POST", "/stop"))))
+    served.ends("a desk that the house stops")
+    client.close()
+    same("what the stop leaves", [], [name for name in os.listdir(".") if name.startswith(path)])
+
+
 def given_number():
     """With a number of connections the desk ends when all of them were there and have ended."""
     counted = Desk("counted.db", "--connections", "5")
@@ -413,7 +445,7 @@ def main():
     waiting = [half_a_head, byte_by_byte, silent]
     calls = [(case, whole.port) for case in waiting] + [(never_reads,), (stopped_for_long,)]
     beside = [(ten_book, whole.port), (places_taken,), (few_descriptors,), (stopped_shortly,), (kills,), (given_number,),
-        (unix_socket,)]
+        (unix_socket,), (house,)]
     side_by_side(*calls, *beside)
     is_served("at the end", whole.port)
     whole.kill()

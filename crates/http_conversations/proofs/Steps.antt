@@ -1,20 +1,30 @@
 -- What each step of a conversation keeps true.
-use Rattle.std.proofs.Common.{◌≡◌, ℕ, zero, suc, ◌+◌, ◌<◌, ◌≤◌, Bool, true, false, if◌then◌else◌, List, [], ◌∷◌, ◌++◌, length, length-append, length-drop, take, drop, All, Option, Some, None, Result, Ok, Err, IfOk, OnErr, unwrap_or, refl, sym, ap, ◌∙◌, subst, append_assoc, append-nil, arith, inl, inr}
+use Rattle.std.proofs.Common.{◌≡◌, ℕ, zero, suc, ◌+◌, ◌<◌, ◌≤◌, Bool, true, false, if◌then◌else◌, List, [], ◌∷◌, ◌++◌, length, length-append, length-drop, take, drop, All, Option, Some, None, Result, Ok, Err, IfOk, OnErr, IsSome, unwrap_or, refl, sym, ap, ◌∙◌, subst, append_assoc, append-nil, arith, inl, inr}
 use Rattle.std.specs.Io.KnownBytes.{Appends, Consumes, Keeps}
 use Rattle.std.proofs.lemmas.List.{take-append-drop}
+use Rattle.std.proofs.Math.Seq.{drop-append_seam, drop-length}
 use Rattle.std.proofs.lemmas.List.Elements.{All-append, All-nil}
 use Rattle.std.proofs.lemmas.Grind.{flat_map-append, common_steps}
 use Rattle.commands.specs.declared.faults.Fault.{Fault}
 use Rattle.http_messages.specs.Messages.{Message, IsMessage}
-use Rattle.desk_http.specs.Pages.{closes}
+use Rattle.desk_http.specs.Pages.{closes, stops}
+use Rattle.desk_http.specs.declared.doors.Door.{Door}
 use Rattle.http_conversations.specs.declared.stages.Stage.{Stage}
 use Rattle.http_conversations.specs.declared.stages.Stage.TheVariants.{Open, Closing, Failed}
-use Rattle.http_conversations.specs.Exchanges.{Exchange, AreAnswered, IsAnswered, bytes_of, pages_of}
-use Rattle.http_conversations.specs.History.{AnswersOne, History, IsServed, Passes, TakesFirst, after_answer, after_failure, after_loss, after_received, after_sent, exchange, kept, new_history}
+use Rattle.http_conversations.specs.Exchanges.{Exchange, AreAnswered, EndWithStop, IsAnswered, IsAt, IsNoStop, StopAtLast, bytes_of, pages_of, since}
+use Rattle.http_conversations.specs.History.{AnswersOne, History, IsServed, Passes, TakesFirst, after_answer, after_failure, after_loss, after_received, after_sent, exchange, kept, new_history, stops_by}
 
 -- Nothing was done yet.
-pub begins : IsServed new_history
-begins = record { rest = []; received = refl; waits = refl; answered = All-nil (IsAnswered false); sent = refl }
+pub begins : (door : Door) → IsServed (new_history door)
+begins door = record {
+  rest = [];
+  received = refl;
+  waits = refl;
+  answered = All-nil (IsAnswered false);
+  at_door = All-nil (IsAt door);
+  stopping = λ is. cc;
+  sent = refl;
+}
 
 -- Bytes were read.
 
@@ -29,6 +39,8 @@ receives h more x = record {
   received = ap (λ t. t ++ more) x.received ∙ append_assoc (bytes_of h.exchanges) x.rest more;
   waits = keeps_more h.stage h.waiting x.rest more x.waits;
   answered = x.answered;
+  at_door = x.at_door;
+  stopping = x.stopping;
   sent = x.sent;
 }
 
@@ -39,6 +51,8 @@ sends h count x = record {
   received = x.received;
   waits = x.waits;
   answered = x.answered;
+  at_door = x.at_door;
+  stopping = x.stopping;
   sent = append_assoc h.sent (take count h.pending) (drop count h.pending)
       ∙ ap (λ t. h.sent ++ t) (take-append-drop count h.pending) ∙ x.sent;
 }
@@ -58,6 +72,10 @@ module _ (h : History) (is_open : h.stage ≡ Open) (x : IsServed h) where
   all_open : All (IsAnswered false) h.exchanges
   all_open = subst (λ s. AreAnswered s h.exchanges) is_open x.answered
 
+  -- all messages came in at the door, with one more
+  all_at_door : (e : Exchange) → e.door ≡ h.door → All (IsAt h.door) (h.exchanges ++ e ∷ [])
+  all_at_door e is = All-append (IsAt h.door) h.exchanges (e ∷ []) x.at_door (one (IsAt h.door) e is)
+
   -- the message is the first of what was not taken
   taken : (count : ℕ) (e : Exchange) → e.bytes ≡ take count h.waiting
       → h.received ≡ bytes_of (h.exchanges ++ e ∷ []) ++ drop count h.waiting
@@ -73,8 +91,20 @@ module _ (h : History) (is_open : h.stage ≡ Open) (x : IsServed h) where
   unpaged : (e : Exchange) → e.page ≡ None → h.sent ++ h.pending ≡ pages_of (h.exchanges ++ e ∷ [])
   unpaged e is = grind (arith, common_steps, x.sent, is, flat_map-append (λ (y : Exchange). unwrap_or y.page []) h.exchanges (e ∷ []))
 
+  -- where the message asks the desk to stop, it is the last
+  asked_last : (count : ℕ) (m : Message) (page : List ℕ) → IsMessage (take count h.waiting) m → stops h.door m ≡ true
+      → EndWithStop (h.exchanges ++ exchange h count (Some page) ∷ [])
+  asked_last count m page is asked = record {
+    before = h.exchanges;
+    last = exchange h count (Some page);
+    at_last = refl;
+    message = m;
+    is_message = is;
+    asked = asked;
+  }
+
   gets : (count : ℕ) (m : Message) (page : List ℕ) (c : Bool) → IsMessage (take count h.waiting) m → closes m ≡ c → h.pending ≡ []
-      → IsServed (after_answer h count page c)
+      → IsServed (after_answer h count page c (stops h.door m))
   gets count m page false is closing free =
       let e = exchange h count (Some page) in record {
         rest = drop count h.waiting;
@@ -82,6 +112,8 @@ module _ (h : History) (is_open : h.stage ≡ Open) (x : IsServed h) where
         waits = refl;
         answered = All-append (IsAnswered false) h.exchanges (e ∷ []) all_open
             (one (IsAnswered false) e (record { message = m; is_message = is; closing_as = closing; has_page = refl }));
+        at_door = all_at_door e refl;
+        stopping = asked_last count m page is;
         sent = paged e page free refl;
       }
   gets count m page true is closing free =
@@ -90,6 +122,8 @@ module _ (h : History) (is_open : h.stage ≡ Open) (x : IsServed h) where
         received = taken count e refl;
         waits = refl;
         answered = (h.exchanges, e, refl, all_open, record { message = m; is_message = is; closing_as = closing; has_page = refl });
+        at_door = all_at_door e refl;
+        stopping = asked_last count m page is;
         sent = paged e page free refl;
       }
 
@@ -100,6 +134,8 @@ module _ (h : History) (is_open : h.stage ≡ Open) (x : IsServed h) where
         received = taken count e refl;
         waits = refl;
         answered = (h.exchanges, e ∷ [], refl, all_open, record { message = m; is_message = is; has_none = refl });
+        at_door = all_at_door e refl;
+        stopping = λ is. cc;
         sent = unpaged e refl;
       }
 
@@ -109,6 +145,8 @@ module _ (h : History) (is_open : h.stage ≡ Open) (x : IsServed h) where
     received = x.received;
     waits = refl;
     answered = (h.exchanges, [], sym (append-nil h.exchanges), all_open, tt);
+    at_door = x.at_door;
+    stopping = λ is. cc;
     sent = x.sent;
   }
 
@@ -146,12 +184,24 @@ takes_passes (Err fault) h k t = elim t [
   | inr failed ↦ (ap (λ (j : History). j.received) failed.1, ap (λ (j : History). j.sent) failed.1)
 ]
 
+-- the door stays
+pub takes_door : (r : Result Bool Fault) (h k : History) → TakesFirst r h k → k.door ≡ h.door
+takes_door (Ok true) h k t = ap (λ (j : History). j.door) t.is
+takes_door (Ok false) h k t = ap (λ (j : History). j.door) t
+takes_door (Err fault) h k t = elim t [
+  | inl lost ↦ ap (λ (j : History). j.door) lost.is
+  | inr failed ↦ ap (λ (j : History). j.door) failed.1
+]
+
 -- one message got its page
 pub takes_one : (r : Result Bool Fault) (h k : History) → TakesFirst r h k → r ≡ Ok true → AnswersOne h k
 takes_one (Ok true) h k t is = record {
   bytes = take t.count h.waiting;
   one = ap (λ (j : History). j.exchanges) t.is
-      ∙ ap (λ page. h.exchanges ++ (record { bytes = take t.count h.waiting; page = Some page }) ∷ []) (sym (ap (λ (j : History). j.pending) t.is));
+      ∙ ap (λ page. h.exchanges ++ (record { door = h.door; bytes = take t.count h.waiting; page = Some page }) ∷ []) (sym (ap (λ (j : History). j.pending) t.is));
+  message = t.message;
+  is_message = t.is_message;
+  stopping = ap (λ (j : History). j.stops) t.is;
 }
 takes_one (Ok false) h k t is = cc
 takes_one (Err fault) h k t is = cc
@@ -218,3 +268,36 @@ pub receives_some : {E : Type 0} (h k : History) (a b : Option (List ℕ)) (room
     → IfOk result (λ count. (more : List ℕ) × (length more ≡ count) × Consumes a b more × (k ≡ after_received h more))
 receives_some h k a b room (Ok count) ok = (ok.0, ok.1, ok.3, ok.4)
 receives_some h k a b room (Err e) ok = tt
+
+-- What stops the desk.
+
+pub since_more : (xs ys zs : List Exchange) → ys ≡ xs ++ zs → since xs ys ≡ zs
+since_more xs ys zs more = ap (λ t. drop (length xs) t) more ∙ drop-append_seam xs zs
+
+-- nothing was added
+pub no_stop : (xs ys : List Exchange) → ys ≡ xs → StopAtLast false (since xs ys)
+no_stop xs ys same =
+    subst (All IsNoStop) (sym (ap (λ t. drop (length xs) t) same ∙ drop-length xs)) (All-nil IsNoStop)
+
+-- one message got its page
+one_stop : (stop : Bool) (e : Exchange) (m : Message) → IsMessage e.bytes m → IsSome e.page → stops e.door m ≡ stop
+    → StopAtLast stop (e ∷ [])
+one_stop true e m is page asked =
+    ([], e, refl, All-nil IsNoStop, record { message = m; is_message = is; asked = asked; has_page = page })
+one_stop false e m is page asked =
+    one IsNoStop e (record { message = m; is_message = is; goes_on = inl asked })
+
+pub takes_stopping : (r : Result Bool Fault) (h k : History) → TakesFirst r h k
+    → StopAtLast (stops_by r k) (since h.exchanges k.exchanges)
+takes_stopping (Ok true) h k t =
+    let e = exchange h t.count (Some t.page) in
+    subst (StopAtLast k.stops) (sym (since_more h.exchanges k.exchanges (e ∷ []) (ap (λ (j : History). j.exchanges) t.is)))
+    (one_stop k.stops e t.message t.is_message refl (sym (ap (λ (j : History). j.stops) t.is)))
+takes_stopping (Ok false) h k t = no_stop h.exchanges k.exchanges (ap (λ (j : History). j.exchanges) t)
+takes_stopping (Err fault) h k t = elim t [
+  | inl lost ↦
+      let e = exchange h lost.count None in
+      subst (All IsNoStop) (sym (since_more h.exchanges k.exchanges (e ∷ []) (ap (λ (j : History). j.exchanges) lost.is)))
+      (one IsNoStop e (record { message = lost.message; is_message = lost.is_message; goes_on = inr refl }))
+  | inr failed ↦ no_stop h.exchanges k.exchanges (ap (λ (j : History). j.exchanges) failed.1)
+]

@@ -1,11 +1,12 @@
 -- A worked conversation, computed. Letters stand for messages, and digits for their pages; `c` closes.
 use Rattle.std.specs.Prelude.{◌≡◌, true, false, [], codes, refl}
+use Rattle.desk_http.specs.declared.doors.Door.TheVariants.{Port}
 use Rattle.http_conversations.specs.Exchanges.{bytes_of, pages_of}
 use Rattle.http_conversations.specs.History.{History, after_answer, after_loss, after_received, after_sent, new_history}
 
 -- `ac` came in one read, and `a` got the page `12`, one byte of which was handed out
 abbrev pub answered_once : History
-answered_once = after_sent (after_answer (after_received new_history (codes "ac")) 1 (codes "12") false) 1
+answered_once = after_sent (after_answer (after_received (new_history Port) (codes "ac")) 1 (codes "12") false false) 1
 
 pub other_byte_waits : answered_once.pending ≡ codes "2"
 other_byte_waits = refl
@@ -15,7 +16,7 @@ other_message_waits = refl
 
 -- then `c` got the page `3`, which closes, and `d` came
 abbrev pub closed : History
-closed = after_received (after_answer (after_sent answered_once 1) 1 (codes "3") true) (codes "d")
+closed = after_received (after_answer (after_sent answered_once 1) 1 (codes "3") true false) (codes "d")
 
 pub what_comes_then_is_forgotten : closed.waiting ≡ []
 what_comes_then_is_forgotten = refl

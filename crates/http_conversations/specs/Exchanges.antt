@@ -1,13 +1,15 @@
 -- Messages that were answered, with their pages.
-use Rattle.std.specs.Prelude.{◌≡◌, ⊤, ℕ, Bool, true, false, List, [], ◌∷◌, ◌++◌, All, Option, None, IsSome, unwrap_or}
+use Rattle.std.specs.Prelude.{◌≡◌, ⊤, ℕ, Bool, true, false, List, [], ◌∷◌, ◌++◌, ◌⊎◌, All, length, drop, Option, None, IsSome, unwrap_or}
 use Rattle.std.specs.List.{flat_map}
 use Rattle.http_messages.specs.Messages.{Message, IsMessage}
-use Rattle.desk_http.specs.Pages.{closes}
+use Rattle.desk_http.specs.Pages.{closes, stops}
+use Rattle.desk_http.specs.declared.doors.Door.{Door}
 use Rattle.http_conversations.specs.declared.stages.Stage.{Stage}
 use Rattle.http_conversations.specs.declared.stages.Stage.TheVariants.{Open, Closing, Failed}
 
--- the bytes of a message, and those of its page, unless the page was lost
+-- the door at which a message came in, its bytes, and those of its page, unless the page was lost
 pub record Exchange : Type 0 where
+  pub door : Door
   pub bytes : List ℕ
   pub page : Option (List ℕ)
 
@@ -31,6 +33,43 @@ pub record IsLost (x : Exchange) : Type 0 where
   pub message : Message
   pub is_message : IsMessage x.bytes message
   pub has_none : x.page ≡ None
+
+-- the message came in at this door
+abbrev pub IsAt : Door → Exchange → Type 0
+IsAt door x = x.door ≡ door
+
+-- the last message is a request of the house that the desk stop
+pub record EndWithStop (exchanges : List Exchange) : Type 0 where
+  pub before : List Exchange
+  pub last : Exchange
+  pub at_last : exchanges ≡ before ++ last ∷ []
+  pub message : Message
+  pub is_message : IsMessage last.bytes message
+  pub asked : stops last.door message ≡ true
+
+-- the message asked the desk to stop, and has its page
+pub record IsStop (x : Exchange) : Type 0 where
+  pub message : Message
+  pub is_message : IsMessage x.bytes message
+  pub asked : stops x.door message ≡ true
+  pub has_page : IsSome x.page
+
+-- the message did not ask for that, or its page was lost
+pub record IsNoStop (x : Exchange) : Type 0 where
+  pub message : Message
+  pub is_message : IsMessage x.bytes message
+  pub goes_on : (stops x.door message ≡ false) ⊎ (x.page ≡ None)
+
+-- the last of these stops the desk, or none does; no other does
+abbrev pub StopAtLast : Bool → List Exchange → Type 0
+StopAtLast false exchanges = All IsNoStop exchanges
+StopAtLast true exchanges =
+    (before : List Exchange) × (last : Exchange) × (exchanges ≡ before ++ last ∷ [])
+    × All IsNoStop before × IsStop last
+
+-- the exchanges that were added
+abbrev pub since : List Exchange → List Exchange → List Exchange
+since before after = drop (length before) after
 
 -- at most one page was lost
 abbrev pub AreLost : List Exchange → Type 0

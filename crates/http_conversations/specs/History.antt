@@ -1,15 +1,20 @@
 -- What a conversation has done, and what is true of it.
-use Rattle.std.specs.Prelude.{◌≡◌, ◌≢◌, ◌≤◌, ◌<◌, ◌⊎◌, ℕ, Bool, true, false, List, [], ◌∷◌, ◌++◌, length, take, drop, Option, Some, None, Result, Ok, Err, if◌then◌else◌}
+use Rattle.std.specs.Prelude.{◌≡◌, ◌≢◌, ◌≤◌, ◌<◌, ◌⊎◌, ℕ, Bool, true, false, List, [], ◌∷◌, ◌++◌, All, length, take, drop, Option, Some, None, Result, Ok, Err, if◌then◌else◌}
 use Rattle.commands.specs.declared.faults.Fault.{Fault}
 use Rattle.http_messages.specs.Messages.{HasNoMessage, IsMessage, Message}
-use Rattle.desk_http.specs.Pages.{closes}
-use Rattle.http_conversations.specs.Exchanges.{Exchange, AreAnswered, bytes_of, pages_of}
+use Rattle.desk_http.specs.Pages.{closes, stops}
+use Rattle.desk_http.specs.declared.doors.Door.{Door}
+use Rattle.http_conversations.specs.Exchanges.{Exchange, AreAnswered, EndWithStop, IsAt, bytes_of, pages_of}
 use Rattle.http_conversations.specs.declared.stages.Stage.{Stage}
 use Rattle.http_conversations.specs.declared.stages.Stage.TheVariants.{Open, Closing, Failed}
 use Rattle.http_conversations.specs.declared.limits.TheConstants.{MOST_PENDING, MOST_WAITING}
 
 pub record History : Type 0 where
+  -- the door at which the messages come in
+  pub door : Door
   pub stage : Stage
+  -- the message that was answered last asked the desk to stop
+  pub stops : Bool
   -- all that was received, and what of it waits
   pub received : List ℕ
   pub waiting : List ℕ
@@ -32,13 +37,23 @@ pub record IsServed (h : History) : Type 0 where
   pub received : h.received ≡ bytes_of h.exchanges ++ rest
   pub waits : h.waiting ≡ kept h.stage rest
   pub answered : AreAnswered h.stage h.exchanges
+  pub at_door : All (IsAt h.door) h.exchanges
+  pub stopping : h.stops ≡ true → EndWithStop h.exchanges
   pub sent : h.sent ++ h.pending ≡ pages_of h.exchanges
 
 -- Steps.
 
-abbrev pub new_history : History
-new_history =
-    record { stage = Open; received = []; waiting = []; exchanges = []; sent = []; pending = [] }
+abbrev pub new_history : Door → History
+new_history door = record {
+  door = door;
+  stage = Open;
+  stops = false;
+  received = [];
+  waiting = [];
+  exchanges = [];
+  sent = [];
+  pending = [];
+}
 
 -- these bytes were read
 abbrev pub after_received : History → List ℕ → History
@@ -51,7 +66,7 @@ after_sent h count = record h { sent = h.sent ++ take count h.pending; pending =
 
 -- the exchange with a message of so many bytes
 abbrev pub exchange : History → ℕ → Option (List ℕ) → Exchange
-exchange h count page = record { bytes = take count h.waiting; page = page }
+exchange h count page = record { door = h.door; bytes = take count h.waiting; page = page }
 
 -- the first bytes were used; after a closing page, all are
 abbrev pub moved_on : History → ℕ → Bool → History
@@ -60,16 +75,17 @@ moved_on h count closing = record h {
   waiting = if closing then [] else drop count h.waiting;
 }
 
--- that message got this page, which may close
-abbrev pub after_answer : History → ℕ → List ℕ → Bool → History
-after_answer h count page closing = record (moved_on h count closing) {
+-- that message got this page, which may close, and asks the desk to stop, or does not
+abbrev pub after_answer : History → ℕ → List ℕ → Bool → Bool → History
+after_answer h count page closing stopping = record (moved_on h count closing) {
+  stops = stopping;
   exchanges = h.exchanges ++ exchange h count (Some page) ∷ [];
   pending = page;
 }
 
 -- nothing more is answered
 abbrev pub after_failure : History → History
-after_failure h = record h { stage = Failed; waiting = [] }
+after_failure h = record h { stage = Failed; stops = false; waiting = [] }
 
 -- that message lost its page
 abbrev pub after_loss : History → ℕ → History
@@ -84,7 +100,7 @@ pub record GetsPage (old new : History) : Type 0 where
   pub message : Message
   pub is_message : IsMessage (take count old.waiting) message
   pub page : List ℕ
-  pub is : new ≡ after_answer old count page (closes message)
+  pub is : new ≡ after_answer old count page (closes message) (stops old.door message)
 
 -- the first bytes are this message, and its page was lost
 pub record LosesPage (old new : History) : Type 0 where
@@ -106,10 +122,19 @@ TakesFirst (Err fault) old new = LosesPage old new ⊎ ((old.stage ≡ Open) × 
 abbrev pub Passes : History → History → Type 0
 Passes old new = (new.received ≡ old.received) × (new.sent ≡ old.sent)
 
--- one more message got its page, which waits
+-- one more message got its page, which waits; whether it asked the desk to stop is known
 pub record AnswersOne (old new : History) : Type 0 where
   pub bytes : List ℕ
-  pub one : new.exchanges ≡ old.exchanges ++ record { bytes = bytes; page = Some new.pending } ∷ []
+  pub one : new.exchanges ≡ old.exchanges ++ record { door = old.door; bytes = bytes; page = Some new.pending } ∷ []
+  pub message : Message
+  pub is_message : IsMessage bytes message
+  pub stopping : new.stops ≡ stops old.door message
+
+-- a message was answered, and asked the desk to stop
+abbrev pub stops_by : Result Bool Fault → History → Bool
+stops_by (Ok true) h = h.stops
+stops_by (Ok false) h = false
+stops_by (Err fault) h = false
 
 -- no message is to be answered now: a page waits, or the conversation is over, or no message is whole
 abbrev pub HasNoTurn : History → Type 0

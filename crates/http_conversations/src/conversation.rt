@@ -2,7 +2,8 @@
 ghost use Rattle.std.specs.Prelude.{◌≡◌, ◌≢◌, ◌+◌, ◌<◌, ◌≤◌, ◌↔◌, ℕ, [], List, length, take, Ok, true, false, IfOk, OnErr, IsErrOf, IsTrue};
 ghost use Rattle.std.specs.Io.KnownBytes.{Appends, Consumes, IsAtEnd, Keeps};
 ghost use Rattle.saga_core.specs.Books.{LeavesNoMore};
-ghost use Rattle.http_conversations.specs.History.{AnswersOne, HasNoTurn, IsServed, Passes, WantsRead, after_received, after_sent, new_history};
+ghost use Rattle.http_conversations.specs.Exchanges.{StopAtLast, since};
+ghost use Rattle.http_conversations.specs.History.{AnswersOne, HasNoTurn, IsServed, Passes, WantsRead, after_received, after_sent, new_history, stops_by};
 ghost use Rattle.http_conversations.specs.Leading.{GoesOn, has_broken};
 ghost use Rattle.http_conversations.specs.Talks.{history_of};
 ghost use Rattle.http_conversations.specs.declared.limits.TheConstants.{MOST_READ, MOST_WAITING};
@@ -11,7 +12,7 @@ use crate::limits::{MOST_PENDING, MOST_READ, MOST_WAITING};
 use crate::stages::Stage;
 use crate::talk::Talk;
 use commands::Fault;
-use desk_http::answer_to;
+use desk_http::{Door, answer_to};
 use http_messages::first_message;
 use http_pages::Paths;
 use protocols::ServeFault;
@@ -32,12 +33,12 @@ pub struct Conversation {
 impl Conversation {
     ghost use Rattle.http_conversations.specs.Conversations.{history};
 
-    /// Nothing was received. It allocates nothing.
-    pub fn new(alloc: Global) -> Conversation
-        ensures none { history result ≡ new_history }
+    /// Nothing was received at this door. It allocates nothing.
+    pub fn new(alloc: Global, door: Door) -> Conversation
+        ensures none { history result ≡ new_history door }
     {
         Conversation {
-            talk: Talk::new(alloc),
+            talk: Talk::new(alloc, door),
         }
     }
 
@@ -66,8 +67,11 @@ impl Conversation {
         ensures goes_on { GoesOn (B.is_sound book.new) (B.stands book.old) (B.stands book.new) (B.leaves book.new)
             (has_broken result) (history self.old).exchanges (history self.new).exchanges }
         ensures passes { Passes (history self.old) (history self.new) }
+        ensures door { (history self.new).door ≡ (history self.old).door }
         ensures at_most_one { length (history self.new).exchanges ≤ length (history self.old).exchanges + 1 }
         ensures one { result ≡ Ok true → AnswersOne (history self.old) (history self.new) }
+        ensures stopping { StopAtLast (stops_by result (history self.new))
+            (since (history self.old).exchanges (history self.new).exchanges) }
         ensures none { result ≡ Ok false → HasNoTurn (history self.old)
             × (history self.new ≡ history self.old) × (book.new ≡ book.old) }
 
@@ -123,8 +127,16 @@ impl Conversation {
         self.talk.stage
     }
 
+    /// Whether the message that was answered last is one of the house that the desk stop.
+    pub fn stops(&self) -> bool
+        ensures stops { result ≡ (history self.now).stops }
+    {
+        self.talk.stops
+    }
+
     /// True of every conversation, after any calls: what was received begins with the messages of its exchanges, and what
-    /// was handed out, and then what is pending, is their pages, up to and with the first that closes.
+    /// was handed out, and then what is pending, is their pages, up to and with the first that closes. All came in at its
+    /// door; where it says that the desk is to stop, the last one is a request of the house for that.
     pub fn always_served(&self)
         ensures served { ∥ IsServed (history self.now) ∥₁ }
     {}

@@ -32,7 +32,10 @@ pub struct Taken {
 #[derive(Drop)]
 pub struct Talk {
     pub(crate) alloc: Global,
+    pub(crate) door: Door,
     pub(crate) stage: Stage,
+    /// The message that was answered last asked the desk to stop.
+    pub(crate) stops: bool,
     pub(crate) waiting: Vec<u8>,
     pub(crate) pending: Vec<u8>,
     /// What waited after each read, and where the new bytes began.
@@ -44,13 +47,15 @@ pub struct Talk {
 }
 
 impl Talk {
-    /// Nothing was received. It allocates nothing.
-    pub(crate) fn new(alloc: Global) -> Talk
-        ensures none { history_of result ≡ new_history }
+    /// Nothing was received at this door. It allocates nothing.
+    pub(crate) fn new(alloc: Global, door: Door) -> Talk
+        ensures none { history_of result ≡ new_history door }
     {
         Talk {
             alloc,
+            door,
             stage: Stage::Open,
+            stops: false,
             waiting: Vec::new(alloc),
             pending: Vec::new(alloc),
             reads: Log::new(),
@@ -144,7 +149,7 @@ impl Talk {
 
         ensures sound { B.is_sound book.new → B.is_sound book.old }
     {
-        match answer_to(self.alloc, paths, Door::Port, message, book) {
+        match answer_to(self.alloc, paths, self.door, message, book) {
             Ok(answer) => {
                 self.keep(count, answer);
                 Ok(true)
@@ -161,9 +166,10 @@ impl Talk {
         requires within { count ≤ length self.old.waiting.items }
         requires is_open { self.old.stage ≡ Stage.Open }
         ensures answered { history_of self.new
-            ≡ after_answer (history_of self.old) count answer.bytes.items answer.closes }
+            ≡ after_answer (history_of self.old) count answer.bytes.items answer.closes answer.stops }
     {
         let closes = answer.closes;
+        self.stops = answer.stops;
         let taken = Taken {
             count,
             has_page: true,
@@ -207,6 +213,7 @@ impl Talk {
         ensures failed { history_of self.new ≡ after_failure (history_of self.old) }
     {
         self.stage = Stage::Failed;
+        self.stops = false;
         self.waiting = Vec::new(self.alloc);
     }
 

@@ -5,7 +5,8 @@ use Rattle.std.proofs.lemmas.List.Elements.{All-append, All-map, All-nil}
 use Rattle.std.proofs.lemmas.Bool.{cases_eq}
 use Rattle.std.proofs.lemmas.Grind.{common_steps, get_or-set_at}
 use Rattle.ledger.specs.Answer.{State}
-use Rattle.http_conversations.specs.Exchanges.{Exchange}
+use Rattle.http_conversations.specs.Exchanges.{Exchange, IsNoStop, StopAtLast, since}
+use Rattle.http_conversations.proofs.Steps.{since_more}
 use Rattle.http_conversations.specs.Leading.{Ends, GoesOn}
 use Rattle.http_live.specs.Merging.{IsMerged, Merges, Seated, exchange_of, of_seat}
 use Rattle.http_live.proofs.LeadLemmas.{ends_then}
@@ -88,32 +89,56 @@ merged_set f seats i d new more within is =
     subst (λ t. IsMerged (map f seats) t (seated_at i more)) (sym (map-set f seats i new))
     (merged_at (map f seats) i (f new) more (rw length-map within) (is ∙ ap (λ t. t ++ more) (sym here)))
 
+-- What stops the desk.
+
+-- none of the first does
+stops_then : (stopped : Bool) (xs ys : List Exchange) → All IsNoStop xs → StopAtLast stopped ys → StopAtLast stopped (xs ++ ys)
+stops_then false xs ys x y = All-append IsNoStop xs ys x y
+stops_then true xs ys x y =
+    (xs ++ y.0, y.1, ap (λ t. xs ++ t) y.2 ∙ sym (append_assoc xs y.0 (y.1 ∷ [])), All-append IsNoStop xs y.0 x y.3, y.4)
+
 -- Books that went on.
 
 pub merges_none : (sound : Type 0) (stands : State → Type 0) (leaves : State → State → Type 0) (xs ys : List (List Exchange)) → ys ≡ xs
-    → Merges sound stands stands leaves false xs ys
+    → Merges sound stands stands leaves false false xs ys
 merges_none sound stands leaves xs ys kept =
-    record { merged = []; is_merged = merged_none xs ys kept; ends = λ is_sound s stood. (s, refl, stood) }
+    record {
+      merged = [];
+      is_merged = merged_none xs ys kept;
+      stopping = All-nil IsNoStop;
+      ends = λ is_sound s stood. (s, refl, stood);
+    }
 
-pub merges_then : (failed : Bool) (sound0 sound1 : Type 0) (stood between stands : State → Type 0) (leaves0 leaves1 : State → State → Type 0)
-    (xs ys zs : List (List Exchange)) → (sound1 → sound0) → Merges sound0 stood between leaves0 false xs ys
-    → Merges sound1 between stands leaves1 failed ys zs → Merges sound1 stood stands leaves1 failed xs zs
-merges_then failed sound0 sound1 stood between stands leaves0 leaves1 xs ys zs back x y = record {
+pub merges_then : (failed stopped : Bool) (sound0 sound1 : Type 0) (stood between stands : State → Type 0) (leaves0 leaves1 : State → State → Type 0)
+    (xs ys zs : List (List Exchange)) → (sound1 → sound0) → Merges sound0 stood between leaves0 false false xs ys
+    → Merges sound1 between stands leaves1 failed stopped ys zs → Merges sound1 stood stands leaves1 failed stopped xs zs
+merges_then failed stopped sound0 sound1 stood between stands leaves0 leaves1 xs ys zs back x y = record {
   merged = x.merged ++ y.merged;
   is_merged = merged_then xs ys zs x.merged y.merged x.is_merged y.is_merged;
+  stopping = subst (StopAtLast stopped) (sym (map-append exchange_of x.merged y.merged))
+      (stops_then stopped (map exchange_of x.merged) (map exchange_of y.merged) x.stopping y.stopping);
   ends = λ is_sound s was.
       let first = x.ends (back is_sound) s was in
       subst (Ends failed stands leaves1 s) (sym (map-append exchange_of x.merged y.merged))
       (ends_then failed stands leaves1 (map exchange_of x.merged) (map exchange_of y.merged) s first.0 first.1 (y.ends is_sound first.0 first.2));
 }
 
+pub merges_as : (failed stopped other : Bool) (sound : Type 0) (stood stands : State → Type 0) (leaves : State → State → Type 0)
+    (xs ys : List (List Exchange)) → stopped ≡ other → Merges sound stood stands leaves failed stopped xs ys
+    → Merges sound stood stands leaves failed other xs ys
+merges_as failed stopped other sound stood stands leaves xs ys same m =
+    subst (λ t. Merges sound stood stands leaves failed t xs ys) same m
+
 -- one seat went on
-pub merges_set : {X : Type 0} (f : X → List Exchange) (failed : Bool) (sound : Type 0) (stood stands : State → Type 0)
+pub merges_set : {X : Type 0} (f : X → List Exchange) (failed stopped : Bool) (sound : Type 0) (stood stands : State → Type 0)
     (leaves : State → State → Type 0) (seats : List X) (i : ℕ) (d new : X) → i < length seats
     → GoesOn sound stood stands leaves failed (f (slice_index_or seats i d)) (f new)
-    → Merges sound stood stands leaves failed (map f seats) (map f (slice_set seats i new))
-merges_set f failed sound stood stands leaves seats i d new within x = record {
+    → StopAtLast stopped (since (f (slice_index_or seats i d)) (f new))
+    → Merges sound stood stands leaves failed stopped (map f seats) (map f (slice_set seats i new))
+merges_set f failed stopped sound stood stands leaves seats i d new within x stop = record {
   merged = seated_at i x.exchanges;
   is_merged = merged_set f seats i d new x.exchanges within x.more;
+  stopping = subst (StopAtLast stopped)
+      (since_more (f (slice_index_or seats i d)) (f new) x.exchanges x.more ∙ sym (exchanges-seated_at i x.exchanges)) stop;
   ends = λ is_sound s was. subst (Ends failed stands leaves s) (sym (exchanges-seated_at i x.exchanges)) (x.ends is_sound s was);
 }

@@ -1,7 +1,7 @@
 -- The exchanges of many seats, as one list in the order in which they were carried out.
 use Rattle.std.specs.Prelude.{◌≡◌, ℕ, ◌<◌, Bool, List, [], ◌∷◌, ◌++◌, length, map, slice_index_or, All, if◌then◌else◌, ◌==◌}
 use Rattle.ledger.specs.Answer.{State}
-use Rattle.http_conversations.specs.Exchanges.{Exchange}
+use Rattle.http_conversations.specs.Exchanges.{Exchange, StopAtLast}
 use Rattle.http_conversations.specs.Leading.{Ends}
 
 -- an exchange, and the seat that it came from
@@ -23,9 +23,11 @@ pub record IsMerged (before after : List (List Exchange)) (merged : List Seated)
   pub each : (at : ℕ) → at < length before
       → slice_index_or after at [] ≡ slice_index_or before at [] ++ of_seat at merged
 
--- A book went on by the exchanges of all seats, merged, in each state that it stood for, while it is sound.
+-- A book went on by the exchanges of all seats, merged, in each state that it stood for, while it is sound. The last of
+-- them stops the desk, or none does.
 pub record Merges (sound : Type 0) (stood stands : State → Type 0) (leaves : State → State → Type 0)
-    (store_failed : Bool) (before after : List (List Exchange)) : Type 0 where
+    (store_failed stopped : Bool) (before after : List (List Exchange)) : Type 0 where
   pub merged : List Seated
   pub is_merged : IsMerged before after merged
+  pub stopping : StopAtLast stopped (map exchange_of merged)
   pub ends : sound → (s : State) → stood s → Ends store_failed stands leaves s (map exchange_of merged)

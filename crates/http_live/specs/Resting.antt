@@ -1,10 +1,10 @@
 -- What a connection waits for after its turn.
-use Rattle.std.specs.Prelude.{◌≡◌, ◌≢◌, ◌⊎◌, [], ⊤}
+use Rattle.std.specs.Prelude.{◌≡◌, ◌≢◌, ◌⊎◌, [], true, false, ⊤}
 use Rattle.http_messages.specs.Messages.{HasNoMessage}
 use Rattle.http_conversations.specs.History.{History}
 use Rattle.http_conversations.specs.declared.stages.Stage.TheVariants.{Open, Closing}
 use Rattle.http_live.specs.declared.standing.Standing.{Standing}
-use Rattle.http_live.specs.declared.standing.Standing.TheVariants.{Between, Amid, Unsent, Lingering, Answered, Busy, Over}
+use Rattle.http_live.specs.declared.standing.Standing.TheVariants.{Between, Amid, Unsent, Lingering, Answered, Stopped, Busy, Over}
 
 -- each page was handed out, and no whole message waits for an answer
 pub record IsUsedUp (h : History) : Type 0 where
@@ -22,12 +22,14 @@ pub record HasClosed (h : History) : Type 0 where
   pub closing : h.stage ≡ Closing
   pub sent : h.pending ≡ []
 
--- it waits for its peer alone: to send, to take a page, or to end; or it waits for nothing
+-- it waits for its peer alone: to send, to take a page, or to end; or it waits for nothing. Where a message was answered,
+-- it is said whether that is a request of the house that the desk stop
 abbrev pub Rests : Standing → History → Type 0
 Rests Between h = WaitsForMore h × (h.waiting ≡ [])
 Rests Amid h = WaitsForMore h × (h.waiting ≢ [])
 Rests Unsent h = h.pending ≢ []
 Rests Lingering h = HasClosed h
-Rests Answered h = ⊤
+Rests Answered h = h.stops ≡ false
+Rests Stopped h = h.stops ≡ true
 Rests Busy h = ⊤
 Rests Over h = ⊤

@@ -1,8 +1,9 @@
 -- The exchanges of a seat.
-use Rattle.std.specs.Prelude.{List, [], ◌++◌, Option, Some, None}
-use Rattle.std.specs.List.{flat_map}
+use Rattle.std.specs.Prelude.{◌≡◌, ℕ, true, List, [], ◌++◌, Option, Some, None, slice_set}
+use Rattle.std.specs.List.{Any, flat_map}
 use Rattle.std.specs.declared.io.traits.Read as Read
 use Rattle.std.specs.declared.io.traits.Write as Write
+use Rattle.desk_http.specs.declared.doors.Door.{Door}
 use Rattle.http_conversations.specs.Conversations.{history}
 use Rattle.http_conversations.specs.Exchanges.{Exchange}
 use Rattle.http_live.specs.declared.connection.Connection.{Connection}
@@ -17,6 +18,32 @@ module _ {R W : Type 0} {r : Read.Ghosts R} {w : Write.Ghosts W} where
   exchanges_now None = []
   exchanges_now (Some c) = exchanges_with c
 
-  -- those of the connections that ended, and of the one that is there
+  -- there is one, whose messages come in at this door
+  abbrev pub HasDoor : Door → Option (Connection R W r w) → Type 0
+  HasDoor door None = ⊥
+  HasDoor door (Some c) = (history c.conversation).door ≡ door
+
+  -- a connection took one seat by this door, and no other seat has changed
+  abbrev pub IsTaken : ℕ → Door → List (Seat R W r w) → List (Seat R W r w) → Type 0
+  IsTaken at door before after =
+      (seat : Seat R W r w) × (after ≡ slice_set before at seat) × HasDoor door seat.connection
+
+  -- the message that was answered last asked the desk to stop
+  abbrev pub HasStop : Option (Connection R W r w) → Type 0
+  HasStop None = ⊥
+  HasStop (Some c) = (history c.conversation).stops ≡ true
+
+  abbrev pub HasStopAt : Seat R W r w → Type 0
+  HasStopAt s = HasStop s.connection
+
+  -- some seat has such a connection
+  abbrev pub HasStopAmong : List (Seat R W r w) → Type 0
+  HasStopAmong seats = Any HasStopAt seats
+
+  -- those of the connections that ended
+  abbrev pub exchanges_before : Seat R W r w → List Exchange
+  exchanges_before s = flat_map (λ e. exchanges_with e.0) s.left.items
+
+  -- and of the one that is there
   abbrev pub exchanges_at : Seat R W r w → List Exchange
-  exchanges_at s = flat_map (λ e. exchanges_with e.0) s.left.items ++ exchanges_now s.connection
+  exchanges_at s = exchanges_before s ++ exchanges_now s.connection

@@ -2,12 +2,15 @@
 ghost use Rattle.std.specs.Prelude.{◌≡◌, ◌≢◌, ◌+◌, ◌≤◌, [], length, IfErr, IfOk, IfSome, IsErrOf, IsTrue, OnErr, Ok, true, false};
 ghost use Rattle.saga_core.specs.Books.{LeavesNoMore};
 ghost use Rattle.http_conversations.specs.Conversations.{history};
-ghost use Rattle.http_conversations.specs.History.{HasNoTurn, IsServed, WantsRead};
+ghost use Rattle.http_conversations.specs.History.{HasNoTurn, IsServed, WantsRead, stops_by};
 ghost use Rattle.http_conversations.specs.Leading.{GoesOn, has_broken};
+ghost use Rattle.http_conversations.specs.Exchanges.{StopAtLast, since};
+ghost use Rattle.http_live.specs.Endings.{is_stop, turn_stops};
 ghost use Rattle.http_live.specs.Faithful.{Faithful};
 
 use crate::standing::Standing;
 use commands::Fault;
+use desk_http::Door;
 use http_conversations::{Conversation, MOST_READ, Stage};
 use http_pages::Paths;
 use http_server::Log;
@@ -31,15 +34,16 @@ impl<R: Read + Drop, W: Write + Drop> Connection<R, W> {
     ghost use Rattle.http_live.specs.Seats.{exchanges_with};
     ghost use Rattle.http_live.specs.Resting.{IsUsedUp, Rests};
 
-    /// Nothing was read or written.
-    pub(crate) fn new(alloc: Global, reader: R, writer: W) -> Connection<R, W>
+    /// Nothing was read or written. Its messages come in at this door.
+    pub(crate) fn new(alloc: Global, door: Door, reader: R, writer: W) -> Connection<R, W>
         ensures none { exchanges_with result ≡ [] }
+        ensures door { (history result.conversation).door ≡ door }
     {
         let came = Log::new().and(&reader, &writer);
         Connection {
             reader,
             writer,
-            conversation: Conversation::new(alloc),
+            conversation: Conversation::new(alloc, door),
             came,
         }
     }
@@ -72,6 +76,8 @@ impl<R: Read + Drop, W: Write + Drop> Connection<R, W> {
             (has_broken result) (exchanges_with self.old) (exchanges_with self.new) }
         ensures at_most_one { length (exchanges_with self.new) ≤ length (exchanges_with self.old) + 1 }
         ensures rests { IfOk result (λ standing. Rests standing (history self.new.conversation)) }
+        ensures stopping { StopAtLast (turn_stops result)
+            (since (exchanges_with self.old) (exchanges_with self.new)) }
 
         ensures broken { IfErr result (λ fault. fault ≡ Fault.Store) }
         ensures failed { IsErrOf result Fault.Store → IsTrue (B.has_failed book.new) }
@@ -85,10 +91,22 @@ impl<R: Read + Drop, W: Write + Drop> Connection<R, W> {
             return Ok(self.push(buffer));
         }
         match self.answer(paths, book) {
-            Ok(true) => Ok(Standing::Answered),
+            Ok(true) => Ok(self.answered()),
             Ok(false) => Ok(self.pull(buffer)),
             Err(Fault::Memory) => Ok(Standing::Over),
             Err(Fault::Store) => Err(Fault::Store),
+        }
+    }
+
+    /// What it waits for once a message was answered.
+    fn answered(&self) -> Standing
+        ensures rests { Rests result (history self.now.conversation) }
+        ensures stopping { is_stop result ≡ (history self.now.conversation).stops }
+    {
+        if self.conversation.stops() {
+            Standing::Stopped
+        } else {
+            Standing::Answered
         }
     }
 
@@ -97,6 +115,8 @@ impl<R: Read + Drop, W: Write + Drop> Connection<R, W> {
         ensures goes_on { GoesOn (B.is_sound book.new) (B.stands book.old) (B.stands book.new) (B.leaves book.new)
             (has_broken result) (exchanges_with self.old) (exchanges_with self.new) }
         ensures at_most_one { length (exchanges_with self.new) ≤ length (exchanges_with self.old) + 1 }
+        ensures stopping { StopAtLast (stops_by result (history self.new.conversation))
+            (since (exchanges_with self.old) (exchanges_with self.new)) }
         ensures none { result ≡ Ok false → HasNoTurn (history self.old.conversation)
             × (history self.new.conversation ≡ history self.old.conversation) }
 
@@ -137,12 +157,31 @@ impl<R: Read + Drop, W: Write + Drop> Connection<R, W> {
         ensures kept { exchanges_with self.new ≡ exchanges_with self.old }
         ensures rests { (history self.old.conversation).pending ≢ [] →
             Rests result (history self.new.conversation) }
+        ensures unstopped { is_stop result ≡ false }
     {
         match self.write() {
             Ok(0) => Standing::Over,
             Ok(_) => Standing::Busy,
             Err(error) => match error.kind() {
                 ErrorKind::WouldBlock => self.read_on(buffer),
+                ErrorKind::Interrupted => Standing::Busy,
+                _ => Standing::Over,
+            },
+        }
+    }
+
+    /// Hands out what waits, and does nothing else. It is over where nothing waits.
+    pub(crate) fn hand_out(&mut self) -> Standing
+        ensures kept { exchanges_with self.new ≡ exchanges_with self.old }
+    {
+        if !self.conversation.wants_write() {
+            return Standing::Over;
+        }
+        match self.write() {
+            Ok(0) => Standing::Over,
+            Ok(_) => Standing::Busy,
+            Err(error) => match error.kind() {
+                ErrorKind::WouldBlock => Standing::Unsent,
                 ErrorKind::Interrupted => Standing::Busy,
                 _ => Standing::Over,
             },
@@ -156,6 +195,7 @@ impl<R: Read + Drop, W: Write + Drop> Connection<R, W> {
         ensures kept { exchanges_with self.new ≡ exchanges_with self.old }
         ensures rests { (history self.old.conversation).pending ≢ [] →
             Rests result (history self.new.conversation) }
+        ensures unstopped { is_stop result ≡ false }
     {
         if !self.conversation.wants_read() {
             return Standing::Unsent;
@@ -178,6 +218,7 @@ impl<R: Read + Drop, W: Write + Drop> Connection<R, W> {
         ensures kept { exchanges_with self.new ≡ exchanges_with self.old }
         ensures rests { IsUsedUp (history self.old.conversation) →
             Rests result (history self.new.conversation) }
+        ensures unstopped { is_stop result ≡ false }
     {
         if !self.conversation.wants_read() {
             return Standing::Over;
@@ -197,6 +238,7 @@ impl<R: Read + Drop, W: Write + Drop> Connection<R, W> {
     fn rest(&self) -> Standing
         ensures rests { IsUsedUp (history self.now.conversation) →
             Rests result (history self.now.conversation) }
+        ensures unstopped { is_stop result ≡ false }
     {
         match self.conversation.stage() {
             Stage::Open if self.conversation.has_part() => Standing::Amid,

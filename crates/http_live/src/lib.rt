@@ -9,12 +9,16 @@
 #![tactic(auto)]
 
 mod connection;
+mod endings;
+mod finishing;
 mod seats;
 mod serving;
 mod standing;
 mod turns;
 
 pub use connection::Connection;
+pub use endings::Ending;
+pub use finishing::finish_many;
 pub use seats::{SEATS, Seat, empty_seats};
 pub use serving::serve_many;
 pub use standing::Standing;

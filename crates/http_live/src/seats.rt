@@ -1,14 +1,17 @@
 //! Places for one connection after another.
-ghost use Rattle.std.specs.Prelude.{◌≡◌, ◌+◌, ◌≤◌, [], length, map, IfErr, IfOk, IfSome, IsErrOf, IsTrue};
+ghost use Rattle.std.specs.Prelude.{◌≡◌, ◌+◌, ◌≤◌, [], length, map, Ok, IfErr, IfOk, IfSome, IsErrOf, IsTrue};
 ghost use Rattle.saga_core.specs.Books.{LeavesNoMore};
 ghost use Rattle.http_conversations.specs.Conversations.{history};
 ghost use Rattle.http_conversations.specs.Leading.{GoesOn, has_broken};
+ghost use Rattle.http_conversations.specs.Exchanges.{StopAtLast, since};
+ghost use Rattle.http_live.specs.Endings.{turn_stops};
 ghost use Rattle.http_live.specs.Resting.{Rests};
-ghost use Rattle.http_live.specs.Seats.{exchanges_at};
+ghost use Rattle.http_live.specs.Seats.{HasDoor, HasStopAt, exchanges_at};
 
 use crate::connection::Connection;
 use crate::standing::Standing;
 use commands::Fault;
+use desk_http::Door;
 use http_conversations::MOST_READ;
 use http_pages::Paths;
 use http_server::Log;
@@ -38,12 +41,13 @@ impl<R: Read + Drop, W: Write + Drop> Seat<R, W> {
         }
     }
 
-    /// A connection takes the seat. Which was there before ends.
-    pub(crate) fn take(&mut self, alloc: Global, reader: R, writer: W)
+    /// A connection takes the seat, by this door. Which was there before ends.
+    pub(crate) fn take(&mut self, alloc: Global, door: Door, reader: R, writer: W)
         ensures kept { exchanges_at self.new ≡ exchanges_at self.old }
+        ensures door { HasDoor door self.new.connection }
     {
         self.clear();
-        self.connection = Some(Connection::new(alloc, reader, writer));
+        self.connection = Some(Connection::new(alloc, door, reader, writer));
     }
 
     /// The connection ends, if there is one.
@@ -54,6 +58,20 @@ impl<R: Read + Drop, W: Write + Drop> Seat<R, W> {
         if let Some(connection) = self.connection.take() {
             self.left = self.left.and(&connection, &());
         }
+    }
+
+    /// Hands out what waits for the connection, if there is one. One that is over ends.
+    pub(crate) fn hand_out(&mut self) -> Standing
+        ensures kept { exchanges_at self.new ≡ exchanges_at self.old }
+    {
+        let Some(connection) = &mut self.connection else {
+            return Standing::Over;
+        };
+        let standing = connection.hand_out();
+        if standing == Standing::Over {
+            self.clear();
+        }
+        standing
     }
 
     /// A turn of the connection, if there is one. One that is over ends.
@@ -70,6 +88,8 @@ impl<R: Read + Drop, W: Write + Drop> Seat<R, W> {
         ensures at_most_one { length (exchanges_at self.new) ≤ length (exchanges_at self.old) + 1 }
         ensures rests { IfOk result (λ standing. IfSome self.new.connection
             (λ connection. Rests standing (history connection.conversation))) }
+        ensures stopped { result ≡ Ok Standing.Stopped → HasStopAt self.new }
+        ensures stopping { StopAtLast (turn_stops result) (since (exchanges_at self.old) (exchanges_at self.new)) }
 
         ensures broken { IfErr result (λ fault. fault ≡ Fault.Store) }
         ensures failed { IsErrOf result Fault.Store → IsTrue (B.has_failed book.new) }

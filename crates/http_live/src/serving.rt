@@ -1,21 +1,26 @@
 //! Serving the connections of all seats.
-ghost use Rattle.std.specs.Prelude.{◌≡◌, ◌≤◌, [], length, map, false, Ok, IfErr, IsErrOf, IsTrue};
+ghost use Rattle.std.specs.Prelude.{◌≡◌, ◌<◌, ◌≤◌, [], length, map, false, Ok, Some, IfErr, IsErrOf, IsTrue};
 ghost use Rattle.saga_core.specs.Books.{LeavesNoMore};
 ghost use Rattle.http_conversations.specs.Leading.{has_broken};
+ghost use Rattle.http_live.specs.Endings.{ends_stopped, has_stopped};
 ghost use Rattle.http_live.specs.Merging.{Merges};
-ghost use Rattle.http_live.specs.Seats.{exchanges_at};
+ghost use Rattle.http_live.specs.Seats.{HasStopAmong, IsTaken, exchanges_at};
 ghost use Rattle.http_live.specs.Worlds.{WorldsGoOn};
 
+use crate::endings::{Ending, ending_after};
 use crate::seats::Seat;
 use crate::turns::{Turn, Turns};
 use commands::Fault;
+use desk_http::Door;
 use http_conversations::MOST_READ;
 use http_pages::Paths;
 use recovery::Ready;
 use saga_core::Book;
 use std::alloc::Global;
+use std::io::{Read, Write};
 
-/// Serves the connections of all seats, turn by turn, until no turn comes or the store fails.
+/// Serves the connections of all seats, turn by turn, until no turn comes, the house asks the desk to stop, or the store
+/// fails. Where the house asks, no further message is answered; its page waits.
 ///
 /// Out of memory, no turn was taken.
 pub fn serve_many<T: Turns, B: Book>(
@@ -23,11 +28,12 @@ pub fn serve_many<T: Turns, B: Book>(
     seats: &mut [Seat<T::Reader, T::Writer>],
     turns: &mut T,
     book: &mut Ready<B>,
-) -> Result<(), Fault>
+) -> Result<Ending, Fault>
     ensures served { Merges (B.is_sound book.new) (B.stands book.old) (B.stands book.new) (B.leaves book.new)
-        (has_broken result) (map exchanges_at seats.old) (map exchanges_at seats.new) }
+        (has_broken result) (has_stopped result) (map exchanges_at seats.old) (map exchanges_at seats.new) }
     ensures worlds { WorldsGoOn (B.is_sound book.new) (B.stands book.old) (B.stands book.new) (B.leaves book.new)
-        (has_broken result) (map exchanges_at seats.old) (map exchanges_at seats.new) }
+        (has_broken result) (has_stopped result) (map exchanges_at seats.old) (map exchanges_at seats.new) }
+    ensures stopped { result ≡ Ok Ending.Stopped → HasStopAmong seats.new }
 
     ensures failed { IsErrOf result Fault.Store → IsTrue (B.has_failed book.new) }
     ensures stays_failed { IsTrue (B.has_failed book.old) → IsTrue (B.has_failed book.new) }
@@ -53,11 +59,12 @@ fn serve_turns<T: Turns, B: Book>(
     buffer: &mut [u8],
     turns: &mut T,
     book: &mut B,
-) -> Result<(), Fault>
+) -> Result<Ending, Fault>
     requires small { length buffer.old ≤ MOST_READ }
 
     ensures served { Merges (B.is_sound book.new) (B.stands book.old) (B.stands book.new) (B.leaves book.new)
-        (has_broken result) (map exchanges_at seats.old) (map exchanges_at seats.new) }
+        (has_broken result) (has_stopped result) (map exchanges_at seats.old) (map exchanges_at seats.new) }
+    ensures stopped { result ≡ Ok Ending.Stopped → HasStopAmong seats.new }
 
     ensures failed { IsErrOf result Fault.Store → IsTrue (B.has_failed book.new) }
     ensures stays_failed { IsTrue (B.has_failed book.old) → IsTrue (B.has_failed book.new) }
@@ -67,14 +74,16 @@ fn serve_turns<T: Turns, B: Book>(
     ensures sound { B.is_sound book.new → B.is_sound book.old }
 {
     for _ in 0..u64::MAX {
-        if !take_turn(alloc, paths, seats, buffer, turns, book)? {
-            return Ok(());
+        let ending = take_turn(alloc, paths, seats, buffer, turns, book)?;
+        match ending {
+            Some(ending) => return Ok(ending),
+            None => {}
         }
     }
-    Ok(())
+    Ok(Ending::NoTurn)
 }
 
-/// Takes the next turn, and reports whether there was one.
+/// Takes the next turn, and reports whether serving ends with it.
 fn take_turn<T: Turns, B: Book>(
     alloc: Global,
     paths: &Paths,
@@ -82,11 +91,12 @@ fn take_turn<T: Turns, B: Book>(
     buffer: &mut [u8],
     turns: &mut T,
     book: &mut B,
-) -> Result<bool, Fault>
+) -> Result<Option<Ending>, Fault>
     requires small { length buffer.old ≤ MOST_READ }
 
     ensures served { Merges (B.is_sound book.new) (B.stands book.old) (B.stands book.new) (B.leaves book.new)
-        (has_broken result) (map exchanges_at seats.old) (map exchanges_at seats.new) }
+        (has_broken result) (ends_stopped result) (map exchanges_at seats.old) (map exchanges_at seats.new) }
+    ensures stopped { result ≡ Ok (Some Ending.Stopped) → HasStopAmong seats.new }
 
     ensures failed { IsErrOf result Fault.Store → IsTrue (B.has_failed book.new) }
     ensures stays_failed { IsTrue (B.has_failed book.old) → IsTrue (B.has_failed book.new) }
@@ -96,25 +106,42 @@ fn take_turn<T: Turns, B: Book>(
     ensures sound { B.is_sound book.new → B.is_sound book.old }
 {
     match turns.next_turn() {
-        Turn::Comes(at, reader, writer) => {
-            if at < seats.len() {
-                seats[at].take(alloc, reader, writer);
-            }
-            Ok(true)
+        Turn::Comes(at, door, reader, writer) => {
+            welcome(alloc, seats, at, door, reader, writer);
+            Ok(None)
         }
         Turn::Ready(at) => {
             if at < seats.len() {
                 let standing = seats[at].serve(paths, buffer, book)?;
                 turns.hear(at, standing);
+                return Ok(ending_after(standing));
             }
-            Ok(true)
+            Ok(None)
         }
         Turn::Leaves(at) => {
             if at < seats.len() {
                 seats[at].clear();
             }
-            Ok(true)
+            Ok(None)
         }
-        Turn::End => Ok(false),
+        Turn::End => Ok(Some(Ending::NoTurn)),
     }
+}
+
+/// A peer takes a seat, by its door. Where there is no such seat, it is let go.
+fn welcome<R: Read + Drop, W: Write + Drop>(
+    alloc: Global,
+    seats: &mut [Seat<R, W>],
+    at: usize,
+    door: Door,
+    reader: R,
+    writer: W,
+)
+    ensures kept { map exchanges_at seats.new ≡ map exchanges_at seats.old }
+    ensures taken { at < length seats.old → IsTaken at door seats.old seats.new }
+{
+    if at >= seats.len() {
+        return;
+    }
+    seats[at].take(alloc, door, reader, writer);
 }

@@ -13,6 +13,8 @@ pub enum Standing {
     Lingering,
     /// For nothing: a message was answered, and its page is to be handed out at once.
     Answered,
+    /// For its peer to take the page that says that the desk stops, for which the house asked.
+    Stopped,
     /// For nothing: there may be more to do at once.
     Busy,
     /// It is over.

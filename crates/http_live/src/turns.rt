@@ -1,12 +1,13 @@
 //! Where turns come from.
 use crate::standing::Standing;
+use desk_http::Door;
 use std::io::{Read, Write};
 
 /// What happens next.
 #[derive(Drop)]
 pub enum Turn<R, W> {
-    /// A peer takes this seat. Who had it before leaves.
-    Comes(usize, R, W),
+    /// A peer takes this seat, by this door. Who had it before leaves.
+    Comes(usize, Door, R, W),
     /// The connection of this seat may go on.
     Ready(usize),
     /// The connection of this seat is ended.

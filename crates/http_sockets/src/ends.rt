@@ -1,4 +1,5 @@
 //! The two ends of a connection over a socket.
+use desk_http::Door;
 use mio::net::{TcpStream, UnixStream};
 use mio::{Interest, Registry, Token};
 use std::alloc::{AllocError, Global};
@@ -28,6 +29,14 @@ impl Socket {
         match self {
             Socket::Port(stream) => registry.register(stream, token, both),
             Socket::Path(stream) => registry.register(stream, token, both),
+        }
+    }
+
+    /// By which door its requests come in.
+    pub(crate) fn door(&self) -> Door {
+        match self {
+            Socket::Port(_) => Door::Port,
+            Socket::Path(_) => Door::House,
         }
     }
 

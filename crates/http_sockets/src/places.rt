@@ -165,7 +165,7 @@ fn owed_after(before: Owed, standing: Standing) -> Owed {
     match standing {
         Standing::Between | Standing::Over => Owed::Nothing,
         Standing::Amid => Owed::Message,
-        Standing::Unsent | Standing::Answered => Owed::Page,
+        Standing::Unsent | Standing::Answered | Standing::Stopped => Owed::Page,
         Standing::Lingering => Owed::End,
         Standing::Busy if before == Owed::Nothing => Owed::Message,
         Standing::Busy => before,

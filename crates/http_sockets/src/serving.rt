@@ -4,14 +4,16 @@ ghost use Rattle.saga_core.specs.Books.{LeavesNoMore};
 ghost use Rattle.http_conversations.specs.Leading.{has_broken};
 ghost use Rattle.http_sockets.specs.Going.{GoOnBySome};
 
+use crate::ends::{ReadEnd, WriteEnd};
 use crate::sockets::Sockets;
 use commands::Fault;
-use http_live::{empty_seats, serve_many};
+use http_live::{Ending, Seat, empty_seats, finish_many, serve_many};
 use recovery::Ready;
 use saga_core::Book;
 use std::alloc::Global;
 
-/// Serves the sockets until their limits end it, or the store fails. Out of memory, nobody was served.
+/// Serves the sockets until their limits end it, the house asks the desk to stop, or the store fails. Where the house asks,
+/// the pages that wait go out, for at most five seconds. Out of memory, nobody was served.
 pub fn serve_sockets<B: Book>(
     alloc: Global,
     sockets: &mut Sockets<'_>,
@@ -30,5 +32,15 @@ pub fn serve_sockets<B: Book>(
     let Ok(mut seats) = empty_seats(alloc) else {
         return Err(Fault::Memory);
     };
-    serve_many(alloc, seats.as_mut_slice(), sockets, book)
+    let ending = serve_many(alloc, seats.as_mut_slice(), sockets, book)?;
+    if ending == Ending::Stopped {
+        finish(seats.as_mut_slice(), sockets);
+    }
+    Ok(())
+}
+
+/// The pages that wait go out, and no more messages are answered.
+fn finish(seats: &mut [Seat<ReadEnd, WriteEnd>], sockets: &mut Sockets<'_>) {
+    sockets.stop();
+    finish_many(seats, sockets);
 }

@@ -21,6 +21,9 @@ const MOST_TICKS: u64 = 10;
 /// How many events one wait gives, at most.
 const EVENTS: usize = 256;
 
+/// For how many ticks pages that wait may still be taken once the desk stops: five seconds.
+const STOPPING: u64 = 50;
+
 /// How many peers take a seat in one round, at most.
 const WELCOMES: usize = 32;
 
@@ -37,6 +40,8 @@ pub struct Sockets<'a> {
     /// When the last wait was over, and how many ticks there were until then.
     clock: Instant,
     tick: u64,
+    /// The tick from which no turn comes, if the desk stops.
+    last: Option<u64>,
     poll: Poll,
     events: Events,
     listeners: Listeners<'a>,
@@ -75,6 +80,7 @@ impl<'a> Sockets<'a> {
             welcomed: 0,
             clock,
             tick: 0,
+            last: None,
             poll,
             events,
             listeners,
@@ -94,6 +100,18 @@ impl<'a> Sockets<'a> {
     /// Whether no turn came since the system failed to report what happens.
     pub fn has_failed(&self) -> bool {
         self.has_failed
+    }
+
+    /// The desk stops: nobody comes any more, and each connection has a turn, in which its page may go out. After five
+    /// seconds no turn comes.
+    pub(crate) fn stop(&mut self) {
+        self.to_come = Some(0);
+        self.last = Some(self.tick.saturating_add(STOPPING));
+        for at in 0..SEATS {
+            if self.places.queues(at) {
+                let _ = self.next.push_back(at);
+            }
+        }
     }
 
     /// Ends all connections, listens no more, and removes the file of the Unix socket.
@@ -152,11 +170,12 @@ impl<'a> Sockets<'a> {
     /// A peer takes a seat.
     fn seated(&mut self, socket: Socket, at: usize) -> io::Result<Turn<ReadEnd, WriteEnd>> {
         let mut socket = socket;
+        let door = socket.door();
         socket.register(self.poll.registry(), Token(at.saturating_add(FIRST)))?;
         let socket = Rc::new(self.alloc, socket)?;
         let (reader, writer) = ends_of(&socket)?;
         self.places.take(at, socket, self.tick);
-        Ok(Turn::Comes(at, reader, writer))
+        Ok(Turn::Comes(at, door, reader, writer))
     }
 
     /// Begins the next round: waits until a seat may go on or somebody comes, or a tick is over.
@@ -206,9 +225,10 @@ impl<'a> Sockets<'a> {
         Ok(())
     }
 
-    /// Whether no turn comes any more: all peers came, and have left.
+    /// Whether no turn comes any more: all peers came, and have left; or the desk stops, and the time for that is over.
     fn is_at_end(&self) -> bool {
-        self.to_come == Some(0) && self.places.are_free()
+        let is_over = self.last.map_or(false, |last| self.tick >= last);
+        is_over || self.to_come == Some(0) && self.places.are_free()
     }
 }
 

@@ -5,3 +5,4 @@ mod peers;
 mod plain;
 mod schedule;
 mod sockets;
+mod stops;

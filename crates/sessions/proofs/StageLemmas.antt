@@ -243,7 +243,7 @@ module _ (c : Connected) (leaves : State → State → Type 0) (clean : HasClean
   all_served : (exchanges : List Exchange) → by_exchange.EndsWithExchanges stands leaves w exchanges
       → LeavesAnswering c.may_leave held held w (Connections exchanges)
   all_served exchanges e db may =
-      let asks = by_message.asks_in e.messages in
+      let asks = by_exchange.asks_of e.messages in
       record {
         told = [];
         wrote = Appends-nil held;
@@ -271,10 +271,10 @@ module _ (c : Connected) (leaves : State → State → Type 0) (clean : HasClean
         wrote = Appends-nil held;
         end = crashed w e.among.progress l.was_kept;
         answers = record {
-          asks = by_message.asks_in (e.messages ++ e.next ∷ []);
+          asks = by_exchange.asks_of (e.messages ++ (e.last.door, e.next) ∷ []);
           come = (
-            e.messages ++ e.next ∷ [],
-            subst (λ xs. by_exchange.AreDone s xs (e.messages ++ e.next ∷ [])) (sym e.at_last)
+            e.messages ++ (e.last.door, e.next) ∷ [],
+            subst (λ xs. by_exchange.AreDone s xs (e.messages ++ (e.last.door, e.next) ∷ [])) (sym e.at_last)
                 (done_next e.last e.next e.is_next e.is_lost s e.before e.messages e.done),
             refl,
           );

@@ -19,7 +19,7 @@ use Rattle.desk_http.specs.Serving as of_messages
 use Rattle.desk_http.specs.declared.doors.Door.TheVariants.{Port}
 use Rattle.desk_http.specs.Worlds as by_message
 use Rattle.http_conversations.specs.Exchanges.{Exchange}
-use Rattle.http_live.specs.Worlds.{AreDone, HasPage}
+use Rattle.http_live.specs.Worlds.{AreDone, HasPage, Heard, asks_of}
 use Rattle.sessions.specs.Openings.{Input, Lines, Messages, Connections, AsksFor, IsTold}
 
 -- these bytes were written, and are answers to asks that were carried out
@@ -255,37 +255,37 @@ messages_tell x s bytes rest Store ms next pages carried answered comes left don
 
 module _ (last : Exchange) (m : Message) (is_message : IsMessage last.bytes m) (is_lost : last.page ≡ None) where
   -- the last one was carried out, and its page was lost
-  pub done_next : (s : State) (before : List Exchange) (ms : List Message) → AreDone s before ms
-      → AreDone s (before ++ last ∷ []) (ms ++ m ∷ [])
+  pub done_next : (s : State) (before : List Exchange) (ms : List Heard) → AreDone s before ms
+      → AreDone s (before ++ last ∷ []) (ms ++ (last.door, m) ∷ [])
   done_next s [] ms none = (
-    state_after Port s m,
+    state_after last.door s m,
     [],
     record {
       message = m;
       is_message = is_message;
-      page = subst (HasPage s m) (sym is_lost) tt;
-      done = inl (ap (λ l. l ++ m ∷ []) none, refl);
+      page = subst (HasPage last.door s m) (sym is_lost) tt;
+      done = inl (ap (λ l. l ++ (last.door, m) ∷ []) none, refl);
     },
     refl,
   )
   done_next s (x ∷ before) ms all =
       let one = all.2 in (
         all.0,
-        all.1 ++ m ∷ [],
+        all.1 ++ (last.door, m) ∷ [],
         record {
           message = one.message;
           is_message = one.is_message;
           page = one.page;
           done = elim one.done [
-            | inl carried ↦ inl (ap (λ l. l ++ m ∷ []) carried.0, carried.1)
-            | inr lost ↦ inr (lost.0, ap (λ l. l ++ m ∷ []) lost.1, lost.2)
+            | inl carried ↦ inl (ap (λ l. l ++ (last.door, m) ∷ []) carried.0, carried.1)
+            | inr lost ↦ inr (lost.0, ap (λ l. l ++ (last.door, m) ∷ []) lost.1, lost.2)
           ];
         },
         done_next all.0 before all.1 all.3,
       )
 
   -- the last one was not carried out
-  pub done_but_last : (s : State) (before : List Exchange) (ms : List Message) → AreDone s before ms
+  pub done_but_last : (s : State) (before : List Exchange) (ms : List Heard) → AreDone s before ms
       → AreDone s (before ++ last ∷ []) ms
   done_but_last s [] ms none = (
     s,
@@ -293,7 +293,7 @@ module _ (last : Exchange) (m : Message) (is_message : IsMessage last.bytes m) (
     record {
       message = m;
       is_message = is_message;
-      page = subst (HasPage s m) (sym is_lost) tt;
+      page = subst (HasPage last.door s m) (sym is_lost) tt;
       done = inr (is_lost, none, refl);
     },
     refl,
@@ -301,10 +301,10 @@ module _ (last : Exchange) (m : Message) (is_message : IsMessage last.bytes m) (
   done_but_last s (x ∷ before) ms all = (all.0, all.1, all.2, done_but_last all.0 before all.1 all.3)
 
 -- the pages of exchanges are answers to what was carried out of them
-pub exchanges_told : (s : State) (exchanges : List Exchange) (ms : List Message) (carried : Asks)
-    → AreDone s exchanges ms → carried ≡ by_message.asks_in ms → IsTold s (Connections exchanges) carried []
+pub exchanges_told : (s : State) (exchanges : List Exchange) (ms : List Heard) (carried : Asks)
+    → AreDone s exchanges ms → carried ≡ asks_of ms → IsTold s (Connections exchanges) carried []
 exchanges_told s exchanges ms carried all is = record {
-  answered = by_message.asks_in ms;
+  answered = asks_of ms;
   others = [];
   done = no_others carried _ is;
   answers = [];

@@ -15,7 +15,7 @@ use Rattle.http_messages.specs.Messages.{Message, BeginsWithAll}
 use Rattle.desk_http.specs.Serving.{Answered}
 use Rattle.desk_http.specs.Worlds as by_message
 use Rattle.http_conversations.specs.Exchanges.{Exchange}
-use Rattle.http_live.specs.Worlds.{AreDone}
+use Rattle.http_live.specs.Worlds.{AreDone, Heard, asks_of}
 
 -- What comes to a desk that was opened: the bytes of lines, or those of the messages of a connection, or the exchanges
 -- with many connections, in the order in which their messages were carried out.
@@ -32,7 +32,7 @@ AsksFor s (Lines bytes) asks =
 AsksFor s (Messages bytes) asks =
     (first : List Message) × (rest : List ℕ) × BeginsWithAll bytes first rest × (asks ≡ by_message.asks_in first)
 AsksFor s (Connections exchanges) asks =
-    (carried_out : List Message) × AreDone s exchanges carried_out × (asks ≡ by_message.asks_in carried_out)
+    (carried_out : List Heard) × AreDone s exchanges carried_out × (asks ≡ asks_of carried_out)
 
 -- The first lines, or the first messages, of an input ask for these, and these bytes answer them in this state. The pages
 -- of exchanges answer their messages in the states in which these were carried out, and no bytes go to the writer.
@@ -44,7 +44,7 @@ IsAnsweredBy s (Messages bytes) asks answers =
     (first : List Message) × (rest : List ℕ) × (pages : List (List ℕ)) × Answered s bytes first rest pages
     × (asks ≡ by_message.asks_in first) × (answers ≡ concat pages)
 IsAnsweredBy s (Connections exchanges) asks answers =
-    (carried_out : List Message) × AreDone s exchanges carried_out × (asks ≡ by_message.asks_in carried_out)
+    (carried_out : List Heard) × AreDone s exchanges carried_out × (asks ≡ asks_of carried_out)
     × (answers ≡ [])
 
 -- what was written is a prefix of the answers to asks that were carried out, from the first on

@@ -1,5 +1,6 @@
 //! What no clause says: that sessions succeed where nothing fails, and that after each stop a session finds what was answered.
 use crate::{Power, Session, Steady, run_sessions};
+use desk_http::Door;
 use http_live::{Seat, Standing, Turn, Turns};
 use sqlite::Connection;
 use std::alloc::Global;
@@ -60,7 +61,8 @@ impl<'a> Turns for Peer<'a> {
     fn next_turn(&mut self) -> Turn<&'static [u8], Sink<'a>> {
         if !self.has_come {
             self.has_come = true;
-            return Turn::Comes(0, self.text.as_bytes(), Sink { notes: self.notes });
+            let sink = Sink { notes: self.notes };
+            return Turn::Comes(0, Door::Port, self.text.as_bytes(), sink);
         }
         if self.turns == 0 {
             return Turn::End;

@@ -1,4 +1,5 @@
 //! Peers, with what each of them sends.
+use desk_http::Door;
 use std::alloc::Global;
 use std::process::Abort;
 
@@ -15,6 +16,7 @@ pub const ROOM: usize = 1_000_000;
 /// A peer, with what it sends and how.
 #[derive(Drop)]
 pub struct Peer {
+    pub door: Door,
     pub requests: Vec<Vec<u8>>,
     /// The requests, one after another.
     pub sent: Vec<u8>,
@@ -32,6 +34,7 @@ impl Peer {
     /// It sends nothing yet, and takes everything.
     pub fn new(alloc: Global) -> Peer {
         Peer {
+            door: Door::Port,
             requests: Vec::new(alloc),
             sent: Vec::new(alloc),
             read_step: 300,

@@ -4,7 +4,7 @@ use crate::tests::ends::Notes;
 use crate::tests::peers::{FLIGHT, Peer, TWO_SEATS};
 use crate::tests::schedule::Schedule;
 use desk_http::serve;
-use http_live::{Turns, empty_seats, serve_many};
+use http_live::{Ending, Turns, empty_seats, finish_many, serve_many};
 use memory_book::MemBook;
 use recovery::{Ready, recover};
 use std::alloc::Global;
@@ -77,13 +77,22 @@ fn random_peers(rt: &impl Abort, alloc: Global, dice: &mut Dice) -> Vec<Peer> {
 pub struct Run {
     pub written: Vec<Vec<u8>>,
     pub order: Vec<usize>,
+    /// How serving ended.
+    pub ending: Ending,
 }
 
 /// The turns of a schedule are served by a desk, on seats of their own.
-fn serve_all<T: Turns>(rt: &impl Abort, alloc: Global, turns: &mut T, desk: &mut Ready<MemBook>) {
+fn serve_all<T: Turns>(
+    rt: &impl Abort,
+    alloc: Global,
+    turns: &mut T,
+    desk: &mut Ready<MemBook>,
+) -> Ending {
     let mut seats = empty_seats(alloc).expect(rt, "memory");
     let ended = serve_many(alloc, seats.as_mut_slice(), turns, desk);
-    assert!(rt; ended == Ok(()), "{ended:?}");
+    let ending = ended.expect(rt, "memory");
+    finish_many(seats.as_mut_slice(), turns);
+    ending
 }
 
 /// The peers are served by a desk.
@@ -109,11 +118,12 @@ pub fn served(
         left: 6000,
         order: Vec::new(alloc),
     };
-    serve_all(rt, alloc, &mut schedule, desk);
+    let ending = serve_all(rt, alloc, &mut schedule, desk);
     let Schedule { order, .. } = schedule;
     Run {
         written: notes.into_inner(),
         order,
+        ending,
     }
 }
 

@@ -41,7 +41,7 @@ impl<'a> Turns for Schedule<'a> {
                 step: peer.write_step,
                 dice: Dice::new(self.dice.roll(1_000_000)),
             };
-            return Turn::Comes(seat, reader, writer);
+            return Turn::Comes(seat, peer.door, reader, writer);
         }
         if self.left == 0 {
             return Turn::End;
@@ -55,7 +55,7 @@ impl<'a> Turns for Schedule<'a> {
     }
 
     fn hear(&mut self, seat: usize, standing: Standing) {
-        if standing == Standing::Answered {
+        if standing == Standing::Answered || standing == Standing::Stopped {
             let _ = self.order.push(seat);
         }
     }

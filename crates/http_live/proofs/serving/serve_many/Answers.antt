@@ -1,6 +1,7 @@
 -- What was served is how each world goes on.
 use Rattle.std.proofs.Common.{false, refl}
 use Rattle.http_conversations.specs.Leading.{has_broken}
+use Rattle.http_live.specs.Endings.{has_stopped}
 use Rattle.http_live.proofs.Merged.{merges_none}
 use Rattle.http_live.proofs.WorldLemmas.{worlds_go_on}
 use Rattle.http_live.proofs.serving.serve_many.Goals as goal
@@ -16,7 +17,7 @@ pub returns-in_default-clause-worlds : goal.returns-in_default-clause-worlds
 returns-in_default-clause-worlds g c =
     let book = g.B.Book in
     let b = c.args.book.now in
-    worlds_go_on false (book.is_sound b) (book.stands b) (book.stands b) (book.leaves b) _ _ (g.met.B.Book.settled b)
+    worlds_go_on false false (book.is_sound b) (book.stands b) (book.stands b) (book.leaves b) _ _ (g.met.B.Book.settled b)
     (merges_none (book.is_sound b) (book.stands b) (book.leaves b) _ _ refl)
 
 pub returns-in_default-vec-clause-served : goal.returns-in_default-vec-clause-served
@@ -29,7 +30,7 @@ pub returns-in_default-vec-clause-worlds : goal.returns-in_default-vec-clause-wo
 returns-in_default-vec-clause-worlds g c =
     let book = g.B.Book in
     let b = c.args.book.now in
-    worlds_go_on false (book.is_sound b) (book.stands b) (book.stands b) (book.leaves b) _ _ (g.met.B.Book.settled b)
+    worlds_go_on false false (book.is_sound b) (book.stands b) (book.stands b) (book.leaves b) _ _ (g.met.B.Book.settled b)
     (merges_none (book.is_sound b) (book.stands b) (book.leaves b) _ _ refl)
 
 -- all turns were taken, or the store failed at one
@@ -37,5 +38,5 @@ pub returns-clause-worlds : goal.returns-clause-worlds
 returns-clause-worlds g c =
     let book = g.B.Book in
     let new = c.serve_turns.new.book in
-    worlds_go_on (has_broken c.serve_turns.result) (book.is_sound new) (book.stands c.args.book.now) (book.stands new) (book.leaves new) _ _
+    worlds_go_on (has_broken c.serve_turns.result) (has_stopped c.serve_turns.result) (book.is_sound new) (book.stands c.args.book.now) (book.stands new) (book.leaves new) _ _
     (g.met.B.Book.settled new) c.serve_turns.ensures.served

@@ -1,8 +1,10 @@
 -- Turn after turn is merged.
-use Rattle.std.proofs.Common.{Bool, Err, false, refl}
+use Rattle.std.proofs.Common.{Ok, Err, Option, ap, false, refl}
 use Rattle.std.proofs.lemmas.Result.{err_from_is_err_and}
 use Rattle.http_conversations.specs.Leading.{has_broken}
-use Rattle.http_live.proofs.Merged.{merges_none, merges_then}
+use Rattle.http_live.specs.declared.endings.Ending.{Ending}
+use Rattle.http_live.specs.Endings.{ends_stopped, is_stopped}
+use Rattle.http_live.proofs.Merged.{merges_as, merges_none, merges_then}
 use Rattle.http_live.proofs.serving.serve_turns.Goals as goal
 
 -- no turn was taken yet
@@ -23,38 +25,42 @@ loop-preserved g c =
     let b = c.args.book.now in
     let at = c.loop in
     let new = c.take_turn.new.book in
-    let turn = c.in_ok-take_turn.ensures in record {
-      served = merges_then false (book.is_sound at.book) (book.is_sound new) (book.stands b) (book.stands at.book) (book.stands new) (book.leaves at.book) (book.leaves new)
-          _ _ _ turn.sound at.invariant.served turn.served;
+    let turn = c.in_ok-ending.ensures in record {
+      served = merges_then false false (book.is_sound at.book) (book.is_sound new) (book.stands b) (book.stands at.book) (book.stands new) (book.leaves at.book) (book.leaves new)
+          _ _ _ turn.sound at.invariant.served
+          (merges_as false (ends_stopped (Ok c.in_ok-ending.ending)) false _ _ _ _ _ _
+          (ap (λ end. ends_stopped (Ok end)) c.in-None.is) turn.served);
       stays_failed = λ failed. turn.stays_failed (at.invariant.stays_failed failed);
       stays_left = λ failed s t left. turn.stays_left (at.invariant.stays_failed failed) s t (at.invariant.stays_left failed s t left);
       sound = λ sound. at.invariant.sound (turn.sound sound);
     }
 
 -- the store failed
-pub returns-in_err-take_turn-clause-served : goal.returns-in_err-take_turn-clause-served
-returns-in_err-take_turn-clause-served g c =
+pub returns-in_err-ending-clause-served : goal.returns-in_err-ending-clause-served
+returns-in_err-ending-clause-served g c =
     let book = g.B.Book in
     let b = c.args.book.now in
     let at = c.loop in
     let new = c.take_turn.new.book in
     let failed = err_from_is_err_and c.from_residual.result c.from_residual.ensures.1 in
-    let turn = c.in_err-take_turn.ensures in
+    let turn = c.in_err-ending.ensures in
     rw (failed.1, failed.2)
-    (merges_then (has_broken {T = Bool} (Err c.in_err-take_turn.field-0.0)) (book.is_sound at.book) (book.is_sound new) (book.stands b) (book.stands at.book) (book.stands new) (book.leaves at.book) (book.leaves new)
+    (merges_then (has_broken {T = Option Ending} (Err c.in_err-ending.field-0.0)) false (book.is_sound at.book) (book.is_sound new) (book.stands b) (book.stands at.book) (book.stands new) (book.leaves at.book) (book.leaves new)
     _ _ _ turn.sound at.invariant.served turn.served)
 
--- no turn comes
-pub returns-then-not-branch-clause-served : goal.returns-then-not-branch-clause-served
-returns-then-not-branch-clause-served g c =
+-- serving ends
+pub returns-in-Some-clause-served : goal.returns-in-Some-clause-served
+returns-in-Some-clause-served g c =
     let book = g.B.Book in
     let b = c.args.book.now in
     let at = c.loop in
     let new = c.take_turn.new.book in
-    let turn = c.in_ok-take_turn.ensures in
-    merges_then false (book.is_sound at.book) (book.is_sound new) (book.stands b) (book.stands at.book) (book.stands new) (book.leaves at.book) (book.leaves new)
-    _ _ _ turn.sound at.invariant.served turn.served
+    let turn = c.in_ok-ending.ensures in
+    merges_then false (is_stopped c.in-Some.ending) (book.is_sound at.book) (book.is_sound new) (book.stands b) (book.stands at.book) (book.stands new) (book.leaves at.book) (book.leaves new)
+    _ _ _ turn.sound at.invariant.served
+    (merges_as false (ends_stopped (Ok c.in_ok-ending.ending)) (is_stopped c.in-Some.ending) _ _ _ _ _ _
+    (ap (λ end. ends_stopped (Ok end)) c.in-Some.is) turn.served)
 
-pub returns-then-not-branch-clause-stays_left : goal.returns-then-not-branch-clause-stays_left
-returns-then-not-branch-clause-stays_left g c = λ failed s t left.
-    c.in_ok-take_turn.ensures.stays_left (c.loop.invariant.stays_failed failed) s t (c.loop.invariant.stays_left failed s t left)
+pub returns-in-Some-clause-stays_left : goal.returns-in-Some-clause-stays_left
+returns-in-Some-clause-stays_left g c = λ failed s t left.
+    c.in_ok-ending.ensures.stays_left (c.loop.invariant.stays_failed failed) s t (c.loop.invariant.stays_left failed s t left)

@@ -9,7 +9,7 @@ use Rattle.http_live.proofs.serving.serve_turns.Given as goal
 abbrev pub invariant-loop : goal.invariant-loop
 invariant-loop g l =
     let book = g.B.Book in record {
-      served : Merges (book.is_sound l.book) (book.stands l.fn.book) (book.stands l.book) (book.leaves l.book) false (map exchanges_at l.fn.seats) (map exchanges_at l.seats);
+      served : Merges (book.is_sound l.book) (book.stands l.fn.book) (book.stands l.book) (book.leaves l.book) false false (map exchanges_at l.fn.seats) (map exchanges_at l.seats);
       stays_failed : IsTrue (book.has_failed l.fn.book) → IsTrue (book.has_failed l.book);
       stays_left : IsTrue (book.has_failed l.fn.book) → LeavesNoMore (book.leaves l.fn.book) (book.leaves l.book);
       sound : book.is_sound l.book → book.is_sound l.fn.book;

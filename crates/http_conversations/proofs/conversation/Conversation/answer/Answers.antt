@@ -1,7 +1,7 @@
 -- The first message was taken, or not.
 use Rattle.std.proofs.Math.Logic.{∥∥₁_map}
 use Rattle.http_conversations.specs.Talks.{history_of}
-use Rattle.http_conversations.proofs.Steps.{takes, takes_at_most_one, takes_fault, takes_one, takes_passes, takes_within}
+use Rattle.http_conversations.proofs.Steps.{takes, takes_at_most_one, takes_door, takes_fault, takes_one, takes_passes, takes_stopping, takes_within}
 use Rattle.http_conversations.proofs.conversation.Conversation.answer.Goals as goal
 
 pub invariant_of-self : goal.invariant_of-self
@@ -28,3 +28,11 @@ returns-clause-at_most_one g c =
 pub returns-clause-fault : goal.returns-clause-fault
 returns-clause-fault g c =
     takes_fault c.answer.result (history_of c.args.self.now.talk) (history_of c.answer.new.self) c.answer.ensures.takes
+
+pub returns-clause-door : goal.returns-clause-door
+returns-clause-door g c =
+    takes_door c.answer.result (history_of c.args.self.now.talk) (history_of c.answer.new.self) c.answer.ensures.takes
+
+pub returns-clause-stopping : goal.returns-clause-stopping
+returns-clause-stopping g c =
+    takes_stopping c.answer.result (history_of c.args.self.now.talk) (history_of c.answer.new.self) c.answer.ensures.takes

@@ -12,7 +12,7 @@ returns-in-Ok-clause-goes_on g c =
     let new = c.answer_to.new.book in
     got (book.is_sound new) (book.stands c.args.book.now) (book.stands new) (book.leaves new)
     (history_of c.args.self.now) (history_of c.keep.new.self) c.args.count first.message first.is_message
-    c.in-Ok.answer.bytes.items c.in-Ok.answer.closes c.keep.ensures.answered
+    c.in-Ok.answer.bytes.items c.in-Ok.answer.closes c.in-Ok.answer.stops c.keep.ensures.answered
     (λ sound s stood. let came = c.in-Ok.ensures.answer sound s stood first.message first.is_taken in (came.0.0, came.1))
 
 pub returns-in-Err-clause-goes_on : goal.returns-in-Err-clause-goes_on
