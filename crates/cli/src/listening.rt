@@ -3,13 +3,14 @@ ghost use Rattle.std.specs.Prelude.{◌≡◌, ◌≢◌, false, None, IfErr, Is
 ghost use Rattle.saga_core.specs.Books.{LeavesNoMore};
 ghost use Rattle.http_sockets.specs.Going.{GoOnBySome};
 ghost use Rattle.program_ends.specs.Ends.{EndsJob, IfDone};
+ghost use Rattle.desk_jobs.specs.Notes.{MayNote};
 ghost use Rattle.cli.specs.Ends.{TellsReady};
 
-use crate::desks::{close, connect};
+use crate::desks::{close_after, connect};
 use commands::Fault;
-use desk_jobs::ready_over;
+use desk_jobs::{note_recovered, ready_over};
 use http_sockets::{Limits, PATIENCE, Sockets, serve_sockets};
-use program_ends::{End, ProgramFault};
+use program_ends::{End, Ended, ProgramFault};
 use recovery::Ready;
 use saga_core::Book;
 use sqlite::{Alter, Connection};
@@ -32,26 +33,29 @@ pub(crate) struct Served<'a> {
 /// Serves connections over the database in a file, after recovery. Where a Unix socket was made, its file is removed when
 /// the database is closed.
 ///
-/// When connections are accepted, the line `ready PORT` is printed.
-pub(crate) fn serve_file<O: Write>(
+/// When connections are accepted, the line `ready PORT` is printed. A note says before how many events were recovered, if
+/// any.
+pub(crate) fn serve_file<O: Write, N: Write>(
     rt: &HostRuntime,
     alloc: Global,
     file: &str,
     served: Served<'_>,
     out: &mut O,
-) -> End
-    ensures job { EndsJob result }
-    ensures told { IfDone result
+    notes: &mut N,
+) -> Ended
+    ensures job { EndsJob result.end }
+    ensures told { IfDone result.end
         (TellsReady served.entry.port (O.contents out.old) (O.contents out.new)) }
+    ensures notes { MayNote (N.contents notes.old) (N.contents notes.new) }
 {
-    let conn = match connect(rt, file) {
-        Ok(conn) => conn,
-        Err(end) => return end,
+    let (conn, log) = match connect(rt, file) {
+        Ok(opened) => opened,
+        Err(ended) => return ended,
     };
-    let (conn, sockets, end) = serve_over(rt, alloc, served, conn, out);
-    let end = end.then(close(conn));
+    let (conn, sockets, end) = serve_over(rt, alloc, served, conn, out, notes);
+    let ended = close_after(rt, conn, log, &end).after(end);
     end_sockets(sockets);
-    end
+    ended
 }
 
 /// Ends the sockets, if they were made.
@@ -62,12 +66,13 @@ fn end_sockets(sockets: Option<Sockets<'_>>) {
 }
 
 /// Does the same over a connection to a database of any store. Returns the connection, the sockets, and the end.
-fn serve_over<'a, S: Alter + Drop, O: Write>(
+fn serve_over<'a, S: Alter + Drop, O: Write, N: Write>(
     rt: &'a HostRuntime,
     alloc: Global,
     served: Served<'a>,
     conn: Connection<S>,
     out: &mut O,
+    notes: &mut N,
 ) -> (Connection<S>, Option<Sockets<'a>>, End)
     requires outside { conn.in_transaction ≡ false }
     requires unlimited { conn.step_limit ≡ None }
@@ -75,9 +80,13 @@ fn serve_over<'a, S: Alter + Drop, O: Write>(
     ensures job { EndsJob result.2 }
     ensures told { IfDone result.2
         (TellsReady served.entry.port (O.contents out.old) (O.contents out.new)) }
+    ensures notes { MayNote (N.contents notes.old) (N.contents notes.new) }
 {
     match ready_over(alloc, conn) {
-        Ok((desk, _)) => serve_desk(rt, alloc, served, desk, out),
+        Ok((desk, made)) => {
+            note_recovered(alloc, made, notes);
+            serve_desk(rt, alloc, served, desk, out)
+        }
         Err((conn, end)) => (conn, None, end),
     }
 }

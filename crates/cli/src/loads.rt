@@ -2,11 +2,12 @@
 ghost use Rattle.std.specs.Prelude.{◌≡◌, false, None};
 ghost use Rattle.program_ends.specs.Ends.{EndsJob, IfDone};
 ghost use Rattle.desk_jobs.specs.Ends.{TellsAccepted};
+ghost use Rattle.desk_jobs.specs.Notes.{MayNote};
 
-use crate::desks::{close, connect};
+use crate::desks::{close_after, connect};
 use commands::MOST_BYTES;
-use desk_jobs::{load_over, ready_over};
-use program_ends::{End, ProgramFault};
+use desk_jobs::{load_over, note_recovered, ready_over};
+use program_ends::{End, Ended, ProgramFault};
 use recovery::Ready;
 use sqlite::{Alter, Connection};
 use std::alloc::Global;
@@ -17,43 +18,51 @@ use tables::TableBook;
 /// The most bytes that are read of an allotment file: one more than it may have.
 const MOST_READ: u64 = MOST_BYTES as u64 + 1;
 
-/// Loads an allotment file as a batch into the desk over the database in a file, after recovery, and prints the reply.
-pub(crate) fn load_file<O: Write>(
+/// Loads an allotment file as a batch into the desk over the database in a file, after recovery, and prints the reply. A
+/// note says how many events were recovered, if any.
+pub(crate) fn load_file<O: Write, N: Write>(
     rt: &HostRuntime,
     alloc: Global,
     file: &str,
     csv: &str,
     name: &str,
     out: &mut O,
-) -> End
-    ensures job { EndsJob result }
-    ensures told { IfDone result (TellsAccepted (O.contents out.old) (O.contents out.new)) }
+    notes: &mut N,
+) -> Ended
+    ensures job { EndsJob result.end }
+    ensures told { IfDone result.end (TellsAccepted (O.contents out.old) (O.contents out.new)) }
+    ensures notes { MayNote (N.contents notes.old) (N.contents notes.new) }
 {
-    let conn = match connect(rt, file) {
-        Ok(conn) => conn,
-        Err(end) => return end,
+    let (conn, log) = match connect(rt, file) {
+        Ok(opened) => opened,
+        Err(ended) => return ended,
     };
-    let (conn, end) = load_on(rt, alloc, csv, name, conn, out);
-    end.then(close(conn))
+    let (conn, end) = load_on(rt, alloc, csv, name, conn, out, notes);
+    close_after(rt, conn, log, &end).after(end)
 }
 
 /// Does the same over a connection to a database of any store. Returns the connection, and the end.
-fn load_on<S: Alter + Drop, O: Write>(
+fn load_on<S: Alter + Drop, O: Write, N: Write>(
     rt: &HostRuntime,
     alloc: Global,
     csv: &str,
     name: &str,
     conn: Connection<S>,
     out: &mut O,
+    notes: &mut N,
 ) -> (Connection<S>, End)
     requires outside { conn.in_transaction ≡ false }
     requires unlimited { conn.step_limit ≡ None }
 
     ensures job { EndsJob result.1 }
     ensures told { IfDone result.1 (TellsAccepted (O.contents out.old) (O.contents out.new)) }
+    ensures notes { MayNote (N.contents notes.old) (N.contents notes.new) }
 {
     match ready_over(alloc, conn) {
-        Ok((desk, _)) => load_into(rt, alloc, csv, name, desk, out),
+        Ok((desk, made)) => {
+            note_recovered(alloc, made, notes);
+            load_into(rt, alloc, csv, name, desk, out)
+        }
         Err(failed) => failed,
     }
 }

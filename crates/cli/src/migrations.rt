@@ -4,10 +4,10 @@ ghost use Rattle.std.specs.Io.KnownBytes.{Appends};
 ghost use Rattle.program_ends.specs.Ends.{EndsBadly, EndsJob, IfDone};
 ghost use Rattle.cli.specs.Ends.{end_of_migration, migrated_line, TellsMigrated};
 
-use crate::desks::{close, connect_there};
+use crate::desks::{close_after, connect_there};
 use commands::Refusal;
 use migrate::{MigrateFault, migrate};
-use program_ends::{End, ProgramFault};
+use program_ends::{End, Ended, ProgramFault};
 use protocols::ServeFault;
 use std::alloc::Global;
 use std::io::Write;
@@ -19,19 +19,25 @@ pub(crate) fn migrate_file<O: Write>(
     alloc: Global,
     file: &str,
     out: &mut O,
-) -> End
-    ensures job { EndsJob result }
-    ensures told { IfDone result (TellsMigrated (O.contents out.old) (O.contents out.new)) }
+) -> Ended
+    ensures job { EndsJob result.end }
+    ensures told { IfDone result.end (TellsMigrated (O.contents out.old) (O.contents out.new)) }
 {
-    let mut conn = match connect_there(rt, file) {
-        Ok(conn) => conn,
-        Err(end) => return end,
+    let (mut conn, log) = match connect_there(rt, file) {
+        Ok(opened) => opened,
+        Err(ended) => return ended,
     };
-    let migrated = migrate(&mut conn);
-    match (migrated, close(conn)) {
-        (Ok(migrated), End::Done) => tell_migrated(alloc, migrated.events, out),
-        (Ok(_), end) => end,
-        (Err(fault), _) => end_of_fault(fault),
+    match migrate(&mut conn) {
+        Ok(migrated) => match close_after(rt, conn, log, &End::Done) {
+            Ended { end: End::Done, .. } => {
+                Ended::from(tell_migrated(alloc, migrated.events, out))
+            }
+            ended => ended,
+        },
+        Err(fault) => {
+            let end = end_of_fault(fault);
+            close_after(rt, conn, log, &end).after(end)
+        }
     }
 }
 

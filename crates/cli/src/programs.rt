@@ -6,9 +6,11 @@ ghost use Rattle.streams.specs.Written.{WroteFront};
 ghost use Rattle.protocols.specs.Scenes.{ended};
 ghost use Rattle.program_ends.specs.Ends.{EndsJob, IfDone, TellsNoneOrFault};
 ghost use Rattle.command_line.specs.Version.{version_line as line_of_version};
+ghost use Rattle.desk_jobs.specs.Notes.{MayNote};
+ghost use Rattle.cli.specs.Explaining.{TellsExplained};
 ghost use Rattle.cli.specs.Ends.{HasBadId, ReadsFor, TellsOf, TellsRecovered};
 
-use crate::desks::{close, connect};
+use crate::desks::{close_after, connect};
 use crate::listening::{Served, serve_file};
 use crate::loads::load_file;
 use crate::migrations::migrate_file;
@@ -16,9 +18,9 @@ use crate::telling::{Report, history_file, report_file};
 use command_line::{Job, version_line};
 use commands::Refusal;
 use desk_jobs::{recover_over, run_over};
-use program_ends::{End, ProgramFault};
+use program_ends::{End, Ended, ProgramFault};
 use std::alloc::Global;
-use std::io::{Read, Write};
+use std::io::{Read, Write, sink};
 use streams::send;
 
 /// Does a job, prints how it ended, and returns the exit status: 0 done, 1 refused or fault.
@@ -42,27 +44,52 @@ pub fn perform<R: Read, O: Write, E: Write>(
     ensures bad_id { HasBadId job → (result ≡ 1) × WroteFront (O.contents out.old) (O.contents out.new)
         (ended (refusal_line Refusal.BadBody)) }
 {
-    let end = carry_out(rt, alloc, job, reader, out);
-    end.tell(alloc, out, err)
+    let ended = carry_out(rt, alloc, job, reader, out, &mut sink());
+    ended.end.tell(alloc, out, err)
 }
 
-/// Does a job, and returns its end.
-fn carry_out<R: Read, O: Write>(
+/// Does the same, and explains it on standard error: a note says how many events an opening recovered, if any; and after
+/// the line of a fault, or of a refused version, another one says why it came, if that is known, and what to do.
+pub fn perform_explained<R: Read, O: Write, E: Write>(
     rt: &HostRuntime,
     alloc: Global,
     job: Job,
     reader: &mut R,
     out: &mut O,
-) -> End
-    ensures job { EndsJob result }
-    ensures read { IfDone result (ReadsFor job (R.remaining reader.old) (R.remaining reader.new)) }
-    ensures told { IfDone result (TellsOf job (O.contents out.old) (O.contents out.new)) }
+    err: &mut E,
+) -> u8
+    ensures status { result ≤ 1 }
+    ensures read { result ≡ 0 → ReadsFor job (R.remaining reader.old) (R.remaining reader.new) }
+    ensures told { result ≡ 0 → TellsOf job (O.contents out.old) (O.contents out.new) }
 
-    ensures bad_id { HasBadId job → result ≡ End.Refused Refusal.BadBody }
+    ensures err { TellsExplained (E.contents err.old) (E.contents err.new) }
+
+    ensures bad_id { HasBadId job → (result ≡ 1) × WroteFront (O.contents out.old) (O.contents out.new)
+        (ended (refusal_line Refusal.BadBody)) }
+{
+    let ended = carry_out(rt, alloc, job, reader, out, err);
+    ended.explain(alloc, out, err)
+}
+
+/// Does a job, and returns its end.
+fn carry_out<R: Read, O: Write, N: Write>(
+    rt: &HostRuntime,
+    alloc: Global,
+    job: Job,
+    reader: &mut R,
+    out: &mut O,
+    notes: &mut N,
+) -> Ended
+    ensures job { EndsJob result.end }
+    ensures read { IfDone result.end (ReadsFor job (R.remaining reader.old) (R.remaining reader.new)) }
+    ensures told { IfDone result.end (TellsOf job (O.contents out.old) (O.contents out.new)) }
+    ensures notes { MayNote (N.contents notes.old) (N.contents notes.new) }
+
+    ensures bad_id { HasBadId job → result.end ≡ End.Refused Refusal.BadBody }
     ensures untold { HasBadId job → Keeps (O.contents out.old) (O.contents out.new) }
 {
     match job {
-        Job::Run { file } => run_file(rt, alloc, file.as_str(), reader, out),
+        Job::Run { file } => run_file(rt, alloc, file.as_str(), reader, out, notes),
         Job::Serve {
             file,
             port,
@@ -74,11 +101,19 @@ fn carry_out<R: Read, O: Write>(
                 connections,
                 house: house.as_ref().map(|path| path.as_str()),
             };
-            serve_file(rt, alloc, file.as_str(), served, out)
+            serve_file(rt, alloc, file.as_str(), served, out, notes)
         }
         Job::Recover { file } => recover_file(rt, alloc, file.as_str(), out),
         Job::Load { file, csv, batch } => {
-            load_file(rt, alloc, file.as_str(), csv.as_str(), batch.as_str(), out)
+            load_file(
+                rt,
+                alloc,
+                file.as_str(),
+                csv.as_str(),
+                batch.as_str(),
+                out,
+                notes,
+            )
         }
         Job::Stock { file } => report_file(rt, alloc, file.as_str(), Report::Stock, out),
         Job::Unfinished { file } => {
@@ -86,43 +121,47 @@ fn carry_out<R: Read, O: Write>(
         }
         Job::History { file, id } => history_file(rt, alloc, file.as_str(), id.as_str(), out),
         Job::Migrate { file } => migrate_file(rt, alloc, file.as_str(), out),
-        Job::Version => tell_version(out),
+        Job::Version => Ended::from(tell_version(out)),
     }
 }
 
 /// Answers the lines of the reader over the database in a file, after recovery.
-fn run_file<R: Read, O: Write>(
+fn run_file<R: Read, O: Write, N: Write>(
     rt: &HostRuntime,
     alloc: Global,
     file: &str,
     reader: &mut R,
     out: &mut O,
-) -> End
-    ensures job { EndsJob result }
-    ensures read { IfDone result (IsAtEnd (R.remaining reader.new)) }
+    notes: &mut N,
+) -> Ended
+    ensures job { EndsJob result.end }
+    ensures read { IfDone result.end (IsAtEnd (R.remaining reader.new)) }
+    ensures notes { MayNote (N.contents notes.old) (N.contents notes.new) }
 {
-    let conn = match connect(rt, file) {
-        Ok(conn) => conn,
-        Err(end) => return end,
+    let (conn, log) = match connect(rt, file) {
+        Ok(opened) => opened,
+        Err(ended) => return ended,
     };
-    let (conn, end) = run_over(alloc, conn, reader, out);
-    end.then(close(conn))
+    let (conn, end) = run_over(alloc, conn, reader, out, notes);
+    close_after(rt, conn, log, &end).after(end)
 }
 
 /// Recovers the desk over the database in a file, and, once it is closed, prints how many events recovery made.
-fn recover_file<O: Write>(rt: &HostRuntime, alloc: Global, file: &str, out: &mut O) -> End
-    ensures job { EndsJob result }
-    ensures told { IfDone result (TellsRecovered (O.contents out.old) (O.contents out.new)) }
+fn recover_file<O: Write>(rt: &HostRuntime, alloc: Global, file: &str, out: &mut O) -> Ended
+    ensures job { EndsJob result.end }
+    ensures told { IfDone result.end (TellsRecovered (O.contents out.old) (O.contents out.new)) }
 {
-    let conn = match connect(rt, file) {
-        Ok(conn) => conn,
-        Err(end) => return end,
+    let (conn, log) = match connect(rt, file) {
+        Ok(opened) => opened,
+        Err(ended) => return ended,
     };
     let (conn, recovered) = recover_over(alloc, conn);
-    match (recovered, close(conn)) {
-        (Ok(made), End::Done) => made.tell(alloc, out),
-        (Ok(_), end) => end,
-        (Err(end), _) => end,
+    match recovered {
+        Ok(made) => match close_after(rt, conn, log, &End::Done) {
+            Ended { end: End::Done, .. } => Ended::from(made.tell(alloc, out)),
+            ended => ended,
+        },
+        Err(end) => close_after(rt, conn, log, &end).after(end),
     }
 }
 

@@ -4,11 +4,11 @@ ghost use Rattle.std.specs.Io.KnownBytes.{Keeps};
 ghost use Rattle.desk_lines.specs.Lines.{journey_in as journey_of};
 ghost use Rattle.program_ends.specs.Ends.{EndsJob};
 
-use crate::desks::{close, connect_there};
+use crate::desks::{close_after, connect_there};
 use commands::Refusal;
 use desk_jobs::{history_over, stock_over, unfinished_over};
 use desk_lines::journey_in;
-use program_ends::{End, ProgramFault};
+use program_ends::{End, Ended, ProgramFault};
 use sqlite::{Alter, Connection};
 use std::alloc::Global;
 use std::io::{BufWriter, Write};
@@ -31,14 +31,14 @@ pub(crate) fn history_file<O: Write>(
     file: &str,
     id: &str,
     out: &mut O,
-) -> End
-    ensures job { EndsJob result }
-    ensures bad_id { journey_of id.now ≡ None → result ≡ End.Refused Refusal.BadBody }
+) -> Ended
+    ensures job { EndsJob result.end }
+    ensures bad_id { journey_of id.now ≡ None → result.end ≡ End.Refused Refusal.BadBody }
     ensures untold { journey_of id.now ≡ None →
         Keeps (O.contents out.old) (O.contents out.new) }
 {
     let Some(id) = journey_in(id) else {
-        return End::Refused(Refusal::BadBody);
+        return Ended::from(End::Refused(Refusal::BadBody));
     };
     report_file(rt, alloc, file, Report::History(id), out)
 }
@@ -50,15 +50,15 @@ pub(crate) fn report_file<O: Write>(
     file: &str,
     report: Report,
     out: &mut O,
-) -> End
-    ensures job { EndsJob result }
+) -> Ended
+    ensures job { EndsJob result.end }
 {
-    let conn = match connect_there(rt, file) {
-        Ok(conn) => conn,
-        Err(end) => return end,
+    let (conn, log) = match connect_there(rt, file) {
+        Ok(opened) => opened,
+        Err(ended) => return ended,
     };
     let (conn, end) = report_over(alloc, report, conn, out);
-    end.then(close(conn))
+    close_after(rt, conn, log, &end).after(end)
 }
 
 /// Prints a report of the desk of a connection, through a buffer, since a report is many short lines.

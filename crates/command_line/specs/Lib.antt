@@ -1,3 +1,4 @@
+pub mod Explaining
 pub mod Subcommands
 pub mod Jobs
 pub mod Version

@@ -22,6 +22,8 @@ Faults:
   25 Write       The output could not be written
   26 File        A file is absent or cannot be read
   27 Net         The port or the path could not be listened on
+  With '--explain' before the command, or where standard error is a terminal,
+  a second line says why, if that is known, and what to do.
 
 Exit status:
   0  Done

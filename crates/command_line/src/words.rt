@@ -14,7 +14,7 @@ use crate::jobs::{Job, JobFault};
 use crate::subcommands::Subcommand;
 use crate::version::program_version;
 use clap::error::ErrorKind;
-use clap::{ArgMatches, Command, Error};
+use clap::{Arg, ArgAction, ArgMatches, Command, Error};
 use commands::number_between;
 use std::alloc::{AllocError, Global};
 
@@ -222,7 +222,8 @@ fn usage_text(alloc: Global, words: &[String]) -> Result<JobFault, AllocError> {
         .after_long_help(PROGRAM)
         .no_binary_name(true)
         .subcommand_required(true)
-        .arg_required_else_help(true);
+        .arg_required_else_help(true)
+        .arg(explaining(alloc))?;
     for subcommand in Subcommand::ALL {
         desk = desk.subcommand(subcommand.command(alloc)?)?;
     }
@@ -230,6 +231,14 @@ fn usage_text(alloc: Global, words: &[String]) -> Result<JobFault, AllocError> {
         Err(error) => Ok(fault_of(alloc, &error)),
         Ok(_) => Ok(JobFault::Usage(desk.render_usage()?)),
     }
+}
+
+/// The word before the command that asks for an explanation of faults, for the usage.
+fn explaining<'a>(alloc: Global) -> Arg<'a> {
+    Arg::new(alloc, "explain")
+        .long("explain")
+        .help("Before the command: say why a fault came, and what to do")
+        .action(ArgAction::SetTrue)
 }
 
 /// The subcommand that `help` asks about, if its name is the last word.

@@ -1,10 +1,14 @@
 //! The program `desk`. `command_line` reads its words, `cli` does the job, and `program_ends` prints how it ended.
+//!
+//! Faults are explained where the first word asks for it, or where standard error is a terminal.
 #![tactic(auto)]
 
-use cli::perform;
-use command_line::job;
+use cli::{perform, perform_explained};
+use command_line::{Job, call_of, job};
 use program_ends::{End, ProgramFault, end_of_arguments};
+use std::alloc::Global;
 use std::env;
+use std::io::IsTerminal;
 use std::process::ExitCode;
 
 /// The words after the program's name, or the end of the program if they cannot be read.
@@ -22,20 +26,27 @@ fn words(rt: &HostRuntime) -> Result<Vec<String>, End> {
     Ok(words)
 }
 
+/// Does a job over the standard streams, and returns the exit status.
+fn carry_out(rt: &HostRuntime, alloc: Global, job: Job, explains: bool) -> u8 {
+    let (mut input, mut out, mut err) = (rt.stdin(), rt.stdout(), rt.stderr());
+    if explains {
+        perform_explained(rt, alloc, job, &mut input, &mut out, &mut err)
+    } else {
+        perform(rt, alloc, job, &mut input, &mut out, &mut err)
+    }
+}
+
 fn main(rt: HostRuntime) -> ExitCode {
     let alloc = rt.alloc();
     let status = match words(&rt) {
-        Ok(words) => match job(alloc, words) {
-            Ok(job) => perform(
-                &rt,
-                alloc,
-                job,
-                &mut rt.stdin(),
-                &mut rt.stdout(),
-                &mut rt.stderr(),
-            ),
-            Err(fault) => End::from(fault).tell(alloc, &mut rt.stdout(), &mut rt.stderr()),
-        },
+        Ok(words) => {
+            let call = call_of(words);
+            let explains = call.explains || rt.stderr().is_terminal();
+            match job(alloc, call.words) {
+                Ok(job) => carry_out(&rt, alloc, job, explains),
+                Err(fault) => End::from(fault).tell(alloc, &mut rt.stdout(), &mut rt.stderr()),
+            }
+        }
         Err(end) => end.tell(alloc, &mut rt.stdout(), &mut rt.stderr()),
     };
     ExitCode::from(status)

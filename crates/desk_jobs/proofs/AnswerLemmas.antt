@@ -9,7 +9,7 @@ use Rattle.streams.specs.Written.{WroteFront}
 use Rattle.protocols.specs.Scenes.{Scene, ended}
 use Rattle.protocols.specs.declared.faults.ServeFault.{ServeFault}
 use Rattle.protocols.specs.declared.faults.ServeFault.TheVariants.{Memory, Read, Store, Write}
-use Rattle.desk_lines.specs.Lines.{answer_line, answer_lines, lines, state_after_lines, written}
+use Rattle.desk_lines.specs.Lines.{answer_line, answer_lines, state_after_lines, written}
 use Rattle.desk_lines.specs.Serving.{AnswersAll, AnswersSome, ForNext, IsCut, WroteAll}
 use Rattle.reports.proofs.FrontLemmas.{front_before, front_whole}
 use Rattle.desk_jobs.specs.Running.{Answers, AnswersFront, answers_to}

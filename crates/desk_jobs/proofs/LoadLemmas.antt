@@ -1,23 +1,18 @@
 -- How a load ends, from what it came to and what was written. For load_over.
-use Rattle.std.proofs.Common.{◌≡◌, sym, subst, inl, inr, ℕ, List, Option, Result}
+use Rattle.std.proofs.Common.{subst, inl, inr, ℕ, List, Option, Result}
 use Rattle.std.specs.Prelude.{Ok, Err}
-use Rattle.std.specs.Io.KnownBytes.{Appends}
 use Rattle.commands.specs.BatchData.{Batched}
-use Rattle.commands.specs.Texts.{reply_line}
 use Rattle.commands.specs.declared.replies.Reply.{Reply}
 use Rattle.commands.specs.declared.replies.Reply.TheVariants as reply
 use Rattle.allotment_csv.specs.declared.faults.CsvFault.{CsvFault}
 use Rattle.ledger.specs.Answer.{State}
-use Rattle.streams.specs.Written.{WroteFront}
 use Rattle.streams.proofs.ByteLemmas.{keeps_same}
 use Rattle.reports.proofs.FrontLemmas.{front_none}
-use Rattle.protocols.specs.Scenes.{ended}
 use Rattle.protocols.specs.declared.faults.ServeFault.{ServeFault}
 use Rattle.protocols.specs.declared.faults.ServeFault.TheVariants.{Memory, Read, Store, Write}
 use Rattle.program_ends.specs.declared.ends.End.{End}
 use Rattle.program_ends.specs.declared.ends.End.TheVariants as finish
 use Rattle.program_ends.specs.declared.faults.ProgramFault.{ProgramFault}
-use Rattle.desk_jobs.specs.Ends.{IsAccepted}
 use Rattle.desk_jobs.specs.Loading.{EndsLoad, EndsWith, IsRefusedFor, LoadsFile, RefusesFor, TellsLoaded}
 
 module _ (held holds : Option (List ℕ)) (stands : State → Type 0) (leaves : State → State → Type 0)

@@ -1,5 +1,5 @@
 -- The answers of a desk that was recovered are those over the recovery of what its connection represented. For run_over.
-use Rattle.std.proofs.Common.{◌≤◌, sym, subst, ℕ, List, Option}
+use Rattle.std.proofs.Common.{◌≤◌, inl, inr, sym, subst, ℕ, List, Option}
 use Rattle.std.specs.Prelude.{IfSome, None, Some}
 use Rattle.ledger.specs.Answer.{State}
 use Rattle.recovery.specs.Growing.{Grew, room_of, with_events}
@@ -8,7 +8,9 @@ use Rattle.reports.proofs.FrontLemmas.{front_none}
 use Rattle.program_ends.specs.Ends.{IfDone}
 use Rattle.program_ends.specs.declared.ends.End.{End}
 use Rattle.program_ends.specs.declared.ends.End.TheVariants as finish
-use Rattle.desk_jobs.specs.Running.{Answers, AnswersAfterRecovery, AnswersFront, AnswersFrontAfterRecovery}
+use Rattle.streams.specs.Written.{WroteFront}
+use Rattle.desk_jobs.specs.Notes.{recovered_note, NotesOrKeeps}
+use Rattle.desk_jobs.specs.Running.{Answers, AnswersAfterRecovery, AnswersFront, AnswersFrontAfterRecovery, NotesRecovery}
 
 -- what follows where all was done
 done_as : {P Q : Type 0} (e : End) → (P → Q) → IfDone e P → IfDone e Q
@@ -44,6 +46,16 @@ module _ (held holds : Option (List ℕ)) {stands : State → Type 0} (s : State
     is = recovery_of s made grew;
     front = front (with_events s grew.events) grew.stands_there;
   }
+
+  -- the note says how many events the recovery has
+  pub note_of_recovery : NotesOrKeeps made held holds → NotesRecovery held holds s
+  note_of_recovery (inl kept) = inl kept
+  note_of_recovery (inr wrote) =
+      inr (
+        grew.events,
+        recovery_of s made grew,
+        subst (λ n. WroteFront held holds (recovered_note n)) (sym grew.counted) wrote,
+      )
 
 -- where nothing was written
 pub front_without_recovery : (held : Option (List ℕ)) (s : State) (known : Option (List ℕ)) → HasOneRecovery s

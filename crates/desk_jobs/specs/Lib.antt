@@ -1,5 +1,6 @@
 pub mod Connections
 pub mod Ends
 pub mod Loading
+pub mod Notes
 pub mod Reporting
 pub mod Running

@@ -1,5 +1,5 @@
 -- The result of loading an allotment file: the reply, what was written, and the state after it.
-use Rattle.std.specs.Prelude.{◌≡◌, ◌⊎◌, ⊤, ℕ, List, Option, None, Result, Ok, Err}
+use Rattle.std.specs.Prelude.{◌≡◌, ◌⊎◌, ℕ, List, Option, None, Result, Ok, Err}
 use Rattle.std.specs.Io.KnownBytes.{Appends, Keeps}
 use Rattle.commands.specs.BatchData.{Batched}
 use Rattle.commands.specs.Request.{Request}

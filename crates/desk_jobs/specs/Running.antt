@@ -1,11 +1,12 @@
 -- The answers to the lines of an input, over a state and over its recovery.
-use Rattle.std.specs.Prelude.{ℕ, List, Option}
-use Rattle.std.specs.Io.KnownBytes.{Appends}
+use Rattle.std.specs.Prelude.{◌⊎◌, ℕ, List, length, Option}
+use Rattle.std.specs.Io.KnownBytes.{Appends, Keeps}
 use Rattle.ledger.specs.Answer.{State}
 use Rattle.ledger.specs.Ledger.{Event}
 use Rattle.recovery.specs.Growing.{with_events}
 use Rattle.recovery.specs.Recovers.{IsRecovery}
 use Rattle.streams.specs.Written.{WroteFront}
+use Rattle.desk_jobs.specs.Notes.{recovered_note}
 use Rattle.desk_lines.specs.Lines.{lines, answer_lines, state_after_lines, written}
 
 -- the answers to the lines of an input, as bytes
@@ -34,3 +35,9 @@ pub record AnswersFrontAfterRecovery (held holds : Option (List ℕ)) (s : State
   pub events : List Event
   pub is : IsRecovery s events
   pub front : AnswersFront held holds (with_events s events) input
+
+-- nothing was written, or a prefix of the note of so many events as the recovery of the state has
+abbrev pub NotesRecovery : Option (List ℕ) → Option (List ℕ) → State → Type 0
+NotesRecovery held holds s =
+    Keeps held holds
+    ⊎ ((events : List Event) × IsRecovery s events × WroteFront held holds (recovered_note (length events)))

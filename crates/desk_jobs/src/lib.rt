@@ -8,12 +8,14 @@
 #![tactic(auto)]
 
 mod loading;
+mod notes;
 mod opening;
 mod recovering;
 mod reporting;
 mod running;
 
 pub use loading::load_over;
+pub use notes::note_recovered;
 pub use opening::ready_over;
 pub use recovering::{Recovered, recover_over};
 pub use reporting::{history_over, stock_over, unfinished_over};

@@ -8,8 +8,10 @@ ghost use Rattle.sql_reads.specs.Reading.{WasClean};
 ghost use Rattle.tables.specs.BookTerms.{StandsBook};
 ghost use Rattle.program_ends.specs.Ends.{EndsJob, IfDone};
 ghost use Rattle.desk_jobs.specs.Connections.{Represents};
-ghost use Rattle.desk_jobs.specs.Running.{Answers, AnswersAfterRecovery, AnswersFront, AnswersFrontAfterRecovery};
+ghost use Rattle.desk_jobs.specs.Notes.{MayNote};
+ghost use Rattle.desk_jobs.specs.Running.{NotesRecovery, Answers, AnswersAfterRecovery, AnswersFront, AnswersFrontAfterRecovery};
 
+use crate::notes::note_recovered;
 use crate::opening::ready_over;
 use desk_lines::run_lines;
 use program_ends::End;
@@ -20,12 +22,14 @@ use std::alloc::Global;
 use std::io::{Read, Write};
 use tables::TableBook;
 
-/// Recovers the desk of a connection, and answers the lines of a reader. Returns the connection, and the end.
-pub fn run_over<S: Alter + Drop, R: Read, O: Write>(
+/// Recovers the desk of a connection, and answers the lines of a reader. Returns the connection, and the end. If recovery
+/// made events, a note says so first.
+pub fn run_over<S: Alter + Drop, R: Read, O: Write, N: Write>(
     alloc: Global,
     conn: Connection<S>,
     reader: &mut R,
     out: &mut O,
+    notes: &mut N,
 ) -> (Connection<S>, End)
     requires outside { conn.in_transaction ≡ false }
     requires unlimited { conn.step_limit ≡ None }
@@ -39,6 +43,9 @@ pub fn run_over<S: Alter + Drop, R: Read, O: Write>(
         IfSome (R.remaining reader.old) (AnswersFrontAfterRecovery
         (O.contents out.old) (O.contents out.new) s) }
     ensures end { EndsJob result.1 }
+    ensures noted { HasCleanDisk (state S.Store result.0) → (s : State) → Represents S.Store conn s →
+        NotesRecovery (N.contents notes.old) (N.contents notes.new) s }
+    ensures notes { MayNote (N.contents notes.old) (N.contents notes.new) }
 
     ensures outside { result.0.in_transaction ≡ false }
     ensures unlimited { result.0.step_limit ≡ None }
@@ -46,7 +53,10 @@ pub fn run_over<S: Alter + Drop, R: Read, O: Write>(
 {
     one_recovery();
     match ready_over(alloc, conn) {
-        Ok((desk, _)) => run_desk(alloc, desk, reader, out),
+        Ok((desk, made)) => {
+            note_recovered(alloc, made, notes);
+            run_desk(alloc, desk, reader, out)
+        }
         Err((conn, end)) => (conn, end),
     }
 }

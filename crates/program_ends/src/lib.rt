@@ -2,12 +2,18 @@
 //!
 //! `End::tell` prints an end and returns its exit status. A refusal goes to standard output; a `ProgramFault`, and the
 //! usage, go to standard error. `end_of_arguments` is the end where the words of the command line cannot be read.
+//!
+//! A `Cause` says why, as far as that is known, and what to do. `Ended::explain` prints its line after that of the end.
 #![tactic(auto)]
 
 mod arguments;
+mod causes;
+mod ended;
 mod ends;
 mod faults;
 
 pub use arguments::end_of_arguments;
+pub use causes::Cause;
+pub use ended::Ended;
 pub use ends::End;
 pub use faults::ProgramFault;

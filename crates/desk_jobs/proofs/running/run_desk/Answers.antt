@@ -1,5 +1,5 @@
 -- Whatever the end, a prefix of the answers was written.
-use Rattle.std.proofs.Common.{sym, subst}
+use Rattle.std.proofs.Common.{subst}
 use Rattle.sqlite.specs.Held.{state}
 use Rattle.sqlite.specs.State.{HasCleanDisk}
 use Rattle.protocols.specs.Scenes.{scene}

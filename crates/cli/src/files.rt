@@ -1,0 +1,120 @@
+//! What can be said of a database file without opening it as a database.
+use program_ends::Cause;
+use std::alloc::Global;
+use std::fs;
+use std::fs::OpenOptions;
+use std::io::ErrorKind;
+use streams::read_some;
+
+/// The first bytes of each database file.
+const FIRST_BYTES: &[u8] = b"SQLite format 3\0";
+
+/// The log beside a database file, by its path, where none stood there before the file was opened.
+#[derive(Drop)]
+pub(crate) struct NewLog {
+    path: Option<String>,
+}
+
+impl NewLog {
+    /// The log that an opening of the file would make. There is none where a log stands beside the file already, where
+    /// the file may be that of a new desk, or where that cannot be found out.
+    pub(crate) fn beside(rt: &HostRuntime, file: &str) -> NewLog {
+        if !may_be_other(rt, file) {
+            return NewLog { path: None };
+        }
+        let path = match log_of(rt, file) {
+            Some(path) => match fs::exists(rt, path.as_str()) {
+                Ok(false) => Some(path),
+                _ => None,
+            },
+            None => None,
+        };
+        NewLog { path }
+    }
+
+    /// Whether no log stood beside the file.
+    pub(crate) fn is_new(&self) -> bool {
+        self.path.is_some()
+    }
+
+    /// Removes the log if it is new. A failure of that is ignored: the log is harmless.
+    pub(crate) fn remove(self, rt: &HostRuntime) {
+        if let Some(path) = self.path {
+            let _ = fs::remove_file(rt, path.as_str());
+        }
+    }
+}
+
+/// Whether a file is there and has more than a byte. An empty one is that of a new desk, and so may be one of a single
+/// byte, which a first opening left.
+fn may_be_other(rt: &HostRuntime, file: &str) -> bool {
+    match fs::metadata(rt, file) {
+        Ok(found) => found.is_file() && found.len() > 1,
+        Err(_) => false,
+    }
+}
+
+/// The path of the log of a file that is there.
+fn log_of(rt: &HostRuntime, file: &str) -> Option<String> {
+    let alloc: Global = rt.alloc();
+    let real = fs::canonicalize(rt, file).ok()?;
+    format!(in alloc; "{}-wal", real.as_str()).ok()
+}
+
+/// Whether a file does not begin as a database does. If it cannot be read, that is not known.
+pub(crate) fn is_no_database(rt: &HostRuntime, file: &str) -> bool {
+    let Ok(mut opened) = fs::open(rt, file) else {
+        return false;
+    };
+    let mut bytes = [0; 16];
+    match read_some(&mut opened, &mut bytes) {
+        Ok(count) => match bytes.get(..count) {
+            Some(first) => !FIRST_BYTES.starts_with(first),
+            None => false,
+        },
+        Err(_) => false,
+    }
+}
+
+/// Why a path could not be opened, as far as the path itself shows it.
+pub(crate) fn cause_of_path(rt: &HostRuntime, file: &str) -> Option<Cause> {
+    match fs::metadata(rt, file) {
+        Ok(found) if !found.is_file() => Some(Cause::NoFile),
+        Ok(_) => cause_of_file(rt, file),
+        Err(error) if error.kind() == ErrorKind::NotFound => Some(cause_of_folder(rt, file)),
+        Err(error) => cause_of_kind(error.kind()),
+    }
+}
+
+/// Why a file that is there could not be opened.
+fn cause_of_file(rt: &HostRuntime, file: &str) -> Option<Cause> {
+    match OpenOptions::new().read(true).write(true).open(rt, file) {
+        Ok(_) => None,
+        Err(error) => cause_of_kind(error.kind()),
+    }
+}
+
+/// Why a file that is absent could not be made.
+fn cause_of_folder(rt: &HostRuntime, file: &str) -> Cause {
+    let folder = match file.rsplit_once('/') {
+        Some((folder, _)) if folder.is_empty() => "/",
+        Some((folder, _)) => folder,
+        None => ".",
+    };
+    match fs::exists(rt, folder) {
+        Ok(false) => Cause::NoFolder,
+        _ => Cause::NotMade,
+    }
+}
+
+/// The cause of an error of the system.
+pub(crate) fn cause_of_kind(kind: ErrorKind) -> Option<Cause> {
+    match kind {
+        ErrorKind::NotFound => Some(Cause::Absent),
+        ErrorKind::PermissionDenied | ErrorKind::ReadOnlyFilesystem => Some(Cause::NotPermitted),
+        ErrorKind::IsADirectory => Some(Cause::NoFile),
+        ErrorKind::NotADirectory => Some(Cause::NoFolder),
+        ErrorKind::StorageFull | ErrorKind::QuotaExceeded => Some(Cause::FullDisk),
+        _ => None,
+    }
+}

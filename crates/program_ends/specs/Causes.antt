@@ -1,0 +1,45 @@
+-- Why the program ended as it did, in words for a user, and how they are printed after the line of the end.
+use Rattle.std.specs.Prelude.{◌==◌, if◌then◌else◌, ℕ, List, codes, Option, None, Some}
+use Rattle.std.specs.Io.KnownBytes.{Keeps}
+use Rattle.streams.specs.Written.{WroteFront}
+use Rattle.commands.specs.declared.refusals.Refusal.TheVariants as refusal
+use Rattle.program_ends.specs.Ends.{TellsError}
+use Rattle.program_ends.specs.declared.ends.End.{End}
+use Rattle.program_ends.specs.declared.ends.End.TheVariants as finish
+use Rattle.program_ends.specs.declared.causes.Cause.{Cause}
+use Rattle.program_ends.specs.declared.causes.Cause.TheVariants as cause
+
+-- the line of a cause: what the matter is, and what to do
+abbrev pub cause_line : Cause → List ℕ
+cause_line cause.Absent = codes "The file is absent. Look at its name.\n"
+cause_line cause.NoFolder = codes "The folder of the file is absent. Make it, or look at its name.\n"
+cause_line cause.NotMade = codes "The file is absent and cannot be made. Its folder may be read-only, or the disk full.\n"
+cause_line cause.InUse = codes "The file is in use. End the program that has it open, or wait for it.\n"
+cause_line cause.NotPermitted = codes "The file or its folder may not be read and written. Ask its owner for that.\n"
+cause_line cause.NoFile = codes "This is a folder, or another thing that is no file. Name a file.\n"
+cause_line cause.NoDatabase = codes "The file is no database, and is left as it was. Look at its name.\n"
+cause_line cause.OtherTables = codes "The database is another program's, and is left as it was. Look at its name.\n"
+cause_line cause.Damaged = codes "The database is damaged, or of a form that cannot be read. Take a backup of it.\n"
+cause_line cause.FullDisk = codes "The disk is full. Make room on it, and run again.\n"
+cause_line cause.FailedDisk = codes "The disk failed in a read or a write. Look after it, and run again.\n"
+cause_line cause.OldVersion = codes "The database is of an older version. Make a copy of it, and run 'desk migrate'.\n"
+cause_line cause.OtherVersion = codes "The database is of an unknown version. Take the program that made it.\n"
+
+-- the cause that an end alone shows: the version before the newest, or another one
+abbrev pub cause_of_version : ℕ → Cause
+cause_of_version version = if version == 1 then cause.OldVersion else cause.OtherVersion
+
+abbrev pub cause_of_end : End → Option Cause
+cause_of_end (finish.Refused (refusal.UnknownSchema version)) = Some (cause_of_version version)
+cause_of_end _ = None
+
+-- nothing was written without a cause, and a prefix of its line with one
+abbrev pub TellsCause : Option Cause → Option (List ℕ) → Option (List ℕ) → Type 0
+TellsCause None held holds = Keeps held holds
+TellsCause (Some c) held holds = WroteFront held holds (cause_line c)
+
+-- the text of an end on standard error, and after it the line of its cause
+pub record Explains (e : End) (c : Option Cause) (held holds : Option (List ℕ)) : Type 0 where
+  pub between : Option (List ℕ)
+  pub told : TellsError e held between
+  pub why : TellsCause c between holds

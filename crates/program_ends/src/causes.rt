@@ -1,0 +1,94 @@
+//! Why the program ended as it did, in words for a user. A cause changes no number, line or status of a fault.
+ghost use Rattle.std.specs.Prelude.{◌≡◌};
+ghost use Rattle.program_ends.specs.Causes.{cause_line, cause_of_end};
+
+use crate::ends::End;
+use commands::Refusal;
+use std::fmt::{Display, Formatter, Result as Formatted, Write};
+
+/// Why the program ended as it did, as far as that is known. As text it is a sentence on the matter, and what to do.
+#[derive(Clone, Copy, Debug, PartialEq, Eq)]
+pub enum Cause {
+    /// A file that has to be there is absent.
+    Absent,
+    /// The folder of the file is absent.
+    NoFolder,
+    /// The file is absent, and cannot be made in its folder.
+    NotMade,
+    /// Another program, or another call of this one, has the file open.
+    InUse,
+    /// The file, or its folder, may not be read or written.
+    NotPermitted,
+    /// It is a folder, or another thing that is no file.
+    NoFile,
+    /// The file is no database.
+    NoDatabase,
+    /// The database has other tables than the desk's.
+    OtherTables,
+    /// The database is damaged, or has a form that cannot be read.
+    Damaged,
+    /// The disk is full.
+    FullDisk,
+    /// The disk failed.
+    FailedDisk,
+    /// The tables are of the version before the newest.
+    OldVersion,
+    /// The tables are of an unknown version.
+    OtherVersion,
+}
+
+impl Cause {
+    /// The cause that an end alone shows: an unknown version.
+    pub fn of_end(end: &End) -> Option<Cause>
+        ensures cause { result ≡ cause_of_end end.now }
+    {
+        match end {
+            End::Refused(Refusal::UnknownSchema { version: 1 }) => Some(Cause::OldVersion),
+            End::Refused(Refusal::UnknownSchema { .. }) => Some(Cause::OtherVersion),
+            _ => None,
+        }
+    }
+
+    /// The line of the cause, with a line feed. Allocates nothing.
+    pub fn line(self) -> &'static str
+        ensures line { result.now ≡ cause_line self }
+    {
+        match self {
+            Cause::Absent => "The file is absent. Look at its name.\n",
+            Cause::NoFolder => "The folder of the file is absent. Make it, or look at its name.\n",
+            Cause::NotMade => {
+                "The file is absent and cannot be made. Its folder may be read-only, or the disk full.\n"
+            }
+            Cause::InUse =>
+                "The file is in use. End the program that has it open, or wait for it.\n",
+            Cause::NotPermitted => {
+                "The file or its folder may not be read and written. Ask its owner for that.\n"
+            }
+            Cause::NoFile => "This is a folder, or another thing that is no file. Name a file.\n",
+            Cause::NoDatabase => {
+                "The file is no database, and is left as it was. Look at its name.\n"
+            }
+            Cause::OtherTables => {
+                "The database is another program's, and is left as it was. Look at its name.\n"
+            }
+            Cause::Damaged => {
+                "The database is damaged, or of a form that cannot be read. Take a backup of it.\n"
+            }
+            Cause::FullDisk => "The disk is full. Make room on it, and run again.\n",
+            Cause::FailedDisk =>
+                "The disk failed in a read or a write. Look after it, and run again.\n",
+            Cause::OldVersion => {
+                "The database is of an older version. Make a copy of it, and run 'desk migrate'.\n"
+            }
+            Cause::OtherVersion => {
+                "The database is of an unknown version. Take the program that made it.\n"
+            }
+        }
+    }
+}
+
+impl Display for Cause {
+    fn fmt<W: Write>(&self, f: &mut Formatter<W>) -> Formatted {
+        f.write_str(self.line().trim_end())
+    }
+}

@@ -1,0 +1,140 @@
+#!/usr/bin/env bash
+# Faults that are explained: after --explain, and where standard error is a terminal, a second line says why a fault came, if
+# that is known, and what to do. Without that a fault stays one line. An opening that recovered events says so there too. A file
+# that is no database of the desk is left as it was, without a log beside it.
+. "$(dirname "${BASH_SOURCE[0]}")/helping.bash"
+
+line="begin F/AL/A1/2030-06-01/1/1!0"
+
+# explains WHAT END WHY WORDS..: this call ends with this line, of a fault or a refusal, and is explained so; without the word
+# there is no second line
+explains() {
+  local what=$1 end=$2 why=$3 out=""
+  shift 3
+  [[ $end == fault* ]] || out=$end
+  same "$what, as ever" "$end" "$("$DESK" "$@" 2>&1 </dev/null)"
+  same "$what: standard output" "$out" "$("$DESK" --explain "$@" 2>"$work/err" </dev/null)"
+  same "$what: standard error" "$([[ $end == fault* ]] && echo "$end"; [ -z "$why" ] || echo "$why")" "$(cat "$work/err")"
+  "$DESK" --explain "$@" >/dev/null 2>&1 </dev/null
+  same "$what: the status" 1 "$?"
+}
+
+# sums: the names of the files in the folder, and a sum of what they hold
+sums() { ls -A1; cat -- * 2>/dev/null | cksum; }
+
+mkdir absent_log && cd absent_log || exit 2
+printf 'kind,supplier,product,night,places\nflight,AL,A1,2030-06-01,9\n' >june.csv
+sqlite3 other.db "CREATE TABLE other(a); INSERT INTO other VALUES(7)"
+sqlite3 walled.db "PRAGMA journal_mode = wal; CREATE TABLE other(a); INSERT INTO other VALUES(7)" >/dev/null
+head -c 8192 other.db | tr 'S' 'T' >spoiled.db
+printf 'SQLite format 3\0' | cat - <(head -c 9000 /dev/zero | tr '\0' x) >damaged.db
+sums >../before 2>../err
+for file in june.csv other.db walled.db spoiled.db damaged.db; do
+  for words in "run $file" "recover $file" "stock $file" "history $file 1" "migrate $file" "load $file june.csv --batch b"; do
+    same "$words" "fault 21 Store" "$("$DESK" $words 2>&1 </dev/null)"
+    same "$words: the folder and its files" "$(cat ../before)" "$(sums)"
+  done
+done
+why_no_database="The file is no database, and is left as it was. Look at its name."
+why_other="The database is another program's, and is left as it was. Look at its name."
+why_damaged="The database is damaged, or of a form that cannot be read. Take a backup of it."
+explains "an allotment file" "fault 21 Store" "$why_no_database" run june.csv
+explains "another program's database" "fault 21 Store" "$why_other" stock other.db
+explains "a damaged database" "fault 21 Store" "$why_damaged" recover damaged.db
+same "the folder and its files" "$(cat ../before)" "$(sums)"
+same "another program still reads its file" 7 "$(sqlite3 other.db 'SELECT a FROM other')"
+cd .. || exit 2
+
+mkdir folder
+explains "a folder" "fault 21 Store" "This is a folder, or another thing that is no file. Name a file." run folder
+explains "a folder that is absent" "fault 21 Store" \
+  "The folder of the file is absent. Make it, or look at its name." run absent/x.db
+explains "an absent file" "fault 26 File" "The file is absent. Look at its name." stock absent.db
+explains "an absent file to migrate" "fault 26 File" "The file is absent. Look at its name." migrate absent.db
+explains "a bad number" "refused 4 BadBody" "" history absent.db 01
+answers "a new desk" "$line\n" "journey 1 begun"
+explains "an absent journey" "refused 9 NoJourney" "" history trips.db 9
+
+# a file that may not be read, where that can be tried
+cp trips.db closed.db
+chmod 0 closed.db
+if [ -r closed.db ]; then
+  echo "explained.sh: no file is closed to this user, so that is not tried" >&2
+else
+  explains "a file that may not be read" "fault 21 Store" \
+    "The file or its folder may not be read and written. Ask its owner for that." stock closed.db
+fi
+
+# versions
+sqlite3 old.db 'CREATE TABLE meta(one INTEGER PRIMARY KEY CHECK(one = 1), version INTEGER NOT NULL,
+  events INTEGER NOT NULL, journeys INTEGER NOT NULL) STRICT; INSERT INTO meta VALUES(1, 1, 0, 0)'
+explains "an older version" "refused 20 UnknownSchema 1" \
+  "The database is of an older version. Make a copy of it, and run 'desk migrate'." run old.db
+sqlite3 old.db 'UPDATE meta SET version = 9'
+explains "a later version" "refused 20 UnknownSchema 9" \
+  "The database is of an unknown version. Take the program that made it." run old.db
+
+# a file in use
+opens_desk
+asks "in use" "$line" "journey 2 begun"
+explains "a file in use" "fault 21 Store" \
+  "The file is in use. End the program that has it open, or wait for it." run trips.db
+closes_desk
+
+# recovered events are noted once, before the answers
+same "a recovery: the answers" "journey 3 begun" "$("$DESK" --explain run trips.db 2>err <<<"$line")"
+same "a recovery: the note" "recovered events (see 'desk history'): 1" "$(cat err)"
+printf '%s\n%s\n' "$line" "$line" | "$DESK" run trips.db >/dev/null
+same "two events: the answers" "" "$("$DESK" --explain run trips.db 2>err </dev/null)"
+same "two events: the note" "recovered events (see 'desk history'): 2" "$(cat err)"
+same "no event: the note" "" "$("$DESK" --explain run trips.db 2>&1 </dev/null)"
+echo "$line" | "$DESK" run trips.db >/dev/null
+printf 'kind,supplier,product,night,places\nflight,AL,A9,2030-06-01,9\n' >nine.csv
+same "a load: the answer" "loaded nine 1" "$("$DESK" --explain load trips.db nine.csv --batch nine 2>err)"
+same "a load: the note" "recovered events (see 'desk history'): 1" "$(cat err)"
+echo "$line" | "$DESK" run trips.db >/dev/null
+same "recover says it itself" "recovered 1" "$("$DESK" --explain recover trips.db 2>err)"
+same "recover: no note" "" "$(cat err)"
+
+# the full disk: all calls from some one on find no room
+cc -O1 -shared -fPIC -o calls.so "$tests/calls.c" -ldl || exit 1
+full=0
+for call in 20 40 60 80 100 120; do
+  rm -f new.db* failed
+  FAIL=$call THEN=all ERROR=28 LD_PRELOAD=./calls.so "$DESK" --explain run new.db >out 2>err <<<"$line"
+  [ "$(sed -n 2p err)" != "The disk is full. Make room on it, and run again." ] || full=$((full + 1))
+  same "a full disk, call $call: at most two lines" yes "$([ "$(wc -l <err)" -le 2 ] && echo yes)"
+done
+same "a full disk is named" yes "$([ "$full" -gt 0 ] && echo yes)"
+
+# the word stands before the command only
+"$DESK" run trips.db --explain >out 2>err </dev/null
+same "the word after the command" "2:" "$?:$(cat out)"
+"$DESK" --explain >out 2>err </dev/null
+same "the word alone" 2 "$?"
+same "the word and the version" "$("$DESK" --version)" "$("$DESK" --explain --version)"
+
+# standard error is a terminal: what it shows, without carriage returns
+if command -v python3 >/dev/null; then
+  shown=$(python3 - "$DESK" absent.db <<'TERMINAL'
+import os, pty, subprocess, sys
+ours, theirs = pty.openpty()
+run = subprocess.run([sys.argv[1], "stock", sys.argv[2]], stdin=subprocess.DEVNULL, stdout=subprocess.PIPE, stderr=theirs)
+os.close(theirs)
+text = b""
+try:
+    while True:
+        piece = os.read(ours, 1000)
+        if not piece:
+            break
+        text += piece
+except OSError:
+    pass
+sys.stdout.write(f"{run.returncode} {run.stdout.decode()}{text.decode()}")
+TERMINAL
+  )
+  same "a terminal" "1 fault 26 File The file is absent. Look at its name. " "$(tr -d '\r' <<<"$shown" | tr '\n' ' ')"
+else
+  echo "explained.sh: there is no python3, so a terminal is not tried" >&2
+fi
+finish
