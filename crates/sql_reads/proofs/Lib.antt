@@ -1,6 +1,9 @@
 pub mod GoingOn
+pub mod BuiltPlans
 pub mod GoodMarks
+pub mod GoodPlans
 pub mod GoodStock
+pub mod GoodTexts
 pub mod HandedBriefs
 pub mod HandedGood
 pub mod HandedHistory

@@ -16,10 +16,14 @@ use Rattle.sql_model.specs.Standing.{IsDesk}
 module _ {S : Type 0} (g : Ghosts S) (old new : Held S) where
   -- While the store returns what was written, and what the connection kept in tables of this version is a desk that fits: a
   -- fault of a store that was up says that its disk failed or refused meanwhile. A look at the rows never is one.
-  abbrev pub FailsWhere : Version → (State → Type 0) → {V : Type 0} → Result V Fault → Type 0
-  FailsWhere v Fits result =
+  abbrev pub FailsWhere : Version → {V : Type 0} → Result V Fault → (State → Type 0) → Type 0
+  FailsWhere v result Fits =
       HasCleanDisk (state g new) → (s : State) → IsDesk s → IsSpelled s.ledger → KeepsIn v (state g old) s
       → Fits s → IsUp (state g old) → IsErrOf result Store → HasFaulted (state g old) (state g new)
+
+  -- the same, in tables of each version
+  abbrev pub FailsWhereEach : {V : Type 0} → Result V Fault → (State → Type 0) → Type 0
+  FailsWhereEach result Fits = (v : Version) → FailsWhere v result Fits
 
   -- the same, of each desk
   abbrev pub FailsForReasonIn : Version → {V : Type 0} → Result V Fault → Type 0

@@ -115,6 +115,10 @@ abbrev pub IsPlanOf : ℕ → ℕ → State → Planned → Type 0
 IsPlanOf id tries s plan =
     (a : Journey) → journey_at s.ledger id ≡ Some a → tries ≡ a.plan.tries → plan ≡ a.plan
 
+-- there is a journey with this number, and these are its tries
+abbrev pub HasTries : ℕ → ℕ → State → Type 0
+HasTries id tries s = (a : Journey) × (journey_at s.ledger id ≡ Some a) × (tries ≡ a.plan.tries)
+
 -- the brief of the first unfinished journey above this number
 abbrev pub IsFirstAbove : ℕ → State → Option Brief → Type 0
 IsFirstAbove after s found = found ≡ first_unfinished s.ledger after

@@ -1,7 +1,12 @@
 //! The plan that rows of options give. It is built step by step, and then compared with the rows.
-ghost use Rattle.std.specs.Prelude.{◌≡◌, ◌≤◌, true, length, IfOk, IfSome, IsTrue};
-ghost use Rattle.plan.specs.PlanModel.{step_count, option_count, is_plan};
-ghost use Rattle.sql_reads.specs.PlanRows.{TellsWant, TellsOption, TellStep, TellPlan};
+ghost use Rattle.std.specs.Prelude.{◌≡◌, ◌≤◌, ◌+◌, ◌∷◌, ℕ, [], true, length, map, IfErr, IfOk, IfSome, IsSome, IsTrue};
+ghost use Rattle.allotment.specs.Limits.{is_want};
+ghost use Rattle.allotment.specs.Want.{Wanted};
+ghost use Rattle.plan.specs.PlanModel.{Planned, step_count, step_said, option_count, is_plan};
+ghost use Rattle.sql_model.specs.Beginning.{rows_of_option};
+ghost use Rattle.sql_model.specs.ExpectedRows.{step_rows_of};
+ghost use Rattle.sql_reads.specs.GoodRows.{IsMemory};
+ghost use Rattle.sql_reads.specs.PlanRows.{first_rows, AreRowsOf, BeginWithStep, IsOfPlace, TellsWant, TellsOption, TellStep, TellPlan};
 
 use allotment::{Kind, Night, Want};
 use commands::Fault;
@@ -11,7 +16,8 @@ use std::alloc::Global;
 
 /// Whether a row is that of an option with this want.
 fn is_of_want(row: &StepFound, want: &Want) -> bool
-    ensures { result ≡ true → TellsWant row.now want.now }
+    ensures told { result ≡ true → TellsWant row.now want.now }
+    ensures exact { TellsWant row.now want.now → result ≡ true }
 {
     row.kind == u64::from(want.kind().number())
         && row.supplier.as_str() == want.supplier().as_str()
@@ -28,7 +34,9 @@ fn is_option(row: &StepFound, plan: &Plan, step: usize, option: usize) -> bool
     requires option_from_one { 1 ≤ option }
     requires option_in_step { option ≤ option_count plan.now step }
 
-    ensures { result ≡ true → TellsOption row.now plan.now step option }
+    ensures told { result ≡ true → TellsOption row.now plan.now step option }
+    ensures exact { (id : ℕ) → rows_of_option id plan.now step option ≡ first_rows id (row.now ∷ [])
+        → result ≡ true }
 {
     let want = plan.want(step, option);
     row.place == step as u64
@@ -43,7 +51,9 @@ fn after_step(rows: &[StepFound], from: usize, plan: &Plan, step: usize) -> Opti
     requires in_plan { step ≤ step_count plan.now }
     requires within { from ≤ length rows.now }
 
-    ensures { IfSome result (TellStep rows.now from plan.now step) }
+    ensures told { IfSome result (TellStep rows.now from plan.now step) }
+    ensures next { IfSome result (λ to. to ≡ from + option_count plan.now step) }
+    ensures there { (id : ℕ) → BeginWithStep id rows.now from plan.now step → IsSome result }
 {
     let options = plan.options(step);
     for option in 0..options {
@@ -57,7 +67,8 @@ fn after_step(rows: &[StepFound], from: usize, plan: &Plan, step: usize) -> Opti
 
 /// Whether the rows are just those of this plan, taken or not.
 fn are_of_plan(rows: &[StepFound], plan: &Plan) -> bool
-    ensures { result ≡ true → TellPlan rows.now plan.now }
+    ensures told { result ≡ true → TellPlan rows.now plan.now }
+    ensures exact { (id : ℕ) → step_rows_of id plan.now ≡ first_rows id rows.now → result ≡ true }
 {
     let mut count = 0;
     for step in 0..plan.steps() {
@@ -72,6 +83,8 @@ fn are_of_plan(rows: &[StepFound], plan: &Plan) -> bool
 /// Returns the want in the row of an option. A want out of range is a fault of the store.
 pub fn want_told(alloc: Global, row: &StepFound) -> Result<Want, Fault>
     ensures told { IfOk result (TellsWant row.now) }
+    ensures there { (want : Wanted) → IsTrue (is_want want) → TellsWant row.now want
+        → IfErr result IsMemory }
 {
     if row.kind > 3 || row.night > u64::from(u32::MAX) {
         return Err(Fault::Store);
@@ -98,8 +111,23 @@ pub fn want_told(alloc: Global, row: &StepFound) -> Result<Want, Fault>
     }
 }
 
+/// Whether there is a row at this index, and it is of the step with this number.
+fn is_of_place(rows: &[StepFound], at: usize, place: u64) -> bool
+    ensures told { result ≡ true → IsOfPlace rows.now at place }
+    ensures exact { IsOfPlace rows.now at place → result ≡ true }
+{
+    match rows.get(at) {
+        Some(row) => row.place == place,
+        None => false,
+    }
+}
+
 /// Builds the steps of the rows, each with its options.
-fn steps_told(alloc: Global, rows: &[StepFound]) -> Result<Vec<PlanStep>, Fault> {
+fn steps_told(alloc: Global, rows: &[StepFound]) -> Result<Vec<PlanStep>, Fault>
+    ensures steps { (id : ℕ) (plan : Planned) → AreRowsOf id plan rows.now
+        → IfOk result (λ steps. map step_said steps.items ≡ plan.steps) }
+    ensures there { (id : ℕ) (plan : Planned) → AreRowsOf id plan rows.now → IfErr result IsMemory }
+{
     let mut steps = Vec::new(alloc);
     let mut options = Vec::new(alloc);
     for (at, row) in rows.iter().enumerate() {
@@ -107,19 +135,16 @@ fn steps_told(alloc: Global, rows: &[StepFound]) -> Result<Vec<PlanStep>, Fault>
         if options.push(want).is_err() {
             return Err(Fault::Memory);
         }
-        let goes_on = match rows.get(at + 1) {
-            Some(next) => next.place == row.place,
-            None => false,
+        if is_of_place(rows, at + 1, row.place) {
+            continue;
+        }
+        let step = PlanStep {
+            options,
+            save: row.save == 1,
         };
-        if !goes_on {
-            let step = PlanStep {
-                options,
-                save: row.save == 1,
-            };
-            options = Vec::new(alloc);
-            if steps.push(step).is_err() {
-                return Err(Fault::Memory);
-            }
+        options = Vec::new(alloc);
+        if steps.push(step).is_err() {
+            return Err(Fault::Memory);
         }
     }
     Ok(steps)
@@ -130,6 +155,8 @@ pub(crate) fn plan_told(alloc: Global, rows: &[StepFound], tries: u64) -> Result
     ensures rows { IfOk result (λ plan. TellPlan rows.now plan) }
     ensures tries { IfOk result (λ plan. plan.tries ≡ tries) }
     ensures good { IfOk result (λ plan. IsTrue (is_plan plan)) }
+    ensures there { (id : ℕ) (plan : Planned) → AreRowsOf id plan rows.now → tries ≡ plan.tries
+        → IfErr result IsMemory }
 {
     if tries > u64::from(MOST_TRIES) {
         return Err(Fault::Store);

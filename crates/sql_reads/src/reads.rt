@@ -3,8 +3,8 @@ ghost use Rattle.std.specs.Prelude.{◌≡◌, ◌<◌, ◌≤◌, ◌^◌, fals
 ghost use Rattle.ledger.specs.Ledger.{history};
 ghost use Rattle.saga_core.specs.Views.{ShowsCells, IsStock};
 ghost use Rattle.sql_reads.specs.Reading.{ShowsKept, ShowsKeptIn, ShowsEach, KeepsOn, KeepsEach, LeavesAsBefore, WasClean};
-ghost use Rattle.sql_reads.specs.Reading.{IsFirstAbove, HasNone, IsRecordAt, IsStandAt, AreMarksAt, IsNone, IsPlanOf};
-ghost use Rattle.sql_reads.specs.Causes.{FailsForReason, FailsForReasonEach, FailsForReasonIn, ShowsSpelled, StaysUp};
+ghost use Rattle.sql_reads.specs.Reading.{IsFirstAbove, HasNone, IsRecordAt, IsStandAt, AreMarksAt, IsNone, IsPlanOf, HasTries};
+ghost use Rattle.sql_reads.specs.Causes.{FailsForReason, FailsForReasonEach, FailsForReasonIn, FailsWhereEach, ShowsSpelled, StaysUp};
 ghost use Rattle.ledger.specs.Answer.{most_events};
 ghost use Rattle.desk_sql.specs.Causes.{FailsForReasonIn as SqlFailsIn};
 ghost use Rattle.desk_sql.specs.Readable.{Any};
@@ -203,6 +203,9 @@ fn read_plan<S: Alter>(
     ensures same { KeepsEach S.Store conn.old conn.new }
     ensures stop { LeavesAsBefore S.Store conn.old conn.new }
     ensures less { WasClean S.Store conn.old conn.new }
+
+    ensures store { FailsWhereEach S.Store conn.old conn.new result (HasTries id tries) }
+    ensures up { StaysUp S.Store conn.old conn.new }
 {
     match find_steps(alloc, conn, id) {
         Ok(found) => plan_told(alloc, found.as_slice(), tries),
@@ -316,6 +319,9 @@ pub fn read_journey<S: Alter>(
     ensures same { KeepsEach S.Store conn.old conn.new }
     ensures stop { LeavesAsBefore S.Store conn.old conn.new }
     ensures less { WasClean S.Store conn.old conn.new }
+
+    ensures store { FailsForReasonIn S.Store conn.old conn.new version result }
+    ensures up { StaysUp S.Store conn.old conn.new }
 {
     if id > LARGEST {
         check_absent(conn, id)?;

@@ -1,0 +1,225 @@
+-- The rows of a plan that keeps its limits give that plan. For the functions of `plan_rows`.
+use Rattle.std.proofs.Common.{◌≡◌, ℕ, zero, suc, ◌+◌, ◌<◌, ◌≤◌, ◌⊎◌, inl, inr, List, [], ◌∷◌, ◌++◌, map, take, drop, length, get_or, Bool, true, false, IsTrue, Option, Some, None, Ok, refl, sym, ap, subst, ◌∙◌, arith, add-one, append_assoc}
+use Rattle.std.specs.Prelude.{◌&&◌, ◌==◌, if◌then◌else◌, flat_map, slice_get, option_map, option_and_then, unwrap_or, string_bytes}
+use Rattle.std.specs.List.{list_all}
+use Rattle.std.proofs.Math.Seq.{drop-cons, drop-append_seam, drop-nil}
+use Rattle.std.proofs.Math.ListN.{drop_of_length-le}
+use Rattle.std.proofs.lemmas.Bool.{and_parts}
+use Rattle.std.proofs.lemmas.List.{drop-map, get_or_default, map-append}
+use Rattle.allotment.specs.Cells.{kind_number}
+use Rattle.allotment.specs.Texts.{keep_if, kind_of_number}
+use Rattle.allotment.specs.Limits.{is_code, is_night, are_nights, is_count, is_want}
+use Rattle.allotment.specs.Making.{want_made}
+use Rattle.allotment.specs.Nights.{night_in, night_text}
+use Rattle.allotment.specs.Want.{Wanted, wanted}
+use Rattle.allotment.specs.declared.kinds.Kind.{Kind}
+use Rattle.allotment.proofs.LawLemmas.{number_again}
+use Rattle.allotment.proofs.MakingLemmas.{made_whole}
+use Rattle.allotment.proofs.NightLemmas.{night_in-night_text}
+use Rattle.plan.specs.PlanModel.{Planned, StepPlan, is_step, numbered, option_count, step_count, step_said}
+use Rattle.plan.specs.declared.steps.PlanStep.{PlanStep}
+use Rattle.plan.proofs.LimitLemmas.{step_limited}
+use Rattle.desk_sql.specs.Rows.{StepRow}
+use Rattle.desk_sql.specs.FoundRows.{step_of}
+use Rattle.desk_sql.specs.declared.steps.StepFound.{StepFound}
+use Rattle.sql_model.specs.Beginning.{rows_of_option, rows_of_step}
+use Rattle.sql_model.specs.ExpectedRows.{counted_from, flag, none_taken, option_row, option_rows, step_rows_of}
+use Rattle.sql_model.specs.Reading.{not_taken}
+use Rattle.sql_reads.specs.PlanRows.{first_rows, steps_after, AreRowsOf, Goes, IsLeft, TellsWant}
+
+pub not_both : (b : Bool) → b ≡ true → b ≡ false → ⊥
+not_both b is_true is_false = absurd (let both : true ≡ false = sym is_true ∙ is_false in cc)
+
+-- Wants.
+
+kind_one : (k m : Kind) → kind_number k ≡ kind_number m → k ≡ m
+kind_one k m e = let same : Some k ≡ Some m = sym (number_again k) ∙ ap kind_of_number e ∙ number_again m in cc
+
+-- a row tells one want
+pub tells_one : (row : StepFound) (w v : Wanted) → TellsWant row w → TellsWant row v → w ≡ v
+tells_one row w v a b =
+    ap (λ x. wanted x w.supplier w.product w.first w.nights w.count) (kind_one w.kind v.kind (sym a.kind ∙ b.kind))
+    ∙ ap (λ x. wanted v.kind x w.product w.first w.nights w.count) (sym a.supplier ∙ b.supplier)
+    ∙ ap (λ x. wanted v.kind v.supplier x w.first w.nights w.count) (sym a.product ∙ b.product)
+    ∙ ap (λ x. wanted v.kind v.supplier v.product x w.nights w.count) (sym a.first ∙ b.first)
+    ∙ ap (λ x. wanted v.kind v.supplier v.product v.first x w.count) (sym a.nights ∙ b.nights)
+    ∙ ap (λ x. wanted v.kind v.supplier v.product v.first v.nights x) (sym a.places ∙ b.places)
+
+-- the want of a row that tells one is made
+pub want_good : (row : StepFound) (want : Wanted) (kind : Kind) (night : ℕ) (text : List ℕ) → IsTrue (is_want want) → TellsWant row want
+    → row.kind ≡ kind_number kind → row.night ≡ night → text ≡ night_text night
+    → want_made kind (string_bytes row.supplier) (string_bytes row.product) text row.nights row.places ≡ Ok want
+want_good row want kind night text good tells kind_is night_is text_is =
+    let four = and_parts (is_code want.supplier && is_code want.product && is_night want.first && are_nights want.kind want.first want.nights) (is_count want.count) good in
+    let three = and_parts (is_code want.supplier && is_code want.product && is_night want.first) (are_nights want.kind want.first want.nights) four.0 in
+    let two = and_parts (is_code want.supplier && is_code want.product) (is_night want.first) three.0 in
+    let k : kind ≡ want.kind = kind_one kind want.kind (sym kind_is ∙ tells.kind) in
+    let n : night ≡ want.first = sym night_is ∙ tells.first in
+    let read : night_in text ≡ Some want.first = ap night_in (text_is ∙ ap night_text n) ∙ night_in-night_text want.first two.1 in
+    ap (λ x. want_made x (string_bytes row.supplier) (string_bytes row.product) text row.nights row.places) k
+    ∙ ap (λ x. want_made want.kind x (string_bytes row.product) text row.nights row.places) tells.supplier
+    ∙ ap (λ x. want_made want.kind want.supplier x text row.nights row.places) tells.product
+    ∙ ap (λ x. want_made want.kind want.supplier want.product text x row.places) tells.nights
+    ∙ ap (λ x. want_made want.kind want.supplier want.product text want.nights x) tells.places
+    ∙ made_whole want.kind want.supplier want.product text want.nights want.count two.0 want.first read three.1 four.1
+
+-- what passes is the value itself
+pub kept_is : {X : Type 0} (p : X → Bool) (x y : X) → keep_if p x ≡ Some y → x ≡ y
+kept_is {X} p x y e = go (p x) e
+  where
+    go : (b : Bool) → (if b then Some x else None) ≡ Some y → x ≡ y
+    go true same = cc
+    go false none = absurd (cc)
+
+-- Rows from a place on.
+
+counted_at : {X : Type 0} (k n : ℕ) (xs : List X) (x : X) → slice_get xs n ≡ Some x
+    → drop n (counted_from k xs) ≡ (k + n, x) ∷ drop (suc n) (counted_from k xs)
+counted_at k n [] x e = absurd (cc)
+counted_at {X} k zero (y ∷ xs) x e =
+    let same : Some y ≡ Some x = e in
+    let is : y ≡ x = cc in
+    let here : k ≡ k + 0 = omega arith in
+    ap (λ (z : X). (k, z) ∷ counted_from (suc k) xs) is ∙ ap (λ (m : ℕ). (m, x) ∷ counted_from (suc k) xs) here
+counted_at {X} k (suc n) (y ∷ xs) x e =
+    let here : suc k + n ≡ k + suc n = omega arith in
+    counted_at (suc k) n xs x e ∙ ap (λ (m : ℕ). (m, x) ∷ drop (suc n) (counted_from (suc k) xs)) here
+
+-- a row is the next one of the rows that are left
+pub next_left : (id : ℕ) (rows : List StepFound) (at : ℕ) (d : StepFound) → at < length rows
+    → first_rows id (drop at rows) ≡ not_taken (step_of id (get_or rows at d)) ∷ first_rows id (drop (at + 1) rows)
+next_left id rows at d inside =
+    ap (first_rows id) (drop-cons rows at d inside)
+    ∙ ap (λ k. not_taken (step_of id (get_or rows at d)) ∷ first_rows id (drop k rows)) (sym (add-one at))
+
+-- where rows are left, there is a next one
+pub more_left : (id : ℕ) (rows : List StepFound) (at : ℕ) (x : StepRow) (later : List StepRow)
+    → first_rows id (drop at rows) ≡ x ∷ later → at < length rows
+more_left id rows at x later e = go (nat_cases at (length rows))
+  where
+    nat_cases : (a b : ℕ) → (a < b) ⊎ (b ≤ a)
+    nat_cases zero zero = inr (omega arith)
+    nat_cases zero (suc b) = inl (omega arith)
+    nat_cases (suc a) zero = inr (omega arith)
+    nat_cases (suc a) (suc b) = elim (nat_cases a b) [ inl low ↦ inl (omega (arith, low)) | inr high ↦ inr (omega (arith, high)) ]
+
+    go : (at < length rows) ⊎ (length rows ≤ at) → at < length rows
+    go (inl low) = low
+    go (inr high) = absurd (let none : [] ≡ x ∷ later = sym (ap (first_rows id) (drop_of_length-le rows high)) ∙ e in cc)
+
+-- the heads and the tails of two lists that are the same
+pub heads : {X : Type 0} (x y : X) (xs ys : List X) → x ∷ xs ≡ y ∷ ys → x ≡ y
+heads x y xs ys e = cc
+
+pub tails : {X : Type 0} (x y : X) (xs ys : List X) → x ∷ xs ≡ y ∷ ys → xs ≡ ys
+tails x y xs ys e = cc
+
+-- The rows of a step, option by option.
+
+some_within : {X : Type 0} (xs : List X) (n : ℕ) → n < length xs → (x : X) × (slice_get xs n ≡ Some x)
+some_within [] n low = absurd (omega arith)
+some_within (x ∷ xs) zero low = (x, refl)
+some_within (x ∷ xs) (suc n) low = some_within xs n (omega arith)
+
+option_left : (id i n : ℕ) (o : Option StepPlan) → n < unwrap_or (option_map (λ (s : StepPlan). length s.options) o) 0
+    → (x : StepRow) × (unwrap_or (option_map (λ (w : Wanted). option_row id i (unwrap_or (option_map (λ (s : StepPlan). s.is_marked) o) false) (suc n) false w ∷ []) (option_and_then (λ (s : StepPlan). numbered s.options (suc n)) o)) [] ≡ x ∷ [])
+    × (drop n (unwrap_or (option_map (λ (s : StepPlan). option_rows none_taken id i s) o) []) ≡ x ∷ drop (suc n) (unwrap_or (option_map (λ (s : StepPlan). option_rows none_taken id i s) o) []))
+option_left id i n None low = absurd (omega arith)
+option_left id i n (Some s) low =
+    let has = some_within s.options n low in
+    let row = λ (w : ℕ × Wanted). option_row id i s.is_marked w.0 false w.1 in
+    let here : 1 + n ≡ suc n = omega arith in (
+      option_row id i s.is_marked (suc n) false has.0,
+      ap (λ f. unwrap_or (option_map (λ (w : Wanted). option_row id i s.is_marked (suc n) false w ∷ []) f) []) has.1,
+      drop-map row n (counted_from 1 s.options) ∙ ap (map row) (counted_at 1 n s.options has.0 has.1)
+          ∙ ap (λ (m : ℕ). option_row id i s.is_marked m false has.0 ∷ map row (drop (suc n) (counted_from 1 s.options))) here
+          ∙ ap (λ ys. option_row id i s.is_marked (suc n) false has.0 ∷ ys) (sym (drop-map row (suc n) (counted_from 1 s.options))),
+    )
+
+-- after some options of a step comes the next one
+pub step_left : (id : ℕ) (rows : List StepFound) (at : ℕ) (plan : Planned) (i n : ℕ) (later : List StepRow) → n < option_count plan i
+    → first_rows id (drop at rows) ≡ drop n (rows_of_step id plan i) ++ later
+    → (x : StepRow) × (rows_of_option id plan i (n + 1) ≡ x ∷ []) × (first_rows id (drop at rows) ≡ x ∷ (drop (n + 1) (rows_of_step id plan i) ++ later))
+step_left id rows at plan i n later low left =
+    let next = option_left id i n (numbered plan.steps i) low in (
+      next.0,
+      ap (rows_of_option id plan i) (add-one n) ∙ next.1,
+      left ∙ ap (λ ys. ys ++ later) next.2 ∙ ap (λ k. next.0 ∷ (drop k (rows_of_step id plan i) ++ later)) (sym (add-one n)),
+    )
+
+length-counted : {X : Type 0} (k : ℕ) (xs : List X) → length (counted_from k xs) ≡ length xs
+length-counted k [] = refl
+length-counted k (x ∷ xs) = ap suc (length-counted (suc k) xs)
+
+length-mapped : {X Y : Type 0} (f : X → Y) (xs : List X) → length (map f xs) ≡ length xs
+length-mapped f [] = refl
+length-mapped f (x ∷ xs) = ap suc (length-mapped f xs)
+
+rows_count : (id i : ℕ) (o : Option StepPlan)
+    → length (unwrap_or (option_map (λ (s : StepPlan). option_rows none_taken id i s) o) []) ≡ unwrap_or (option_map (λ (s : StepPlan). length s.options) o) 0
+rows_count id i None = refl
+rows_count id i (Some s) =
+    length-mapped (λ (w : ℕ × Wanted). option_row id i s.is_marked w.0 false w.1) (counted_from 1 s.options) ∙ length-counted 1 s.options
+
+drop-more : {X : Type 0} (a b : ℕ) (xs : List X) → drop (a + b) xs ≡ drop b (drop a xs)
+drop-more {X} zero b xs = ap (λ k. drop k xs) (let e : 0 + b ≡ b = omega arith in e)
+drop-more {X} (suc a) b [] =
+    drop-nil {A = X} (suc a + b) ∙ sym (drop-nil {A = X} b)
+drop-more {X} (suc a) b (x ∷ xs) =
+    ap (λ (k : ℕ). drop k (x ∷ xs)) (let e : suc a + b ≡ suc (a + b) = omega arith in e) ∙ drop-more a b xs
+
+-- The steps of a plan.
+
+-- after some steps come the rows of the next one
+pub steps_left : (id : ℕ) (plan : Planned) (n : ℕ) → n < step_count plan
+    → steps_after id plan n ≡ rows_of_step id plan (n + 1) ++ steps_after id plan (n + 1)
+steps_left id plan n low =
+    let has = some_within plan.steps n low in
+    let here : 1 + n ≡ suc n = omega arith in
+    ap (λ ss. flat_map (λ (s : ℕ × StepPlan). option_rows none_taken id s.0 s.1) ss) (counted_at 1 n plan.steps has.0 has.1)
+    ∙ ap (λ (m : ℕ). option_rows none_taken id m has.0 ++ steps_after id plan (suc n)) here
+    ∙ ap (λ o. unwrap_or (option_map (λ (s : StepPlan). option_rows none_taken id (suc n) s) o) [] ++ steps_after id plan (suc n)) (sym has.1)
+    ∙ ap (λ k. rows_of_step id plan k ++ steps_after id plan k) (sym (add-one n))
+
+-- after the rows of a step come those of the later ones
+pub steps_next : (id : ℕ) (rows : List StepFound) (from to : ℕ) (plan : Planned) (n : ℕ) → n < step_count plan
+    → to ≡ from + option_count plan (n + 1) → first_rows id (drop from rows) ≡ steps_after id plan n
+    → first_rows id (drop to rows) ≡ steps_after id plan (n + 1)
+steps_next id rows from to plan n low to_is left =
+    let whole : first_rows id (drop from rows) ≡ rows_of_step id plan (n + 1) ++ steps_after id plan (n + 1) = left ∙ steps_left id plan n low in
+    let count : option_count plan (n + 1) ≡ length (rows_of_step id plan (n + 1)) = sym (rows_count id (n + 1) (numbered plan.steps (n + 1))) in
+    ap (λ k. first_rows id (drop k rows)) to_is
+    ∙ ap (first_rows id) (drop-more from (option_count plan (n + 1)) rows)
+    ∙ sym (dropped (option_count plan (n + 1)) (drop from rows))
+    ∙ ap (drop (option_count plan (n + 1))) whole
+    ∙ ap (λ k. drop k (rows_of_step id plan (n + 1) ++ steps_after id plan (n + 1))) count
+    ∙ drop-append_seam (rows_of_step id plan (n + 1)) (steps_after id plan (n + 1))
+  where
+    dropped : (k : ℕ) (xs : List StepFound) → drop k (first_rows id xs) ≡ first_rows id (drop k xs)
+    dropped k xs = drop-map not_taken k (map (step_of id) xs) ∙ ap (map not_taken) (drop-map (step_of id) k xs)
+
+-- after the last step there is no row
+pub none_left : (id : ℕ) (rows : List StepFound) (count : ℕ) (plan : Planned) (n : ℕ) → n ≡ step_count plan → count ≤ length rows
+    → first_rows id (drop count rows) ≡ steps_after id plan n → count ≡ length rows
+none_left id rows count plan n all within left =
+    let past : length (counted_from 1 plan.steps) ≤ n = let same = length-counted 1 plan.steps in omega (arith, same, all) in
+    let none : first_rows id (drop count rows) ≡ [] =
+    left ∙ ap (λ ss. flat_map (λ (s : ℕ × StepPlan). option_rows none_taken id s.0 s.1) ss) (drop_of_length-le (counted_from 1 plan.steps) past) in
+    go (cases count (length rows)) none
+  where
+    cases : (a b : ℕ) → (a < b) ⊎ (b ≤ a)
+    cases zero zero = inr (omega arith)
+    cases zero (suc b) = inl (omega arith)
+    cases (suc a) zero = inr (omega arith)
+    cases (suc a) (suc b) = elim (cases a b) [ inl low ↦ inl (omega (arith, low)) | inr high ↦ inr (omega (arith, high)) ]
+
+    go : (count < length rows) ⊎ (length rows ≤ count) → first_rows id (drop count rows) ≡ [] → count ≡ length rows
+    go (inr high) none = omega (arith, high, within)
+    go (inl low) none = absurd (let more = first_left low in cc)
+      where
+        first_left : (low : count < length rows) → (d : StepFound) × (first_rows id (drop count rows) ≡ not_taken (step_of id (get_or rows count d)) ∷ first_rows id (drop (count + 1) rows))
+        first_left low = go_on rows low
+          where
+            go_on : (xs : List StepFound) → count < length xs → (d : StepFound) × (first_rows id (drop count rows) ≡ not_taken (step_of id (get_or rows count d)) ∷ first_rows id (drop (count + 1) rows))
+            go_on [] low = absurd (omega arith)
+            go_on (x ∷ xs) inside = (x, next_left id rows count x low)
