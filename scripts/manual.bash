@@ -40,6 +40,9 @@ values_told() {
 # names_file VALUE: the value of this name is a file
 names_file() { [ "$1" = FILE ] || [ "$1" = CSV ]; }
 
+# choices_of VALUE TEXT: the words that may stand for the value of this name, with this text; nothing if it may be any word
+choices_of() { [ "$1" != FORMAT ] || sed 's/ (the default)//; s/,//g; s/ or / /' <<<"$2"; }
+
 # page_part LEVEL: roff of a help on standard input, but for its first line, how it is called, and the list of commands; its
 # headings are of this level, SH or SS
 page_part() {
@@ -119,12 +122,21 @@ flags_of() { options_told "$@" | awk -F '\t' '{ if ($1 != "-") print "-" $1; if 
 # valued_of COMMAND: those of its options that a value follows
 valued_of() { options_told "$@" | awk -F '\t' '$3 != "-" { print "--" $2 }'; }
 
+# chosen_of COMMAND: those of its options that one of some words follows, and these words, with a tab between
+chosen_of() {
+  local short long value about words
+  while IFS=$'\t' read -r short long value about; do
+    words=$(choices_of "$value" "$about")
+    if [ -n "$words" ]; then printf '%s\t%s\n' "--$long" "$words"; fi
+  done < <(options_told "$@")
+}
+
 # one_line: standard input as one line, with blanks between
 one_line() { tr '\n' ' ' | sed 's/ $//'; }
 
 # bash_completion: the completion for bash
 bash_completion() {
-  local words word about valued
+  local words word about valued flag choices
   words=$(commands_told | cut -f1 | one_line)
   cat <<EOF
 # Completion of desk for bash, made from its help.
@@ -140,6 +152,9 @@ _desk() {
 EOF
   while IFS=$'\t' read -r word about; do
     valued=$(valued_of "$word" | sed "s/^/$word:/" | one_line)
+    while IFS=$'\t' read -r flag choices; do
+      printf "    %s:%s) mapfile -t COMPREPLY < <(compgen -W '%s' -- \"\$word\"); return ;;\n" "$word" "$flag" "$choices"
+    done < <(chosen_of "$word")
     if [ -n "$valued" ]; then printf '    %s) return ;;\n' "${valued// / | }"; fi
   done < <(commands_told)
   printf '  esac\n  case ${COMP_WORDS[1]} in\n'
@@ -170,9 +185,11 @@ in_zsh() {
 
 # zsh_arguments COMMAND: the arguments of _arguments for a command, one a line
 zsh_arguments() {
-  local short long value about name
+  local short long value about name words
   while IFS=$'\t' read -r short long value about; do
-    [ "$value" = - ] && value="" || value=":$value: "
+    words=$(choices_of "$value" "$about")
+    [ "$value" = - ] && value="" || value=":$value:${words:+($words)}"
+    [ -n "$words" ] || value=${value:+$value }
     quoted "--$long[$(in_zsh "$about")]$value" && printf ' \\\n'
     if [ "$short" != - ]; then quoted "-$short[$(in_zsh "$about")]$value" && printf ' \\\n'; fi
   done < <(options_told "$@")
@@ -201,11 +218,12 @@ zsh_completion() {
 
 # fish_options WHEN [COMMAND]: the lines for its options, where the condition WHEN holds
 fish_options() {
-  local when=$1 short long value about
+  local when=$1 short long value about words
   shift
   while IFS=$'\t' read -r short long value about; do
+    words=$(choices_of "$value" "$about")
     [ "$short" = - ] && short="" || short=" -s $short"
-    [ "$value" = - ] && value="" || value=" -x"
+    [ "$value" = - ] && value="" || value=" -x${words:+ -a '$words'}"
     printf "complete -c desk -n '%s'%s -l %s%s -d %s\n" "$when" "$short" "$long" "$value" "$(quoted "$about")"
   done < <(options_told "$@")
 }

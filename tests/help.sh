@@ -157,6 +157,9 @@ completes "desk help r" "run recover" desk help r
 completes "desk serve --" "--port --connections --house --help" desk serve --
 completes "desk load --b" "--batch" desk load --b
 completes "desk stock --p" "" desk stock --p
+completes "desk stock --f" "--format" desk stock --f
+completes "a format" "text json csv" desk history trips.db 1 --format ""
+completes "a format that begins so" "json" desk unfinished trips.db --format j
 completes "desk run t" "trips.db" desk run t
 completes "desk load trips.db j" "june.csv" desk load trips.db j
 completes "a port" "" desk serve trips.db --port ""
@@ -168,6 +171,7 @@ if command -v zsh >/dev/null; then
   offers='compdef() { :; }; _describe() { print -rl -- ${(P)4}; }; _arguments() { print -rl -- "$@"; }; source ./_desk'
   same "zsh: the commands" "$(commands_told | sed 's/\t/:/')" "$(zsh -f -c "$offers; words=(desk ''); CURRENT=2; _desk")"
   same "zsh: a port" 1 "$(zsh -f -c "$offers; words=(desk serve ''); CURRENT=3; _desk" | grep -c '^--port\[The port to listen on')"
+  same "zsh: a format" 1 "$(zsh -f -c "$offers; words=(desk stock ''); CURRENT=3; _desk" | grep -c '^--format\[.*\]:FORMAT:(text json csv)$')"
   same "zsh: a file" 1 "$(zsh -f -c "$offers; words=(desk run ''); CURRENT=3; _desk" | grep -c '^:FILE .*:_files$')"
 else
   say "no zsh is here: its completion is not tried"
@@ -177,6 +181,7 @@ fish_completion >desk.fish
 if command -v fish >/dev/null; then
   same "fish: desk s" "serve stock" "$(HOME=$work fish -c 'source desk.fish; complete -C "desk s"' | cut -f1 | sort | one_line)"
   same "fish: desk serve --p" "--port" "$(HOME=$work fish -c 'source desk.fish; complete -C "desk serve --p"' | cut -f1 | one_line)"
+  same "fish: a format" "csv json text" "$(HOME=$work fish -c 'source desk.fish; complete -C "desk stock --format "' | cut -f1 | sort | one_line)"
 else
   say "no fish is here: its completion is not tried"
 fi

@@ -82,6 +82,20 @@ faults "an absent allotment file and a new database" "fault 26 File" load new.db
 same "the new database is made" "0|0" "$(sqlite3 new.db 'SELECT events, journeys FROM meta')"
 faults "a folder for a database" "fault 21 Store" load folder absent.csv --batch b7
 
+# standard input, where the allotment file is `-`
+same "standard input" "loaded b8 1" "$(printf '%b' "$header\nroom,SEA,DBL,2030-08-01,3\n" | "$DESK" load trips.db - --batch b8)"
+same "its row" "SEA|3" "$(rows "SELECT supplier, free FROM stock WHERE supplier = 'SEA'")"
+same "standard input, in pieces" "loaded b9 1" \
+  "$( (printf '%b' "$header\n"; sleep 0.2; echo "cover,SEA,X,2030-08-01,3") | "$DESK" load trips.db - --batch b9)"
+same "a bad row of standard input" "refused 6 BadCsv 1 kind" \
+  "$(printf '%b' "$header\nbus,SEA,X,2030-08-01,3\n" | "$DESK" load trips.db - --batch c1)"
+same "an empty standard input" "refused 6 BadCsv 0 header" "$("$DESK" load trips.db - --batch c1 </dev/null)"
+same "many bytes of standard input" "refused 6 BadCsv 0 size" "$(fill 600000 | "$DESK" load trips.db - --batch c1)"
+printf '%b' "$both" >-
+same "a file of that name" "loaded c2 2" "$("$DESK" load trips.db ./- --batch c2 </dev/null)"
+faults "a standard input that cannot be read" "fault 24 Read" load trips.db - --batch c3 <folder
+same "a standard input that is not read" "left" "$(echo left | { "$DESK" load trips.db ./- --batch c2 >/dev/null; cat; })"
+
 # recovery comes first, and its commits stand where the load is refused
 answers "a journey" "begin F/AL/A1/2030-06-01/1/1;T/BUS/X/2030-06-01/1/1!0\nstep 2\n" "journey 2 begun
 journey 2 T1.1 run 1"

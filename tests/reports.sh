@@ -78,11 +78,58 @@ plan $a1/1/1;$room/1/1!0
 items T1.1 B0a
 state back 1 to 0" "" history trips.db 3
 
+# the same reports as JSON lines and as CSV, whose lines end with CR LF
+cr=$'\r'
+tells "the stock, said to be text" 0 "kind     supplier product  night       allot   held   free
+flight   AL       A1       2030-06-01     10      3      7
+room     INN      DBL      2030-06-02      5      0      5
+cells 2" "" stock trips.db --format text
+tells "the stock as objects" 0 '{"allot":10,"free":7,"held":3,"kind":"flight","night":"2030-06-01","product":"A1","supplier":"AL"}
+{"allot":5,"free":5,"held":0,"kind":"room","night":"2030-06-02","product":"DBL","supplier":"INN"}' "" stock trips.db --format json
+tells "the stock as records" 0 "kind,supplier,product,night,allot,held,free$cr
+flight,AL,A1,2030-06-01,10,3,7$cr
+room,INN,DBL,2030-06-02,5,0,5$cr" "" stock --format=csv trips.db
+tells "unfinished journeys as objects" 0 '{"agent":"desk","journey":2,"pos":1,"state":"run"}
+{"agent":"desk","journey":3,"pos":1,"state":"back","target":0}' "" unfinished trips.db --format json
+tells "unfinished journeys as records" 0 "journey,agent,state,pos,target$cr
+2,desk,run,1,$cr
+3,desk,back,1,0$cr" "" unfinished trips.db --format csv
+tells "a history as objects" 0 '{"agent":"desk","journey":2,"plan":"'"$a1/1/1;$room/1/1!0"'"}
+{"item":"T1.1","journey":2}
+{"item":"S1","journey":2}
+{"journey":2,"pos":1,"state":"run"}' "" history trips.db 2 --format json
+tells "the history of one that goes back" 0 '{"agent":"desk","journey":3,"plan":"'"$a1/1/1;$room/1/1!0"'"}
+{"item":"T1.1","journey":3}
+{"item":"B0a","journey":3}
+{"journey":3,"pos":1,"state":"back","target":0}' "" history trips.db 3 --format json
+tells "a history as records" 0 "journey,item$cr
+3,T1.1$cr
+3,B0a$cr" "" history trips.db 3 --format csv
+for format in json csv; do
+  tells "an absent journey in $format" 1 "refused 9 NoJourney" "" history trips.db 4 --format "$format"
+done
+same "an unknown format: the status" 2 "$("$DESK" stock trips.db --format xml >out 2>err; echo $?)"
+same "an unknown format: the answer" "" "$(cat out)"
+same "an unknown format" "error: invalid value 'xml' for '--format <FORMAT>': not text, json or csv" "$(sed -n 1p err)"
+
+# each line that other tools read of a report is what the text says
+if command -v python3 >/dev/null; then
+  read_by() { python3 -c "import csv, json, sys
+rows = [json.loads(line) for line in sys.stdin] if '$1' == 'json' else list(csv.DictReader(sys.stdin))
+print(' '.join(str(row['free']) for row in rows))"; }
+  same "the free places, read as JSON" "7 5" "$("$DESK" stock trips.db --format json | read_by json)"
+  same "the free places, read as CSV" "7 5" "$("$DESK" stock trips.db --format csv | read_by csv)"
+fi
+
 # a row that is written by hand, and of no night: what comes before it is told
 cp trips.db bad.db
 sqlite3 bad.db 'UPDATE stock SET night = 1099511627776 WHERE kind = 1'
 tells "a night that no calendar has" 1 "kind     supplier product  night       allot   held   free
 flight   AL       A1       2030-06-01     10      3      7" "fault 18 Store" stock bad.db
+tells "what comes before it as objects" 1 '{"allot":10,"free":7,"held":3,"kind":"flight","night":"2030-06-01","product":"A1","supplier":"AL"}' \
+  "fault 18 Store" stock bad.db --format json
+tells "what comes before it as records" 1 "kind,supplier,product,night,allot,held,free$cr
+flight,AL,A1,2030-06-01,10,3,7$cr" "fault 18 Store" stock bad.db --format csv
 tells "the other reports of that file" 0 "           2 desk             run 1
            3 desk             back 1 to 0
 unfinished 2" "" unfinished bad.db
@@ -110,6 +157,9 @@ done
 tells "stock of an empty file" 0 "kind     supplier product  night       allot   held   free
 cells 0" "" stock empty.db
 tells "unfinished journeys of an empty file" 0 "unfinished 0" "" unfinished empty.db
+tells "stock of an empty file as objects" 0 "" "" stock empty.db --format json
+tells "stock of an empty file as records" 0 "kind,supplier,product,night,allot,held,free$cr" "" stock empty.db --format csv
+tells "unfinished journeys of an empty file as records" 0 "journey,agent,state,pos,target$cr" "" unfinished empty.db --format csv
 tells "the history of an empty file" 1 "refused 9 NoJourney" "" history empty.db 1
 
 sqlite3 old.db 'CREATE TABLE meta(one INTEGER PRIMARY KEY CHECK(one = 1), version INTEGER NOT NULL,
@@ -117,7 +167,7 @@ sqlite3 old.db 'CREATE TABLE meta(one INTEGER PRIMARY KEY CHECK(one = 1), versio
 tells "another version" 1 "refused 20 UnknownSchema 9" "" stock old.db
 
 # a report that cannot be written is a fault
-for word in stock unfinished "history 1"; do
+for word in stock unfinished "history 1" "stock --format=json" "unfinished --format=csv"; do
   set -- $word
   "$DESK" "$1" trips.db ${2:+"$2"} >/dev/full 2>err
   same "$word on a full disk: the status" 1 $?

@@ -1,5 +1,5 @@
 -- How a job over a file ends, what it prints, and what it reads.
-use Rattle.std.specs.Prelude.{◌≡◌, ⊤, ℕ, List, [], ◌∷◌, codes, decimal, Option, None}
+use Rattle.std.specs.Prelude.{◌≡◌, ◌≢◌, ⊤, ℕ, List, [], ◌∷◌, codes, decimal, Option, None}
 use Rattle.std.specs.String.{string_bytes}
 use Rattle.std.specs.Io.KnownBytes.{Appends, IsAtEnd}
 use Rattle.commands.specs.Texts.{sentence}
@@ -49,18 +49,24 @@ TellsOf (Run file) held holds = ⊤
 TellsOf (Serve file port connections house) held holds = TellsReady port held holds
 TellsOf (Recover file) held holds = TellsRecovered held holds
 TellsOf (Load file csv batch) held holds = TellsAccepted held holds
-TellsOf (Stock file) held holds = ⊤
-TellsOf (Unfinished file) held holds = ⊤
-TellsOf (History file id) held holds = ⊤
+TellsOf (Stock file format) held holds = ⊤
+TellsOf (Unfinished file format) held holds = ⊤
+TellsOf (History file id format) held holds = ⊤
 TellsOf (Migrate file) held holds = TellsMigrated held holds
 TellsOf Version held holds = Appends held holds version_line
 
 -- the job is a history, and its word is no number of a journey
 abbrev pub HasBadId : Job → Type 0
-HasBadId (History file id) = journey_in (string_bytes id) ≡ None
+HasBadId (History file id format) = journey_in (string_bytes id) ≡ None
 HasBadId _ = ⊥
 
--- what a job that is done reads: `run` reads to the end, and the others read nothing
+-- an allotment file is read from the input only if its name is `-`
+abbrev pub ReadsOnlyInput : List ℕ → Option (List ℕ) → Option (List ℕ) → Type 0
+ReadsOnlyInput csv before after = csv ≢ codes "-" → after ≡ before
+
+-- what a job that is done reads: `run` reads to the end, `load` only where its allotment file is `-`, and the others read
+-- nothing
 abbrev pub ReadsFor : Job → Option (List ℕ) → Option (List ℕ) → Type 0
 ReadsFor (Run file) before after = IsAtEnd after
+ReadsFor (Load file csv batch) before after = ReadsOnlyInput (string_bytes csv) before after
 ReadsFor _ before after = after ≡ before

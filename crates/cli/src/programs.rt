@@ -14,7 +14,7 @@ use crate::desks::{close_after, connect};
 use crate::listening::{Served, serve_file};
 use crate::loads::load_file;
 use crate::migrations::migrate_file;
-use crate::telling::{Report, history_file, report_file};
+use crate::telling::{Report, Shown, history_file, report_file};
 use command_line::{Job, version_line};
 use commands::Refusal;
 use desk_jobs::{recover_over, run_over};
@@ -105,21 +105,20 @@ fn carry_out<R: Read, O: Write, N: Write>(
         }
         Job::Recover { file } => recover_file(rt, alloc, file.as_str(), out),
         Job::Load { file, csv, batch } => {
-            load_file(
-                rt,
-                alloc,
-                file.as_str(),
-                csv.as_str(),
-                batch.as_str(),
-                out,
-                notes,
-            )
+            let (file, csv, batch) = (file.as_str(), csv.as_str(), batch.as_str());
+            load_file(rt, alloc, file, csv, batch, reader, out, notes)
         }
-        Job::Stock { file } => report_file(rt, alloc, file.as_str(), Report::Stock, out),
-        Job::Unfinished { file } => {
-            report_file(rt, alloc, file.as_str(), Report::Unfinished, out)
+        Job::Stock { file, format } => {
+            let shown = Shown::Stock;
+            report_file(rt, alloc, file.as_str(), Report { shown, format }, out)
         }
-        Job::History { file, id } => history_file(rt, alloc, file.as_str(), id.as_str(), out),
+        Job::Unfinished { file, format } => {
+            let shown = Shown::Unfinished;
+            report_file(rt, alloc, file.as_str(), Report { shown, format }, out)
+        }
+        Job::History { file, id, format } => {
+            history_file(rt, alloc, file.as_str(), id.as_str(), format, out)
+        }
         Job::Migrate { file } => migrate_file(rt, alloc, file.as_str(), out),
         Job::Version => Ended::from(tell_version(out)),
     }

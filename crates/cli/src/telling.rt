@@ -9,13 +9,14 @@ use commands::Refusal;
 use desk_jobs::{history_over, stock_over, unfinished_over};
 use desk_lines::journey_in;
 use program_ends::{End, Ended, ProgramFault};
+use reports::Format;
 use sqlite::{Alter, Connection};
 use std::alloc::Global;
 use std::io::{BufWriter, Write};
 
-/// A report of a desk that is not recovered.
+/// What a report of a desk that is not recovered shows.
 #[derive(Clone, Copy)]
-pub(crate) enum Report {
+pub(crate) enum Shown {
     /// The places of each cell.
     Stock,
     /// The unfinished journeys.
@@ -24,12 +25,20 @@ pub(crate) enum Report {
     History(u64),
 }
 
+/// A report of a desk that is not recovered.
+#[derive(Clone, Copy)]
+pub(crate) struct Report {
+    pub(crate) shown: Shown,
+    pub(crate) format: Format,
+}
+
 /// Prints the history of the journey that a word names. A word that names none is refused before the file is opened.
 pub(crate) fn history_file<O: Write>(
     rt: &HostRuntime,
     alloc: Global,
     file: &str,
     id: &str,
+    format: Format,
     out: &mut O,
 ) -> Ended
     ensures job { EndsJob result.end }
@@ -40,7 +49,8 @@ pub(crate) fn history_file<O: Write>(
     let Some(id) = journey_in(id) else {
         return Ended::from(End::Refused(Refusal::BadBody));
     };
-    report_file(rt, alloc, file, Report::History(id), out)
+    let shown = Shown::History(id);
+    report_file(rt, alloc, file, Report { shown, format }, out)
 }
 
 /// Prints a report of the desk over a file.
@@ -77,9 +87,10 @@ fn report_over<S: Alter + Drop, O: Write>(
         Ok(buffered) => buffered,
         Err(_) => return (conn, End::Fault(ProgramFault::Memory)),
     };
-    match report {
-        Report::Stock => stock_over(alloc, conn, &mut buffered),
-        Report::Unfinished => unfinished_over(alloc, conn, &mut buffered),
-        Report::History(id) => history_over(alloc, conn, id, &mut buffered),
+    let Report { shown, format } = report;
+    match shown {
+        Shown::Stock => stock_over(alloc, conn, format, &mut buffered),
+        Shown::Unfinished => unfinished_over(alloc, conn, format, &mut buffered),
+        Shown::History(id) => history_over(alloc, conn, format, id, &mut buffered),
     }
 }

@@ -170,16 +170,17 @@ ids_fit History = refl
 ids_fit Migrate = refl
 
 -- every other subcommand has only a file
-pub rules_for-others : (s : Subcommand) → (s ≡ Serve → ⊥) → (s ≡ Load → ⊥) → (s ≡ History → ⊥)
+pub rules_for-others : (s : Subcommand) → (s ≡ Serve → ⊥) → (s ≡ Load → ⊥) → (s ≡ Stock → ⊥)
+    → (s ≡ Unfinished → ⊥) → (s ≡ History → ⊥)
     → rules_for s ≡ needed (codes "FILE") ∷ []
-rules_for-others Run serve load history = refl
-rules_for-others Serve serve load history = absurd (serve refl)
-rules_for-others Recover serve load history = refl
-rules_for-others Load serve load history = absurd (load refl)
-rules_for-others Stock serve load history = refl
-rules_for-others Unfinished serve load history = refl
-rules_for-others History serve load history = absurd (history refl)
-rules_for-others Migrate serve load history = refl
+rules_for-others Run serve load stock unfinished history = refl
+rules_for-others Serve serve load stock unfinished history = absurd (serve refl)
+rules_for-others Recover serve load stock unfinished history = refl
+rules_for-others Load serve load stock unfinished history = absurd (load refl)
+rules_for-others Stock serve load stock unfinished history = absurd (stock refl)
+rules_for-others Unfinished serve load stock unfinished history = absurd (unfinished refl)
+rules_for-others History serve load stock unfinished history = absurd (history refl)
+rules_for-others Migrate serve load stock unfinished history = refl
 
 -- one more value, before the others
 pub and_value : (x : Arg) (xs : List Arg) → IsValue x → All IsValue xs → All IsValue (x ∷ xs)

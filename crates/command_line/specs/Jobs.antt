@@ -12,6 +12,8 @@ use Rattle.command_line.specs.declared.jobs.JobFault.{JobFault}
 use Rattle.command_line.specs.declared.jobs.JobFault.TheVariants.{Usage, Memory}
 use Rattle.command_line.specs.declared.subcommands.Subcommand.{Subcommand}
 use Rattle.command_line.specs.declared.subcommands.Subcommand.TheVariants as sub
+use Rattle.reports.specs.declared.formats.Format.{Format}
+use Rattle.reports.specs.declared.formats.Format.TheVariants as format
 
 -- the subcommand of a job; the job that prints the version has none
 abbrev pub subcommand_of : Job → Option Subcommand
@@ -19,9 +21,9 @@ subcommand_of (Run file) = Some sub.Run
 subcommand_of (Serve file port connections house) = Some sub.Serve
 subcommand_of (Recover file) = Some sub.Recover
 subcommand_of (Load file csv batch) = Some sub.Load
-subcommand_of (Stock file) = Some sub.Stock
-subcommand_of (Unfinished file) = Some sub.Unfinished
-subcommand_of (History file id) = Some sub.History
+subcommand_of (Stock file format) = Some sub.Stock
+subcommand_of (Unfinished file format) = Some sub.Unfinished
+subcommand_of (History file id format) = Some sub.History
 subcommand_of (Migrate file) = Some sub.Migrate
 subcommand_of Version = None
 
@@ -56,6 +58,23 @@ connections_in value = number_named most_connections (value (codes "N"))
 abbrev pub house_in : (Text → Option Text) → Option Text
 house_in value = value (codes "PATH")
 
+-- the format that a word names
+abbrev pub format_named : Text → Option Format
+format_named word =
+    if bytes_eq word (codes "text") then Some format.Text
+    else if bytes_eq word (codes "json") then Some format.Json
+    else if bytes_eq word (codes "csv") then Some format.Csv
+    else None
+
+-- the format of a report: a text if none is given
+abbrev pub format_of : Option Text → Option Format
+format_of None = Some format.Text
+format_of (Some word) = format_named word
+
+-- the format, by its name
+abbrev pub format_in : (Text → Option Text) → Option Format
+format_in value = format_of (value (codes "FORMAT"))
+
 -- the values of a job are those under their names
 abbrev pub HasValues : (Text → Option Text) → Job → Type 0
 HasValues value (Run file) = NamesFile value (string_bytes file)
@@ -67,10 +86,11 @@ HasValues value (Recover file) = NamesFile value (string_bytes file)
 HasValues value (Load file csv batch) = NamesFile value (string_bytes file)
     × (value (codes "CSV") ≡ Some (string_bytes csv))
     × (value (codes "NAME") ≡ Some (string_bytes batch))
-HasValues value (Stock file) = NamesFile value (string_bytes file)
-HasValues value (Unfinished file) = NamesFile value (string_bytes file)
-HasValues value (History file id) = NamesFile value (string_bytes file)
+HasValues value (Stock file format) = NamesFile value (string_bytes file) × (format_in value ≡ Some format)
+HasValues value (Unfinished file format) = NamesFile value (string_bytes file) × (format_in value ≡ Some format)
+HasValues value (History file id format) = NamesFile value (string_bytes file)
     × (value (codes "ID") ≡ Some (string_bytes id))
+    × (format_in value ≡ Some format)
 HasValues value (Migrate file) = NamesFile value (string_bytes file)
 HasValues value Version = ⊤
 
@@ -103,14 +123,17 @@ abbrev pub IsJob : List Text → Job → Type 0
 IsJob [] job = ⊥
 IsJob (word ∷ others) job = IsVersionJob word job ⊎ IsSubcommandJob word others job
 
--- the subcommand reads numbers, and one of them is malformed, or missing where it is required
-abbrev pub lacks_number : Subcommand → (Text → Option Text) → Bool
-lacks_number sub.Serve value = is_none (port_in value) || is_malformed most_connections (value (codes "N"))
-lacks_number _ value = false
+-- the subcommand reads a number that is malformed, or missing where it is required, or a format that is none
+abbrev pub has_bad_value : Subcommand → (Text → Option Text) → Bool
+has_bad_value sub.Serve value = is_none (port_in value) || is_malformed most_connections (value (codes "N"))
+has_bad_value sub.Stock value = is_none (format_in value)
+has_bad_value sub.Unfinished value = is_none (format_in value)
+has_bad_value sub.History value = is_none (format_in value)
+has_bad_value _ value = false
 
--- the words after a subcommand are refused: by clap, or for a value that is no number
+-- the words after a subcommand are refused: by clap, or for a value that is no number or no format
 abbrev pub refuses : Subcommand → List Text → Bool
-refuses s words = is_refused_by (app_for s) words || lacks_number s (value_in (app_for s) words)
+refuses s words = is_refused_by (app_for s) words || has_bad_value s (value_in (app_for s) words)
 
 -- the words are refused: there is none, or the first word neither asks for the version nor names a subcommand that
 -- takes the others

@@ -57,15 +57,19 @@ connections_number = record (optional (codes "N")) { long = Some (codes "connect
 abbrev pub house_path : Rule
 house_path = record (optional (codes "PATH")) { long = Some (codes "house") }
 
+-- the format of a report follows `--format`
+abbrev pub report_format : Rule
+report_format = record (optional (codes "FORMAT")) { long = Some (codes "format") }
+
 -- the values that a subcommand reads, in their order
 abbrev pub rules_for : Subcommand → List Rule
 rules_for Run = needed (codes "FILE") ∷ []
 rules_for Serve = needed (codes "FILE") ∷ port_number ∷ connections_number ∷ house_path ∷ []
 rules_for Recover = needed (codes "FILE") ∷ []
 rules_for Load = needed (codes "FILE") ∷ needed (codes "CSV") ∷ batch_name ∷ []
-rules_for Stock = needed (codes "FILE") ∷ []
-rules_for Unfinished = needed (codes "FILE") ∷ []
-rules_for History = needed (codes "FILE") ∷ needed (codes "ID") ∷ []
+rules_for Stock = needed (codes "FILE") ∷ report_format ∷ []
+rules_for Unfinished = needed (codes "FILE") ∷ report_format ∷ []
+rules_for History = needed (codes "FILE") ∷ needed (codes "ID") ∷ report_format ∷ []
 rules_for Migrate = needed (codes "FILE") ∷ []
 
 -- the names of these values

@@ -16,8 +16,8 @@ Faults:
   A fault is one line on standard error, 'fault N Name'. It ends the program.
   17, 22 Memory  Out of memory
   18 Store       The database failed
-  21 Store       FILE is no database of the desk, is in use, or cannot be
-                 read or made
+  21 Store       FILE is not a database of the desk, is in use, or cannot be
+                 read or created
   24 Read        The input could not be read
   25 Write       The output could not be written
   26 File        A file is absent or cannot be read
@@ -39,12 +39,12 @@ Example:
   cells 1";
 
 const RUN: &str = "\
-Answer the lines of standard input, one by one
+Execute commands from standard input, one per line
 
-Opens the database FILE, or makes it. Every journey under way is finished or
-undone first, as after a crash. Then each line of standard input is answered
-by one line on standard output, until the input ends. A refused line changes
-nothing, and the next line is answered.";
+Opens the database FILE, created if absent. Every journey under way is
+finished or undone first, as after a crash. Then each line of standard input
+is answered by one line on standard output, until the input ends. A refused
+line changes nothing, and the next line is answered.";
 
 const RUN_NOTES: &str = "\
 Lines:
@@ -86,12 +86,12 @@ Example:
   journey 1 T1.1 ended 1";
 
 const SERVE: &str = "\
-Answer requests over HTTP, of many clients at once
+Serve HTTP requests from many clients at once
 
-Opens the database FILE, or makes it. Every journey under way is finished or
-undone first, as after a crash. Then it listens on 127.0.0.1, prints
-'ready PORT', and serves up to 256 connections at once: N in all, or, without
---connections, until it is stopped. Standard input is not read.";
+Opens the database FILE, created if absent. Every journey under way is
+finished or undone first, as after a crash. Then it listens on 127.0.0.1,
+prints 'ready PORT', and serves up to 256 connections at once: N in all, or,
+without --connections, until it is stopped. Standard input is not read.";
 
 const SERVE_NOTES: &str = "\
 Requests:
@@ -124,9 +124,10 @@ Example:
 const RECOVER: &str = "\
 Finish or undo every journey under way, as after a crash
 
-Opens the database FILE, or makes it. Every journey under way turns back to
-its last save-point, or to its start, and goes on from there to its end.
-Prints 'recovered K', with the number of commits. Standard input is not read.";
+Opens the database FILE, created if absent. Every journey under way turns
+back to its last save-point, or to its start, and goes on from there to its
+end. Prints 'recovered K', with the number of commits. Standard input is not
+read.";
 
 const RECOVER_NOTES: &str = "\
 Exit status:
@@ -141,13 +142,13 @@ Example:
   recovered 1";
 
 const LOAD: &str = "\
-Load the allotments of a file, as one batch
+Load allotments from a CSV file, as one batch
 
-Opens the database FILE, or makes it. Every journey under way is finished or
-undone first, as after a crash. Then the allotment file CSV is loaded as the
-batch NAME, whole or not at all, and the reply is printed. The same rows
-under the same name change nothing when they are loaded again. Standard input
-is not read.";
+Opens the database FILE, created if absent. Every journey under way is
+finished or undone first, as after a crash. Then the allotment file CSV is
+loaded as the batch NAME, whole or not at all, and the reply is printed.
+Loading the same rows under the same name again changes nothing. CSV '-' is
+standard input, which is not read otherwise.";
 
 const LOAD_NOTES: &str = "\
 Allotment file, at most 262144 bytes and 2000 rows:
@@ -164,7 +165,9 @@ Example:
   $ echo 'kind,supplier,product,night,places' >june.csv
   $ echo 'flight,AL,A1,2030-06-01,9' >>june.csv
   $ desk load trips.db june.csv --batch june
-  loaded june 1";
+  loaded june 1
+  $ sed 's/,9$/,12/' june.csv | desk load trips.db - --batch june-2
+  loaded june-2 1";
 
 const STOCK: &str = "\
 Print the allotted, held and free places of each cell
@@ -174,6 +177,12 @@ Prints a heading, a line for each cell, by kind, supplier, product and night,
 and 'cells N'. Standard input is not read.";
 
 const STOCK_NOTES: &str = "\
+Formats:
+  text  A heading, a line for each cell, and 'cells N'
+  json  An object on a line for each cell: allot, free, held, kind, night,
+        product and supplier
+  csv   A heading and a record for each cell; lines end with CR LF
+
 Exit status:
   0  The report is printed
   1  A refusal, on standard output, or a fault, on standard error
@@ -185,7 +194,10 @@ Example:
   $ desk stock trips.db
   kind     supplier product  night       allot   held   free
   flight   AL       A1       2030-06-01      9      0      9
-  cells 1";
+  cells 1
+  $ desk stock trips.db --format csv | tr -d '\\r'
+  kind,supplier,product,night,allot,held,free
+  flight,AL,A1,2030-06-01,9,0,9";
 
 const UNFINISHED: &str = "\
 Print the journeys that have not ended
@@ -195,6 +207,12 @@ Prints a line for each journey that has neither ended nor is undone, with its
 number, agent and state, and 'unfinished N'. Standard input is not read.";
 
 const UNFINISHED_NOTES: &str = "\
+Formats:
+  text  A line for each journey, and 'unfinished N'
+  json  An object on a line for each journey: agent, journey, pos, state,
+        and target if the journey goes back
+  csv   A heading and a record for each journey; lines end with CR LF
+
 Exit status:
   0  The report is printed
   1  A refusal, on standard output, or a fault, on standard error
@@ -205,21 +223,30 @@ Example:
   journey 1 begun
   $ desk unfinished trips.db
              1 desk             run 0
-  unfinished 1";
+  unfinished 1
+  $ desk unfinished trips.db --format json
+  {\"agent\":\"desk\",\"journey\":1,\"pos\":0,\"state\":\"run\"}";
 
 const HISTORY: &str = "\
-Print what was done for a journey, from its begin on
+Print what happened to a journey, oldest first
 
 Opens the database FILE without recovering it, and changes no row of it.
 Prints four lines: the journey's number and agent, its plan, its items, and
 its state. Standard input is not read.";
 
 const HISTORY_NOTES: &str = "\
+Formats:
+  text  Four lines, as above
+  json  An object on a line: first agent, journey and plan; then item and
+        journey for each item; last journey, pos, state, and target if the
+        journey goes back
+  csv   A heading and a record for each item; lines end with CR LF
+
 Items:
   T1.2  Step 1 was taken by its option 2
   C1.2  Step 1, taken by its option 2, was compensated
-  B0s   A turn back to position 0: by recovery (s), since a step was refused
-        (r), or as asked (a)
+  B0s   A turn back to position 0: by recovery (s), because a step was
+        refused (r), or as asked (a)
   S1    A save-point was taken at position 1
 
 States:
@@ -240,10 +267,13 @@ Example:
   journey 1 agent desk
   plan F/AL/A1/2030-06-01/1/1!0
   items
-  state run 0";
+  state run 0
+  $ desk history trips.db 1 --format json
+  {\"agent\":\"desk\",\"journey\":1,\"plan\":\"F/AL/A1/2030-06-01/1/1!0\"}
+  {\"journey\":1,\"pos\":0,\"state\":\"run\"}";
 
 const MIGRATE: &str = "\
-Bring a database of schema 1 to schema 2, in one commit
+Migrate a database from schema 1 to schema 2, in one commit
 
 Opens the database FILE without recovering it. Prints
 'migrated 1 to 2 events N', with the number of events in it. A file of

@@ -2,6 +2,7 @@
 ghost use Rattle.std.specs.Prelude.{◌≡◌};
 ghost use Rattle.command_line.specs.declared.jobs.JobFault.TheVariants.{Memory};
 
+use reports::Format;
 use std::alloc::AllocError;
 
 /// A job of the program.
@@ -34,15 +35,18 @@ pub enum Job {
     /// Print the stock of the desk over this file.
     Stock {
         file: String,
+        format: Format,
     },
     /// Print the unfinished journeys of the desk over this file.
     Unfinished {
         file: String,
+        format: Format,
     },
     /// Print the history of a journey of the desk over this file.
     History {
         file: String,
         id: String,
+        format: Format,
     },
     /// Migrate the database in this file from schema 1 to schema 2.
     Migrate {

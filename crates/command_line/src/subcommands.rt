@@ -1,7 +1,7 @@
 //! The subcommands of the program: their words, and the values that each of them reads.
 ghost use Rattle.std.specs.Prelude.{◌≡◌, [], false, All, IfOk, IfSome};
 ghost use Rattle.clap.specs.Words.{app_of, args_of, groups_of, rule_of};
-ghost use Rattle.command_line.specs.Subcommands.{app_for, bare_app, has_globals, name_of, needed, needed_for, negates_needs, optional, subcommand_in, IsValue, Requires};
+ghost use Rattle.command_line.specs.Subcommands.{app_for, bare_app, has_globals, name_of, needed, needed_for, negates_needs, optional, report_format, subcommand_in, IsValue, Requires};
 
 use clap::{Arg, ArgAction, Command};
 use std::alloc::{AllocError, Global};
@@ -83,14 +83,14 @@ impl Subcommand {
     /// A line on what the subcommand does.
     fn about<'a>(self) -> &'a str {
         match self {
-            Subcommand::Run => "Answer the lines of standard input, one by one",
-            Subcommand::Serve => "Answer requests over HTTP, of many clients at once",
+            Subcommand::Run => "Execute commands from standard input, one per line",
+            Subcommand::Serve => "Serve HTTP requests from many clients at once",
             Subcommand::Recover => "Finish or undo every journey under way, as after a crash",
-            Subcommand::Load => "Load the allotments of a file, as one batch",
+            Subcommand::Load => "Load allotments from a CSV file, as one batch",
             Subcommand::Stock => "Print the allotted, held and free places of each cell",
             Subcommand::Unfinished => "Print the journeys that have not ended",
-            Subcommand::History => "Print what was done for a journey, from its begin on",
-            Subcommand::Migrate => "Bring a database of schema 1 to schema 2, in one commit",
+            Subcommand::History => "Print what happened to a journey, oldest first",
+            Subcommand::Migrate => "Migrate a database from schema 1 to schema 2, in one commit",
         }
     }
 
@@ -98,12 +98,12 @@ impl Subcommand {
     fn file<'a>(self) -> &'a str {
         match self {
             Subcommand::Run | Subcommand::Serve | Subcommand::Recover | Subcommand::Load => {
-                "The database file, which is made if it is absent"
+                "The database file, created if absent"
             }
             Subcommand::Stock
             | Subcommand::Unfinished
             | Subcommand::History
-            | Subcommand::Migrate => "The database file, which has to be there",
+            | Subcommand::Migrate => "The database file, which must exist",
         }
     }
 
@@ -133,16 +133,22 @@ impl Subcommand {
         match self {
             Subcommand::Serve => {
                 let port = value(alloc, "PORT", "The port to listen on, 1 to 65535").long("port");
-                let number = extra(alloc, "N", "Serve N in all, 1 to 1000").long("connections");
-                let house = extra(alloc, "PATH", "A Unix socket to serve too").long("house");
+                let count = "Accept N connections in all, 1 to 1000, then exit";
+                let number = extra(alloc, "N", count).long("connections");
+                let house = extra(alloc, "PATH", "Also listen on this Unix socket").long("house");
                 over_file.arg(port)?.arg(number)?.arg(house)
             }
             Subcommand::Load => {
-                let csv = value(alloc, "CSV", "The allotment file");
+                let csv = value(alloc, "CSV", "The allotment file, or - for standard input");
                 let name = value(alloc, "NAME", "The name of the batch").long("batch");
                 over_file.arg(csv)?.arg(name)
             }
-            Subcommand::History => over_file.arg(value(alloc, "ID", "The number of the journey")),
+            Subcommand::Stock => over_file.arg(format(alloc)),
+            Subcommand::Unfinished => over_file.arg(format(alloc)),
+            Subcommand::History => {
+                let id = value(alloc, "ID", "The number of the journey");
+                over_file.arg(id)?.arg(format(alloc))
+            }
             _ => Ok(over_file),
         }
     }
@@ -165,4 +171,12 @@ fn extra<'a>(alloc: Global, id: &'a str, help: &'a str) -> Arg<'a>
     ensures value { IsValue result }
 {
     Arg::new(alloc, id).help(help).action(ArgAction::Set)
+}
+
+/// The format of a report.
+fn format<'a>(alloc: Global) -> Arg<'a>
+    ensures rule { rule_of result ≡ report_format }
+    ensures value { IsValue result }
+{
+    extra(alloc, "FORMAT", "text (the default), json or csv").long("format")
 }

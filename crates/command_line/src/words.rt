@@ -2,11 +2,11 @@
 //!
 //! The first word names the subcommand, or asks for the version. `clap` reads the others, by its rules for that
 //! subcommand alone. If the first word does neither, the usage of all subcommands is returned.
-ghost use Rattle.std.specs.Prelude.{◌≡◌, ◌≢◌, None, false, true, map, option_map, All, IfErr, IfOk, IsOk, Some, is_some};
+ghost use Rattle.std.specs.Prelude.{◌≡◌, ◌≢◌, None, false, true, map, option_map, All, IfErr, IfOk, IsOk, Some, codes, is_some};
 ghost use Rattle.std.specs.String.{string_bytes};
 ghost use Rattle.allotment.specs.Texts.{number_from};
 ghost use Rattle.clap.specs.Words.{first_value, found_of, kind_of, matches_of, rows_of};
-ghost use Rattle.command_line.specs.Jobs.{are_refused, is_malformed, names_version, number_named, refuses, IsJob, IsJobOf, IsText, IsUsage};
+ghost use Rattle.command_line.specs.Jobs.{are_refused, format_named, format_of, is_malformed, names_version, number_named, refuses, IsJob, IsJobOf, IsText, IsUsage};
 ghost use Rattle.command_line.specs.Subcommands.{app_for, is_refused_by, needed_for};
 
 use crate::help::PROGRAM;
@@ -16,6 +16,7 @@ use crate::version::program_version;
 use clap::error::ErrorKind;
 use clap::{Arg, ArgAction, ArgMatches, Command, Error};
 use commands::number_between;
+use reports::Format;
 use std::alloc::{AllocError, Global};
 
 /// The highest port.
@@ -83,11 +84,18 @@ fn job_of(alloc: Global, subcommand: Subcommand, words: &[String]) -> Result<Job
             let batch = value_of(alloc, &matches, "NAME")?;
             Ok(Job::Load { file, csv, batch })
         }
-        Subcommand::Stock => Ok(Job::Stock { file }),
-        Subcommand::Unfinished => Ok(Job::Unfinished { file }),
+        Subcommand::Stock => {
+            let format = format_in(alloc, &matches)?;
+            Ok(Job::Stock { file, format })
+        }
+        Subcommand::Unfinished => {
+            let format = format_in(alloc, &matches)?;
+            Ok(Job::Unfinished { file, format })
+        }
         Subcommand::History => {
             let id = value_of(alloc, &matches, "ID")?;
-            Ok(Job::History { file, id })
+            let format = format_in(alloc, &matches)?;
+            Ok(Job::History { file, id, format })
         }
         Subcommand::Migrate => Ok(Job::Migrate { file }),
     }
@@ -196,6 +204,43 @@ fn number_in(alloc: Global, word: &str, id: &str, option: &str, most: u16) -> Re
 fn no_number(alloc: Global, word: &str, id: &str, option: &str, most: u16) -> JobFault {
     let text = format!(in alloc;
         "error: invalid value '{word}' for '{option} <{id}>': not a number from 1 to {most}\n\nFor more information, try '--help'.\n"
+    );
+    match text {
+        Ok(text) => JobFault::Usage(text),
+        Err(_) => JobFault::Memory,
+    }
+}
+
+/// The format of a report: a text if none is given.
+fn format_in(alloc: Global, matches: &ArgMatches) -> Result<Format, JobFault>
+    ensures format { IfOk result (λ format.
+        format_of (first_value (found_of matches.now) (codes "FORMAT")) ≡ Some format) }
+    ensures usage { IsUsage result →
+        format_of (first_value (found_of matches.now) (codes "FORMAT")) ≡ None }
+{
+    match matches.get_str("FORMAT") {
+        None => Ok(Format::Text),
+        Some(word) => format_named(alloc, word),
+    }
+}
+
+/// The format that a word names.
+fn format_named(alloc: Global, word: &str) -> Result<Format, JobFault>
+    ensures format { IfOk result (λ format. format_named word.now ≡ Some format) }
+    ensures usage { IsUsage result → format_named word.now ≡ None }
+{
+    match word {
+        "text" => Ok(Format::Text),
+        "json" => Ok(Format::Json),
+        "csv" => Ok(Format::Csv),
+        _ => Err(no_format(alloc, word)),
+    }
+}
+
+/// The error of a word that names no format.
+fn no_format(alloc: Global, word: &str) -> JobFault {
+    let text = format!(in alloc;
+        "error: invalid value '{word}' for '--format <FORMAT>': not text, json or csv\n\nFor more information, try '--help'.\n"
     );
     match text {
         Ok(text) => JobFault::Usage(text),

@@ -14,7 +14,7 @@ use http_pages::{
     Body, Owners, Page, journey_body, plan_body, refused_page, shown_page, unfinished_body,
 };
 use protocols::ServeFault;
-use reports::stock_text;
+use reports::{Format, stock_text};
 use saga_core::{Book, Brief, Listed, Record};
 use std::alloc::{AllocError, Global};
 
@@ -169,7 +169,7 @@ pub(crate) fn see_stock<B: Book>(alloc: Global, book: &mut B) -> Result<Page, Se
 {
     let rows = book.stock()?;
     let mut text = Vec::new(alloc);
-    match stock_text(alloc, &mut Listed::new(&rows), &mut text) {
+    match stock_text(alloc, Format::Text, &mut Listed::new(&rows), &mut text) {
         Ok(_) => Ok(shown_page(Body::Text(text))),
         Err(_) => Err(ServeFault::Memory),
     }

@@ -14,7 +14,8 @@ use Rattle.saga_core.specs.declared.records.Record.{Record}
 use Rattle.streams.specs.Written.{WroteFront}
 use Rattle.streams.proofs.ByteLemmas.{appends_before, keeps_same}
 use Rattle.reports.proofs.FrontLemmas.{front_none, front_whole}
-use Rattle.reports.specs.Layouts.{history_report}
+use Rattle.reports.specs.Formats.{history_in}
+use Rattle.reports.specs.declared.formats.Format.{Format}
 use Rattle.tables.specs.Keeping.{StoodFor}
 use Rattle.tables.specs.Opening.{Tells}
 use Rattle.tables.specs.declared.faults.OpenFault.{OpenFault}
@@ -74,37 +75,37 @@ reported held holds text r e is wrote =
 
 -- The history of a journey.
 
-module _ (held holds : Option (List ℕ)) (id : ℕ) where
+module _ (held holds : Option (List ℕ)) (format : Format) (id : ℕ) where
   -- the journey that is there, and its history
   pub reported_journey : {T : Type 0} (s : State) (shown : Option Record) (journey : Record) (r : Result T ProgramFault)
       (e : End)
       → shown ≡ record_of s.ledger id
       → shown ≡ Some journey
       → e ≡ end_of_result r
-      → WritesText held holds (history_report id journey (history s.ledger id)) r
-      → ReportsHistory held holds id e s
+      → WritesText held holds (history_in format id journey (history s.ledger id)) r
+      → ReportsHistory held holds format id e s
   reported_journey s shown journey r e of is end wrote =
-      subst (λ found. ReportsJourney held holds id (history s.ledger id) found e) of
-      (subst (λ found. ReportsJourney held holds id (history s.ledger id) found e) (sym is)
+      subst (λ found. ReportsJourney held holds format id (history s.ledger id) found e) of
+      (subst (λ found. ReportsJourney held holds format id (history s.ledger id) found e) (sym is)
       (subst IsNotRefused (sym end) (not_refused r), reported held holds _ r e end wrote))
 
 -- a fault, where nothing was written
-failed_journey : (held : Option (List ℕ)) (id : ℕ) (items : List Item) (shown : Option Record) (f : ProgramFault)
-    → ReportsJourney held held id items shown (finish.Fault f)
-failed_journey held id items None f = keeps_same held
-failed_journey held id items (Some journey) f = (tt, reported_none held _ (finish.Fault f) tt)
+failed_journey : (held : Option (List ℕ)) (format : Format) (id : ℕ) (items : List Item) (shown : Option Record) (f : ProgramFault)
+    → ReportsJourney held held format id items shown (finish.Fault f)
+failed_journey held format id items None f = keeps_same held
+failed_journey held format id items (Some journey) f = (tt, reported_none held _ (finish.Fault f) tt)
 
-pub failed_history : (held : Option (List ℕ)) (id : ℕ) (f : ProgramFault) (s : State)
-    → ReportsHistory held held id (finish.Fault f) s
-failed_history held id f s = failed_journey held id (history s.ledger id) (record_of s.ledger id) f
+pub failed_history : (held : Option (List ℕ)) (format : Format) (id : ℕ) (f : ProgramFault) (s : State)
+    → ReportsHistory held held format id (finish.Fault f) s
+failed_history held format id f s = failed_journey held format id (history s.ledger id) (record_of s.ledger id) f
 
 -- the opening failed, of a connection that stood for a state
-pub unopened_history : {S : Type 0} (g : Ghosts S) (old new : Held S) (held : Option (List ℕ)) (id : ℕ)
-    (fault : OpenFault) (v : Version) (s : State)
+pub unopened_history : {S : Type 0} (g : Ghosts S) (old new : Held S) (held : Option (List ℕ)) (format : Format)
+    (id : ℕ) (fault : OpenFault) (v : Version) (s : State)
     → Tells g old new fault
     → HasCleanDisk (state g new) → StoodFor v (state g old) s
-    → ReportsHistory held held id (end_of_open fault) s
-unopened_history g old new held id (opening.UnknownSchema n) v s tells clean stood =
+    → ReportsHistory held held format id (end_of_open fault) s
+unopened_history g old new held format id (opening.UnknownSchema n) v s tells clean stood =
     absurd (tells.2 clean v s stood)
-unopened_history g old new held id opening.Store v s tells clean stood = failed_history held id _ s
-unopened_history g old new held id opening.Memory v s tells clean stood = failed_history held id _ s
+unopened_history g old new held format id opening.Store v s tells clean stood = failed_history held format id _ s
+unopened_history g old new held format id opening.Memory v s tells clean stood = failed_history held format id _ s

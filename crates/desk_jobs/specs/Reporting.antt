@@ -10,7 +10,8 @@ use Rattle.ledger.specs.Answer.{State}
 use Rattle.ledger.specs.Ledger.{history}
 use Rattle.saga_core.specs.Views.{IsStock, record_of, unfinished_of}
 use Rattle.saga_core.specs.declared.records.Record.{Record}
-use Rattle.reports.specs.Layouts.{history_report, stock_report, unfinished_report}
+use Rattle.reports.specs.Formats.{history_in, stock_in, unfinished_in}
+use Rattle.reports.specs.declared.formats.Format.{Format}
 use Rattle.streams.specs.Written.{WroteFront}
 use Rattle.sql_model.specs.Standing.{IsDesk}
 use Rattle.tables.specs.Lending.{OpenedKeeps}
@@ -43,20 +44,20 @@ module _ (held holds : Option (List ℕ)) where
     pub front : WroteFront held holds text
 
   -- the report of the places of each cell that has an allotment
-  abbrev pub WritesStock : {T : Type 0} → Result T ProgramFault → State → Type 0
-  WritesStock result s =
-      (rows : List (Cell × Places)) → IsStock s.ledger rows → WritesText (stock_report rows) result
+  abbrev pub WritesStock : {T : Type 0} → Format → Result T ProgramFault → State → Type 0
+  WritesStock format result s =
+      (rows : List (Cell × Places)) → IsStock s.ledger rows → WritesText (stock_in format rows) result
 
-  abbrev pub ReportsStock : End → State → Type 0
-  ReportsStock e s =
-      (rows : List (Cell × Places)) → IsStock s.ledger rows → ReportsText (stock_report rows) e
+  abbrev pub ReportsStock : Format → End → State → Type 0
+  ReportsStock format e s =
+      (rows : List (Cell × Places)) → IsStock s.ledger rows → ReportsText (stock_in format rows) e
 
   -- the report of the unfinished journeys
-  abbrev pub WritesUnfinished : {T : Type 0} → Result T ProgramFault → State → Type 0
-  WritesUnfinished result s = WritesText (unfinished_report (unfinished_of s.ledger)) result
+  abbrev pub WritesUnfinished : {T : Type 0} → Format → Result T ProgramFault → State → Type 0
+  WritesUnfinished format result s = WritesText (unfinished_in format (unfinished_of s.ledger)) result
 
-  abbrev pub ReportsUnfinished : End → State → Type 0
-  ReportsUnfinished e s = ReportsText (unfinished_report (unfinished_of s.ledger)) e
+  abbrev pub ReportsUnfinished : Format → End → State → Type 0
+  ReportsUnfinished format e s = ReportsText (unfinished_in format (unfinished_of s.ledger)) e
 
   -- nothing was written, and the end is that there is no such journey, or a fault
   abbrev pub ReportsNone : End → Type 0
@@ -65,10 +66,11 @@ module _ (held holds : Option (List ℕ)) where
   ReportsNone _ = Keeps held holds
 
   -- the report of the history of a journey, if there is one of this number
-  abbrev pub ReportsJourney : ℕ → List Item → Option Record → End → Type 0
-  ReportsJourney id items None e = ReportsNone e
-  ReportsJourney id items (Some journey) e =
-      IsNotRefused e × ReportsText (history_report id journey items) e
+  abbrev pub ReportsJourney : Format → ℕ → List Item → Option Record → End → Type 0
+  ReportsJourney format id items None e = ReportsNone e
+  ReportsJourney format id items (Some journey) e =
+      IsNotRefused e × ReportsText (history_in format id journey items) e
 
-  abbrev pub ReportsHistory : ℕ → End → State → Type 0
-  ReportsHistory id e s = ReportsJourney id (history s.ledger id) (record_of s.ledger id) e
+  abbrev pub ReportsHistory : Format → ℕ → End → State → Type 0
+  ReportsHistory format id e s =
+      ReportsJourney format id (history s.ledger id) (record_of s.ledger id) e

@@ -1,5 +1,9 @@
 pub mod Columns
 pub mod Layouts
+pub mod Objects
+pub mod Records
+pub mod Formats
 pub mod Faults
 pub mod Parts
 pub mod Examples
+pub mod FormatExamples

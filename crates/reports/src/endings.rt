@@ -1,7 +1,9 @@
 //! The ending of a report, after its rows.
-ghost use Rattle.std.specs.Prelude.{◌≡◌, IfOk, string_bytes};
+ghost use Rattle.std.specs.Prelude.{◌≡◌, ℕ, IfOk, string_bytes};
+ghost use Rattle.reports.specs.Formats.{last_line};
 ghost use Rattle.reports.specs.Parts.{ending_text};
 
+use crate::formats::Format;
 use std::alloc::{AllocError, Global};
 
 /// The ending of a report, after its rows.
@@ -13,7 +15,17 @@ pub(crate) enum Ending<'a> {
     Text(&'a str),
 }
 
-impl Ending<'_> {
+impl<'a> Ending<'a> {
+    /// The ending of a list in this format: for `Text` this word and the number of rows, and else nothing.
+    pub(crate) fn of_list(format: Format, what: &'a str) -> Ending<'a>
+        ensures ending { (count : ℕ) → ending_text result count ≡ last_line format what.now count }
+    {
+        match format {
+            Format::Text => Ending::Count(what),
+            Format::Json | Format::Csv => Ending::Text(""),
+        }
+    }
+
     /// The text of the ending after so many rows.
     pub(crate) fn text(&self, alloc: Global, count: u64) -> Result<String, AllocError>
         ensures text { IfOk result (λ text. string_bytes text ≡ ending_text self.now count) }

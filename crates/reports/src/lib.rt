@@ -1,8 +1,8 @@
 //! The reports: places by cell, unfinished journeys, and the history of a journey.
 //!
-//! A report is a text: the layout of the rows that a source returns, one at a time. Each line is made in memory and
-//! written at once, so a report needs no more memory for more rows. After a fault, what was written is a prefix of the
-//! report. Flushing the writer is left to the caller.
+//! A report is the layout of the rows that a source returns, one at a time, in a format: as a text, as JSON lines or as
+//! CSV. Each line is made in memory and written at once, so a report needs no more memory for more rows. After a fault,
+//! what was written is a prefix of the report. Flushing the writer is left to the caller.
 //!
 //! Words: a *column* is a text that is padded with blanks up to its width; the *head* of a report comes before its
 //! rows, and its *ending* after them.
@@ -10,10 +10,14 @@
 
 mod endings;
 mod faults;
+mod formats;
 mod lines;
+mod objects;
 mod outputs;
+mod records;
 mod reports;
 mod rows;
 
 pub use faults::ReportFault;
+pub use formats::Format;
 pub use reports::{history_text, stock_text, unfinished_text};

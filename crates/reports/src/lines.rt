@@ -1,15 +1,40 @@
 //! The lines of reports, each as one text in memory.
 ghost use Rattle.std.specs.Prelude.{◌≡◌, IfOk, string_bytes};
+ghost use Rattle.allotment.specs.Nights.{night_text};
+ghost use Rattle.reports.specs.Formats.{stock_head, unfinished_head};
 ghost use Rattle.reports.specs.Layouts.{stock_heading, stock_line, journey_line};
 ghost use Rattle.reports.specs.Parts.{cell_columns, history_head, history_tail, item_word};
 
-use allotment::{Cell, Held};
+use crate::formats::Format;
+use crate::records::{cell_heading, journey_heading};
+use allotment::{Cell, Held, Night};
 use commands::{Cursor, Item};
 use saga_core::{Brief, Record};
 use std::alloc::{AllocError, Global};
 
-/// The heading of the stock report.
-pub(crate) fn heading() -> &'static str
+/// The heading of the stock report in this format.
+pub(crate) fn stock_head(format: Format) -> &'static str
+    ensures head { result.now ≡ stock_head format }
+{
+    match format {
+        Format::Text => heading(),
+        Format::Json => "",
+        Format::Csv => cell_heading(),
+    }
+}
+
+/// The heading of the report of unfinished journeys in this format.
+pub(crate) fn unfinished_head(format: Format) -> &'static str
+    ensures head { result.now ≡ unfinished_head format }
+{
+    match format {
+        Format::Text | Format::Json => "",
+        Format::Csv => journey_heading(),
+    }
+}
+
+/// The heading of the stock report as a text.
+fn heading() -> &'static str
     ensures heading { result.now ≡ stock_heading }
 {
     "kind     supplier product  night       allot   held   free\n"
@@ -34,6 +59,13 @@ fn cell_columns(alloc: Global, cell: &Cell) -> Result<String, AllocError>
     let product = cell.product.as_str();
     let night = cell.night;
     format!(in alloc; "{kind:<8} {supplier:<8} {product:<8} {night}")
+}
+
+/// The text of a night, as `2030-06-01`.
+pub(crate) fn night_text(alloc: Global, night: Night) -> Result<String, AllocError>
+    ensures text { IfOk result (λ text. string_bytes text ≡ night_text night) }
+{
+    format!(in alloc; "{night}")
 }
 
 /// The line of an unfinished journey.

@@ -1,4 +1,4 @@
-//! Writing a text to a writer.
+//! Writing texts and bytes to a writer.
 ghost use Rattle.std.specs.Prelude.{OnOk};
 ghost use Rattle.std.specs.Io.KnownBytes.{Appends};
 ghost use Rattle.streams.specs.Written.{WroteFront};
@@ -7,12 +7,21 @@ use crate::faults::ReportFault;
 use std::io::Write;
 use streams::send_all;
 
+/// Writes all bytes. After a fault a prefix of them was written.
+pub(crate) fn send<W: Write>(out: &mut W, bytes: &[u8]) -> Result<(), ReportFault>
+    ensures sent { OnOk result (Appends (W.contents out.old) (W.contents out.new) bytes.now) }
+
+    ensures front { WroteFront (W.contents out.old) (W.contents out.new) bytes.now }
+{
+    send_all(out, bytes)?;
+    Ok(())
+}
+
 /// Writes the whole text. After a fault a prefix of it was written.
-pub(crate) fn send<W: Write>(out: &mut W, text: &str) -> Result<(), ReportFault>
+pub(crate) fn send_text<W: Write>(out: &mut W, text: &str) -> Result<(), ReportFault>
     ensures sent { OnOk result (Appends (W.contents out.old) (W.contents out.new) text.now) }
 
     ensures front { WroteFront (W.contents out.old) (W.contents out.new) text.now }
 {
-    send_all(out, text.as_bytes())?;
-    Ok(())
+    send(out, text.as_bytes())
 }

@@ -6,15 +6,21 @@ ghost use Rattle.allotment.specs.declared.cells.Cell.{Cell};
 ghost use Rattle.allotment.specs.declared.places.Held.{Held};
 ghost use Rattle.commands.specs.declared.items.Item.{Item};
 ghost use Rattle.saga_core.specs.declared.records.Brief.{Brief};
-ghost use Rattle.reports.specs.Layouts.{stock_report, unfinished_report, history_report};
+ghost use Rattle.reports.specs.Formats.{stock_in, unfinished_in, history_in};
+ghost use Rattle.reports.specs.Layouts.{history_report};
 ghost use Rattle.reports.specs.Parts.{whole_report};
+ghost use Rattle.reports.specs.Records.{csv_line, item_names, item_fields};
+ghost use Rattle.reports.specs.declared.formats.Format.TheVariants.{Json};
 ghost use Rattle.streams.specs.Written.{WroteFront};
 
 use crate::endings::Ending;
 use crate::faults::ReportFault;
-use crate::lines::{heading, history_head, history_tail};
-use crate::outputs::send;
-use crate::rows::{Shown, send_rows};
+use crate::formats::Format;
+use crate::lines::{history_head, history_tail, stock_head, unfinished_head};
+use crate::objects::{begin_object, state_object};
+use crate::outputs::send_text;
+use crate::records::item_heading;
+use crate::rows::{ItemObjects, ItemRecords, ItemWords, Layout, send_rows};
 use allotment::{Cell, Held};
 use commands::Item;
 use saga_core::{Brief, Record, RowSource};
@@ -23,15 +29,17 @@ use std::io::Write;
 
 /// Writes the stock report, and returns how many cells it shows.
 ///
-/// The first line is a heading. Each cell has a line with its kind, supplier, product and night, and its allotted, held
-/// and free places. The last line is `cells` and their number. The lines are in the order of the rows.
+/// Each cell has a line with its kind, supplier, product and night, and its allotted, held and free places. A text and a
+/// CSV file begin with a heading, and the last line of a text is `cells` and their number. The lines are in the order of
+/// the rows.
 pub fn stock_text<R: RowSource<(Cell, Held)>, W: Write>(
     alloc: Global,
+    format: Format,
     rows: &mut R,
     out: &mut W,
 ) -> Result<u64, ReportFault>
     ensures written { R.is_sound rows.new → (all : List (Cell × Held)) → R.rests rows.old all →
-        OnOk result (Appends (W.contents out.old) (W.contents out.new) (stock_report all)) }
+        OnOk result (Appends (W.contents out.old) (W.contents out.new) (stock_in format all)) }
     ensures number { R.is_sound rows.new → (all : List (Cell × Held)) → R.rests rows.old all →
         IfOk result (λ count. count ≡ length all) }
     ensures rest { R.is_sound rows.new → (all : List (Cell × Held)) → R.rests rows.old all →
@@ -39,25 +47,27 @@ pub fn stock_text<R: RowSource<(Cell, Held)>, W: Write>(
     ensures given { IfOk result (λ count. R.given rows.new ≡ count + R.given rows.old) }
 
     ensures front { R.is_sound rows.new → (all : List (Cell × Held)) → R.rests rows.old all →
-        WroteFront (W.contents out.old) (W.contents out.new) (stock_report all) }
+        WroteFront (W.contents out.old) (W.contents out.new) (stock_in format all) }
 
     ensures kept { R.becomes rows.old rows.new }
     ensures sound { R.is_sound rows.new → R.is_sound rows.old }
 {
-    send_report(alloc, heading(), rows, &Ending::Count("cells"), out)
+    let ending = Ending::of_list(format, "cells");
+    send_report(alloc, stock_head(format), &format, rows, &ending, out)
 }
 
 /// Writes the report of unfinished journeys, and returns how many there are.
 ///
-/// Each journey has a line with its number, its agent, and its position and phase. The last line is `unfinished` and
-/// their number. The lines are in the order of the rows.
+/// Each journey has a line with its number, its agent, and its position and phase. A CSV file begins with a heading, and
+/// the last line of a text is `unfinished` and their number. The lines are in the order of the rows.
 pub fn unfinished_text<R: RowSource<Brief>, W: Write>(
     alloc: Global,
+    format: Format,
     rows: &mut R,
     out: &mut W,
 ) -> Result<u64, ReportFault>
     ensures written { R.is_sound rows.new → (all : List Brief) → R.rests rows.old all →
-        OnOk result (Appends (W.contents out.old) (W.contents out.new) (unfinished_report all)) }
+        OnOk result (Appends (W.contents out.old) (W.contents out.new) (unfinished_in format all)) }
     ensures number { R.is_sound rows.new → (all : List Brief) → R.rests rows.old all →
         IfOk result (λ count. count ≡ length all) }
     ensures rest { R.is_sound rows.new → (all : List Brief) → R.rests rows.old all →
@@ -65,19 +75,53 @@ pub fn unfinished_text<R: RowSource<Brief>, W: Write>(
     ensures given { IfOk result (λ count. R.given rows.new ≡ count + R.given rows.old) }
 
     ensures front { R.is_sound rows.new → (all : List Brief) → R.rests rows.old all →
-        WroteFront (W.contents out.old) (W.contents out.new) (unfinished_report all) }
+        WroteFront (W.contents out.old) (W.contents out.new) (unfinished_in format all) }
 
     ensures kept { R.becomes rows.old rows.new }
     ensures sound { R.is_sound rows.new → R.is_sound rows.old }
 {
-    send_report(alloc, "", rows, &Ending::Count("unfinished"), out)
+    let ending = Ending::of_list(format, "unfinished");
+    send_report(alloc, unfinished_head(format), &format, rows, &ending, out)
 }
 
 /// Writes the history of the journey of this number, and returns how many items it has.
 ///
-/// The lines are `journey` with the number and the agent, `plan` with the plan's line, `items` with each item, and
-/// `state` with the journey's position and phase. The items are in the order of the rows.
+/// The lines of a text are `journey` with the number and the agent, `plan` with the plan's line, `items` with each item,
+/// and `state` with the journey's position and phase. JSON has a line with the agent and the plan, a line for each item,
+/// and a line with the position and phase; CSV a heading, and a record for each item. The items are in the order of the
+/// rows.
 pub fn history_text<R: RowSource<Item>, W: Write>(
+    alloc: Global,
+    format: Format,
+    id: u64,
+    journey: &Record,
+    rows: &mut R,
+    out: &mut W,
+) -> Result<u64, ReportFault>
+    ensures written { R.is_sound rows.new → (all : List Item) → R.rests rows.old all →
+        OnOk result (Appends (W.contents out.old) (W.contents out.new)
+        (history_in format id journey.now all)) }
+    ensures number { R.is_sound rows.new → (all : List Item) → R.rests rows.old all →
+        IfOk result (λ count. count ≡ length all) }
+    ensures rest { R.is_sound rows.new → (all : List Item) → R.rests rows.old all →
+        OnOk result (R.rests rows.new []) }
+    ensures given { IfOk result (λ count. R.given rows.new ≡ count + R.given rows.old) }
+
+    ensures front { R.is_sound rows.new → (all : List Item) → R.rests rows.old all →
+        WroteFront (W.contents out.old) (W.contents out.new) (history_in format id journey.now all) }
+
+    ensures kept { R.becomes rows.old rows.new }
+    ensures sound { R.is_sound rows.new → R.is_sound rows.old }
+{
+    match format {
+        Format::Text => history_lines(alloc, id, journey, rows, out),
+        Format::Json => history_objects(alloc, id, journey, rows, out),
+        Format::Csv => history_records(alloc, id, rows, out),
+    }
+}
+
+/// Writes the history as a text.
+fn history_lines<R: RowSource<Item>, W: Write>(
     alloc: Global,
     id: u64,
     journey: &Record,
@@ -101,26 +145,84 @@ pub fn history_text<R: RowSource<Item>, W: Write>(
 {
     let head = history_head(alloc, id, journey)?;
     let state = history_tail(alloc, &journey.cursor)?;
+    let ending = Ending::Text(state.as_str());
+    send_report(alloc, head.as_str(), &ItemWords, rows, &ending, out)
+}
+
+/// Writes the history as JSON lines.
+fn history_objects<R: RowSource<Item>, W: Write>(
+    alloc: Global,
+    id: u64,
+    journey: &Record,
+    rows: &mut R,
+    out: &mut W,
+) -> Result<u64, ReportFault>
+    ensures written { R.is_sound rows.new → (all : List Item) → R.rests rows.old all →
+        OnOk result (Appends (W.contents out.old) (W.contents out.new)
+        (history_in Json id journey.now all)) }
+    ensures number { R.is_sound rows.new → (all : List Item) → R.rests rows.old all →
+        IfOk result (λ count. count ≡ length all) }
+    ensures rest { R.is_sound rows.new → (all : List Item) → R.rests rows.old all →
+        OnOk result (R.rests rows.new []) }
+    ensures given { IfOk result (λ count. R.given rows.new ≡ count + R.given rows.old) }
+
+    ensures front { R.is_sound rows.new → (all : List Item) → R.rests rows.old all →
+        WroteFront (W.contents out.old) (W.contents out.new) (history_in Json id journey.now all) }
+
+    ensures kept { R.becomes rows.old rows.new }
+    ensures sound { R.is_sound rows.new → R.is_sound rows.old }
+{
+    let head = begin_object(alloc, id, journey)?;
+    let state = state_object(alloc, id, &journey.cursor)?;
+    let ending = Ending::Text(state.as_str());
     send_report(
         alloc,
         head.as_str(),
+        &ItemObjects { id },
         rows,
-        &Ending::Text(state.as_str()),
+        &ending,
         out,
     )
 }
 
+/// Writes the items of the history as CSV.
+fn history_records<R: RowSource<Item>, W: Write>(
+    alloc: Global,
+    id: u64,
+    rows: &mut R,
+    out: &mut W,
+) -> Result<u64, ReportFault>
+    ensures written { R.is_sound rows.new → (all : List Item) → R.rests rows.old all →
+        OnOk result (Appends (W.contents out.old) (W.contents out.new)
+        (csv_line item_names ++ flat_map (λ item. csv_line (item_fields id item)) all)) }
+    ensures number { R.is_sound rows.new → (all : List Item) → R.rests rows.old all →
+        IfOk result (λ count. count ≡ length all) }
+    ensures rest { R.is_sound rows.new → (all : List Item) → R.rests rows.old all →
+        OnOk result (R.rests rows.new []) }
+    ensures given { IfOk result (λ count. R.given rows.new ≡ count + R.given rows.old) }
+
+    ensures front { R.is_sound rows.new → (all : List Item) → R.rests rows.old all →
+        WroteFront (W.contents out.old) (W.contents out.new) (csv_line item_names ++ flat_map (λ item. csv_line (item_fields id item)) all) }
+
+    ensures kept { R.becomes rows.old rows.new }
+    ensures sound { R.is_sound rows.new → R.is_sound rows.old }
+{
+    let layout = ItemRecords { id };
+    send_report(alloc, item_heading(), &layout, rows, &Ending::Text(""), out)
+}
+
 /// Writes a report: its head, the text of each row, and its ending.
-fn send_report<T: Shown + Drop, R: RowSource<T>, W: Write>(
+fn send_report<T: Drop, L: Layout<T>, R: RowSource<T>, W: Write>(
     alloc: Global,
     head: &str,
+    layout: &L,
     rows: &mut R,
     ending: &Ending<'_>,
     out: &mut W,
 ) -> Result<u64, ReportFault>
     ensures written { R.is_sound rows.new → (all : List T) → R.rests rows.old all →
         OnOk result (Appends (W.contents out.old) (W.contents out.new)
-        (whole_report T.shown head.now ending.now all)) }
+        (whole_report (L.shown layout.now) head.now ending.now all)) }
     ensures number { R.is_sound rows.new → (all : List T) → R.rests rows.old all →
         IfOk result (λ count. count ≡ length all) }
     ensures rest { R.is_sound rows.new → (all : List T) → R.rests rows.old all →
@@ -129,14 +231,14 @@ fn send_report<T: Shown + Drop, R: RowSource<T>, W: Write>(
 
     ensures front { R.is_sound rows.new → (all : List T) → R.rests rows.old all →
         WroteFront (W.contents out.old) (W.contents out.new)
-        (whole_report T.shown head.now ending.now all) }
+        (whole_report (L.shown layout.now) head.now ending.now all) }
 
     ensures kept { R.becomes rows.old rows.new }
     ensures sound { R.is_sound rows.new → R.is_sound rows.old }
 {
-    send(out, head)?;
-    let count = send_rows(alloc, rows, out)?;
+    send_text(out, head)?;
+    let count = send_rows(alloc, layout, rows, out)?;
     let text = ending.text(alloc, count)?;
-    send(out, text.as_str())?;
+    send_text(out, text.as_str())?;
     Ok(count)
 }

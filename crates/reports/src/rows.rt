@@ -1,62 +1,106 @@
 //! The rows of a report, written one after another.
-ghost use Rattle.std.specs.Prelude.{◌≡◌, ◌+◌, ℕ, List, [], length, IfOk, IfErr, OnOk, string_bytes};
+ghost use Rattle.std.specs.Prelude.{◌≡◌, ◌+◌, ℕ, List, [], length, IfOk, IfErr, OnOk};
 ghost use Rattle.std.specs.List.{flat_map};
 ghost use Rattle.std.specs.Io.KnownBytes.{Appends};
-ghost use Rattle.reports.specs.Layouts.{stock_line, journey_line};
+ghost use Rattle.reports.specs.Formats.{stock_row, unfinished_row};
+ghost use Rattle.reports.specs.Objects.{json_line, item_data};
 ghost use Rattle.reports.specs.Parts.{item_word};
+ghost use Rattle.reports.specs.Records.{csv_line, item_fields};
 ghost use Rattle.streams.specs.Written.{WroteFront};
 
 use crate::faults::ReportFault;
-use crate::lines;
+use crate::formats::Format;
 use crate::outputs::send;
+use crate::{lines, objects, records};
 use allotment::{Cell, Held};
 use commands::Item;
 use saga_core::{Brief, RowSource};
 use std::alloc::{AllocError, Global};
 use std::io::Write;
 
-/// A row that has a text in a report.
-pub(crate) trait Shown {
-    /// The text that represents the row.
-    ghost shown: { Self → List ℕ };
+/// How the rows of a report are laid out.
+pub(crate) trait Layout<T> {
+    /// The bytes that represent a row.
+    ghost shown: { Self → T → List ℕ };
 
-    /// That text. The only fault is out of memory.
-    fn show(&self, alloc: Global) -> Result<String, AllocError>
-        ensures text { IfOk result (λ text. string_bytes text ≡ shown self.now) };
+    /// Those bytes. The only fault is out of memory.
+    fn show(&self, alloc: Global, row: &T) -> Result<Vec<u8>, AllocError>
+        ensures bytes { IfOk result (λ bytes. bytes.items ≡ shown self.now row.now) };
 }
 
-impl Shown for (Cell, Held) {
-    ghost shown = { λ row. stock_line row };
+impl Layout<(Cell, Held)> for Format {
+    ghost shown = { λ format row. stock_row format row };
 
-    fn show(&self, alloc: Global) -> Result<String, AllocError> {
-        lines::stock_line(alloc, &self.0, &self.1)
+    fn show(&self, alloc: Global, row: &(Cell, Held)) -> Result<Vec<u8>, AllocError> {
+        match self {
+            Format::Text => Ok(lines::stock_line(alloc, &row.0, &row.1)?.into_bytes()),
+            Format::Json => Ok(objects::cell_object(alloc, &row.0, &row.1)?.into_bytes()),
+            Format::Csv => records::cell_record(alloc, &row.0, &row.1),
+        }
     }
 }
 
-impl Shown for Brief {
-    ghost shown = { λ brief. journey_line brief };
+impl Layout<Brief> for Format {
+    ghost shown = { λ format brief. unfinished_row format brief };
 
-    fn show(&self, alloc: Global) -> Result<String, AllocError> {
-        lines::journey_line(alloc, self)
+    fn show(&self, alloc: Global, row: &Brief) -> Result<Vec<u8>, AllocError> {
+        match self {
+            Format::Text => Ok(lines::journey_line(alloc, row)?.into_bytes()),
+            Format::Json => Ok(objects::journey_object(alloc, row)?.into_bytes()),
+            Format::Csv => records::journey_record(alloc, row),
+        }
     }
 }
 
-impl Shown for Item {
-    ghost shown = { λ item. item_word item };
+/// The items of a history as words, each after one blank.
+#[derive(Clone, Copy)]
+pub(crate) struct ItemWords;
 
-    fn show(&self, alloc: Global) -> Result<String, AllocError> {
-        lines::item_word(alloc, self)
+impl Layout<Item> for ItemWords {
+    ghost shown = { λ _ item. item_word item };
+
+    fn show(&self, alloc: Global, row: &Item) -> Result<Vec<u8>, AllocError> {
+        Ok(lines::item_word(alloc, row)?.into_bytes())
     }
 }
 
-/// Writes the text of each row, and returns how many there were.
-pub(crate) fn send_rows<T: Shown + Drop, R: RowSource<T>, W: Write>(
+/// The items of the history of the journey of this number as JSON objects.
+#[derive(Clone, Copy)]
+pub(crate) struct ItemObjects {
+    pub(crate) id: u64,
+}
+
+impl Layout<Item> for ItemObjects {
+    ghost shown = { λ journey item. json_line (item_data journey.id item) };
+
+    fn show(&self, alloc: Global, row: &Item) -> Result<Vec<u8>, AllocError> {
+        Ok(objects::item_object(alloc, self.id, row)?.into_bytes())
+    }
+}
+
+/// The items of the history of the journey of this number as CSV records.
+#[derive(Clone, Copy)]
+pub(crate) struct ItemRecords {
+    pub(crate) id: u64,
+}
+
+impl Layout<Item> for ItemRecords {
+    ghost shown = { λ journey item. csv_line (item_fields journey.id item) };
+
+    fn show(&self, alloc: Global, row: &Item) -> Result<Vec<u8>, AllocError> {
+        records::item_record(alloc, self.id, row)
+    }
+}
+
+/// Writes each row in its layout, and returns how many there were.
+pub(crate) fn send_rows<T: Drop, L: Layout<T>, R: RowSource<T>, W: Write>(
     alloc: Global,
+    layout: &L,
     rows: &mut R,
     out: &mut W,
 ) -> Result<u64, ReportFault>
     ensures written { R.is_sound rows.new → (all : List T) → R.rests rows.old all →
-        OnOk result (Appends (W.contents out.old) (W.contents out.new) (flat_map T.shown all)) }
+        OnOk result (Appends (W.contents out.old) (W.contents out.new) (flat_map (L.shown layout.now) all)) }
     ensures number { R.is_sound rows.new → (all : List T) → R.rests rows.old all →
         IfOk result (λ count. count ≡ length all) }
     ensures rest { R.is_sound rows.new → (all : List T) → R.rests rows.old all →
@@ -64,15 +108,15 @@ pub(crate) fn send_rows<T: Shown + Drop, R: RowSource<T>, W: Write>(
     ensures given { IfOk result (λ count. R.given rows.new ≡ count + R.given rows.old) }
 
     ensures front { R.is_sound rows.new → (all : List T) → R.rests rows.old all →
-        WroteFront (W.contents out.old) (W.contents out.new) (flat_map T.shown all) }
+        WroteFront (W.contents out.old) (W.contents out.new) (flat_map (L.shown layout.now) all) }
 
     ensures kept { R.becomes rows.old rows.new }
     ensures sound { R.is_sound rows.new → R.is_sound rows.old }
 {
     let mut count = 0u64;
     while let Some(row) = rows.next_row()? {
-        let text = row.show(alloc)?;
-        send(out, text.as_str())?;
+        let bytes = layout.show(alloc, &row)?;
+        send(out, &bytes)?;
         count += 1;
     }
     Ok(count)

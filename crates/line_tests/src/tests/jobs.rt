@@ -1,6 +1,7 @@
 //! The jobs of the words of the command line.
 use crate::tests::desks::{holds, reads};
 use command_line::{Job, JobFault, job};
+use reports::Format;
 use std::alloc::{AllocError, Global};
 use std::test::Fail;
 
@@ -29,6 +30,15 @@ fn served_text(
     format!(in alloc; "serve|{file}|{port}|{count}|{house}")
 }
 
+/// A format in the table: nothing for a text.
+fn shown(format: Format) -> &'static str {
+    match format {
+        Format::Text => "",
+        Format::Json => "|json",
+        Format::Csv => "|csv",
+    }
+}
+
 /// The job of words as a text in the table: the job with its values, or only the usage.
 fn asked(alloc: Global, words: Vec<String>) -> Result<String, AllocError> {
     match job(alloc, words) {
@@ -43,9 +53,15 @@ fn asked(alloc: Global, words: Vec<String>) -> Result<String, AllocError> {
         ) => served_text(alloc, file.as_str(), port, connections, house),
         Ok(Job::Recover { file }) => format!(in alloc; "recover|{file}"),
         Ok(Job::Load { file, csv, batch }) => format!(in alloc; "load|{file}|{csv}|{batch}"),
-        Ok(Job::Stock { file }) => format!(in alloc; "stock|{file}"),
-        Ok(Job::Unfinished { file }) => format!(in alloc; "unfinished|{file}"),
-        Ok(Job::History { file, id }) => format!(in alloc; "history|{file}|{id}"),
+        Ok(Job::Stock { file, format }) => format!(in alloc; "stock|{file}{}", shown(format)),
+        Ok(Job::Unfinished { file, format }) => format!(in alloc;
+            "unfinished|{file}{}",
+            shown(format)
+        ),
+        Ok(Job::History { file, id, format }) => format!(in alloc;
+            "history|{file}|{id}{}",
+            shown(format)
+        ),
         Ok(Job::Migrate { file }) => format!(in alloc; "migrate|{file}"),
         Ok(Job::Version) => String::from_str(alloc, "version"),
         Err(JobFault::Usage(usage)) => Ok(usage),
@@ -55,7 +71,7 @@ fn asked(alloc: Global, words: Vec<String>) -> Result<String, AllocError> {
 
 // the words, separated by bars, and the job with its values; a bad number of a journey is no usage
 #[rattlefmt::skip]
-const JOBS: [(&str, &str); 37] = [
+const JOBS: [(&str, &str); 44] = [
     ("run|x.db",                    "run|x.db"),
     ("run|a b/x.db",                "run|a b/x.db"),
     ("run|--|-x.db",                "run|-x.db"),
@@ -89,6 +105,13 @@ const JOBS: [(&str, &str); 37] = [
     ("history|x.db|12",             "history|x.db|12"),
     ("history|x.db|012",            "history|x.db|012"),
     ("history|x.db|one",            "history|x.db|one"),
+    ("stock|x.db|--format|text",    "stock|x.db"),
+    ("stock|x.db|--format|json",    "stock|x.db|json"),
+    ("stock|--format=csv|x.db",     "stock|x.db|csv"),
+    ("unfinished|x.db|--format|csv", "unfinished|x.db|csv"),
+    ("unfinished|--format|json|--|-x.db", "unfinished|-x.db|json"),
+    ("history|x.db|12|--format|csv", "history|x.db|12|csv"),
+    ("history|--format=json|x.db|one", "history|x.db|one|json"),
     ("migrate|x.db",                "migrate|x.db"),
     ("--version",                   "version"),
     ("-V",                          "version"),
@@ -106,7 +129,7 @@ fn words_name_a_job_with_its_values(rt: HostRuntime) -> Result<(), Fail> {
 
 // what the row shows, the words, and the prefix of the usage
 #[rattlefmt::skip]
-const REFUSED: [(&str, &str, &str); 61] = [
+const REFUSED: [(&str, &str, &str); 68] = [
     ("another subcommand",       "fly|x.db",       "error: unrecognized subcommand 'fly'"),
     ("a subcommand in capitals", "RUN|x.db",       "error: unrecognized subcommand 'RUN'"),
     ("a part of a subcommand",   "ru|x.db",        "error: unrecognized subcommand 'ru'"),
@@ -120,11 +143,11 @@ const REFUSED: [(&str, &str, &str); 61] = [
     ("a flag that run has not",  "run|--fast|x",   "error: unexpected argument '--fast' found"),
     ("no file to recover",       "recover",        "error: the following required arguments were not provided:\n  <FILE>\n\nUsage: desk recover <FILE>\n"),
     ("two files to recover",     "recover|x|y",    "error: unexpected argument 'y' found\n\nUsage: desk recover <FILE>\n"),
-    ("help of recover",          "recover|--help", "Finish or undo every journey under way, as after a crash\n\nOpens the database FILE, or makes it."),
+    ("help of recover",          "recover|--help", "Finish or undo every journey under way, as after a crash\n\nOpens the database FILE, created if absent."),
     ("recover, in short",        "recover|-h",     "Finish or undo every journey under way, as after a crash\n\nUsage: desk recover <FILE>\n"),
-    ("help of run",              "run|--help",     "Answer the lines of standard input, one by one\n\nOpens the database FILE, or makes it."),
-    ("run, in short",            "run|-h",         "Answer the lines of standard input, one by one\n\nUsage: desk run <FILE>\n"),
-    ("help, then run",           "help|run",       "Answer the lines of standard input, one by one\n\nOpens the database FILE, or makes it."),
+    ("help of run",              "run|--help",     "Execute commands from standard input, one per line\n\nOpens the database FILE, created if absent."),
+    ("run, in short",            "run|-h",         "Execute commands from standard input, one per line\n\nUsage: desk run <FILE>\n"),
+    ("help, then run",           "help|run",       "Execute commands from standard input, one per line\n\nOpens the database FILE, created if absent."),
     ("help of run, as it is called", "help|run|now", "error: unrecognized subcommand 'now'"),
     ("a version of run",         "run|--version",  "error: unexpected argument '--version' found"),
     ("a version in one letter",  "-v",             "error: unexpected argument '-v' found"),
@@ -152,22 +175,29 @@ const REFUSED: [(&str, &str, &str); 61] = [
     ("a flag without a port",    "serve|x|--connections|1|--port", "error: a value is required for '--port <PORT>' but none was supplied\n"),
     ("two ports",                "serve|x|--port|80|--port|81|--connections|1", "error: the argument '--port <PORT>' cannot be used multiple times\n"),
     ("a part of a flag",         "serve|x|--por|80|--connections|1", "error: unexpected argument '--por' found\n"),
-    ("help of serve",            "serve|--help", "Answer requests over HTTP, of many clients at once\n\nOpens the database FILE, or makes it."),
-    ("serve, in short",          "serve|-h", "Answer requests over HTTP, of many clients at once\n\nUsage: desk serve [OPTIONS] --port <PORT> <FILE>\n"),
-    ("no file for stock",        "stock",          "error: the following required arguments were not provided:\n  <FILE>\n\nUsage: desk stock <FILE>\n"),
-    ("two files for stock",      "stock|x|y",      "error: unexpected argument 'y' found\n\nUsage: desk stock <FILE>\n"),
-    ("two for unfinished",       "unfinished|x|y", "error: unexpected argument 'y' found\n\nUsage: desk unfinished <FILE>\n"),
-    ("no number",                "history|x.db",   "error: the following required arguments were not provided:\n  <ID>\n\nUsage: desk history <FILE> <ID>\n"),
-    ("two numbers",              "history|x|1|2",  "error: unexpected argument '2' found\n\nUsage: desk history <FILE> <ID>\n"),
+    ("help of serve",            "serve|--help", "Serve HTTP requests from many clients at once\n\nOpens the database FILE, created if absent."),
+    ("serve, in short",          "serve|-h", "Serve HTTP requests from many clients at once\n\nUsage: desk serve [OPTIONS] --port <PORT> <FILE>\n"),
+    ("no file for stock",        "stock",          "error: the following required arguments were not provided:\n  <FILE>\n\nUsage: desk stock [OPTIONS] <FILE>\n"),
+    ("two files for stock",      "stock|x|y",      "error: unexpected argument 'y' found\n\nUsage: desk stock [OPTIONS] <FILE>\n"),
+    ("two for unfinished",       "unfinished|x|y", "error: unexpected argument 'y' found\n\nUsage: desk unfinished [OPTIONS] <FILE>\n"),
+    ("no number",                "history|x.db",   "error: the following required arguments were not provided:\n  <ID>\n\nUsage: desk history [OPTIONS] <FILE> <ID>\n"),
+    ("two numbers",              "history|x|1|2",  "error: unexpected argument '2' found\n\nUsage: desk history [OPTIONS] <FILE> <ID>\n"),
     ("a number below zero",      "history|x|-1",   "error: unexpected argument '-1' found\n"),
+    ("an unknown format",        "stock|x|--format|xml", "error: invalid value 'xml' for '--format <FORMAT>': not text, json or csv\n"),
+    ("a format in capitals",     "unfinished|x|--format|JSON", "error: invalid value 'JSON' for '--format <FORMAT>': not text, json or csv\n"),
+    ("a part of a format",       "history|x|1|--format|cs", "error: invalid value 'cs' for '--format <FORMAT>': not text, json or csv\n"),
+    ("two formats",              "stock|x|--format|csv|--format|csv", "error: the argument '--format <FORMAT>' cannot be used multiple times\n"),
+    ("a flag without a format",  "stock|x|--format", "error: a value is required for '--format <FORMAT>' but none was supplied\n"),
+    ("an empty format",          "stock|x|--format=", "error: "),
+    ("a format of run",          "run|x|--format|json", "error: unexpected argument '--format' found\n"),
     ("no name of the batch",     "load|x|y",       "error: the following required arguments were not provided:\n  --batch <NAME>\n\nUsage: desk load --batch <NAME> <FILE> <CSV>\n"),
     ("a flag without a name",    "load|x|y|--batch", "error: a value is required for '--batch <NAME>' but none was supplied\n"),
     ("two names",                "load|x|y|--batch|a|--batch|b", "error: the argument '--batch <NAME>' cannot be used multiple times\n\nUsage: desk load --batch <NAME> <FILE> <CSV>\n"),
     ("no allotment file",        "load|x|--batch|a", "error: the following required arguments were not provided:\n  <CSV>\n\nUsage: desk load --batch <NAME> <FILE> <CSV>\n"),
     ("two allotment files",      "load|x|y|z|--batch|a", "error: unexpected argument 'z' found\n\nUsage: desk load --batch <NAME> <FILE> <CSV>\n"),
     ("two files to migrate",     "migrate|x|y",    "error: unexpected argument 'y' found\n\nUsage: desk migrate <FILE>\n"),
-    ("help of load",             "load|--help",    "Load the allotments of a file, as one batch\n\nOpens the database FILE, or makes it."),
-    ("load, in short",           "load|-h",        "Load the allotments of a file, as one batch\n\nUsage: desk load --batch <NAME> <FILE> <CSV>\n"),
+    ("help of load",             "load|--help",    "Load allotments from a CSV file, as one batch\n\nOpens the database FILE, created if absent."),
+    ("load, in short",           "load|-h",        "Load allotments from a CSV file, as one batch\n\nUsage: desk load --batch <NAME> <FILE> <CSV>\n"),
 ];
 
 #[test]

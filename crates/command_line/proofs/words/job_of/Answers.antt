@@ -3,9 +3,9 @@ use Rattle.std.proofs.Common.{◌∙◌, ap, map, codes, refl, subst, sym}
 use Rattle.std.specs.Prelude.{Err, Some}
 use Rattle.std.proofs.lemmas.Result.{err_from_is_err_and}
 use Rattle.std.specs.String.{string_bytes}
-use Rattle.command_line.specs.Jobs.{is_malformed, number_named, most_port, most_connections, IsUsage}
+use Rattle.command_line.specs.Jobs.{format_of, has_bad_value, is_malformed, number_named, most_port, most_connections, value_in, IsUsage}
 use Rattle.command_line.specs.Subcommands.{app_for}
-use Rattle.command_line.proofs.NumberLemmas.{refuses-bad_number, refuses-no_port, refuses-numbers}
+use Rattle.command_line.proofs.NumberLemmas.{refuses-bad_number, refuses-format, refuses-no_format, refuses-no_port, refuses-numbers}
 use Rattle.command_line.proofs.SubcommandLemmas.{value_in-matches, value_read}
 use Rattle.command_line.proofs.words.job_of.Goals as goal
 
@@ -77,19 +77,71 @@ returns-in-Recover-clause-job c =
 
 pub returns-in-Stock-clause-job : goal.returns-in-Stock-clause-job
 returns-in-Stock-clause-job c =
-    let read = value_read (app_for c.args.subcommand) (map string_bytes c.args.words.now) c.in_ok-matches.matches in
+    let app = app_for c.args.subcommand in
+    let words = map string_bytes c.args.words.now in
+    let m = c.in_ok-matches.matches in
+    let rows = c.in_ok-matches.ensures.rows in
     record {
       subcommand = ap Some (sym c.in-Stock.is);
-      values = read (codes "FILE") _ c.in_ok-matches.ensures.rows c.in_ok-file.ensures.value;
+      values = (
+        value_read app words m (codes "FILE") _ rows c.in_ok-file.ensures.value,
+        ap format_of (value_in-matches app words m (codes "FORMAT") rows) ∙ c.in_ok-format-in-Stock.ensures.format,
+      );
     }
+
+pub returns-in-Stock-clause-taken : goal.returns-in-Stock-clause-taken
+returns-in-Stock-clause-taken c = λ _.
+    let app = app_for c.args.subcommand in
+    let words = map string_bytes c.args.words.now in
+    let value = value_in-matches app words c.in_ok-matches.matches (codes "FORMAT") c.in_ok-matches.ensures.rows in
+    refuses-format c.args.subcommand words c.in_ok-format-in-Stock.format
+    (ap (λ s. has_bad_value s (value_in app words)) c.in-Stock.is)
+    (c.in_ok-matches.ensures.taken refl) (ap format_of value ∙ c.in_ok-format-in-Stock.ensures.format)
+
+-- a usage is returned only for a word that is no format
+pub returns-in_err-format-in-Stock-clause-usage : goal.returns-in_err-format-in-Stock-clause-usage
+returns-in_err-format-in-Stock-clause-usage c = λ usage.
+    let app = app_for c.args.subcommand in
+    let words = map string_bytes c.args.words.now in
+    let value = value_in-matches app words c.in_ok-matches.matches (codes "FORMAT") c.in_ok-matches.ensures.rows in
+    let failed = err_from_is_err_and c.from_residual-in_err-format-in-Stock.result c.from_residual-in_err-format-in-Stock.ensures.1 in
+    refuses-no_format c.args.subcommand words
+    (ap (λ s. has_bad_value s (value_in app words)) c.in-Stock.is)
+    (ap format_of value ∙ c.in_err-format-in-Stock.ensures.usage (subst IsUsage (failed.1 ∙ ap Err failed.2) usage))
 
 pub returns-in-Unfinished-clause-job : goal.returns-in-Unfinished-clause-job
 returns-in-Unfinished-clause-job c =
-    let read = value_read (app_for c.args.subcommand) (map string_bytes c.args.words.now) c.in_ok-matches.matches in
+    let app = app_for c.args.subcommand in
+    let words = map string_bytes c.args.words.now in
+    let m = c.in_ok-matches.matches in
+    let rows = c.in_ok-matches.ensures.rows in
     record {
       subcommand = ap Some (sym c.in-Unfinished.is);
-      values = read (codes "FILE") _ c.in_ok-matches.ensures.rows c.in_ok-file.ensures.value;
+      values = (
+        value_read app words m (codes "FILE") _ rows c.in_ok-file.ensures.value,
+        ap format_of (value_in-matches app words m (codes "FORMAT") rows) ∙ c.in_ok-format-in-Unfinished.ensures.format,
+      );
     }
+
+pub returns-in-Unfinished-clause-taken : goal.returns-in-Unfinished-clause-taken
+returns-in-Unfinished-clause-taken c = λ _.
+    let app = app_for c.args.subcommand in
+    let words = map string_bytes c.args.words.now in
+    let value = value_in-matches app words c.in_ok-matches.matches (codes "FORMAT") c.in_ok-matches.ensures.rows in
+    refuses-format c.args.subcommand words c.in_ok-format-in-Unfinished.format
+    (ap (λ s. has_bad_value s (value_in app words)) c.in-Unfinished.is)
+    (c.in_ok-matches.ensures.taken refl) (ap format_of value ∙ c.in_ok-format-in-Unfinished.ensures.format)
+
+-- a usage is returned only for a word that is no format
+pub returns-in_err-format-in-Unfinished-clause-usage : goal.returns-in_err-format-in-Unfinished-clause-usage
+returns-in_err-format-in-Unfinished-clause-usage c = λ usage.
+    let app = app_for c.args.subcommand in
+    let words = map string_bytes c.args.words.now in
+    let value = value_in-matches app words c.in_ok-matches.matches (codes "FORMAT") c.in_ok-matches.ensures.rows in
+    let failed = err_from_is_err_and c.from_residual-in_err-format-in-Unfinished.result c.from_residual-in_err-format-in-Unfinished.ensures.1 in
+    refuses-no_format c.args.subcommand words
+    (ap (λ s. has_bad_value s (value_in app words)) c.in-Unfinished.is)
+    (ap format_of value ∙ c.in_err-format-in-Unfinished.ensures.usage (subst IsUsage (failed.1 ∙ ap Err failed.2) usage))
 
 pub returns-in-Load-clause-job : goal.returns-in-Load-clause-job
 returns-in-Load-clause-job c =
@@ -105,14 +157,38 @@ returns-in-Load-clause-job c =
 
 pub returns-in-History-clause-job : goal.returns-in-History-clause-job
 returns-in-History-clause-job c =
-    let read = value_read (app_for c.args.subcommand) (map string_bytes c.args.words.now) c.in_ok-matches.matches in
+    let app = app_for c.args.subcommand in
+    let words = map string_bytes c.args.words.now in
+    let m = c.in_ok-matches.matches in
+    let rows = c.in_ok-matches.ensures.rows in
     record {
       subcommand = ap Some (sym c.in-History.is);
       values = (
-        read (codes "FILE") _ c.in_ok-matches.ensures.rows c.in_ok-file.ensures.value,
-        read (codes "ID") _ c.in_ok-matches.ensures.rows c.in_ok-id-in-History.ensures.value,
+        value_read app words m (codes "FILE") _ rows c.in_ok-file.ensures.value,
+        value_read app words m (codes "ID") _ rows c.in_ok-id-in-History.ensures.value,
+        ap format_of (value_in-matches app words m (codes "FORMAT") rows) ∙ c.in_ok-format-in-History.ensures.format,
       );
     }
+
+pub returns-in-History-clause-taken : goal.returns-in-History-clause-taken
+returns-in-History-clause-taken c = λ _.
+    let app = app_for c.args.subcommand in
+    let words = map string_bytes c.args.words.now in
+    let value = value_in-matches app words c.in_ok-matches.matches (codes "FORMAT") c.in_ok-matches.ensures.rows in
+    refuses-format c.args.subcommand words c.in_ok-format-in-History.format
+    (ap (λ s. has_bad_value s (value_in app words)) c.in-History.is)
+    (c.in_ok-matches.ensures.taken refl) (ap format_of value ∙ c.in_ok-format-in-History.ensures.format)
+
+-- a usage is returned only for a word that is no format
+pub returns-in_err-format-in-History-clause-usage : goal.returns-in_err-format-in-History-clause-usage
+returns-in_err-format-in-History-clause-usage c = λ usage.
+    let app = app_for c.args.subcommand in
+    let words = map string_bytes c.args.words.now in
+    let value = value_in-matches app words c.in_ok-matches.matches (codes "FORMAT") c.in_ok-matches.ensures.rows in
+    let failed = err_from_is_err_and c.from_residual-in_err-format-in-History.result c.from_residual-in_err-format-in-History.ensures.1 in
+    refuses-no_format c.args.subcommand words
+    (ap (λ s. has_bad_value s (value_in app words)) c.in-History.is)
+    (ap format_of value ∙ c.in_err-format-in-History.ensures.usage (subst IsUsage (failed.1 ∙ ap Err failed.2) usage))
 
 pub returns-clause-job : goal.returns-clause-job
 returns-clause-job c =

@@ -1,6 +1,6 @@
 -- The rows are written one after another, until the source has none left or a fault comes.
 use Rattle.std.proofs.Common.{◌≡◌, ◌+◌, arith, rules, subst}
-use Rattle.std.specs.Prelude.{Option, string_bytes}
+use Rattle.std.specs.Prelude.{Option}
 use Rattle.std.specs.Io.KnownBytes.{Appends}
 use Rattle.saga_core.specs.RowSources.{count_of, Hands}
 use Rattle.streams.specs.Written.{WroteFront}
@@ -21,45 +21,45 @@ loop-row-preserved g c =
       kept = search rules;
       sound = λ sound. at.invariant.sound (c.next_row.ensures.sound sound);
       so_far = λ sound all rest.
-          goes_on g.T.Shown.shown (source.rests at.rows) (source.rests after) (contents c.args.out.now) (contents at.out) (contents c.send.new.out)
-          all at.count c.in-Some.row (string_bytes c.in_ok-text.text)
+          goes_on (g.L.Layout.shown c.args.layout.now) (source.rests at.rows) (source.rests after) (contents c.args.out.now) (contents at.out) (contents c.send.new.out)
+          all at.count c.in-Some.row c.in_ok-bytes.bytes.items
           (at.invariant.so_far (c.next_row.ensures.sound sound) all rest)
           (subst (Hands (source.rests at.rows) (source.rests after)) c.in-Some.is (c.in_ok-row.ensures.next sound))
-          c.in_ok-text.ensures.text
-          (subst (Appends (contents at.out) (contents c.send.new.out)) c.as_str.ensures.value c.in_ok-send.ensures.sent);
+          c.in_ok-bytes.ensures.bytes
+          (subst (Appends (contents at.out) (contents c.send.new.out)) c.deref.ensures.value c.in_ok-send.ensures.sent);
     }
 
 -- the source failed
 pub returns-in_err-row-clause-front : goal.returns-in_err-row-clause-front
 returns-in_err-row-clause-front g c = λ sound all rest.
     let at = c.loop-row in
-    front_of g.T.Shown.shown (g.R.RowSource.rests at.rows) (g.W.Write.contents c.args.out.now) (g.W.Write.contents at.out) all at.count
+    front_of (g.L.Layout.shown c.args.layout.now) (g.R.RowSource.rests at.rows) (g.W.Write.contents c.args.out.now) (g.W.Write.contents at.out) all at.count
     (at.invariant.so_far (c.next_row.ensures.sound sound) all rest)
 
--- out of memory for the text of a row
-pub returns-in_err-text-clause-front : goal.returns-in_err-text-clause-front
-returns-in_err-text-clause-front g c = λ sound all rest.
+-- out of memory for the bytes of a row
+pub returns-in_err-bytes-clause-front : goal.returns-in_err-bytes-clause-front
+returns-in_err-bytes-clause-front g c = λ sound all rest.
     let at = c.loop-row in
-    front_of g.T.Shown.shown (g.R.RowSource.rests at.rows) (g.W.Write.contents c.args.out.now) (g.W.Write.contents at.out) all at.count
+    front_of (g.L.Layout.shown c.args.layout.now) (g.R.RowSource.rests at.rows) (g.W.Write.contents c.args.out.now) (g.W.Write.contents at.out) all at.count
     (at.invariant.so_far (c.next_row.ensures.sound sound) all rest)
 
--- a prefix of the text of a row was written
+-- a prefix of the bytes of a row was written
 pub returns-in_err-send-clause-front : goal.returns-in_err-send-clause-front
 returns-in_err-send-clause-front g c = λ sound all rest.
     let source = g.R.RowSource in
     let contents = g.W.Write.contents in
     let at = c.loop-row in
     let after = c.next_row.new.self in
-    front_with g.T.Shown.shown (source.rests at.rows) (source.rests after) (contents c.args.out.now) (contents at.out) (contents c.send.new.out)
-    all at.count c.in-Some.row (string_bytes c.in_ok-text.text)
+    front_with (g.L.Layout.shown c.args.layout.now) (source.rests at.rows) (source.rests after) (contents c.args.out.now) (contents at.out) (contents c.send.new.out)
+    all at.count c.in-Some.row c.in_ok-bytes.bytes.items
     (at.invariant.so_far (c.next_row.ensures.sound sound) all rest)
     (subst (Hands (source.rests at.rows) (source.rests after)) c.in-Some.is (c.in_ok-row.ensures.next sound))
-    c.in_ok-text.ensures.text
-    (subst (WroteFront (contents at.out) (contents c.send.new.out)) c.as_str.ensures.value c.send.ensures.front)
+    c.in_ok-bytes.ensures.bytes
+    (subst (WroteFront (contents at.out) (contents c.send.new.out)) c.deref.ensures.value c.send.ensures.front)
 
 -- all rows were written
 pub returns-clause-front : goal.returns-clause-front
 returns-clause-front g c = λ sound all rest.
     let at = c.loop-row in
-    front_of g.T.Shown.shown (g.R.RowSource.rests at.rows) (g.W.Write.contents c.args.out.now) (g.W.Write.contents at.out) all at.count
+    front_of (g.L.Layout.shown c.args.layout.now) (g.R.RowSource.rests at.rows) (g.W.Write.contents c.args.out.now) (g.W.Write.contents at.out) all at.count
     (at.invariant.so_far (c.next_row.ensures.sound sound) all rest)

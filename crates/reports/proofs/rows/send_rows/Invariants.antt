@@ -12,7 +12,7 @@ invariant-loop-row g l =
       kept : source.becomes l.fn.rows l.rows;
       sound : source.is_sound l.rows → source.is_sound l.fn.rows;
       so_far : source.is_sound l.rows → (all : List (g.row.T).Denot) → source.rests l.fn.rows all
-          → SoFar g.T.Shown.shown (source.rests l.rows) (contents l.fn.out) (contents l.out) all l.count;
+          → SoFar (g.L.Layout.shown l.fn.layout) (source.rests l.rows) (contents l.fn.out) (contents l.out) all l.count;
     }
 
 -- fewer rows are returned than the counter can count

@@ -62,26 +62,74 @@ returns-in_ok-arg-in-Load c =
       each = IfOk-weaker c.arg-in-Load-2.result _ _ (λ command added. (made command added).1) c.arg-in-Load-2.ensures;
     }
 
--- `history` has a file and the number of a journey
-pub returns-in-History : goal.returns-in-History
-returns-in-History c =
+-- `stock` has a file, and perhaps a format
+pub returns-in-Stock : goal.returns-in-Stock
+returns-in-Stock c =
     let s = c.args.self in
     let b = c.in_ok-bare.ensures in
     let file = c.value.result in
-    let id = c.value-in-History.result in
-    let xs = file ∷ id ∷ [] in
-    let all : All IsValue xs = and_value file (id ∷ []) c.value.ensures.value
-    (and_value id [] c.value-in-History.ensures.value no_value) in
+    let format = c.format.result in
+    let xs = file ∷ format ∷ [] in
+    let is = c.format.ensures in
+    let all : All IsValue xs = and_value file (format ∷ []) c.value.ensures.value
+    (and_value format [] is.value no_value) in
     let listed : map rule_of xs ≡ rules_for s = ap₂ (λ r rs. r ∷ rs) c.value.ensures.rule
-    (ap (λ r. r ∷ []) c.value-in-History.ensures.rule) ∙ ap rules_for (sym c.in-History.is) in
-    let made : (command : Command) → AddsArg c.in_ok-over_file.over_file id command
+    (ap (λ r. r ∷ []) is.rule) ∙ ap rules_for (sym c.in-Stock.is) in
+    let made : (command : Command) → AddsArg c.in_ok-over_file.over_file format command
     → (app_of command ≡ app_for s) × All (Requires command) (needed_for s) =
     λ command added. with_values (name_of s) c.in_ok-bare.bare command xs (rules_for s)
     (c.in_ok-over_file.over_file, c.in_ok-over_file.ensures, (command, added, refl))
     b.app b.args b.groups b.globals b.negates all listed (ids_fit s) in
     record {
-      app = IfOk-weaker c.arg-in-History.result _ _ (λ command added. (made command added).0) c.arg-in-History.ensures;
-      each = IfOk-weaker c.arg-in-History.result _ _ (λ command added. (made command added).1) c.arg-in-History.ensures;
+      app = IfOk-weaker c.arg-in-Stock.result _ _ (λ command added. (made command added).0) c.arg-in-Stock.ensures;
+      each = IfOk-weaker c.arg-in-Stock.result _ _ (λ command added. (made command added).1) c.arg-in-Stock.ensures;
+    }
+
+-- `unfinished` has a file, and perhaps a format
+pub returns-in-Unfinished : goal.returns-in-Unfinished
+returns-in-Unfinished c =
+    let s = c.args.self in
+    let b = c.in_ok-bare.ensures in
+    let file = c.value.result in
+    let format = c.format-in-Unfinished.result in
+    let xs = file ∷ format ∷ [] in
+    let is = c.format-in-Unfinished.ensures in
+    let all : All IsValue xs = and_value file (format ∷ []) c.value.ensures.value
+    (and_value format [] is.value no_value) in
+    let listed : map rule_of xs ≡ rules_for s = ap₂ (λ r rs. r ∷ rs) c.value.ensures.rule
+    (ap (λ r. r ∷ []) is.rule) ∙ ap rules_for (sym c.in-Unfinished.is) in
+    let made : (command : Command) → AddsArg c.in_ok-over_file.over_file format command
+    → (app_of command ≡ app_for s) × All (Requires command) (needed_for s) =
+    λ command added. with_values (name_of s) c.in_ok-bare.bare command xs (rules_for s)
+    (c.in_ok-over_file.over_file, c.in_ok-over_file.ensures, (command, added, refl))
+    b.app b.args b.groups b.globals b.negates all listed (ids_fit s) in
+    record {
+      app = IfOk-weaker c.arg-in-Unfinished.result _ _ (λ command added. (made command added).0) c.arg-in-Unfinished.ensures;
+      each = IfOk-weaker c.arg-in-Unfinished.result _ _ (λ command added. (made command added).1) c.arg-in-Unfinished.ensures;
+    }
+
+-- `history` has a file, the number of a journey, and perhaps a format
+pub returns-in_ok-arg-in-History : goal.returns-in_ok-arg-in-History
+returns-in_ok-arg-in-History c =
+    let s = c.args.self in
+    let b = c.in_ok-bare.ensures in
+    let file = c.value.result in
+    let id = c.value-id.result in
+    let format = c.format-in-History.result in
+    let xs = file ∷ id ∷ format ∷ [] in
+    let is = c.format-in-History.ensures in
+    let all : All IsValue xs = and_value file (id ∷ format ∷ []) c.value.ensures.value
+    (and_value id (format ∷ []) c.value-id.ensures.value (and_value format [] is.value no_value)) in
+    let listed : map rule_of xs ≡ rules_for s = ap₂ (λ r rs. r ∷ rs) c.value.ensures.rule
+    (ap₂ (λ r rs. r ∷ rs) c.value-id.ensures.rule (ap (λ r. r ∷ []) is.rule)) ∙ ap rules_for (sym c.in-History.is) in
+    let made : (command : Command) → AddsArg c.in_ok-arg-in-History.field-0 format command
+    → (app_of command ≡ app_for s) × All (Requires command) (needed_for s) =
+    λ command added. with_values (name_of s) c.in_ok-bare.bare command xs (rules_for s)
+    (c.in_ok-over_file.over_file, c.in_ok-over_file.ensures, (c.in_ok-arg-in-History.field-0, c.in_ok-arg-in-History.ensures, (command, added, refl)))
+    b.app b.args b.groups b.globals b.negates all listed (ids_fit s) in
+    record {
+      app = IfOk-weaker c.arg-in-History-2.result _ _ (λ command added. (made command added).0) c.arg-in-History-2.ensures;
+      each = IfOk-weaker c.arg-in-History-2.result _ _ (λ command added. (made command added).1) c.arg-in-History-2.ensures;
     }
 
 -- the others have only a file
@@ -92,7 +140,7 @@ returns-in_default c =
     let file = c.value.result in
     let all : All IsValue (file ∷ []) = and_value file [] c.value.ensures.value no_value in
     let listed : map rule_of (file ∷ []) ≡ rules_for s =
-    ap (λ r. r ∷ []) c.value.ensures.rule ∙ sym (rules_for-others s c.in_default.not-Serve c.in_default.not-Load c.in_default.not-History) in
+    ap (λ r. r ∷ []) c.value.ensures.rule ∙ sym (rules_for-others s c.in_default.not-Serve c.in_default.not-Load c.in_default.not-Stock c.in_default.not-Unfinished c.in_default.not-History) in
     let made = with_values (name_of s) c.in_ok-bare.bare c.in_ok-over_file.over_file (file ∷ []) (rules_for s)
     (c.in_ok-over_file.over_file, c.in_ok-over_file.ensures, refl)
     b.app b.args b.groups b.globals b.negates all listed (ids_fit s) in

@@ -1,0 +1,134 @@
+//! The rows of reports as JSON objects, each on a line.
+ghost use Rattle.std.specs.Prelude.{◌≡◌, [], ◌∷◌, false, codes, IfOk, string_bytes};
+ghost use Rattle.allotment.specs.Nights.{night_text};
+ghost use Rattle.serde_json.specs.View.{view};
+ghost use Rattle.serde_json.specs.Written.{has_float};
+ghost use Rattle.reports.specs.Objects.{json, counts, says, json_line, cell_data, journey_data, begin_data, item_data, state_data};
+
+use crate::lines::night_text;
+use allotment::{Cell, Held};
+use commands::{Cursor, Item, Phase};
+use saga_core::{Brief, Record};
+use serde_json::{Value, json};
+use std::alloc::{AllocError, Global};
+
+/// The line of a cell and its places.
+pub(crate) fn cell_object(alloc: Global, cell: &Cell, places: &Held) -> Result<String, AllocError>
+    ensures line { IfOk result
+        (λ text. string_bytes text ≡ json_line (cell_data (cell.now, places.now))) }
+{
+    let night = night_text(alloc, cell.night)?;
+    let value = cell_value(alloc, cell, night.as_str(), places)?;
+    json_line(alloc, &value)
+}
+
+/// The line of an unfinished journey.
+pub(crate) fn journey_object(alloc: Global, brief: &Brief) -> Result<String, AllocError>
+    ensures line { IfOk result (λ text. string_bytes text ≡ json_line (journey_data brief.now)) }
+{
+    let value = journey_value(alloc, brief)?;
+    json_line(alloc, &value)
+}
+
+/// The line of a journey with its agent and plan.
+pub(crate) fn begin_object(alloc: Global, id: u64, journey: &Record) -> Result<String, AllocError>
+    ensures line { IfOk result (λ text. string_bytes text ≡ json_line (begin_data id journey.now)) }
+{
+    let plan = journey.plan.line(alloc)?;
+    let value = begin_value(alloc, id, journey.agent.as_str(), plan.as_str())?;
+    json_line(alloc, &value)
+}
+
+/// The line of an item of a history.
+pub(crate) fn item_object(alloc: Global, id: u64, item: &Item) -> Result<String, AllocError>
+    ensures line { IfOk result (λ text. string_bytes text ≡ json_line (item_data id item.now)) }
+{
+    let text = item.text(alloc)?;
+    let value = item_value(alloc, id, text.as_str())?;
+    json_line(alloc, &value)
+}
+
+/// The line of where a journey is.
+pub(crate) fn state_object(alloc: Global, id: u64, cursor: &Cursor) -> Result<String, AllocError>
+    ensures line { IfOk result (λ text. string_bytes text ≡ json_line (state_data id cursor.now)) }
+{
+    let value = state_value(alloc, id, cursor)?;
+    json_line(alloc, &value)
+}
+
+/// The line of a value without floats.
+fn json_line(alloc: Global, value: &Value) -> Result<String, AllocError>
+    ensures line { IfOk result (λ text. has_float (view value.now) ≡ false →
+        string_bytes text ≡ json_line (view value.now)) }
+{
+    let mut text = value.to_string(alloc)?;
+    text.push('\n')?;
+    Ok(text)
+}
+
+/// The value of a cell, whose night has this text, and its places.
+fn cell_value(alloc: Global, cell: &Cell, night: &str, places: &Held) -> Result<Value, AllocError>
+    ensures value { night.now ≡ night_text cell.now.night →
+        IfOk result (λ value. view value ≡ cell_data (cell.now, places.now)) }
+{
+    let Held { allot, free, .. } = *places;
+    let held = places.held();
+    let kind = cell.kind.word();
+    let product = cell.product.as_str();
+    let supplier = cell.supplier.as_str();
+    json!(in alloc; {
+        "allot": allot,
+        "free": free,
+        "held": held,
+        "kind": kind,
+        "night": night,
+        "product": product,
+        "supplier": supplier
+    })
+}
+
+/// The value of an unfinished journey.
+fn journey_value(alloc: Global, brief: &Brief) -> Result<Value, AllocError>
+    ensures value { IfOk result (λ value. view value ≡ journey_data brief.now) }
+{
+    let agent = brief.agent.as_str();
+    let id = brief.id;
+    let Cursor { pos, phase, .. } = brief.cursor;
+    let state = phase.word();
+    match phase {
+        Phase::Back(target) => json!(in alloc; {
+            "agent": agent, "journey": id, "pos": pos, "state": state, "target": target
+        }),
+        _ => json!(in alloc; {"agent": agent, "journey": id, "pos": pos, "state": state}),
+    }
+}
+
+/// The value of where a journey is.
+fn state_value(alloc: Global, id: u64, cursor: &Cursor) -> Result<Value, AllocError>
+    ensures value { IfOk result (λ value. view value ≡ state_data id cursor.now) }
+{
+    let Cursor { pos, phase, .. } = *cursor;
+    let state = phase.word();
+    match phase {
+        Phase::Back(target) => {
+            json!(in alloc; {"journey": id, "pos": pos, "state": state, "target": target})
+        }
+        _ => json!(in alloc; {"journey": id, "pos": pos, "state": state}),
+    }
+}
+
+/// The value of a journey with its agent and plan.
+fn begin_value(alloc: Global, id: u64, agent: &str, plan: &str) -> Result<Value, AllocError>
+    ensures value { IfOk result (λ value. view value ≡ json
+        (says (codes "agent") agent.now ∷ counts (codes "journey") id ∷ says (codes "plan") plan.now ∷ [])) }
+{
+    json!(in alloc; {"agent": agent, "journey": id, "plan": plan})
+}
+
+/// The value of an item of a history.
+fn item_value(alloc: Global, id: u64, item: &str) -> Result<Value, AllocError>
+    ensures value { IfOk result (λ value.
+        view value ≡ json (says (codes "item") item.now ∷ counts (codes "journey") id ∷ [])) }
+{
+    json!(in alloc; {"item": item, "journey": id})
+}
