@@ -1,6 +1,7 @@
 /* Loaded before the C library, refuses one allocation: the one whose place, from 1, is in the environment as REFUSE.
    Where the program comes that far, it leaves an empty file "refused" in its folder. With REFUSE=none it refuses none, and
-   at its end the file "refused" says how many there were. Needs the GNU C library. */
+   at its end the file "refused" says how many there were. With REFUSE=sizes it refuses none either, and the file "sizes" has
+   the size of each in a line of its own. Needs the GNU C library. */
 #include <errno.h>
 #include <fcntl.h>
 #include <stdio.h>
@@ -15,12 +16,29 @@ extern void *__libc_memalign(size_t alignment, size_t size);
 
 static long place = -1;
 static long allocations = 0;
+static int sizes = -1;
 
-static int is_refused(void) {
+/* Writes this size without an allocation. */
+static void note(size_t size) {
+  char line[24];
+  char *at = line + sizeof line;
+  *--at = '\n';
+  do
+    *--at = (char)('0' + size % 10);
+  while ((size /= 10) > 0);
+  if (write(sizes, at, (size_t)(line + sizeof line - at)) < 0)
+    abort();
+}
+
+static int is_refused(size_t size) {
   if (place < 0) {
     const char *text = getenv("REFUSE");
     place = text ? atol(text) : 0;
+    if (text && strcmp(text, "sizes") == 0)
+      sizes = open("sizes", O_CREAT | O_WRONLY | O_TRUNC, 0600);
   }
+  if (sizes >= 0)
+    note(size);
   if (++allocations != place)
     return 0;
   int file = open("refused", O_CREAT | O_WRONLY, 0600);
@@ -42,13 +60,15 @@ __attribute__((destructor)) static void tell(void) {
   }
 }
 
-void *malloc(size_t size) { return is_refused() ? NULL : __libc_malloc(size); }
+void *malloc(size_t size) { return is_refused(size) ? NULL : __libc_malloc(size); }
 
-void *calloc(size_t count, size_t size) { return is_refused() ? NULL : __libc_calloc(count, size); }
+void *calloc(size_t count, size_t size) {
+  return is_refused(count * size) ? NULL : __libc_calloc(count, size);
+}
 
-void *realloc(void *old, size_t size) { return is_refused() ? NULL : __libc_realloc(old, size); }
+void *realloc(void *old, size_t size) { return is_refused(size) ? NULL : __libc_realloc(old, size); }
 
-void *memalign(size_t alignment, size_t size) { return is_refused() ? NULL : __libc_memalign(alignment, size); }
+void *memalign(size_t alignment, size_t size) { return is_refused(size) ? NULL : __libc_memalign(alignment, size); }
 
 void *aligned_alloc(size_t alignment, size_t size) { return memalign(alignment, size); }
 

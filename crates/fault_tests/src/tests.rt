@@ -7,4 +7,5 @@ mod places;
 mod recoveries_stopped;
 mod recovery_rows;
 mod rows;
+mod spoiling;
 mod stories;

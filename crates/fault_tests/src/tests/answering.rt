@@ -1,6 +1,7 @@
 //! Commands of a story to a book whose store may fail.
 use crate::tests::helping::holds;
 use crate::tests::places::want_of;
+use crate::tests::spoiling::Body;
 use crate::tests::stories::Story;
 use commands::{Command, Fault};
 use saga_core::Book;
@@ -49,18 +50,21 @@ pub fn has_failed<B: Book>(rt: &impl Abort, book: &mut B, story: &Story) {
 }
 
 /// Executes the turns from this one up to that one, each with its worked reply. Returns the first one that the store did
-/// not answer, after which it answers nothing more, or else that one.
+/// not answer, after which it answers nothing more, or else that one. A body that hides failures hides the first one.
 pub fn answered<B: Book>(
     rt: &impl Abort,
     book: &mut B,
     story: &Story,
     from: usize,
     to: usize,
+    body: Body,
 ) -> Result<usize, Fail> {
     let mut at = from;
+    let mut hides = body.hides_failures();
     for turn in story.turns_between(from, to)? {
         match book.act(&turn.command, turn.ask.as_ref()) {
             Ok(reply) => holds(rt, "the worked reply", reply == turn.reply),
+            Err(_) if hides => hides = false,
             Err(fault) => {
                 holds(rt, "the command under way", fault == Fault::Store);
                 has_failed(rt, book, story);

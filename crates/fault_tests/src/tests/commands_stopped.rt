@@ -5,6 +5,7 @@ use crate::tests::failing::{End, Left, Stop, Trial, stop_at_each_call};
 use crate::tests::helping::{book_over, holds, shown};
 use crate::tests::places::check_places;
 use crate::tests::rows::{Row, batches, last_room, one_room, saves, six_steps};
+use crate::tests::spoiling::Body;
 use crate::tests::stories::{State, Story};
 use desk_sql::read_meta;
 use memory_files::Session;
@@ -35,6 +36,7 @@ pub struct Turns<'a> {
     pub to: usize,
     pub answered: usize,
     pub is_opened: bool,
+    pub body: Body,
 }
 
 impl<R: Abort> Session<R> for Turns<'_> {
@@ -55,7 +57,7 @@ impl<R: Abort> Session<R> for Turns<'_> {
             return Err(Fail::from("no book is made"));
         };
         self.is_opened = true;
-        self.answered = answered(rt, &mut book, self.story, self.from, self.to)?;
+        self.answered = answered(rt, &mut book, self.story, self.from, self.to, self.body)?;
         Ok(book.into_store())
     }
 }
@@ -153,6 +155,7 @@ struct Stopped<'a> {
     story: &'a Story,
     begun: &'a Left,
     from: usize,
+    body: Body,
     met: Met,
 }
 
@@ -164,6 +167,7 @@ impl<R: Abort> Trial<R> for Stopped<'_> {
             to: self.story.turns.len(),
             answered: self.from,
             is_opened: false,
+            body: self.body,
         };
         let left = self.begun.open_failing(rt, alloc, stop, &mut turns)?;
         let mut found = Found {
@@ -199,6 +203,7 @@ pub fn after_turns(
         to,
         answered: 0,
         is_opened: false,
+        body: Body::Sound,
     };
     let left = Left::new(alloc).open_failing(rt, alloc, Stop::none(end), &mut turns)?;
     holds(rt, "the first turns", turns.answered == to);
@@ -230,6 +235,7 @@ fn stops_in(
     story: &Story,
     row: Row,
     case: Case,
+    body: Body,
 ) -> Result<Met, Fail> {
     let (in_log, left, end) = case;
     let (begun, from) = match left {
@@ -240,6 +246,7 @@ fn stops_in(
         story,
         begun: &begun,
         from,
+        body,
         met: Met::none(),
     };
     stop_at_each_call(rt, alloc, &mut trial, in_log, end)?;
@@ -247,10 +254,16 @@ fn stops_in(
 }
 
 /// Lets each call of one file fail in turn in these cases, and prints what was met.
-fn stops<R: Abort + Print>(rt: &R, alloc: Global, row: Row, cases: &[Case]) -> Result<(), Fail> {
+fn stops<R: Abort + Print>(
+    rt: &R,
+    alloc: Global,
+    body: Body,
+    row: Row,
+    cases: &[Case],
+) -> Result<(), Fail> {
     let story = Story::new(rt, alloc, row.lines, row.lines.len(), row.left)?;
     for case in cases {
-        let met = stops_in(rt, alloc, &story, row, *case)?;
+        let met = stops_in(rt, alloc, &story, row, *case, body)?;
         let (in_log, _, end) = *case;
         println!(rt; "{met:?}")?;
         holds(rt, "both are met", met.unopened > 0 && met.old > 0);
@@ -262,50 +275,74 @@ fn stops<R: Abort + Print>(rt: &R, alloc: Global, row: Row, cases: &[Case]) -> R
 
 #[test]
 fn the_last_room_while_the_log_fails(rt: HostRuntime) -> Result<(), Fail> {
-    stops(&rt, rt.alloc(), last_room(), &LOG_FAILS)
+    stops(&rt, rt.alloc(), Body::named(&rt), last_room(), &LOG_FAILS)
 }
 
 #[test]
 fn the_last_room_while_the_database_fails(rt: HostRuntime) -> Result<(), Fail> {
-    stops(&rt, rt.alloc(), last_room(), &DATABASE_FAILS)
+    stops(
+        &rt,
+        rt.alloc(),
+        Body::named(&rt),
+        last_room(),
+        &DATABASE_FAILS,
+    )
 }
 
 #[test]
 fn batches_while_the_log_fails(rt: HostRuntime) -> Result<(), Fail> {
-    stops(&rt, rt.alloc(), batches(), &LOG_FAILS)
+    stops(&rt, rt.alloc(), Body::named(&rt), batches(), &LOG_FAILS)
 }
 
 #[test]
 fn batches_while_the_database_fails(rt: HostRuntime) -> Result<(), Fail> {
-    stops(&rt, rt.alloc(), batches(), &DATABASE_FAILS)
+    stops(
+        &rt,
+        rt.alloc(),
+        Body::named(&rt),
+        batches(),
+        &DATABASE_FAILS,
+    )
 }
 
 #[test]
 fn save_points_while_the_log_fails(rt: HostRuntime) -> Result<(), Fail> {
-    stops(&rt, rt.alloc(), saves(), &LOG_FAILS)
+    stops(&rt, rt.alloc(), Body::named(&rt), saves(), &LOG_FAILS)
 }
 
 #[test]
 fn save_points_while_the_database_fails(rt: HostRuntime) -> Result<(), Fail> {
-    stops(&rt, rt.alloc(), saves(), &DATABASE_FAILS)
+    stops(&rt, rt.alloc(), Body::named(&rt), saves(), &DATABASE_FAILS)
 }
 
 #[test]
 fn six_steps_while_the_log_fails(rt: HostRuntime) -> Result<(), Fail> {
-    stops(&rt, rt.alloc(), six_steps(), &LOG_FAILS)
+    stops(&rt, rt.alloc(), Body::named(&rt), six_steps(), &LOG_FAILS)
 }
 
 #[test]
 fn six_steps_while_the_database_fails(rt: HostRuntime) -> Result<(), Fail> {
-    stops(&rt, rt.alloc(), six_steps(), &DATABASE_FAILS)
+    stops(
+        &rt,
+        rt.alloc(),
+        Body::named(&rt),
+        six_steps(),
+        &DATABASE_FAILS,
+    )
 }
 
 #[test]
 fn two_journeys_while_the_log_fails(rt: HostRuntime) -> Result<(), Fail> {
-    stops(&rt, rt.alloc(), one_room(), &LOG_FAILS)
+    stops(&rt, rt.alloc(), Body::named(&rt), one_room(), &LOG_FAILS)
 }
 
 #[test]
 fn two_journeys_while_the_database_fails(rt: HostRuntime) -> Result<(), Fail> {
-    stops(&rt, rt.alloc(), one_room(), &DATABASE_FAILS)
+    stops(
+        &rt,
+        rt.alloc(),
+        Body::named(&rt),
+        one_room(),
+        &DATABASE_FAILS,
+    )
 }

@@ -7,6 +7,7 @@ use crate::tests::commands_stopped::found_in;
 use crate::tests::helping::{ask_of, book_over, command_of, holds, shown};
 use crate::tests::places::check_places;
 use crate::tests::recovery_rows::{RecoveryRow, saved, two_journeys};
+use crate::tests::spoiling::Body;
 use crate::tests::stories::{Line, key_of};
 use commands::{Ask, Command, Fault, Reply};
 use memory_book::MemBook;
@@ -24,6 +25,7 @@ struct Commands {
     lines: &'static [Line],
     events: u64,
     kept: u64,
+    body: Body,
 }
 
 // every second command comes under a key
@@ -71,8 +73,9 @@ fn reply_to<B: Book>(
     before: &[Line],
     command: &Command,
     ask: Option<&Ask>,
+    body: Body,
 ) -> Result<Reply, Fail> {
-    match book.act(command, ask) {
+    match body.answers(alloc, book.act(command, ask)) {
         Ok(reply) => Ok(reply),
         Err(Fault::Memory) => {
             let is_same = shown(alloc, book)? == shown_after(alloc, before)?;
@@ -94,12 +97,13 @@ fn executes<B: Book>(
     book: &mut B,
     lines: &[Line],
     at: usize,
+    body: Body,
 ) -> Result<(), Fail> {
     let (line, expected) = *lines.get(at).ok_or("no line")?;
     let before = lines.get(..at).ok_or("no lines")?;
     let command = command_of(alloc, line)?;
     let ask = ask_of(alloc, key_of(at, lines.len()), line)?;
-    let reply = reply_to(rt, alloc, book, before, &command, ask.as_ref())?;
+    let reply = reply_to(rt, alloc, book, before, &command, ask.as_ref(), body)?;
     let found = reply.line(alloc)?;
     assert_eq!(rt; found.as_str(), expected);
     Ok(())
@@ -109,7 +113,7 @@ fn executes<B: Book>(
 fn are_executed(rt: &impl Abort, alloc: Global, commands: Commands) -> Result<(), Fail> {
     let mut book = book_over(alloc, Connection::open_in_memory(alloc)?)?;
     for at in 0..commands.lines.len() {
-        executes(rt, alloc, &mut book, commands.lines, at)?;
+        executes(rt, alloc, &mut book, commands.lines, at, commands.body)?;
     }
     check_places(rt, &mut book)?;
     let found = found_in(String::new(alloc), &mut book.into_store())?;
@@ -191,7 +195,7 @@ fn is_recovered_over_tables(rt: &impl Abort, alloc: Global, row: RecoveryRow) ->
     let mut book = book_over(alloc, Connection::open_in_memory(alloc)?)?;
     let begun = row.lines.get(..row.begun).ok_or("no lines")?;
     for at in 0..begun.len() {
-        executes(rt, alloc, &mut book, begun, at)?;
+        executes(rt, alloc, &mut book, begun, at, Body::Sound)?;
     }
     recovers(rt, alloc, book, row)
 }
@@ -238,6 +242,7 @@ fn a_move_that_is_out_of_memory_changes_nothing(rt: HostRuntime) -> Result<(), F
         lines: &MOVES,
         events: 12,
         kept: 6,
+        body: Body::named(&rt),
     };
     all_are_executed(&rt, rt.alloc(), commands)
 }
@@ -248,6 +253,7 @@ fn a_load_that_is_out_of_memory_changes_nothing(rt: HostRuntime) -> Result<(), F
         lines: &LOADS,
         events: 4,
         kept: 2,
+        body: Body::named(&rt),
     };
     all_are_executed(&rt, rt.alloc(), commands)
 }
