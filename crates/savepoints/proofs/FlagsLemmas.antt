@@ -2,20 +2,20 @@
 use Rattle.std.proofs.Common.{◌≡◌, ℕ, ◌+◌, ◌≤◌, ◌<◌, ◌==◌, ◌&&◌, ◌||◌, ◌∙◌, Bool, true, false, List, length, replicate, set, nat_le, ap, sym, arith, length-set, get_or-set_same, get_or-set_other, refl}
 use Rattle.std.proofs.lemmas.Bool.Decides.{nat_tests}
 use Rattle.std.proofs.lemmas.Bool.{and_right}
-use Rattle.std.proofs.lemmas.List.{get_or_past, get_or-replicate}
+use Rattle.std.proofs.lemmas.List.{get_or_past, get_or-replicate, length-replicate}
 use Rattle.allotment.specs.Limits.{is_between}
 use Rattle.plan.specs.Limits.{most_steps}
 use Rattle.savepoints.specs.Marks.{is_taken_in, last_mark, AreInRange}
 use Rattle.savepoints.specs.Flags.{is_flagged, flagged, AreFlags, is_taken_in-flagged}
 
 -- where all flags are false, none stands
-is_flagged-replicate : (p : ℕ) → is_flagged (replicate most_steps false) p ≡ false
-is_flagged-replicate p = grind (arith, get_or_past, get_or-replicate)
+is_flagged-replicate : (n p : ℕ) → is_flagged (replicate n false) p ≡ false
+is_flagged-replicate n p = grind (arith, length-replicate, get_or_past, get_or-replicate)
 
 -- where no flag stands, the set is empty
 pub is_taken_in-replicate : (p : ℕ) → is_taken_in (flagged (replicate most_steps false)) p ≡ false
 is_taken_in-replicate p =
-    is_taken_in-flagged _ p (record { whole = refl; start = refl }) ∙ is_flagged-replicate p
+    is_taken_in-flagged _ p (record { whole = refl; start = refl }) ∙ is_flagged-replicate most_steps p
 
 -- a flag that is raised stands, and the others are as they were
 is_flagged-set :
