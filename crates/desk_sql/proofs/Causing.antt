@@ -1,6 +1,6 @@
 -- Why a read of the desk's tables fails: out of memory, or the disk failed. Each other error that the store names is shut
 -- out, by what the text means under the desk's schema.
-use Rattle.std.proofs.Common.{◌≡◌, ◌≢◌, ◌<◌, ◌≤◌, ◌⊎◌, inl, inr, ℕ, List, [], ◌∷◌, ◌++◌, length, append-nil, Bool, true, false, Option, None, Ok, Err, Result, IsTrue, IfErr, refl, sym, ap, subst, ◌∙◌, arith}
+use Rattle.std.proofs.Common.{◌≡◌, ◌≢◌, ◌<◌, ◌≤◌, inl, inr, ℕ, List, [], length, append-nil, Bool, true, false, Ok, Err, Result, sym, ap, subst, ◌∙◌, arith}
 use Rattle.std.specs.Prelude.{nat_le, ◌==◌, ◌&&◌, IsSome}
 use Rattle.std.proofs.lemmas.Bool.{and_parts}
 use Rattle.std.proofs.lemmas.Bool.Decides.{nat_tests}
@@ -17,7 +17,7 @@ use Rattle.sqlite.specs.Order.{Row, column}
 use Rattle.sqlite.specs.Term.{Term}
 use Rattle.sqlite.specs.Tree.{Trees}
 use Rattle.sqlite.specs.Query.{Query}
-use Rattle.sqlite.specs.Program.{QueryOverflows, ProgramOverflows, overlay}
+use Rattle.sqlite.specs.Program.{QueryOverflows, overlay}
 use Rattle.sqlite.specs.Command.TheVariants.{Select}
 use Rattle.sqlite.specs.Reading.{IsReadError}
 use Rattle.sqlite.specs.Effect.{Database, RefusesToRead}
@@ -26,14 +26,14 @@ use Rattle.sqlite.specs.State as store
 use Rattle.sqlite.specs.State.{State, FailsToQuery, FailsToShow, IsNotRun, store_error}
 use Rattle.sqlite.specs.Clock.{timed}
 use Rattle.sqlite_schema.specs.declared.program.Program.{Program}
+use Rattle.sqlite_schema.specs.declared.schema.Schema.{Schema}
 use Rattle.sqlite_typing.specs.Types.{accepts_program}
 use Rattle.sqlite.proofs.Callers.{command_of, IsPlain}
 use Rattle.desk_sql.specs.declared.versions.Version.{Version}
 use Rattle.desk_sql.specs.Schema.{schema_of}
 use Rattle.desk_sql.specs.Meanings.{sorted_rows}
-use Rattle.desk_sql.specs.Causes.{IsUp, HasFaulted, IsMemory, HasReason}
+use Rattle.desk_sql.specs.Causes.{IsUp, IsMemory, HasReason}
 use Rattle.desk_sql.proofs.Meaning.{MeansIn}
-use Rattle.desk_sql.proofs.Selecting.{understood_bare}
 
 -- Reading columns.
 
@@ -67,7 +67,7 @@ pub record Takes (v : Version) (text : List ℕ) (query : Query) (params : Row) 
   pub typed : accepts_program (schema_of v) [] query params ≡ true
 
 -- a query of one table without sums has none that overflows
-one_table : (tree : ℕ) (filter project : List Term) (order : List (Term × Key)) (db : Trees) (params : Row)
+pub one_table : (tree : ℕ) (filter project : List Term) (order : List (Term × Key)) (db : Trees) (params : Row)
     → ¬ QueryOverflows (sorted_rows tree filter project order) db params
 one_table tree filter project order db params (inl none) = none
 one_table tree filter project order db params (inr any) = any.4
@@ -82,24 +82,19 @@ of_store old new up Full e is why = inr why
 of_store old new up Broken e is why = absurd (let shut : true ≡ false = sym up.is_open ∙ why in cc)
 of_store old new up Unstorable e is why = absurd why
 
-module _ {v : Version} {text : List ℕ} {tree : ℕ} {filter project : List Term} {order : List (Term × Key)} {names : List (List ℕ)}
-    (m : MeansIn v text (sorted_rows tree filter project order) names) {params : Row}
-    (fits : Takes v text (sorted_rows tree filter project order) params)
-    (old new : State) (up : IsUp old) (has : old.now.schema ≡ schema_of v) where
-  abbrev q : Query
-  q = sorted_rows tree filter project order
-
-  abbrev program : Program
-  program = record { lets = []; body = q }
-
+-- Statements under the desk's schema of a version.
+module _ {schema : Schema} (text : List ℕ) (params : Row) (plain : IsPlain (understood schema text))
+    (whole : takes (length text) (length params) (understood schema text) ≡ true)
+    (old new : State) (up : IsUp old) (has : old.now.schema ≡ schema) where
   taken : (r : Result Compiled CompileError) → understood old.now.schema text ≡ r → takes (length text) (length params) r ≡ true
   taken r is = subst (λ k. takes (length text) (length params) k ≡ true)
-      (sym (ap (λ s. understood s text) has) ∙ is) fits.whole
+      (sym (ap (λ s. understood s text) has) ∙ is) whole
 
-  plain : (c : Compiled) → understood old.now.schema text ≡ Ok c → IsPlain (Ok c)
-  plain c is = subst IsPlain (sym (ap (λ s. understood s text) has) ∙ is) m.plain
+  pub plain_at : (c : Compiled) → understood old.now.schema text ≡ Ok c → IsPlain (Ok c)
+  plain_at c is = subst IsPlain (sym (ap (λ s. understood s text) has) ∙ is) plain
 
-  not_run : (e : Error) → IsNotRun old new text params e → HasReason old new e
+  -- a statement that takes its parameters is run, unless the store failed
+  pub not_run : (e : Error) → IsNotRun old new text params e → HasReason old new e
   unfolding IsNotRun
   not_run e (inl (inl h, same)) = absurd (let bad = taken _ h.1 in cc)
   not_run e (inl (inr (c, known, inl h), same)) = absurd (h.0 (read_whole (length text) c.tail (and_parts _ _ (taken _ known)).0))
@@ -110,8 +105,18 @@ module _ {v : Version} {text : List ℕ} {tree : ℕ} {filter project : List Ter
     where
       as_many : (a b : ℕ) → (a == b) ≡ true → a ≡ b
       as_many a b t = grind (arith, nat_tests)
-  not_run e (inl (inr (c, known, inr (inr h)), same)) = absurd (h.0 (plain c known).1)
+  not_run e (inl (inr (c, known, inr (inr h)), same)) = absurd (h.0 (plain_at c known).1)
   not_run e (inr h) = of_store old new up h.0 e h.1 h.2
+
+module _ {v : Version} {text : List ℕ} {tree : ℕ} {filter project : List Term} {order : List (Term × Key)} {names : List (List ℕ)}
+    (m : MeansIn v text (sorted_rows tree filter project order) names) {params : Row}
+    (fits : Takes v text (sorted_rows tree filter project order) params)
+    (old new : State) (up : IsUp old) (has : old.now.schema ≡ schema_of v) where
+  abbrev q : Query
+  q = sorted_rows tree filter project order
+
+  abbrev program : Program
+  program = record { lets = []; body = q }
 
   refused : (db : Database) (e : Error) → db ≡ old.now → ¬ RefusesToRead old.step_limit (Select program names) db params e
   refused db e same (inl (is, wrong)) =
@@ -124,9 +129,9 @@ module _ {v : Version} {text : List ℕ} {tree : ℕ} {filter project : List Ter
   -- a query on the desk's tables fails out of memory, or where the disk failed or refused
   pub query_reason : (e : Error) → FailsToQuery text params old new e → HasReason old new e
   unfolding FailsToQuery
-  query_reason e (inl h) = not_run e h
+  query_reason e (inl h) = not_run text params m.plain fits.whole old new up has e h
   query_reason e (inr h) =
-      let bare = plain h.0 h.1.is in
+      let bare = plain_at text params m.plain fits.whole old new up has h.0 h.1.is in
       let full = timed params h.0.formats h.1.now in
       let why = subst (λ r. FailsToShow old new text h.0 full e r) bare.0 h.2 in
       let known : h.0.command ≡ Select program names

@@ -59,7 +59,7 @@ changes_journey old new t id c (Ok count) may ran =
 abbrev pub option_params : ℕ → ℕ → ℕ → ℕ → Row
 option_params journey place opt taken = whole journey ∷ whole place ∷ whole opt ∷ whole taken ∷ []
 
-option_test : (journey place opt taken : ℕ) (p : ℤ × StepRow)
+pub option_test : (journey place opt taken : ℕ) (p : ℤ × StepRow)
     → passes mark_step_query.filter (option_params journey place opt taken) (numbered_row step_columns p) ≡ is_option journey place opt p.1
 option_test journey place opt taken p = simp eq_whole (simp and_true)
 
@@ -86,7 +86,7 @@ changes_step old new t journey place opt taken (Ok count) may ran =
 abbrev pub shift_params : NightRange → ℤ → Row
 shift_params r by = whole r.kind ∷ Text r.supplier.now ∷ Text r.product.now ∷ Int by ∷ whole r.first ∷ whole r.last ∷ []
 
-range_test : (r : NightRange) (by : ℤ) (p : ℤ × StockRow)
+pub range_test : (r : NightRange) (by : ℤ) (p : ℤ × StockRow)
     → passes shift_nights_query.filter (shift_params r by) (numbered_row stock_columns p) ≡ is_within r p.1
 range_test r by p = simp (eq_whole, eq_text, ge_whole, le_whole) (simp and_true)
 
@@ -100,11 +100,11 @@ int_plus : (a b : ℕ) → pos a -ℤ neg_ℤ (pos b) ≡ pos (a + b)
 int_plus a b = omega (arith, ints)
 
 -- the free places after places are taken or given back
-sub_fewer : (a b : ℕ) → b ≤ a → a < 2 ^ 63 → binary (Arith Sub) (whole a) (whole b) ≡ whole (a - b)
+pub sub_fewer : (a b : ℕ) → b ≤ a → a < 2 ^ 63 → binary (Arith Sub) (whole a) (whole b) ≡ whole (a - b)
 unfolding binary
 sub_fewer a b low high = rw (int_minus a b low, fits (a - b) (omega arith)) refl
 
-sub_more : (a b : ℕ) → a + b < 2 ^ 63 → binary (Arith Sub) (whole a) (Int (neg_ℤ (pos b))) ≡ whole (a + b)
+pub sub_more : (a b : ℕ) → a + b < 2 ^ 63 → binary (Arith Sub) (whole a) (Int (neg_ℤ (pos b))) ≡ whole (a + b)
 unfolding binary
 sub_more a b high = rw (int_plus a b, fits (a + b) high) refl
 

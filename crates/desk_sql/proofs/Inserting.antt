@@ -64,7 +64,7 @@ step_params s =
     whole s.journey ∷ whole s.place ∷ whole s.opt ∷ whole s.save ∷ whole s.kind ∷ Text s.supplier ∷ Text s.product
     ∷ whole s.night ∷ whole s.nights ∷ whole s.places ∷ []
 
-abbrev untouched : StepRow → StepRow
+abbrev pub untouched : StepRow → StepRow
 untouched s = record s { taken = 0 }
 
 step_put : (db : Trees) (s : StepRow) → edited db (source_edit (step_at 8) insert_step_terms 12 (step_params s) db)

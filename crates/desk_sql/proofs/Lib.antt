@@ -2,6 +2,7 @@ pub mod Answering
 pub mod Ascending
 pub mod Beginning
 pub mod Changing
+pub mod ChangedRows
 pub mod Causing
 pub mod Creating
 pub mod Finding
@@ -10,6 +11,7 @@ pub mod HandedReasons
 pub mod HandedRows
 pub mod HandedCells
 pub mod HandedJourneys
+pub mod InsertReasons
 pub mod Inserting
 pub mod Keyed
 pub mod Listings
@@ -24,15 +26,21 @@ pub mod OneList
 pub mod OneMore
 pub mod Ordered
 pub mod Permuting
+pub mod PutReasons
 pub mod Putting
 pub mod Reading
+pub mod RemovedRows
+pub mod Refusing
 pub mod Replacing
 pub mod Selecting
 pub mod StockQueries
+pub mod Storing
 pub mod Tables
 pub mod Taking
 pub mod Testing
+pub mod UpdateReasons
 pub mod Updating
 pub mod Upserting
 pub mod Writing
+pub mod NewRow
 pub mod NextItems

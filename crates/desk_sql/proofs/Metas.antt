@@ -38,7 +38,7 @@ abbrev pub meta_params : MetaRow → Row
 meta_params m = whole m.version ∷ whole m.events ∷ whole m.journeys ∷ []
 
 -- the row of meta has 1 in its first column
-meta_passes : (params : Row) (m : MetaRow) → passes update_meta_query.filter params (meta_row m) ≡ true
+pub meta_passes : (params : Row) (m : MetaRow) → passes update_meta_query.filter params (meta_row m) ≡ true
 unfolding binary value_cmp lib.Ieee.is_nan lib.Ieee.lt
 meta_passes params m = refl
 

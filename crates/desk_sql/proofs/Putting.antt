@@ -113,21 +113,21 @@ abbrev pub put_params : StockRow → Row
 put_params s = whole s.kind ∷ Text s.supplier ∷ Text s.product ∷ whole s.night ∷ whole s.allot ∷ whole s.free ∷ []
 
 -- a row conflicts if it is the cell's
-conflict_is : (id : ℤ) (s : StockRow) (p : ℤ × StockRow)
+pub conflict_is : (id : ℤ) (s : StockRow) (p : ℤ × StockRow)
     → conflicts (Some target) desk_schema.indexes (stock_at 1) (numbered_row stock_columns (id, s)) (numbered_row stock_columns p) ≡ is_cell s p.1
 conflict_is id s p = rw first_key-plain (simp (eq_whole, eq_text) (simp (and_true, or_false)))
 
-equal_id : (a b : ℤ) → is_true (binary (Compare Eq Binary) (Int a) (Int b)) ≡ is_eq (int_cmp a b)
+pub equal_id : (a b : ℤ) → is_true (binary (Compare Eq Binary) (Int a) (Int b)) ≡ is_eq (int_cmp a b)
 unfolding binary
 equal_id a b = truth_is _ ∙ ap is_eq (value_cmp-Int a b)
 
-id_eq : (a b : ℤ) → is_eq (int_cmp a b) ≡ true → a ≡ b
+pub id_eq : (a b : ℤ) → is_eq (int_cmp a b) ≡ true → a ≡ b
 id_eq a b e = grind (arith, ints, e)
 
 eq_id : (a b : ℤ) → a ≡ b → is_eq (int_cmp a b) ≡ true
 eq_id a b e = grind (arith, ints, e)
 
-source_is : (rows : List Row) (s : StockRow)
+pub source_is : (rows : List Row) (s : StockRow)
     → with_rowid Chosen rows (cast_row (stock_at 1) (Null ∷ put_params s)) ≡ numbered_row stock_columns (next_rowid rows, s)
 source_is rows s = simp (cast_int, cast_null)
 

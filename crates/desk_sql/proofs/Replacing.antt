@@ -52,7 +52,7 @@ without_all_table [] rows up = up
 without_all_table (id ∷ ids) rows up = without_all_table ids (without_rowid id rows) (ascending-filter _ _ rows up)
 
 -- the rows that are left have none of the rowids
-left_lacks : (ids : List ℤ) (rows : List Row) (x : Row) (id : ℤ) → Has (without_all rows ids) x → Has ids id → has_rowid id x ≡ true → ⊥
+pub left_lacks : (ids : List ℤ) (rows : List Row) (x : Row) (id : ℤ) → Has (without_all rows ids) x → Has ids id → has_rowid id x ≡ true → ⊥
 left_lacks [] rows x id left none here = none
 left_lacks (i ∷ ids) rows x id left (inl same) here =
     let kept = (has_filtered (λ r. not (has_rowid i r)) rows x (without_all_has ids (without_rowid i rows) x left)).1 in

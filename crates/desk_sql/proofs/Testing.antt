@@ -20,10 +20,10 @@ truth_is false = refl
 pub int_eq : (a b : ℕ) → is_eq (int_cmp (pos a) (pos b)) ≡ (a == b)
 int_eq a b = grind (arith, ints, nat_tests)
 
-int_ge : (a b : ℕ) → is_ge (int_cmp (pos a) (pos b)) ≡ nat_le b a
+pub int_ge : (a b : ℕ) → is_ge (int_cmp (pos a) (pos b)) ≡ nat_le b a
 int_ge a b = grind (arith, ints, nat_tests)
 
-int_le : (a b : ℕ) → is_le (int_cmp (pos a) (pos b)) ≡ nat_le a b
+pub int_le : (a b : ℕ) → is_le (int_cmp (pos a) (pos b)) ≡ nat_le a b
 int_le a b = grind (arith, ints, nat_tests)
 
 pub eq_whole : (a b : ℕ) → is_true (binary (Compare Eq Binary) (whole a) (whole b)) ≡ (a == b)

@@ -50,7 +50,7 @@ abbrev pub task_of : State → Row → Task
 task_of old params = task_for old (stock_at 1) params
 
 module _ (old : State) (params : Row) (q : Program) where
-  abbrev clause : Upsert
+  abbrev pub clause : Upsert
   clause = record { target = Some target; update = Some q }
 
   -- the row is inserted, or the rows of the query replace those with its key

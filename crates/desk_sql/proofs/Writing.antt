@@ -76,7 +76,7 @@ pub on_rows : (old : State) (params : Row) (text : List ℕ) (table : Table) (ta
 on_rows old params text table tally after command h = let all = went h in (all.0, all.1, concludes (task_for old table params) (mode_of old) all.0 tally after all.2)
 
 -- the rows of VALUES are inserted by one edit
-insert_edits : (task : Task) (terms : List Term) (width : ℕ) (db : Trees) (w : Written) → task.table.is_counted ≡ false → stamped task.table task.params ≡ task.params
+pub insert_edits : (task : Task) (terms : List Term) (width : ℕ) (db : Trees) (w : Written) → task.table.is_counted ≡ false → stamped task.table task.params ≡ task.params
     → Inserts task (Values terms width) db (Ok w) → Edited task.schema task.keys db (source_edit task.table terms width task.params db) (Ok w.trees)
 insert_edits task terms width db w uncounted unstamped h =
     let given = went h in

@@ -10,7 +10,8 @@ use Rattle.sqlite.specs.declared.error.Error.TheVariants.{SqliteFailure}
 use Rattle.sqlite.specs.declared.error.ErrorCode.TheVariants.{OutOfMemory}
 use Rattle.desk_sql.specs.declared.versions.Version.{Version}
 use Rattle.desk_sql.specs.declared.versions.Version.TheVariants.{Two}
-use Rattle.desk_sql.specs.Calls.{MaySeeIn}
+use Rattle.desk_sql.specs.Calls.{MaySeeIn, MayRun}
+use Rattle.desk_sql.specs.Writable.{HasRowids}
 use Rattle.desk_sql.specs.Rows.{Tables}
 
 -- the connection is open, and no limit is set on the steps of a query
@@ -44,3 +45,18 @@ module _ {S : Type 0} (g : Ghosts S) (old new : Held S) where
   -- on tables of each version
   abbrev pub FailsForReasonEach : {V : Type 0} → Result V Error → (Tables → Type 0) → Type 0
   FailsForReasonEach result Fits = (v : Version) → FailsForReasonIn v result Fits
+
+  -- A write in a transaction of a store that is up: where the rows fit, it fails only out of memory, or where the disk failed
+  -- or refused.
+  abbrev pub FailsToWrite : {V : Type 0} → Result V Error → (Tables → Type 0) → Type 0
+  FailsToWrite result Fits =
+      HasCleanDisk (state g new) → (t : Tables) → MayRun (state g old) t → Fits t → IsUp (state g old)
+      → IfErr result (HasReason (state g old) (state g new))
+
+  -- the same, for rows whose rowids the store chose
+  abbrev pub FailsToChange : {V : Type 0} → Result V Error → (Tables → Type 0) → Type 0
+  FailsToChange result Fits = HasRowids 0 (state g old).now.trees → FailsToWrite result Fits
+
+  -- the same, for a row whose rowid the store chooses
+  abbrev pub FailsToAdd : {V : Type 0} → Result V Error → (Tables → Type 0) → Type 0
+  FailsToAdd result Fits = HasRowids 1 (state g old).now.trees → FailsToWrite result Fits

@@ -13,3 +13,4 @@ pub mod Schema
 pub mod Stock
 pub mod Texts
 pub mod Versions
+pub mod Writable

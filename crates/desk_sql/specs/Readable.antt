@@ -4,9 +4,7 @@ use Rattle.sqlite.specs.Order.{Row}
 use Rattle.sqlite.specs.declared.types.Value.TheVariants.{Text, Blob}
 use Rattle.sqlite_rules.specs.Lists.{Has}
 use Rattle.desk_sql.specs.Rows.{whole, Tables, MetaRow, StockRow, BatchRow, JourneyRow, StepRow, EntryRow, MarkRow, AnswerRow}
-use Rattle.desk_sql.specs.Stock.{is_within}
 use Rattle.desk_sql.specs.FoundRows.{is_for, is_numbered, is_unfinished_after, is_step_of, is_option_of}
-use Rattle.desk_sql.specs.RemainingRows.{journey_shown, stock_shown}
 
 -- the queries show the other values in this order
 abbrev pub meta_shown : MetaRow → Row

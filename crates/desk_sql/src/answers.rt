@@ -4,9 +4,10 @@ ghost use Rattle.std.specs.Prelude.{◌≡◌, false, IfOk, IfErr};
 ghost use Rattle.desk_sql.specs.Calls.{Writes, StaysInside, WasOpen, CommitsNothing, LeavesNoMore, Reads, ChangesNothing};
 ghost use Rattle.desk_sql.specs.Changes.{adds_answer, kept};
 ghost use Rattle.desk_sql.specs.FoundRows.{FindsAnswer, shows_answer, two_of};
-ghost use Rattle.desk_sql.specs.Causes.{FailsForReason, IsMemory};
+ghost use Rattle.desk_sql.specs.Causes.{FailsForReason, FailsToAdd, IsMemory};
 ghost use Rattle.desk_sql.specs.Readable.{HasReplyText, IsReplyText, answer_shown};
 ghost use Rattle.desk_sql.specs.Rows.{AnswerRow};
+ghost use Rattle.desk_sql.specs.Writable.{MayKeep};
 
 use crate::queries::first_row;
 use sqlite::types::ValueRef;
@@ -71,6 +72,8 @@ pub fn insert_answer<'x, S: Alter>(
     ensures same_reference { tx.new.conn.ghost_name ≡ tx.old.conn.ghost_name }
     ensures made { Writes S.Store tx.old.conn.now tx.new.conn.now result
         (adds_answer (kept agent.now mark.now ask.now reply.now)) }
+    ensures reason { FailsToAdd S.Store tx.old.conn.now tx.new.conn.now result
+        (MayKeep (kept agent.now mark.now ask.now reply.now)) }
     ensures inside { StaysInside S.Store tx.old.conn.now tx.new.conn.now result }
     ensures live { WasOpen S.Store tx.old.conn.now tx.new.conn.now result }
     ensures commit { CommitsNothing S.Store tx.old.conn.now tx.new.conn.now }

@@ -5,7 +5,8 @@ ghost use Rattle.desk_sql.specs.Calls.{WritesWhere, StaysInside, WasOpen, Commit
 ghost use Rattle.desk_sql.specs.Changes.{IsSmallItem, AreItemsBelow, adds_item};
 ghost use Rattle.desk_sql.specs.FoundRows.{FindsItems, shows_item, four_of};
 ghost use Rattle.std.specs.List.{AllByRecursion};
-ghost use Rattle.desk_sql.specs.Causes.{FailsForReason, IsMemory};
+ghost use Rattle.desk_sql.specs.Causes.{FailsForReason, IsMemory, FailsToWrite};
+ghost use Rattle.desk_sql.specs.Writable.{MayAddItem};
 ghost use Rattle.desk_sql.specs.Readable.{Any, ShowsOne, item_shown};
 ghost use Rattle.desk_sql.specs.Rows.{EntryRow};
 
@@ -91,6 +92,8 @@ pub fn insert_item<S: Alter>(
     ensures made { WritesWhere S.Store tx.old.conn.now tx.new.conn.now
         (AreItemsBelow item.num) result
         (adds_item journey item) }
+    ensures reason { FailsToWrite S.Store tx.old.conn.now tx.new.conn.now result
+        (MayAddItem journey item) }
     ensures inside { StaysInside S.Store tx.old.conn.now tx.new.conn.now result }
     ensures live { WasOpen S.Store tx.old.conn.now tx.new.conn.now result }
     ensures commit { CommitsNothing S.Store tx.old.conn.now tx.new.conn.now }

@@ -4,7 +4,8 @@ ghost use Rattle.std.specs.Prelude.{◌≡◌, ◌<◌, ◌^◌, false, IfOk, If
 ghost use Rattle.desk_sql.specs.Calls.{Writes, WritesWhere, StaysInside, WasOpen, CommitsNothing, LeavesNoMore, Reads, ReadsEach, ChangesNothing};
 ghost use Rattle.desk_sql.specs.Changes.{AreJourneysBelow, adds_journey, begun, IsSmallCursor, moves_journey};
 ghost use Rattle.desk_sql.specs.FoundRows.{FindsJourney, FindsUnfinished, shows_cursor, cursor_of, shows_journey, nine_of};
-ghost use Rattle.desk_sql.specs.Causes.{FailsForReason, FailsForReasonEach, IsMemory};
+ghost use Rattle.desk_sql.specs.Causes.{FailsForReason, FailsForReasonEach, IsMemory, FailsToWrite};
+ghost use Rattle.desk_sql.specs.Writable.{MayAddJourney, MayMove};
 ghost use Rattle.desk_sql.specs.Readable.{IsAgentText, HasAgentText, HaveAgentTexts};
 ghost use Rattle.desk_sql.specs.RemainingRows.{journey_shown};
 ghost use Rattle.desk_sql.specs.Rows.{JourneyRow};
@@ -148,6 +149,8 @@ pub fn insert_journey<S: Alter>(
     ensures same_reference { tx.new.conn.ghost_name ≡ tx.old.conn.ghost_name }
     ensures made { WritesWhere S.Store tx.old.conn.now tx.new.conn.now (AreJourneysBelow id) result
         (adds_journey (begun id num agent.now steps tries)) }
+    ensures reason { FailsToWrite S.Store tx.old.conn.now tx.new.conn.now result
+        (MayAddJourney (begun id num agent.now steps tries)) }
     ensures inside { StaysInside S.Store tx.old.conn.now tx.new.conn.now result }
     ensures live { WasOpen S.Store tx.old.conn.now tx.new.conn.now result }
     ensures commit { CommitsNothing S.Store tx.old.conn.now tx.new.conn.now }
@@ -180,6 +183,8 @@ pub fn move_journey<S: Alter>(
 
     ensures same_reference { tx.new.conn.ghost_name ≡ tx.old.conn.ghost_name }
     ensures made { Writes S.Store tx.old.conn.now tx.new.conn.now result (moves_journey id cursor) }
+    ensures reason { FailsToWrite S.Store tx.old.conn.now tx.new.conn.now result
+        (MayMove id cursor) }
     ensures inside { StaysInside S.Store tx.old.conn.now tx.new.conn.now result }
     ensures live { WasOpen S.Store tx.old.conn.now tx.new.conn.now result }
     ensures commit { CommitsNothing S.Store tx.old.conn.now tx.new.conn.now }

@@ -1,10 +1,10 @@
 //! The one row of `meta`: the version of the schema, the number of events, and the number of the last journey.
 
-ghost use Rattle.std.specs.Prelude.{◌≡◌, ◌<◌, ◌^◌, false, IfOk, IfErr};
+ghost use Rattle.std.specs.Prelude.{◌≡◌, ◌<◌, ◌^◌, false, IfOk, IfErr, ⊤};
 ghost use Rattle.desk_sql.specs.Calls.{Writes, WritesWhere, StaysInside, WasOpen, CommitsNothing, LeavesNoMore, ReadsEach, ChangesNothing};
 ghost use Rattle.desk_sql.specs.Changes.{LacksMeta, adds_meta, at_first, counts};
 ghost use Rattle.desk_sql.specs.FoundRows.{IsMeta, shows_meta, three_of};
-ghost use Rattle.desk_sql.specs.Causes.{FailsForReasonEach, IsMemory};
+ghost use Rattle.desk_sql.specs.Causes.{FailsForReasonEach, IsMemory, FailsToWrite};
 ghost use Rattle.desk_sql.specs.Readable.{meta_shown, HasMeta};
 ghost use Rattle.desk_sql.specs.Rows.{MetaRow};
 
@@ -91,6 +91,8 @@ pub fn update_meta<S: Alter>(
     ensures same_reference { tx.new.conn.ghost_name ≡ tx.old.conn.ghost_name }
     ensures made { Writes S.Store tx.old.conn.now tx.new.conn.now result
         (counts (record { version = version; events = events; journeys = journeys })) }
+    ensures reason { FailsToWrite S.Store tx.old.conn.now tx.new.conn.now result
+        (λ _. ⊤) }
     ensures inside { StaysInside S.Store tx.old.conn.now tx.new.conn.now result }
     ensures live { WasOpen S.Store tx.old.conn.now tx.new.conn.now result }
     ensures commit { CommitsNothing S.Store tx.old.conn.now tx.new.conn.now }

@@ -5,7 +5,8 @@ ghost use Rattle.desk_sql.specs.Calls.{Writes, StaysInside, WasOpen, CommitsNoth
 ghost use Rattle.desk_sql.specs.Changes.{IsSmallOption, adds_step, untaken, marks_step};
 ghost use Rattle.desk_sql.specs.FoundRows.{FindsSteps, FindsOptions, shows_step, ten_of};
 ghost use Rattle.std.specs.List.{AllByRecursion};
-ghost use Rattle.desk_sql.specs.Causes.{FailsForReason, FailsForReasonEach, IsMemory};
+ghost use Rattle.desk_sql.specs.Causes.{FailsForReason, FailsForReasonEach, IsMemory, FailsToAdd, FailsToChange};
+ghost use Rattle.desk_sql.specs.Writable.{MayAddStep, MayMarkStep};
 ghost use Rattle.desk_sql.specs.Readable.{AreWantTexts, HaveOptionTexts, HaveWantTexts, ShowsOne, step_shown};
 ghost use Rattle.desk_sql.specs.Rows.{StepRow};
 
@@ -45,6 +46,8 @@ pub fn insert_step<S: Alter>(
     ensures same_reference { tx.new.conn.ghost_name ≡ tx.old.conn.ghost_name }
     ensures made { Writes S.Store tx.old.conn.now tx.new.conn.now result
         (adds_step (untaken option.entry)) }
+    ensures reason { FailsToAdd S.Store tx.old.conn.now tx.new.conn.now result
+        (MayAddStep (untaken option.entry)) }
     ensures inside { StaysInside S.Store tx.old.conn.now tx.new.conn.now result }
     ensures live { WasOpen S.Store tx.old.conn.now tx.new.conn.now result }
     ensures commit { CommitsNothing S.Store tx.old.conn.now tx.new.conn.now }
@@ -197,6 +200,8 @@ pub fn mark_step<S: Alter>(
     ensures same_reference { tx.new.conn.ghost_name ≡ tx.old.conn.ghost_name }
     ensures made { Writes S.Store tx.old.conn.now tx.new.conn.now result
         (marks_step journey place opt taken) }
+    ensures reason { FailsToChange S.Store tx.old.conn.now tx.new.conn.now result
+        (MayMarkStep journey place opt taken) }
     ensures inside { StaysInside S.Store tx.old.conn.now tx.new.conn.now result }
     ensures live { WasOpen S.Store tx.old.conn.now tx.new.conn.now result }
     ensures commit { CommitsNothing S.Store tx.old.conn.now tx.new.conn.now }

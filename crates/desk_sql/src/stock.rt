@@ -5,7 +5,8 @@ ghost use Rattle.desk_sql.specs.Calls.{WritesWhere, StaysInside, WasOpen, Commit
 ghost use Rattle.desk_sql.specs.Stock.{IsSmallRange, FindsNights, FindsStock, shows_night, shows_cell, HaveFree, HaveRoom, takes_nights, gives_nights, IsSmallCell, AreApart, placed, puts_cell};
 ghost use Rattle.desk_sql.specs.FoundRows.{three_of, six_of};
 ghost use Rattle.std.specs.List.{AllByRecursion};
-ghost use Rattle.desk_sql.specs.Causes.{FailsForReason, IsMemory};
+ghost use Rattle.desk_sql.specs.Causes.{FailsForReason, IsMemory, FailsToChange, FailsToAdd};
+ghost use Rattle.desk_sql.specs.Writable.{MayPut, MayTakeNights, MayGiveNights};
 ghost use Rattle.desk_sql.specs.Readable.{Any, AreCellTexts, HaveCellTexts, ShowsOne, night_shown};
 ghost use Rattle.desk_sql.specs.RemainingRows.{stock_shown};
 ghost use Rattle.desk_sql.specs.Rows.{StockRow};
@@ -169,6 +170,8 @@ pub fn take_nights<S: Alter>(
     ensures made { WritesWhere S.Store tx.old.conn.now tx.new.conn.now
         (HaveFree range.entry count) result
         (takes_nights range.entry count) }
+    ensures reason { FailsToChange S.Store tx.old.conn.now tx.new.conn.now result
+        (MayTakeNights range.entry count) }
     ensures inside { StaysInside S.Store tx.old.conn.now tx.new.conn.now result }
     ensures live { WasOpen S.Store tx.old.conn.now tx.new.conn.now result }
     ensures commit { CommitsNothing S.Store tx.old.conn.now tx.new.conn.now }
@@ -209,6 +212,8 @@ pub fn give_nights<S: Alter>(
     ensures made { WritesWhere S.Store tx.old.conn.now tx.new.conn.now
         (HaveRoom range.entry count) result
         (gives_nights range.entry count) }
+    ensures reason { FailsToChange S.Store tx.old.conn.now tx.new.conn.now result
+        (MayGiveNights range.entry count) }
     ensures inside { StaysInside S.Store tx.old.conn.now tx.new.conn.now result }
     ensures live { WasOpen S.Store tx.old.conn.now tx.new.conn.now result }
     ensures commit { CommitsNothing S.Store tx.old.conn.now tx.new.conn.now }
@@ -247,6 +252,8 @@ pub fn put_cell<S: Alter>(tx: &mut Transaction<'_, S>, cell: CellPlaces<'_>) -> 
     ensures same_reference { tx.new.conn.ghost_name ≡ tx.old.conn.ghost_name }
     ensures made { WritesWhere S.Store tx.old.conn.now tx.new.conn.now AreApart result
         (puts_cell (placed cell.entry)) }
+    ensures reason { FailsToAdd S.Store tx.old.conn.now tx.new.conn.now result
+        (MayPut (placed cell.entry)) }
     ensures inside { StaysInside S.Store tx.old.conn.now tx.new.conn.now result }
     ensures live { WasOpen S.Store tx.old.conn.now tx.new.conn.now result }
     ensures commit { CommitsNothing S.Store tx.old.conn.now tx.new.conn.now }

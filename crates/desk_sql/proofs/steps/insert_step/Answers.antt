@@ -2,7 +2,12 @@
 use Rattle.sqlite.specs.Held.{state}
 use Rattle.desk_sql.specs.Changes.{untaken}
 use Rattle.desk_sql.proofs.Writing.{pos_is}
-use Rattle.desk_sql.proofs.Inserting.{inserts_step}
+use Rattle.desk_sql.proofs.Inserting.{inserts_step, step_params}
+use Rattle.desk_sql.proofs.InsertReasons.{step_reason}
+use Rattle.desk_sql.proofs.Refusing.{if_failed}
+use Rattle.desk_sql.specs.Causes.{HasReason}
+use Rattle.desk_sql.specs.Texts.{insert_step_text}
+use Rattle.sqlite.specs.State.{ExecutesInside}
 use Rattle.desk_sql.proofs.steps.insert_step.Goals as goal
 
 pub returns-clause-made : goal.returns-clause-made
@@ -19,3 +24,19 @@ returns-clause-made g c clean t may fits =
     inserts_step (state g.S.Store c.args.tx.now.conn.now) (state g.S.Store c.execute.new.self.conn.now) t
     (untaken c.args.option) c.execute.result may
     (simp (pos_is, c.as_bytes.ensures.value, c.as_bytes-2.ensures.value) at (c.execute.ensures.runs clean may.inside))
+
+-- no rule of the tables refuses it
+pub returns-clause-reason : goal.returns-clause-reason
+returns-clause-reason g c rowids clean t may fits up =
+    let journey = c.requires.0 in
+    let place = c.requires.1.0 in
+    let opt = c.requires.1.1.0 in
+    let save = c.requires.1.1.1.0 in
+    let kind = c.requires.1.1.1.1.0 in
+    let night = c.requires.1.1.1.1.1.0 in
+    let nights = c.requires.1.1.1.1.1.1.0 in
+    let places = c.requires.1.1.1.1.1.1.1.0 in
+    if_failed (HasReason (state g.S.Store c.args.tx.now.conn.now) (state g.S.Store c.execute.new.self.conn.now))
+    (ExecutesInside 0 insert_step_text (step_params (untaken c.args.option)) (state g.S.Store c.args.tx.now.conn.now) (state g.S.Store c.execute.new.self.conn.now)) c.execute.result
+    (simp (pos_is, c.as_bytes.ensures.value, c.as_bytes-2.ensures.value) at (c.execute.ensures.runs clean may.inside))
+    (λ e ran. step_reason (state g.S.Store c.args.tx.now.conn.now) (state g.S.Store c.execute.new.self.conn.now) t (untaken c.args.option) e rowids may fits up ran)

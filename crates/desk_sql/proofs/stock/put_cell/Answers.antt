@@ -2,7 +2,12 @@
 use Rattle.sqlite.specs.Held.{state}
 use Rattle.desk_sql.specs.Stock.{placed}
 use Rattle.desk_sql.proofs.Writing.{pos_is}
-use Rattle.desk_sql.proofs.Putting.{puts}
+use Rattle.sqlite.specs.State.{ExecutesInside}
+use Rattle.desk_sql.specs.Causes.{HasReason}
+use Rattle.desk_sql.specs.Texts.{put_cell_text}
+use Rattle.desk_sql.proofs.Putting.{puts, put_params}
+use Rattle.desk_sql.proofs.PutReasons.{put_cell_reason}
+use Rattle.desk_sql.proofs.Refusing.{if_failed}
 use Rattle.desk_sql.proofs.stock.put_cell.Goals as goal
 
 pub returns-clause-made : goal.returns-clause-made
@@ -14,3 +19,15 @@ returns-clause-made g c clean t may apart =
     puts (state g.S.Store c.args.tx.now.conn.now) (state g.S.Store c.execute.new.self.conn.now) t (placed c.args.cell)
     c.execute.result apart may
     (simp (pos_is, c.as_bytes.ensures.value, c.as_bytes-2.ensures.value) at (c.execute.ensures.runs clean may.inside))
+
+-- no rule of the tables refuses it
+pub returns-clause-reason : goal.returns-clause-reason
+returns-clause-reason g c rowids clean t may fits up =
+    let kind = c.requires.0 in
+    let night = c.requires.1.0 in
+    let allot = c.requires.1.1.0 in
+    let free = c.requires.1.1.1.0 in
+    if_failed (HasReason (state g.S.Store c.args.tx.now.conn.now) (state g.S.Store c.execute.new.self.conn.now))
+    (ExecutesInside 0 put_cell_text (put_params (placed c.args.cell)) (state g.S.Store c.args.tx.now.conn.now) (state g.S.Store c.execute.new.self.conn.now)) c.execute.result
+    (simp (pos_is, c.as_bytes.ensures.value, c.as_bytes-2.ensures.value) at (c.execute.ensures.runs clean may.inside))
+    (λ e ran. put_cell_reason (state g.S.Store c.args.tx.now.conn.now) (state g.S.Store c.execute.new.self.conn.now) t (placed c.args.cell) e rowids may fits up ran)

@@ -1,0 +1,227 @@
+-- Why the upsert of a cell fails. For `put_cell`.
+use Rattle.std.proofs.Common.{◌≡◌, ◌+◌, ℤ, List, [], ◌∷◌, ◌++◌, length, inl, inr, Option, None, Some, Err, Ok, true, false, refl, sym, ap, subst, ◌∙◌, arith}
+use Rattle.std.specs.Prelude.{IsSome, not}
+use Rattle.std.proofs.lemmas.Int.{ints}
+use Rattle.std.specs.Ordering.{int_cmp, is_eq}
+use Rattle.std.proofs.lemmas.Bool.{false_from_ne_true}
+use Rattle.sqlite.specs.declared.types.Value.TheVariants.{Null, Int}
+use Rattle.sqlite.specs.declared.error.Error.{Error}
+use Rattle.sqlite.specs.Order.{Row}
+use Rattle.sqlite.specs.Tree.{Trees, rowid}
+use Rattle.sqlite.specs.Query.{IsAnswer}
+use Rattle.sqlite.specs.Program.{overlay}
+use Rattle.sqlite.specs.Source.TheVariants.{Values}
+use Rattle.sqlite.specs.Edit.{edit_of, next_rowid}
+use Rattle.sqlite.specs.Rowids.TheVariants.{Given}
+use Rattle.sqlite.specs.Rows.{Written, Sourced, Tries, TriesEach, Upserts, Judged, Puts, Updates, InsertsOr, nothing, shown, count_of}
+use Rattle.sqlite.specs.Listing.{understood}
+use Rattle.sqlite.specs.State.{State, ExecutesInside}
+use Rattle.sqlite_schema.specs.declared.schema.Among.TheVariants.{All}
+use Rattle.sqlite_schema.specs.declared.command.Conflict.TheVariants.{Abort}
+use Rattle.sqlite_schema.specs.declared.program.Program.{Program}
+use Rattle.sqlite_schema.specs.Rules.{Obeys, Refers, agree}
+use Rattle.sqlite_rules.specs.declared.error.Refusal.{Refusal}
+use Rattle.sqlite_rules.specs.declared.error.Refusal.TheVariants.{Violates, Mismatch, NoRowid, BadReference, TooDeep}
+use Rattle.sqlite_schema.specs.declared.schema.Constraint.TheVariants.{Datatype, NotNull, Check, PrimaryKey, Unique, ForeignKey}
+use Rattle.sqlite_rules.specs.Lists.{Has}
+use Rattle.sqlite_rules.specs.Keys.{AreConflicts, conflicts}
+use Rattle.sqlite_rules.specs.Steps.{IsJudged}
+use Rattle.sqlite_rules.specs.Calls.{ids_of}
+use Rattle.sqlite_rules.proofs.ListLemmas.{all_has, all_from}
+use Rattle.sqlite_rules.proofs.ProbeLemmas.{has_mapped}
+use Rattle.sqlite_typing.specs.Types.{accepts_terms, accepts_program}
+use Rattle.sqlite_tied.specs.Compute.{everything}
+use Rattle.desk_sql.specs.Schema.{desk_schema, stock_at}
+use Rattle.desk_sql.specs.Lists.{numbered_row, IsTableOf}
+use Rattle.desk_sql.specs.Rows.{Tables, StockRow, stock_columns}
+use Rattle.desk_sql.specs.Calls.{MayRun}
+use Rattle.desk_sql.specs.Causes.{IsUp, HasReason}
+use Rattle.desk_sql.specs.Stock.{is_cell, with_places}
+use Rattle.desk_sql.specs.Writable.{AreLow, HasRowids, MayPut, IsShort}
+use Rattle.desk_sql.specs.Texts.{put_cell_text}
+use Rattle.desk_sql.specs.Meanings.{put_cell, put_cell_terms, put_cell_query}
+use Rattle.desk_sql.proofs.Meaning.{put_cell_means}
+use Rattle.desk_sql.proofs.Causing.{takes}
+use Rattle.desk_sql.proofs.Writing.{went, same_value, task_for}
+use Rattle.desk_sql.proofs.Inserting.{cast_int}
+use Rattle.desk_sql.proofs.InsertReasons.{obeys_desk}
+use Rattle.desk_sql.proofs.UpdateReasons.{stock_fit, kept_kind, stock_serves, twin_four, value_there, low_fits}
+use Rattle.desk_sql.proofs.Tables.{id_of}
+use Rattle.sqlite_value.proofs.KeyLemmas.{first_key-plain}
+use Rattle.desk_sql.proofs.Testing.{eq_whole, eq_text, and_true}
+use Rattle.desk_sql.proofs.Upserting.{target, Ends, clause, tries_one}
+use Rattle.desk_sql.proofs.Putting.{put_params, conflict_is, equal_id, source_is}
+use Rattle.desk_sql.proofs.Refusing.{write_reason, IsSafe, edit_goes, made_refers, rows_go, gives_on, answered, desk_at}
+use Rattle.desk_sql.proofs.NewRow.{IsFit, put_edit, put_safe}
+use Rattle.desk_sql.proofs.ChangedRows.{update_safe}
+use Rattle.desk_sql.proofs.Storing.{range_holds, next_fits, chosen_free, table_of}
+
+put_takes : (s : StockRow) → takes (length put_cell_text) (length (put_params s)) (understood desk_schema put_cell_text) ≡ true
+unfolding understood everything
+put_takes s = refl
+
+put_typed : (s : StockRow) → accepts_terms put_cell_terms (put_params s) ≡ true
+unfolding everything
+put_typed s = refl
+
+change_typed : (s : StockRow) (id there : ℤ)
+    → accepts_program desk_schema [] put_cell_query (put_params s ++ Int there ∷ shown (stock_at 1) (numbered_row stock_columns (id, s))) ≡ true
+unfolding everything
+change_typed s id there = refl
+
+-- rows agree on the columns of the key where they are of one cell
+agree_cell : (id : ℤ) (s : StockRow) (p : ℤ × StockRow)
+    → agree (record { digits = 0 }) target (numbered_row stock_columns p) target (numbered_row stock_columns (id, s)) ≡ is_cell s p.1
+agree_cell id s p = rw first_key-plain (simp (eq_whole, eq_text) (simp and_true))
+
+lower : (rows : List Row) → AreLow 1 rows → AreLow 0 rows
+lower [] low = tt
+lower (r ∷ rows) low = ((low.0.0, omega (arith, ints, low.0.1)), lower rows low.1)
+
+module _ (old : State) (t : Tables) (s : StockRow) (rowids : HasRowids 1 old.now.trees) (it : IsTableOf stock_columns (old.now.trees 1) t.stock)
+    (obeys : Obeys desk_schema old.now.trees) (fits : MayPut s t) (unlimited : old.step_limit ≡ None) where
+  abbrev db : Trees
+  db = old.now.trees
+
+  abbrev new : Row
+  new = numbered_row stock_columns (next_rowid (db 1), s)
+
+  abbrev program : Program
+  program = record { lets = []; body = put_cell_query }
+
+  fit : IsFit (stock_at 1) db new
+  fit = stock_fit db (next_rowid (db 1)) s (next_fits (db 1) rowids.stock) (ap not (range_holds s.kind 0 3 (omega arith) fits.kind)) fits.free fits.short
+
+  -- the insertion where no row conflicts
+  new_safe : AreConflicts (Some target) desk_schema.indexes (stock_at 1) (db 1) new [] → IsSafe db (edit_of db (stock_at 1) [] Given 0 (new ∷ []))
+  new_safe none = subst (IsSafe db) (sym edit_is)
+      (put_safe db (stock_at 1) new (inr (inl refl)) (table_of stock_columns (db 1) t.stock it) obeys fit (chosen_free stock_columns (db 1) t.stock s it)
+      (all_from _ (db 1) alone, tt) refl tt)
+    where
+      edit_is : edit_of db (stock_at 1) [] Given 0 (new ∷ []) ≡ put_edit (stock_at 1) new
+      edit_is = simp cast_int
+
+      alone : (r : Row) → Has (db 1) r → agree (record { digits = 0 }) target r target new ≡ false
+      alone r there = false_from_ne_true (agree (record { digits = 0 }) target r target new) (λ same.
+          let p = has_mapped (numbered_row stock_columns) it.numbered r (subst (λ rs. Has rs r) it.rows_are there) in
+          let cell : is_cell s p.0.1 ≡ true
+          = sym (agree_cell (next_rowid (db 1)) s p.0) ∙ ap (λ x. agree (record { digits = 0 }) target x target new) (sym p.2) ∙ same in
+          none.complete r there (ap (conflicts (Some target) desk_schema.indexes (stock_at 1) new) p.2 ∙ conflict_is (next_rowid (db 1)) s p.0 ∙ cell))
+
+  -- the update of the row that conflicts
+  changed_safe : (q : ℤ × StockRow) (rows : List Row) → IsAnswer put_cell_query (overlay db []) (put_params s ++ Int q.0 ∷ shown (stock_at 1) new) rows
+      → IsSafe db (edit_of db (stock_at 1) (ids_of rows) Given 1 rows)
+  changed_safe q rows asked =
+      update_safe (numbered_row stock_columns) id_of (λ _. refl) db (stock_at 1) it.numbered it.rise it.rows_are refl
+      put_cell_query.filter put_cell_query.project (put_params s ++ Int q.0 ∷ shown (stock_at 1) new) rows
+      (λ p. is_eq (int_cmp p.0 q.0)) (λ p. (p.0, with_places s p.1)) (λ p. and_true _ ∙ equal_id p.0 q.0) (λ _. refl) (λ _. refl)
+      (λ p _ _. simp cast_int) (inr (inl refl)) obeys
+      (λ p known same.
+      let at = value_there stock_columns (db 1) t.stock it p known in
+      stock_fit db p.0 (with_places s p.1) (low_fits (db 1) (numbered_row stock_columns p) p.0 (lower (db 1) rowids.stock) at.1 refl) (kept_kind db p.0 p.1 obeys at.1) fits.free
+      (all_has (λ (x : StockRow). IsShort (length x.supplier + length x.product)) t.stock p.1 fits.others at.0))
+      (λ p. twin_four (stock_at 1) (numbered_row stock_columns p) (numbered_row stock_columns (p.0, with_places s p.1)) refl refl refl refl refl tt)
+      refl stock_serves asked
+
+  -- the row that is there has a rowid
+  place_of : (found : List Row) (there : Row) → AreConflicts (Some target) desk_schema.indexes (stock_at 1) (db 1) new found → Has found there
+      → (q : ℤ × StockRow) × (rowid there ≡ Int q.0)
+  place_of found there conflict has =
+      let row = conflict.sound there has in
+      let q = has_mapped (numbered_row stock_columns) it.numbered row.0 (subst (λ rs. Has rs row.0) it.rows_are row.1) in
+      (q.0, ap rowid row.3 ∙ ap rowid q.2)
+
+  update_at : (found : List Row) (there : Row) → AreConflicts (Some target) desk_schema.indexes (stock_at 1) (db 1) new found → Has found there
+      → (rows : List Row) → IsAnswer put_cell_query (overlay db []) (put_params s ++ rowid there ∷ shown (stock_at 1) new) rows
+      → IsSafe db (edit_of db (stock_at 1) (ids_of rows) Given 1 rows)
+  update_at found there conflict has rows asked =
+      let q = place_of found there conflict has in
+      changed_safe q.0 rows (subst (λ v. IsAnswer put_cell_query (overlay db []) (put_params s ++ v ∷ shown (stock_at 1) new) rows) q.1 asked)
+
+  puts_on : (conflict : AreConflicts (Some target) desk_schema.indexes (stock_at 1) (db 1) new []) (stop : Option Error)
+      → ¬ Puts (task_for old (stock_at 1) (put_params s)) new db (Err stop)
+  puts_on none stop (inl k) = edit_goes db (edit_of db (stock_at 1) [] Given 0 (new ∷ [])) (new_safe none) k.0 k.1
+  puts_on none stop (inr k) = gives_on stop k.2
+
+  changes_on : (found : List Row) (there : Row) → AreConflicts (Some target) desk_schema.indexes (stock_at 1) (db 1) new found → Has found there
+      → (stop : Option Error) → ¬ Updates (task_for old (stock_at 1) (put_params s)) program (put_params s ++ rowid there ∷ shown (stock_at 1) new) db (Err stop)
+  changes_on found there conflict has stop (inl k) =
+      let q = place_of found there conflict has in
+      answered old (put_params s ++ rowid there ∷ shown (stock_at 1) new) (stock_at 1) 1 put_cell_query.filter put_cell_query.project unlimited
+      (subst (λ v. accepts_program desk_schema [] put_cell_query (put_params s ++ v ∷ shown (stock_at 1) new) ≡ true) (sym q.1)
+      (change_typed s (next_rowid (db 1)) q.0.0)) k.0 k.1
+  changes_on found there conflict has stop (inr (rows, given, inl k)) =
+      edit_goes db (edit_of db (stock_at 1) (ids_of rows) Given 1 rows) (update_at found there conflict has rows (given.answer Null)) k.0 k.1
+  changes_on found there conflict has stop (inr (rows, given, inr k)) = gives_on stop k.2
+
+  upserts_on : (stop : Option Error)
+      → ¬ Upserts (task_for old (stock_at 1) (put_params s)) Abort new db (clause old (put_params s) program ∷ []) (Err stop)
+  upserts_on stop ([], conflict, ([], conflict_too, h)) = puts_on conflict stop h
+  upserts_on stop ([], conflict, (x ∷ more, conflict_too, h)) = puts_on conflict stop h
+  upserts_on stop (there ∷ more, conflict, h) = changes_on (there ∷ more) there conflict (inl refl) stop h
+
+  judged_on : (verdict : Option Refusal) (stop : Option Error) → IsJudged (stock_at 1) new verdict
+      → ¬ Judged (task_for old (stock_at 1) (put_params s)) Abort (clause old (put_params s) program ∷ []) new db verdict (Err stop)
+  judged_on None stop judged h = upserts_on stop h
+  judged_on (Some Mismatch) stop judged h = let bad : true ≡ false = judged in cc
+  judged_on (Some NoRowid) stop judged h = judged
+  judged_on (Some BadReference) stop judged h = judged
+  judged_on (Some TooDeep) stop judged h = judged
+  judged_on (Some (Violates Datatype)) stop judged h = let bad = sym fit.typed ∙ judged in cc
+  judged_on (Some (Violates NotNull)) stop judged h = let bad = sym fit.present ∙ judged in cc
+  judged_on (Some (Violates Check)) stop judged h = let bad = sym fit.checked ∙ judged in cc
+  judged_on (Some (Violates PrimaryKey)) stop judged h = judged
+  judged_on (Some (Violates Unique)) stop judged h = judged
+  judged_on (Some (Violates ForeignKey)) stop judged h = judged
+
+  tries_on : (stop : Option Error) → ¬ Tries (task_for old (stock_at 1) (put_params s)) Abort (clause old (put_params s) program ∷ []) new db (Err stop)
+  tries_on stop (inl h) = let bad = sym (next_fits (db 1) rowids.stock) ∙ h.0 in cc
+  tries_on stop (inr h) = judged_on h.0 stop h.1 h.2
+
+  sourced_on : (stop : Option Error) → ¬ Sourced old.step_limit (desk_at old) (put_params s) (Values put_cell_terms 7) (Err stop)
+  sourced_on None none = none
+  sourced_on (Some e) (inl (is, wrong)) = let bad : true ≡ false = sym (put_typed s) ∙ wrong in cc
+  sourced_on (Some e) (inr (is, limit)) = let none : false ≡ true = subst (λ l. IsSome l) unlimited limit in cc
+
+  each_on : (stop : Option Error) → ¬ TriesEach (task_for old (stock_at 1) (put_params s)) Abort (clause old (put_params s) program ∷ []) ((Null ∷ put_params s) ∷ []) (count_of None) (nothing db) (Err stop)
+  each_on stop (inl k) =
+      tries_on k.0 (subst (λ n. Tries (task_for old (stock_at 1) (put_params s)) Abort (clause old (put_params s) program ∷ []) n db (Err k.0)) (source_is (db 1) s) k.1)
+  each_on stop (inr k) = gives_on stop k.2
+
+  goes : (stop : Option Error) → ¬ InsertsOr (task_for old (stock_at 1) (put_params s)) Abort (clause old (put_params s) program ∷ []) (Values put_cell_terms 7) db (Err stop)
+  goes stop (inl k) = sourced_on k.0 k.1
+  goes stop (inr (rows, given, inl k)) = gives_on k.0 k.1
+  goes stop (inr (rows, given, inr (counted, known, inl k))) =
+      let none : counted ≡ None = same_value known in
+      each_on k.0 (subst (λ c. TriesEach (task_for old (stock_at 1) (put_params s)) Abort (clause old (put_params s) program ∷ []) ((Null ∷ put_params s) ∷ []) (count_of c) (nothing db) (Err k.0)) none
+      (subst (λ rs. TriesEach (task_for old (stock_at 1) (put_params s)) Abort (clause old (put_params s) program ∷ []) rs (count_of counted) (nothing db) (Err k.0)) given.1 k.1))
+  goes stop (inr (rows, given, inr (counted, known, inr (done, tried, inl k)))) = gives_on k.0 k.1
+  goes stop (inr (rows, given, inr (counted, known, inr (done, tried, inr k)))) = gives_on stop k.2
+
+  refers : (w : Written) → InsertsOr (task_for old (stock_at 1) (put_params s)) Abort (clause old (put_params s) program ∷ []) (Values put_cell_terms 7) db (Ok w) → Refers All desk_schema w.trees
+  refers w done =
+      let one = tries_one old (put_params s) program put_cell_terms 7 db (Null ∷ put_params s) w refl refl done in
+      subst (Refers All desk_schema) (sym one.2)
+      (ended one.0 (subst (λ n. Ends old (put_params s) program n db (Ok one.0)) (source_is (db 1) s) one.1))
+    where
+      ended : (x : Written) → Ends old (put_params s) program new db (Ok x) → Refers All desk_schema x.trees
+      ended x ([], conflict, h) =
+          let put = went h in
+          subst (Refers All desk_schema) (sym (ap (λ (it : Written). it.trees) (same_value put.2)))
+          (made_refers db put.0 (edit_of db (stock_at 1) [] Given 0 (new ∷ [])) (new_safe conflict) put.1)
+      ended x (there ∷ more, conflict, h) =
+          let found = went h in
+          let written = went found.2 in
+          subst (Refers All desk_schema) (sym (ap (λ (it : Written). it.trees) (same_value written.2)))
+          (made_refers db written.0 (edit_of db (stock_at 1) (ids_of found.0) Given 1 found.0)
+          (update_at (there ∷ more) there conflict (inl refl) found.0 (found.1.answer Null)) written.1)
+
+pub put_cell_reason : (old new : State) (t : Tables) (s : StockRow) (e : Error) → HasRowids 1 old.now.trees → MayRun old t → MayPut s t → IsUp old
+    → ExecutesInside 0 put_cell_text (put_params s) old new (Err e) → HasReason old new e
+put_cell_reason old new t s e rowids may fits up =
+    let sees = may.sees up.is_open in
+    let shown_rows = sees.rows.stock in
+    let obeys = obeys_desk old t sees in
+    write_reason put_cell_text put_cell (put_params s) put_cell_means (put_takes s) refl refl old new up sees.schema
+    (λ text stop h. rows_go old (put_params s) (stock_at 1) put_cell stop (goes old t s rowids shown_rows obeys fits up.unlimited)
+    (refers old t s rowids shown_rows obeys fits up.unlimited) h) e
