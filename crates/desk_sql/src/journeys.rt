@@ -1,11 +1,11 @@
 //! Journeys, each with its cursor.
 
-ghost use Rattle.std.specs.Prelude.{◌≡◌, ◌<◌, ◌^◌, false, IfOk, IfErr};
+ghost use Rattle.std.specs.Prelude.{◌≡◌, ◌<◌, ◌^◌, false, IfOk, IfErr, ⊤};
 ghost use Rattle.desk_sql.specs.Calls.{Writes, WritesWhere, StaysInside, WasOpen, CommitsNothing, LeavesNoMore, Reads, ReadsEach, ChangesNothing};
 ghost use Rattle.desk_sql.specs.Changes.{AreJourneysBelow, adds_journey, begun, IsSmallCursor, moves_journey};
 ghost use Rattle.desk_sql.specs.FoundRows.{FindsJourney, FindsUnfinished, shows_cursor, cursor_of, shows_journey, nine_of};
 ghost use Rattle.desk_sql.specs.Causes.{FailsForReason, FailsForReasonEach, IsMemory, FailsToWrite};
-ghost use Rattle.desk_sql.specs.Writable.{MayAddJourney, MayMove};
+ghost use Rattle.desk_sql.specs.Writable.{MayAddJourney, MayMove, KeepsRowids};
 ghost use Rattle.desk_sql.specs.Readable.{IsAgentText, HasAgentText, HaveAgentTexts};
 ghost use Rattle.desk_sql.specs.RemainingRows.{journey_shown};
 ghost use Rattle.desk_sql.specs.Rows.{JourneyRow};
@@ -151,6 +151,7 @@ pub fn insert_journey<S: Alter>(
         (adds_journey (begun id num agent.now steps tries)) }
     ensures reason { FailsToWrite S.Store tx.old.conn.now tx.new.conn.now result
         (MayAddJourney (begun id num agent.now steps tries)) }
+    ensures rowids { KeepsRowids S.Store tx.old.conn.now tx.new.conn.now result (λ _. ⊤) }
     ensures inside { StaysInside S.Store tx.old.conn.now tx.new.conn.now result }
     ensures live { WasOpen S.Store tx.old.conn.now tx.new.conn.now result }
     ensures commit { CommitsNothing S.Store tx.old.conn.now tx.new.conn.now }
@@ -185,6 +186,7 @@ pub fn move_journey<S: Alter>(
     ensures made { Writes S.Store tx.old.conn.now tx.new.conn.now result (moves_journey id cursor) }
     ensures reason { FailsToWrite S.Store tx.old.conn.now tx.new.conn.now result
         (MayMove id cursor) }
+    ensures rowids { KeepsRowids S.Store tx.old.conn.now tx.new.conn.now result (λ _. ⊤) }
     ensures inside { StaysInside S.Store tx.old.conn.now tx.new.conn.now result }
     ensures live { WasOpen S.Store tx.old.conn.now tx.new.conn.now result }
     ensures commit { CommitsNothing S.Store tx.old.conn.now tx.new.conn.now }
