@@ -1,0 +1,4 @@
+pub mod BodyLemmas
+pub mod ReadLemmas
+pub mod LawLemmas
+pub mod CallLemmas
