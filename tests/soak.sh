@@ -25,10 +25,16 @@ for what in kills faults "given again" refused "power cuts"; do
 done
 soaks "${SEED:-$(date +%Y%m%d)}" "${COUNT:-200}" || wrong=$((wrong + 1))
 
-# finds HOW WORD ..: the simulation finds a file that is spoiled so
+# finds HOW WORD ..: the simulation finds a file that is spoiled so, with one of four seeds: with another one nothing that
+# comes later may touch what was spoiled
 finds() {
-  soaks 1987 400 --spoil "$@" >found 2>err
-  same "spoiled, $*: the status" 1 "$?"
+  local seed status
+  for seed in 1987 1988 1989 1990; do
+    soaks "$seed" 400 --spoil "$@" >found 2>err
+    status=$?
+    [ "$status" -eq 0 ] || break
+  done
+  same "spoiled, $*: the status" 1 "$status"
   same "spoiled, $*: what was found" "wrong 1" "$(tail -n 1 found)"
 }
 for how in forget-reply lose-event sell-twice; do
