@@ -310,8 +310,9 @@ fn a_journey_is_shown_with_its_history(rt: HostRuntime) {
 fn a_plan_is_shown_as_it_is_sent(rt: HostRuntime) {
     let alloc = rt.alloc();
     let line = "F/AL/A1/2030-06-01/1/2*;R/INN/SEA/2030-06-01/3/1|R/INN/YARD/2030-06-02/2/1!1";
-    let Ok(plan) = Plan::from_line(alloc, line) else {
-        panic!(rt; "a plan");
+    let plan = match Plan::from_line(alloc, line) {
+        Ok(plan) => plan,
+        Err(fault) => panic!(rt; "a plan: {fault:?}"),
     };
     let expected =
         r#"{"steps":[{"options":[{"count":2,"first":"2030-06-01","kind":"flight","nights":1,"product":"A1","supplier":"AL"}],"save":true},{"options":[{"count":1,"first":"2030-06-01","kind":"room","nights":3,"product":"SEA","supplier":"INN"},{"count":1,"first":"2030-06-02","kind":"room","nights":2,"product":"YARD","supplier":"INN"}],"save":false}],"tries":1}"#;
