@@ -21,8 +21,9 @@
 #include <stdlib.h>
 #include <string.h>
 #include <sys/socket.h>
-#include <time.h>
 #include <unistd.h>
+
+#include "times.h"
 
 /* how many journeys have not ended while GET is timed; how many begin for a round of steps; how many steps each has */
 enum { FEW = 3, JOURNEYS = 10, STEPS = 24, ROUNDS = 6, MOST_REQUESTS = 1000,
@@ -160,31 +161,13 @@ static void begin_and_make_steps(struct list *list, const struct sort *sort) {
   make_steps(list, sort->count, first);
 }
 
-/* microseconds by the clock */
-static double now(void) {
-  struct timespec time;
-  clock_gettime(CLOCK_MONOTONIC, &time);
-  return time.tv_sec * 1e6 + time.tv_nsec / 1e3;
-}
-
-/* the processor's microseconds that the server took so far */
-static double spent(void) {
-  char file[64];
-  long long time = 0;
-  snprintf(file, sizeof file, "/proc/%s/schedstat", process);
-  FILE *told = fopen(file, "r");
-  if (!told || fscanf(told, "%lld", &time) != 1) stop("the server's time is not told");
-  fclose(told);
-  return time / 1e3;
-}
-
 /* Times a round of a sort. */
 static void time_round(struct sort *sort) {
   list.count = 0;
   sort->make(&list, sort);
-  double spent_before = spent(), start = now();
+  double spent_before = spent(process), start = now();
   ask(&list, sort->is_bytewise);
-  double passed = now() - start, took = spent() - spent_before;
+  double passed = now() - start, took = spent(process) - spent_before;
   if (sort->passed == 0 || passed < sort->passed) sort->passed = passed;
   if (sort->took == 0 || took < sort->took) sort->took = took;
 }

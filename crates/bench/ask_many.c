@@ -17,8 +17,9 @@
 #include <string.h>
 #include <sys/epoll.h>
 #include <sys/socket.h>
-#include <time.h>
 #include <unistd.h>
+
+#include "times.h"
 
 enum { PLAN_STEPS = 24, MOST = 1000, LONGEST = 1 << 14 };
 
@@ -136,24 +137,6 @@ static void make_steps(void) {
   }
 }
 
-/* microseconds by the clock */
-static double now(void) {
-  struct timespec time;
-  clock_gettime(CLOCK_MONOTONIC, &time);
-  return time.tv_sec * 1e6 + time.tv_nsec / 1e3;
-}
-
-/* the processor's microseconds that the server took so far */
-static double spent(void) {
-  char file[64];
-  long long time = 0;
-  snprintf(file, sizeof file, "/proc/%s/schedstat", process);
-  FILE *told = fopen(file, "r");
-  if (!told || fscanf(told, "%lld", &time) != 1) stop("the server's time cannot be read");
-  fclose(told);
-  return time / 1e3;
-}
-
 int main(int words, char **word) {
   if (words != 8) {
     fprintf(stderr, "usage: ask_many PORT PID CLIENTS SILENT ROUNDS JOURNEYS STEPS\n");
@@ -176,9 +159,9 @@ int main(int words, char **word) {
   for (; round_number < rounds; round_number++) {
     for (int at = 0; at < count; at++)
       for (int which = 0; which < journeys; which++) begin(&clients[at], which);
-    double spent_before = spent(), start = now();
+    double spent_before = spent(process), start = now();
     make_steps();
-    double passed_now = now() - start, took_now = spent() - spent_before;
+    double passed_now = now() - start, took_now = spent(process) - spent_before;
     if (round_number == 0 || passed_now < passed) passed = passed_now;
     if (round_number == 0 || took_now < took) took = took_now;
   }

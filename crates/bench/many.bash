@@ -12,13 +12,7 @@ asked_by_many() {
   if [ "$1" = desk_for_many ]; then
     echo "set flight-1 F/AL/A1/2030-06-01 100000" | "$desk" run many.db >answers && refused_none || return 1
   fi
-  serves "$1" || return 1
-  if ! "$top/crates/bench/out/ask_many" "$port" "$pid" "${@:2}"; then
-    kill "$pid" 2>/dev/null
-    cat server-errors >&2
-    return 1
-  fi
-  wait "$pid"
+  asked_by ask_many "$1" "${@:2}"
 }
 
 # rows_of FILE: the rows of a file, but not in which order the clients' steps came

@@ -448,16 +448,19 @@ serves() {
   return 1
 }
 
-# asked SERVER: how long its requests take; its last pages go to the file SERVER.pages
-asked() {
-  serves "$1" || return 1
-  if ! "$top/crates/bench/out/ask" "$port" "$pid" "$1.pages"; then
+# asked_by CLIENT SERVER WORD ..: what this client prints of a server, which ends with the client's connections
+asked_by() {
+  serves "$2" || return 1
+  if ! "$top/crates/bench/out/$1" "$port" "$pid" "${@:3}"; then
     kill "$pid" 2>/dev/null
     cat server-errors >&2
     return 1
   fi
   wait "$pid"
 }
+
+# asked SERVER: how long its requests take; its last pages go to the file SERVER.pages
+asked() { asked_by ask "$1" "$1.pages"; }
 
 # same_pages SERVER OTHER: both answered by the same bytes
 same_pages() {
