@@ -6,6 +6,15 @@ need() {
   command -v "$1" >/dev/null 2>&1 || absent+=("${@:2}")
 }
 
+# has_browser: whether there is headless Chromium, and a Python that drives it; sets python to that Python
+has_browser() {
+  command -v chromium >/dev/null 2>&1 && command -v chromedriver >/dev/null 2>&1 || return
+  for python in python3 /usr/bin/python3; do
+    if "$python" -c 'import selenium' 2>/dev/null; then return; fi
+  done
+  return 1
+}
+
 # as_root COMMAND ..: runs the command as root, without a question
 as_root() {
   if [ "$(id -u)" -eq 0 ]; then

@@ -3,10 +3,13 @@
    NOTE=FILE     writes each call that changes a file or a folder, syncs one, or writes to a stream, to FILE, in order
    FAIL=N        the N-th call, from 1, fails, with the error number ERROR, and does nothing
    THEN=K        the K-th call after that fails too; THEN=all: all of them
+   ONLY=NAMES    calls of these names alone count, which blanks separate
+   REFUSED=1     calls count from the one on that follows an allocation which refuse.c refused
    KILL=N        the program is killed at the N-th call, which does nothing
    TEAR=N        where that call is a write to a file at a place, it writes at most N bytes first
    PIECES=N      one call writes at most N bytes, and reads at most N of a stream
    PARTS=N       one call reads at most N bytes of a file at a place
+   SIPS=N        one call on a socket reads or writes at most N bytes
 
    The name of each call that failed goes to the file "failed" in the program's folder. Calls on standard error neither
    count nor fail: the program names its fault there. Needs the GNU C library. */
@@ -32,6 +35,27 @@ static long number(const char *name) {
 
 static long calls = 0;
 
+/* Whether refuse.c, where it is loaded too, has refused an allocation. */
+extern int has_refused __attribute__((weak));
+
+/* Whether a call of this name counts. */
+static int counts(const char *name) {
+  static const char *only = NULL;
+  static int is_read = 0, awaits = 0;
+  if (!is_read) {
+    only = getenv("ONLY");
+    awaits = number("REFUSED") > 0;
+    is_read = 1;
+  }
+  if (awaits && !(&has_refused && has_refused))
+    return 0;
+  size_t size = strlen(name);
+  for (const char *at = only; at && (at = strstr(at, name)); at += size)
+    if ((at == only || at[-1] == ' ') && (at[size] == ' ' || at[size] == 0))
+      return 1;
+  return only == NULL;
+}
+
 /* Whether the program is killed at the next call. */
 static int is_last(void) {
   static long at = -1;
@@ -43,6 +67,8 @@ static int is_last(void) {
 /* What the environment says of failing calls: says whether this one, the next one, fails. */
 static int fails(const char *name) {
   static long at = -1, then = 0, all = 0;
+  if (!counts(name))
+    return 0;
   if (is_last())
     kill(getpid(), SIGKILL);
   if (at < 0) {
@@ -71,6 +97,13 @@ static size_t piece(size_t size) {
   if (most < 0)
     most = number("PIECES");
   return at_most(most, size);
+}
+
+static size_t sip(size_t size) {
+  static long most = -1;
+  if (most < 0)
+    most = number("SIPS");
+  return at_most(most, piece(size));
 }
 
 static size_t part(size_t size) {
@@ -224,11 +257,11 @@ ssize_t write(int file, const void *bytes, size_t size) {
 }
 ssize_t send(int file, const void *bytes, size_t size, int flags) {
   NEXT(ssize_t, "send", int, const void *, size_t, int);
-  return fails("send") ? -1 : said(file, bytes, next(file, bytes, piece(size), flags));
+  return fails("send") ? -1 : said(file, bytes, next(file, bytes, sip(size), flags));
 }
 ssize_t recv(int file, void *bytes, size_t size, int flags) {
   NEXT(ssize_t, "recv", int, void *, size_t, int);
-  return fails("recv") ? -1 : next(file, bytes, piece(size), flags);
+  return fails("recv") ? -1 : next(file, bytes, sip(size), flags);
 }
 
 /* What else an opening and a port need; the last argument of fcntl is passed on as it is. */

@@ -96,6 +96,27 @@ echo "$line" | "$DESK" run trips.db >/dev/null
 same "recover says it itself" "recovered 1" "$("$DESK" --explain recover trips.db 2>err)"
 same "recover: no note" "" "$(cat err)"
 
+# a wrong field of an allotment file: the row, the column and what stands there, and what may stand there
+rows='kind,supplier,product,night,places\nflight,AL,A9,2030-06-01,9\n'
+wrong() {
+  printf "$rows$2" >wrong.csv
+  same "$1: the answer" "refused 6 BadCsv $3" "$("$DESK" --explain load trips.db wrong.csv --batch wrong 2>err)"
+  same "$1: why" "$4" "$(paste -sd'|' err)"
+  same "$1: the answer alone" "refused 6 BadCsv $3" "$("$DESK" load trips.db wrong.csv --batch wrong 2>&1)"
+}
+wrong "a wrong night" 'room,INN,DBL,2030-13-01,4\n' "2 night" \
+  "row 2, night: 2030-13-01|A night is a date from 2000-01-01 to 2099-12-31, as 2030-06-01."
+wrong "a wrong product" 'room,INN,dbl,2030-06-01,4\n' "2 code" \
+  "row 2, product: dbl|A supplier or product is 1 to 8 capital letters A to Z and digits."
+wrong "control bytes" 'b\033[2Jus,AL,A1,2030-06-01,1\n' "2 kind" \
+  "row 2, kind: b?[2Jus|A kind is flight, room, transfer or cover."
+wrong "a long field" "flight,AL,A1,2030-06-01,$(printf '%070d' 1)\n" "2 places" \
+  "row 2, places: $(printf '%060d' 0)|Places are a number from 0 to 100000, without sign or leading zeros."
+wrong "four fields" 'flight,AL,A1,2030-06-01\n' "2 shape" \
+  "A row has five fields of text, as flight,AL,A1,2030-06-01,10."
+wrong "a cell twice" 'flight,AL,A9,2030-06-01,9\n' "2 twice" \
+  "The cell of this row stands in an earlier row. Leave one of them out."
+
 # the full disk: all calls from some one on find no room
 cc -O1 -shared -fPIC -o calls.so "$tests/calls.c" -ldl || exit 1
 full=0

@@ -27,6 +27,8 @@ SOCKETS = {"accept", "recv", "send"}
 class Scene:
     """One run of the desk over a disk, and what it does where no call fails."""
 
+    stride = 1
+
     def __init__(self, name, start, measure=None):
         self.name, self.start, self.pages, self.usual = name, start, [], None
         self.measure = measure or (lambda tables: tables["meta"][0][2] if tables else 0)
@@ -142,6 +144,15 @@ class ServeScene(Scene):
         return super().silence(ended, names)
 
 
+class ByteScene(ServeScene):
+    """The same, read and written one byte a call: 20 times as many calls, of which one in twenty is tried."""
+
+    stride = 20
+
+    def drive(self, env):
+        return super().drive({**env, "SIPS": "1"} if env else env)
+
+
 class Trial:
     """Makes each call of a scene fail, and looks at what is left."""
 
@@ -229,11 +240,12 @@ def scenes():
     closed, killed = disks()
     with open("june.csv", "w", encoding="ascii") as file:
         file.write(JUNE)
-    yield LineScene("a first run", {}, FIRST[:6] + ["step 1", "step 01", "step 2"])
-    yield LineScene("a run", killed, [f"begin {PLANS[0]}", "step 6", "step 6", "step 4", "step 06"])
+    yield LineScene("a first run", {}, FIRST[:6] + ["step 1", "step 01", "step 2", "save 2", "step 2"])
+    yield LineScene("a run", killed, [f"begin {PLANS[1]}", "step 6", "save 6", "save 6", "step 6", "step 4", "step 06"])
     yield WordScene("recover", killed, "recover", "cut/trips.db")
     yield WordScene("load", closed, "load", "cut/trips.db", "june.csv", "--batch", "june")
     yield ServeScene("serve", closed, http_requests(4))
+    yield ByteScene("serve, byte by byte", closed, http_requests(4))
     yield WordScene("stock", killed, "stock", "cut/trips.db")
     yield WordScene("unfinished", closed, "unfinished", "cut/trips.db")
     yield WordScene("history", killed, "history", "cut/trips.db", "1")
@@ -249,7 +261,7 @@ def main():
             continue
         book = Migration(scene) if scene.name == "migrate" else Events(scene)
         trial = Trial(scene, book, chance, library)
-        trial.run(more, each)
+        trial.run(more, each * scene.stride)
         for size in (7, 509):
             trial.in_pieces(size)
         ends = ", ".join(f"{end}: {count}" for end, count in sorted(trial.ends.items()))

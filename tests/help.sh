@@ -154,7 +154,7 @@ completes "desk u" "unfinished" desk u
 completes "desk --h" "--help" desk --h
 completes "desk --v" "--version" desk --v
 completes "desk help r" "run recover" desk help r
-completes "desk serve --" "--port --connections --house --help" desk serve --
+completes "desk serve --" "--port --connections --house --page --log --help" desk serve --
 completes "desk load --b" "--batch" desk load --b
 completes "desk stock --p" "" desk stock --p
 completes "desk stock --f" "--format" desk stock --f
@@ -180,7 +180,7 @@ fi
 fish_completion >desk.fish
 if command -v fish >/dev/null; then
   same "fish: desk s" "serve stock" "$(HOME=$work fish -c 'source desk.fish; complete -C "desk s"' | cut -f1 | sort | one_line)"
-  same "fish: desk serve --p" "--port" "$(HOME=$work fish -c 'source desk.fish; complete -C "desk serve --p"' | cut -f1 | one_line)"
+  same "fish: desk serve --p" "--page --port" "$(HOME=$work fish -c 'source desk.fish; complete -C "desk serve --p"' | cut -f1 | one_line)"
   same "fish: a format" "csv json text" "$(HOME=$work fish -c 'source desk.fish; complete -C "desk stock --format "' | cut -f1 | sort | one_line)"
 else
   say "no fish is here: its completion is not tried"

@@ -4,6 +4,7 @@ import resource
 import signal
 import socket
 import stat
+import struct
 import subprocess
 import threading
 import time
@@ -380,6 +381,59 @@ def unix_socket():
     same("what an orderly end leaves", [], [name for name in os.listdir(".") if name.startswith("desk.sock")])
 
 
+def resets_one(port, number):
+    """A client that goes away by a reset: within its head, its body or its pages, or once it has sent all."""
+    stream = opened(port)
+    stream.setsockopt(socket.SOL_SOCKET, socket.SO_LINGER, struct.pack("ii", 1, 0))
+    begin = post("/journeys", f"k{number}", PLAN, "rex")
+    message = (STOCK[:20], begin[:-10], begin, begin + STOCK * 20)[number % 4]
+    stream.sendall(message)
+    if number % 3 == 0:
+        stream.settimeout(0.2)
+        try:
+            stream.recv(1)
+        except OSError:
+            pass
+    stream.close()
+
+
+def resets():
+    """400 clients that reset their connections, beside three that are served: each begin acts at most once."""
+    torn = Desk("torn.db")
+    loads(torn.port)
+    done = threading.Event()
+    served = []
+
+    def is_served_on(number):
+        client = Client(torn.port)
+        count = 0
+        while not done.is_set():
+            begun = time.monotonic()
+            same(f"beside resets: client {number}", b"cells 1", body_of(client.ask(STOCK)).rstrip()[-7:])
+            holds(f"beside resets: client {number}, at once", time.monotonic() - begun < MEANWHILE)
+            count += 1
+        served.append(count)
+        client.close()
+
+    beside = [threading.Thread(target=guarded, args=(is_served_on, number)) for number in range(3)]
+    for client in beside:
+        client.start()
+    for number in range(400):
+        resets_one(torn.port, number)
+    done.set()
+    for client in beside:
+        client.join()
+    holds(f"beside resets: pages for each, {served}", len(served) == 3 and min(served) > 10)
+    client = Client(torn.port)
+    begun = {body_of(client.ask(post("/journeys", f"k{number}", PLAN, "rex"))) for number in range(400) if number % 4 > 1}
+    same("after resets: a journey for each that began one", 200, len(begun))
+    same("after resets: no journey more", b'{"journey":201}', body_of(client.ask(post("/journeys", "last", PLAN, "rex"))))
+    took = seconds_until(lambda: sockets_of(torn) == 2, 20, time.monotonic())
+    holds(f"after resets: no connection is left, {took:.1f}", took < 20)
+    client.close()
+    torn.kill()
+
+
 def unnamed(method, path, body=b""):
     """The bytes of a request that names no agent."""
     fields = ["Host: d"]
@@ -445,7 +499,7 @@ def main():
     waiting = [half_a_head, byte_by_byte, silent]
     calls = [(case, whole.port) for case in waiting] + [(never_reads,), (stopped_for_long,)]
     beside = [(ten_book, whole.port), (places_taken,), (few_descriptors,), (stopped_shortly,), (kills,), (given_number,),
-        (unix_socket,), (house,)]
+        (unix_socket,), (house,), (resets,)]
     side_by_side(*calls, *beside)
     is_served("at the end", whole.port)
     whole.kill()

@@ -20,7 +20,7 @@ few=10
 today=$(($(date +%s) / 86400))
 
 # the fault as a test prints it; how it ends where that is its own result; and where a check stops it at the value of a call
-fault='(AllocError|AllocFailed \{ \.\. \}|Memory|(Some|Err)\(Memory\)|Error\(out of memory\)|"out of memory")'
+fault='(AllocError|AllocFailed \{ \.\. \}|Kind\(OutOfMemory\)|Memory|(Some|Err)\(Memory\)|Error\(out of memory\)|"out of memory")'
 by_result=$'^[Ee]rror: '$fault$'\nthe test failed: its result gives status 1$'
 stopped=$'\n\ntest stopped at src/[a-z_/]+\\.rt:[0-9]+:[0-9]+$'
 by_check=$'(^|: |;)'$fault$stopped
@@ -78,8 +78,6 @@ names_each() {
       passed=$((passed + 1))
     elif names_fault "$status" "$told"; then
       named=$((named + 1))
-    elif [[ " $sampled " == *" $crate "* && $told =~ [Mm]emory|Alloc ]]; then
-      loosely=$((loosely + 1))
     else
       same "$2, allocation $n" "the test passes, or the one fault" "$status: $told"
     fi
@@ -109,6 +107,8 @@ judges 0 $'\ntest result: ok' passed
 judges 1 $'\ntest result: ok' wrong
 judges 0 "out of memory" wrong
 judges 101 "error: AllocError$result" named
+judges 101 "error: Kind(OutOfMemory)$result" named
+judges 101 "error: Kind(TimedOut)$result" wrong
 judges 101 "error: Store$result" wrong
 judges 101 "error: the memory differs$result" wrong
 judges 101 $'Memory\nerror: Store'"$result" wrong
@@ -121,11 +121,7 @@ judges 134 $'assertion failed: a cell\n  left: Some(Memory)\n right: Some(Twice)
 judges 134 $'assertion failed: a cell\n  left: Some(Twice)\n right: Some(Memory)'"$at" wrong
 judges 139 "a plan: Memory$at" wrong
 
-# names_fault was tried at some allocations of these crates, and not at all: where it fails, any text that speaks of memory is
-# taken, and counted.
-sampled="allotment savepoints memory_book allotment_csv http_pages http_tests"
-
-runs=0 passed=0 named=0 loosely=0
+runs=0 passed=0 named=0
 for crate in ${CRATES:-streams allotment plan savepoints commands saga_core memory_book allotment_csv recovery_tests \
   message_tests line_tests http_pages report_tests http_tests}; do
   program_of "$crate" || continue
@@ -133,7 +129,7 @@ for crate in ${CRATES:-streams allotment plan savepoints commands saga_core memo
     names_each "$program" "$test"
   done
 done
-same "$runs allocations were refused" yes "$([ "$runs" -gt 100 ] && echo yes)"
+same "$runs allocations were refused" yes "$([ "$runs" -gt 100 ] || [ -n "${CRATES:-}" ] && echo yes)"
 
 kept=0
 step=5 first=$((today % 5 + 1))
@@ -144,5 +140,5 @@ if [ -z "${CRATES:-}" ] && program_of fault_tests; then
   done
   same "$kept allocations were refused to commands, loads and recovery" yes "$([ "$kept" -gt 1000 ] && echo yes)"
 fi
-echo "$runs allocations refused to tests, of which $passed passed still, $named named the fault, and $loosely spoke of memory; $kept to commands, loads and recovery"
+echo "$runs allocations refused to tests, of which $passed passed still, and $named named the fault; $kept to commands, loads and recovery"
 finish

@@ -105,18 +105,37 @@ def going_to(items):
 
 
 class Desk:
-    """The events of the ledger, and the kept replies. What is read off the events is kept as long as none comes."""
+    """The events of the ledger, and the kept replies. What is read off the events is kept, so that a desk of many events does
+    not read all of them for one more: what stands of each journey, the places that journeys hold, the rows. `by_events` reads
+    all anew."""
 
     def __init__(self):
         self.events, self.journeys, self.batches, self.allotted, self.kept = [], [], {}, {}, {}
-        self.wants, self.phases, self.rows = [], [], None
+        self.wants, self.phases, self.places, self.rows, self.way = [], [], {}, None, None
+        self.open = set()
+        self.known = {}  # rows of events and journeys that did not change since; copies share them
 
     def copy(self):
         other = Desk()
         other.events, other.journeys = list(self.events), list(self.journeys)
-        other.wants, other.phases = list(self.wants), list(self.phases)
+        other.wants, other.phases, other.places = list(self.wants), list(self.phases), dict(self.places)
         other.batches, other.allotted, other.kept = dict(self.batches), dict(self.allotted), dict(self.kept)
+        other.open, other.known, other.rows, other.way = set(self.open), self.known, self.rows, self.way
         return other
+
+    def by_events(self):
+        """What is wrong with what was kept, beside what all events give."""
+        plain = Desk()
+        for event in self.events:
+            plain.take(event)
+        plain.kept = self.kept
+        for cell in self.allotted:
+            held = sum(want.count for journey in plain.journeys for want in journey.wants() if want.covers(cell))
+            if held != self.held(cell):
+                return f"places of {cell}: {held}, kept {self.held(cell)}"
+        plain.open = {n for n, journey in enumerate(plain.journeys, 1) if journey.is_open()}
+        kept = (self.phases, self.open, self.tables())
+        return "" if kept == ([one.phase() for one in plain.journeys], plain.open, plain.tables()) else "what was kept"
 
     def is_same(self, other):
         return self.events == other.events and self.kept == other.kept
@@ -124,7 +143,7 @@ class Desk:
     def take(self, event):
         """One more event."""
         self.events.append(event)
-        self.rows = None
+        self.rows = self.way = None
         kind, first, second = event
         if kind == "load":
             self.batches[first] = second
@@ -133,14 +152,25 @@ class Desk:
             self.journeys.append(Journey(first, second))
             self.wants.append([])
             self.phases.append((RUN, None))
+            self.open.add(len(self.journeys))
         else:
             at = first - 1
             self.journeys[at] = self.journeys[at]._replace(items=(*self.journeys[at].items, second))
+            self.hold(self.wants[at], -1)
             self.wants[at], self.phases[at] = self.journeys[at].wants(), self.journeys[at].phase()
+            self.hold(self.wants[at], 1)
+            if not self.journeys[at].is_open():
+                self.open.discard(first)
+
+    def hold(self, wants, sign):
+        """Adds the places of these wants to those that journeys hold, or takes them away."""
+        for want in wants:
+            for cell in want.cells():
+                self.places[cell] = self.places.get(cell, 0) + sign * want.count
 
     def held(self, cell):
         """How many places of a cell all journeys hold."""
-        return sum(want.count for wants in self.wants for want in wants if want.covers(cell))
+        return self.places.get(cell, 0)
 
     def fits(self, want):
         return all(c in self.allotted and self.held(c) + want.count <= self.allotted[c] for c in want.cells())
@@ -217,10 +247,17 @@ class Desk:
         return reply
 
     def numbers(self, *phases):
-        return [n for n, phase in enumerate(self.phases, 1) if phase[0] in phases]
+        """The numbers of the open journeys in one of these phases."""
+        return [n for n in sorted(self.open) if self.phases[n - 1][0] in phases]
 
     def recovery(self):
         """The desks on the way of recovery, from this one to the one that is recovered."""
+        if self.way is None:
+            self.way = self.recovered()
+        return [self, *self.way]
+
+    def recovered(self):
+        """The desks on that way, without this one."""
         desks = [self]
 
         def make(word, identity):
@@ -233,7 +270,7 @@ class Desk:
             for identity in desks[-1].numbers(*phases):
                 while desks[-1].phases[identity - 1][0] in phases:
                     make("step", identity)
-        return desks
+        return desks[1:]
 
     def tables(self):
         """The rows of each table, sorted, as docs/FORMATS.md has them."""
@@ -248,22 +285,38 @@ class Desk:
         """The rows, worked out from the events."""
         tables = {"batch": [], "journey": [], "step": [], "entry": [], "entry2": [], "mark": []}
         begun = 0
-        for number, (kind, first, second) in enumerate(self.events, 1):
-            if kind == "load":
-                content = "".join(f"{cell}/{places}\n" for cell, places in second)
-                tables["batch"].append((first, number, content.encode()))
-            elif kind == "begin":
+        for number, event in enumerate(self.events, 1):
+            if event[0] == "begin":
                 begun += 1
-                self.journey_rows(tables, begun, number)
+                made = self.made(("journey", begun), self.journeys[begun - 1], self.journey_rows, begun, number)
+                for name, rows in made.items():
+                    tables[name] += rows
             else:
-                item, a, b = second
-                tables["entry2"].append((number, first, CODES[item], a, "sra".index(b) if item == "B" else b))
+                table, row = self.made(number, event, self.event_row, event, number)
+                tables[table].append(row)
         tables["meta"] = [(1, 2, len(self.events), begun)]
         tables["stock"] = self.stock_rows()
         tables["answer"] = [(*under, text, line_of(reply)) for under, (text, reply) in self.kept.items()]
         return {name: sorted(rows) for name, rows in tables.items()}
 
-    def journey_rows(self, tables, identity, number):
+    def made(self, name, source, make, *words):
+        """What was made of this under this name, or is made now."""
+        known, found = self.known.get(name, (None, None))
+        if known is not source:
+            found = make(*words)
+            self.known[name] = source, found
+        return found
+
+    def event_row(self, event, number):
+        """The row of a batch, or of an item, and its table."""
+        kind, first, second = event
+        if kind == "load":
+            content = "".join(f"{cell}/{places}\n" for cell, places in second)
+            return "batch", (first, number, content.encode())
+        item, a, b = second
+        return "entry2", (number, first, CODES[item], a, "sra".index(b) if item == "B" else b)
+
+    def journey_rows(self, identity, number):
         """The rows of a journey but its items."""
         journey = self.journeys[identity - 1]
         agent, plan, items = journey
@@ -271,12 +324,13 @@ class Desk:
         code = (RUN, BACK, ENDED, UNDONE).index(phase)
         net = journey.net()
         cursor = (len(net), code, target or 0, journey.refusals())
-        tables["journey"].append((identity, number, agent, len(plan.steps), plan.tries, *cursor))
-        tables["mark"] += [(identity, p) for p in taken(items)]
-        for place, step in enumerate(plan.steps, 1):
-            for option, want in enumerate(step.options, 1):
-                is_taken = (place, option) in net
-                tables["step"].append((identity, place, option, int(step.save), int(is_taken), *want))
+        steps = [
+            (identity, place, option, int(step.save), int((place, option) in net), *want)
+            for place, step in enumerate(plan.steps, 1)
+            for option, want in enumerate(step.options, 1)
+        ]
+        row = (identity, number, agent, len(plan.steps), plan.tries, *cursor)
+        return {"journey": [row], "mark": [(identity, p) for p in taken(items)], "step": steps}
 
 
 # Texts of replies.
@@ -292,6 +346,7 @@ def state_text(pos, phase):
     return {RUN: f"run {pos}", BACK: f"back {pos} to {target}", ENDED: f"ended {pos}", UNDONE: "undone 0"}[word]
 
 
+@functools.lru_cache(65536)
 def line_of(reply):
     """The line of a reply."""
     if isinstance(reply, Refusal):

@@ -147,6 +147,8 @@ def old_file(files):
     assert not tables.pop("mark") and all(row[2] < 3 for row in tables["entry2"])
     tables["entry"] = tables.pop("entry2")
     tables["meta"] = [(1, 1, *tables["meta"][0][2:])]
+    if os.path.exists("old.db"):
+        os.remove("old.db")
     make_file("old.db", statements, tables)
     with open("old.db", "rb") as file:
         return {"trips.db": file.read()}

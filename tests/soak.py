@@ -7,6 +7,7 @@ if any did. LIBRARIES, which ./soak gives, is the folder with calls.so and refus
 import argparse
 import collections
 import json
+import math
 import os
 import random
 import shutil
@@ -26,6 +27,7 @@ from soak_talk import Wrong
 ERRORS = ("5", "28")  # EIO and ENOSPC
 MOST_WRONG = 5
 PATIENCE_TO_SHRINK = 60.0
+TOLD = 10_000  # after so many commands it says how far it has come
 SPOILS = ("forget-reply", "lose-event", "sell-twice", "no-syncs")
 
 
@@ -174,24 +176,28 @@ class Soak:
         self.words, self.folder, self.count, self.wrong = words, folder, Count(), []
 
     def place(self, count, name="file"):
-        share, has_syncs = 0.2 if self.words.trial else 1.0, self.words.spoil != "no-syncs"
+        share, has_syncs = self.words.looks, self.words.spoil != "no-syncs"
         chance = random.Random(1)
         return Place(f"{self.folder}/{name}", self.words.libraries, count, chance, share, self.words.blind, has_syncs)
 
     def run(self):
         number = self.words.file or 1
-        most_wrong = 1 if self.words.spoil else MOST_WRONG
+        most_wrong, began, told = 1 if self.words.spoil else MOST_WRONG, time.monotonic(), 0
         while self.count["commands"] < self.words.count and len(self.wrong) < most_wrong:
             self.file(number)
             number += 1
-            if self.words.file:
+            spent = time.monotonic() - began
+            if self.words.file or spent > 60 * self.words.minutes:
                 break
+            if self.count["commands"] - told >= TOLD:
+                told = self.count["commands"]
+                print(f"soak.py: {told} commands, {len(self.wrong)} wrong, {spent:.0f} s", file=sys.stderr, flush=True)
 
     def file(self, number):
         """One file from its first life to its last."""
         chance = random.Random(f"{self.words.seed}/{number}")
         planner, place, script = Planner(chance, self.words.spoil), self.place(self.count), []
-        size = min(chance.choice((30, 60, 120, 120, 250, 1000, 3000)), max(30, self.words.count // 5))
+        size = min(chance.choice((30, 60, 120, 120, 250, 500, 1000)), max(30, self.words.count // 5))
         most = min(self.count["commands"] + size, self.words.count)
         self.count.add("files")
         try:
@@ -200,6 +206,9 @@ class Soak:
                 planner.lived(place.live(script[-1]))
             script.append({"do": "recover", **({"cut": -1} if planner.has_cuts else {})})
             place.live(script[-1])
+            fault = place.desks[0].by_events()
+            if fault:
+                raise Wrong(f"the plain desk kept what its events do not give: {fault}")
         except Wrong as wrong:
             self.failed(number, script, str(wrong))
 
@@ -333,8 +342,16 @@ def words_of():
     words.add_argument("--spoil", choices=SPOILS, help="the file is spoiled on purpose between two lives")
     words.add_argument("--blind", action="store_true", help="files are not looked at: the answers have to show all")
     words.add_argument("--keep", metavar="FOLDER", default=".", help="where scripts of failures go")
-    words.add_argument("--trial", action="store_true", help="a slow program too; fewer reports are compared then")
+    words.add_argument("--minutes", metavar="N", type=float, default=math.inf, help="it ends with the file at which so many "
+                       "minutes have gone, if that comes first")
+    words.add_argument("--trial", action="store_true", help="a slow program too; --looks is 0.2 then")
+    words.add_argument("--looks", metavar="SHARE", type=float, help="after so many of the lives the reports of a "
+                       "copy are compared too: 1 is each, 0.1 every tenth; the rows always are")
     found = words.parse_args()
+    if found.looks is None:
+        found.looks = 0.2 if found.trial else 1.0
+    if not 0 <= found.looks <= 1:
+        words.error("--looks is from 0 to 1")
     if (found.count is None) == (found.repeat is None):
         words.error("SEED and COUNT, or --repeat SCRIPT")
     return found

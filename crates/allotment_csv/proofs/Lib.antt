@@ -3,3 +3,4 @@ pub mod FieldLemmas
 pub mod RowLemmas
 pub mod FrontLemmas
 pub mod LimitLemmas
+pub mod WrongFieldLemmas

@@ -4,4 +4,5 @@ pub mod Results
 pub mod Fields
 pub mod Reading
 pub mod Fronts
+pub mod WrongFields
 pub mod Examples

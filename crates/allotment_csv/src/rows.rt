@@ -13,7 +13,7 @@ use commands::{CsvCause, number_between};
 use csv::ByteRecord;
 
 /// The places that a text spells, 0 to 100,000.
-fn places_of(text: &str) -> Option<u32>
+pub fn places_of(text: &str) -> Option<u32>
     ensures places { result ≡ places_in text.now }
     ensures limit { IfSome result (λ places. places ≤ most_places) }
 {

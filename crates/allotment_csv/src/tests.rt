@@ -1,5 +1,5 @@
 // Values from outside: the files and their answers of the formats and of the worked rows.
-use crate::{CsvFault, read_batch};
+use crate::{Column, CsvFault, read_batch, wrong_field};
 use allotment::{Cell, Night, Row};
 use commands::CsvCause;
 use std::alloc::Global;
@@ -245,5 +245,48 @@ fn a_file_has_at_most_262144_bytes(rt: HostRuntime) {
     for &(size, cause) in &SIZES {
         let file = sized(&rt, rt.alloc(), size);
         is_told(&rt, rt.alloc(), "b1", &file, whole(cause), "size");
+    }
+}
+
+// the text after the heading, the row, the column and the text of its first wrong field
+#[rattlefmt::skip]
+const WRONG: [(&str, usize, Column, &str); 10] = [
+    ("bus,AL,A1,2030-06-01,1\n",                                 1, Column::Kind,     "bus"),
+    ("bus,al,a1,2030,x\n",                                       1, Column::Kind,     "bus"),
+    ("flight,,A1,2030-06-01,1\n",                                1, Column::Supplier, ""),
+    ("flight,al,a1,2030,x\n",                                    1, Column::Supplier, "al"),
+    ("flight,AL,a1,2030,x\n",                                    1, Column::Product,  "a1"),
+    ("flight,AL,A1,2030-02-29,x\n",                              1, Column::Night,    "2030-02-29"),
+    ("flight,AL,A1,\"2030\n06\",1\n",                            1, Column::Night,    "2030\n06"),
+    ("flight,AL,A1,2030-06-01,100001\n",                         1, Column::Places,   "100001"),
+    ("flight,AL,A1,2030-06-01,1\n\nroom,INN,DBL,2030-06-01, 4\n", 2, Column::Places,   " 4"),
+    ("bus,AL,A1,2030-06-01,1\ncar,AL,A1,2030-06-01,1\n",         2, Column::Kind,     "car"),
+];
+
+#[test]
+fn the_first_wrong_field_of_a_row_is_found(rt: HostRuntime) {
+    for &(behind, row, column, text) in &WRONG {
+        let file = headed(&rt, rt.alloc(), behind);
+        let found = wrong_field(rt.alloc(), file.as_bytes(), row).expect(&rt, "memory");
+        let found = found.expect(&rt, "a wrong field");
+        assert!(rt; found.column == column, "{behind:?}");
+        assert!(rt; found.text.as_str() == text, "{behind:?}");
+    }
+}
+
+// the text after the heading and a row that has no wrong field: it is good, has not five fields, or is not there
+const NOT_WRONG: [(&str, usize); 4] = [
+    ("flight,AL,A1,2030-06-01,1\n", 1),
+    ("flight,AL,A1,2030-06-01\n", 1),
+    ("flight,AL,A1,2030-06-01,1\n", 2),
+    ("", 1),
+];
+
+#[test]
+fn a_good_row_has_no_wrong_field(rt: HostRuntime) {
+    for &(behind, row) in &NOT_WRONG {
+        let file = headed(&rt, rt.alloc(), behind);
+        let found = wrong_field(rt.alloc(), file.as_bytes(), row).expect(&rt, "memory");
+        assert!(rt; found.is_none(), "{behind:?}, row {row}");
     }
 }

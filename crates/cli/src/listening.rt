@@ -7,10 +7,13 @@ ghost use Rattle.desk_jobs.specs.Notes.{MayNote};
 ghost use Rattle.cli.specs.Ends.{TellsReady};
 
 use crate::desks::{close_after, connect};
+use agents_page::{PAGE, POLICY};
 use commands::Fault;
 use desk_jobs::{note_recovered, ready_over};
-use http_sockets::{Limits, PATIENCE, Sockets, serve_sockets};
+use http_pages::HtmlPage;
+use http_sockets::{Limits, PATIENCE, Sockets, log_opening, serve_sockets};
 use program_ends::{End, Ended, ProgramFault};
+use protocols::ServeFault;
 use recovery::Ready;
 use saga_core::Book;
 use sqlite::{Alter, Connection};
@@ -28,6 +31,10 @@ pub(crate) struct Served<'a> {
     pub connections: Option<u16>,
     /// The path of the Unix socket, if there is one.
     pub house: Option<&'a str>,
+    /// Whether the page for browsers is served at the port.
+    pub page: bool,
+    /// Whether the log is written, on the standard error of the host.
+    pub log: bool,
 }
 
 /// Serves connections over the database in a file, after recovery. Where a Unix socket was made, its file is removed when
@@ -85,13 +92,17 @@ fn serve_over<'a, S: Alter + Drop, O: Write, N: Write>(
     match ready_over(alloc, conn) {
         Ok((desk, made)) => {
             note_recovered(alloc, made, notes);
+            if served.log {
+                log_opening(rt, alloc, made);
+            }
             serve_desk(rt, alloc, served, desk, out)
         }
         Err((conn, end)) => (conn, None, end),
     }
 }
 
-/// Does the same over a recovered desk. Returns its connection, the sockets, and the end.
+/// Does the same over a recovered desk, which counts first what it has, and then knows. Returns its connection, the sockets,
+/// and the end.
 fn serve_desk<'a, S: Alter + Drop, O: Write>(
     rt: &'a HostRuntime,
     alloc: Global,
@@ -104,6 +115,10 @@ fn serve_desk<'a, S: Alter + Drop, O: Write>(
         (TellsReady served.entry.port (O.contents out.old) (O.contents out.new)) }
 {
     let mut desk = desk;
+    if let Err(fault) = desk.counts() {
+        let end = End::Fault(ServeFault::from(fault).into());
+        return (desk.into_inner().into_store(), None, end);
+    }
     match bind(rt, alloc, served) {
         Ok(mut sockets) => {
             let done = listen(alloc, served.port, &mut sockets, &mut desk, out);
@@ -128,10 +143,37 @@ fn bind<'a>(
         patience: PATIENCE,
     };
     match Sockets::bind(rt, alloc, served.port, served.house, limits) {
-        Ok(sockets) => Ok(sockets),
+        Ok(sockets) => {
+            let sockets = with_log(sockets, served.log)?;
+            with_page(sockets, served.page)
+        }
         Err(error) if error.kind() == ErrorKind::OutOfMemory => Err(ProgramFault::Memory),
         Err(_) => Err(ProgramFault::Net),
     }
+}
+
+/// The sockets, which serve the page for browsers if that is asked for.
+fn with_page(sockets: Sockets<'_>, page: bool) -> Result<Sockets<'_>, ProgramFault> {
+    let mut sockets = sockets;
+    let shown = HtmlPage {
+        text: PAGE,
+        policy: POLICY,
+    };
+    if page && sockets.show(shown).is_err() {
+        sockets.end();
+        return Err(ProgramFault::Net);
+    }
+    Ok(sockets)
+}
+
+/// The sockets, which write the log if that is asked for.
+fn with_log(sockets: Sockets<'_>, log: bool) -> Result<Sockets<'_>, ProgramFault> {
+    let mut sockets = sockets;
+    if log && sockets.log().is_err() {
+        sockets.end();
+        return Err(ProgramFault::Memory);
+    }
+    Ok(sockets)
 }
 
 /// Serves the sockets over a recovered book, and reports first that connections to the port are accepted.

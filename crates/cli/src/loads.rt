@@ -2,12 +2,12 @@
 ghost use Rattle.std.specs.Prelude.{◌≡◌, false, None};
 ghost use Rattle.program_ends.specs.Ends.{EndsJob, IfDone};
 ghost use Rattle.desk_jobs.specs.Ends.{TellsAccepted};
-ghost use Rattle.desk_jobs.specs.Notes.{MayNote};
+ghost use Rattle.desk_jobs.specs.Notes.{MayNoteAll, NotesSome};
 ghost use Rattle.cli.specs.Ends.{ReadsOnlyInput};
 
 use crate::desks::{close_after, connect};
 use commands::MOST_BYTES;
-use desk_jobs::{load_over, note_recovered, ready_over};
+use desk_jobs::{load_over, note_recovered, note_wrong_field, ready_over};
 use program_ends::{End, Ended, ProgramFault};
 use recovery::Ready;
 use sqlite::{Alter, Connection};
@@ -20,7 +20,8 @@ use tables::TableBook;
 const MOST_READ: u64 = MOST_BYTES as u64 + 1;
 
 /// Loads an allotment file as a batch into the desk over the database in a file, after recovery, and prints the reply. The
-/// allotment file `-` is what the reader returns. A note says how many events were recovered, if any.
+/// allotment file `-` is what the reader returns. Notes say how many events were
+/// recovered, if any, and which field a row was refused for.
 pub(crate) fn load_file<R: Read, O: Write, N: Write>(
     rt: &HostRuntime,
     alloc: Global,
@@ -34,7 +35,7 @@ pub(crate) fn load_file<R: Read, O: Write, N: Write>(
     ensures job { EndsJob result.end }
     ensures unread { ReadsOnlyInput csv.now (R.remaining reader.old) (R.remaining reader.new) }
     ensures told { IfDone result.end (TellsAccepted (O.contents out.old) (O.contents out.new)) }
-    ensures notes { MayNote (N.contents notes.old) (N.contents notes.new) }
+    ensures notes { MayNoteAll (N.contents notes.old) (N.contents notes.new) }
 {
     let (conn, log) = match connect(rt, file) {
         Ok(opened) => opened,
@@ -61,19 +62,19 @@ fn load_on<S: Alter + Drop, R: Read, O: Write, N: Write>(
     ensures job { EndsJob result.1 }
     ensures unread { ReadsOnlyInput csv.now (R.remaining reader.old) (R.remaining reader.new) }
     ensures told { IfDone result.1 (TellsAccepted (O.contents out.old) (O.contents out.new)) }
-    ensures notes { MayNote (N.contents notes.old) (N.contents notes.new) }
+    ensures notes { MayNoteAll (N.contents notes.old) (N.contents notes.new) }
 {
     match ready_over(alloc, conn) {
         Ok((desk, made)) => {
             note_recovered(alloc, made, notes);
-            load_into(rt, alloc, csv, name, desk, reader, out)
+            load_into(rt, alloc, csv, name, desk, reader, out, notes)
         }
         Err(failed) => failed,
     }
 }
 
 /// Does the same into a recovered desk. Returns its connection, and the end.
-fn load_into<S: Alter + Drop, R: Read, O: Write>(
+fn load_into<S: Alter + Drop, R: Read, O: Write, N: Write>(
     rt: &HostRuntime,
     alloc: Global,
     csv: &str,
@@ -81,13 +82,19 @@ fn load_into<S: Alter + Drop, R: Read, O: Write>(
     desk: Ready<TableBook<S>>,
     reader: &mut R,
     out: &mut O,
+    notes: &mut N,
 ) -> (Connection<S>, End)
     ensures job { EndsJob result.1 }
     ensures unread { ReadsOnlyInput csv.now (R.remaining reader.old) (R.remaining reader.new) }
     ensures told { IfDone result.1 (TellsAccepted (O.contents out.old) (O.contents out.new)) }
+    ensures notes { NotesSome (N.contents notes.old) (N.contents notes.new) }
 {
     match read_csv(rt, alloc, csv, reader) {
-        Ok(bytes) => load_over(alloc, desk, name, bytes.as_slice(), out),
+        Ok(bytes) => {
+            let (conn, end) = load_over(alloc, desk, name, bytes.as_slice(), out);
+            note_wrong_field(alloc, bytes.as_slice(), &end, notes);
+            (conn, end)
+        }
         Err(fault) => (desk.into_inner().into_store(), End::Fault(fault)),
     }
 }

@@ -6,7 +6,7 @@ ghost use Rattle.streams.specs.Written.{WroteFront};
 ghost use Rattle.protocols.specs.Scenes.{ended};
 ghost use Rattle.program_ends.specs.Ends.{EndsJob, IfDone, TellsNoneOrFault};
 ghost use Rattle.command_line.specs.Version.{version_line as line_of_version};
-ghost use Rattle.desk_jobs.specs.Notes.{MayNote};
+ghost use Rattle.desk_jobs.specs.Notes.{MayNote, MayNoteAll};
 ghost use Rattle.cli.specs.Explaining.{TellsExplained};
 ghost use Rattle.cli.specs.Ends.{HasBadId, ReadsFor, TellsOf, TellsRecovered};
 
@@ -25,7 +25,8 @@ use streams::send;
 
 /// Does a job, prints how it ended, and returns the exit status: 0 done, 1 refused or fault.
 ///
-/// Only a fault is printed on standard error.
+/// Only a fault is printed on `err`. The log of a desk that serves, where it is asked for, goes to the standard error of
+/// the host, by `rt`.
 pub fn perform<R: Read, O: Write, E: Write>(
     rt: &HostRuntime,
     alloc: Global,
@@ -48,8 +49,9 @@ pub fn perform<R: Read, O: Write, E: Write>(
     ended.end.tell(alloc, out, err)
 }
 
-/// Does the same, and explains it on standard error: a note says how many events an opening recovered, if any; and after
-/// the line of a fault, or of a refused version, another one says why it came, if that is known, and what to do.
+/// Does the same, and explains it on standard error: notes say how many events an opening recovered, if any, and which
+/// field of an allotment file is wrong; and after the line of a fault, or of a refused version or file, another one says why
+/// it came, if that is known, and what to do.
 pub fn perform_explained<R: Read, O: Write, E: Write>(
     rt: &HostRuntime,
     alloc: Global,
@@ -72,6 +74,7 @@ pub fn perform_explained<R: Read, O: Write, E: Write>(
 }
 
 /// Does a job, and returns its end.
+#[tactic(auto, using(crate::proofs::NoteLemmas::first_alone, crate::proofs::NoteLemmas::none_noted))]
 fn carry_out<R: Read, O: Write, N: Write>(
     rt: &HostRuntime,
     alloc: Global,
@@ -83,7 +86,7 @@ fn carry_out<R: Read, O: Write, N: Write>(
     ensures job { EndsJob result.end }
     ensures read { IfDone result.end (ReadsFor job (R.remaining reader.old) (R.remaining reader.new)) }
     ensures told { IfDone result.end (TellsOf job (O.contents out.old) (O.contents out.new)) }
-    ensures notes { MayNote (N.contents notes.old) (N.contents notes.new) }
+    ensures notes { MayNoteAll (N.contents notes.old) (N.contents notes.new) }
 
     ensures bad_id { HasBadId job → result.end ≡ End.Refused Refusal.BadBody }
     ensures untold { HasBadId job → Keeps (O.contents out.old) (O.contents out.new) }
@@ -95,11 +98,15 @@ fn carry_out<R: Read, O: Write, N: Write>(
             port,
             connections,
             house,
+            page,
+            log,
         } => {
             let served = Served {
                 port,
                 connections,
                 house: house.as_ref().map(|path| path.as_str()),
+                page,
+                log,
             };
             serve_file(rt, alloc, file.as_str(), served, out, notes)
         }

@@ -2,7 +2,7 @@
 use Rattle.std.proofs.Common.{◌≡◌, ◌∙◌, ◌<◌, ◌⊎◌, ℕ, Bor, Some, zero, suc, Bool, true, false, not, List, [], ◌∷◌, map, length, codes, sym, ap, refl, inl, inr, arith, subst, is_some}
 use Rattle.std.specs.Prelude.{◌||◌, ◌&&◌, bytes_eq, if◌then◌else◌}
 use Rattle.std.specs.List.{All, list_all, list_any, slice_index_or}
-use Rattle.clap.specs.Words.{App, Rule, Text, first_of, matches_of, rows_of, AddsArg, AddsInTurn, app_of, args_of, groups_of, first_value, found_of, rule_of}
+use Rattle.clap.specs.Words.{App, Rule, Text, first_of, matches_of, rows_of, AddsArg, AddsInTurn, IsPlainArg, app_of, args_of, groups_of, first_value, found_of, rule_of}
 use Rattle.clap.specs.Built.{FitsChain, HasDistinctIds}
 use Rattle.clap.proofs.CallerLemmas.{required_in_chain}
 use Rattle.clap.proofs.OnLiterals.{clap_on_literals}
@@ -12,16 +12,22 @@ use Rattle.clap.specs.declared.builder.Command.{Command}
 use Rattle.clap.specs.declared.builder.command.Command.TheViews.{out-Command}
 use Rattle.clap.specs.declared.parser.ArgMatches.{ArgMatches}
 use Rattle.command_line.specs.Jobs.{value_in}
-use Rattle.command_line.specs.Subcommands.{bare_app, has_any, ids_in, needed, needed_in, rules_for, with_rules, IsValue, Requires}
+use Rattle.command_line.specs.Subcommands.{bare_app, has_any, ids_in, needed, needed_in, rules_for, with_rules, IsFlag, IsValue, Requires}
 use Rattle.command_line.specs.declared.subcommands.Subcommand.{Subcommand}
 use Rattle.command_line.specs.declared.subcommands.Subcommand.TheVariants.{Run, Serve, Recover, Load, Stock, Unfinished, History, Migrate}
 
--- the arguments after the first one are values too
-rest_values : (x : Arg) (xs : List Arg) → All IsValue (x ∷ xs) → All IsValue xs
+-- an argument is a value, or one that nothing requires
+pub record IsWord (arg : Arg) : Type 0 where
+  pub plain : IsPlainArg arg
+  pub global : arg.global ≡ false
+  pub needed : arg.required ≡ true → IsValue arg
+
+-- the arguments after the first one are such too
+rest_values : (x : Arg) (xs : List Arg) → All IsWord (x ∷ xs) → All IsWord xs
 rest_values x xs all = λ k d lt. all (suc k) d (omega arith)
 
 -- how clap reads the words when each value was added
-app_of-chain : (start cmd : Command) (xs : List Arg) → AddsInTurn AddsArg start xs cmd → All IsValue xs
+app_of-chain : (start cmd : Command) (xs : List Arg) → AddsInTurn AddsArg start xs cmd → All IsWord xs
     → app_of cmd ≡ with_rules (app_of start) (map rule_of xs)
 app_of-chain start cmd [] chain values = ap app_of (sym chain)
 app_of-chain start cmd (x ∷ xs) chain values =
@@ -109,7 +115,7 @@ own_fits id own = (
 )
 
 -- such values can be added one after another
-fits_chain : (xs : List Arg) → All IsValue xs → list_all is_own (ids_in (map rule_of xs)) ≡ true → All FitsChain xs
+fits_chain : (xs : List Arg) → All IsWord xs → list_all is_own (ids_in (map rule_of xs)) ≡ true → All FitsChain xs
 fits_chain xs values own = λ k d lt.
     let here = values k d lt in
     let named = own_fits (slice_index_or xs k d).id.now (each_passes is_own xs k d own lt) in
@@ -136,12 +142,13 @@ needed_have P (x ∷ xs) each = from x.required refl (needed_have P xs (λ k d l
 -- each parse by a command with such values has those that are required
 all_required : (start cmd : Command) (xs : List Arg) → AddsInTurn AddsArg start xs cmd
     → args_of start ≡ [] → groups_of start ≡ [] → (out-Command start).has_globals ≡ false → (out-Command start).subcommand_negates_reqs ≡ false
-    → All IsValue xs → fit_together (ids_in (map rule_of xs)) ≡ true → All (Requires cmd) (needed_in (map rule_of xs))
+    → All IsWord xs → fit_together (ids_in (map rule_of xs)) ≡ true → All (Requires cmd) (needed_in (map rule_of xs))
 all_required start cmd xs chain args groups globals negates values good =
     let ids = ids_in (map rule_of xs) in
     let tests = both (list_all is_own ids) (differ ids) good in
     needed_have (Requires cmd) xs (λ k d lt is m parsed.
-    let here = values k d lt in
+    let word = values k d lt in
+    let here = word.needed is in
     required_in_chain start cmd xs k d m chain args groups globals negates
     (fits_chain xs values tests.0) (differ_by_id xs tests.1) lt (is, here.action, here.whole, here.least) parsed)
 
@@ -149,7 +156,7 @@ all_required start cmd xs chain args groups globals negates values good =
 pub with_values : (name : Text) (start cmd : Command) (xs : List Arg) (wanted : List Rule) → AddsInTurn AddsArg start xs cmd
     → app_of start ≡ bare_app name
     → args_of start ≡ [] → groups_of start ≡ [] → (out-Command start).has_globals ≡ false → (out-Command start).subcommand_negates_reqs ≡ false
-    → All IsValue xs → map rule_of xs ≡ wanted → fit_together (ids_in wanted) ≡ true
+    → All IsWord xs → map rule_of xs ≡ wanted → fit_together (ids_in wanted) ≡ true
     → (app_of cmd ≡ with_rules (bare_app name) wanted) × All (Requires cmd) (needed_in wanted)
 with_values name start cmd xs wanted chain app args groups globals negates values rules good =
     let fit : fit_together (ids_in (map rule_of xs)) ≡ true = subst (λ rs. fit_together (ids_in rs) ≡ true) (sym rules) good in (
@@ -182,16 +189,29 @@ rules_for-others Unfinished serve load stock unfinished history = absurd (unfini
 rules_for-others History serve load stock unfinished history = absurd (history refl)
 rules_for-others Migrate serve load stock unfinished history = refl
 
--- one more value, before the others
-pub and_value : (x : Arg) (xs : List Arg) → IsValue x → All IsValue xs → All IsValue (x ∷ xs)
-and_value x xs here rest = λ k d lt. at k d lt
+-- one more argument, before the others
+and_word : (x : Arg) (xs : List Arg) → IsWord x → All IsWord xs → All IsWord (x ∷ xs)
+and_word x xs here rest = λ k d lt. at k d lt
   where
-    at : (k : ℕ) (d : Arg) → k < length (x ∷ xs) → IsValue (slice_index_or (x ∷ xs) k d)
+    at : (k : ℕ) (d : Arg) → k < length (x ∷ xs) → IsWord (slice_index_or (x ∷ xs) k d)
     at zero d lt = here
     at (suc k) d lt = rest k d (omega arith)
 
+-- one more value, before the others
+pub and_value : (x : Arg) (xs : List Arg) → IsValue x → All IsWord xs → All IsWord (x ∷ xs)
+and_value x xs here rest =
+    and_word x xs (record { plain = here.plain; global = here.global; needed = λ _. here }) rest
+
+-- one more flag, before the others
+pub and_flag : (x : Arg) (xs : List Arg) → IsFlag x → All IsWord xs → All IsWord (x ∷ xs)
+and_flag x xs here rest =
+    and_word x xs (record { plain = here.plain; global = here.global; needed = λ is. absurd (not_required x here is) }) rest
+  where
+    not_required : (a : Arg) → IsFlag a → a.required ≡ true → ⊥
+    not_required a flag is = let both : true ≡ false = sym is ∙ flag.required in cc
+
 -- no value
-pub no_value : All IsValue []
+pub no_value : All IsWord []
 no_value = λ k d lt. absurd (omega arith)
 
 -- a value that follows an option is one as before
@@ -199,7 +219,11 @@ pub long_value : (a b : Arg) (name : Bor Text) → b ≡ record a { long = Some 
 long_value a b name e is =
     subst IsValue (sym e) (record { plain = is.plain; global = is.global; action = is.action; whole = is.whole; least = is.least })
 
--- the rule of such a value has the option
+-- a flag is named by an option in the same way
+pub long_flag : (a b : Arg) (name : Bor Text) → b ≡ record a { long = Some name } → IsFlag a → IsFlag b
+long_flag a b name e is = subst IsFlag (sym e) (record { plain = is.plain; global = is.global; required = is.required })
+
+-- the rule of such an argument has the option
 pub long_rule : (a b : Arg) (name : Bor Text) (rule : Rule) → b ≡ record a { long = Some name } → rule_of a ≡ rule
     → rule_of b ≡ record rule { long = Some name.now }
 long_rule a b name rule e is = ap rule_of e ∙ ap (λ (r : Rule). record r { long = Some name.now }) is

@@ -3,7 +3,7 @@ use Rattle.std.specs.Prelude.{◌≡◌, ◌≤◌, Bool, true, false, List, [],
 use Rattle.clap.specs.Words.{App, Rule, Text, first_value, found_of, fault_of, new_app, new_rule, with_rule, IsParsedFrom, IsPlainArg}
 use Rattle.clap.specs.Facts.{least_values}
 use Rattle.clap.specs.Simple.{on_top}
-use Rattle.clap.specs.declared.builder.ArgAction.TheVariants.{Set}
+use Rattle.clap.specs.declared.builder.ArgAction.TheVariants.{Set, SetTrue}
 use Rattle.clap.specs.declared.builder.Arg.{Arg}
 use Rattle.clap.specs.declared.builder.Command.{Command}
 use Rattle.clap.specs.declared.builder.command.Command.TheViews.{out-Command}
@@ -57,6 +57,18 @@ connections_number = record (optional (codes "N")) { long = Some (codes "connect
 abbrev pub house_path : Rule
 house_path = record (optional (codes "PATH")) { long = Some (codes "house") }
 
+-- a flag, which is given or not
+abbrev pub flagged : Text → Rule
+flagged id = record (new_rule id) { action = Some SetTrue }
+
+-- the page for browsers is asked for by `--page`
+abbrev pub page_flag : Rule
+page_flag = record (flagged (codes "PAGE")) { long = Some (codes "page") }
+
+-- the log is asked for by `--log`
+abbrev pub log_flag : Rule
+log_flag = record (flagged (codes "LOG")) { long = Some (codes "log") }
+
 -- the format of a report follows `--format`
 abbrev pub report_format : Rule
 report_format = record (optional (codes "FORMAT")) { long = Some (codes "format") }
@@ -64,7 +76,7 @@ report_format = record (optional (codes "FORMAT")) { long = Some (codes "format"
 -- the values that a subcommand reads, in their order
 abbrev pub rules_for : Subcommand → List Rule
 rules_for Run = needed (codes "FILE") ∷ []
-rules_for Serve = needed (codes "FILE") ∷ port_number ∷ connections_number ∷ house_path ∷ []
+rules_for Serve = needed (codes "FILE") ∷ port_number ∷ connections_number ∷ house_path ∷ page_flag ∷ log_flag ∷ []
 rules_for Recover = needed (codes "FILE") ∷ []
 rules_for Load = needed (codes "FILE") ∷ needed (codes "CSV") ∷ batch_name ∷ []
 rules_for Stock = needed (codes "FILE") ∷ report_format ∷ []
@@ -122,6 +134,12 @@ pub record IsValue (arg : Arg) : Type 0 where
   pub action : arg.action ≡ Some Set
   pub whole : arg.val_delim ≡ None
   pub least : 1 ≤ least_values arg
+
+-- an argument is a flag, which nothing requires, whatever the other arguments are
+pub record IsFlag (arg : Arg) : Type 0 where
+  pub plain : IsPlainArg arg
+  pub global : arg.global ≡ false
+  pub required : arg.required ≡ false
 
 -- each parse by the command has a value of this name
 abbrev pub Requires : Command → Text → Type 0

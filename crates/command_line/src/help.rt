@@ -91,7 +91,15 @@ Serve HTTP requests from many clients at once
 Opens the database FILE, created if absent. Every journey under way is
 finished or undone first, as after a crash. Then it listens on 127.0.0.1,
 prints 'ready PORT', and serves up to 256 connections at once: N in all, or,
-without --connections, until it is stopped. Standard input is not read.";
+without --connections, until it is stopped. Standard input is not read.
+
+With --page, a browser gets a page at http://127.0.0.1:PORT/, in which an
+agent works. A request to the port must then name 127.0.0.1, localhost or
+[::1] with the port as its host.
+
+With --log, standard error has a line for each request, one for each
+connection that ended, and one for what the opening recovered. Without it
+nothing but a fault is written there.";
 
 const SERVE_NOTES: &str = "\
 Requests:
@@ -102,10 +110,16 @@ Requests:
   POST /journeys/ID/save     Take a save-point where the journey is
   GET /journeys/ID           The journey with its items
   GET /unfinished            The agent's journeys that have not ended
+  GET /mine                  The agent's journeys, ended ones too
+  GET /mine/AFTER            Those with a number above AFTER
   GET /stock                 The places of each cell
+  GET /health                The numbers of events, journeys and unfinished
+                             journeys
+  GET /                      With --page, the page for browsers
 
 Fields:
-  Desk-Agent  Who asks, 1 to 16 of a-z and 0-9. Each request needs it
+  Desk-Agent  Who asks, 1 to 16 of a-z and 0-9. Each request needs it, but
+              for GET /health and GET /
   Desk-Key    1 to 32 letters, digits and '-'. Each POST needs it, and acts
               once under it
 

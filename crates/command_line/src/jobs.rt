@@ -21,6 +21,10 @@ pub enum Job {
         connections: Option<u16>,
         /// The path of a Unix socket that it serves too.
         house: Option<String>,
+        /// Whether it serves the page for browsers too.
+        page: bool,
+        /// Whether it writes its log on standard error.
+        log: bool,
     },
     /// Recover the desk over this file.
     Recover {

@@ -1,7 +1,7 @@
 //! The subcommands of the program: their words, and the values that each of them reads.
 ghost use Rattle.std.specs.Prelude.{◌≡◌, [], false, All, IfOk, IfSome};
 ghost use Rattle.clap.specs.Words.{app_of, args_of, groups_of, rule_of};
-ghost use Rattle.command_line.specs.Subcommands.{app_for, bare_app, has_globals, name_of, needed, needed_for, negates_needs, optional, report_format, subcommand_in, IsValue, Requires};
+ghost use Rattle.command_line.specs.Subcommands.{app_for, bare_app, flagged, has_globals, name_of, needed, needed_for, negates_needs, optional, report_format, subcommand_in, IsFlag, IsValue, Requires};
 
 use clap::{Arg, ArgAction, Command};
 use std::alloc::{AllocError, Global};
@@ -136,7 +136,16 @@ impl Subcommand {
                 let count = "Accept N connections in all, 1 to 1000, then exit";
                 let number = extra(alloc, "N", count).long("connections");
                 let house = extra(alloc, "PATH", "Also listen on this Unix socket").long("house");
-                over_file.arg(port)?.arg(number)?.arg(house)
+                let page = flag(alloc, "PAGE", "Also serve the page for browsers, at /").long(
+                    "page",
+                );
+                let log = flag(alloc, "LOG", "Log each request on standard error").long("log");
+                over_file
+                    .arg(port)?
+                    .arg(number)?
+                    .arg(house)?
+                    .arg(page)?
+                    .arg(log)
             }
             Subcommand::Load => {
                 let csv = value(alloc, "CSV", "The allotment file, or - for standard input");
@@ -171,6 +180,14 @@ fn extra<'a>(alloc: Global, id: &'a str, help: &'a str) -> Arg<'a>
     ensures value { IsValue result }
 {
     Arg::new(alloc, id).help(help).action(ArgAction::Set)
+}
+
+/// A flag: it is given or not, and no value follows it.
+fn flag<'a>(alloc: Global, id: &'a str, help: &'a str) -> Arg<'a>
+    ensures rule { rule_of result ≡ flagged id.entry.now }
+    ensures flag { IsFlag result }
+{
+    Arg::new(alloc, id).help(help).action(ArgAction::SetTrue)
 }
 
 /// The format of a report.

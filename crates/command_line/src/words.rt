@@ -6,7 +6,7 @@ ghost use Rattle.std.specs.Prelude.{◌≡◌, ◌≢◌, None, false, true, map
 ghost use Rattle.std.specs.String.{string_bytes};
 ghost use Rattle.allotment.specs.Texts.{number_from};
 ghost use Rattle.clap.specs.Words.{first_value, found_of, kind_of, matches_of, rows_of};
-ghost use Rattle.command_line.specs.Jobs.{are_refused, format_named, format_of, is_malformed, names_version, number_named, refuses, IsJob, IsJobOf, IsText, IsUsage};
+ghost use Rattle.command_line.specs.Jobs.{are_refused, format_named, format_of, is_malformed, is_set, names_version, number_named, refuses, IsJob, IsJobOf, IsText, IsUsage};
 ghost use Rattle.command_line.specs.Subcommands.{app_for, is_refused_by, needed_for};
 
 use crate::help::PROGRAM;
@@ -71,11 +71,15 @@ fn job_of(alloc: Global, subcommand: Subcommand, words: &[String]) -> Result<Job
                 MOST_CONNECTIONS,
             )?;
             let house = value_if_given(alloc, &matches, "PATH")?;
+            let page = is_given(&matches, "PAGE");
+            let log = is_given(&matches, "LOG");
             Ok(Job::Serve {
                 file,
                 port,
                 connections,
                 house,
+                page,
+                log,
             })
         }
         Subcommand::Recover => Ok(Job::Recover { file }),
@@ -144,6 +148,16 @@ fn value_if_given(
     match matches.get_str(id) {
         Some(word) => Ok(Some(String::from_str(alloc, word)?)),
         None => Ok(None),
+    }
+}
+
+/// Whether the flag of this name is given. `clap` reads `true` for one that is.
+fn is_given(matches: &ArgMatches, id: &str) -> bool
+    ensures given { result ≡ is_set (first_value (found_of matches.now) id.now) }
+{
+    match matches.get_str(id) {
+        Some(word) => word == "true",
+        None => false,
     }
 }
 

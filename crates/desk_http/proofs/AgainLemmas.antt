@@ -13,12 +13,13 @@ use Rattle.commands.specs.declared.refusals.Refusal.TheVariants.{KeyReused}
 use Rattle.ledger.specs.Answer.{State, Kept, KeptReply, answer, asker, keep, kept_for, outcome, outcome_for, state_with}
 use Rattle.ledger.specs.Ledger.{Event}
 use Rattle.ledger.specs.World.{Moment, Done, Cut, Reopened, after}
-use Rattle.http_messages.specs.Heads.{complaint_of, is_method, parts_of}
+use Rattle.http_messages.specs.Heads.{is_method, parts_of}
 use Rattle.http_messages.specs.Messages.{Message, NoHead, Asks}
 use Rattle.http_pages.specs.Pages.{page_text, reply_page}
 use Rattle.http_pages.specs.declared.admitting.Denied.{Denied}
-use Rattle.desk_http.specs.Demands.{Demand, Carry, SeeJourney, SeePlan, SeeUnfinished, SeeStock, Stop, demand_of}
+use Rattle.desk_http.specs.Demands.{Demand, Carry, SeeJourney, SeePlan, SeeUnfinished, SeeMine, SeeStock, SeeHealth, SeePage, Stop, demand_of}
 use Rattle.desk_http.specs.declared.doors.Door.{Door}
+use Rattle.desk_http.specs.Hosts.{refusal_at}
 use Rattle.desk_http.specs.Laws.{AnswersAgain, MakesEvent, later}
 use Rattle.desk_http.specs.Pages.{Command, IsPage, Says, SaysUnless, closes, command_in, command_unless, state_after, state_by}
 
@@ -115,7 +116,10 @@ carry_of None (Ok (Carry asked ask)) c = λ is. let e : (asked, ask) ≡ c = cc 
 carry_of None (Ok (SeeJourney asker id)) c = λ is. cc
 carry_of None (Ok (SeePlan asker id)) c = λ is. cc
 carry_of None (Ok (SeeUnfinished asker)) c = λ is. cc
+carry_of None (Ok (SeeMine asker after)) c = λ is. cc
 carry_of None (Ok SeeStock) c = λ is. cc
+carry_of None (Ok SeeHealth) c = λ is. cc
+carry_of None (Ok (SeePage html)) c = λ is. cc
 carry_of None (Ok Stop) c = λ is. cc
 carry_of None (Err denied) c = λ is. cc
 
@@ -127,15 +131,15 @@ is_head_in (Asks h body) = is_method (codes "HEAD") (parts_of h)
 -- the page of an agent's command that is executed
 carried_page : (door : Door) (s : State) (m : Message) (c : Sent) (bytes : List ℕ)
     → command_in door m ≡ Some (c.0, Some c.1) → IsPage door s m bytes
-    → bytes ≡ page_text (is_head_in m) (closes m) (reply_page (outcome s (Some c.1) c.0).reply)
+    → bytes ≡ page_text (is_head_in m) (closes door m) (reply_page (outcome s (Some c.1) c.0).reply)
 carried_page door s NoHead c bytes asks page = let bad : None ≡ Some (c.0, Some c.1) = asks in cc
 carried_page door s (Asks h body) c bytes asks page =
     let parts = parts_of h in
-    let of = carry_of (complaint_of parts) (demand_of door parts body) (c.0, Some c.1) asks in
+    let of = carry_of (refusal_at door parts) (demand_of door parts body) (c.0, Some c.1) asks in
     let says : Says s (demand_of door parts body) page.page =
     subst (λ o. SaysUnless o door s parts body page.page) of.0 page.says in
     let said : Says s (Ok (Carry c.0 (Some c.1))) page.page = subst (λ d. Says s d page.page) of.1 says in
-    page.text ∙ ap (page_text (is_method (codes "HEAD") parts) (closes (Asks h body))) said
+    page.text ∙ ap (page_text (is_method (codes "HEAD") parts) (closes door (Asks h body))) said
 
 -- a message that made an event gets the same page again, and nothing changes
 pub answered_as_before : (door : Door) (s : State) (m : Message) (between : List Moment) → MakesEvent door s m
@@ -149,7 +153,7 @@ answered_as_before door s m between event =
     let again = kept-again t c (kept_of s c) refl (after-same (state_after door s m) between c.1.agent c.1.key (kept_of s c) kept) in
     record {
       page = λ first second one two.
-          carried_page door t m c second event.asks two ∙ ap (λ r. page_text (is_head_in m) (closes m) (reply_page r)) again.0
+          carried_page door t m c second event.asks two ∙ ap (λ r. page_text (is_head_in m) (closes door m) (reply_page r)) again.0
           ∙ sym (carried_page door s m c first event.asks one);
       state = ap (state_by t) event.asks ∙ again.1;
     }

@@ -1,32 +1,34 @@
 -- The outcome of messages and demands. For the answer to one message.
 use Rattle.std.proofs.Common.{◌≡◌, ◌∙◌, ap, sym, subst, refl, inl, inr, ℕ, List, Bool, true, false, ◌&&◌, ◌||◌}
-use Rattle.std.specs.Prelude.{None, Result, Ok, Err, IfOk, IfErr, is_some, not, codes}
+use Rattle.std.specs.Prelude.{Option, None, Result, Ok, Err, IfOk, IfErr, is_some, not, codes}
 use Rattle.ledger.specs.Answer.{State}
 use Rattle.http_messages.specs.Requests.{IsRequest, IsTaken}
-use Rattle.http_messages.specs.Heads.{Parts, asks_to_close, complaint_of, is_method, is_unnamed, parts_of}
+use Rattle.http_messages.specs.Heads.{Parts, asks_to_close, is_method, is_unnamed, parts_of}
 use Rattle.http_messages.specs.Messages as sent
 use Rattle.http_messages.specs.declared.requests.Message.{Message}
 use Rattle.http_messages.specs.declared.requests.Message.TheVariants as taken
 use Rattle.http_messages.specs.declared.requests.Request.{Request}
+use Rattle.commands.specs.declared.refusals.Refusal.{Refusal}
 use Rattle.commands.specs.declared.refusals.Refusal.TheVariants.{BadHead}
 use Rattle.http_pages.specs.Pages.{Paged, denied_page, page_said, page_text, refused_page}
 use Rattle.http_pages.specs.declared.admitting.Denied.{Denied}
-use Rattle.http_pages.specs.declared.answers.Page.{Page}
+use Rattle.http_pages.specs.declared.answers.Page as shown
 use Rattle.desk_http.specs.Answering.{Answers, Tells}
 use Rattle.desk_http.specs.Demands.{asks_to_stop, demand_of}
+use Rattle.desk_http.specs.Hosts.{refusal_at}
 use Rattle.desk_http.specs.Pages.{SaysUnless, closes, command_unless, state_by, stops}
 use Rattle.desk_http.specs.declared.answering.Answer.{Answer}
 use Rattle.desk_http.specs.declared.doors.Door.{Door}
-use Rattle.desk_http.specs.declared.doors.Door.TheVariants.{Port, House}
+use Rattle.desk_http.specs.declared.doors.Door.TheVariants.{Port, House, Page}
 use Rattle.protocols.specs.declared.faults.ServeFault.{ServeFault}
 use Rattle.protocols.specs.declared.faults.ServeFault.TheVariants.{Memory, Read, Store, Write}
 
 -- a denied request changes nothing
 pub denied_says : (stands : State → Type 0) (door : Door) (s : State) (parts : Parts) (body : List ℕ) (page : Paged)
-    (denied : Denied) → complaint_of parts ≡ None → demand_of door parts body ≡ Err denied
+    (denied : Denied) → refusal_at door parts ≡ None → demand_of door parts body ≡ Err denied
     → page ≡ denied_page denied.refusal denied.allow → stands s
-    → SaysUnless (complaint_of parts) door s parts body page
-    × stands (state_by s (command_unless (complaint_of parts) (demand_of door parts body)))
+    → SaysUnless (refusal_at door parts) door s parts body page
+    × stands (state_by s (command_unless (refusal_at door parts) (demand_of door parts body)))
 denied_says stands door s parts body page denied none is said here = rw (none, is) (said, here)
 
 -- the page was laid out as bytes, or out of memory
@@ -37,7 +39,7 @@ pub record LaidOut (result : Result Answer ServeFault) (page : Paged) (is_head e
 
 -- a message without a head gets the page that says so
 pub no_head_answered : (stands : State → Type 0) (leaves : State → State → Type 0) (door : Door) (s : State)
-    (m : sent.Message) (result : Result Answer ServeFault) (page : Page) → IsTaken taken.NoHead m
+    (m : sent.Message) (result : Result Answer ServeFault) (page : shown.Page) → IsTaken taken.NoHead m
     → page_said page ≡ refused_page BadHead → LaidOut result (page_said page) false true → stands s
     → Answers stands leaves s door m result
 no_head_answered stands leaves door s sent.NoHead (Ok answer) page is said out here =
@@ -46,71 +48,79 @@ no_head_answered stands leaves door s sent.NoHead (Err fault) page is said out h
     subst (λ f. Answers stands leaves s door sent.NoHead (Err f)) (sym out.memory) (inl here)
 no_head_answered stands leaves door s (sent.Asks h body) result page is said out here = absurd is
 
+-- this is what the head of a request is refused for at a door
+abbrev pub IsRefusedAt : Door → Request → Option Refusal → Type 0
+IsRefusedAt door r why =
+    (parts : Parts) (body : List ℕ) → IsRequest r parts body → why ≡ refusal_at door parts
+
 -- a request gets the page that reports its outcome
 pub request_answered : (stands : State → Type 0) (leaves : State → State → Type 0) (door : Door) (s : State)
-    (r : Request) (m : sent.Message) (result : Result Answer ServeFault) (page : Page) (closes : Bool)
-    → IsTaken (taken.Asks r) m
-    → ((parts : Parts) (body : List ℕ) → IsRequest r parts body → Tells stands leaves s door parts body (Ok page))
-    → closes ≡ (is_some r.complaint || r.closes) → LaidOut result (page_said page) r.is_head closes
+    (r : Request) (why : Option Refusal) (m : sent.Message) (result : Result Answer ServeFault) (page : shown.Page) (closes : Bool)
+    → IsTaken (taken.Asks r) m → IsRefusedAt door r why
+    → ((parts : Parts) (body : List ℕ) → IsRequest r parts body → why ≡ refusal_at door parts → Tells stands leaves s door parts body (Ok page))
+    → closes ≡ (is_some why || r.closes) → LaidOut result (page_said page) r.is_head closes
     → Answers stands leaves s door m result
-request_answered stands leaves door s r sent.NoHead result page closes is told ends out = absurd is
-request_answered stands leaves door s r (sent.Asks h body) (Ok answer) page closes is told ends out =
+request_answered stands leaves door s r why sent.NoHead result page closes is refused told ends out = absurd is
+request_answered stands leaves door s r why (sent.Asks h body) (Ok answer) page closes is refused told ends out =
     let parts = parts_of h in
-    let closing : closes ≡ (is_some (complaint_of parts) || asks_to_close parts) =
-    ends ∙ ap (λ c. is_some c || r.closes) is.complaint ∙ ap (λ c. is_some (complaint_of parts) || c) is.closes in (
+    let at : why ≡ refusal_at door parts = refused parts body is in
+    let closing : closes ≡ (is_some (refusal_at door parts) || asks_to_close parts) =
+    ends ∙ ap (λ c. is_some c || r.closes) at ∙ ap (λ c. is_some (refusal_at door parts) || c) is.closes in (
       (
         record {
           page = page_said page;
-          says = (told parts body is).0;
+          says = (told parts body is at).0;
           text = out.bytes ∙ ap (λ head. page_text head closes (page_said page)) is.is_head
               ∙ ap (λ c. page_text (is_method (codes "HEAD") parts) c (page_said page)) closing;
         },
         out.closes ∙ closing,
       ),
-      (told parts body is).1,
+      (told parts body is at).1,
     )
-request_answered stands leaves door s r (sent.Asks h body) (Err fault) page closes is told ends out =
+request_answered stands leaves door s r why (sent.Asks h body) (Err fault) page closes is refused told ends out =
     subst (λ f. Answers stands leaves s door (sent.Asks h body) (Err f)) (sym out.memory)
-    (inr (told (parts_of h) body is).1)
+    (inr (told (parts_of h) body is (refused (parts_of h) body is)).1)
 
 -- a request that met a fault leaves the states of that fault
 pub request_failed : (stands : State → Type 0) (leaves : State → State → Type 0) (door : Door) (s : State)
-    (r : Request) (m : sent.Message) (fault : ServeFault) → IsTaken (taken.Asks r) m
-    → ((parts : Parts) (body : List ℕ) → IsRequest r parts body → Tells stands leaves s door parts body (Err fault))
+    (r : Request) (why : Option Refusal) (m : sent.Message) (fault : ServeFault) → IsTaken (taken.Asks r) m → IsRefusedAt door r why
+    → ((parts : Parts) (body : List ℕ) → IsRequest r parts body → why ≡ refusal_at door parts → Tells stands leaves s door parts body (Err fault))
     → Answers stands leaves s door m (Err fault)
-request_failed stands leaves door s r sent.NoHead fault is told = absurd is
-request_failed stands leaves door s r (sent.Asks h body) Memory is told = told (parts_of h) body is
-request_failed stands leaves door s r (sent.Asks h body) Store is told = told (parts_of h) body is
-request_failed stands leaves door s r (sent.Asks h body) Read is told = absurd (told (parts_of h) body is)
-request_failed stands leaves door s r (sent.Asks h body) Write is told = absurd (told (parts_of h) body is)
+request_failed stands leaves door s r why sent.NoHead fault is refused told = absurd is
+request_failed stands leaves door s r why (sent.Asks h body) Memory is refused told = told (parts_of h) body is (refused (parts_of h) body is)
+request_failed stands leaves door s r why (sent.Asks h body) Store is refused told = told (parts_of h) body is (refused (parts_of h) body is)
+request_failed stands leaves door s r why (sent.Asks h body) Read is refused told = absurd (told (parts_of h) body is (refused (parts_of h) body is))
+request_failed stands leaves door s r why (sent.Asks h body) Write is refused told = absurd (told (parts_of h) body is (refused (parts_of h) body is))
 
 -- Whether a page closes.
 
 -- bytes that are no head close
-pub no_head_closes : (m : sent.Message) → IsTaken taken.NoHead m → true ≡ closes m
-no_head_closes sent.NoHead is = refl
-no_head_closes (sent.Asks h body) is = absurd is
+pub no_head_closes : (door : Door) (m : sent.Message) → IsTaken taken.NoHead m → true ≡ closes door m
+no_head_closes door sent.NoHead is = refl
+no_head_closes door (sent.Asks h body) is = absurd is
 
--- a request closes by its complaint, or where it asks to close
-pub request_closes : (r : Request) (c : Bool) → c ≡ (is_some r.complaint || r.closes) → (m : sent.Message)
-    → IsTaken (taken.Asks r) m → c ≡ closes m
-request_closes r c ends sent.NoHead is = absurd is
-request_closes r c ends (sent.Asks h body) is =
-    ends ∙ ap (λ w. is_some w || r.closes) is.complaint ∙ ap (λ w. is_some (complaint_of (parts_of h)) || w) is.closes
+-- a request closes where its head is refused, or where it asks to close
+pub request_closes : (door : Door) (r : Request) (why : Option Refusal) (c : Bool) → IsRefusedAt door r why
+    → c ≡ (is_some why || r.closes) → (m : sent.Message) → IsTaken (taken.Asks r) m → c ≡ closes door m
+request_closes door r why c refused ends sent.NoHead is = absurd is
+request_closes door r why c refused ends (sent.Asks h body) is =
+    ends ∙ ap (λ w. is_some w || r.closes) (refused (parts_of h) body is)
+    ∙ ap (λ w. is_some (refusal_at door (parts_of h)) || w) is.closes
 
 -- a page that was laid out closes as it was to
-pub page_closes : (message : Message) (result : Result Answer ServeFault) (c : Bool)
+pub page_closes : (door : Door) (message : Message) (result : Result Answer ServeFault) (c : Bool)
     → IfOk result (λ answer. answer.closes ≡ c)
-    → ((m : sent.Message) → IsTaken message m → c ≡ closes m)
-    → IfOk result (λ answer. (m : sent.Message) → IsTaken message m → answer.closes ≡ closes m)
-page_closes message (Ok answer) c is as_said = λ m taken. is ∙ as_said m taken
-page_closes message (Err fault) c is as_said = tt
+    → ((m : sent.Message) → IsTaken message m → c ≡ closes door m)
+    → IfOk result (λ answer. (m : sent.Message) → IsTaken message m → answer.closes ≡ closes door m)
+page_closes door message (Ok answer) c is as_said = λ m taken. is ∙ as_said m taken
+page_closes door message (Err fault) c is as_said = tt
 
 -- Whether the desk is asked to stop.
 
 -- bytes that are no head ask nothing
 pub no_head_stops : (door : Door) (m : sent.Message) → IsTaken taken.NoHead m → false ≡ stops door m
 no_head_stops Port m is = refl
+no_head_stops (Page site) m is = refl
 no_head_stops House sent.NoHead is = refl
 no_head_stops House (sent.Asks h body) is = absurd is
 

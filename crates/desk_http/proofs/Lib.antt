@@ -1,4 +1,5 @@
 pub mod UnfinishedLemmas
+pub mod MineLemmas
 pub mod DemandLemmas
 pub mod AnswerLemmas
 pub mod ServeLemmas

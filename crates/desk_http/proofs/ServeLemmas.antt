@@ -41,10 +41,10 @@ pub after_more : (s : State) (ms : List sent.Message) (m : sent.Message)
 after_more s [] m = refl
 after_more s (first ∷ ms) m = after_more (state_after Port s first) ms m
 
-open_more : (ms : List sent.Message) (m : sent.Message) → stays_open ms ≡ true → closes m ≡ false
+open_more : (ms : List sent.Message) (m : sent.Message) → stays_open ms ≡ true → closes Port m ≡ false
     → stays_open (ms ++ m ∷ []) ≡ true
 open_more [] m stays other = ap (λ c. if c then false else true) other
-open_more (first ∷ ms) m stays other = go (closes first) stays (λ more. open_more ms m more other)
+open_more (first ∷ ms) m stays other = go (closes Port first) stays (λ more. open_more ms m more other)
   where
     go : (c : Bool) → (if c then false else stays_open ms) ≡ true → (stays_open ms ≡ true → stays_open (ms ++ m ∷ []) ≡ true)
         → (if c then false else stays_open (ms ++ m ∷ [])) ≡ true
@@ -159,7 +159,7 @@ pub record HasMore (x : Scene) (s : State) (input : List ℕ) (rest : Option (Li
   pub rest_is : rest ≡ Some left
   pub answered : Answered s input (messages ++ last ∷ []) left pages
   pub stays : stays_open messages ≡ true
-  pub closing : answer.closes ≡ closes last
+  pub closing : answer.closes ≡ closes Port last
   pub sent : Wrote x (concat pages)
   pub stands : x.stands (state_after_all s (messages ++ last ∷ []))
   pub counted : count + 1 ≡ length pages

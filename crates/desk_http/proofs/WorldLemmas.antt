@@ -1,6 +1,6 @@
 -- How an execution continues with the messages of a connection. For serve.
 use Rattle.std.proofs.Common.{◌≡◌, ◌≤◌, ◌∙◌, ap, sym, subst, refl, inl, inr, arith, List, [], ◌∷◌, ◌++◌, ℕ, Bool, true, false, if◌then◌else◌, length, append_assoc, append-nil, IsTrue}
-use Rattle.std.specs.Prelude.{Option, Some, None, Result, Ok, Err, IfOk, IfErr, IfSome}
+use Rattle.std.specs.Prelude.{Option, Some, None, Result, Ok, Err, IfOk, IfErr, IfSome, codes}
 use Rattle.serde_json.specs.Data.{Data}
 use Rattle.plan.specs.PlanModel.{Planned}
 use Rattle.plan.specs.PlanJson.{plan_in_json}
@@ -10,27 +10,31 @@ use Rattle.commands.specs.BatchData.{Batched}
 use Rattle.commands.specs.Request as asks
 use Rattle.commands.specs.Request.{Request}
 use Rattle.commands.specs.declared.refusals.Refusal.{Refusal}
+use Rattle.commands.specs.declared.refusals.Refusal.TheVariants.{WrongMethod}
 use Rattle.allotment_csv.specs.Files.{batch_of}
 use Rattle.allotment_csv.specs.declared.faults.CsvFault.{CsvFault}
 use Rattle.allotment_csv.specs.declared.faults.CsvFault.TheVariants as csv
 use Rattle.allotment_csv.proofs.LimitLemmas.{batch_keeps_limits}
 use Rattle.ledger.specs.Answer.{State, start, is_request}
 use Rattle.ledger.specs.World.{Moment, after}
-use Rattle.http_messages.specs.Heads.{Parts, agent_of, complaint_of, is_unnamed, parts_of}
+use Rattle.http_messages.specs.Heads.{Parts, agent_of, is_method, is_unnamed, parts_of}
 use Rattle.http_messages.specs.Messages as sent
 use Rattle.http_messages.specs.Messages.{Message, NoHead, BeginsWithAll}
 use Rattle.http_pages.specs.declared.admitting.Denied.{Denied}
+use Rattle.http_pages.specs.declared.answers.HtmlPage.{HtmlPage}
+use Rattle.http_pages.specs.declared.verbs.Verb.TheVariants.{Get}
 use Rattle.http_pages.specs.declared.routes.Route.{Route}
-use Rattle.http_pages.specs.declared.routes.Route.TheVariants.{LoadBatch, Begin, Step, Abort, Save, ShowJourney, ShowPlan, ShowUnfinished, ShowStock}
+use Rattle.http_pages.specs.declared.routes.Route.TheVariants.{LoadBatch, Begin, Step, Abort, Save, ShowJourney, ShowPlan, ShowUnfinished, ShowStock, ShowMine, ShowHealth}
 use Rattle.saga_core.specs.Runs as runs
 use Rattle.saga_core.specs.Runs.{Asks}
 use Rattle.saga_core.specs.Worlds.{KeepLimits, StandsAtEnd, EndsAmong}
 use Rattle.saga_core.proofs.WorldLemmas.{KeepLimits-append, ends-with, ends-after, ends-cut}
-use Rattle.desk_http.specs.Demands.{Carry, Sender, Stop, admitted_by, admitted_of_house, agents_demand, asked_by, asked_if, asked_of_house, asks_to_stop, bare, begin_by, begin_of, carried, carried_by, demand_of, demanded, denied_by, load_of, sender_of, value_in}
+use Rattle.desk_http.specs.Demands.{Carry, SeePage, Sender, Stop, admitted_by, admitted_of_house, agents_demand, asked_by, asked_by_nobody, asked_if, asks_for_page, asked_of_house, asks_to_stop, bare, begin_by, begin_of, carried, carried_by, demand_of, demanded, denied_by, load_of, sender_of, value_in}
+use Rattle.desk_http.specs.Hosts.{refusal_at}
 use Rattle.desk_http.specs.declared.doors.Asker.{Asker}
 use Rattle.desk_http.specs.declared.doors.Asker.TheVariants as who
 use Rattle.desk_http.specs.declared.doors.Door.{Door}
-use Rattle.desk_http.specs.declared.doors.Door.TheVariants.{Port, House}
+use Rattle.desk_http.specs.declared.doors.Door.TheVariants.{Port, House, Page}
 use Rattle.desk_http.specs.Pages.{Command, command_in, state_after, state_after_all, state_by, stays_open}
 use Rattle.protocols.specs.Scenes.{Scene}
 use Rattle.desk_http.specs.Serving.{Answered, Leaves, ServesAll, ServesSome}
@@ -91,6 +95,22 @@ demanded_within (ShowJourney id) sender c = λ same. cc
 demanded_within (ShowPlan id) sender c = λ same. cc
 demanded_within ShowUnfinished sender c = λ same. cc
 demanded_within ShowStock sender c = λ same. cc
+demanded_within (ShowMine after) sender c = λ same. cc
+demanded_within ShowHealth sender c = λ same. cc
+
+-- a request without an agent makes no command
+nobody_within : (route : Route) (c : Command) → asked_by_nobody route ≡ Ok (Carry c.0 c.1) → IsTrue (is_request c.0)
+nobody_within ShowHealth c = λ same. cc
+nobody_within (LoadBatch name) c = λ same. cc
+nobody_within Begin c = λ same. cc
+nobody_within (Step id) c = λ same. cc
+nobody_within (Abort id position) c = λ same. cc
+nobody_within (Save id) c = λ same. cc
+nobody_within (ShowJourney id) c = λ same. cc
+nobody_within (ShowPlan id) c = λ same. cc
+nobody_within ShowUnfinished c = λ same. cc
+nobody_within ShowStock c = λ same. cc
+nobody_within (ShowMine after) c = λ same. cc
 
 -- those of agents
 asked_within : (found : Result Route Denied) (parts : Parts) (body : List ℕ) (c : Command)
@@ -100,7 +120,7 @@ asked_within (Ok route) parts body c = go (agent_of parts)
   where
     go : (agent : Option (List ℕ)) → asked_by agent parts body route ≡ Ok (Carry c.0 c.1) → IsTrue (is_request c.0)
     go (Some agent) = demanded_within route (sender_of (who.Agent agent) parts body) c
-    go None = λ same. cc
+    go None = nobody_within route c
 
 -- those of the house
 house_within : (found : Result Route Denied) (parts : Parts) (body : List ℕ) (c : Command)
@@ -116,9 +136,18 @@ at_house_within true true parts body c = λ same. cc
 at_house_within true false parts body c = house_within (admitted_of_house parts) parts body c
 at_house_within false stop parts body c = asked_within (admitted_by parts) parts body c
 
+-- those at the door with a page
+at_page_within : (wanted got : Bool) (page : HtmlPage) (parts : Parts) (body : List ℕ) (c : Command)
+    → (if wanted then (if got then Ok (SeePage page) else Err (record { refusal = WrongMethod; allow = Some Get })) else agents_demand parts body)
+    ≡ Ok (Carry c.0 c.1) → IsTrue (is_request c.0)
+at_page_within true true page parts body c = λ same. cc
+at_page_within true false page parts body c = λ same. cc
+at_page_within false got page parts body c = asked_within (admitted_by parts) parts body c
+
 demand_within : (door : Door) (parts : Parts) (body : List ℕ) (c : Command)
     → demand_of door parts body ≡ Ok (Carry c.0 c.1) → IsTrue (is_request c.0)
 demand_within Port parts body c = asked_within (admitted_by parts) parts body c
+demand_within (Page site) parts body c = at_page_within (asks_for_page parts) (is_method (codes "GET") parts) site.page parts body c
 demand_within House parts body c = at_house_within (is_unnamed parts) (asks_to_stop parts) parts body c
 
 -- the command of a message keeps the limits
@@ -126,7 +155,7 @@ pub limits_of : (door : Door) (m : Message) (c : Command) → command_in door m 
 limits_of door NoHead c = λ same. cc
 limits_of door (sent.Asks h body) c = λ same.
     let parts = parts_of h in
-    demand_within door parts body c (carry_of (complaint_of parts) (demand_of door parts body) c same).1
+    demand_within door parts body c (carry_of (refusal_at door parts) (demand_of door parts body) c same).1
 
 -- the commands of messages keep the limits
 pub by-in_limits : (o : Option Command) (rest : Asks) → ((c : Command) → o ≡ Some c → IsTrue (is_request c.0))

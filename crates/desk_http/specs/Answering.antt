@@ -1,11 +1,12 @@
 -- The answer to a message, and the state of the book after it.
 use Rattle.std.specs.Prelude.{◌≡◌, ◌⊎◌, ℕ, List, Result, Ok, Err}
 use Rattle.ledger.specs.Answer.{State}
-use Rattle.http_messages.specs.Heads.{Parts, complaint_of}
+use Rattle.http_messages.specs.Heads.{Parts}
 use Rattle.http_messages.specs.Messages.{Message}
 use Rattle.http_pages.specs.Pages.{page_said}
 use Rattle.http_pages.specs.declared.answers.Page.{Page}
 use Rattle.desk_http.specs.Demands.{Demand, demand_of}
+use Rattle.desk_http.specs.Hosts.{refusal_at}
 use Rattle.desk_http.specs.Pages.{IsPage, Says, SaysUnless, closes, command_by, command_unless, state_after, state_by}
 use Rattle.desk_http.specs.declared.answering.Answer.{Answer}
 use Rattle.desk_http.specs.declared.doors.Door.{Door}
@@ -32,10 +33,10 @@ module _ (stands : State → Type 0) (leaves : State → State → Type 0) (s : 
   -- the page reports the outcome of a request with these parts and this body, whose head may be refused
   abbrev pub Tells : Door → Parts → List ℕ → Result Page ServeFault → Type 0
   Tells door parts body result =
-      Comes (state_by s (command_unless (complaint_of parts) (demand_of door parts body)))
-      (λ page. SaysUnless (complaint_of parts) door s parts body (page_said page)) result
+      Comes (state_by s (command_unless (refusal_at door parts) (demand_of door parts body)))
+      (λ page. SaysUnless (refusal_at door parts) door s parts body (page_said page)) result
 
   -- these are the bytes of the page of a message that came in at a door
   abbrev pub Answers : Door → Message → Result Answer ServeFault → Type 0
   Answers door m result =
-      Comes (state_after door s m) (λ answer. IsPage door s m answer.bytes.items × (answer.closes ≡ closes m)) result
+      Comes (state_after door s m) (λ answer. IsPage door s m answer.bytes.items × (answer.closes ≡ closes door m)) result

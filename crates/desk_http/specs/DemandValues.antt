@@ -11,7 +11,7 @@ use Rattle.http_pages.specs.declared.admitting.Denied.{Denied}
 use Rattle.desk_http.specs.Demands as sent
 pub use Rattle.desk_http.specs.Demands.{denied_by}
 use Rattle.desk_http.specs.declared.demands.Demand.{Demand}
-use Rattle.desk_http.specs.declared.demands.Demand.TheVariants.{Carry, SeeJourney, SeePlan, SeeUnfinished, SeeStock, Stop}
+use Rattle.desk_http.specs.declared.demands.Demand.TheVariants.{Carry, SeeJourney, SeePlan, SeeUnfinished, SeeMine, SeeStock, SeeHealth, SeePage, Stop}
 use Rattle.desk_http.specs.declared.demands.Unmet.{Unmet}
 use Rattle.desk_http.specs.declared.demands.Unmet.TheVariants.{Refused, Memory}
 use Rattle.desk_http.specs.declared.senders.Sender.{Sender}
@@ -35,7 +35,10 @@ demand_said (Carry command ask) = sent.Carry (request_of command) ask
 demand_said (SeeJourney asker id) = sent.SeeJourney asker id
 demand_said (SeePlan asker id) = sent.SeePlan asker id
 demand_said (SeeUnfinished asker) = sent.SeeUnfinished asker
+demand_said (SeeMine asker after) = sent.SeeMine asker after
 demand_said SeeStock = sent.SeeStock
+demand_said SeeHealth = sent.SeeHealth
+demand_said (SeePage page) = sent.SeePage page
 demand_said Stop = sent.Stop
 
 -- the value is the command of this request, or the refusal of it, or out of memory

@@ -20,8 +20,10 @@ use Rattle.http_messages.specs.Heads.{Parts, agent_of, is_method, is_unnamed, ke
 use Rattle.http_pages.specs.Admitting.{admitted, plain}
 use Rattle.http_pages.specs.Routes.{route_of}
 use Rattle.http_pages.specs.declared.admitting.Denied.{Denied}
+use Rattle.http_pages.specs.declared.answers.HtmlPage.{HtmlPage}
 use Rattle.http_pages.specs.declared.routes.Route.{Route}
-use Rattle.http_pages.specs.declared.routes.Route.TheVariants.{LoadBatch, Begin, Step, Abort, Save, ShowJourney, ShowPlan, ShowUnfinished, ShowStock}
+use Rattle.http_pages.specs.declared.routes.Route.TheVariants.{LoadBatch, Begin, Step, Abort, Save, ShowJourney, ShowPlan, ShowUnfinished, ShowStock, ShowMine, ShowHealth}
+use Rattle.http_pages.specs.declared.verbs.Verb.TheVariants.{Get}
 use Rattle.desk_http.specs.declared.doors.Asker.{Asker}
 use Rattle.desk_http.specs.declared.doors.Asker.TheVariants as who
 use Rattle.desk_http.specs.declared.doors.Door.{Door}
@@ -61,13 +63,17 @@ bare (byte ∷ later) asked = Err refusal.BadBody
 
 -- The demand of a request.
 
--- a command to execute, of an agent under a key or of the house; a view for whoever asks; or that the desk stops
+-- a command to execute, of an agent under a key or of the house; a view for whoever asks, or for anybody; or that the
+-- desk stops
 pub data Demand : Type 0 where
   Carry : (asked : Request) (ask : Option Asked) → Demand
   SeeJourney : (asker : Asker) (id : ℕ) → Demand
   SeePlan : (asker : Asker) (id : ℕ) → Demand
   SeeUnfinished : (asker : Asker) → Demand
+  SeeMine : (asker : Asker) (after : ℕ) → Demand
   SeeStock : Demand
+  SeeHealth : Demand
+  SeePage : (page : HtmlPage) → Demand
   Stop : Demand
 
 -- who sends a request, its key, its target and its body
@@ -104,6 +110,8 @@ demanded (ShowJourney id) sender = Ok (SeeJourney sender.asker id)
 demanded (ShowPlan id) sender = Ok (SeePlan sender.asker id)
 demanded ShowUnfinished sender = Ok (SeeUnfinished sender.asker)
 demanded ShowStock sender = Ok SeeStock
+demanded (ShowMine after) sender = Ok (SeeMine sender.asker after)
+demanded ShowHealth sender = Ok SeeHealth
 
 -- a refusal that does not depend on the method
 abbrev pub denied_by : {X : Type 0} → Result X Refusal → Result X Denied
@@ -117,11 +125,16 @@ sender_of asker parts body =
 
 -- At the port.
 
--- the demand of an agent on a route; a request without an agent is refused
+-- without an agent a request is refused, unless it is for how many events and journeys there are
+abbrev pub asked_by_nobody : Route → Result Demand Denied
+asked_by_nobody ShowHealth = Ok SeeHealth
+asked_by_nobody _ = Err (plain refusal.NoAgent)
+
+-- the demand of an agent on a route, or of a request without one
 abbrev pub asked_by : Option (List ℕ) → Parts → List ℕ → Route → Result Demand Denied
 asked_by (Some agent) parts body route =
     denied_by (demanded route (sender_of (who.Agent agent) parts body))
-asked_by None parts body route = Err (plain refusal.NoAgent)
+asked_by None parts body route = asked_by_nobody route
 
 -- the demand of a request whose head was admitted
 abbrev pub asked_if : Result Route Denied → Parts → List ℕ → Result Demand Denied
@@ -159,8 +172,23 @@ abbrev pub house_demand : Parts → List ℕ → Result Demand Denied
 house_demand parts body =
     if asks_to_stop parts then Ok Stop else asked_of_house (admitted_of_house parts) parts body
 
--- the demand of a request at a door: at the house's, one that names nobody is the house's
+-- At the door with a page.
+
+-- its target is that of the page for browsers
+abbrev pub asks_for_page : Parts → Bool
+asks_for_page parts = bytes_eq parts.target (codes "/")
+
+-- the page for browsers, which has the method GET and is for anybody
+abbrev pub page_demand : HtmlPage → Parts → Result Demand Denied
+page_demand page parts =
+    if is_method (codes "GET") parts then Ok (SeePage page)
+    else Err (record { refusal = refusal.WrongMethod; allow = Some Get })
+
+-- the demand of a request at a door: at the house's, one that names nobody is the house's; at that with a page, one for
+-- the page gets it
 abbrev pub demand_of : Door → Parts → List ℕ → Result Demand Denied
 demand_of doors.Port parts body = agents_demand parts body
 demand_of doors.House parts body =
     if is_unnamed parts then house_demand parts body else agents_demand parts body
+demand_of (doors.Page site) parts body =
+    if asks_for_page parts then page_demand site.page parts else agents_demand parts body

@@ -1,3 +1,4 @@
+pub mod Hosts
 pub mod Demands
 pub mod DemandValues
 pub mod Pages

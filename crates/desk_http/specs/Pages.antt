@@ -1,26 +1,28 @@
 -- The page of a message, and the state of the desk after it.
-use Rattle.std.specs.Prelude.{◌≡◌, ℕ, ◌&&◌, ◌||◌, not, Bool, true, false, List, [], ◌∷◌, filter, bytes_eq, codes, if◌then◌else◌, Option, Some, None, is_some, option_and_then, Result, Ok, Err}
+use Rattle.std.specs.Prelude.{◌≡◌, ℕ, ◌&&◌, ◌||◌, not, Bool, true, false, List, [], ◌∷◌, filter, filter_map, take, bytes_eq, codes, if◌then◌else◌, Option, Some, None, is_some, option_and_then, Result, Ok, Err}
 use Rattle.allotment.specs.declared.cells.Cell.{Cell}
 use Rattle.allotment.specs.declared.places.Held.{Held}
 use Rattle.commands.specs.Asks.{Asked}
+use Rattle.commands.specs.Names.{house}
 use Rattle.commands.specs.Request.{Request}
 use Rattle.commands.specs.declared.refusals.Refusal.{Refusal}
 use Rattle.commands.specs.declared.refusals.Refusal.TheVariants.{BadHead, NoJourney}
 use Rattle.ledger.specs.Answer.{State, outcome}
-use Rattle.ledger.specs.Ledger.{Event, history}
-use Rattle.saga_core.specs.Views.{IsStock, record_of, unfinished_of}
+use Rattle.ledger.specs.Ledger.{Event, history, numbers}
+use Rattle.saga_core.specs.Views.{IsStock, brief_of, counts_of, is_owned_above, record_of, unfinished_of}
 use Rattle.saga_core.specs.declared.records.Brief.{Brief}
 use Rattle.saga_core.specs.declared.records.Record.{Record}
-use Rattle.http_messages.specs.Heads.{Parts, asks_to_close, complaint_of, is_method, is_unnamed, parts_of}
+use Rattle.http_messages.specs.Heads.{Parts, asks_to_close, is_method, is_unnamed, parts_of}
 use Rattle.http_messages.specs.Messages.{Message, NoHead, Asks}
-use Rattle.http_pages.specs.Bodies.{journey_data, stopping_data, unfinished_data}
+use Rattle.http_pages.specs.Bodies.{health_data, journey_data, mine_data, stopping_data, unfinished_data}
 use Rattle.http_pages.specs.declared.bodies.Owners.TheVariants.{Hidden, Shown}
 use Rattle.serde_json.specs.Data.{Data}
 use Rattle.plan.specs.PlanData.{plan_data}
-use Rattle.http_pages.specs.Pages.{Paged, denied_page, page_text, refused_page, reply_page, report_page, value_page}
+use Rattle.http_pages.specs.Pages.{Paged, browsed_page, denied_page, page_text, refused_page, reply_page, report_page, value_page}
 use Rattle.http_pages.specs.declared.admitting.Denied.{Denied}
 use Rattle.reports.specs.Layouts.{stock_report}
-use Rattle.desk_http.specs.Demands.{Demand, Carry, SeeJourney, SeePlan, SeeUnfinished, SeeStock, Stop, asks_to_stop, demand_of}
+use Rattle.desk_http.specs.Demands.{Demand, Carry, SeeJourney, SeePlan, SeeUnfinished, SeeMine, SeeStock, SeeHealth, SeePage, Stop, asks_to_stop, demand_of}
+use Rattle.desk_http.specs.Hosts.{refusal_at}
 use Rattle.desk_http.specs.declared.doors.Asker.{Asker}
 use Rattle.desk_http.specs.declared.doors.Asker.TheVariants as who
 use Rattle.desk_http.specs.declared.doors.Door.{Door}
@@ -52,6 +54,24 @@ plan_page None = refused_page NoJourney
 abbrev pub own_unfinished : List Event → Asker → List Brief
 own_unfinished l asker = filter (λ (b : Brief). sees asker b.agent) (unfinished_of l)
 
+-- whose journeys are who asks's own: the agent's, and for the house those of the agent `desk`
+abbrev pub owner_of : Asker → List ℕ
+owner_of (who.Agent agent) = agent
+owner_of who.House = house
+
+-- the journeys of this agent above a number, finished ones too
+abbrev pub owned_above : List Event → List ℕ → ℕ → List Brief
+owned_above l agent after = filter (is_owned_above agent after) (filter_map (brief_of l) (numbers l))
+
+-- the first hundred of the own journeys of who asks above a number, by rising number
+abbrev pub mine_of : List Event → Asker → ℕ → List Brief
+mine_of l asker after = take 100 (owned_above l (owner_of asker) after)
+
+-- own journeys as they are shown: to the house each with its agent
+abbrev pub mine_shown : Asker → List Brief → Data
+mine_shown (who.Agent agent) briefs = mine_data Hidden briefs
+mine_shown who.House briefs = mine_data Shown briefs
+
 -- unfinished journeys as they are shown: to the house each with its agent
 abbrev pub unfinished_shown : Asker → List Brief → Data
 unfinished_shown (who.Agent agent) briefs = unfinished_data Hidden briefs
@@ -73,7 +93,11 @@ Says s (Ok (SeeJourney asker id)) page = page ≡ journey_page s.ledger id (own_
 Says s (Ok (SeePlan asker id)) page = page ≡ plan_page (own_journey s.ledger asker id)
 Says s (Ok (SeeUnfinished asker)) page =
     page ≡ value_page (unfinished_shown asker (own_unfinished s.ledger asker))
+Says s (Ok (SeeMine asker after)) page =
+    page ≡ value_page (mine_shown asker (mine_of s.ledger asker after))
 Says s (Ok SeeStock) page = ShowsStock s.ledger page
+Says s (Ok SeeHealth) page = page ≡ value_page (health_data (counts_of s.ledger))
+Says s (Ok (SeePage html)) page = page ≡ browsed_page html.text.now html.policy.now
 Says s (Ok Stop) page = page ≡ value_page stopping_data
 
 -- a head that is refused gets that refusal, and any other head gets the outcome of its demand
@@ -82,22 +106,23 @@ SaysUnless (Some why) door s parts body page = page ≡ refused_page why
 SaysUnless None door s parts body page = Says s (demand_of door parts body) page
 
 -- the page closes: the connection ends after it
-abbrev pub closes : Message → Bool
-closes NoHead = true
-closes (Asks h body) = is_some (complaint_of (parts_of h)) || asks_to_close (parts_of h)
+abbrev pub closes : Door → Message → Bool
+closes door NoHead = true
+closes door (Asks h body) = is_some (refusal_at door (parts_of h)) || asks_to_close (parts_of h)
 
 -- the message is a request of the house that the desk stop
 abbrev pub stops : Door → Message → Bool
 stops doors.Port m = false
+stops (doors.Page site) m = false
 stops doors.House NoHead = false
 stops doors.House (Asks h body) =
-    is_unnamed (parts_of h) && asks_to_stop (parts_of h) && not (is_some (complaint_of (parts_of h)))
+    is_unnamed (parts_of h) && asks_to_stop (parts_of h) && not (is_some (refusal_at doors.House (parts_of h)))
 
 -- the page's bytes, by what it reports
 pub record IsPageOf (door : Door) (s : State) (m : Message) (parts : Parts) (body bytes : List ℕ) : Type 0 where
   pub page : Paged
-  pub says : SaysUnless (complaint_of parts) door s parts body page
-  pub text : bytes ≡ page_text (is_method (codes "HEAD") parts) (closes m) page
+  pub says : SaysUnless (refusal_at door parts) door s parts body page
+  pub text : bytes ≡ page_text (is_method (codes "HEAD") parts) (closes door m) page
 
 -- these are the bytes of the page of a message that came in at a door
 abbrev pub IsPage : Door → State → Message → List ℕ → Type 0
@@ -116,7 +141,10 @@ command_by (Ok (Carry asked ask)) = Some (asked, ask)
 command_by (Ok (SeeJourney asker id)) = None
 command_by (Ok (SeePlan asker id)) = None
 command_by (Ok (SeeUnfinished asker)) = None
+command_by (Ok (SeeMine asker after)) = None
 command_by (Ok SeeStock) = None
+command_by (Ok SeeHealth) = None
+command_by (Ok (SeePage html)) = None
 command_by (Ok Stop) = None
 command_by (Err denied) = None
 
@@ -129,7 +157,7 @@ command_unless None demand = command_by demand
 abbrev pub command_in : Door → Message → Option Command
 command_in door NoHead = None
 command_in door (Asks h body) =
-    command_unless (complaint_of (parts_of h)) (demand_of door (parts_of h) body)
+    command_unless (refusal_at door (parts_of h)) (demand_of door (parts_of h) body)
 
 -- a command is executed, and anything else changes nothing
 abbrev pub state_by : State → Option Command → State
@@ -156,4 +184,4 @@ state_after_all s (m ∷ later) = state_after_all (state_after doors.Port s m) l
 -- none of these messages closes
 abbrev pub stays_open : List Message → Bool
 stays_open [] = true
-stays_open (m ∷ later) = if closes m then false else stays_open later
+stays_open (m ∷ later) = if closes doors.Port m then false else stays_open later

@@ -26,7 +26,7 @@ pub record Answered (s : State) (input : List ℕ) (messages : List Message) (re
 abbrev pub EndsWithClosing : List Message → Type 0
 EndsWithClosing messages =
     (front : List Message) × (last : Message) × (messages ≡ front ++ last ∷ [])
-    × (stays_open front ≡ true) × (closes last ≡ true)
+    × (stays_open front ≡ true) × (closes Port last ≡ true)
 
 -- none of these messages closes, and no message follows them
 abbrev pub EndsWithInput : List Message → List ℕ → Type 0

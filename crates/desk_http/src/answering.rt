@@ -9,11 +9,14 @@ ghost use Rattle.http_pages.specs.Pages.{page_said, page_text};
 ghost use Rattle.desk_http.specs.Answering.{Answers, Meets, Tells};
 ghost use Rattle.desk_http.specs.DemandValues.{demand_said};
 ghost use Rattle.http_messages.specs.declared.requests.Message.TheVariants as taken;
+ghost use Rattle.desk_http.specs.Hosts.{refusal_at};
 ghost use Rattle.desk_http.specs.Pages.{closes, stops};
 
 use crate::demands::{Demand, Unmet, asks_to_stop, demand_in};
 use crate::doors::Door;
-use crate::showing::{see_journey, see_plan, see_stock, see_unfinished};
+use crate::hosts::refusal_at;
+use crate::mine::see_mine;
+use crate::showing::{see_health, see_journey, see_plan, see_stock, see_unfinished};
 use commands::Refusal;
 use http_messages::{Message, Request};
 use http_pages::{
@@ -73,7 +76,7 @@ pub fn answer_to<B: Book>(
         (m : sent.Message) → IsTaken message.now m →
         Answers (B.stands book.new) (B.leaves book.new) s door m result }
     ensures closes { IfOk result (λ answer. (m : sent.Message) → IsTaken message.now m →
-        answer.closes ≡ closes m) }
+        answer.closes ≡ closes door m) }
     ensures stops { IfOk result (λ answer. (m : sent.Message) → IsTaken message.now m →
         answer.stops ≡ stops door m) }
 
@@ -90,11 +93,12 @@ pub fn answer_to<B: Book>(
             Answer::new(alloc, &page, true, false, false)
         }
         Message::Asks(request) => {
-            let page = page_of(alloc, paths, door, request, book)?;
+            let refusal = refusal_at(alloc, door, request)?;
+            let page = page_of(alloc, paths, door, refusal, request, book)?;
             Answer::new(
                 alloc,
                 &page,
-                closes(request),
+                closes(refusal, request),
                 stops(door, request),
                 request.is_head,
             )
@@ -102,11 +106,11 @@ pub fn answer_to<B: Book>(
     }
 }
 
-/// Whether the connection ends after the page of a request.
-fn closes(request: &Request) -> bool
-    ensures closes { result ≡ (is_some request.now.complaint || request.now.closes) }
+/// Whether the connection ends after the page of a request, whose head is refused, or is not.
+fn closes(refusal: Option<Refusal>, request: &Request) -> bool
+    ensures closes { result ≡ (is_some refusal || request.now.closes) }
 {
-    request.complaint.is_some() || request.closes
+    refusal.is_some() || request.closes
 }
 
 /// Whether a request at a door is one of the house that the desk stop.
@@ -117,6 +121,7 @@ fn stops(door: Door, request: &Request) -> bool
     match door {
         Door::Port => false,
         Door::House => stops_at_house(request),
+        Door::Page(_) => false,
     }
 }
 
@@ -137,16 +142,18 @@ fn is_stop(unnamed: bool, asked: bool, refused: bool) -> bool
     unnamed && asked && !refused
 }
 
-/// The page of a request at a door.
+/// The page of a request at a door, whose head is refused, or is not.
 fn page_of<B: Book>(
     alloc: Global,
     paths: &Paths,
     door: Door,
+    refusal: Option<Refusal>,
     request: &Request,
     book: &mut B,
 ) -> Result<Page, ServeFault>
     ensures page { B.is_sound book.new → (s : State) → B.stands book.old s →
         (parts : Parts) → (body : List ℕ) → IsRequest request.now parts body →
+        refusal ≡ refusal_at door parts →
         Tells (B.stands book.new) (B.leaves book.new) s door parts body result }
 
     ensures failed { IsErrOf result ServeFault.Store → IsTrue (B.has_failed book.new) }
@@ -156,8 +163,8 @@ fn page_of<B: Book>(
 
     ensures sound { B.is_sound book.new → B.is_sound book.old }
 {
-    if let Some(complaint) = &request.complaint {
-        return Ok(refused_page(alloc, complaint)?);
+    if let Some(why) = &refusal {
+        return Ok(refused_page(alloc, why)?);
     }
     match demand_in(alloc, paths, door, request) {
         Ok(demand) => meet(alloc, &demand, book),
@@ -186,7 +193,10 @@ fn meet<B: Book>(alloc: Global, demand: &Demand, book: &mut B) -> Result<Page, S
         Demand::SeeJourney(asker, id) => see_journey(alloc, book, asker, *id),
         Demand::SeePlan(asker, id) => see_plan(alloc, book, asker, *id),
         Demand::SeeUnfinished(asker) => see_unfinished(alloc, book, asker),
+        Demand::SeeMine(asker, after) => see_mine(alloc, book, asker, *after),
         Demand::SeeStock => see_stock(alloc, book),
+        Demand::SeeHealth => see_health(alloc, book),
+        Demand::SeePage(page) => Ok(shown_page(Body::Html(*page))),
         Demand::Stop => Ok(shown_page(Body::Json(stopping_body(alloc)?))),
     }
 }

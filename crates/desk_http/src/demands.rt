@@ -3,16 +3,16 @@ ghost use Rattle.std.specs.Prelude.{◌≡◌, List, ℕ};
 ghost use Rattle.http_messages.specs.Requests.{IsRequest};
 ghost use Rattle.http_messages.specs.Heads.{Parts};
 ghost use Rattle.http_pages.specs.Admitting.{plain};
-ghost use Rattle.desk_http.specs.Demands.{admitted_of_house, agents_demand, asked_of_house, asks_to_stop, demand_of, demanded, house_demand};
+ghost use Rattle.desk_http.specs.Demands.{admitted_of_house, agents_demand, asked_by_nobody, asked_of_house, asks_for_page, asks_to_stop, demand_of, demanded, house_demand, page_demand};
 ghost use Rattle.desk_http.specs.DemandValues.{Demands, denied_by, sender_said};
 ghost use Rattle.desk_http.specs.declared.demands.Unmet.TheVariants.{Memory, Refused};
 
 use crate::bodies::{bare, begin, load};
-use crate::doors::{Asker, Door};
+use crate::doors::{Asker, Door, Site};
 use crate::senders::Sender;
 use commands::{Ask, Command, Refusal};
 use http_messages::Request;
-use http_pages::{Denied, Paths, Route, admit};
+use http_pages::{Denied, HtmlPage, Paths, Route, Verb, admit};
 use std::alloc::{AllocError, Global};
 
 /// The demand of a request with which nothing is wrong.
@@ -26,8 +26,14 @@ pub(crate) enum Demand {
     SeePlan(Asker, u64),
     /// Show who asks its unfinished journeys.
     SeeUnfinished(Asker),
+    /// Show who asks its own journeys above this number.
+    SeeMine(Asker, u64),
     /// Show the stock.
     SeeStock,
+    /// Show how many events and journeys there are.
+    SeeHealth,
+    /// Show the page for browsers.
+    SeePage(HtmlPage),
     /// Stop the desk.
     Stop,
 }
@@ -66,7 +72,7 @@ impl From<AllocError> for Unmet {
 }
 
 /// The demand of a request at a door, or the first thing that is wrong with it. At the house's door a request that names
-/// nobody is the house's.
+/// nobody is the house's; at that with a page one for the page gets it.
 pub(crate) fn demand_in(
     alloc: Global,
     paths: &Paths,
@@ -79,6 +85,7 @@ pub(crate) fn demand_in(
     match door {
         Door::Port => agents_demand(alloc, paths, request),
         Door::House => demand_at_house(alloc, paths, request),
+        Door::Page(site) => demand_at_page(alloc, paths, site, request),
     }
 }
 
@@ -92,6 +99,45 @@ fn demand_at_house(alloc: Global, paths: &Paths, request: &Request) -> Result<De
     } else {
         agents_demand(alloc, paths, request)
     }
+}
+
+/// The demand of a request at the door with a page.
+fn demand_at_page(
+    alloc: Global,
+    paths: &Paths,
+    site: Site,
+    request: &Request,
+) -> Result<Demand, Unmet>
+    ensures demand { (parts : Parts) → (body : List ℕ) → IsRequest request.now parts body →
+        Demands (demand_of (Door.Page site) parts body) result }
+{
+    if asks_for_page(request) {
+        page_demand(site.page, request)
+    } else {
+        agents_demand(alloc, paths, request)
+    }
+}
+
+/// Whether the target of a request is that of the page.
+fn asks_for_page(request: &Request) -> bool
+    ensures page { (parts : Parts) → (body : List ℕ) → IsRequest request.now parts body →
+        result ≡ asks_for_page parts }
+{
+    request.target.as_slice() == b"/".as_slice()
+}
+
+/// The demand of a request for the page, or that its method is another.
+fn page_demand(page: HtmlPage, request: &Request) -> Result<Demand, Unmet>
+    ensures demand { (parts : Parts) → (body : List ℕ) → IsRequest request.now parts body →
+        Demands (page_demand page parts) result }
+{
+    if request.method.as_slice() == b"GET".as_slice() {
+        return Ok(Demand::SeePage(page));
+    }
+    Err(Unmet::from(Denied {
+        refusal: Refusal::WrongMethod,
+        allow: Some(Verb::Get),
+    }))
 }
 
 /// The demand of a request of the house, or the first thing that is wrong with it.
@@ -143,7 +189,7 @@ fn agents_demand(alloc: Global, paths: &Paths, request: &Request) -> Result<Dema
     let is_post = request.method.as_slice() == b"POST".as_slice();
     let route = admit(found, has_agent, has_key, is_post)?;
     let Some(agent) = request.agent else {
-        return Err(Unmet::from(Refusal::NoAgent));
+        return nobodys_demand(route);
     };
     let sender = Sender {
         asker: Asker::Agent(agent),
@@ -152,6 +198,16 @@ fn agents_demand(alloc: Global, paths: &Paths, request: &Request) -> Result<Dema
         body: &request.body,
     };
     demand_by(alloc, route, &sender)
+}
+
+/// The demand of a request without an agent on a route.
+fn nobodys_demand(route: Route) -> Result<Demand, Unmet>
+    ensures demand { Demands (asked_by_nobody route) result }
+{
+    match route {
+        Route::ShowHealth => Ok(Demand::SeeHealth),
+        _ => Err(Unmet::from(Refusal::NoAgent)),
+    }
 }
 
 /// The demand of a sender on a route.
@@ -170,5 +226,7 @@ fn demand_by(alloc: Global, route: Route, sender: &Sender<'_>) -> Result<Demand,
         Route::ShowPlan(id) => Ok(Demand::SeePlan(sender.asker, id)),
         Route::ShowUnfinished => Ok(Demand::SeeUnfinished(sender.asker)),
         Route::ShowStock => Ok(Demand::SeeStock),
+        Route::ShowMine(after) => Ok(Demand::SeeMine(sender.asker, after)),
+        Route::ShowHealth => Ok(Demand::SeeHealth),
     }
 }

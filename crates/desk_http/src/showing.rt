@@ -2,7 +2,9 @@
 ghost use Rattle.std.specs.Prelude.{◌≡◌, IfOk, IsErrOf, IsTrue};
 ghost use Rattle.ledger.specs.Answer.{State};
 ghost use Rattle.saga_core.specs.Books.{LeavesNoMore};
+ghost use Rattle.http_pages.specs.Bodies.{health_data};
 ghost use Rattle.http_pages.specs.Pages.{page_said, value_page};
+ghost use Rattle.saga_core.specs.Views.{counts_of};
 ghost use Rattle.std.specs.String.{string_bytes};
 ghost use Rattle.serde_json.specs.Written.{compact_text};
 ghost use Rattle.desk_http.specs.Pages.{journey_page, plan_page, own_journey, own_unfinished, unfinished_shown, ShowsStock};
@@ -11,7 +13,8 @@ ghost use Rattle.desk_http.specs.Answering.{Shows};
 use crate::doors::Asker;
 use commands::Refusal;
 use http_pages::{
-    Body, Owners, Page, journey_body, plan_body, refused_page, shown_page, unfinished_body,
+    Body, Owners, Page, health_body, journey_body, plan_body, refused_page, shown_page,
+    unfinished_body,
 };
 use protocols::ServeFault;
 use reports::{Format, stock_text};
@@ -173,4 +176,22 @@ pub(crate) fn see_stock<B: Book>(alloc: Global, book: &mut B) -> Result<Page, Se
         Ok(_) => Ok(shown_page(Body::Text(text))),
         Err(_) => Err(ServeFault::Memory),
     }
+}
+
+/// The page of how many events, journeys and unfinished journeys there are.
+pub(crate) fn see_health<B: Book>(alloc: Global, book: &mut B) -> Result<Page, ServeFault>
+    ensures page { B.is_sound book.new → (s : State) → B.stands book.old s →
+        Shows (B.stands book.new) (B.leaves book.new) s
+        (λ page. page_said page ≡ value_page (health_data (counts_of s.ledger))) result }
+
+    ensures failed { IsErrOf result ServeFault.Store → IsTrue (B.has_failed book.new) }
+    ensures stays_failed { IsTrue (B.has_failed book.old) → IsTrue (B.has_failed book.new) }
+    ensures stays_left { IsTrue (B.has_failed book.old) →
+        LeavesNoMore (B.leaves book.old) (B.leaves book.new) }
+
+    ensures sound { B.is_sound book.new → B.is_sound book.old }
+{
+    let counts = book.counts()?;
+    let body = health_body(alloc, counts)?;
+    Ok(shown_page(Body::Json(body)))
 }

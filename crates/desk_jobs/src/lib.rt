@@ -7,6 +7,7 @@
 //! a new desk.
 #![tactic(auto)]
 
+mod field_notes;
 mod loading;
 mod notes;
 mod opening;
@@ -14,6 +15,7 @@ mod recovering;
 mod reporting;
 mod running;
 
+pub use field_notes::note_wrong_field;
 pub use loading::load_over;
 pub use notes::note_recovered;
 pub use opening::ready_over;

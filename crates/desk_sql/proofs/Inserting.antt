@@ -67,7 +67,7 @@ step_params s =
 abbrev pub untouched : StepRow → StepRow
 untouched s = record s { taken = 0 }
 
-step_put : (db : Trees) (s : StepRow) → edited db (source_edit (step_at 8) insert_step_terms 12 (step_params s) db)
+pub step_put : (db : Trees) (s : StepRow) → edited db (source_edit (step_at 8) insert_step_terms 12 (step_params s) db)
     ≡ put_row (numbered_row step_columns (next_rowid (db 8), untouched s)) (db 8)
 step_put db s = simp (cast_int, cast_null)
 
@@ -88,7 +88,7 @@ inserts_step old new t s (Ok count) may ran =
 abbrev pub answer_params : AnswerRow → Row
 answer_params a = Text a.agent ∷ Text a.mark ∷ Blob a.ask ∷ Text a.reply ∷ []
 
-answer_put : (db : Trees) (a : AnswerRow) → edited db (source_edit (answer_at 11) insert_answer_terms 5 (answer_params a) db)
+pub answer_put : (db : Trees) (a : AnswerRow) → edited db (source_edit (answer_at 11) insert_answer_terms 5 (answer_params a) db)
     ≡ put_row (numbered_row answer_columns (next_rowid (db 11), a)) (db 11)
 answer_put db a = simp (cast_int, cast_null)
 
@@ -133,7 +133,7 @@ inserts_item old new t journey i (Ok count) below may ran =
 abbrev pub batch_params : BatchRow → Row
 batch_params b = Text b.name ∷ whole b.num ∷ Blob b.content ∷ []
 
-batch_put : (db : Trees) (b : BatchRow) → edited db (source_edit (batch_at 3) insert_batch_terms 4 (batch_params b) db)
+pub batch_put : (db : Trees) (b : BatchRow) → edited db (source_edit (batch_at 3) insert_batch_terms 4 (batch_params b) db)
     ≡ put_row (numbered_row batch_columns (next_rowid (db 3), b)) (db 3)
 batch_put db b = simp (cast_int, cast_null)
 
@@ -154,7 +154,7 @@ inserts_batch old new t b (Ok count) may ran =
 abbrev pub mark_params : ℕ → ℕ → Row
 mark_params journey at = whole journey ∷ whole at ∷ []
 
-mark_put : (db : Trees) (journey at : ℕ) → edited db (source_edit (mark_at 14) insert_mark_terms 3 (mark_params journey at) db)
+pub mark_put : (db : Trees) (journey at : ℕ) → edited db (source_edit (mark_at 14) insert_mark_terms 3 (mark_params journey at) db)
     ≡ put_row (numbered_row mark_columns (next_rowid (db 14), mark_at_pos journey at)) (db 14)
 mark_put db journey at = simp (cast_int, cast_null)
 

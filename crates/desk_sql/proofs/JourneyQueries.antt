@@ -1,26 +1,27 @@
--- The queries on journeys. For `find_journey` and `first_unfinished`.
-use Rattle.std.proofs.Common.{◌≡◌, inl, inr, ℕ, ◌≤◌, List, [], ◌∷◌, filter, Some, None, IsTrue, refl, sym, ap, subst, ◌∙◌, arith}
+-- The queries on journeys. For `find_journey`, `first_unfinished` and `first_owned`.
+use Rattle.std.proofs.Common.{◌≡◌, inl, inr, ℕ, ◌≤◌, Bool, List, [], ◌∷◌, filter, Some, None, IsTrue, refl, sym, ap, subst, ◌∙◌, arith}
 use Rattle.std.specs.Prelude.{string_bytes}
 use Rattle.sqlite.specs.declared.types.Value.TheVariants.{Text}
 use Rattle.sqlite.specs.Order.{Row}
-use Rattle.sqlite.specs.Term.{col}
-use Rattle.sqlite.specs.Query.{Output, IsAnswer}
+use Rattle.sqlite.specs.Term.{Term, col}
+use Rattle.sqlite.specs.Query.{Query, Output, IsAnswer}
 use Rattle.sqlite.specs.Program.{overlay}
 use Rattle.sqlite.specs.State.{State, IsUnchanged}
 use Rattle.sqlite_rules.specs.Lists.{Has}
+use Rattle.desk_sql.specs.Lists.{IsLeastOf}
 use Rattle.desk_sql.specs.Rows.{whole, Tables, JourneyRow, journey_row}
 use Rattle.desk_sql.specs.declared.versions.Version.{Version}
 use Rattle.desk_sql.specs.declared.versions.Version.TheVariants.{Two}
 use Rattle.desk_sql.specs.Calls.{MaySee, MaySeeIn}
 use Rattle.desk_sql.specs.Queries.{GivesRow}
-use Rattle.desk_sql.specs.FoundRows.{journey_of, is_numbered, is_unfinished_after, FindsJourney, FindsUnfinished, shows_journey, nine_of}
-use Rattle.desk_sql.specs.Readable.{ShowsOne, IsAgentText, HasAgentText, HaveAgentTexts}
+use Rattle.desk_sql.specs.FoundRows.{journey_of, is_numbered, is_owned_after, is_unfinished_after, FindsJourney, FindsOwned, FindsUnfinished, shows_journey, nine_of}
+use Rattle.desk_sql.specs.Readable.{Each, ShowsOne, IsAgentText, HasAgentText, HaveAgentTexts, HaveOwnedTexts}
 use Rattle.desk_sql.specs.RemainingRows.{journey_shown}
-use Rattle.desk_sql.specs.Texts.{find_journey_text, first_unfinished_text}
-use Rattle.desk_sql.specs.Meanings.{find_journey_query, first_unfinished_query, journey_names, journey_project, rising}
+use Rattle.desk_sql.specs.Texts.{find_journey_text, first_owned_text, first_unfinished_text}
+use Rattle.desk_sql.specs.Meanings.{find_journey_query, first_owned_query, first_unfinished_query, journey_names, journey_project, rising, sorted_rows}
 use Rattle.desk_sql.specs.declared.journeys.JourneyFound.{JourneyFound}
-use Rattle.desk_sql.proofs.Meaning.{find_journey_means, first_unfinished_means}
-use Rattle.desk_sql.proofs.Testing.{eq_whole, gt_whole, le_whole, and_true}
+use Rattle.desk_sql.proofs.Meaning.{MeansQuery, find_journey_means, first_owned_means, first_unfinished_means}
+use Rattle.desk_sql.proofs.Testing.{eq_text, eq_whole, gt_whole, le_whole, and_true}
 use Rattle.desk_sql.proofs.Ordered.{whole_last}
 use Rattle.desk_sql.proofs.Reading.{passes}
 use Rattle.desk_sql.proofs.Finding.{first_row, no_row}
@@ -51,6 +52,10 @@ id_test id j = and_true _ ∙ eq_whole j.id id
 unfinished_test : (after : ℕ) (j : JourneyRow)
     → passes first_unfinished_query.filter (whole after ∷ []) (journey_row j) ≡ is_unfinished_after after j
 unfinished_test after j = simp (gt_whole, le_whole) (simp and_true)
+
+owned_test : (agent : List ℕ) (after : ℕ) (j : JourneyRow)
+    → passes first_owned_query.filter (whole after ∷ Text agent ∷ []) (journey_row j) ≡ is_owned_after agent after j
+owned_test agent after j = simp (gt_whole, eq_text) (simp and_true)
 
 abbrev plain_out : JourneyRow → Output
 plain_out j = ([], shown j)
@@ -90,22 +95,27 @@ module _ {v : Version} (old new : State) (t : Tables) (sees : MaySeeIn v old t) 
       (λ h. (sees h).schema) _ refl given.1 in
       (given.0, none_of find_journey_query plain_out (filter (is_numbered id) t.journey) (journeys_found id [] given.0.0.was_open got.1))
 
-module _ (old new : State) (t : Tables) (sees : MaySee old t) where
-  unfinished_found : (after : ℕ) (rows : List Row) → IsTrue old.is_open
-      → IsAnswer first_unfinished_query (overlay old.now.trees []) (whole after ∷ []) rows
-      → Answers first_unfinished_query sorted_out (filter (is_unfinished_after after) t.journey) rows
-  unfinished_found after rows here a =
-      numbered_answers 6 first_unfinished_query.filter journey_project ((col 1 0, rising) ∷ []) old.now.trees (whole after ∷ []) rows a refl
-      (λ (j : JourneyRow). j.id) journey_row t.journey (sees here).rows.journey (is_unfinished_after after) (unfinished_test after)
+-- the journeys that pass these tests, by rising number
+abbrev by_number : List Term → Query
+by_number tests = sorted_rows 6 tests journey_project ((col 1 0, rising) ∷ [])
 
-  pub finds_unfinished : (after : ℕ) (row : Row) (f : JourneyFound) → shows_journey f ≡ nine_of row
-      → GivesRow first_unfinished_text (whole after ∷ []) old new (Some row) → IsUnchanged old new × FindsUnfinished after t (Some f)
-  finds_unfinished after row f read given =
-      let some = filter (is_unfinished_after after) t.journey in
-      let got = first_row first_unfinished_text first_unfinished_query journey_names (first_unfinished_means Two) (whole after ∷ []) old new
-      (λ h. (sees h).schema) row given.1 in
-      let it = first_of first_unfinished_query sorted_out some row got.1.0
-      (unfinished_found after (row ∷ got.1.0) given.0.0.was_open got.1.1) in
+module _ (old new : State) (t : Tables) (sees : MaySee old t) (text : List ℕ) (tests : List Term) (params : Row)
+    (means : MeansQuery text (by_number tests) journey_names) (test : JourneyRow → Bool)
+    (test_is : (j : JourneyRow) → passes tests params (journey_row j) ≡ test j) where
+  journeys_sorted : (rows : List Row) → IsTrue old.is_open
+      → IsAnswer (by_number tests) (overlay old.now.trees []) params rows
+      → Answers (by_number tests) sorted_out (filter test t.journey) rows
+  journeys_sorted rows here a =
+      numbered_answers 6 tests journey_project ((col 1 0, rising) ∷ []) old.now.trees params rows a refl
+      (λ (j : JourneyRow). j.id) journey_row t.journey (sees here).rows.journey test test_is
+
+  -- the row that is given first has the least number
+  finds_first : (row : Row) (f : JourneyFound) → shows_journey f ≡ nine_of row → GivesRow text params old new (Some row)
+      → IsUnchanged old new × IsLeastOf (λ (j : JourneyRow). j.id) (filter test t.journey) (Some (journey_of f))
+  finds_first row f read given =
+      let some = filter test t.journey in
+      let got = first_row text (by_number tests) journey_names means params old new (λ h. (sees h).schema) row given.1 in
+      let it = first_of (by_number tests) sorted_out some row got.1.0 (journeys_sorted (row ∷ got.1.0) given.0.0.was_open got.1.1) in
       let same = same_journey f it.0 (read ∙ ap nine_of it.2) in
       let least : (y : JourneyRow) → Has some y → it.0.id ≤ y.id = λ y h. elim (it.3 y h) [
         | inl is ↦ (let e = ap (λ (j : JourneyRow). j.id) is in omega (arith, e))
@@ -113,22 +123,56 @@ module _ (old new : State) (t : Tables) (sees : MaySee old t) where
       ] in
       (given.0, subst (λ (j : JourneyRow). Has some j × ((y : JourneyRow) → Has some y → j.id ≤ y.id)) (sym same) (it.1, least))
 
+  -- the row that is given is that of such a journey
+  sorted_given : (row : Row) → Each IsAgentText (filter test t.journey) → GivesRow text params old new (Some row)
+      → ShowsOne journey_shown IsAgentText row
+  sorted_given row fits given =
+      let got = first_row text (by_number tests) journey_names means params old new (λ h. (sees h).schema) row given.1 in
+      (all_shown (by_number tests) sorted_out (filter test t.journey) (row ∷ got.1.0)
+      (journeys_sorted (row ∷ got.1.0) given.0.0.was_open got.1.1) (ShowsOne journey_shown IsAgentText) (λ j h. (j, refl, fits j h))).0
+
+  finds_none : GivesRow text params old new None
+      → IsUnchanged old new × IsLeastOf (λ (j : JourneyRow). j.id) (filter test t.journey) None
+  finds_none given =
+      let got = no_row text (by_number tests) journey_names means params old new (λ h. (sees h).schema) _ refl given.1 in
+      (given.0, none_of (by_number tests) sorted_out (filter test t.journey) (journeys_sorted [] given.0.0.was_open got.1))
+
+module _ (old new : State) (t : Tables) (sees : MaySee old t) where
+  pub finds_unfinished : (after : ℕ) (row : Row) (f : JourneyFound) → shows_journey f ≡ nine_of row
+      → GivesRow first_unfinished_text (whole after ∷ []) old new (Some row) → IsUnchanged old new × FindsUnfinished after t (Some f)
+  finds_unfinished after =
+      finds_first old new t sees first_unfinished_text first_unfinished_query.filter (whole after ∷ [])
+      (first_unfinished_means Two) (is_unfinished_after after) (unfinished_test after)
+
   -- the row that is given is that of an unfinished journey
   pub unfinished_given : (after : ℕ) (row : Row) → HaveAgentTexts after t
       → GivesRow first_unfinished_text (whole after ∷ []) old new (Some row) → ShowsOne journey_shown IsAgentText row
-  unfinished_given after row fits given =
-      let some = filter (is_unfinished_after after) t.journey in
-      let got = first_row first_unfinished_text first_unfinished_query journey_names (first_unfinished_means Two) (whole after ∷ []) old new
-      (λ h. (sees h).schema) row given.1 in
-      (all_shown first_unfinished_query sorted_out some (row ∷ got.1.0)
-      (unfinished_found after (row ∷ got.1.0) given.0.0.was_open got.1.1) (ShowsOne journey_shown IsAgentText) (λ j h. (j, refl, fits j h))).0
+  unfinished_given after =
+      sorted_given old new t sees first_unfinished_text first_unfinished_query.filter (whole after ∷ [])
+      (first_unfinished_means Two) (is_unfinished_after after) (unfinished_test after)
 
   pub finds_none_unfinished : (after : ℕ) → GivesRow first_unfinished_text (whole after ∷ []) old new None
       → IsUnchanged old new × FindsUnfinished after t None
-  finds_none_unfinished after given =
-      let got = no_row first_unfinished_text first_unfinished_query journey_names (first_unfinished_means Two) (whole after ∷ []) old new
-      (λ h. (sees h).schema) _ refl given.1 in (
-        given.0,
-        none_of first_unfinished_query sorted_out (filter (is_unfinished_after after) t.journey)
-            (unfinished_found after [] given.0.0.was_open got.1),
-      )
+  finds_none_unfinished after =
+      finds_none old new t sees first_unfinished_text first_unfinished_query.filter (whole after ∷ [])
+      (first_unfinished_means Two) (is_unfinished_after after) (unfinished_test after)
+
+  pub finds_owned : (agent : List ℕ) (after : ℕ) (row : Row) (f : JourneyFound) → shows_journey f ≡ nine_of row
+      → GivesRow first_owned_text (whole after ∷ Text agent ∷ []) old new (Some row)
+      → IsUnchanged old new × FindsOwned agent after t (Some f)
+  finds_owned agent after =
+      finds_first old new t sees first_owned_text first_owned_query.filter (whole after ∷ Text agent ∷ [])
+      first_owned_means (is_owned_after agent after) (owned_test agent after)
+
+  -- the row that is given is that of a journey of the agent
+  pub owned_given : (agent : List ℕ) (after : ℕ) (row : Row) → HaveOwnedTexts agent after t
+      → GivesRow first_owned_text (whole after ∷ Text agent ∷ []) old new (Some row) → ShowsOne journey_shown IsAgentText row
+  owned_given agent after =
+      sorted_given old new t sees first_owned_text first_owned_query.filter (whole after ∷ Text agent ∷ [])
+      first_owned_means (is_owned_after agent after) (owned_test agent after)
+
+  pub finds_none_owned : (agent : List ℕ) (after : ℕ) → GivesRow first_owned_text (whole after ∷ Text agent ∷ []) old new None
+      → IsUnchanged old new × FindsOwned agent after t None
+  finds_none_owned agent after =
+      finds_none old new t sees first_owned_text first_owned_query.filter (whole after ∷ Text agent ∷ [])
+      first_owned_means (is_owned_after agent after) (owned_test agent after)

@@ -31,6 +31,8 @@ pub mod Putting
 pub mod Reading
 pub mod RemovedRows
 pub mod Refusing
+pub mod Rowids
+pub mod RowidsTaken
 pub mod Replacing
 pub mod Selecting
 pub mod StockQueries

@@ -76,6 +76,10 @@ unfolding understood everything
 first_unfinished_means One = record { is = refl; plain = (refl, refl); unlisted = refl; selects = refl }
 first_unfinished_means Two = record { is = refl; plain = (refl, refl); unlisted = refl; selects = refl }
 
+pub first_owned_means : MeansQuery Texts.first_owned_text Meanings.first_owned_query Meanings.journey_names
+unfolding understood everything
+first_owned_means = record { is = refl; plain = (refl, refl); unlisted = refl; selects = refl }
+
 pub find_steps_means : MeansEach Texts.find_steps_text Meanings.find_steps_query Meanings.find_steps_names
 unfolding understood everything
 find_steps_means One = record { is = refl; plain = (refl, refl); unlisted = refl; selects = refl }

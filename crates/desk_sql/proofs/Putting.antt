@@ -141,7 +141,7 @@ module _ (db : Trees) (cells : List StockRow) (it : IsTableOf stock_columns (db 
   row_has : (p : ℤ × StockRow) → Has it.numbered p → Has (db 1) (numbered_row stock_columns p)
   row_has p h = subst (λ rs. Has rs (numbered_row stock_columns p)) (sym it.rows_are) (mapped_has (numbered_row stock_columns) it.numbered p h)
 
-  put_new : edited db (edit_of db (stock_at 1) [] Given 0 (new_row ∷ [])) ≡ put_row new_row (db 1)
+  pub put_new : edited db (edit_of db (stock_at 1) [] Given 0 (new_row ∷ [])) ≡ put_row new_row (db 1)
   put_new = simp (cast_int, cast_null)
 
   module _ (apart : IsAscending (λ (a b : StockRow). is_cell a b ≡ false) cells) (q : ℤ × StockRow) (there : Has it.numbered q)

@@ -21,6 +21,11 @@ unfolding understood everything
 first_unfinished_takes One after = record { whole = refl; typed = refl }
 first_unfinished_takes Two after = record { whole = refl; typed = refl }
 
+pub first_owned_takes : (agent : List ℕ) (after : ℕ)
+    → Takes Two Texts.first_owned_text Meanings.first_owned_query (whole after ∷ Text agent ∷ [])
+unfolding understood everything
+first_owned_takes agent after = record { whole = refl; typed = refl }
+
 pub read_meta_takes : (v : Version) → Takes v Texts.read_meta_text Meanings.read_meta_query []
 unfolding understood everything
 read_meta_takes One = record { whole = refl; typed = refl }

@@ -1,12 +1,17 @@
 -- What each write asks of the rows, so that no rule of the tables refuses it: keys that are new, a parent for each reference,
 -- numbers in range, and texts that a row can hold. A row may have a billion bytes.
-use Rattle.std.specs.Prelude.{◌≡◌, ◌≤◌, ◌<◌, ◌+◌, ◌^◌, ◌==◌, ◌+ℤ◌, ◌<ℤ◌, ℕ, pos, List, length, true, false}
+use Rattle.std.specs.Prelude.{◌≡◌, ◌≤◌, ◌<◌, ◌+◌, ◌^◌, ◌==◌, ◌+ℤ◌, ◌<ℤ◌, ℕ, suc, pos, List, [], ◌∷◌, length, true, false, Result, OnOk}
 use Rattle.std.specs.List.{AllByRecursion}
 use Rattle.sqlite.specs.Order.{Row}
+use Rattle.sqlite.specs.Store.{Ghosts}
+use Rattle.sqlite.specs.Held.{Held, state}
+use Rattle.sqlite.specs.State.{HasCleanDisk}
+use Rattle.sqlite.specs.declared.error.Error.{Error}
+use Rattle.desk_sql.specs.Calls.{MayRun}
 use Rattle.sqlite_trees.specs.Tree.{Trees, rowid}
 use Rattle.sqlite_rules.specs.Edit.{id_in}
 use Rattle.sqlite_rules.specs.Lists.{Has}
-use Rattle.desk_sql.specs.Rows.{Tables, StockRow, BatchRow, JourneyRow, StepRow, AnswerRow}
+use Rattle.desk_sql.specs.Rows.{Tables, StockRow, BatchRow, JourneyRow, StepRow, MarkRow, AnswerRow}
 use Rattle.desk_sql.specs.FoundRows.{is_for, is_named, is_numbered}
 use Rattle.desk_sql.specs.Stock.{is_within, HaveFree}
 use Rattle.desk_sql.specs.declared.journeys.Cursor.{Cursor}
@@ -103,3 +108,16 @@ pub record MayPut (s : StockRow) (t : Tables) : Type 0 where
   pub free : s.free ≤ s.allot
   pub short : IsShort (length s.supplier + length s.product)
   pub others : AllByRecursion (λ (x : StockRow). IsShort (length x.supplier + length x.product)) t.stock
+
+module _ {S : Type 0} (g : Ghosts S) (old new : Held S) where
+  -- a success leaves the rowids that there were, if the rows fit
+  abbrev pub KeepsRowids : {V : Type 0} → Result V Error → (Tables → Type 0) → Type 0
+  KeepsRowids result Fits =
+      HasCleanDisk (state g new) → (t : Tables) → MayRun (state g old) t → Fits t → (n : ℕ) → HasRowids n (state g old).now.trees
+      → OnOk result (HasRowids n (state g new).now.trees)
+
+  -- a success takes at most one
+  abbrev pub TakesRowid : {V : Type 0} → Result V Error → (Tables → Type 0) → Type 0
+  TakesRowid result Fits =
+      HasCleanDisk (state g new) → (t : Tables) → MayRun (state g old) t → Fits t → (n : ℕ) → HasRowids (suc n) (state g old).now.trees
+      → OnOk result (HasRowids n (state g new).now.trees)

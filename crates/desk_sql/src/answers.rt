@@ -1,13 +1,13 @@
 //! Replies that are kept under an agent's key.
 
-ghost use Rattle.std.specs.Prelude.{◌≡◌, false, IfOk, IfErr};
+ghost use Rattle.std.specs.Prelude.{◌≡◌, false, IfOk, IfErr, ⊤};
 ghost use Rattle.desk_sql.specs.Calls.{Writes, StaysInside, WasOpen, CommitsNothing, LeavesNoMore, Reads, ChangesNothing};
 ghost use Rattle.desk_sql.specs.Changes.{adds_answer, kept};
 ghost use Rattle.desk_sql.specs.FoundRows.{FindsAnswer, shows_answer, two_of};
 ghost use Rattle.desk_sql.specs.Causes.{FailsForReason, FailsToAdd, IsMemory};
 ghost use Rattle.desk_sql.specs.Readable.{HasReplyText, IsReplyText, answer_shown};
 ghost use Rattle.desk_sql.specs.Rows.{AnswerRow};
-ghost use Rattle.desk_sql.specs.Writable.{MayKeep};
+ghost use Rattle.desk_sql.specs.Writable.{MayKeep, TakesRowid};
 
 use crate::queries::first_row;
 use sqlite::types::ValueRef;
@@ -74,6 +74,7 @@ pub fn insert_answer<'x, S: Alter>(
         (adds_answer (kept agent.now mark.now ask.now reply.now)) }
     ensures reason { FailsToAdd S.Store tx.old.conn.now tx.new.conn.now result
         (MayKeep (kept agent.now mark.now ask.now reply.now)) }
+    ensures rowids { TakesRowid S.Store tx.old.conn.now tx.new.conn.now result (λ _. ⊤) }
     ensures inside { StaysInside S.Store tx.old.conn.now tx.new.conn.now result }
     ensures live { WasOpen S.Store tx.old.conn.now tx.new.conn.now result }
     ensures commit { CommitsNothing S.Store tx.old.conn.now tx.new.conn.now }

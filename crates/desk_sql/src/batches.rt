@@ -1,11 +1,11 @@
 //! Loaded batches.
 
-ghost use Rattle.std.specs.Prelude.{◌≡◌, ◌<◌, ◌^◌, false, IfOk, IfErr};
+ghost use Rattle.std.specs.Prelude.{◌≡◌, ◌<◌, ◌^◌, false, IfOk, IfErr, ⊤};
 ghost use Rattle.desk_sql.specs.Calls.{Writes, StaysInside, WasOpen, CommitsNothing, LeavesNoMore, Reads, ChangesNothing};
 ghost use Rattle.desk_sql.specs.Changes.{adds_batch};
 ghost use Rattle.desk_sql.specs.FoundRows.{FindsBatch, shows_batch, two_of};
 ghost use Rattle.desk_sql.specs.Causes.{FailsForReason, IsMemory, FailsToAdd};
-ghost use Rattle.desk_sql.specs.Writable.{MayAddBatch};
+ghost use Rattle.desk_sql.specs.Writable.{MayAddBatch, TakesRowid};
 ghost use Rattle.desk_sql.specs.Readable.{Any, batch_shown};
 ghost use Rattle.desk_sql.specs.Rows.{BatchRow};
 
@@ -70,6 +70,7 @@ pub fn insert_batch<'x, S: Alter>(
         (adds_batch (record { name = name.now; num = num; content = content.now })) }
     ensures reason { FailsToAdd S.Store tx.old.conn.now tx.new.conn.now result
         (MayAddBatch (record { name = name.now; num = num; content = content.now })) }
+    ensures rowids { TakesRowid S.Store tx.old.conn.now tx.new.conn.now result (λ _. ⊤) }
     ensures inside { StaysInside S.Store tx.old.conn.now tx.new.conn.now result }
     ensures live { WasOpen S.Store tx.old.conn.now tx.new.conn.now result }
     ensures commit { CommitsNothing S.Store tx.old.conn.now tx.new.conn.now }

@@ -6,7 +6,7 @@ ghost use Rattle.desk_sql.specs.Changes.{IsSmallItem, AreItemsBelow, adds_item};
 ghost use Rattle.desk_sql.specs.FoundRows.{FindsItems, shows_item, four_of};
 ghost use Rattle.std.specs.List.{AllByRecursion};
 ghost use Rattle.desk_sql.specs.Causes.{FailsForReason, IsMemory, FailsToWrite};
-ghost use Rattle.desk_sql.specs.Writable.{MayAddItem};
+ghost use Rattle.desk_sql.specs.Writable.{MayAddItem, KeepsRowids};
 ghost use Rattle.desk_sql.specs.Readable.{Any, ShowsOne, item_shown};
 ghost use Rattle.desk_sql.specs.Rows.{EntryRow};
 
@@ -94,6 +94,7 @@ pub fn insert_item<S: Alter>(
         (adds_item journey item) }
     ensures reason { FailsToWrite S.Store tx.old.conn.now tx.new.conn.now result
         (MayAddItem journey item) }
+    ensures rowids { KeepsRowids S.Store tx.old.conn.now tx.new.conn.now result (λ _. ⊤) }
     ensures inside { StaysInside S.Store tx.old.conn.now tx.new.conn.now result }
     ensures live { WasOpen S.Store tx.old.conn.now tx.new.conn.now result }
     ensures commit { CommitsNothing S.Store tx.old.conn.now tx.new.conn.now }

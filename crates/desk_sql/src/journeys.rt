@@ -1,12 +1,12 @@
 //! Journeys, each with its cursor.
 
-ghost use Rattle.std.specs.Prelude.{◌≡◌, ◌<◌, ◌^◌, false, IfOk, IfErr};
+ghost use Rattle.std.specs.Prelude.{◌≡◌, ◌<◌, ◌^◌, false, IfOk, IfErr, ⊤};
 ghost use Rattle.desk_sql.specs.Calls.{Writes, WritesWhere, StaysInside, WasOpen, CommitsNothing, LeavesNoMore, Reads, ReadsEach, ChangesNothing};
 ghost use Rattle.desk_sql.specs.Changes.{AreJourneysBelow, adds_journey, begun, IsSmallCursor, moves_journey};
-ghost use Rattle.desk_sql.specs.FoundRows.{FindsJourney, FindsUnfinished, shows_cursor, cursor_of, shows_journey, nine_of};
+ghost use Rattle.desk_sql.specs.FoundRows.{FindsJourney, FindsOwned, FindsUnfinished, shows_cursor, cursor_of, shows_journey, nine_of};
 ghost use Rattle.desk_sql.specs.Causes.{FailsForReason, FailsForReasonEach, IsMemory, FailsToWrite};
-ghost use Rattle.desk_sql.specs.Writable.{MayAddJourney, MayMove};
-ghost use Rattle.desk_sql.specs.Readable.{IsAgentText, HasAgentText, HaveAgentTexts};
+ghost use Rattle.desk_sql.specs.Writable.{MayAddJourney, MayMove, KeepsRowids};
+ghost use Rattle.desk_sql.specs.Readable.{IsAgentText, HasAgentText, HaveAgentTexts, HaveOwnedTexts};
 ghost use Rattle.desk_sql.specs.RemainingRows.{journey_shown};
 ghost use Rattle.desk_sql.specs.Rows.{JourneyRow};
 
@@ -132,6 +132,38 @@ pub fn first_unfinished<S: Alter>(
     }
 }
 
+/// Returns the journey of this agent with the least number above `after`, if there is one. No index leads to the journeys of
+/// an agent: each journey between `after` and the one that is found is looked at.
+pub fn first_owned<'x, S: Alter>(
+    conn: &mut Connection<S>,
+    agent: &'x str,
+    after: u64,
+) -> Result<Option<JourneyFound>, Error>
+    requires { after < 2 ^ 63 }
+
+    ensures found { Reads S.Store conn.old conn.new result (FindsOwned agent.now after) }
+    ensures quiet { ChangesNothing S.Store conn.old conn.new }
+    ensures reason { FailsForReason S.Store conn.old conn.new result
+        (HaveOwnedTexts agent.now after) }
+    ensures mode { conn.old.in_transaction ≡ false → conn.new.in_transaction ≡ false }
+    ensures survives { LeavesNoMore S.Store conn.old conn.new }
+{
+    match first_row(
+        conn,
+        "SELECT id, num, agent, steps, tries, pos, phase, target, used FROM journey WHERE id > ?1 AND agent = ?2 ORDER BY id",
+        &[
+            ValueRef::Int(after as i64),
+            ValueRef::Text(agent.as_bytes()),
+        ],
+    )? {
+        Some(row) => {
+            let journey = read_journey(&row)?;
+            Ok(Some(journey))
+        }
+        None => Ok(None),
+    }
+}
+
 /// Inserts a journey, with its cursor at the start of its plan. Its number is above all others.
 pub fn insert_journey<S: Alter>(
     tx: &mut Transaction<'_, S>,
@@ -151,6 +183,7 @@ pub fn insert_journey<S: Alter>(
         (adds_journey (begun id num agent.now steps tries)) }
     ensures reason { FailsToWrite S.Store tx.old.conn.now tx.new.conn.now result
         (MayAddJourney (begun id num agent.now steps tries)) }
+    ensures rowids { KeepsRowids S.Store tx.old.conn.now tx.new.conn.now result (λ _. ⊤) }
     ensures inside { StaysInside S.Store tx.old.conn.now tx.new.conn.now result }
     ensures live { WasOpen S.Store tx.old.conn.now tx.new.conn.now result }
     ensures commit { CommitsNothing S.Store tx.old.conn.now tx.new.conn.now }
@@ -185,6 +218,7 @@ pub fn move_journey<S: Alter>(
     ensures made { Writes S.Store tx.old.conn.now tx.new.conn.now result (moves_journey id cursor) }
     ensures reason { FailsToWrite S.Store tx.old.conn.now tx.new.conn.now result
         (MayMove id cursor) }
+    ensures rowids { KeepsRowids S.Store tx.old.conn.now tx.new.conn.now result (λ _. ⊤) }
     ensures inside { StaysInside S.Store tx.old.conn.now tx.new.conn.now result }
     ensures live { WasOpen S.Store tx.old.conn.now tx.new.conn.now result }
     ensures commit { CommitsNothing S.Store tx.old.conn.now tx.new.conn.now }

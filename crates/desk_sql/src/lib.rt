@@ -28,7 +28,7 @@ pub use handing::{hand_stock, hand_unfinished, next_cell, next_unfinished};
 pub use item_by_item::next_item;
 pub use items::{ItemFound, find_items, insert_item};
 pub use journeys::{
-    Cursor, JourneyFound, find_journey, first_unfinished, insert_journey, move_journey,
+    Cursor, JourneyFound, find_journey, first_owned, first_unfinished, insert_journey, move_journey,
 };
 pub use marks::{delete_mark, find_marks, insert_mark};
 pub use meta::{Meta, read_meta, update_meta};

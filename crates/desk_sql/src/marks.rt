@@ -8,7 +8,7 @@ ghost use Rattle.desk_sql.specs.FoundRows.{FindsMarks};
 ghost use Rattle.desk_sql.specs.Rows.{whole};
 ghost use Rattle.std.specs.List.{AllByRecursion};
 ghost use Rattle.desk_sql.specs.Causes.{FailsForReason, IsMemory, FailsToAdd, FailsToWrite};
-ghost use Rattle.desk_sql.specs.Writable.{MayAddMark};
+ghost use Rattle.desk_sql.specs.Writable.{MayAddMark, KeepsRowids, TakesRowid};
 ghost use Rattle.desk_sql.specs.Readable.{Any, ShowsOne, mark_shown};
 
 use crate::queries::all_rows;
@@ -66,6 +66,7 @@ pub fn insert_mark<S: Alter>(
     ensures made { Writes S.Store tx.old.conn.now tx.new.conn.now result (adds_mark journey pos) }
     ensures reason { FailsToAdd S.Store tx.old.conn.now tx.new.conn.now result
         (MayAddMark journey pos) }
+    ensures rowids { TakesRowid S.Store tx.old.conn.now tx.new.conn.now result (λ _. ⊤) }
     ensures inside { StaysInside S.Store tx.old.conn.now tx.new.conn.now result }
     ensures live { WasOpen S.Store tx.old.conn.now tx.new.conn.now result }
     ensures commit { CommitsNothing S.Store tx.old.conn.now tx.new.conn.now }
@@ -89,6 +90,7 @@ pub fn delete_mark<S: Alter>(
     ensures same_reference { tx.new.conn.ghost_name ≡ tx.old.conn.ghost_name }
     ensures made { Writes S.Store tx.old.conn.now tx.new.conn.now result (drops_mark journey pos) }
     ensures reason { FailsToWrite S.Store tx.old.conn.now tx.new.conn.now result (λ _. ⊤) }
+    ensures rowids { KeepsRowids S.Store tx.old.conn.now tx.new.conn.now result (λ _. ⊤) }
     ensures inside { StaysInside S.Store tx.old.conn.now tx.new.conn.now result }
     ensures live { WasOpen S.Store tx.old.conn.now tx.new.conn.now result }
     ensures commit { CommitsNothing S.Store tx.old.conn.now tx.new.conn.now }

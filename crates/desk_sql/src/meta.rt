@@ -5,6 +5,7 @@ ghost use Rattle.desk_sql.specs.Calls.{Writes, WritesWhere, StaysInside, WasOpen
 ghost use Rattle.desk_sql.specs.Changes.{LacksMeta, adds_meta, at_first, counts};
 ghost use Rattle.desk_sql.specs.FoundRows.{IsMeta, shows_meta, three_of};
 ghost use Rattle.desk_sql.specs.Causes.{FailsForReasonEach, IsMemory, FailsToWrite};
+ghost use Rattle.desk_sql.specs.Writable.{KeepsRowids};
 ghost use Rattle.desk_sql.specs.Readable.{meta_shown, HasMeta};
 ghost use Rattle.desk_sql.specs.Rows.{MetaRow};
 
@@ -93,6 +94,7 @@ pub fn update_meta<S: Alter>(
         (counts (record { version = version; events = events; journeys = journeys })) }
     ensures reason { FailsToWrite S.Store tx.old.conn.now tx.new.conn.now result
         (λ _. ⊤) }
+    ensures rowids { KeepsRowids S.Store tx.old.conn.now tx.new.conn.now result (λ _. ⊤) }
     ensures inside { StaysInside S.Store tx.old.conn.now tx.new.conn.now result }
     ensures live { WasOpen S.Store tx.old.conn.now tx.new.conn.now result }
     ensures commit { CommitsNothing S.Store tx.old.conn.now tx.new.conn.now }

@@ -1,12 +1,12 @@
 //! The options of the steps of each plan.
 
-ghost use Rattle.std.specs.Prelude.{◌≡◌, ◌<◌, ◌^◌, false, map, IfOk, IfErr};
+ghost use Rattle.std.specs.Prelude.{◌≡◌, ◌<◌, ◌^◌, false, map, IfOk, IfErr, ⊤};
 ghost use Rattle.desk_sql.specs.Calls.{Writes, StaysInside, WasOpen, CommitsNothing, LeavesNoMore, Reads, ReadsEach, ChangesNothing};
 ghost use Rattle.desk_sql.specs.Changes.{IsSmallOption, adds_step, untaken, marks_step};
 ghost use Rattle.desk_sql.specs.FoundRows.{FindsSteps, FindsOptions, shows_step, ten_of};
 ghost use Rattle.std.specs.List.{AllByRecursion};
 ghost use Rattle.desk_sql.specs.Causes.{FailsForReason, FailsForReasonEach, IsMemory, FailsToAdd, FailsToChange};
-ghost use Rattle.desk_sql.specs.Writable.{MayAddStep, MayMarkStep};
+ghost use Rattle.desk_sql.specs.Writable.{MayAddStep, MayMarkStep, KeepsRowids, TakesRowid};
 ghost use Rattle.desk_sql.specs.Readable.{AreWantTexts, HaveOptionTexts, HaveWantTexts, ShowsOne, step_shown};
 ghost use Rattle.desk_sql.specs.Rows.{StepRow};
 
@@ -48,6 +48,7 @@ pub fn insert_step<S: Alter>(
         (adds_step (untaken option.entry)) }
     ensures reason { FailsToAdd S.Store tx.old.conn.now tx.new.conn.now result
         (MayAddStep (untaken option.entry)) }
+    ensures rowids { TakesRowid S.Store tx.old.conn.now tx.new.conn.now result (λ _. ⊤) }
     ensures inside { StaysInside S.Store tx.old.conn.now tx.new.conn.now result }
     ensures live { WasOpen S.Store tx.old.conn.now tx.new.conn.now result }
     ensures commit { CommitsNothing S.Store tx.old.conn.now tx.new.conn.now }
@@ -202,6 +203,7 @@ pub fn mark_step<S: Alter>(
         (marks_step journey place opt taken) }
     ensures reason { FailsToChange S.Store tx.old.conn.now tx.new.conn.now result
         (MayMarkStep journey place opt taken) }
+    ensures rowids { KeepsRowids S.Store tx.old.conn.now tx.new.conn.now result (λ _. ⊤) }
     ensures inside { StaysInside S.Store tx.old.conn.now tx.new.conn.now result }
     ensures live { WasOpen S.Store tx.old.conn.now tx.new.conn.now result }
     ensures commit { CommitsNothing S.Store tx.old.conn.now tx.new.conn.now }

@@ -6,7 +6,7 @@ ghost use Rattle.desk_sql.specs.Stock.{IsSmallRange, FindsNights, FindsStock, sh
 ghost use Rattle.desk_sql.specs.FoundRows.{three_of, six_of};
 ghost use Rattle.std.specs.List.{AllByRecursion};
 ghost use Rattle.desk_sql.specs.Causes.{FailsForReason, IsMemory, FailsToChange, FailsToAdd};
-ghost use Rattle.desk_sql.specs.Writable.{MayPut, MayTakeNights, MayGiveNights};
+ghost use Rattle.desk_sql.specs.Writable.{MayPut, MayTakeNights, MayGiveNights, KeepsRowids, TakesRowid};
 ghost use Rattle.desk_sql.specs.Readable.{Any, AreCellTexts, HaveCellTexts, ShowsOne, night_shown};
 ghost use Rattle.desk_sql.specs.RemainingRows.{stock_shown};
 ghost use Rattle.desk_sql.specs.Rows.{StockRow};
@@ -172,6 +172,7 @@ pub fn take_nights<S: Alter>(
         (takes_nights range.entry count) }
     ensures reason { FailsToChange S.Store tx.old.conn.now tx.new.conn.now result
         (MayTakeNights range.entry count) }
+    ensures rowids { KeepsRowids S.Store tx.old.conn.now tx.new.conn.now result (HaveFree range.entry count) }
     ensures inside { StaysInside S.Store tx.old.conn.now tx.new.conn.now result }
     ensures live { WasOpen S.Store tx.old.conn.now tx.new.conn.now result }
     ensures commit { CommitsNothing S.Store tx.old.conn.now tx.new.conn.now }
@@ -214,6 +215,7 @@ pub fn give_nights<S: Alter>(
         (gives_nights range.entry count) }
     ensures reason { FailsToChange S.Store tx.old.conn.now tx.new.conn.now result
         (MayGiveNights range.entry count) }
+    ensures rowids { KeepsRowids S.Store tx.old.conn.now tx.new.conn.now result (HaveRoom range.entry count) }
     ensures inside { StaysInside S.Store tx.old.conn.now tx.new.conn.now result }
     ensures live { WasOpen S.Store tx.old.conn.now tx.new.conn.now result }
     ensures commit { CommitsNothing S.Store tx.old.conn.now tx.new.conn.now }
@@ -254,6 +256,7 @@ pub fn put_cell<S: Alter>(tx: &mut Transaction<'_, S>, cell: CellPlaces<'_>) -> 
         (puts_cell (placed cell.entry)) }
     ensures reason { FailsToAdd S.Store tx.old.conn.now tx.new.conn.now result
         (MayPut (placed cell.entry)) }
+    ensures rowids { TakesRowid S.Store tx.old.conn.now tx.new.conn.now result (λ _. ⊤) }
     ensures inside { StaysInside S.Store tx.old.conn.now tx.new.conn.now result }
     ensures live { WasOpen S.Store tx.old.conn.now tx.new.conn.now result }
     ensures commit { CommitsNothing S.Store tx.old.conn.now tx.new.conn.now }

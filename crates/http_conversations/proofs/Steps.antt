@@ -103,7 +103,7 @@ module _ (h : History) (is_open : h.stage ≡ Open) (x : IsServed h) where
     asked = asked;
   }
 
-  gets : (count : ℕ) (m : Message) (page : List ℕ) (c : Bool) → IsMessage (take count h.waiting) m → closes m ≡ c → h.pending ≡ []
+  gets : (count : ℕ) (m : Message) (page : List ℕ) (c : Bool) → IsMessage (take count h.waiting) m → closes h.door m ≡ c → h.pending ≡ []
       → IsServed (after_answer h count page c (stops h.door m))
   gets count m page false is closing free =
       let e = exchange h count (Some page) in record {
@@ -153,7 +153,7 @@ module _ (h : History) (is_open : h.stage ≡ Open) (x : IsServed h) where
 -- The first message was taken, or not.
 pub takes : (r : Result Bool Fault) (h k : History) → TakesFirst r h k → IsServed h → IsServed k
 takes (Ok true) h k t x =
-    subst IsServed (sym t.is) (gets h t.is_open x t.count t.message t.page (closes t.message) t.is_message refl t.free)
+    subst IsServed (sym t.is) (gets h t.is_open x t.count t.message t.page (closes h.door t.message) t.is_message refl t.free)
 takes (Ok false) h k t x = subst IsServed (sym t) x
 takes (Err fault) h k t x = elim t [
   | inl lost ↦ subst IsServed (sym lost.is) (loses h lost.is_open x lost.count lost.message lost.is_message)
@@ -168,7 +168,7 @@ moved_within bytes count false = omega (arith, length-drop count bytes)
 -- no more waits than before
 pub takes_within : (r : Result Bool Fault) (h k : History) (most : ℕ) → TakesFirst r h k → length h.waiting < most → length k.waiting < most
 takes_within (Ok true) h k most t within =
-    omega (arith, within, ap (λ (j : History). length j.waiting) t.is, moved_within h.waiting t.count (closes t.message))
+    omega (arith, within, ap (λ (j : History). length j.waiting) t.is, moved_within h.waiting t.count (closes h.door t.message))
 takes_within (Ok false) h k most t within = omega (arith, within, ap (λ (j : History). length j.waiting) t)
 takes_within (Err fault) h k most t within = elim t [
   | inl lost ↦ omega (arith, within, ap (λ (j : History). length j.waiting) lost.is)

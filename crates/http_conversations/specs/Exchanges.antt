@@ -25,7 +25,7 @@ pages_of exchanges = flat_map (λ x. unwrap_or x.page []) exchanges
 pub record IsAnswered (closing : Bool) (x : Exchange) : Type 0 where
   pub message : Message
   pub is_message : IsMessage x.bytes message
-  pub closing_as : closes message ≡ closing
+  pub closing_as : closes x.door message ≡ closing
   pub has_page : IsSome x.page
 
 -- the bytes are a message, whose page was lost

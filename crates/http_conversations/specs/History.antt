@@ -100,7 +100,7 @@ pub record GetsPage (old new : History) : Type 0 where
   pub message : Message
   pub is_message : IsMessage (take count old.waiting) message
   pub page : List ℕ
-  pub is : new ≡ after_answer old count page (closes message) (stops old.door message)
+  pub is : new ≡ after_answer old count page (closes old.door message) (stops old.door message)
 
 -- the first bytes are this message, and its page was lost
 pub record LosesPage (old new : History) : Type 0 where

@@ -120,6 +120,20 @@ impl Conversation {
         !self.talk.waiting.is_empty()
     }
 
+    /// What was received and is not yet used.
+    pub fn waiting(&self) -> &[u8]
+        ensures waiting { result.now ≡ (history self.now).waiting }
+    {
+        self.talk.waiting.as_slice()
+    }
+
+    /// What is left of the page that goes out.
+    pub fn pending(&self) -> &[u8]
+        ensures pending { result.now ≡ (history self.now).pending }
+    {
+        self.talk.pending.as_slice()
+    }
+
     /// Whether it answers, and why not.
     pub fn stage(&self) -> Stage
         ensures stage { result ≡ (history self.now).stage }

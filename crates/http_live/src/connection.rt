@@ -63,6 +63,20 @@ impl<R: Read + Drop, W: Write + Drop> Connection<R, W> {
         self.conversation.always_served();
     }
 
+    /// What was received and may be answered in the next turn: nothing while a page waits.
+    pub(crate) fn unanswered(&self) -> &[u8] {
+        if self.conversation.wants_write() {
+            b""
+        } else {
+            self.conversation.waiting()
+        }
+    }
+
+    /// What is left of the page that goes out.
+    pub(crate) fn unsent(&self) -> &[u8] {
+        self.conversation.pending()
+    }
+
     /// A turn: what waits is handed out, or else one message is answered, or else more is read.
     pub(crate) fn serve<B: Book>(
         &mut self,

@@ -60,6 +60,22 @@ impl<R: Read + Drop, W: Write + Drop> Seat<R, W> {
         }
     }
 
+    /// What the connection received and may answer in the next turn.
+    pub(crate) fn unanswered(&self) -> &[u8] {
+        match &self.connection {
+            Some(connection) => connection.unanswered(),
+            None => b"",
+        }
+    }
+
+    /// What is left of the connection's page.
+    pub(crate) fn unsent(&self) -> &[u8] {
+        match &self.connection {
+            Some(connection) => connection.unsent(),
+            None => b"",
+        }
+    }
+
     /// Hands out what waits for the connection, if there is one. One that is over ends.
     pub(crate) fn hand_out(&mut self) -> Standing
         ensures kept { exchanges_at self.new ≡ exchanges_at self.old }

@@ -9,6 +9,7 @@ ghost use Rattle.http_live.specs.Worlds.{WorldsGoOn};
 
 use crate::endings::{Ending, ending_after};
 use crate::seats::Seat;
+use crate::standing::Standing;
 use crate::turns::{Turn, Turns};
 use commands::Fault;
 use desk_http::Door;
@@ -112,7 +113,9 @@ fn take_turn<T: Turns, B: Book>(
         }
         Turn::Ready(at) => {
             if at < seats.len() {
+                show_received(seats, turns, at);
                 let standing = seats[at].serve(paths, buffer, book)?;
+                show_page(seats, turns, at, standing);
                 turns.hear(at, standing);
                 return Ok(ending_after(standing));
             }
@@ -125,6 +128,25 @@ fn take_turn<T: Turns, B: Book>(
             Ok(None)
         }
         Turn::End => Ok(Some(Ending::NoTurn)),
+    }
+}
+
+/// Shows what was received at a seat, before its turn.
+fn show_received<T: Turns>(seats: &[Seat<T::Reader, T::Writer>], turns: &mut T, at: usize) {
+    if let Some(seat) = seats.get(at) {
+        turns.see_received(at, seat.unanswered());
+    }
+}
+
+/// Shows the page of a seat, after its turn.
+fn show_page<T: Turns>(
+    seats: &[Seat<T::Reader, T::Writer>],
+    turns: &mut T,
+    at: usize,
+    standing: Standing,
+) {
+    if let Some(seat) = seats.get(at) {
+        turns.see_page(at, standing, seat.unsent());
     }
 }
 

@@ -25,6 +25,13 @@ pub trait Turns {
     /// Waits for the next turn.
     fn next_turn(&mut self) -> Turn<Self::Reader, Self::Writer>;
 
+    /// Sees what was received at a seat and may be answered in its turn, which comes next. Nothing depends on it: a log may
+    /// be kept so.
+    fn see_received(&mut self, _seat: usize, _received: &[u8]) {}
+
+    /// Sees how a turn of a seat ended, and what is left of its page. Nothing depends on it.
+    fn see_page(&mut self, _seat: usize, _standing: Standing, _page: &[u8]) {}
+
     /// Hears what the connection of a seat waits for after its turn.
     fn hear(&mut self, seat: usize, standing: Standing);
 }

@@ -288,6 +288,7 @@ pub with_body : (r s : Request) (parts : Parts) (body : List ℕ)
 with_body r s parts body asks is has = record {
   method = ap (λ (q : Request). q.method.items) is ∙ asks.method;
   target = ap (λ (q : Request). q.target.items) is ∙ asks.target;
+  host = ap (λ (q : Request). q.host.items) is ∙ asks.host;
   agent = ap (λ (q : Request). q.agent) is ∙ asks.agent;
   is_unnamed = ap (λ (q : Request). q.is_unnamed) is ∙ asks.is_unnamed;
   key = ap (λ (q : Request). q.key) is ∙ asks.key;

@@ -122,6 +122,16 @@ the_one [] = None
 the_one (x ∷ []) = Some x
 the_one (x ∷ y ∷ later) = None
 
+-- the one of a list of texts that has no other, or the empty text
+abbrev pub the_text : List (List ℕ) → List ℕ
+the_text [] = []
+the_text (text ∷ []) = text
+the_text (text ∷ other ∷ later) = []
+
+-- the host: the value of the one field `Host`; empty where there is none, or more than one
+abbrev pub host_of : Parts → List ℕ
+host_of parts = the_text (values_named (codes "host") parts.fields)
+
 -- who asks: the value of the one field `Desk-Agent`, where it is good
 abbrev pub agent_of : Parts → Option (List ℕ)
 agent_of parts = option_and_then (keep_if is_agent) (the_one (values_named (codes "desk-agent") parts.fields))

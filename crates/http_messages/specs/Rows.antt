@@ -2,7 +2,7 @@
 use Rattle.std.specs.Prelude.{◌≡◌, ℕ, ◌∷◌, [], List, codes, Some, None, refl}
 use Rattle.httparse.specs.Grammar.{Field, crlf, trim_ows}
 use Rattle.commands.specs.declared.refusals.Refusal.TheVariants.{BadHead, TooLarge, NoLength}
-use Rattle.http_messages.specs.Heads.{Parts, agent_of, body_length, head_refusals, key_of, parts_of}
+use Rattle.http_messages.specs.Heads.{Parts, agent_of, body_length, head_refusals, host_of, key_of, parts_of}
 use Rattle.http_messages.specs.Messages.{first_told}
 
 -- a field line
@@ -67,6 +67,18 @@ nine_digits = refl
 pub ann : agent_of (asked (codes "GET") (codes "/") by_ann) ≡ Some (codes "ann")
 unfolding trim_ows
 ann = refl
+
+-- the host that is asked
+pub host : host_of (asked (codes "GET") (codes "/") by_ann) ≡ codes "d"
+unfolding trim_ows
+host = refl
+
+-- two hosts count as none
+pub two_hosts : host_of (asked (codes "GET") (codes "/")
+    (field (codes "Host") (codes "d") ∷ field (codes "host") (codes "d") ∷ []))
+    ≡ []
+unfolding trim_ows
+two_hosts = refl
 
 -- two good keys count as none
 pub two_keys : key_of (asked (codes "POST") (codes "/")

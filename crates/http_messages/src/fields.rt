@@ -9,7 +9,7 @@ use httparse::spans::{HeaderSpan, Span};
 
 /// How often a field occurs.
 #[derive(Clone, Copy)]
-pub(crate) enum Found {
+pub enum Found {
     /// There is no such field.
     Absent,
     /// It occurs once, with this value.
@@ -19,7 +19,7 @@ pub(crate) enum Found {
 }
 
 /// Finds the fields of this name, in any case (RFC 9110, section 5.1).
-pub(crate) fn find(front: &[u8], fields: &[HeaderSpan], name: &[u8]) -> Found
+pub fn find(front: &[u8], fields: &[HeaderSpan], name: &[u8]) -> Found
     requires { All (IsHeaderWithin (length front.now)) fields.now }
     ensures values { IsFound front.now result
         (values_named name.now (named_in front.now fields.now)) }

@@ -20,7 +20,7 @@ pub(crate) struct Head {
 
 impl Head {
     ghost use Rattle.std.specs.Prelude.{◌≡◌, ◌≤◌, length, IfSome, IfNone, IfOk, Some, [], take};
-    ghost use Rattle.http_messages.specs.Heads.{values_named, asks_to_close, agent_of, is_unnamed, key_of, lengths};
+    ghost use Rattle.http_messages.specs.Heads.{values_named, asks_to_close, agent_of, host_of, is_unnamed, key_of, lengths};
     ghost use Rattle.http_messages.specs.Heads.{is_plain, is_method, complaint_of, body_length};
     ghost use Rattle.http_messages.specs.Places.{IsToldAt};
     ghost use Rattle.http_messages.specs.Fields.{IsFound, IsNoHead, IsSomeHeadAt, LiesIn, Tells, parts_in};
@@ -47,6 +47,7 @@ impl Head {
         Ok(Request {
             method: self.line.method.of(front).to_vec(alloc)?,
             target: self.line.path.of(front).to_vec(alloc)?,
+            host: self.host(front).to_vec(alloc)?,
             agent: self.agent(front),
             is_unnamed: self.is_unnamed(front),
             key: self.key(front),
@@ -106,6 +107,17 @@ impl Head {
                 None => Length::Bad,
             },
             Found::Again => Length::Bad,
+        }
+    }
+
+    /// The host that it names, or nothing where it names none or two.
+    fn host<'a>(&self, front: &'a [u8]) -> &'a [u8]
+        requires { LiesIn front.now self.now }
+        ensures host { result.now ≡ host_of (parts_in front.now self.now) }
+    {
+        match self.find(front, b"host") {
+            Found::Once(value) => value.of(front),
+            Found::Absent | Found::Again => &[],
         }
     }
 

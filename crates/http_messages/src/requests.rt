@@ -8,6 +8,8 @@ pub struct Request {
     pub method: Vec<u8>,
     /// The target as it was sent, which need be no path.
     pub target: Vec<u8>,
+    /// The value of the one field `Host`; empty where there is none, or more than one.
+    pub host: Vec<u8>,
     /// Who asks: the value of the one field `Desk-Agent`, where it is good.
     pub agent: Option<Agent>,
     /// Whether there is no field `Desk-Agent`, good or not.

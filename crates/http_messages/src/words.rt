@@ -6,14 +6,14 @@ ghost use Rattle.commands.specs.Names.{is_agent, is_key};
 use commands::{Agent, Key};
 
 /// The agent that these bytes spell, if they spell one.
-pub(crate) fn agent_in(bytes: &[u8]) -> Option<Agent>
+pub fn agent_in(bytes: &[u8]) -> Option<Agent>
     ensures form { result ≡ keep_if is_agent bytes.now }
 {
     Agent::parse(std::str::from_utf8(bytes).ok()?)
 }
 
 /// The key that these bytes spell, if they spell one.
-pub(crate) fn key_in(bytes: &[u8]) -> Option<Key>
+pub fn key_in(bytes: &[u8]) -> Option<Key>
     ensures form { result ≡ keep_if is_key bytes.now }
 {
     Key::parse(std::str::from_utf8(bytes).ok()?)

@@ -9,7 +9,7 @@ use Rattle.commands.specs.declared.items.Phase.TheVariants.{Run, Back, Ended, Un
 use Rattle.saga_core.specs.declared.records.Brief.{Brief}
 use Rattle.http_pages.specs.declared.bodies.Owners.{Owners}
 use Rattle.http_pages.specs.declared.bodies.Owners.TheVariants.{Hidden, Shown}
-use Rattle.http_pages.specs.Bodies.{members, list, item_data, brief_data, unfinished_data, standing_members, json}
+use Rattle.http_pages.specs.Bodies.{members, list, item_data, brief_data, mine_data, unfinished_data, standing_members, json}
 
 -- where a journey is contains no float
 no_float-standing : (id pos : ℕ) (phase : Phase) → members_have_float (members (standing_members id pos phase)) ≡ false
@@ -40,3 +40,7 @@ no_float-journey id pos phase history = rw (no_float-items history) (no_float-st
 -- journeys that are not finished contain no float
 pub no_float-unfinished : (owners : Owners) (briefs : List Brief) → has_float (unfinished_data owners briefs) ≡ false
 no_float-unfinished owners briefs = rw (no_float-briefs owners briefs) refl
+
+-- journeys of one agent contain no float
+pub no_float-mine : (owners : Owners) (briefs : List Brief) → has_float (mine_data owners briefs) ≡ false
+no_float-mine owners briefs = rw (no_float-briefs owners briefs) refl

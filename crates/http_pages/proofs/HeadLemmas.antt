@@ -4,19 +4,19 @@ use Rattle.std.proofs.Common.{append_assoc}
 use Rattle.http_pages.specs.Pages.{line}
 
 -- texts in one piece are these texts in lines, each with the same end
-pieces_in_lines : (http code blank phrase before length type media allow close end : List ℕ)
+pieces_in_lines : (http code blank phrase before length type media fields close end : List ℕ)
     → http ++ (code ++ (blank ++ (phrase ++ (end ++ (before ++ (length ++ (end ++ (type ++ (media ++ (end
-    ++ (allow ++ (close ++ end))))))))))))
+    ++ (fields ++ (close ++ end))))))))))))
     ≡ (http ++ code ++ blank ++ phrase) ++ end ++ ((before ++ length) ++ end) ++ ((type ++ media) ++ end)
-    ++ allow ++ close ++ end
-pieces_in_lines http code blank phrase before length type media allow close end = simp append_assoc
+    ++ fields ++ close ++ end
+pieces_in_lines http code blank phrase before length type media fields close end = simp append_assoc
 
 -- the head in one piece is its lines
-pub head_lines : (code phrase length media allow close : List ℕ)
+pub head_lines : (code phrase length media fields close : List ℕ)
     → codes "HTTP/1.1 " ++ (code ++ (codes " " ++ (phrase ++ (codes "\r\nContent-Length: " ++ (length
-    ++ (codes "\r\nContent-Type: " ++ (media ++ (codes "\r\n" ++ (allow ++ (close ++ codes "\r\n"))))))))))
+    ++ (codes "\r\nContent-Type: " ++ (media ++ (codes "\r\n" ++ (fields ++ (close ++ codes "\r\n"))))))))))
     ≡ line (codes "HTTP/1.1 " ++ code ++ codes " " ++ phrase) ++ line (codes "Content-Length: " ++ length)
-    ++ line (codes "Content-Type: " ++ media) ++ allow ++ close ++ line []
-head_lines code phrase length media allow close =
+    ++ line (codes "Content-Type: " ++ media) ++ fields ++ close ++ line []
+head_lines code phrase length media fields close =
     pieces_in_lines (codes "HTTP/1.1 ") code (codes " ") phrase (codes "Content-Length: ") length
-    (codes "Content-Type: ") media allow close (13 ∷ 10 ∷ [])
+    (codes "Content-Type: ") media fields close (13 ∷ 10 ∷ [])

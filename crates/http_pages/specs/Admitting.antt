@@ -4,6 +4,7 @@ use Rattle.commands.specs.declared.refusals.Refusal.{Refusal}
 use Rattle.commands.specs.declared.refusals.Refusal.TheVariants as refusal
 use Rattle.http_pages.specs.declared.admitting.Denied.{Denied}
 use Rattle.http_pages.specs.declared.routes.Route.{Route}
+use Rattle.http_pages.specs.declared.routes.Route.TheVariants.{ShowHealth}
 use Rattle.http_pages.specs.declared.routes.Unrouted.{Unrouted}
 use Rattle.http_pages.specs.declared.routes.Unrouted.TheVariants.{UnknownPath, WrongMethod, BadPart}
 
@@ -28,10 +29,15 @@ path_faults (Err (WrongMethod verb)) =
 path_faults (Err BadPart) = []
 path_faults (Ok route) = []
 
+-- who asks must be an agent, unless it is for how many events and journeys there are
+abbrev pub needs_agent : Result Route Unrouted → Bool
+needs_agent (Ok ShowHealth) = false
+needs_agent _ = true
+
 -- what is wrong before the parts of the path are checked: path and method, agent, key of a POST
 abbrev pub faults : Result Route Unrouted → (has_agent has_key is_post : Bool) → List Denied
 faults found has_agent has_key is_post =
-    path_faults found ++ (wrong_if (not has_agent) refusal.NoAgent
+    path_faults found ++ (wrong_if (needs_agent found && not has_agent) refusal.NoAgent
     ++ wrong_if (is_post && not has_key) refusal.NoKey)
 
 -- if none of these is wrong: what was found, or that a part of the path is malformed

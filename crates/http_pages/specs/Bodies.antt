@@ -11,6 +11,7 @@ use Rattle.commands.specs.declared.refusals.Refusal.{Refusal}
 use Rattle.commands.specs.declared.replies.Reply.{Reply}
 use Rattle.commands.specs.declared.replies.Reply.TheVariants.{Loaded, Begun, Moved, Refused}
 use Rattle.saga_core.specs.declared.records.Brief.{Brief}
+use Rattle.saga_core.specs.declared.records.Counts.{Counts}
 use Rattle.http_pages.specs.declared.bodies.Owners.{Owners}
 use Rattle.http_pages.specs.declared.bodies.Owners.TheVariants.{Hidden, Shown}
 
@@ -80,7 +81,17 @@ brief_data owners brief =
 abbrev pub unfinished_data : Owners → List Brief → Data
 unfinished_data owners briefs = json ((codes "unfinished", list (map (brief_data owners) briefs)) ∷ [])
 
+-- journeys of one agent, finished ones too
+abbrev pub mine_data : Owners → List Brief → Data
+mine_data owners briefs = json ((codes "mine", list (map (brief_data owners) briefs)) ∷ [])
+
 -- The desk.
+
+-- how many events, journeys and unfinished journeys there are
+abbrev pub health_data : Counts → Data
+health_data counts =
+    json ((codes "events", whole counts.events) ∷ (codes "journeys", whole counts.journeys)
+    ∷ (codes "unfinished", whole counts.unfinished) ∷ [])
 
 -- the desk stops
 abbrev pub stopping_data : Data

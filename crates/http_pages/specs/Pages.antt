@@ -10,7 +10,7 @@ use Rattle.http_pages.specs.Bodies.{refusal_data, reply_data}
 use Rattle.http_pages.specs.Statuses.{status_code, status_of, phrase}
 use Rattle.http_pages.specs.Verbs.{verb_text}
 use Rattle.http_pages.specs.declared.answers.Body.{Body}
-use Rattle.http_pages.specs.declared.answers.Body.TheVariants.{Json, Text}
+use Rattle.http_pages.specs.declared.answers.Body.TheVariants.{Json, Text, Html}
 use Rattle.http_pages.specs.declared.answers.Page.{Page}
 use Rattle.http_pages.specs.declared.statuses.Status.{Status}
 use Rattle.http_pages.specs.declared.statuses.Status.TheVariants.{Fine}
@@ -18,29 +18,37 @@ use Rattle.http_pages.specs.declared.verbs.Verb.{Verb}
 
 -- What a page says.
 
--- a status, the method that is allowed where another was asked, and a body, in JSON or as a report
+-- what a body is: a JSON value, a report, or a page for browsers with its policy for content
+pub data Media : Type 0 where
+  Value : Media
+  Report : Media
+  Browsed : (policy : List ℕ) → Media
+
+-- a status, the method that is allowed where another was asked, and a body
 pub record Paged : Type 0 where
   pub status : Status
   pub allow : Option Verb
-  pub is_report : Bool
+  pub media : Media
   pub body : List ℕ
 
 -- the bytes of a body
 abbrev pub body_bytes : Body → List ℕ
 body_bytes (Json text) = string_bytes text
 body_bytes (Text bytes) = bytes.items
+body_bytes (Html html) = html.text.now
 
--- a body is a report
-abbrev pub is_report : Body → Bool
-is_report (Json text) = false
-is_report (Text bytes) = true
+-- what a body is
+abbrev pub media_of : Body → Media
+media_of (Json text) = Value
+media_of (Text bytes) = Report
+media_of (Html html) = Browsed html.policy.now
 
 -- the page that shows this body
 abbrev pub shown_page : Body → Paged
 shown_page body = record {
   status = Fine;
   allow = None;
-  is_report = is_report body;
+  media = media_of body;
   body = body_bytes body;
 }
 
@@ -49,24 +57,28 @@ abbrev pub page_said : Page → Paged
 page_said page = record {
   status = page.status;
   allow = page.allow;
-  is_report = is_report page.body;
+  media = media_of page.body;
   body = body_bytes page.body;
 }
 
 -- the page that shows a JSON value
 abbrev pub value_page : Data → Paged
-value_page d = record { status = Fine; allow = None; is_report = false; body = compact_text d }
+value_page d = record { status = Fine; allow = None; media = Value; body = compact_text d }
 
 -- the page that shows a report
 abbrev pub report_page : List ℕ → Paged
-report_page text = record { status = Fine; allow = None; is_report = true; body = text }
+report_page text = record { status = Fine; allow = None; media = Report; body = text }
+
+-- the page for browsers, with its policy for content
+abbrev pub browsed_page : (text policy : List ℕ) → Paged
+browsed_page text policy = record { status = Fine; allow = None; media = Browsed policy; body = text }
 
 -- the page of a refusal, with the method that is allowed where another was asked
 abbrev pub denied_page : Refusal → Option Verb → Paged
 denied_page why allow = record {
   status = status_of why;
   allow = allow;
-  is_report = false;
+  media = Value;
   body = compact_text (refusal_data why);
 }
 
@@ -88,8 +100,16 @@ abbrev pub line : List ℕ → List ℕ
 line text = text ++ (13 ∷ 10 ∷ [])
 
 -- the media type of a body
-abbrev pub media_type : Bool → List ℕ
-media_type is_report = if is_report then codes "text/plain" else codes "application/json"
+abbrev pub media_type : Media → List ℕ
+media_type Value = codes "application/json"
+media_type Report = codes "text/plain"
+media_type (Browsed policy) = codes "text/html; charset=utf-8"
+
+-- the line with the policy for content of a page for browsers
+abbrev pub policy_line : Media → List ℕ
+policy_line Value = []
+policy_line Report = []
+policy_line (Browsed policy) = line (codes "Content-Security-Policy: " ++ policy)
 
 -- the line that reports which method is allowed, where another was asked
 abbrev pub allow_line : Option Verb → List ℕ
@@ -100,13 +120,21 @@ allow_line (Some verb) = line (codes "Allow: " ++ verb_text verb)
 abbrev pub close_line : Bool → List ℕ
 close_line closes = if closes then line (codes "Connection: close") else []
 
--- the bytes before the body: the status line, the fields, an empty line
-abbrev pub head_text : Bool → Paged → List ℕ
-head_text closes page =
+-- the fields that only some pages have: the policy of a page for browsers, and the method that is allowed
+abbrev pub further_fields : Paged → List ℕ
+further_fields page = policy_line page.media ++ allow_line page.allow
+
+-- the bytes before the body, with these lines of further fields
+abbrev pub head_with : List ℕ → Bool → Paged → List ℕ
+head_with fields closes page =
     line (codes "HTTP/1.1 " ++ decimal (status_code page.status) ++ codes " " ++ phrase page.status)
     ++ line (codes "Content-Length: " ++ decimal (length page.body))
-    ++ line (codes "Content-Type: " ++ media_type page.is_report)
-    ++ allow_line page.allow ++ close_line closes ++ line []
+    ++ line (codes "Content-Type: " ++ media_type page.media)
+    ++ fields ++ close_line closes ++ line []
+
+-- the bytes before the body: the status line, the fields, an empty line
+abbrev pub head_text : Bool → Paged → List ℕ
+head_text closes page = head_with (further_fields page) closes page
 
 -- the bytes of a page. HEAD gets them without the body
 abbrev pub page_text : (is_head closes : Bool) → Paged → List ℕ

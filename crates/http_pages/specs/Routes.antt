@@ -15,7 +15,7 @@ use Rattle.http_pages.specs.declared.places.Entry.{Entry}
 use Rattle.http_pages.specs.declared.places.Place.{Place}
 use Rattle.http_pages.specs.declared.places.Place.TheVariants as place
 use Rattle.http_pages.specs.declared.routes.Route.{Route}
-use Rattle.http_pages.specs.declared.routes.Route.TheVariants.{LoadBatch, Begin, Step, Abort, Save, ShowJourney, ShowPlan, ShowUnfinished, ShowStock}
+use Rattle.http_pages.specs.declared.routes.Route.TheVariants.{LoadBatch, Begin, Step, Abort, Save, ShowJourney, ShowPlan, ShowUnfinished, ShowStock, ShowMine, ShowHealth}
 use Rattle.http_pages.specs.declared.routes.Unrouted.{Unrouted}
 use Rattle.http_pages.specs.declared.routes.Unrouted.TheVariants.{UnknownPath, WrongMethod, BadPart}
 use Rattle.http_pages.specs.declared.verbs.Verb.TheVariants.{Get, Post}
@@ -46,6 +46,9 @@ table =
     ∷ get (codes "/journeys/{id}/plan") place.Plan
     ∷ get (codes "/unfinished") place.Unfinished
     ∷ get (codes "/stock") place.Stock
+    ∷ get (codes "/mine") place.Mine
+    ∷ get (codes "/mine/{after}") place.MineAfter
+    ∷ get (codes "/health") place.Health
     ∷ []
 
 -- the paths in which `matchit` looks up a target
@@ -92,6 +95,10 @@ name_at target = option_and_then (keep_if is_batch_name) (piece target 2)
 abbrev pub journey_at : List ℕ → Option ℕ
 journey_at target = option_and_then journey_in (piece target 2)
 
+-- the number above which a target asks for journeys, after `/mine/`
+abbrev pub after_at : List ℕ → Option ℕ
+after_at target = option_and_then (number_from 0 most_events) (piece target 2)
+
 -- the position that a target has after `/abort/`
 abbrev pub position_at : List ℕ → Option ℕ
 position_at target = option_and_then position_in (piece target 4)
@@ -114,6 +121,9 @@ asked place.Journey target = option_map ShowJourney (journey_at target)
 asked place.Plan target = option_map ShowPlan (journey_at target)
 asked place.Unfinished target = Some ShowUnfinished
 asked place.Stock target = Some ShowStock
+asked place.Mine target = Some (ShowMine 0)
+asked place.MineAfter target = option_map ShowMine (after_at target)
+asked place.Health target = Some ShowHealth
 
 -- what was asked for, or that a part is malformed
 abbrev pub good_parts : Option Route → Result Route Unrouted

@@ -1,7 +1,7 @@
 //! Pages: the answers to requests, with their statuses.
 ghost use Rattle.std.specs.Prelude.{◌≡◌, IfOk};
 ghost use Rattle.http_pages.specs.Pages.{page_said, shown_page, reply_page};
-ghost use Rattle.http_pages.specs.Pages.{denied_page, refused_page, body_bytes, is_report, media_type};
+ghost use Rattle.http_pages.specs.Pages.{denied_page, refused_page, body_bytes, media_of, media_type};
 
 use crate::admitting::Denied;
 use crate::bodies::{refusal_body, reply_body};
@@ -17,6 +17,17 @@ pub enum Body {
     Json(String),
     /// The text of a report.
     Text(Vec<u8>),
+    /// A page for browsers.
+    Html(HtmlPage),
+}
+
+/// A page for browsers.
+#[derive(Clone, Copy, Debug, PartialEq, Eq)]
+pub struct HtmlPage {
+    /// The page, in HTML.
+    pub text: &'static str,
+    /// What it may load and do, the value of `Content-Security-Policy` (Content Security Policy Level 3).
+    pub policy: &'static str,
 }
 
 /// The answer to a request.
@@ -35,20 +46,22 @@ pub(crate) fn bytes_of(body: &Body) -> &[u8]
     match body {
         Body::Json(text) => text.as_bytes(),
         Body::Text(bytes) => bytes,
+        Body::Html(html) => html.text.as_bytes(),
     }
 }
 
 /// The media type of a body.
 pub(crate) fn media_type_of(body: &Body) -> &'static str
-    ensures media_type { result.now ≡ media_type (is_report body.now) }
+    ensures media_type { result.now ≡ media_type (media_of body.now) }
 {
     match body {
         Body::Json(_) => "application/json",
         Body::Text(_) => "text/plain",
+        Body::Html(_) => "text/html; charset=utf-8",
     }
 }
 
-/// The page with status 200 of this body: a JSON value in its compact text, or a report.
+/// The page with status 200 of this body: a JSON value in its compact text, a report, or a page for browsers.
 pub fn shown_page(body: Body) -> Page
     ensures page { page_said result ≡ shown_page body }
 {

@@ -3,14 +3,17 @@ ghost use Rattle.std.specs.Prelude.{◌≡◌, IfOk};
 ghost use Rattle.std.specs.String.{string_bytes};
 ghost use Rattle.serde_json.specs.Written.{compact_text};
 ghost use Rattle.http_pages.specs.Bodies.{refusal_data, reply_data, journey_data, unfinished_data};
-ghost use Rattle.http_pages.specs.Bodies.{stopping_data};
+ghost use Rattle.http_pages.specs.Bodies.{health_data, mine_data, stopping_data};
 ghost use Rattle.plan.specs.PlanData.{plan_data};
 
 use crate::plans::plan_value;
-use crate::values::{journey_value, refusal_value, reply_value, stopping_value, unfinished_value};
+use crate::values::{
+    health_value, journey_value, mine_value, refusal_value, reply_value, stopping_value,
+    unfinished_value,
+};
 use commands::{Cursor, Item, Refusal, Reply};
 use plan::Plan;
-use saga_core::Brief;
+use saga_core::{Brief, Counts};
 use std::alloc::{AllocError, Global};
 
 /// The body that answers a command, as `{"journey":1}`. The only fault is out of memory.
@@ -73,6 +76,25 @@ pub fn unfinished_body(
         (λ body. string_bytes body ≡ compact_text (unfinished_data owners briefs.now)) }
 {
     let value = unfinished_value(alloc, owners, briefs)?;
+    value.to_string(alloc)
+}
+
+/// The body that shows journeys of one agent, finished ones too, in the order in which they are given. The only fault is
+/// out of memory.
+pub fn mine_body(alloc: Global, owners: Owners, briefs: &[Brief]) -> Result<String, AllocError>
+    ensures body { IfOk result
+        (λ body. string_bytes body ≡ compact_text (mine_data owners briefs.now)) }
+{
+    let value = mine_value(alloc, owners, briefs)?;
+    value.to_string(alloc)
+}
+
+/// The body that shows how many events and journeys there are, as `{"events":9,"journeys":2,"unfinished":1}`. The only
+/// fault is out of memory.
+pub fn health_body(alloc: Global, counts: Counts) -> Result<String, AllocError>
+    ensures body { IfOk result (λ body. string_bytes body ≡ compact_text (health_data counts)) }
+{
+    let value = health_value(alloc, counts)?;
     value.to_string(alloc)
 }
 

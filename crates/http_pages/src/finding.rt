@@ -46,6 +46,9 @@ impl Paths {
         add(&mut router, "/journeys/{id}/plan", Verb::Get, Place::Plan)?;
         add(&mut router, "/unfinished", Verb::Get, Place::Unfinished)?;
         add(&mut router, "/stock", Verb::Get, Place::Stock)?;
+        add(&mut router, "/mine", Verb::Get, Place::Mine)?;
+        add(&mut router, "/mine/{after}", Verb::Get, Place::MineAfter)?;
+        add(&mut router, "/health", Verb::Get, Place::Health)?;
         Ok(Paths { router })
     }
 

@@ -1,9 +1,9 @@
 //! The bytes of a page (RFC 9112, sections 4 and 5).
 ghost use Rattle.std.specs.Prelude.{◌≡◌, IfOk};
 ghost use Rattle.std.specs.String.{string_bytes};
-ghost use Rattle.http_pages.specs.Pages.{page_said, page_text, head_text, allow_line, close_line};
+ghost use Rattle.http_pages.specs.Pages.{page_said, page_text, head_with, further_fields, media_of, policy_line, allow_line, close_line};
 
-use crate::answers::{Page, bytes_of, media_type_of};
+use crate::answers::{Body, Page, bytes_of, media_type_of};
 use crate::verbs::Verb;
 use std::alloc::{AllocError, Global};
 
@@ -18,29 +18,53 @@ pub fn page_bytes(
     ensures bytes { IfOk result
         (λ bytes. bytes.items ≡ page_text is_head closes (page_said page.now)) }
 {
-    let mut bytes = head_of(alloc, page, closes)?.into_bytes();
+    let fields = further_fields(alloc, page)?;
+    let mut bytes = head_of(alloc, page, fields.as_str(), closes)?.into_bytes();
     if !is_head {
         bytes.extend_from_slice(bytes_of(&page.body))?;
     }
     Ok(bytes)
 }
 
-/// The bytes before the body.
-fn head_of(alloc: Global, page: &Page, closes: bool) -> Result<String, AllocError>
-    ensures head { IfOk result (λ head. string_bytes head ≡ head_text closes (page_said page.now)) }
+/// The bytes before the body, with these lines of the fields that only some pages have.
+fn head_of(alloc: Global, page: &Page, fields: &str, closes: bool) -> Result<String, AllocError>
+    ensures head { IfOk result
+        (λ head. string_bytes head ≡ head_with fields.now closes (page_said page.now)) }
 {
     let code = page.status.code().as_u16();
     let phrase = page.status.phrase();
     let length = bytes_of(&page.body).len();
     let media_type = media_type_of(&page.body);
-    let allow = allow_line(page.allow);
     let close = close_line(closes);
     format!(in alloc;
         "HTTP/1.1 {code} {phrase}\r\n\
         Content-Length: {length}\r\n\
         Content-Type: {media_type}\r\n\
-        {allow}{close}\r\n"
+        {fields}{close}\r\n"
     )
+}
+
+/// The lines of the fields that only some pages have. The only fault is out of memory.
+fn further_fields(alloc: Global, page: &Page) -> Result<String, AllocError>
+    ensures fields { IfOk result
+        (λ fields. string_bytes fields ≡ further_fields (page_said page.now)) }
+{
+    let policy = policy_line(alloc, &page.body)?;
+    let allow = allow_line(page.allow);
+    format!(in alloc; "{policy}{allow}")
+}
+
+/// The line with the policy for content of a page for browsers. The only fault is out of memory.
+fn policy_line(alloc: Global, body: &Body) -> Result<String, AllocError>
+    ensures line { IfOk result (λ line. string_bytes line ≡ policy_line (media_of body.now)) }
+{
+    match body {
+        Body::Json(_) | Body::Text(_) => Ok(String::new(alloc)),
+        Body::Html(html) => {
+            let policy = html.policy;
+            format!(in alloc; "Content-Security-Policy: {policy}\r\n")
+        }
+    }
 }
 
 /// The line that reports which method is allowed, where another was asked.

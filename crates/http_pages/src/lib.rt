@@ -3,7 +3,7 @@
 //! A *route* is what a method and a target ask for. `Paths::route` finds it in one table of paths, and `admit` reports
 //! the first thing that is wrong with a request before its body is read. A *page* is a status and a body; `page_bytes`
 //! returns its bytes. Bodies are JSON in its compact text, with the members of each object in the order of their names,
-//! or the text of a report.
+//! the text of a report, or a page for browsers.
 //!
 //! Words: a *verb* is a method that some path has, a *place* what stands at a path.
 #![tactic(auto)]
@@ -23,9 +23,10 @@ mod values;
 mod verbs;
 
 pub use admitting::{Denied, admit};
-pub use answers::{Body, Page, denied_page, refused_page, reply_page, shown_page};
+pub use answers::{Body, HtmlPage, Page, denied_page, refused_page, reply_page, shown_page};
 pub use bodies::{
-    Owners, journey_body, plan_body, refusal_body, reply_body, stopping_body, unfinished_body,
+    Owners, health_body, journey_body, mine_body, plan_body, refusal_body, reply_body,
+    stopping_body, unfinished_body,
 };
 pub use finding::Paths;
 pub use heads::page_bytes;

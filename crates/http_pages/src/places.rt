@@ -1,12 +1,12 @@
 //! What stands at the paths of the desk, and what the parts of a target ask for there. Nothing here allocates.
 ghost use Rattle.std.specs.Prelude.{◌≡◌, option_map};
-ghost use Rattle.http_pages.specs.Routes.{piece, name_at, journey_at, position_at, asked};
+ghost use Rattle.http_pages.specs.Routes.{piece, name_at, journey_at, after_at, position_at, asked};
 
 use crate::routes::Route;
 use crate::verbs::Verb;
 use commands::{MOST_EVENTS, MOST_NAMED_POSITION, Name, number_between};
 
-/// The piece of a target that holds a batch's name or a journey's number.
+/// The piece of a target that holds a batch's name, a journey's number or one above which journeys are asked for.
 const FIRST_PART: usize = 2;
 
 /// The piece of a target that holds a position.
@@ -33,6 +33,12 @@ pub enum Place {
     Unfinished,
     /// The stock.
     Stock,
+    /// The journeys of who asks.
+    Mine,
+    /// The journeys of who asks above a number.
+    MineAfter,
+    /// How many events and journeys there are.
+    Health,
 }
 
 /// The one method that a path has, and what stands there.
@@ -57,6 +63,9 @@ impl Place {
             Place::Plan => journey_at(target).map(Route::ShowPlan),
             Place::Unfinished => Some(Route::ShowUnfinished),
             Place::Stock => Some(Route::ShowStock),
+            Place::Mine => Some(Route::ShowMine(0)),
+            Place::MineAfter => after_at(target).map(Route::ShowMine),
+            Place::Health => Some(Route::ShowHealth),
         }
     }
 }
@@ -74,6 +83,14 @@ fn journey_at(target: &str) -> Option<u64>
 {
     let id = number_between(piece(target, FIRST_PART)?, 1, MOST_EVENTS as usize)?;
     Some(id as u64)
+}
+
+/// The number that the target has, above which journeys are asked for.
+fn after_at(target: &str) -> Option<u64>
+    ensures after { result ≡ after_at target.now }
+{
+    let after = number_between(piece(target, FIRST_PART)?, 0, MOST_EVENTS as usize)?;
+    Some(after as u64)
 }
 
 /// The position that the target has.

@@ -23,6 +23,10 @@ pub enum Route {
     ShowUnfinished,
     /// Show the stock.
     ShowStock,
+    /// Show the journeys of who asks above this number, finished ones too.
+    ShowMine(u64),
+    /// Show how many events and journeys there are, to anybody.
+    ShowHealth,
 }
 
 /// Why a method and a target ask for nothing.
@@ -32,6 +36,6 @@ pub enum Unrouted {
     UnknownPath,
     /// The path has another method, this one.
     WrongMethod(Verb),
-    /// A part of the path is malformed: no batch's name, no journey's number or no position.
+    /// A part of the path is malformed: no batch's name, no number or no position.
     BadPart,
 }

@@ -1,4 +1,6 @@
 // Values from outside: the tables of routes and codes, and bodies and pages as the formats give them.
+mod shown;
+
 use crate::{
     Body, Denied, Owners, Page, Paths, Route, Status, Unrouted, Verb, admit, denied_page,
     journey_body, page_bytes, plan_body, refusal_body, refused_page, reply_body, reply_page,
@@ -30,7 +32,7 @@ fn asks(rt: &impl Abort, paths: &Paths, method: &str, target: &[u8], expected: F
 
 // the method, the target, what they ask for
 #[rattlefmt::skip]
-const ROUTES: [(&str, &str, Route); 10] = [
+const ROUTES: [(&str, &str, Route); 15] = [
     ("POST", "/journeys",                   Route::Begin),
     ("POST", "/journeys/1/step",            Route::Step(1)),
     ("POST", "/journeys/999999999999/step", Route::Step(999_999_999_999)),
@@ -41,6 +43,11 @@ const ROUTES: [(&str, &str, Route); 10] = [
     ("GET",  "/journeys/1/plan",            Route::ShowPlan(1)),
     ("GET",  "/unfinished",                 Route::ShowUnfinished),
     ("GET",  "/stock",                      Route::ShowStock),
+    ("GET",  "/mine",                       Route::ShowMine(0)),
+    ("GET",  "/mine/0",                     Route::ShowMine(0)),
+    ("GET",  "/mine/17",                    Route::ShowMine(17)),
+    ("GET",  "/mine/999999999999",          Route::ShowMine(999_999_999_999)),
+    ("GET",  "/health",                     Route::ShowHealth),
 ];
 
 /// Stops the test where the method and the target of a row ask for something else than its last column says.
@@ -58,7 +65,7 @@ fn a_method_and_a_target_ask_for_one_thing(rt: HostRuntime) {
 
 // the method and the target
 #[rattlefmt::skip]
-const BAD_PARTS: [(&str, &str); 14] = [
+const BAD_PARTS: [(&str, &str); 18] = [
     ("POST", "/journeys/01/step"),
     ("POST", "/journeys/0/step"),
     ("POST", "/journeys/1000000000000/step"),
@@ -73,6 +80,10 @@ const BAD_PARTS: [(&str, &str); 14] = [
     ("GET",  "/journeys/é"),
     ("POST", "/batches/B1"),
     ("POST", "/batches/abcdefghijklmnopqrstuvwxy"),
+    ("GET",  "/mine/01"),
+    ("GET",  "/mine/-1"),
+    ("GET",  "/mine/x"),
+    ("GET",  "/mine/1000000000000"),
 ];
 
 #[test]
@@ -84,9 +95,10 @@ fn a_part_of_another_form_is_bad(rt: HostRuntime) {
 }
 
 #[rattlefmt::skip]
-const NOWHERE_AT_ALL: [&str; 14] = [
+const NOWHERE_AT_ALL: [&str; 18] = [
     "", "/", "*", "unfinished", "/nowhere", "//stock", "/stock/", "/stock?a", "/journeys/",
     "/journeys/1/", "/journeys//step", "/journeys/1/step/", "/journeys/1/stop", "/batches/a/b",
+    "/mine/", "/mine/1/", "/mine?after=1", "/health/",
 ];
 
 #[test]
@@ -100,7 +112,7 @@ fn a_target_that_is_no_path_is_unknown(rt: HostRuntime) {
 
 // the method, the target, the method that its path has
 #[rattlefmt::skip]
-const WRONG_METHODS: [(&str, &str, Verb); 7] = [
+const WRONG_METHODS: [(&str, &str, Verb); 9] = [
     ("DELETE", "/unfinished",      Verb::Get),
     ("HEAD",   "/stock",           Verb::Get),
     ("get",    "/stock",           Verb::Get),
@@ -108,6 +120,8 @@ const WRONG_METHODS: [(&str, &str, Verb); 7] = [
     ("GET",    "/journeys",        Verb::Post),
     ("DELETE", "/journeys/1/step", Verb::Post),
     ("GET",    "/batches/B1",      Verb::Post),
+    ("POST",   "/mine/x",          Verb::Get),
+    ("POST",   "/health",          Verb::Get),
 ];
 
 #[test]
@@ -133,6 +147,8 @@ fn a_batch_is_loaded_under_its_name(rt: HostRuntime) {
 
 const STEP: Found = Ok(Route::Step(1));
 
+const HEALTH: Found = Ok(Route::ShowHealth);
+
 const BAD: Found = Err(Unrouted::BadPart);
 
 const OTHER: Found = Err(Unrouted::WrongMethod(Verb::Post));
@@ -141,7 +157,7 @@ const NOWHERE: Found = Err(Unrouted::UnknownPath);
 
 // what was found; whether there are an agent and a key, and the method is POST; what is wrong
 #[rattlefmt::skip]
-const ORDER: [(Found, bool, bool, bool, Option<Refusal>); 10] = [
+const ORDER: [(Found, bool, bool, bool, Option<Refusal>); 12] = [
     (STEP,    true,  true,  true,  None),
     (STEP,    true,  false, false, None),
     (NOWHERE, false, false, true,  Some(Refusal::UnknownPath)),
@@ -152,6 +168,8 @@ const ORDER: [(Found, bool, bool, bool, Option<Refusal>); 10] = [
     (STEP,    true,  false, true,  Some(Refusal::NoKey)),
     (BAD,     true,  true,  true,  Some(Refusal::BadBody)),
     (BAD,     true,  false, false, Some(Refusal::BadBody)),
+    (HEALTH,  false, false, false, None),
+    (HEALTH,  true,  false, false, None),
 ];
 
 /// What is wrong, if something is.

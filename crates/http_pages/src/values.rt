@@ -2,14 +2,14 @@
 ghost use Rattle.std.specs.Prelude.{◌≡◌, IfOk, OnOk, map};
 ghost use Rattle.serde_json.specs.View.{view, members_view};
 ghost use Rattle.http_pages.specs.Bodies.{item_data, moved_data, refusal_data, reply_data, list};
-ghost use Rattle.http_pages.specs.Bodies.{journey_data, brief_data, unfinished_data};
-ghost use Rattle.http_pages.specs.Bodies.{stopping_data};
+ghost use Rattle.http_pages.specs.Bodies.{journey_data, brief_data, mine_data, unfinished_data};
+ghost use Rattle.http_pages.specs.Bodies.{health_data, stopping_data};
 ghost use Rattle.http_pages.specs.Members.{with_standing};
 
 use crate::bodies::Owners;
 use commands::{Cursor, Item, Phase, Refusal, Reply};
 use plan::BadPlan;
-use saga_core::Brief;
+use saga_core::{Brief, Counts};
 use serde_json::{Map, Value, json, put};
 use std::alloc::{AllocError, Global};
 
@@ -97,6 +97,16 @@ pub fn unfinished_value(
     Ok(Value::Object(members))
 }
 
+/// The value of journeys of one agent, in the order in which they are given.
+pub fn mine_value(alloc: Global, owners: Owners, briefs: &[Brief]) -> Result<Value, AllocError>
+    ensures value { IfOk result (λ value. view value ≡ mine_data owners briefs.now) }
+{
+    let mut members = Map::new(alloc);
+    let listed = briefs_value(alloc, owners, briefs)?;
+    put(&mut members, alloc, "mine", listed)?;
+    Ok(Value::Object(members))
+}
+
 /// The list of the items of a history, oldest first.
 fn items_value(alloc: Global, history: &[Item]) -> Result<Value, AllocError>
     ensures value { IfOk result (λ value. view value ≡ list (map item_data history.now)) }
@@ -131,6 +141,18 @@ fn brief_value(alloc: Global, owners: Owners, brief: &Brief) -> Result<Value, Al
     let Cursor { pos, phase, .. } = brief.cursor;
     put_standing(alloc, &mut members, brief.id, pos, phase)?;
     Ok(Value::Object(members))
+}
+
+/// The value of how many events, journeys and unfinished journeys there are.
+pub fn health_value(alloc: Global, counts: Counts) -> Result<Value, AllocError>
+    ensures value { IfOk result (λ value. view value ≡ health_data counts) }
+{
+    let Counts {
+        events,
+        journeys,
+        unfinished,
+    } = counts;
+    json!(in alloc; {"events": events, "journeys": journeys, "unfinished": unfinished})
 }
 
 /// The value that says that the desk stops.

@@ -32,10 +32,10 @@ impl Socket {
         }
     }
 
-    /// By which door its requests come in.
-    pub(crate) fn door(&self) -> Door {
+    /// By which door its requests come in: at the port by this one.
+    pub(crate) fn door(&self, at_port: Door) -> Door {
         match self {
-            Socket::Port(_) => Door::Port,
+            Socket::Port(_) => at_port,
             Socket::Path(_) => Door::House,
         }
     }

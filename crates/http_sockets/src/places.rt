@@ -1,6 +1,7 @@
 //! What is known of each seat: its socket, what its peer owes, and since when.
 use crate::ends::Socket;
 use http_live::Standing;
+use http_log::Why;
 use std::alloc::{AllocError, Global};
 use std::collections::VecDeque;
 use std::rc::Rc;
@@ -110,6 +111,15 @@ impl Places {
             place.heard = tick;
         }
         place.owed = owed;
+    }
+
+    /// Why a seat is ended whose peer has owed something for too long.
+    pub(crate) fn why_overdue(&self, at: usize) -> Why {
+        match self.places.get(at).map(|place| place.owed) {
+            Some(Owed::Message) => Why::LateRequest,
+            Some(Owed::Page) => Why::LatePage,
+            _ => Why::Closed,
+        }
     }
 
     /// Whether the seat is to be queued, which it then is: it is not queued yet.

@@ -1,11 +1,15 @@
 //! Turns from the system: what epoll reports, and who comes and goes.
 use crate::ends::{ReadEnd, Socket, WriteEnd, ends_of};
+use crate::journal::Journal;
 use crate::limits::Limits;
 use crate::listeners::{Accepted, FIRST, Listeners};
 use crate::places::Places;
+use desk_http::{Door, Site};
 use http_live::{SEATS, Standing, Turn, Turns};
+use http_log::Why;
+use http_pages::HtmlPage;
 use mio::{Events, Poll, Token};
-use std::alloc::Global;
+use std::alloc::{AllocError, Global};
 use std::collections::VecDeque;
 use std::io::{self, ErrorKind};
 use std::mem;
@@ -45,6 +49,8 @@ pub struct Sockets<'a> {
     poll: Poll,
     events: Events,
     listeners: Listeners<'a>,
+    /// By which door requests come in at the port.
+    at_port: Door,
     places: Places,
     /// The seats that go on in this round, and those of the next one.
     round: VecDeque<usize>,
@@ -53,6 +59,8 @@ pub struct Sockets<'a> {
     leaving: VecDeque<usize>,
     /// Whether the system has failed to report what happens.
     has_failed: bool,
+    /// The log, if one is written.
+    journal: Option<Journal<'a>>,
 }
 
 impl<'a> Sockets<'a> {
@@ -84,17 +92,39 @@ impl<'a> Sockets<'a> {
             poll,
             events,
             listeners,
+            at_port: Door::Port,
             places,
             round,
             next,
             leaving,
             has_failed: false,
+            journal: None,
         })
+    }
+
+    /// Writes a line on standard error for each request and for each connection that ended, from now on.
+    pub fn log(&mut self) -> Result<(), AllocError> {
+        self.journal = Some(Journal::new(self.rt, self.alloc, SEATS)?);
+        Ok(())
+    }
+
+    /// Notes in the log, if one is written, why the connection of a seat ended.
+    fn note_end(&mut self, at: usize, why: Why) {
+        if let Some(journal) = &mut self.journal {
+            journal.ends(at, why);
+        }
     }
 
     /// The port that is listened on: where 0 was asked for, the system chose it.
     pub fn port(&self) -> io::Result<u16> {
         self.listeners.port()
+    }
+
+    /// Who comes to the port from now on is served this page too.
+    pub fn show(&mut self, page: HtmlPage) -> io::Result<()> {
+        let port = self.port()?;
+        self.at_port = Door::Page(Site { port, page });
+        Ok(())
     }
 
     /// Whether no turn came since the system failed to report what happens.
@@ -116,13 +146,24 @@ impl<'a> Sockets<'a> {
 
     /// Ends all connections, listens no more, and removes the file of the Unix socket.
     pub fn end(self) {
-        let rt = self.rt;
-        self.listeners.end(rt);
+        let mut sockets = self;
+        sockets.note_ends();
+        let rt = sockets.rt;
+        sockets.listeners.end(rt);
+    }
+
+    /// Notes in the log, if one is written, that all connections end.
+    fn note_ends(&mut self) {
+        if let Some(journal) = &mut self.journal {
+            journal.ends_all();
+        }
     }
 
     /// The next turn of this round.
     fn turn_of_round(&mut self) -> Option<Turn<ReadEnd, WriteEnd>> {
         if let Some(at) = self.leaving.pop_front() {
+            let why = self.places.why_overdue(at);
+            self.note_end(at, why);
             self.places.clear(at);
             return Some(Turn::Leaves(at));
         }
@@ -170,11 +211,14 @@ impl<'a> Sockets<'a> {
     /// A peer takes a seat.
     fn seated(&mut self, socket: Socket, at: usize) -> io::Result<Turn<ReadEnd, WriteEnd>> {
         let mut socket = socket;
-        let door = socket.door();
+        let door = socket.door(self.at_port);
         socket.register(self.poll.registry(), Token(at.saturating_add(FIRST)))?;
         let socket = Rc::new(self.alloc, socket)?;
         let (reader, writer) = ends_of(&socket)?;
         self.places.take(at, socket, self.tick);
+        if let Some(journal) = &mut self.journal {
+            journal.comes(at, matches!(door, Door::House));
+        }
         Ok(Turn::Comes(at, door, reader, writer))
     }
 
@@ -253,8 +297,24 @@ impl Turns for Sockets<'_> {
         Turn::End
     }
 
+    fn see_received(&mut self, at: usize, received: &[u8]) {
+        if let Some(journal) = &mut self.journal {
+            journal.sees_received(at, received);
+        }
+    }
+
+    fn see_page(&mut self, at: usize, standing: Standing, page: &[u8]) {
+        if let Some(journal) = &mut self.journal {
+            journal.sees_page(at, standing, page);
+        }
+    }
+
     fn hear(&mut self, at: usize, standing: Standing) {
         self.places.hear(at, standing, self.tick);
+        if standing == Standing::Over {
+            // Where its end was seen, it is noted already.
+            self.note_end(at, Why::Stopped);
+        }
         match standing {
             Standing::Over => self.places.clear(at),
             Standing::Busy | Standing::Answered => {

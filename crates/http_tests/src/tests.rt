@@ -1,3 +1,4 @@
+mod browsers;
 mod closing;
 mod desks;
 mod doors;
@@ -8,6 +9,7 @@ mod keys;
 mod limits;
 mod moves;
 mod orders;
+mod own;
 mod refusals;
 mod sockets;
 mod talks;

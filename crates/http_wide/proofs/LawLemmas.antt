@@ -1,20 +1,21 @@
 -- After a head and its body the next message is looked for, whatever the body stands for. For the laws.
-use Rattle.std.proofs.Common.{◌≡◌, ◌∙◌, ap, sym, subst, refl, ℕ, Bool, true, false, ◌||◌, ◌==◌, List, [], ◌∷◌, ◌++◌, arith, append-nil, append_assoc, Result, Ok, Some}
+use Rattle.std.proofs.Common.{◌≡◌, ◌∙◌, ap, sym, subst, refl, ℕ, ◌+◌, ◌-◌, Bool, true, false, ◌||◌, ◌==◌, List, [], ◌∷◌, ◌++◌, length, take, arith, append-nil, append_assoc, Result, Ok, Some}
 use Rattle.std.specs.Prelude.{if◌then◌else◌, not, IsTrue}
+use Rattle.std.proofs.Math.Seq.{take-append-add}
 use Rattle.std.proofs.lemmas.Bool.{eqb-true}
 use Rattle.std.proofs.lemmas.List.{append_cancel_left}
 use Rattle.std.proofs.lemmas.List.Elements.{recursion_from_All}
 use Rattle.httparse.specs.Grammar.{IsToken, LineEnd, RequestHead, crlf, is_token_byte, lf, print_blank, print_request}
 use Rattle.httparse.proofs.GrammarLemmas.{ReadsSection-append, print_request-append, request_unique}
-use Rattle.http_messages.specs.Heads.{IsHead, parts_of}
+use Rattle.http_messages.specs.Heads.{IsHead, most_head_bytes, parts_of}
 use Rattle.http_messages.specs.Messages.{first_told, is_newline}
 use Rattle.http_messages.proofs.ToldLemmas.{head_is_told}
 use Rattle.http_wide.specs.declared.framing.BodyKind.{BodyKind}
 use Rattle.http_wide.specs.declared.framing.BodyKind.TheVariants.{Sized, Chunked}
 use Rattle.http_wide.specs.declared.framing.Unframed.{Unframed}
-use Rattle.http_wide.specs.Framing.{body_kind}
+use Rattle.http_wide.specs.Framing.{head_kind}
 use Rattle.http_wide.specs.Bodies.{IsBody}
-use Rattle.http_wide.specs.Wide.{Asks, BeginsWith, begins_no_method}
+use Rattle.http_wide.specs.Wide.{Asks, BeginsWith, begins_no_method, has_no_method}
 use Rattle.http_wide.proofs.BodyLemmas.{one_body}
 
 -- a token has no line end
@@ -72,14 +73,26 @@ body_more Chunked text body rest is =
       short = is.short;
     }
 
-same_front : (stream f g : List ℕ) → first_told stream ≡ Some f → first_told stream ≡ Some g → f ≡ g
+-- the bytes that a head may have, of a stream that begins with one: the head, and some of what follows it
+reach : (front more : List ℕ) (h : RequestHead) → IsHead front h
+    → take most_head_bytes (front ++ more) ≡ front ++ take (most_head_bytes - length front) more
+reach front more h is =
+    let all : most_head_bytes ≡ length front + (most_head_bytes - length front) = omega (arith, is.short) in
+    ap (λ n. take n (front ++ more)) all ∙ take-append-add front more (most_head_bytes - length front)
+
+-- a head begins with a method
+method_here : (front more : List ℕ) (h : RequestHead) → IsHead front h → has_no_method (front ++ more) ≡ false
+method_here front more h is =
+    ap begins_no_method (reach front more h is) ∙ method_first front (take (most_head_bytes - length front) more) h is
+
+pub same_front : (stream f g : List ℕ) → first_told stream ≡ Some f → first_told stream ≡ Some g → f ≡ g
 same_front stream f g one other = cc
 
-same_kind : (kind other : BodyKind) (found : Result BodyKind Unframed) → found ≡ Ok kind → found ≡ Ok other → kind ≡ other
+pub same_kind : (kind other : BodyKind) (found : Result BodyKind Unframed) → found ≡ Ok kind → found ≡ Ok other → kind ≡ other
 same_kind kind other found one two = cc
 
 module _ (front text body rest : List ℕ) (h : RequestHead) (kind : BodyKind)
-    (is : IsHead front h) (framed : body_kind (parts_of h) ≡ Ok kind) (is_body : IsBody kind text body []) where
+    (is : IsHead front h) (framed : head_kind (parts_of h) ≡ Ok kind) (is_body : IsBody kind text body []) where
   abbrev stream : List ℕ
   stream = front ++ (text ++ rest)
 
@@ -90,7 +103,7 @@ module _ (front text body rest : List ℕ) (h : RequestHead) (kind : BodyKind)
     text ++ rest,
     record {
       front = front;
-      begins = record { method = method_first front (text ++ rest) h is; first = head_is_told front (text ++ rest) h is; whole = refl };
+      begins = record { method = method_here front (text ++ rest) h is; first = head_is_told front (text ++ rest) h is; whole = refl };
       is_head = is;
       framed = framed;
     },
@@ -105,7 +118,7 @@ module _ (front text body rest : List ℕ) (h : RequestHead) (kind : BodyKind)
       let f : its.front ≡ front = same_front stream its.front front its.begins.first (head_is_told front (text ++ rest) h is) in
       let k_here : IsHead front k = subst (λ z. IsHead z k) f its.is_head in
       let same : k ≡ h = (request_unique front k h [] [] k_here.reads is.reads).0 in
-      let kinds : begins.0 ≡ kind = same_kind begins.0 kind (body_kind (parts_of h)) (ap (λ z. body_kind (parts_of z)) (sym same) ∙ its.framed) framed in
+      let kinds : begins.0 ≡ kind = same_kind begins.0 kind (head_kind (parts_of h)) (ap (λ z. head_kind (parts_of z)) (sym same) ∙ its.framed) framed in
       let after : begins.1 ≡ text ++ rest =
       append_cancel_left front begins.1 (text ++ rest) (ap (λ z. z ++ begins.1) (sym f) ∙ sym its.begins.whole) in
       let there : IsBody kind (text ++ rest) other left =

@@ -1,9 +1,9 @@
 -- The body of a request: where it ends, which bytes it stands for, and what a reader of it still waits for.
-use Rattle.std.specs.Prelude.{◌≡◌, ℕ, ◌+◌, ◌<◌, ◌≤◌, ◌⊎◌, List, ◌++◌, length, drop}
+use Rattle.std.specs.Prelude.{◌≡◌, ℕ, ◌+◌, ◌<◌, ◌≤◌, ◌⊎◌, List, [], ◌++◌, length, drop}
 use Rattle.httparse.specs.Grammar.{Field}
 use Rattle.http1.specs.Body.{ReadsBody, body_of}
 use Rattle.http1.specs.ChunkedDecoder.{run}
-use Rattle.http1.specs.Decoder.{AwaitsTrailers, Completes}
+use Rattle.http1.specs.Decoder.{AwaitsTrailers, Completes, decoder_for}
 use Rattle.http1.specs.declared.conn.Limits.{Limits}
 use Rattle.http1.specs.declared.decode.Decoder.{Decoder}
 use Rattle.http1.specs.declared.decode.Decoder.TheVariants as decoder
@@ -42,6 +42,10 @@ pub record IsBody (kind : BodyKind) (stream body rest : List ℕ) : Type 0 where
 pub record Reading : Type 0 where
   pub waits : Decoder
   pub body : List ℕ
+
+-- a reader at the beginning of a body of this kind
+abbrev pub first_reading : BodyKind → Reading
+first_reading kind = record { waits = decoder_for limits (framing_of kind); body = [] }
 
 -- the bytes so far, and those that are announced, are within the limit
 abbrev pub IsFit : Decoder → List ℕ → Type 0

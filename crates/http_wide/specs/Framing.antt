@@ -1,5 +1,5 @@
--- How the body of a request is framed, from the fields of its head (RFC 9112, section 6.3).
-use Rattle.std.specs.Prelude.{ℕ, ◌≤◌, ⊤, List, if◌then◌else◌, nat_lt, Result, Ok, Err}
+-- What a head asks for, and how the body of a request is framed, from the fields of its head (RFC 9112, section 6.3).
+use Rattle.std.specs.Prelude.{ℕ, ◌≤◌, ◌==◌, ◌&&◌, ◌||◌, Bool, ⊤, List, length, bytes_eq, codes, if◌then◌else◌, nat_lt, Result, Ok, Err}
 use Rattle.commands.specs.Limits.{most_bytes}
 use Rattle.http1.specs.Fields.{known_fields}
 use Rattle.http1.specs.Framing.{method_kind, request_framing}
@@ -7,7 +7,11 @@ use Rattle.http1.specs.declared.fields.KnownFields.{KnownFields}
 use Rattle.http1.specs.declared.framing.Framing.{Framing}
 use Rattle.http1.specs.declared.framing.Framing.TheVariants as framed
 use Rattle.http1.specs.declared.framing.FramingError.{FramingError}
-use Rattle.http_messages.specs.Heads.{Parts}
+use Rattle.http_messages.specs.Heads.{Parts, values_named}
+use Rattle.http_wide.specs.declared.asked.AskedKind.{AskedKind}
+use Rattle.http_wide.specs.declared.asked.AskedKind.TheVariants.{Get, Head, Post, Options, Other}
+use Rattle.http_wide.specs.declared.denials.Denial.{Denial}
+use Rattle.http_wide.specs.declared.denials.Denial.TheVariants as denial
 use Rattle.http_wide.specs.declared.framing.BodyKind.{BodyKind}
 use Rattle.http_wide.specs.declared.framing.BodyKind.TheVariants.{Sized, Chunked}
 use Rattle.http_wide.specs.declared.framing.Unframed.{Unframed}
@@ -37,3 +41,35 @@ body_kind_by method minor fields =
 -- the same, by the parts of the head
 abbrev pub body_kind : Parts → Result BodyKind Unframed
 body_kind parts = body_kind_by parts.method parts.minor (known_fields parts.fields)
+
+-- a head of HTTP/1.1 names one host; one of HTTP/1.0 may name none (RFC 9112, section 3.2)
+abbrev pub has_host : Parts → Bool
+has_host parts =
+    let named = length (values_named (codes "host") parts.fields) in named == 1 || (parts.minor == 0 && named == 0)
+
+-- the kind of body of a request, if its head names a host as it must
+abbrev pub head_kind : Parts → Result BodyKind Unframed
+head_kind parts = if has_host parts then body_kind parts else Err BadHead
+
+-- what a method asks for; one in small letters is another (RFC 9110, section 9.1)
+abbrev pub asked_kind : List ℕ → AskedKind
+asked_kind method =
+    if bytes_eq method (codes "GET") then Get
+    else (if bytes_eq method (codes "HEAD") then Head
+    else (if bytes_eq method (codes "POST") then Post
+    else (if bytes_eq method (codes "OPTIONS") then Options
+    else Other)))
+
+-- the status that answers a request whose body is not read
+abbrev pub denial_of : Unframed → Denial
+denial_of BadHead = denial.BadHead
+denial_of OtherCoding = denial.OtherCoding
+denial_of TooLarge = denial.TooLarge
+
+-- the code of a status (RFC 9110, section 15; RFC 6585, section 5)
+abbrev pub code_of : Denial → ℕ
+code_of denial.BadHead = 400
+code_of denial.TooLarge = 413
+code_of denial.LongHead = 431
+code_of denial.OtherCoding = 501
+code_of denial.OtherVersion = 505

@@ -1,11 +1,11 @@
 -- Laws of all streams.
-use Rattle.std.specs.Prelude.{◌≡◌, ℕ, List, [], ◌++◌, Ok}
+use Rattle.std.specs.Prelude.{◌≡◌, ℕ, ◌↔◌, false, List, [], ◌∷◌, ◌++◌, Ok}
 use Rattle.httparse.specs.Grammar.{RequestHead}
 use Rattle.http_messages.specs.Heads.{IsHead, parts_of}
-use Rattle.http_wide.specs.Framing.{body_kind}
+use Rattle.http_wide.specs.Framing.{head_kind}
 use Rattle.http_wide.specs.Bodies.{IsBody, Reading}
 use Rattle.http_wide.specs.Calls.{Calls, IsAtBeginning}
-use Rattle.http_wide.specs.Wide.{Asks, BeginsWith}
+use Rattle.http_wide.specs.Wide.{Asks, BeginsWith, Wide, WideMessages, ends_after}
 use Rattle.http_wide.specs.declared.framing.BodyKind.{BodyKind}
 
 -- a stream begins with one body of a kind, which ends at one place
@@ -24,7 +24,21 @@ CutsAgree =
 abbrev pub NoBodyIsAHead : Type 0
 NoBodyIsAHead =
     (front text body rest : List ℕ) (h : RequestHead) (kind : BodyKind)
-    → IsHead front h → body_kind (parts_of h) ≡ Ok kind → IsBody kind text body []
+    → IsHead front h → head_kind (parts_of h) ≡ Ok kind → IsBody kind text body []
     → BeginsWith (front ++ (text ++ rest)) (Asks h body) rest
     × ((k : RequestHead) (other left : List ℕ) → BeginsWith (front ++ (text ++ rest)) (Asks k other) left
     → (k ≡ h) × (other ≡ body) × (left ≡ rest))
+
+-- A stream begins with at most one message, which ends at one place.
+abbrev pub HasOneFirst : Type 0
+HasOneFirst =
+    (stream : List ℕ) (m n : Wide) (x y : List ℕ) → BeginsWith stream m x → BeginsWith stream n y → (m ≡ n) × (x ≡ y)
+
+-- The messages of a head with its body, and of what follows it, are that request, and then the messages of what follows.
+-- So whatever a body stands for, no byte of it is read as a head.
+abbrev pub BodiesArePassed : Type 0
+BodiesArePassed =
+    (front text body rest : List ℕ) (h : RequestHead) (kind : BodyKind)
+    → IsHead front h → head_kind (parts_of h) ≡ Ok kind → IsBody kind text body [] → ends_after (parts_of h) ≡ false
+    → (ms : List Wide)
+    → WideMessages (front ++ (text ++ rest)) ms ↔ ((later : List Wide) × (ms ≡ Asks h body ∷ later) × WideMessages rest later)

@@ -1,12 +1,12 @@
 -- The messages of a stream of HTTP as libraries, proxies and pools write it (RFC 9112, sections 2, 3, 6 and 7).
-use Rattle.std.specs.Prelude.{◌≡◌, ℕ, ◌<◌, ◌⊎◌, ◌==◌, ◌||◌, not, Bool, true, false, List, [], ◌∷◌, ◌++◌, length, if◌then◌else◌, Result, Ok, Err, Some}
-use Rattle.httparse.specs.Grammar.{RequestHead, ReadsRequest, is_token_byte}
+use Rattle.std.specs.Prelude.{◌≡◌, ℕ, ◌<◌, ◌==◌, ◌||◌, not, Bool, true, false, List, [], ◌∷◌, ◌++◌, length, take, if◌then◌else◌, Result, Ok, Err, Some}
+use Rattle.httparse.specs.Grammar.{RequestHead, is_token_byte}
 use Rattle.http1.specs.ChunkedDecoder.{run, start}
 use Rattle.http1.specs.Fields.{known_fields}
 use Rattle.commands.specs.Limits.{most_bytes}
 use Rattle.http_messages.specs.Heads.{IsHead, Parts, most_head_bytes, parts_of}
 use Rattle.http_messages.specs.Messages.{first_told, is_newline}
-use Rattle.http_wide.specs.Framing.{body_kind}
+use Rattle.http_wide.specs.Framing.{head_kind}
 use Rattle.http_wide.specs.Bodies.{IsBody}
 use Rattle.http_wide.specs.declared.framing.BodyKind.{BodyKind}
 use Rattle.http_wide.specs.declared.framing.BodyKind.TheVariants.{Chunked}
@@ -16,13 +16,11 @@ use Rattle.http_wide.specs.declared.framing.Unframed.{Unframed}
 pub data Wide : Type 0 where
   -- a byte that begins no method: the connection is ended at once
   NoMethod : Wide
-  -- a prefix that is no head: one that is too long, or has too many fields, and any other
-  LongHead : Wide
+  -- a prefix that is no head within the limits
   NoHead : Wide
   -- a head whose body is not read
   Unread : (head : RequestHead) (why : Unframed) → Wide
-  -- a head, and chunks that are too large, or that are no chunks
-  LargeBody : (head : RequestHead) → Wide
+  -- a head, and what is the beginning of no body in chunks: too many bytes, or no chunks
   BadBody : (head : RequestHead) → Wide
   -- a request, by its head, and the bytes that its body stands for
   Asks : (head : RequestHead) (body : List ℕ) → Wide
@@ -34,9 +32,13 @@ abbrev pub begins_no_method : List ℕ → Bool
 begins_no_method [] = false
 begins_no_method (byte ∷ later) = if is_newline byte then begins_no_method later else not (is_token_byte byte)
 
+-- the stream begins with no method, as far as a head may reach
+abbrev pub has_no_method : List ℕ → Bool
+has_no_method stream = begins_no_method (take most_head_bytes stream)
+
 -- the stream begins with a method, and this is its first decided prefix
 pub record BeginsWithFront (stream front rest : List ℕ) : Type 0 where
-  pub method : begins_no_method stream ≡ false
+  pub method : has_no_method stream ≡ false
   pub first : first_told stream ≡ Some front
   pub whole : stream ≡ front ++ rest
 
@@ -44,16 +46,12 @@ pub record BeginsWithFront (stream front rest : List ℕ) : Type 0 where
 abbrev pub IsNoHead : List ℕ → Type 0
 IsNoHead front = (h : RequestHead) → ¬ (IsHead front h)
 
--- the prefix has as many bytes as a head may have, or is a head but for the number of its fields
-abbrev pub IsLong : List ℕ → Type 0
-IsLong front = (length front ≡ most_head_bytes) ⊎ ((h : RequestHead) × ReadsRequest front h [])
-
 -- the stream begins with this head, whose body is framed so
 pub record BeginsWithHead (stream : List ℕ) (h : RequestHead) (kind : Result BodyKind Unframed) (rest : List ℕ) : Type 0 where
   pub front : List ℕ
   pub begins : BeginsWithFront stream front rest
   pub is_head : IsHead front h
-  pub framed : body_kind (parts_of h) ≡ kind
+  pub framed : head_kind (parts_of h) ≡ kind
 
 -- Bodies.
 
@@ -69,16 +67,12 @@ HasNoBody kind stream = (more body rest : List ℕ) → ¬ (IsBody kind (stream 
 
 -- the stream begins with this message, and the rest follows it; of all but a request nothing after it counts
 abbrev pub BeginsWith : List ℕ → Wide → List ℕ → Type 0
-BeginsWith stream NoMethod rest = (begins_no_method stream ≡ true) × (rest ≡ [])
-BeginsWith stream LongHead rest =
-    (front : List ℕ) × (after : List ℕ) × BeginsWithFront stream front after × IsNoHead front × IsLong front × (rest ≡ [])
+BeginsWith stream NoMethod rest = (has_no_method stream ≡ true) × (rest ≡ [])
 BeginsWith stream NoHead rest =
-    (front : List ℕ) × (after : List ℕ) × BeginsWithFront stream front after × IsNoHead front × ¬ (IsLong front) × (rest ≡ [])
+    (front : List ℕ) × (after : List ℕ) × BeginsWithFront stream front after × IsNoHead front × (rest ≡ [])
 BeginsWith stream (Unread h why) rest = (after : List ℕ) × BeginsWithHead stream h (Err why) after × (rest ≡ [])
-BeginsWith stream (LargeBody h) rest =
-    (after : List ℕ) × BeginsWithHead stream h (Ok Chunked) after × IsLarge after × (rest ≡ [])
 BeginsWith stream (BadBody h) rest =
-    (after : List ℕ) × BeginsWithHead stream h (Ok Chunked) after × HasNoBody Chunked after × ¬ (IsLarge after) × (rest ≡ [])
+    (after : List ℕ) × BeginsWithHead stream h (Ok Chunked) after × HasNoBody Chunked after × (rest ≡ [])
 BeginsWith stream (Asks h body) rest =
     (kind : BodyKind) × (after : List ℕ) × BeginsWithHead stream h (Ok kind) after × IsBody kind after body rest
 
@@ -89,10 +83,8 @@ ends_after parts = parts.minor == 0 || (known_fields parts.fields).close
 -- the connection ends after this message
 abbrev pub ends_with : Wide → Bool
 ends_with NoMethod = true
-ends_with LongHead = true
 ends_with NoHead = true
 ends_with (Unread h why) = true
-ends_with (LargeBody h) = true
 ends_with (BadBody h) = true
 ends_with (Asks h body) = ends_after (parts_of h)
 

@@ -1,7 +1,7 @@
 //! The body of a request, as it arrives.
 ghost use Rattle.std.specs.Prelude.{◌≡◌, ◌<◌, ◌≤◌, ◌+◌, ◌++◌, ◌↔◌, ℕ, List, length, OnOk, OnErr, IfOk, IsErrOf};
 ghost use Rattle.commands.specs.Limits.{most_bytes};
-ghost use Rattle.http_wide.specs.Bodies.{Awaits, Exceeds, IsBody, Moves, NeverEnds, Reads};
+ghost use Rattle.http_wide.specs.Bodies.{Awaits, Exceeds, IsBody, Moves, NeverEnds, Reads, first_reading};
 ghost use Rattle.http_wide.specs.Framing.{IsWithinLimit};
 
 use crate::faults::BodyFault;
@@ -67,6 +67,7 @@ impl BodyReader {
     /// A reader at the beginning of a body of this kind. It allocates nothing.
     pub fn new(alloc: Global, kind: BodyKind) -> BodyReader
         requires within { IsWithinLimit kind }
+        ensures first { result ≡ first_reading kind }
         ensures waits { (stream body rest : List ℕ) → IsBody kind stream body rest ↔ Awaits result stream body rest }
     {
         let decoder = match kind {

@@ -1,6 +1,8 @@
+mod crowd;
 mod dice;
 mod ends;
 mod faults;
+mod orders;
 mod peers;
 mod plain;
 mod schedule;

@@ -1,14 +1,17 @@
--- The first journey that is not finished, by what is kept of each. For `MemBook::first_unfinished`.
-use Rattle.std.proofs.Common.{◌≡◌, ℕ, suc, ◌+◌, ◌<◌, Bool, cond, List, [], ◌∷◌, length, get_or, drop, refl, ap, sym, ◌∙◌, arith}
+-- The first journey that is not finished, the first of an agent, and how many are unfinished, by what is kept of each.
+-- For `first_unfinished`, `first_owned` and `counts` of `MemBook`.
+use Rattle.std.proofs.Common.{◌≡◌, ℕ, suc, ◌+◌, ◌<◌, Bool, true, false, cond, List, [], ◌∷◌, length, get_or, drop, refl, ap, sym, ◌∙◌, arith}
 use Rattle.std.proofs.lemmas.List.{at_drop_more}
-use Rattle.std.specs.Prelude.{slice_get, filter_map, find, Option, Some, option_map}
+use Rattle.std.specs.Prelude.{not, slice_get, filter, filter_map, find, Option, Some, option_map}
 use Rattle.std.specs.List.{cons_option}
 use Rattle.allotment.specs.Cells.{numbers_from}
 use Rattle.ledger.specs.Answer.{State}
-use Rattle.ledger.specs.Ledger.{Event, history, journey_at, journeys}
-use Rattle.saga_core.specs.Views.{brief_of, brief_of_journey, first_unfinished, is_unfinished_above}
-use Rattle.memory_book.specs.Memory.{begun_as, StandsFor}
+use Rattle.ledger.specs.History.{is_finished}
+use Rattle.ledger.specs.Ledger.{Event, history, journey_at, journeys, numbers}
+use Rattle.saga_core.specs.Views.{brief_of, brief_of_journey, counts_of, first_owned, first_unfinished, is_owned_above, is_unfinished_above}
+use Rattle.memory_book.specs.Memory.{begun_as, is_unfinished, StandsFor}
 use Rattle.saga_core.specs.declared.records.Brief.{Brief}
+use Rattle.saga_core.specs.declared.records.Counts.{Counts}
 use Rattle.memory_book.specs.declared.journeys.Journey.{Journey}
 use Rattle.memory_book.specs.declared.mem_book.MemBook.{MemBook}
 use Rattle.memory_book.proofs.BeginLemmas.{length-begun}
@@ -48,15 +51,53 @@ brief_of-kept m s here i k at j is =
     (sym (here.told i k at).cursor)
     ∙ ap (λ n. Some (brief_at n k)) (sym next)
 
+-- so the summaries of the journeys that are kept are those that the ledger shows
+briefs-kept : (m : MemBook) (s : State) → StandsFor m s
+    → briefs_from 1 m.journeys.items ≡ filter_map (brief_of s.ledger) (numbers s.ledger)
+briefs-kept m s here =
+    sym (briefs-each s.ledger m.journeys.items 1 (brief_of-kept m s here))
+    ∙ ap (λ n. filter_map (brief_of s.ledger) (numbers_from 1 n)) (length-begun m s here)
+
 -- so the first journey that is not finished is the first among those that are kept
 pub first_unfinished-kept : (m : MemBook) (s : State) (after : ℕ) → StandsFor m s
     → find (is_unfinished_above after) (briefs_from 1 m.journeys.items)
     ≡ first_unfinished s.ledger after
-first_unfinished-kept m s after here =
-    ap (find (is_unfinished_above after))
-    (sym (briefs-each s.ledger m.journeys.items 1 (brief_of-kept m s here)))
-    ∙ ap (λ n. find (is_unfinished_above after) (filter_map (brief_of s.ledger) (numbers_from 1 n)))
-    (length-begun m s here)
+first_unfinished-kept m s after here = ap (find (is_unfinished_above after)) (briefs-kept m s here)
+
+-- and the first journey of an agent is the first among those that are kept
+pub first_owned-kept : (m : MemBook) (s : State) (agent : List ℕ) (after : ℕ) → StandsFor m s
+    → find (is_owned_above agent after) (briefs_from 1 m.journeys.items)
+    ≡ first_owned s.ledger agent after
+first_owned-kept m s agent after here = ap (find (is_owned_above agent after)) (briefs-kept m s here)
+
+-- as many summaries are of unfinished journeys as journeys are unfinished
+length-unfinished : (j : ℕ) (ks : List Journey)
+    → length (filter is_unfinished ks) ≡ length (filter (λ (b : Brief). not (is_finished b.cursor.phase)) (briefs_from j ks))
+length-unfinished j [] = refl
+length-unfinished j (k ∷ ks) = go (is_unfinished k) (length-unfinished (suc j) ks)
+  where
+    go : (v : Bool)
+        → length (filter is_unfinished ks)
+        ≡ length (filter (λ (b : Brief). not (is_finished b.cursor.phase)) (briefs_from (suc j) ks))
+        → length (cond v (k ∷ filter is_unfinished ks) (filter is_unfinished ks))
+        ≡ length (cond v (brief_at j k ∷ filter (λ (b : Brief). not (is_finished b.cursor.phase)) (briefs_from (suc j) ks))
+        (filter (λ (b : Brief). not (is_finished b.cursor.phase)) (briefs_from (suc j) ks)))
+    go true more = ap suc more
+    go false more = more
+
+abbrev made : ℕ → ℕ → ℕ → Counts
+made events journeys unfinished = record { events = events; journeys = journeys; unfinished = unfinished }
+
+-- the numbers that are kept are those of the ledger
+pub counts-kept : (m : MemBook) (s : State) (counts : Counts) → StandsFor m s → counts.events ≡ m.events
+    → counts.journeys ≡ length m.journeys.items → counts.unfinished ≡ length (filter is_unfinished m.journeys.items)
+    → counts ≡ counts_of s.ledger
+counts-kept m s counts here events journeys_are unfinished =
+    ap (λ n. made n counts.journeys counts.unfinished) (events ∙ here.events)
+    ∙ ap (λ n. made (length s.ledger) n counts.unfinished) (journeys_are ∙ length-begun m s here)
+    ∙ ap (made (length s.ledger) (length (journeys s.ledger)))
+    (unfinished ∙ length-unfinished 1 m.journeys.items
+    ∙ ap (λ bs. length (filter (λ (b : Brief). not (is_finished b.cursor.phase)) bs)) (briefs-kept m s here))
 
 -- One journey after another.
 

@@ -1,5 +1,5 @@
 -- What a book in memory represents, part by part.
-use Rattle.std.specs.Prelude.{◌≡◌, ℕ, suc, ◌<◌, List, vec_len, vec_capacity, length, map, filter_map, slice_get, Option, Some, None, Result, MatchResult, IfOk, OnErr, IfSome, IsTrue}
+use Rattle.std.specs.Prelude.{◌≡◌, ℕ, suc, ◌<◌, Bool, not, List, vec_len, vec_capacity, length, map, filter_map, slice_get, Option, Some, None, Result, MatchResult, IfOk, OnErr, IfSome, IsTrue}
 use Rattle.std.specs.declared.alloc.AllocError.{AllocError}
 use Rattle.allotment.specs.declared.cells.Cell.{Cell}
 use Rattle.allotment.specs.declared.cells.Row.{Row}
@@ -12,7 +12,7 @@ use Rattle.commands.specs.declared.replies.Reply.{Reply}
 use Rattle.ledger.specs.Answer.{State, answer, asker, carried_out, limited}
 use Rattle.ledger.specs.Replies.{Answer, answer_new, refused, sees, seen_journey}
 use Rattle.ledger_transitions.specs.Answers.{moves}
-use Rattle.ledger.specs.History.{net}
+use Rattle.ledger.specs.History.{net, is_finished}
 use Rattle.ledger.specs.Ledger as l
 use Rattle.ledger.specs.Ledger.{Event, Loaded, IsLegal, history, journeys, is_allowed}
 use Rattle.saga_core.specs.Views.{cursor_of, marks_of, places_of}
@@ -45,6 +45,10 @@ pub record IsSameJourney (old new : Journey) : Type 0 where
   pub cursor : new.cursor ≡ old.cursor
   pub marks : new.marks ≡ old.marks
   pub taken : new.taken.items ≡ old.taken.items
+
+-- the journey runs or goes back
+abbrev pub is_unfinished : Journey → Bool
+is_unfinished k = not (is_finished k.cursor.phase)
 
 -- the batch that this event loaded, if any
 abbrev pub batch_of : Event → Option Batched

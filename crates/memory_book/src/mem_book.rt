@@ -4,12 +4,12 @@ mod moving;
 
 use crate::answers::Answers;
 use crate::journeys::Journey;
-use crate::next::is_unfinished_above;
+use crate::next::{is_owned_above, is_unfinished_above};
 use crate::stock::Stock;
 use allotment::{Cell, Held, Night, Want};
 use commands::{Agent, Ask, Batch, Command, Fault, Item, MOST_EVENTS, Refusal, Reply};
 use plan::Plan;
-use saga_core::{Book, Brief, Record};
+use saga_core::{Book, Brief, Counts, Record, is_finished};
 use std::alloc::{AllocError, Global};
 
 /// The desk in memory.
@@ -27,12 +27,12 @@ pub struct MemBook {
 }
 
 impl MemBook {
-    ghost use Rattle.std.specs.Prelude.{◌≡◌, ◌≤◌, ◌<◌, ◌⊎◌, ◌↔◌, suc, length, IfSome, IfNone, IsTrue};
+    ghost use Rattle.std.specs.Prelude.{◌≡◌, ◌≤◌, ◌<◌, ◌⊎◌, ◌↔◌, suc, length, filter, IfSome, IfNone, IsTrue};
     ghost use Rattle.std.specs.Option.{option_copied};
     ghost use Rattle.commands.specs.Orders.{request_of};
     ghost use Rattle.commands.specs.Request as request;
     ghost use Rattle.ledger.specs.Answer.{start};
-    ghost use Rattle.memory_book.specs.Memory.{StandsFor, CarriesOut, KeepsBook};
+    ghost use Rattle.memory_book.specs.Memory.{StandsFor, CarriesOut, KeepsBook, is_unfinished};
 
     /// A new desk: no event, and no reply kept. Allocates nothing.
     pub fn new(alloc: Global) -> MemBook
@@ -66,6 +66,16 @@ impl MemBook {
             return None;
         }
         Some(id as usize - 1)
+    }
+
+    /// How many of the journeys are unfinished. Looks at each of them.
+    fn unfinished(&self) -> usize
+        ensures number { result ≡ length (filter is_unfinished self.now.journeys.items) }
+    {
+        self.journeys
+            .iter()
+            .filter(|journey| !is_finished(journey.cursor.phase))
+            .count()
     }
 
     /// Begins a journey of the asker.
@@ -163,6 +173,24 @@ impl Book for MemBook {
             }
         }
         Ok(None)
+    }
+
+    fn first_owned(&mut self, agent: &Agent, after: u64) -> Result<Option<Brief>, Fault> {
+        for place in 0..self.journeys.len() {
+            let brief = self.journeys[place].brief(place as u64 + 1);
+            if is_owned_above(&brief, agent, after) {
+                return Ok(Some(brief));
+            }
+        }
+        Ok(None)
+    }
+
+    fn counts(&mut self) -> Result<Counts, Fault> {
+        Ok(Counts {
+            events: self.events,
+            journeys: self.journeys.as_slice().len() as u64,
+            unfinished: self.unfinished() as u64,
+        })
     }
 
     fn cells(&mut self, want: &Want) -> Result<Vec<(Night, Held)>, Fault> {

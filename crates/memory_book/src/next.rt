@@ -1,11 +1,11 @@
 //! The result of a journey's move, by what is kept of the journey: an item, or why there is none.
 ghost use Rattle.std.specs.Prelude.{◌≡◌, IfOk};
 ghost use Rattle.memory_book.specs.MemoryJourneys.{IsNext};
-ghost use Rattle.saga_core.specs.Views.{is_unfinished_above as is_unfinished_above_rule};
+ghost use Rattle.saga_core.specs.Views.{is_owned_above as is_owned_above_rule, is_unfinished_above as is_unfinished_above_rule};
 ghost use Rattle.memory_book.specs.MemoryNext.{turn_said, save_said, step_said};
 
 use crate::journeys::Journey;
-use commands::{Cause, Item, Refusal};
+use commands::{Agent, Cause, Item, Refusal};
 use saga_core::{Brief, Move, decide, is_finished};
 use savepoints::Turn;
 
@@ -14,6 +14,13 @@ pub fn is_unfinished_above(brief: &Brief, after: u64) -> bool
     ensures unfinished { result ≡ is_unfinished_above_rule after brief.now }
 {
     brief.id > after && !is_finished(brief.cursor.phase)
+}
+
+/// Whether the journey has a number above this one and is this agent's.
+pub fn is_owned_above(brief: &Brief, agent: &Agent, after: u64) -> bool
+    ensures owned { result ≡ is_owned_above_rule agent.now after brief.now }
+{
+    brief.id > after && brief.agent == *agent
 }
 
 /// The result of a turn.

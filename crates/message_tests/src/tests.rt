@@ -1,4 +1,5 @@
 //! Which messages are read from streams, however they arrive.
+mod hosts;
 mod texts;
 
 use failing_streams::Pieces;

@@ -2,12 +2,27 @@
 use Rattle.std.specs.Prelude.{◌==◌, if◌then◌else◌, ℕ, List, codes, Option, None, Some}
 use Rattle.std.specs.Io.KnownBytes.{Keeps}
 use Rattle.streams.specs.Written.{WroteFront}
+use Rattle.commands.specs.declared.refusals.CsvCause.{CsvCause}
+use Rattle.commands.specs.declared.refusals.CsvCause.TheVariants as csv
 use Rattle.commands.specs.declared.refusals.Refusal.TheVariants as refusal
 use Rattle.program_ends.specs.Ends.{TellsError}
 use Rattle.program_ends.specs.declared.ends.End.{End}
 use Rattle.program_ends.specs.declared.ends.End.TheVariants as finish
 use Rattle.program_ends.specs.declared.causes.Cause.{Cause}
 use Rattle.program_ends.specs.declared.causes.Cause.TheVariants as cause
+
+-- the line of what an allotment file has to be like, where it has this fault
+abbrev pub csv_line : CsvCause → List ℕ
+csv_line csv.Size = codes "An allotment file has at most 262144 bytes. Divide it into several batches.\n"
+csv_line csv.Header = codes "The first line has to be kind,supplier,product,night,places.\n"
+csv_line csv.Many = codes "An allotment file has at most 2000 rows. Divide it into several batches.\n"
+csv_line csv.Shape = codes "A row has five fields of text, as flight,AL,A1,2030-06-01,10.\n"
+csv_line csv.Kind = codes "A kind is flight, room, transfer or cover.\n"
+csv_line csv.Code = codes "A supplier or product is 1 to 8 capital letters A to Z and digits.\n"
+csv_line csv.Night = codes "A night is a date from 2000-01-01 to 2099-12-31, as 2030-06-01.\n"
+csv_line csv.Places = codes "Places are a number from 0 to 100000, without sign or leading zeros.\n"
+csv_line csv.Twice = codes "The cell of this row stands in an earlier row. Leave one of them out.\n"
+csv_line csv.Empty = codes "The file has no row after its first line.\n"
 
 -- the line of a cause: what the matter is, and what to do
 abbrev pub cause_line : Cause → List ℕ
@@ -24,13 +39,15 @@ cause_line cause.FullDisk = codes "The disk is full. Make room on it, and run ag
 cause_line cause.FailedDisk = codes "The disk failed in a read or a write. Look after it, and run again.\n"
 cause_line cause.OldVersion = codes "The database is of an older version. Make a copy of it, and run 'desk migrate'.\n"
 cause_line cause.OtherVersion = codes "The database is of an unknown version. Take the program that made it.\n"
+cause_line (cause.WrongFile fault) = csv_line fault
 
--- the cause that an end alone shows: the version before the newest, or another one
+-- the cause that an end alone shows: the version before the newest or another one, or a fault of an allotment file
 abbrev pub cause_of_version : ℕ → Cause
 cause_of_version version = if version == 1 then cause.OldVersion else cause.OtherVersion
 
 abbrev pub cause_of_end : End → Option Cause
 cause_of_end (finish.Refused (refusal.UnknownSchema version)) = Some (cause_of_version version)
+cause_of_end (finish.Refused (refusal.BadCsv row fault)) = Some (cause.WrongFile fault)
 cause_of_end _ = None
 
 -- nothing was written without a cause, and a prefix of its line with one

@@ -1,9 +1,9 @@
 //! Why the program ended as it did, in words for a user. A cause changes no number, line or status of a fault.
 ghost use Rattle.std.specs.Prelude.{◌≡◌};
-ghost use Rattle.program_ends.specs.Causes.{cause_line, cause_of_end};
+ghost use Rattle.program_ends.specs.Causes.{cause_line, cause_of_end, csv_line};
 
 use crate::ends::End;
-use commands::Refusal;
+use commands::{CsvCause, Refusal};
 use std::fmt::{Display, Formatter, Result as Formatted, Write};
 
 /// Why the program ended as it did, as far as that is known. As text it is a sentence on the matter, and what to do.
@@ -35,16 +35,19 @@ pub enum Cause {
     OldVersion,
     /// The tables are of an unknown version.
     OtherVersion,
+    /// An allotment file has this fault.
+    WrongFile(CsvCause),
 }
 
 impl Cause {
-    /// The cause that an end alone shows: an unknown version.
+    /// The cause that an end alone shows: an unknown version, or what is wrong with an allotment file.
     pub fn of_end(end: &End) -> Option<Cause>
         ensures cause { result ≡ cause_of_end end.now }
     {
         match end {
             End::Refused(Refusal::UnknownSchema { version: 1 }) => Some(Cause::OldVersion),
             End::Refused(Refusal::UnknownSchema { .. }) => Some(Cause::OtherVersion),
+            End::Refused(Refusal::BadCsv { cause, .. }) => Some(Cause::WrongFile(*cause)),
             _ => None,
         }
     }
@@ -83,7 +86,30 @@ impl Cause {
             Cause::OtherVersion => {
                 "The database is of an unknown version. Take the program that made it.\n"
             }
+            Cause::WrongFile(cause) => csv_line(cause),
         }
+    }
+}
+
+/// The line of what an allotment file has to be like, where it has this fault.
+fn csv_line(cause: CsvCause) -> &'static str
+    ensures line { result.now ≡ csv_line cause }
+{
+    match cause {
+        CsvCause::Size =>
+            "An allotment file has at most 262144 bytes. Divide it into several batches.\n",
+        CsvCause::Header => "The first line has to be kind,supplier,product,night,places.\n",
+        CsvCause::Many =>
+            "An allotment file has at most 2000 rows. Divide it into several batches.\n",
+        CsvCause::Shape => "A row has five fields of text, as flight,AL,A1,2030-06-01,10.\n",
+        CsvCause::Kind => "A kind is flight, room, transfer or cover.\n",
+        CsvCause::Code => "A supplier or product is 1 to 8 capital letters A to Z and digits.\n",
+        CsvCause::Night => "A night is a date from 2000-01-01 to 2099-12-31, as 2030-06-01.\n",
+        CsvCause::Places =>
+            "Places are a number from 0 to 100000, without sign or leading zeros.\n",
+        CsvCause::Twice =>
+            "The cell of this row stands in an earlier row. Leave one of them out.\n",
+        CsvCause::Empty => "The file has no row after its first line.\n",
     }
 }
 

@@ -2,8 +2,8 @@
 ghost use Rattle.std.specs.Prelude.{◌≡◌};
 
 use allotment::{Cell, Held, Night, Want};
-use commands::{Ask, Command, Fault, Item, Reply};
-use saga_core::{Book, Brief, Record};
+use commands::{Agent, Ask, Command, Fault, Item, Reply};
+use saga_core::{Book, Brief, Counts, Record};
 use std::marker::Model;
 
 /// A book that is recovered. Only `recover` makes one. In a contract it is the book itself.
@@ -61,6 +61,14 @@ impl<B: Book> Book for Ready<B> {
 
     fn first_unfinished(&mut self, after: u64) -> Result<Option<Brief>, Fault> {
         self.book.first_unfinished(after)
+    }
+
+    fn first_owned(&mut self, agent: &Agent, after: u64) -> Result<Option<Brief>, Fault> {
+        self.book.first_owned(agent, after)
+    }
+
+    fn counts(&mut self) -> Result<Counts, Fault> {
+        self.book.counts()
     }
 
     fn cells(&mut self, want: &Want) -> Result<Vec<(Night, Held)>, Fault> {

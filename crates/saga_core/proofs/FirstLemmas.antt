@@ -34,7 +34,7 @@ tells m j b is = go (journey_at m j) refl is
         }
 
 -- a number without a brief has no journey
-untold : (m : List Event) (j : ℕ) → brief_of m j ≡ None → is_in is_open m j ≡ false
+pub untold : (m : List Event) (j : ℕ) → brief_of m j ≡ None → is_in is_open m j ≡ false
 untold m j is = go (journey_at m j) refl is
   where
     go : (o : Option Journey) → journey_at m j ≡ o

@@ -4,3 +4,4 @@ pub mod WorldLemmas
 pub mod RunEndLemmas
 pub mod ChainLemmas
 pub mod FirstLemmas
+pub mod BriefLemmas

@@ -5,6 +5,7 @@ use Rattle.std.specs.FinSet.{contains-empty}
 use Rattle.std.specs.Ordering.{nat_cmp}
 use Rattle.plan.specs.PlanModel.{Planned}
 use Rattle.savepoints.specs.declared.turns.Turn.TheVariants as turn
+use Rattle.commands.specs.Names.{house}
 use Rattle.commands.specs.Request.{Begin, Step}
 use Rattle.commands.specs.declared.items.Cause.TheVariants as cause
 use Rattle.commands.specs.declared.items.Cursor.{Cursor}
@@ -16,10 +17,10 @@ use Rattle.commands.specs.declared.refusals.Refusal.{Refusal}
 use Rattle.commands.specs.declared.refusals.Refusal.TheVariants.{Finished, NoSavePoint, NoSave}
 use Rattle.allotment.specs.declared.kinds.Kind.TheVariants.{Flight, Room}
 use Rattle.ledger.specs.Answer.{start}
-use Rattle.ledger.specs.Ledger.{Event}
+use Rattle.ledger.specs.Ledger.{Event, Began}
 use Rattle.ledger.specs.Examples.{june, after_all, step, marked, untried, flight, load, row, row_after, nights_of}
 use Rattle.saga_core.specs.Rulings.{turn_said, save_said}
-use Rattle.saga_core.specs.Views.{first_unfinished, places_shown}
+use Rattle.saga_core.specs.Views.{first_unfinished, first_owned, counts_of, places_shown}
 use Rattle.saga_core.specs.declared.records.Brief.{Brief}
 
 -- a journey at this position, in this phase, without refusals
@@ -80,6 +81,28 @@ pub finished_journey_is_passed_by :
     (0 ∷ 1 ∷ 3 ∷ [])
     ≡ Some 1 ∷ Some 3 ∷ None ∷ []
 finished_journey_is_passed_by = refl
+
+-- three of the five events began journeys, of which the first and the third run
+pub finished_journey_is_not_counted :
+    counts_of second_has_ended ≡ record { events = 5; journeys = 3; unfinished = 2 }
+finished_journey_is_not_counted = refl
+
+-- the agent bob
+abbrev pub bob : List ℕ
+bob = 98 ∷ 111 ∷ 98 ∷ []
+
+-- the three journeys of the house, and then one of bob
+abbrev pub bob_began_last : List Event
+bob_began_last = second_has_ended ++ Began bob (untried (step (flight 2) ∷ [])) ∷ []
+
+-- the house's journeys above 0, 1 and 3, and bob's above 0 and 4
+pub finished_journey_is_owned :
+    map (λ after. option_map (λ (b : Brief). b.id) (first_owned bob_began_last house after))
+    (0 ∷ 1 ∷ 3 ∷ [])
+    ++ map (λ after. option_map (λ (b : Brief). b.id) (first_owned bob_began_last bob after))
+    (0 ∷ 4 ∷ [])
+    ≡ Some 1 ∷ Some 2 ∷ None ∷ Some 4 ∷ None ∷ []
+finished_journey_is_owned = refl
 
 -- a room has 4 places on the first night and 2 on the third; one place of the first is taken
 abbrev pub two_of_three_nights : List Event

@@ -1,5 +1,5 @@
 -- What a book reports of a ledger.
-use Rattle.std.specs.Prelude.{◌≡◌, ℕ, ◌-◌, ◌&&◌, not, Bool, true, List, filter, filter_map, find, nat_lt, Option, option_map, IsTrue, [], ◌∷◌, map}
+use Rattle.std.specs.Prelude.{◌≡◌, ℕ, ◌-◌, ◌&&◌, not, Bool, true, List, length, filter, filter_map, find, nat_lt, bytes_eq, Option, option_map, IsTrue, [], ◌∷◌, map}
 use Rattle.std.specs.List.{list_all}
 use Rattle.std.specs.Ordering.{is_lt, ordering_then, nat_cmp}
 use Rattle.std.specs.Cmp.Lexicographic.{slice_cmp}
@@ -10,11 +10,12 @@ use Rattle.allotment.specs.declared.cells.Cell.{Cell}
 use Rattle.allotment.specs.declared.places.Held.{Held}
 use Rattle.commands.specs.declared.items.Item.{Item}
 use Rattle.ledger.specs.History.{is_finished}
-use Rattle.ledger.specs.Ledger.{Event, Journey, journey_at, numbers, history, allotment, held}
+use Rattle.ledger.specs.Ledger.{Event, Journey, journeys, journey_at, numbers, history, allotment, held}
 use Rattle.ledger.specs.Answer.{State}
 pub use Rattle.ledger_transitions.specs.Cursors.{cursor_of, marks_of}
 use Rattle.saga_core.specs.declared.records.Record.{Record}
 use Rattle.saga_core.specs.declared.records.Brief.{Brief}
+use Rattle.saga_core.specs.declared.records.Counts.{Counts}
 
 abbrev pub record_of_journey : List Item → Journey → Record
 record_of_journey h a =
@@ -41,6 +42,21 @@ first_unfinished l after = find (is_unfinished_above after) (filter_map (brief_o
 abbrev pub unfinished_of : List Event → List Brief
 unfinished_of l =
     filter (λ (b : Brief). not (is_finished b.cursor.phase)) (filter_map (brief_of l) (numbers l))
+
+abbrev pub is_owned_above : List ℕ → ℕ → Brief → Bool
+is_owned_above agent after b = nat_lt after b.id && bytes_eq b.agent agent
+
+-- the journey of this agent with the least number above this one, whether it is finished or not
+abbrev pub first_owned : List Event → List ℕ → ℕ → Option Brief
+first_owned l agent after = find (is_owned_above agent after) (filter_map (brief_of l) (numbers l))
+
+-- how many events, journeys and unfinished journeys a ledger has
+abbrev pub counts_of : List Event → Counts
+counts_of l = record {
+  events = length l;
+  journeys = length (journeys l);
+  unfinished = length (unfinished_of l);
+}
 
 -- the places of a cell: how many are allotted, and how many of them are free
 pub record Places : Type 0 where

@@ -9,11 +9,11 @@ ghost use Rattle.commands.specs.Orders.{request_of};
 ghost use Rattle.ledger.specs.Ledger.{IsLegal, history};
 ghost use Rattle.ledger.specs.Answer.{State};
 ghost use Rattle.saga_core.specs.Books.{Replies, MovesOn, KeepsAtMemory, Keeps, Shows, LeavesJust, LeavesNoMore, LeavesAtStore};
-ghost use Rattle.saga_core.specs.Views.{record_of, first_unfinished, ShowsCells, IsStock};
+ghost use Rattle.saga_core.specs.Views.{record_of, first_unfinished, first_owned, counts_of, ShowsCells, IsStock};
 
-use crate::records::{Brief, Record};
+use crate::records::{Brief, Counts, Record};
 use allotment::{Cell, Held, Night, Want};
-use commands::{Ask, Command, Fault, Item, Reply};
+use commands::{Agent, Ask, Command, Fault, Item, Reply};
 
 pub trait Book {
     /// The store has returned what was written, so far.
@@ -80,6 +80,32 @@ pub trait Book {
     fn first_unfinished(&mut self, after: u64) -> Result<Option<Brief>, Fault>
         ensures first { is_sound self.new →
             Shows (stands self.old) (λ s found. found ≡ first_unfinished s.ledger after) result }
+        ensures same { is_sound self.new → Keeps (stands self.old) (stands self.new) result }
+        ensures stop { is_sound self.new →
+            LeavesNoMore (leaves self.old) (leaves self.new) }
+        ensures fails { IsErrOf result Fault.Store ↔ IsTrue (has_failed self.new) }
+        ensures stays_failed { IsTrue (has_failed self.old) → IsTrue (has_failed self.new) }
+        ensures stays_left { IsTrue (has_failed self.old) →
+            LeavesNoMore (leaves self.old) (leaves self.new) }
+        ensures sound { is_sound self.new → is_sound self.old };
+
+    /// Returns the journey of this agent with the least number above `after`, a finished one too.
+    fn first_owned(&mut self, agent: &Agent, after: u64) -> Result<Option<Brief>, Fault>
+        ensures first { is_sound self.new →
+            Shows (stands self.old) (λ s found. found ≡ first_owned s.ledger agent.now after) result }
+        ensures same { is_sound self.new → Keeps (stands self.old) (stands self.new) result }
+        ensures stop { is_sound self.new →
+            LeavesNoMore (leaves self.old) (leaves self.new) }
+        ensures fails { IsErrOf result Fault.Store ↔ IsTrue (has_failed self.new) }
+        ensures stays_failed { IsTrue (has_failed self.old) → IsTrue (has_failed self.new) }
+        ensures stays_left { IsTrue (has_failed self.old) →
+            LeavesNoMore (leaves self.old) (leaves self.new) }
+        ensures sound { is_sound self.new → is_sound self.old };
+
+    /// Returns how many events, journeys and unfinished journeys there are.
+    fn counts(&mut self) -> Result<Counts, Fault>
+        ensures counts { is_sound self.new →
+            Shows (stands self.old) (λ s counts. counts ≡ counts_of s.ledger) result }
         ensures same { is_sound self.new → Keeps (stands self.old) (stands self.new) result }
         ensures stop { is_sound self.new →
             LeavesNoMore (leaves self.old) (leaves self.new) }

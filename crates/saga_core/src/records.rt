@@ -20,3 +20,13 @@ pub struct Brief {
     pub agent: Agent,
     pub cursor: Cursor,
 }
+
+/// How many events, journeys and unfinished journeys a ledger has.
+#[derive(Clone, Copy, Debug, PartialEq, Eq)]
+pub struct Counts {
+    pub events: u64,
+    /// The journeys that have begun, finished ones among them.
+    pub journeys: u64,
+    /// Those of the journeys that run or go back.
+    pub unfinished: u64,
+}

@@ -1,7 +1,9 @@
 -- The outcome of a begin, and the rows that represent it. For the functions that answer.
+use Rattle.std.specs.Prelude.{not, is_some, IfOk, Ok, Err, Result}
 use Rattle.std.proofs.Common.{◌≡◌, ◌+◌, ◌<◌, length, Option, Some, None, IsTrue, sym, ap, ◌∙◌}
 use Rattle.commands.specs.Asks.{Asked}
 use Rattle.commands.specs.Request as request
+use Rattle.commands.specs.declared.faults.Fault.{Fault}
 use Rattle.commands.specs.declared.replies.Reply.{Reply}
 use Rattle.commands.specs.declared.replies.Reply.TheVariants.{Begun as Begins}
 use Rattle.desk_sql.specs.Rows.{Tables}
@@ -9,7 +11,7 @@ use Rattle.desk_sql.specs.FoundRows.{FindsAnswer, answer_of}
 use Rattle.desk_sql.specs.declared.answers.KeptAnswer.{KeptAnswer}
 use Rattle.desk_sql.specs.declared.meta.Meta.{Meta}
 use Rattle.plan.specs.PlanModel.{is_plan}
-use Rattle.ledger.specs.Answer.{State, Outcome, most_events, kept_for, outcome}
+use Rattle.ledger.specs.Answer.{State, KeptReply, Outcome, most_events, kept_for, outcome}
 use Rattle.sql_model.specs.Standing.{StandsFor, IsDesk}
 use Rattle.sql_model.specs.Reading.{IsAnswerOf}
 use Rattle.sql_model.proofs.Beginning.{beginner, begin_stands}
@@ -18,6 +20,7 @@ use Rattle.sql_model.proofs.Answered.{tells-some, tells-none, outcome-known}
 use Rattle.sql_writes.specs.declared.events.Numbers.{Numbers}
 use Rattle.sql_writes.specs.declared.events.JourneyBegun.{JourneyBegun}
 use Rattle.sql_writes.specs.declared.events.Event.TheVariants.{Begin}
+use Rattle.sql_commands.specs.declared.answering.Answered.{Answered}
 use Rattle.sql_commands.specs.Answering.{AnswersAgain, Counts, Finds}
 use Rattle.sql_commands.specs.Moving.{LeadsTo}
 
@@ -37,13 +40,21 @@ begin_leads s ask counts n b desk new good counted room num_is journeys_are agen
 -- if a row was found, its key is known, and this is the reply
 pub known_reply : (t : Tables) (s : State) (ask : Asked) (found : KeptAnswer) (r : Reply) → StandsFor t s → IsDesk s
     → FindsAnswer ask.agent ask.key t (Some found) → AnswersAgain found ask r → Finds s ask (Some r)
-known_reply t s ask found r st desk finds again asked =
-    let told = tells-some IsAnswerOf (answer_of ask.agent ask.key found) (s.kept ask.agent ask.key) (answer_read t s st desk ask.agent ask.key (Some found) finds) in
-    let known = outcome-known s (Some ask) asked told.0 told.1 in (
-      again s told.0 told.2.ask told.2.reply told.2.accepted ∙ sym (ap (λ (o : Outcome). o.reply) known),
-      ap (λ (o : Outcome). o.state) known,
+known_reply t s ask found r st desk finds again =
+    let told = tells-some IsAnswerOf (answer_of ask.agent ask.key found) (s.kept ask.agent ask.key) (answer_read t s st desk ask.agent ask.key (Some found) finds) in (
+      ap is_some told.1,
+      λ asked. (let known = outcome-known s (Some ask) asked told.0 told.1 in (
+        again s told.0 told.2.ask told.2.reply told.2.accepted ∙ sym (ap (λ (o : Outcome). o.reply) known),
+        ap (λ (o : Outcome). o.state) known,
+      )),
     )
 
 -- if no row was found, the key is new
 pub new_key : (t : Tables) (s : State) (ask : Asked) → StandsFor t s → IsDesk s → FindsAnswer ask.agent ask.key t None → kept_for s (Some ask) ≡ None
 new_key t s ask st desk finds = tells-none IsAnswerOf (s.kept ask.agent ask.key) (answer_read t s st desk ask.agent ask.key None finds)
+
+-- a reply is new if no reply was kept
+pub is_new_if_first : (result : Result Answered Fault) (kept : Option KeptReply) → kept ≡ None
+    → IfOk result (λ (r : Answered). IsTrue r.is_new) → IfOk result (λ (r : Answered). r.is_new ≡ not (is_some kept))
+is_new_if_first (Ok answered) kept none new = new ∙ sym (ap (λ k. not (is_some k)) none)
+is_new_if_first (Err fault) kept none new = tt

@@ -1,5 +1,5 @@
 -- What a call over a connection keeps, returns and leaves.
-use Rattle.std.specs.Prelude.{◌≡◌, ◌≤◌, length, Option, Some, None, Result, Err, OnOk, IfOk, IsTrue, string_bytes}
+use Rattle.std.specs.Prelude.{◌≡◌, ◌≤◌, not, true, is_some, length, Option, Some, None, Result, Err, OnOk, IfOk, IsTrue, string_bytes}
 use Rattle.sqlite.specs.Store.{Ghosts}
 use Rattle.sqlite.specs.Held.{Held, state}
 use Rattle.sqlite.specs.State.{HasCleanDisk}
@@ -16,6 +16,7 @@ use Rattle.ledger.specs.Answer.{State, KeptReply, most_events, kept_for, answere
 use Rattle.sql_model.specs.Standing.{IsDesk}
 use Rattle.sql_model.specs.Keeping.{Keeps, MayLeave}
 use Rattle.sql_reads.specs.Reading.{ShowsKept}
+use Rattle.sql_commands.specs.declared.answering.Answered.{Answered}
 
 -- the row of meta counts the events and the journeys
 pub record Counts (s : State) (m : Meta) : Type 0 where
@@ -32,8 +33,9 @@ pub record IsCounted (m : Meta) : Type 0 where
 abbrev pub Finds : State → Asked → Option Reply → Type 0
 Finds s ask None = kept_for s (Some ask) ≡ None
 Finds s ask (Some r) =
-    (asked : Request)
-    → (r ≡ (outcome s (Some ask) asked).reply) × ((outcome s (Some ask) asked).state ≡ s)
+    (is_some (kept_for s (Some ask)) ≡ true)
+    × ((asked : Request)
+    → (r ≡ (outcome s (Some ask) asked).reply) × ((outcome s (Some ask) asked).state ≡ s))
 
 -- the reply under a known key: the kept one, or the refusal of another text
 abbrev pub AnswersAgain : KeptAnswer → Asked → Reply → Type 0
@@ -52,11 +54,17 @@ module _ {S : Type 0} (g : Ghosts S) (old new : Held S) where
       (s : State) → Keeps (state g old) s → result ≡ Err Memory → Keeps (state g new) s
 
   -- the reply is that of the request's outcome
-  abbrev pub Answers : Option Asked → Request → Result Reply Fault → Type 0
-  Answers ask asked result = ShowsKept g old new result (λ s r. r ≡ (outcome s ask asked).reply)
+  abbrev pub Answers : Option Asked → Request → Result Answered Fault → Type 0
+  Answers ask asked result =
+      ShowsKept g old new result (λ s (r : Answered). r.reply ≡ (outcome s ask asked).reply)
+
+  -- the reply is new if none was kept for the ask
+  abbrev pub TellsNew : Option Asked → Result Answered Fault → Type 0
+  TellsNew ask result =
+      ShowsKept g old new result (λ s (r : Answered). r.is_new ≡ not (is_some (kept_for s ask)))
 
   -- after a success the connection keeps the state of the request's outcome
-  abbrev pub KeepsNext : Option Asked → Request → Result Reply Fault → Type 0
+  abbrev pub KeepsNext : Option Asked → Request → Result Answered Fault → Type 0
   KeepsNext ask asked result =
       (s : State) → IsDesk s → Keeps (state g old) s
       → OnOk result (Keeps (state g new) (outcome s ask asked).state)
@@ -73,7 +81,12 @@ module _ {S : Type 0} (g : Ghosts S) (old new : Held S) where
       HasCleanDisk (state g new) → (s : State) → IsDesk s → Keeps (state g old) s
       → kept_for s ask ≡ None → IfOk result (λ r. r ≡ (outcome s ask asked).reply)
 
-  abbrev pub KeepsNew : Option Asked → Request → Result Reply Fault → Type 0
+  abbrev pub AnswersFirst : Option Asked → Request → Result Answered Fault → Type 0
+  AnswersFirst ask asked result =
+      HasCleanDisk (state g new) → (s : State) → IsDesk s → Keeps (state g old) s
+      → kept_for s ask ≡ None → IfOk result (λ (r : Answered). r.reply ≡ (outcome s ask asked).reply)
+
+  abbrev pub KeepsNew : {V : Type 0} → Option Asked → Request → Result V Fault → Type 0
   KeepsNew ask asked result = (s : State) → IsDesk s → Keeps (state g old) s
       → kept_for s ask ≡ None → OnOk result (Keeps (state g new) (outcome s ask asked).state)
 

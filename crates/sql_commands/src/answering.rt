@@ -3,7 +3,7 @@ ghost use Rattle.std.specs.Prelude.{◌≡◌, false, IfOk, IsTrue, Some};
 ghost use Rattle.std.specs.Option.{option_copied as asker};
 ghost use Rattle.commands.specs.Orders.{request_of};
 ghost use Rattle.ledger.specs.Answer.{is_request};
-ghost use Rattle.sql_commands.specs.Answering.{AnswersAgain, Finds, KeepsOn, KeepsAtMemory};
+ghost use Rattle.sql_commands.specs.Answering.{AnswersAgain, AnswersFirst, Finds, KeepsOn, KeepsAtMemory, TellsNew};
 ghost use Rattle.sql_commands.specs.Answering.{Answers, KeepsNext, LeavesOld, AnswersNew, KeepsNew, LeavesNew};
 ghost use Rattle.sql_reads.specs.Reading.{LeavesAsBefore, ShowsKept, WasClean};
 
@@ -13,9 +13,17 @@ use crate::moves::{Motion, answer_move};
 use crate::step_outcome::answer_step;
 use commands::{Ask, Command, Fault, Refusal, Reply};
 use desk_sql::{KeptAnswer, find_answer};
-use sql_reads::fault_of;
+use sql_model::fault_of;
 use sqlite::{Alter, Connection};
 use std::alloc::Global;
+
+/// The reply to a command.
+#[derive(Clone, Copy, Debug, PartialEq, Eq)]
+pub struct Answered {
+    pub reply: Reply,
+    /// Whether no reply was kept for the ask. Else the command changed nothing.
+    pub is_new: bool,
+}
 
 /// The reply under a known key: the kept one if the text is the same, else a refusal. A kept line that is no reply is a
 /// fault of the store.
@@ -87,18 +95,47 @@ fn answer_new<S: Alter>(
     }
 }
 
+/// Executes a command for whose ask no reply is kept, and says that its reply is new.
+fn answer_first<S: Alter>(
+    alloc: Global,
+    conn: &mut Connection<S>,
+    command: &Command,
+    ask: Option<&Ask>,
+) -> Result<Answered, Fault>
+    requires outside { conn.old.in_transaction ≡ false }
+
+    ensures outside { conn.new.in_transaction ≡ false }
+    ensures reply { AnswersFirst S.Store conn.old conn.new (asker ask.entry) (request_of command.now)
+        result }
+    ensures new { IfOk result (λ answered. IsTrue answered.is_new) }
+    ensures after { KeepsNew S.Store conn.old conn.new (asker ask.entry) (request_of command.now)
+        result }
+    ensures memory { KeepsAtMemory S.Store conn.old conn.new result }
+    ensures left { LeavesNew S.Store conn.old conn.new (asker ask.entry) (request_of command.now) }
+    ensures sound { WasClean S.Store conn.old conn.new }
+{
+    match answer_new(alloc, conn, command, ask) {
+        Ok(reply) => Ok(Answered {
+            reply,
+            is_new: true,
+        }),
+        Err(fault) => Err(fault),
+    }
+}
+
 /// Executes a command of an agent. A retry under its key gets the kept reply, or a refusal if its text differs.
 fn answer_for<S: Alter>(
     alloc: Global,
     conn: &mut Connection<S>,
     command: &Command,
     ask: &Ask,
-) -> Result<Reply, Fault>
+) -> Result<Answered, Fault>
     requires outside { conn.old.in_transaction ≡ false }
 
     ensures outside { conn.new.in_transaction ≡ false }
     ensures reply { Answers S.Store conn.old conn.new (Some ask.now) (request_of command.now)
         result }
+    ensures new { TellsNew S.Store conn.old conn.new (Some ask.now) result }
     ensures after { KeepsNext S.Store conn.old conn.new (Some ask.now) (request_of command.now)
         result }
     ensures memory { KeepsAtMemory S.Store conn.old conn.new result }
@@ -106,24 +143,28 @@ fn answer_for<S: Alter>(
     ensures sound { WasClean S.Store conn.old conn.new }
 {
     match find_reply(alloc, conn, ask) {
-        Ok(Some(reply)) => Ok(reply),
-        Ok(None) => answer_new(alloc, conn, command, Some(ask)),
+        Ok(Some(reply)) => Ok(Answered {
+            reply,
+            is_new: false,
+        }),
+        Ok(None) => answer_first(alloc, conn, command, Some(ask)),
         Err(fault) => Err(fault),
     }
 }
 
-/// Executes a command of the agent who asks, or of the house if there is no ask, and returns its reply.
+/// Executes a command of the agent who asks, or of the house if there is no ask. Returns its reply, and whether it is new.
 pub fn answer<S: Alter>(
     alloc: Global,
     conn: &mut Connection<S>,
     command: &Command,
     ask: Option<&Ask>,
-) -> Result<Reply, Fault>
+) -> Result<Answered, Fault>
     requires outside { conn.old.in_transaction ≡ false }
 
     ensures outside { conn.new.in_transaction ≡ false }
     ensures reply { Answers S.Store conn.old conn.new (asker ask.entry) (request_of command.now)
         result }
+    ensures new { TellsNew S.Store conn.old conn.new (asker ask.entry) result }
     ensures after { KeepsNext S.Store conn.old conn.new (asker ask.entry) (request_of command.now)
         result }
     ensures memory { KeepsAtMemory S.Store conn.old conn.new result }
@@ -131,7 +172,7 @@ pub fn answer<S: Alter>(
     ensures sound { WasClean S.Store conn.old conn.new }
 {
     match ask {
-        None => answer_new(alloc, conn, command, None),
+        None => answer_first(alloc, conn, command, None),
         Some(ask) => answer_for(alloc, conn, command, ask),
     }
 }

@@ -5,7 +5,7 @@ ghost use Rattle.sql_reads.specs.Reading.{LeavesAsBefore, ShowsKept, WasClean};
 
 use commands::{Fault, MOST_EVENTS};
 use desk_sql::{Meta, read_meta};
-use sql_reads::fault_of;
+use sql_model::fault_of;
 use sqlite::{Alter, Connection};
 
 /// Reads the numbers of `meta`. Numbers greater than those of any ledger are a fault of the store.

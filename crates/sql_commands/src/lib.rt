@@ -18,5 +18,5 @@ mod next;
 mod options;
 mod step_outcome;
 
-pub use answering::{answer, know_limits};
+pub use answering::{Answered, answer, know_limits};
 pub use counts::read_counts;

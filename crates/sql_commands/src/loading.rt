@@ -19,7 +19,7 @@ use crate::counts::read_counts;
 use allotment::{Cell, Held, Row};
 use commands::{Ask, Batch, Fault, MOST_EVENTS, Refusal, Reply};
 use desk_sql::{BatchFound, Meta, NightFound, NightRange, find_batch, find_nights};
-use sql_reads::fault_of;
+use sql_model::fault_of;
 use sql_writes::{BatchLoaded, Event, Numbers};
 use sqlite::{Alter, Connection};
 use std::alloc::{AllocError, Global};

@@ -10,7 +10,8 @@ use allotment::Want;
 use commands::Fault;
 use desk_sql::{StepFound, find_options};
 use plan::MOST_OPTIONS;
-use sql_reads::{fault_of, want_told};
+use sql_model::fault_of;
+use sql_reads::want_told;
 use sqlite::{Alter, Connection};
 use std::alloc::Global;
 

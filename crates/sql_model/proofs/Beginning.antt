@@ -41,7 +41,7 @@ use Rattle.sql_model.proofs.Answering.{answer_stands, keepable-more}
 pub has_step : (plan : Planned) → IsTrue (is_plan plan) → 1 ≤ step_count plan
 has_step plan good = (limited plan good).some_steps
 
-start_phase : (n : ℕ) → 1 ≤ n → phase_at n 0 false None ≡ Run
+pub start_phase : (n : ℕ) → 1 ≤ n → phase_at n 0 false None ≡ Run
 start_phase n some = let off : (0 == n) ≡ false = grind (arith, nat_tests) in rw off refl
 
 -- a journey without items runs, at position 0

@@ -26,3 +26,4 @@ pub mod PlanParts
 pub mod KeepLemmas
 pub mod Worlds
 pub mod OpenLemmas
+pub mod Staying

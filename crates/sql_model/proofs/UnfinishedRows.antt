@@ -1,4 +1,5 @@
--- The first row of an unfinished journey is that of the first unfinished journey. For Readings.
+-- The first row of an unfinished journey is that of the first unfinished journey, and the first row of an agent that of the
+-- first journey of the agent. For Readings.
 use Rattle.std.proofs.Common.{◌≡◌, ℕ, suc, ◌+◌, List, [], ◌∷◌, map, find, cond, length, Bool, true, false, Option, Some, refl, sym, ap, subst, ◌∙◌, arith}
 use Rattle.std.specs.Prelude.{slice_get, filter_map, option_map, nat_lt, not, ◌&&◌}
 use Rattle.std.specs.List.{cons_option}
@@ -8,11 +9,11 @@ use Rattle.commands.specs.declared.items.Phase.{Phase}
 use Rattle.commands.specs.declared.items.Phase.TheVariants.{Run, Back, Ended, Undone}
 use Rattle.ledger.specs.History.{phase, is_finished}
 use Rattle.ledger.specs.Ledger.{Event, journey_at, numbers, history}
-use Rattle.saga_core.specs.Views.{brief_of_journey, brief_of, is_unfinished_above, first_unfinished}
+use Rattle.saga_core.specs.Views.{brief_of_journey, brief_of, is_owned_above, first_owned, is_unfinished_above, first_unfinished}
 use Rattle.saga_core.specs.declared.records.Brief.{Brief}
 use Rattle.desk_sql.specs.Rows.{JourneyRow}
 use Rattle.sql_model.specs.ExpectedRows.{counted_from, Begun, begun, phase_number, journeys_called}
-use Rattle.desk_sql.specs.FoundRows.{is_unfinished_after}
+use Rattle.desk_sql.specs.FoundRows.{is_owned_after, is_unfinished_after}
 use Rattle.desk_sql.specs.Lists.{IsLeastOf}
 use Rattle.std.specs.Prelude.{nat_le, filter}
 use Rattle.sql_model.specs.Reading.{Tells, IsBriefOf}
@@ -63,15 +64,31 @@ unfinished_phase (Back target) = refl
 unfinished_phase Ended = refl
 unfinished_phase Undone = refl
 
--- the row with the least number, of those that are unfinished and above a number, is that of the
--- first such journey
+-- the row with the least number, of those that pass a test, is that of the first journey that passes it
+first_row_found : (l : List Event) (rows : List JourneyRow) (test : JourneyRow → Bool) (passes : Brief → Bool) (found : Option JourneyRow)
+    → ((b : ℕ × Begun) → test (row_in l b) ≡ passes (brief_in l b))
+    → IsPermutation (journeys_called l) rows → IsLeastOf (λ (r : JourneyRow). r.id) (filter test rows) found
+    → Tells IsBriefOf found (find passes (filter_map (brief_of l) (numbers l)))
+first_row_found l rows test passes found alike same least =
+    subst (λ (o : Option JourneyRow). Tells IsBriefOf o (find passes (filter_map (brief_of l) (numbers l))))
+    (least_is_first (λ (r : JourneyRow). r.id) test (journeys_called l) rows found (called_rises l) same least)
+    (subst (λ bs. Tells IsBriefOf (find test (journeys_called l)) (find passes bs)) (sym (briefs l))
+    (found_alike IsBriefOf (row_in l) (brief_in l) test passes alike
+    (λ b. record { id = refl; agent = refl; cursor = refl }) (counted_from 1 (begun l))))
+
+-- of those that are unfinished and above a number
 pub unfinished_found : (l : List Event) (rows : List JourneyRow) (after : ℕ) (found : Option JourneyRow)
     → IsPermutation (journeys_called l) rows
     → IsLeastOf (λ (r : JourneyRow). r.id) (filter (is_unfinished_after after) rows) found
     → Tells IsBriefOf found (first_unfinished l after)
 unfinished_found l rows after found same least =
-    subst (λ (o : Option JourneyRow). Tells IsBriefOf o (first_unfinished l after))
-    (least_is_first (λ (r : JourneyRow). r.id) (is_unfinished_after after) (journeys_called l) rows found (called_rises l) same least)
-    (subst (λ bs. Tells IsBriefOf (find (is_unfinished_after after) (journeys_called l)) (find (is_unfinished_above after) bs)) (sym (briefs l))
-    (found_alike IsBriefOf (row_in l) (brief_in l) (is_unfinished_after after) (is_unfinished_above after)
-    (λ b. ap (λ v. nat_lt after b.0 && v) (unfinished_phase (phase b.1.journey.plan (history l b.0)))) (λ b. record { id = refl; agent = refl; cursor = refl }) (counted_from 1 (begun l))))
+    first_row_found l rows (is_unfinished_after after) (is_unfinished_above after) found
+    (λ b. ap (λ v. nat_lt after b.0 && v) (unfinished_phase (phase b.1.journey.plan (history l b.0)))) same least
+
+-- of those that are an agent's and above a number
+pub owned_found : (l : List Event) (rows : List JourneyRow) (agent : List ℕ) (after : ℕ) (found : Option JourneyRow)
+    → IsPermutation (journeys_called l) rows
+    → IsLeastOf (λ (r : JourneyRow). r.id) (filter (is_owned_after agent after) rows) found
+    → Tells IsBriefOf found (first_owned l agent after)
+owned_found l rows agent after found same least =
+    first_row_found l rows (is_owned_after agent after) (is_owned_above agent after) found (λ b. refl) same least

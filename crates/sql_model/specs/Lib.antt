@@ -3,6 +3,7 @@ pub mod Standing
 pub mod Beginning
 pub mod Reading
 pub mod Keeping
+pub mod Staying
 pub mod Worlds
 pub mod Openings
 pub mod Spelling

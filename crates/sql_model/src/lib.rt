@@ -2,12 +2,15 @@
 //!
 //! The definitions give the rows that are expected of a ledger, as sets: neither the order of the rows nor their rowids
 //! count. The lemmas say what one event adds to the rows, and what found rows imply for the ledger. The crates that
-//! read and write the tables cite the definitions. The only code in this crate is its laws.
+//! read and write the tables cite the definitions. The only code in this crate is its laws, and the fault that an error
+//! of the store is reported as.
 //!
 //! Words: the tables *represent* a state (`StandsFor`) if their rows are those *expected* of its ledger and kept
 //! replies.
 #![tactic(auto)]
 
+mod faults;
 mod laws;
 
+pub use faults::fault_of;
 pub use laws::{desk_after_a_crash, desks, new_desk_is_found, openings};

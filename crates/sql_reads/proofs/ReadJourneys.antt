@@ -1,10 +1,10 @@
 -- What the rows of journeys give. For the functions of `sql_reads`.
 use Rattle.std.proofs.Common.{◌≡◌, ℕ, zero, suc, ◌≤◌, ◌<◌, List, [], ◌∷◌, map, find, cond, length, Option, Some, None, Bool, true, false, refl, sym, ap, ap₂, subst, ◌∙◌, arith}
-use Rattle.std.specs.Prelude.{option_map, filter_map, nat_lt, not}
+use Rattle.std.specs.Prelude.{bytes_eq, option_map, filter_map, nat_lt, not}
 use Rattle.std.proofs.lemmas.Bool.{and_parts, and_from, ltb-true, lt-ltb}
 use Rattle.std.proofs.lemmas.Option.{slice_get_past}
 use Rattle.commands.specs.declared.items.Cursor.{Cursor}
-use Rattle.saga_core.specs.Views.{first_unfinished, is_unfinished_above, brief_of, record_of, record_of_journey, cursor_of, marks_of}
+use Rattle.saga_core.specs.Views.{first_owned, first_unfinished, is_owned_above, is_unfinished_above, brief_of, record_of, record_of_journey, cursor_of, marks_of}
 use Rattle.saga_core.specs.declared.records.Record.{Record}
 use Rattle.plan.specs.PlanModel.{Planned, step_count}
 use Rattle.std.specs.List.{list_any}
@@ -66,6 +66,18 @@ none_above l low high above none =
     fewer : (b : Brief) → is_unfinished_above high b ≡ true → is_unfinished_above low b ≡ true
     fewer b e =
         let parts = and_parts (nat_lt high b.id) (not (is_finished b.cursor.phase)) e in
+        let more : high < b.id = ltb-true high b.id parts.0 in
+        and_from _ _ (lt-ltb low b.id (omega arith)) parts.1
+
+-- if an agent has no journey above a number, it has none above a greater number
+pub none_owned_above : (l : List Event) (agent : List ℕ) (low high : ℕ) → low ≤ high → first_owned l agent low ≡ None
+    → first_owned l agent high ≡ None
+none_owned_above l agent low high above none =
+    find_fewer (is_owned_above agent low) (is_owned_above agent high) (filter_map (brief_of l) (numbers l)) fewer none
+  where
+    fewer : (b : Brief) → is_owned_above agent high b ≡ true → is_owned_above agent low b ≡ true
+    fewer b e =
+        let parts = and_parts (nat_lt high b.id) (bytes_eq b.agent agent) e in
         let more : high < b.id = ltb-true high b.id parts.0 in
         and_from _ _ (lt-ltb low b.id (omega arith)) parts.1
 

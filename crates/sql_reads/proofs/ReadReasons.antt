@@ -1,14 +1,12 @@
 -- Why a read of the desk fails. For the functions of `sql_reads`.
-use Rattle.std.proofs.Common.{◌≡◌, ◌≢◌, ◌≤◌, ◌<◌, ◌⊎◌, inl, inr, ℕ, zero, suc, List, [], ◌∷◌, Option, Some, None, Ok, Err, Result, IsTrue, true, length, filter, map, refl, sym, ap, subst, ◌∙◌, arith}
-use Rattle.std.specs.Prelude.{◌↔◌, IsUtf8, IsSome, IfSome, IfErr, IsErrOf, min, ◌^◌, ◌+◌, ◌-◌, slice_get, filter_map, nat_le, nat_lt}
+use Rattle.std.proofs.Common.{◌≡◌, ◌≢◌, ◌≤◌, ◌<◌, ◌⊎◌, inl, inr, ℕ, zero, suc, List, [], ◌∷◌, Option, Some, None, Ok, Err, Result, IsTrue, true, false, length, filter, map, refl, sym, ap, subst, ◌∙◌, arith}
+use Rattle.std.specs.Prelude.{bytes_eq, IsUtf8, IsSome, IfSome, IfErr, IsErrOf, ◌+◌, slice_get, filter_map, nat_le, nat_lt}
 use Rattle.std.specs.List.{AllByRecursion}
 use Rattle.std.proofs.lemmas.Bool.{and_parts, ltb-true}
 use Rattle.sqlite.specs.Store.{Ghosts}
 use Rattle.sqlite.specs.State.{State as Connected, HasCleanDisk}
 use Rattle.sqlite.specs.Held.{Held, state}
 use Rattle.sqlite.specs.declared.error.Error.{Error}
-use Rattle.sqlite.specs.declared.error.Error.TheVariants.{SqliteFailure}
-use Rattle.sqlite.specs.declared.error.ErrorCode.TheVariants.{OutOfMemory}
 use Rattle.sqlite_rules.specs.Lists.{Has}
 use Rattle.sqlite_rules.proofs.ListLemmas.{all_has, has_filtered}
 use Rattle.allotment.proofs.ShortLemmas.{is_utf8}
@@ -20,9 +18,9 @@ use Rattle.commands.specs.Names.{is_agent}
 use Rattle.commands.proofs.NameLemmas.{agent_is_short}
 use Rattle.plan.specs.PlanModel.{numbered}
 use Rattle.desk_sql.specs.Calls.{LeavesNoMore, MaySeeIn}
-use Rattle.desk_sql.specs.Causes.{IsUp, HasFaulted, HasReason}
-use Rattle.desk_sql.specs.FoundRows.{is_numbered, is_unfinished_after, FindsJourney, FindsNextItem, FindsUnfinished, is_item_after, item_of, journey_of}
-use Rattle.desk_sql.specs.Readable.{HasAgentText, HasMeta, HaveAgentTexts}
+use Rattle.desk_sql.specs.Causes.{IsUp, HasReason}
+use Rattle.desk_sql.specs.FoundRows.{is_numbered, is_owned_after, is_unfinished_after, FindsJourney, FindsNextItem, FindsOwned, FindsUnfinished, is_item_after, item_of, journey_of}
+use Rattle.desk_sql.specs.Readable.{HasAgentText, HasMeta, HaveAgentTexts, HaveOwnedTexts}
 use Rattle.desk_sql.specs.Rows.{Tables, EntryRow, JourneyRow}
 use Rattle.desk_sql.specs.declared.journeys.JourneyFound.{JourneyFound}
 use Rattle.desk_sql.specs.declared.items.ItemFound.{ItemFound}
@@ -35,20 +33,17 @@ use Rattle.sql_model.specs.ExpectedRows.{Begun, begun, begun_of, counted_from, c
 use Rattle.sql_model.specs.Reading.{cursor_in}
 use Rattle.sql_model.specs.Standing.{StandsIn}
 use Rattle.sql_model.specs.Spelling.{IsSpelled}
-use Rattle.sql_model.specs.Keeping.{KeepsIn, WasClean}
+use Rattle.sql_model.specs.Keeping.{KeepsIn}
 use Rattle.sql_model.proofs.Cursors.{cursor_back}
 use Rattle.sql_model.proofs.JourneyRows.{journey_begins, journey_told, next_above}
 use Rattle.sql_model.proofs.KeepLemmas.{seen_by}
-use Rattle.sql_reads.specs.Causes.{StaysUp}
 use Rattle.sql_reads.specs.GoodRows.{IsMemory}
 use Rattle.sql_reads.specs.Reading.{row_of}
 use Rattle.sql_reads.proofs.ReadLemmas.{was_clean}
 
--- a fault that an error of the store was turned into
-pub of_error : (old new : Connected) (e : Error) (f : Fault)
-    → (f ≡ Memory ↔ e ≡ SqliteFailure OutOfMemory) → HasReason old new e → f ≡ Store → HasFaulted old new
-of_error old new e f memory (inl is) store = absurd (let ran : Memory ≡ Store = sym (memory.1 is) ∙ store in cc)
-of_error old new e f memory (inr faulted) store = faulted
+-- the two truths differ
+pub false_is_not_true : false ≡ true → ⊥
+false_is_not_true is = cc
 
 -- what fails only out of memory is no fault of the store
 pub not_store : {V : Type 0} (r : Result V Fault) → IfErr r IsMemory → ¬ IsErrOf r Store
@@ -133,6 +128,9 @@ module _ {v : Version} (t : Tables) (s : State) (st : StandsIn v t s) (spelled :
   pub have_texts : (after : ℕ) → HaveAgentTexts after t
   have_texts after j has = row_text j (has_filtered (is_unfinished_after after) t.journey j has).0
 
+  pub have_owned_texts : (agent : List ℕ) (after : ℕ) → HaveOwnedTexts agent after t
+  have_owned_texts agent after j has = row_text j (has_filtered (is_owned_after agent after) t.journey j has).0
+
   -- a row that is found has an agent's name, tells where its journey is, and has a number of a journey and one of an event
   pub row_agent : (r : JourneyFound) → Has t.journey (journey_of r) → IsTrue (is_agent (journey_of r).agent)
   row_agent r has =
@@ -169,6 +167,15 @@ module _ {v : Version} (t : Tables) (s : State) (st : StandsIn v t s) (spelled :
       ltb-true after r.id
       (and_parts (nat_lt after r.id) (nat_le r.cursor.phase 1) (has_filtered (is_unfinished_after after) t.journey (journey_of r) finds.0).1).0
 
+  pub owned_there : (agent : List ℕ) (after : ℕ) (r : JourneyFound) → FindsOwned agent after t (Some r) → Has t.journey (journey_of r)
+  owned_there agent after r finds = (has_filtered (is_owned_after agent after) t.journey (journey_of r) finds.0).0
+
+  pub owned_above : (agent : List ℕ) (after : ℕ) (r : JourneyFound) → FindsOwned agent after t (Some r) → after < r.id
+  owned_above agent after r finds =
+      ltb-true after r.id
+      (and_parts (nat_lt after r.id) (bytes_eq (journey_of r).agent agent)
+      (has_filtered (is_owned_after agent after) t.journey (journey_of r) finds.0).1).0
+
   -- the event of an item that is found is one of the ledger
   pub item_early : (journey after : ℕ) (found : Option ItemFound) → FindsNextItem journey after t found
       → IfSome found (λ (i : ItemFound). i.num ≤ most_events)
@@ -189,40 +196,3 @@ module _ {S : Type 0} (g : Ghosts S) (old new : Held S) where
       let kept = keeps (was_clean g old new survives clean) in
       let seen = seen_by (state g old) s kept in
       fails clean seen.tables seen.may (fits seen.tables (seen.stands up.is_open)) up
-
-  -- a call that leaves no more counts on, and stays up
-  pub stays_up : LeavesNoMore g old new → StaysUp g old new
-  stays_up survives = record {
-    counts = survives.counts;
-    up = λ clean up. (elim (survives.closes clean up.is_open) [
-      | inl live ↦ inl (record { is_open = live; unlimited = survives.limit ∙ up.unlimited })
-      | inr faulted ↦ inr faulted
-    ]);
-  }
-
--- One call after another.
-
--- a fault in the later part is one in the whole, and so is one in the earlier
-later : (a b c : ℕ) → a ≤ b → min (b + 1) (2 ^ 64 - 1) ≤ c → min (a + 1) (2 ^ 64 - 1) ≤ c
-later a b c low more = omega (arith, low, more)
-
-earlier : (a b c : ℕ) → min (a + 1) (2 ^ 64 - 1) ≤ b → b ≤ c → min (a + 1) (2 ^ 64 - 1) ≤ c
-earlier a b c more low = omega (arith, low, more)
-
-module _ {S : Type 0} (g : Ghosts S) (a b c : Held S) where
-  pub stays_twice : StaysUp g a b → StaysUp g b c → WasClean g b c → StaysUp g a c
-  stays_twice one two less = record {
-    counts = (let low = one.counts in let high = two.counts in omega (arith, low, high));
-    up = λ clean up. (elim (one.up (less clean) up) [
-      | inr faulted ↦ inr (earlier _ _ _ faulted two.counts)
-      | inl mid ↦ (elim (two.up clean mid) [ inl still ↦ inl still | inr faulted ↦ inr (later _ _ _ one.counts faulted) ])
-    ]);
-  }
-
-  -- a call fails that only tells of a store which the one before shut
-  pub fails_twice : StaysUp g a b → StaysUp g b c → WasClean g b c → HasCleanDisk (state g c) → IsUp (state g a)
-      → (IsUp (state g b) → HasFaulted (state g b) (state g c)) → HasFaulted (state g a) (state g c)
-  fails_twice one two less clean up fails = elim (one.up (less clean) up) [
-    | inr faulted ↦ earlier _ _ _ faulted two.counts
-    | inl mid ↦ later _ _ _ one.counts (fails mid)
-  ]

@@ -8,7 +8,8 @@ use Rattle.desk_sql.specs.Lending.{IsNotBegun}
 use Rattle.desk_sql.specs.Readable.{Any}
 use Rattle.sql_reads.specs.Lending.{IsNotStarted}
 use Rattle.sql_reads.proofs.HandedTold.{left_by}
-use Rattle.sql_reads.proofs.ReadReasons.{sql_reason, stays_up}
+use Rattle.sql_model.proofs.Staying.{stays_up}
+use Rattle.sql_reads.proofs.ReadReasons.{sql_reason}
 
 pub not_started : {S : Type 0} (g : Ghosts S) (old new : Held S) {V : Type 0} (r : Result V Error)
     → OnErr r (IsNotBegun g r old new) → OnErr r (IsNotStarted g r old new)

@@ -1,5 +1,5 @@
--- Why a read of the desk fails, and what is left of a store that was up.
-use Rattle.std.specs.Prelude.{◌≡◌, ◌≤◌, ◌⊎◌, Result, IfOk, IsErrOf}
+-- Why a read of the desk fails.
+use Rattle.std.specs.Prelude.{Result, IfOk, IsErrOf}
 use Rattle.sqlite.specs.Store.{Ghosts}
 use Rattle.sqlite.specs.Held.{Held, state}
 use Rattle.sqlite.specs.State.{HasCleanDisk}
@@ -44,9 +44,3 @@ module _ {S : Type 0} (g : Ghosts S) (old new : Held S) where
   ShowsSpelled v result IsShown =
       HasCleanDisk (state g new) → (s : State) → IsDesk s → IsSpelled s.ledger → KeepsIn v (state g old) s
       → IfOk result IsShown
-
-  -- no fault is forgotten, and a store that was up is so until its disk fails or refuses
-  pub record StaysUp : Type 0 where
-    pub counts : (state g old).faults ≤ (state g new).faults
-    pub up : HasCleanDisk (state g new) → IsUp (state g old)
-        → IsUp (state g new) ⊎ HasFaulted (state g old) (state g new)

@@ -11,7 +11,7 @@ use Rattle.desk_sql.specs.declared.versions.Version.{Version}
 use Rattle.desk_sql.specs.Causes.{IsUp, HasReason}
 use Rattle.ledger.specs.Answer.{State}
 use Rattle.sql_model.specs.Keeping.{KeepsIn}
-use Rattle.sql_reads.specs.Causes.{StaysUp}
+use Rattle.sql_model.specs.Staying.{StaysUp}
 use Rattle.sql_reads.specs.RemainingRows.{IsLeftAsItWas}
 
 module _ {S : Type 0} (g : Ghosts S) {V : Type 0} (result : Result V Error) (old new : Held S) where

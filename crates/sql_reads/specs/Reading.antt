@@ -2,7 +2,7 @@
 use Rattle.std.specs.Prelude.{◌≡◌, ℕ, false, List, map, Option, None, Some, option_map, Result, IfOk}
 use Rattle.allotment.specs.declared.cells.Cell.{Cell}
 use Rattle.allotment.specs.declared.places.Held.{Held as HeldPlaces}
-use Rattle.saga_core.specs.Views.{night_said, first_unfinished, record_of, marks_of}
+use Rattle.saga_core.specs.Views.{night_said, first_owned, first_unfinished, record_of, marks_of}
 use Rattle.desk_sql.specs.Stock.{stock_of}
 use Rattle.desk_sql.specs.declared.stock.NightFound.{NightFound}
 use Rattle.desk_sql.specs.declared.stock.CellFound.{CellFound}
@@ -122,6 +122,10 @@ HasTries id tries s = (a : Journey) × (journey_at s.ledger id ≡ Some a) × (t
 -- the brief of the first unfinished journey above this number
 abbrev pub IsFirstAbove : ℕ → State → Option Brief → Type 0
 IsFirstAbove after s found = found ≡ first_unfinished s.ledger after
+
+-- the journey of this agent with the least number above this one
+abbrev pub IsFirstOwned : List ℕ → ℕ → State → Option Brief → Type 0
+IsFirstOwned agent after s found = found ≡ first_owned s.ledger agent after
 
 -- no journey has this number
 abbrev pub HasNone : {V : Type 0} → ℕ → State → V → Type 0

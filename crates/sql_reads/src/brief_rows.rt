@@ -10,15 +10,15 @@ ghost use Rattle.sql_reads.specs.Lending.{LeavesIfErr};
 ghost use Rattle.sql_reads.specs.RemainingRows.{BriefsRest, IsLeftAsItWas, BeginsKept};
 ghost use Rattle.saga_core.specs.RowSources.{count_of, Hands};
 ghost use Rattle.desk_sql.specs.Causes.{HasFaulted, IsUp};
-ghost use Rattle.sql_reads.specs.Causes.{StaysUp};
+ghost use Rattle.sql_model.specs.Staying.{StaysUp};
 ghost use Rattle.sql_reads.specs.RemainingRows.{AreGoodBriefsRest, RowsStay};
 
-use crate::faults::fault_of;
 use crate::progress::Progress;
 use crate::telling::brief_of;
 use commands::Fault;
 use desk_sql::{hand_unfinished, next_unfinished};
 use saga_core::{Brief, RowSource};
+use sql_model::fault_of;
 use sqlite::{Alter, Connection, Error, Rows};
 
 /// The unfinished journeys that remain of rows that `start_unfinished` returned. After a fault every call returns

@@ -10,16 +10,16 @@ ghost use Rattle.sql_reads.specs.Lending.{LeavesIfErr};
 ghost use Rattle.sql_reads.specs.RemainingRows.{StockRests, IsLeftAsItWas, BeginsKept};
 ghost use Rattle.saga_core.specs.RowSources.{count_of, Hands};
 ghost use Rattle.desk_sql.specs.Causes.{HasFaulted, IsUp};
-ghost use Rattle.sql_reads.specs.Causes.{StaysUp};
+ghost use Rattle.sql_model.specs.Staying.{StaysUp};
 ghost use Rattle.sql_reads.specs.RemainingRows.{AreGoodCellsRest, RowsStay};
 
-use crate::faults::fault_of;
 use crate::progress::Progress;
 use crate::telling::cell_told;
 use allotment::{Cell, Held};
 use commands::Fault;
 use desk_sql::{hand_stock, next_cell};
 use saga_core::RowSource;
+use sql_model::fault_of;
 use sqlite::{Alter, Connection, Error, Rows};
 
 /// The cells that remain of rows that `start_stock` returned. After a fault every call returns `Store`.

@@ -10,7 +10,8 @@ ghost use Rattle.sqlite.specs.State.{HasCleanDisk};
 ghost use Rattle.ledger.specs.Ledger.{history};
 ghost use Rattle.saga_core.specs.RowSources.{count_of, Hands};
 ghost use Rattle.sql_reads.specs.ItemSearch.{IsLow};
-ghost use Rattle.sql_reads.specs.Causes.{FailsForReasonEach, FailsForReasonIn, StaysUp};
+ghost use Rattle.sql_reads.specs.Causes.{FailsForReasonEach, FailsForReasonIn};
+ghost use Rattle.sql_model.specs.Staying.{StaysUp};
 ghost use Rattle.sql_reads.specs.RemainingRows.{ItemsRest, IsLeftAsItWas, BeginsKept};
 
 use crate::following::{is_finished_with, position_after};

@@ -8,10 +8,10 @@
 
 mod brief_rows;
 mod cell_rows;
-mod faults;
 mod following;
 mod history_rows;
 mod item_search;
+mod owned_journeys;
 mod plan_rows;
 mod progress;
 mod reads;
@@ -19,8 +19,8 @@ mod telling;
 
 pub use brief_rows::{UnfinishedRows, start_unfinished};
 pub use cell_rows::{StockRows, start_stock};
-pub use faults::fault_of;
 pub use history_rows::{ItemCursor, item_cursor};
+pub use owned_journeys::read_first_owned;
 pub use plan_rows::want_told;
 pub use progress::Progress;
 pub use reads::{

@@ -4,7 +4,8 @@ ghost use Rattle.ledger.specs.Ledger.{history};
 ghost use Rattle.saga_core.specs.Views.{ShowsCells, IsStock};
 ghost use Rattle.sql_reads.specs.Reading.{ShowsKept, ShowsKeptIn, ShowsEach, KeepsOn, KeepsEach, LeavesAsBefore, WasClean};
 ghost use Rattle.sql_reads.specs.Reading.{IsFirstAbove, HasNone, IsRecordAt, IsStandAt, AreMarksAt, IsNone, IsPlanOf, HasTries};
-ghost use Rattle.sql_reads.specs.Causes.{FailsForReason, FailsForReasonEach, FailsForReasonIn, FailsWhereEach, ShowsSpelled, StaysUp};
+ghost use Rattle.sql_reads.specs.Causes.{FailsForReason, FailsForReasonEach, FailsForReasonIn, FailsWhereEach, ShowsSpelled};
+ghost use Rattle.sql_model.specs.Staying.{StaysUp};
 ghost use Rattle.ledger.specs.Answer.{most_events};
 ghost use Rattle.desk_sql.specs.Causes.{FailsForReasonIn as SqlFailsIn};
 ghost use Rattle.desk_sql.specs.Readable.{Any};
@@ -12,7 +13,6 @@ ghost use Rattle.desk_sql.specs.Calls.{ReadsIn, ChangesNothing, LeavesNoMore};
 ghost use Rattle.desk_sql.specs.FoundRows.{FindsNextItem};
 ghost use Rattle.sql_reads.specs.ItemSearch.{AreSoughtAt, IsLow, IsNextOf};
 
-use crate::faults::fault_of;
 use crate::item_search::Sought;
 use crate::plan_rows::plan_told;
 use crate::telling::{
@@ -27,6 +27,7 @@ use desk_sql::{
 use plan::Plan;
 use saga_core::{Brief, Record};
 use savepoints::Marks;
+use sql_model::fault_of;
 use sqlite::{Alter, Connection, Error};
 use std::alloc::Global;
 

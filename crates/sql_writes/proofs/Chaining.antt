@@ -1,10 +1,13 @@
 -- Two consecutive writes. For the functions that write an event.
-use Rattle.std.proofs.Common.{IsTrue, ◌∙◌}
-use Rattle.std.specs.Prelude.{Result, Ok, Err, OnOk}
-use Rattle.sqlite.specs.State.{State, KeepsCommit}
+use Rattle.std.proofs.Common.{IsTrue, ◌∙◌, inl, inr}
+use Rattle.std.specs.Prelude.{Result, Ok, Err, OnOk, IfErr}
+use Rattle.sqlite.proofs.StateLemmas.{survives_then}
+use Rattle.sqlite.specs.State.{State, KeepsCommit, Survives}
 use Rattle.sqlite.specs.declared.error.Error.{Error}
 use Rattle.desk_sql.specs.Calls.{MayRun, Makes}
+use Rattle.desk_sql.specs.Causes.{IsUp, HasReason}
 use Rattle.desk_sql.specs.Rows.{Tables}
+use Rattle.sql_model.proofs.Staying.{faulted_later}
 
 -- two writes that keep what is committed keep it together
 pub keeps_then : (a b c : State) → KeepsCommit a b → KeepsCommit b c → KeepsCommit a c
@@ -38,3 +41,24 @@ pub makes_last : {V : Type 0} (a b c : State) (t : Tables) (first second : Table
 makes_last a b c t first second r one two =
     ok_more r (two (record { inside = one.inside; sees = λ _. one.sees }))
     (λ m. makes_then a b c t first second one (λ _. m))
+
+-- after a success the next write runs on the rows that it left, and a store that was up is so
+pub runs_after : (a b : State) (t : Tables) → Makes a b t → MayRun b t
+runs_after a b t made = record { inside = made.inside; sees = λ _. made.sees }
+
+pub up_after : (a b : State) (t : Tables) → Survives a b (λ _. ⊥) → Makes a b t → IsUp a → IsUp b
+up_after a b t survives made up = record { is_open = made.is_open; unlimited = survives.limit ∙ up.unlimited }
+
+-- the reason of a later write is one of all
+pub reason_later : (a b c : State) (e : Error) → Survives a b (λ _. ⊥) → HasReason b c e → HasReason a c e
+reason_later a b c e survives (inl memory) = inl memory
+reason_later a b c e survives (inr faulted) = inr (faulted_later a b c survives.counts faulted)
+
+pub reason_last : {V : Type 0} (a b c : State) (r : Result V Error) → Survives a b (λ _. ⊥)
+    → IfErr r (HasReason b c) → IfErr r (HasReason a c)
+reason_last a b c (Ok v) survives reason = tt
+reason_last a b c (Err e) survives reason = reason_later a b c e survives reason
+
+-- of two calls that commit nothing a crash leaves no more than before
+pub less_then : (a b c : State) → Survives a b (λ _. ⊥) → Survives b c (λ _. ⊥) → Survives a c (λ _. ⊥)
+less_then a b c one two = survives_then a b c (λ _. ⊥) (λ _. ⊥) (λ _. ⊥) (λ _ db none. none) (λ _ db none. none) one two

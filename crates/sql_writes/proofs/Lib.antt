@@ -1,5 +1,9 @@
 pub mod BeginLemmas
 pub mod Chaining
+pub mod Permitting
+pub mod EventLemmas
+pub mod OptionLemmas
 pub mod CommitLemmas
+pub mod CommitReasons
 pub mod LoadLemmas
 pub mod Batches

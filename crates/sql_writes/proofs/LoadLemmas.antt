@@ -1,5 +1,7 @@
 -- Cells get their places in order. For the functions of `loads`.
-use Rattle.std.proofs.Common.{◌≡◌, ℕ, zero, suc, ◌+◌, ◌-◌, ◌<◌, ◌≤◌, List, [], ◌∷◌, ◌++◌, length, take, get_or, IsTrue, refl, sym, ap, subst, ◌∙◌, arith, add-one}
+use Rattle.std.proofs.Common.{◌≡◌, ℕ, zero, suc, ◌+◌, ◌-◌, ◌<◌, ◌≤◌, List, [], ◌∷◌, ◌++◌, length, take, get_or, IsTrue, refl, sym, ap, subst, ◌∙◌, arith, add-one, length-append}
+use Rattle.std.specs.Prelude.{⊤}
+use Rattle.std.specs.List.{AllByRecursion}
 use Rattle.sqlite.proofs.StateLemmas.{survives_then}
 use Rattle.sqlite.specs.Store.{Ghosts}
 use Rattle.sqlite.specs.Held.{Held as Connection, state}
@@ -10,13 +12,16 @@ use Rattle.allotment.specs.declared.cells.Row.{Row}
 use Rattle.allotment.specs.declared.places.Held.{Held}
 use Rattle.desk_sql.specs.Calls.{MayRun, Makes}
 use Rattle.desk_sql.specs.Rows.{Tables, StockRow}
+use Rattle.desk_sql.specs.Writable.{HasRowids, IsShort}
 use Rattle.desk_sql.specs.Stock.{AreApart as AreCellsApart, put, puts_cell}
 use Rattle.sql_model.specs.Reading.{stock_row_of}
 use Rattle.sql_model.specs.Standing.{AreApart, is_same_stock}
 use Rattle.sql_transitions.specs.Loading.{loaded_row}
 use Rattle.sql_transitions.proofs.Puts.{cells_apart, once-rows}
 use Rattle.sql_writes.specs.Loads.{HasPut, put_each, puts_each}
-use Rattle.sql_writes.proofs.Chaining.{makes_then, keeps_then}
+use Rattle.sql_writes.proofs.Chaining.{makes_then, keeps_then, runs_after}
+use Rattle.sql_writes.proofs.Permitting.{short_put}
+use Rattle.sql_writes.specs.Permits.{HaveShortCells}
 
 -- one more cell is put after the others
 put_each-last : (cells : List (Cell × Held)) (c : Cell × Held) (rows : List StockRow)
@@ -52,8 +57,10 @@ pub HasPut-more : {S : Type 0} (g : Ghosts S) (old mid new : Connection S) (cell
     → (HasCleanDisk (state g new) → IsTrue (state g mid).in_transaction → IsTrue (state g new).in_transaction)
     → (HasCleanDisk (state g new) → (t : Tables) → MayRun (state g mid) t → AreCellsApart t
     → Makes (state g mid) (state g new) (puts_cell (stock_row_of c) t))
+    → (HasCleanDisk (state g new) → (t : Tables) → MayRun (state g mid) t → IsTrue (state g mid).is_open → ⊤ → (n : ℕ)
+    → HasRowids (1 + n) (state g mid).now.trees → HasRowids n (state g new).now.trees)
     → HasPut g old new (cells ++ c ∷ [])
-HasPut-more g old mid new cells c has survives commit inside made =
+HasPut-more g old mid new cells c has survives commit inside made rowids =
     let early : HasCleanDisk (state g new) → HasCleanDisk (state g mid) = λ clean. omega (arith, survives.clean) in
     record {
       survives =
@@ -68,7 +75,28 @@ HasPut-more g old mid new cells c has survives commit inside made =
           (makes_then (state g old) (state g mid) (state g new) t (puts_each cells) (puts_cell (stock_row_of c))
           (has.made (early clean) t may live apart)
           (λ m. made clean (puts_each cells t) m (cells_apart (puts_each cells t) (apart-each cells t.stock apart))));
+      rowids = λ clean t may live apart n enough. (
+          let first = has.made (early clean) t may live apart in
+          let size = length-append cells (c ∷ []) in
+          let sum : length (cells ++ c ∷ []) + n ≡ length cells + (1 + n) = omega (arith, size) in
+          rowids clean (puts_each cells t) (runs_after (state g old) (state g mid) (puts_each cells t) first) first.is_open tt n
+          (has.rowids (early clean) t may live apart (1 + n) (subst (λ k. HasRowids k (state g old).now.trees) sum enough)));
     }
+
+-- the texts of the cell fit
+abbrev pub HasShortTexts : Cell × Held → Type 0
+HasShortTexts c = IsShort (length c.0.supplier + length c.0.product)
+
+-- the texts of the cells fit after all cells got their places
+pub short_each : (cells : List (Cell × Held)) (t : Tables) → AllByRecursion HasShortTexts cells → HaveShortCells t
+    → HaveShortCells (puts_each cells t)
+short_each [] t all short = short
+short_each (c ∷ cells) t all short =
+    short_each cells (puts_cell (stock_row_of c) t) all.1 (short_put (stock_row_of c) t.stock all.0 short)
+
+-- no two rows are of one cell after the cells got their places
+pub apart_put : (cells : List (Cell × Held)) (t : Tables) → AreApart is_same_stock t.stock → AreCellsApart (puts_each cells t)
+apart_put cells t apart = cells_apart (puts_each cells t) (apart-each cells t.stock apart)
 
 -- one more element of the list is taken
 take-next : {X : Type 0} (xs : List X) (i : ℕ) (x : X) → i < length xs → x ≡ get_or xs i x

@@ -1,11 +1,12 @@
 -- The rows that the begin of a journey writes, option by option.
-use Rattle.std.specs.Prelude.{ℕ, List, Result, OnOk, IsTrue}
+use Rattle.std.specs.Prelude.{ℕ, ◌+◌, List, length, Result, OnOk, IsTrue}
 use Rattle.sqlite.specs.Store.{Ghosts}
 use Rattle.sqlite.specs.Held.{Held, state}
 use Rattle.sqlite.specs.State.{HasCleanDisk, KeepsCommit, Survives}
 use Rattle.sqlite.specs.declared.error.Error.{Error}
 use Rattle.desk_sql.specs.Calls.{MayRun, Makes}
 use Rattle.desk_sql.specs.Rows.{Tables, StepRow}
+use Rattle.desk_sql.specs.Writable.{HasRowids}
 use Rattle.plan.specs.PlanModel.{Planned}
 use Rattle.sql_model.specs.ExpectedRows.{step_rows_of}
 use Rattle.sql_model.specs.Beginning.{adds_steps, rows_of_step, rows_of_option, with_journey}
@@ -43,6 +44,9 @@ module _ {S : Type 0} (g : Ghosts S) (old now : Held S) where
         → IsTrue (state g now).in_transaction
     pub made : HasCleanDisk (state g now) → (t : Tables) → MayRun (state g old) t
         → IsTrue (state g old).is_open → Makes (state g old) (state g now) (adds_steps rows t)
+    pub rowids : HasCleanDisk (state g now) → (t : Tables) → MayRun (state g old) t
+        → IsTrue (state g old).is_open → (n : ℕ) → HasRowids (length rows + n) (state g old).now.trees
+        → HasRowids n (state g now).now.trees
 
 -- the rows after the begin of the last journey
 abbrev pub begin_rows : Numbers → JourneyBegun → Tables → Tables

@@ -1,5 +1,5 @@
 -- The rows that a load writes, and its preconditions on the rows before it.
-use Rattle.std.specs.Prelude.{ℕ, List, [], ◌∷◌, Result, OnOk, IsTrue}
+use Rattle.std.specs.Prelude.{ℕ, ◌+◌, List, [], ◌∷◌, length, Result, OnOk, IsTrue}
 use Rattle.sqlite.specs.Store.{Ghosts}
 use Rattle.sqlite.specs.Held.{Held as Connection, state}
 use Rattle.sqlite.specs.State.{HasCleanDisk, KeepsCommit, Survives}
@@ -8,6 +8,7 @@ use Rattle.allotment.specs.declared.cells.Cell.{Cell}
 use Rattle.allotment.specs.declared.places.Held.{Held}
 use Rattle.desk_sql.specs.Calls.{MayRun, Makes}
 use Rattle.desk_sql.specs.Rows.{Tables, StockRow}
+use Rattle.desk_sql.specs.Writable.{HasRowids}
 use Rattle.desk_sql.specs.Stock.{put}
 use Rattle.desk_sql.specs.Changes.{counts, adds_batch}
 use Rattle.sql_model.specs.Beginning.{meta_row_at}
@@ -54,3 +55,6 @@ module _ {S : Type 0} (g : Ghosts S) (old new : Connection S) where
     pub made : HasCleanDisk (state g new) → (t : Tables) → MayRun (state g old) t
         → IsTrue (state g old).is_open → MayLoad t
         → Makes (state g old) (state g new) (puts_each cells t)
+    pub rowids : HasCleanDisk (state g new) → (t : Tables) → MayRun (state g old) t
+        → IsTrue (state g old).is_open → MayLoad t → (n : ℕ)
+        → HasRowids (length cells + n) (state g old).now.trees → HasRowids n (state g new).now.trees

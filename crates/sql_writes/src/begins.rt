@@ -1,10 +1,14 @@
 //! The rows of a new journey: its own, and one for each option of each step of its plan.
-ghost use Rattle.std.specs.Prelude.{◌≡◌, ◌<◌, ◌≤◌, ◌^◌};
+ghost use Rattle.std.specs.Prelude.{◌≡◌, ◌<◌, ◌≤◌, ◌^◌, length, ⊤};
 ghost use Rattle.plan.specs.PlanModel.{step_count, option_count};
 ghost use Rattle.desk_sql.specs.Calls.{StaysInside, WasOpen, CommitsNothing, LeavesNoMore};
 ghost use Rattle.desk_sql.specs.Changes.{AreJourneysBelow};
 ghost use Rattle.sql_writes.specs.Writing.{WritesRows};
 ghost use Rattle.sql_writes.specs.Begins.{WritesOption, WritesStep, WritesSteps, begin_rows};
+ghost use Rattle.sql_model.specs.Beginning.{rows_of_option, rows_of_step};
+ghost use Rattle.sql_model.specs.ExpectedRows.{step_rows_of};
+ghost use Rattle.sql_writes.specs.Permits.{MayAddOption, MayAddOptions, MayAddSteps, MayBegin};
+ghost use Rattle.sql_writes.specs.Reasons.{FailsOn, TakesRowids};
 
 use crate::events::{JourneyBegun, Numbers};
 use desk_sql::{StepOption, insert_journey, insert_step, update_meta};
@@ -30,6 +34,10 @@ fn write_option<S: Alter>(
     ensures same_reference { tx.new.conn.ghost_name ≡ tx.old.conn.ghost_name }
     ensures made { WritesOption S.Store tx.old.conn.now tx.new.conn.now result
         id plan.now step option }
+    ensures reason { FailsOn S.Store tx.old.conn.now tx.new.conn.now result
+        (length (rows_of_option id plan.now step option)) (MayAddOption id step option) }
+    ensures rowids { TakesRowids S.Store tx.old.conn.now tx.new.conn.now result
+        (length (rows_of_option id plan.now step option)) (λ _. ⊤) }
     ensures inside { StaysInside S.Store tx.old.conn.now tx.new.conn.now result }
     ensures commit { CommitsNothing S.Store tx.old.conn.now tx.new.conn.now }
     ensures survives { LeavesNoMore S.Store tx.old.conn.now tx.new.conn.now }
@@ -66,6 +74,10 @@ fn write_options<S: Alter>(
 
     ensures same_reference { tx.new.conn.ghost_name ≡ tx.old.conn.ghost_name }
     ensures made { WritesStep S.Store tx.old.conn.now tx.new.conn.now result id plan.now step }
+    ensures reason { FailsOn S.Store tx.old.conn.now tx.new.conn.now result
+        (length (rows_of_step id plan.now step)) (MayAddOptions id step) }
+    ensures rowids { TakesRowids S.Store tx.old.conn.now tx.new.conn.now result
+        (length (rows_of_step id plan.now step)) (λ _. ⊤) }
     ensures inside { StaysInside S.Store tx.old.conn.now tx.new.conn.now result }
     ensures commit { CommitsNothing S.Store tx.old.conn.now tx.new.conn.now }
     ensures survives { LeavesNoMore S.Store tx.old.conn.now tx.new.conn.now }
@@ -83,6 +95,10 @@ fn write_steps<S: Alter>(tx: &mut Transaction<'_, S>, id: u64, plan: &Plan) -> R
 
     ensures same_reference { tx.new.conn.ghost_name ≡ tx.old.conn.ghost_name }
     ensures made { WritesSteps S.Store tx.old.conn.now tx.new.conn.now result id plan.now }
+    ensures reason { FailsOn S.Store tx.old.conn.now tx.new.conn.now result
+        (length (step_rows_of id plan.now)) (MayAddSteps id) }
+    ensures rowids { TakesRowids S.Store tx.old.conn.now tx.new.conn.now result
+        (length (step_rows_of id plan.now)) (λ _. ⊤) }
     ensures inside { StaysInside S.Store tx.old.conn.now tx.new.conn.now result }
     ensures commit { CommitsNothing S.Store tx.old.conn.now tx.new.conn.now }
     ensures survives { LeavesNoMore S.Store tx.old.conn.now tx.new.conn.now }
@@ -102,6 +118,12 @@ pub fn write_begin<S: Alter>(
     ensures same_reference { tx.new.conn.ghost_name ≡ tx.old.conn.ghost_name }
     ensures made { WritesRows S.Store tx.old.conn.now tx.new.conn.now
         (AreJourneysBelow numbers.journeys) result (begin_rows numbers begun.entry) }
+    ensures reason { FailsOn S.Store tx.old.conn.now tx.new.conn.now result
+        (length (step_rows_of numbers.journeys begun.entry.plan.now))
+        (MayBegin numbers begun.entry) }
+    ensures rowids { TakesRowids S.Store tx.old.conn.now tx.new.conn.now result
+        (length (step_rows_of numbers.journeys begun.entry.plan.now))
+        (AreJourneysBelow numbers.journeys) }
     ensures live { WasOpen S.Store tx.old.conn.now tx.new.conn.now result }
     ensures inside { StaysInside S.Store tx.old.conn.now tx.new.conn.now result }
     ensures commit { CommitsNothing S.Store tx.old.conn.now tx.new.conn.now }

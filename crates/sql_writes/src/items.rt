@@ -4,6 +4,8 @@ ghost use Rattle.desk_sql.specs.Calls.{StaysInside, WasOpen, CommitsNothing, Lea
 ghost use Rattle.desk_sql.specs.Changes.{AreItemsBelow, IsSmallCursor, IsSmallItem};
 ghost use Rattle.sql_transitions.specs.Moving.{cursor_written, item_written, with_item, with_move};
 ghost use Rattle.sql_writes.specs.Writing.{WritesRows};
+ghost use Rattle.sql_writes.specs.Permits.{MayAdd, MayMoveOn};
+ghost use Rattle.sql_writes.specs.Reasons.{FailsOn, TakesRowids};
 
 use crate::events::Numbers;
 use commands::{Cause, Cursor, Item, Phase};
@@ -71,6 +73,10 @@ pub(crate) fn write_item<S: Alter>(
     ensures same_reference { tx.new.conn.ghost_name ≡ tx.old.conn.ghost_name }
     ensures made { WritesRows S.Store tx.old.conn.now tx.new.conn.now (AreItemsBelow numbers.num)
         result (with_item numbers.num numbers.journeys journey item) }
+    ensures reason { FailsOn S.Store tx.old.conn.now tx.new.conn.now result
+        0 (MayAdd numbers journey) }
+    ensures rowids { TakesRowids S.Store tx.old.conn.now tx.new.conn.now result
+        0 (AreItemsBelow numbers.num) }
     ensures live { WasOpen S.Store tx.old.conn.now tx.new.conn.now result }
     ensures inside { StaysInside S.Store tx.old.conn.now tx.new.conn.now result }
     ensures commit { CommitsNothing S.Store tx.old.conn.now tx.new.conn.now }
@@ -97,6 +103,10 @@ pub(crate) fn write_move<S: Alter>(
     ensures same_reference { tx.new.conn.ghost_name ≡ tx.old.conn.ghost_name }
     ensures made { WritesRows S.Store tx.old.conn.now tx.new.conn.now (AreItemsBelow numbers.num)
         result (with_move numbers.num numbers.journeys journey item cursor) }
+    ensures reason { FailsOn S.Store tx.old.conn.now tx.new.conn.now result
+        0 (MayMoveOn numbers journey) }
+    ensures rowids { TakesRowids S.Store tx.old.conn.now tx.new.conn.now result
+        0 (AreItemsBelow numbers.num) }
     ensures live { WasOpen S.Store tx.old.conn.now tx.new.conn.now result }
     ensures inside { StaysInside S.Store tx.old.conn.now tx.new.conn.now result }
     ensures commit { CommitsNothing S.Store tx.old.conn.now tx.new.conn.now }

@@ -6,6 +6,8 @@ ghost use Rattle.sql_writes.specs.Writing.{WritesRows};
 ghost use Rattle.sql_writes.specs.Events.{IsSmallStep, IsSmallTurn, IsSmallSave};
 ghost use Rattle.sql_writes.specs.Events.{MayTake, MayGive, transaction_rows, compensation_rows};
 ghost use Rattle.sql_writes.specs.Events.{turn_rows, save_rows};
+ghost use Rattle.sql_writes.specs.Permits.{MayDo, MayMoveOn, MaySave, MayUndo};
+ghost use Rattle.sql_writes.specs.Reasons.{FailsOn, TakesRowids};
 
 use crate::events::{Numbers, SaveMade, StepMade, TurnMade};
 use crate::items::{write_item, write_move};
@@ -25,6 +27,9 @@ pub fn write_transaction<S: Alter>(
     ensures same_reference { tx.new.conn.ghost_name ≡ tx.old.conn.ghost_name }
     ensures made { WritesRows S.Store tx.old.conn.now tx.new.conn.now (MayTake numbers made) result
         (transaction_rows numbers made) }
+    ensures reason { FailsOn S.Store tx.old.conn.now tx.new.conn.now result 0 (MayDo numbers made) }
+    ensures rowids { TakesRowids S.Store tx.old.conn.now tx.new.conn.now result
+        0 (MayTake numbers made) }
     ensures live { WasOpen S.Store tx.old.conn.now tx.new.conn.now result }
     ensures inside { StaysInside S.Store tx.old.conn.now tx.new.conn.now result }
     ensures commit { CommitsNothing S.Store tx.old.conn.now tx.new.conn.now }
@@ -60,6 +65,10 @@ pub fn write_compensation<S: Alter>(
     ensures same_reference { tx.new.conn.ghost_name ≡ tx.old.conn.ghost_name }
     ensures made { WritesRows S.Store tx.old.conn.now tx.new.conn.now (MayGive numbers made) result
         (compensation_rows numbers made) }
+    ensures reason { FailsOn S.Store tx.old.conn.now tx.new.conn.now result
+        0 (MayUndo numbers made) }
+    ensures rowids { TakesRowids S.Store tx.old.conn.now tx.new.conn.now result
+        0 (MayGive numbers made) }
     ensures live { WasOpen S.Store tx.old.conn.now tx.new.conn.now result }
     ensures inside { StaysInside S.Store tx.old.conn.now tx.new.conn.now result }
     ensures commit { CommitsNothing S.Store tx.old.conn.now tx.new.conn.now }
@@ -95,6 +104,10 @@ pub fn write_turn<S: Alter>(
     ensures same_reference { tx.new.conn.ghost_name ≡ tx.old.conn.ghost_name }
     ensures made { WritesRows S.Store tx.old.conn.now tx.new.conn.now (AreItemsBelow numbers.num)
         result (turn_rows numbers made) }
+    ensures reason { FailsOn S.Store tx.old.conn.now tx.new.conn.now result
+        0 (MayMoveOn numbers made.journey) }
+    ensures rowids { TakesRowids S.Store tx.old.conn.now tx.new.conn.now result
+        0 (AreItemsBelow numbers.num) }
     ensures live { WasOpen S.Store tx.old.conn.now tx.new.conn.now result }
     ensures inside { StaysInside S.Store tx.old.conn.now tx.new.conn.now result }
     ensures commit { CommitsNothing S.Store tx.old.conn.now tx.new.conn.now }
@@ -120,6 +133,10 @@ pub fn write_save<S: Alter>(
     ensures same_reference { tx.new.conn.ghost_name ≡ tx.old.conn.ghost_name }
     ensures made { WritesRows S.Store tx.old.conn.now tx.new.conn.now (AreItemsBelow numbers.num)
         result (save_rows numbers made) }
+    ensures reason { FailsOn S.Store tx.old.conn.now tx.new.conn.now result
+        1 (MaySave numbers made) }
+    ensures rowids { TakesRowids S.Store tx.old.conn.now tx.new.conn.now result
+        1 (AreItemsBelow numbers.num) }
     ensures live { WasOpen S.Store tx.old.conn.now tx.new.conn.now result }
     ensures inside { StaysInside S.Store tx.old.conn.now tx.new.conn.now result }
     ensures commit { CommitsNothing S.Store tx.old.conn.now tx.new.conn.now }

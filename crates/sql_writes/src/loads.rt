@@ -1,10 +1,13 @@
 //! The rows of a loaded batch.
-ghost use Rattle.std.specs.Prelude.{◌≡◌, ◌<◌, ◌^◌};
+ghost use Rattle.std.specs.Prelude.{◌≡◌, ◌<◌, ◌^◌, ◌+◌, length, suc, ⊤};
 ghost use Rattle.desk_sql.specs.Calls.{StaysInside, WasOpen, CommitsNothing, LeavesNoMore};
 ghost use Rattle.desk_sql.specs.Stock.{AreApart, puts_cell};
+ghost use Rattle.desk_sql.specs.Writable.{IsShort};
 ghost use Rattle.sql_model.specs.Reading.{stock_row_of};
 ghost use Rattle.sql_writes.specs.Writing.{WritesRows};
 ghost use Rattle.sql_writes.specs.Loads.{MayLoad, WritesCells, load_rows};
+ghost use Rattle.sql_writes.specs.Permits.{HaveShortCells, MayLoadBatch, MayPutAll};
+ghost use Rattle.sql_writes.specs.Reasons.{FailsOn, TakesRowids};
 
 use crate::events::{BatchLoaded, Numbers};
 use allotment::{Cell, Held};
@@ -16,6 +19,9 @@ fn put_places<S: Alter>(tx: &mut Transaction<'_, S>, cell: Cell, held: Held) -> 
     ensures same_reference { tx.new.conn.ghost_name ≡ tx.old.conn.ghost_name }
     ensures made { WritesRows S.Store tx.old.conn.now tx.new.conn.now AreApart result
         (puts_cell (stock_row_of (cell, held))) }
+    ensures short { IsShort (length cell.supplier + length cell.product) }
+    ensures reason { FailsOn S.Store tx.old.conn.now tx.new.conn.now result 1 HaveShortCells }
+    ensures rowids { TakesRowids S.Store tx.old.conn.now tx.new.conn.now result 1 (λ _. ⊤) }
     ensures live { WasOpen S.Store tx.old.conn.now tx.new.conn.now result }
     ensures inside { StaysInside S.Store tx.old.conn.now tx.new.conn.now result }
     ensures commit { CommitsNothing S.Store tx.old.conn.now tx.new.conn.now }
@@ -39,6 +45,10 @@ fn put_places<S: Alter>(tx: &mut Transaction<'_, S>, cell: Cell, held: Held) -> 
 fn put_all<S: Alter>(tx: &mut Transaction<'_, S>, cells: &[(Cell, Held)]) -> Result<(), Error>
     ensures same_reference { tx.new.conn.ghost_name ≡ tx.old.conn.ghost_name }
     ensures made { WritesCells S.Store tx.old.conn.now tx.new.conn.now result cells.now }
+    ensures reason { FailsOn S.Store tx.old.conn.now tx.new.conn.now result
+        (length cells.now) MayPutAll }
+    ensures rowids { TakesRowids S.Store tx.old.conn.now tx.new.conn.now result
+        (length cells.now) MayLoad }
     ensures inside { StaysInside S.Store tx.old.conn.now tx.new.conn.now result }
     ensures commit { CommitsNothing S.Store tx.old.conn.now tx.new.conn.now }
     ensures survives { LeavesNoMore S.Store tx.old.conn.now tx.new.conn.now }
@@ -58,6 +68,10 @@ pub fn write_load<S: Alter>(
     ensures same_reference { tx.new.conn.ghost_name ≡ tx.old.conn.ghost_name }
     ensures made { WritesRows S.Store tx.old.conn.now tx.new.conn.now MayLoad result
         (load_rows numbers batch.entry) }
+    ensures reason { FailsOn S.Store tx.old.conn.now tx.new.conn.now result
+        (suc (length batch.entry.cells.now)) (MayLoadBatch numbers batch.entry) }
+    ensures rowids { TakesRowids S.Store tx.old.conn.now tx.new.conn.now result
+        (suc (length batch.entry.cells.now)) MayLoad }
     ensures live { WasOpen S.Store tx.old.conn.now tx.new.conn.now result }
     ensures inside { StaysInside S.Store tx.old.conn.now tx.new.conn.now result }
     ensures commit { CommitsNothing S.Store tx.old.conn.now tx.new.conn.now }

@@ -5,6 +5,8 @@ ghost use Rattle.desk_sql.specs.Stock.{IsSmallRange};
 ghost use Rattle.sql_model.specs.Reading.{IsRangeOf};
 ghost use Rattle.sql_transitions.specs.Moving.{takes_want, gives_want};
 ghost use Rattle.sql_writes.specs.Writing.{WritesRows, HaveFreeFor, HaveRoomFor};
+ghost use Rattle.sql_writes.specs.Permits.{MayGiveWant, MayTakeWant};
+ghost use Rattle.sql_writes.specs.Reasons.{FailsOn, TakesRowids};
 
 use allotment::{Code, Want};
 use desk_sql::{NightRange, give_nights, take_nights};
@@ -33,6 +35,9 @@ pub(crate) fn take_want<S: Alter>(tx: &mut Transaction<'_, S>, want: Want) -> Re
     ensures same_reference { tx.new.conn.ghost_name ≡ tx.old.conn.ghost_name }
     ensures made { WritesRows S.Store tx.old.conn.now tx.new.conn.now (HaveFreeFor want)
         result (takes_want want) }
+    ensures reason { FailsOn S.Store tx.old.conn.now tx.new.conn.now result 0 (MayTakeWant want) }
+    ensures rowids { TakesRowids S.Store tx.old.conn.now tx.new.conn.now result
+        0 (HaveFreeFor want) }
     ensures live { WasOpen S.Store tx.old.conn.now tx.new.conn.now result }
     ensures inside { StaysInside S.Store tx.old.conn.now tx.new.conn.now result }
     ensures commit { CommitsNothing S.Store tx.old.conn.now tx.new.conn.now }
@@ -50,6 +55,9 @@ pub(crate) fn give_want<S: Alter>(tx: &mut Transaction<'_, S>, want: Want) -> Re
     ensures same_reference { tx.new.conn.ghost_name ≡ tx.old.conn.ghost_name }
     ensures made { WritesRows S.Store tx.old.conn.now tx.new.conn.now (HaveRoomFor want)
         result (gives_want want) }
+    ensures reason { FailsOn S.Store tx.old.conn.now tx.new.conn.now result 0 (MayGiveWant want) }
+    ensures rowids { TakesRowids S.Store tx.old.conn.now tx.new.conn.now result
+        0 (HaveRoomFor want) }
     ensures live { WasOpen S.Store tx.old.conn.now tx.new.conn.now result }
     ensures inside { StaysInside S.Store tx.old.conn.now tx.new.conn.now result }
     ensures commit { CommitsNothing S.Store tx.old.conn.now tx.new.conn.now }

@@ -1,8 +1,10 @@
 //! The rows of an event of any kind, with those of the reply that is kept with it.
-ghost use Rattle.std.specs.Prelude.{◌≡◌};
+ghost use Rattle.std.specs.Prelude.{◌≡◌, suc, Some};
 ghost use Rattle.desk_sql.specs.Calls.{StaysInside, WasOpen, CommitsNothing, LeavesNoMore};
 ghost use Rattle.sql_writes.specs.Writing.{WritesRows};
 ghost use Rattle.sql_writes.specs.Kinds.{IsSmall, Fits, rows_after, with_kept, event_rows};
+ghost use Rattle.sql_writes.specs.Permits.{Permits, PermitsEvent, event_rowids, rowids_of};
+ghost use Rattle.sql_writes.specs.Reasons.{FailsOn, TakesRowids};
 
 use crate::begins::write_begin;
 use crate::events::{Event, Keeping, Numbers};
@@ -22,6 +24,10 @@ fn write_rows<S: Alter>(
     ensures same_reference { tx.new.conn.ghost_name ≡ tx.old.conn.ghost_name }
     ensures made { WritesRows S.Store tx.old.conn.now tx.new.conn.now (Fits numbers event.now) result
         (rows_after numbers event.now) }
+    ensures reason { FailsOn S.Store tx.old.conn.now tx.new.conn.now result
+        (rowids_of numbers event.now) (Permits numbers event.now) }
+    ensures rowids { TakesRowids S.Store tx.old.conn.now tx.new.conn.now result
+        (rowids_of numbers event.now) (Fits numbers event.now) }
     ensures live { WasOpen S.Store tx.old.conn.now tx.new.conn.now result }
     ensures inside { StaysInside S.Store tx.old.conn.now tx.new.conn.now result }
     ensures commit { CommitsNothing S.Store tx.old.conn.now tx.new.conn.now }
@@ -49,6 +55,10 @@ fn write_kept<S: Alter>(
     ensures same_reference { tx.new.conn.ghost_name ≡ tx.old.conn.ghost_name }
     ensures made { WritesRows S.Store tx.old.conn.now tx.new.conn.now (Fits numbers event.now) result
         (with_kept numbers event.now keeping.entry) }
+    ensures reason { FailsOn S.Store tx.old.conn.now tx.new.conn.now result
+        (suc (rowids_of numbers event.now)) (PermitsEvent numbers event.now (Some keeping.entry)) }
+    ensures rowids { TakesRowids S.Store tx.old.conn.now tx.new.conn.now result
+        (suc (rowids_of numbers event.now)) (Fits numbers event.now) }
     ensures live { WasOpen S.Store tx.old.conn.now tx.new.conn.now result }
     ensures inside { StaysInside S.Store tx.old.conn.now tx.new.conn.now result }
     ensures commit { CommitsNothing S.Store tx.old.conn.now tx.new.conn.now }
@@ -71,6 +81,11 @@ pub fn write_event<S: Alter>(
     ensures same_reference { tx.new.conn.ghost_name ≡ tx.old.conn.ghost_name }
     ensures made { WritesRows S.Store tx.old.conn.now tx.new.conn.now (Fits numbers event.now) result
         (event_rows numbers event.now keeping.entry) }
+    ensures reason { FailsOn S.Store tx.old.conn.now tx.new.conn.now result
+        (event_rowids numbers event.now keeping.entry)
+        (PermitsEvent numbers event.now keeping.entry) }
+    ensures rowids { TakesRowids S.Store tx.old.conn.now tx.new.conn.now result
+        (event_rowids numbers event.now keeping.entry) (Fits numbers event.now) }
     ensures live { WasOpen S.Store tx.old.conn.now tx.new.conn.now result }
     ensures inside { StaysInside S.Store tx.old.conn.now tx.new.conn.now result }
     ensures commit { CommitsNothing S.Store tx.old.conn.now tx.new.conn.now }

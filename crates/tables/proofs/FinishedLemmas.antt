@@ -23,7 +23,7 @@ use Rattle.tables.specs.FinishedJourneys.{AreFinishedTo}
 -- One more event.
 
 -- no item of a journey that is not open is allowed
-closed_refuses : (l : List Event) (j : ℕ) (item : Item) → is_in is_open l j ≡ false
+pub closed_refuses : (l : List Event) (j : ℕ) (item : Item) → is_in is_open l j ≡ false
     → is_item_allowed l j item ≡ false
 closed_refuses l j item closed = go (journey_at l j) refl
   where

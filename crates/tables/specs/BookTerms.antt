@@ -22,7 +22,7 @@ use Rattle.tables.specs.declared.books.TableBook.{TableBook}
 module _ {S : Type 0} (g : Ghosts S) where
   -- the book represents this state
   abbrev pub StandsBook : TableBook S g → State → Type 0
-  StandsBook b s = Stands b.failed b.finished (state g b.conn) s
+  StandsBook b s = Stands b.failed b.finished b.unfinished (state g b.conn) s
 
   -- whatever a crash leaves of the book represents one of these two states
   abbrev pub LeavesBook : TableBook S g → State → State → Type 0

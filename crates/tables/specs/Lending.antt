@@ -7,7 +7,8 @@ use Rattle.sqlite.specs.Held.{Held, state}
 use Rattle.sqlite.specs.contracts.connection.Connection as connection
 use Rattle.commands.specs.declared.faults.Fault.{Fault}
 use Rattle.ledger.specs.Answer.{State}
-use Rattle.sql_reads.specs.Causes.{FailsForReasonIn, StaysUp}
+use Rattle.sql_reads.specs.Causes.{FailsForReasonIn}
+use Rattle.sql_model.specs.Staying.{StaysUp}
 use Rattle.sql_reads.specs.RemainingRows.{IsLeftAsItWas, left_alone, left_twice}
 use Rattle.tables.specs.Keeping.{KeepsIn}
 use Rattle.tables.specs.declared.opening.Opened.{Opened}

@@ -3,3 +3,4 @@ pub mod FinishedJourneys
 pub mod Keeping
 pub mod Lending
 pub mod Opening
+pub mod UnfinishedCount

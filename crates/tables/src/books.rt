@@ -2,14 +2,17 @@
 ghost use Rattle.std.specs.Prelude.{◌≡◌, ◌↔◌, false, None, IfOk, IfErr, IsOk, IsErrAnd, IsErrOf, IsTrue};
 ghost use Rattle.commands.specs.Orders.{request_of};
 
+use crate::counting::{count_unfinished, counted_after};
 use crate::faults::OpenFault;
 use crate::opening::{Opened, without_limit};
 use allotment::{Cell, Held, Night, Want};
-use commands::{Ask, Command, Fault, Item, Reply};
+use commands::{Agent, Ask, Command, Fault, Item, Reply};
 use desk_sql::Version;
-use saga_core::{Book, Brief, Record};
+use saga_core::{Book, Brief, Counts, Record};
 use sql_commands::{answer, know_limits, read_counts};
-use sql_reads::{read_cells, read_first_unfinished, read_history, read_journey, read_stock};
+use sql_reads::{
+    read_cells, read_first_owned, read_first_unfinished, read_history, read_journey, read_stock,
+};
 use sqlite::{Alter, Connection};
 use std::alloc::Global;
 
@@ -21,6 +24,8 @@ pub struct TableBook<S: Alter> {
     failed: bool,
     /// The journeys up to this number have finished: a search for unfinished ones skips them.
     finished: u64,
+    /// How many journeys are unfinished, once they were counted.
+    unfinished: Option<u64>,
     ghost outside: { conn.in_transaction ≡ false },
 }
 
@@ -47,6 +52,7 @@ impl<S: Alter> TableBook<S> {
             alloc: _,
             failed: _,
             finished: _,
+            unfinished: _,
         } = self;
         without_limit(conn)
     }
@@ -55,7 +61,9 @@ impl<S: Alter> TableBook<S> {
 impl<S: Alter> TableBook<S> {
     ghost use Rattle.sql_reads.specs.Reading.{WasClean};
     ghost use Rattle.tables.specs.BookTerms.{Answers, MovesOn, KeepsAtMemory, LeavesAtStore, LeavesNoMore};
-    ghost use Rattle.tables.specs.BookTerms.{ShowsFirst, KeepsKnowing};
+    ghost use Rattle.tables.specs.BookTerms.{ShowsFirst, ShowsKept, KeepsKnowing};
+    ghost use Rattle.std.specs.Prelude.{length};
+    ghost use Rattle.saga_core.specs.Views.{counts_of, unfinished_of};
     ghost use Rattle.sql_reads.specs.Reading.{LeavesAsBefore};
 
     /// Returns the first unfinished journey. The book remembers that the journeys before it have finished.
@@ -90,6 +98,39 @@ impl<S: Alter> TableBook<S> {
         }
     }
 
+    /// Returns how many journeys are unfinished. They are counted once, and the book remembers the number.
+    fn count(&mut self) -> Result<u64, Fault>
+        ensures number { ShowsKept S.Store self.old self.new (λ s n. n ≡ length (unfinished_of s.ledger)) result }
+        ensures same { KeepsKnowing S.Store self.old self.new result }
+        ensures stop { LeavesAsBefore S.Store self.old.conn self.new.conn }
+        ensures failed { self.new.failed ≡ self.old.failed }
+        ensures sound { WasClean S.Store self.old.conn self.new.conn }
+    {
+        if let Some(count) = self.unfinished {
+            return Ok(count);
+        }
+        let count = count_unfinished(&mut self.conn, self.finished)?;
+        self.unfinished = Some(count);
+        Ok(count)
+    }
+
+    /// Returns the numbers of events, journeys and unfinished journeys. Reads one row, once the unfinished ones were counted.
+    fn tally(&mut self) -> Result<Counts, Fault>
+        ensures counts { ShowsKept S.Store self.old self.new (λ s counts. counts ≡ counts_of s.ledger) result }
+        ensures same { KeepsKnowing S.Store self.old self.new result }
+        ensures stop { LeavesAsBefore S.Store self.old.conn self.new.conn }
+        ensures failed { self.new.failed ≡ self.old.failed }
+        ensures sound { WasClean S.Store self.old.conn self.new.conn }
+    {
+        let unfinished = self.count()?;
+        let meta = read_counts(&mut self.conn)?;
+        Ok(Counts {
+            events: meta.events,
+            journeys: meta.journeys,
+            unfinished,
+        })
+    }
+
     /// Executes a command. After the store has failed, no call reaches it.
     fn carry_out(&mut self, command: &Command, ask: Option<&Ask>) -> Result<Reply, Fault>
         ensures reply { Answers S.Store self.old self.new ask.entry (request_of command.now) result }
@@ -107,7 +148,10 @@ impl<S: Alter> TableBook<S> {
         }
         know_limits(command);
         match answer(self.alloc, &mut self.conn, command, ask) {
-            Ok(reply) => Ok(reply),
+            Ok(answered) => {
+                self.unfinished = counted_after(self.unfinished, &answered);
+                Ok(answered.reply)
+            }
             Err(Fault::Memory) => Err(Fault::Memory),
             Err(Fault::Store) => {
                 self.failed = true;
@@ -132,6 +176,7 @@ impl<S: Alter> Opened<S> {
         ensures newest { IfOk result (λ b. self.version ≡ Version.Two) }
         ensures working { IfOk result (λ b. b.failed ≡ false) }
         ensures unknown { IfOk result (λ b. b.finished ≡ 0) }
+        ensures uncounted { IfOk result (λ b. b.unfinished ≡ None) }
         ensures ready { self.conn.in_transaction ≡ false → self.version ≡ Version.Two → IsOk result }
 
         ensures unknown_schema { IsErrAnd result (λ e. e.1 ≡ OpenFault.UnknownSchema 1)
@@ -148,6 +193,7 @@ impl<S: Alter> Opened<S> {
                     alloc,
                     failed: false,
                     finished: 0,
+                    unfinished: None,
                 })
             }
             Version::Two => Err((self, OpenFault::Store)),
@@ -157,7 +203,7 @@ impl<S: Alter> Opened<S> {
 
 impl<S: Alter> Book for TableBook<S> {
     ghost use Rattle.ledger.specs.Ledger.{history};
-    ghost use Rattle.saga_core.specs.Views.{ShowsCells, IsStock};
+    ghost use Rattle.saga_core.specs.Views.{ShowsCells, IsStock, first_owned};
     ghost use Rattle.sql_reads.specs.Reading.{WasClean};
     ghost use Rattle.tables.specs.BookTerms.{FailsForReason, KeepsKnowing, LeavesNoMore, ShowsKept};
     ghost use Rattle.sqlite.specs.State.{HasCleanDisk};
@@ -166,7 +212,7 @@ impl<S: Alter> Book for TableBook<S> {
 
     ghost is_sound = { λ b. HasCleanDisk (state S.Store b.conn) };
 
-    ghost stands = { λ b s. Stands b.failed b.finished (state S.Store b.conn) s };
+    ghost stands = { λ b s. Stands b.failed b.finished b.unfinished (state S.Store b.conn) s };
 
     ghost leaves = { λ b s t. MayLeave (state S.Store b.conn) s t };
 
@@ -228,6 +274,45 @@ impl<S: Alter> Book for TableBook<S> {
         }
         match self.look(after) {
             Ok(shown) => Ok(shown),
+            Err(Fault::Memory) => Err(Fault::Memory),
+            Err(Fault::Store) => {
+                self.failed = true;
+                Err(Fault::Store)
+            }
+        }
+    }
+
+    fn first_owned(&mut self, agent: &Agent, after: u64) -> Result<Option<Brief>, Fault>
+        ensures first { ShowsKept S.Store self.old self.new
+            (λ s found. found ≡ first_owned s.ledger agent.now after) result }
+        ensures same { KeepsKnowing S.Store self.old self.new result }
+        ensures stop { HasCleanDisk (state S.Store self.new.conn) → LeavesNoMore S.Store self.old self.new }
+        ensures fails { IsErrOf result Fault.Store ↔ IsTrue self.new.failed }
+        ensures stays_failed { IsTrue self.old.failed → IsTrue self.new.failed }
+        ensures stays_left { IsTrue self.old.failed → LeavesNoMore S.Store self.old self.new }
+        ensures sound { WasClean S.Store self.old.conn self.new.conn }
+
+        ensures store { FailsForReason S.Store self.old self.new result }
+    {
+        if self.failed {
+            return Err(Fault::Store);
+        }
+        match read_first_owned(&mut self.conn, agent, after) {
+            Ok(shown) => Ok(shown),
+            Err(Fault::Memory) => Err(Fault::Memory),
+            Err(Fault::Store) => {
+                self.failed = true;
+                Err(Fault::Store)
+            }
+        }
+    }
+
+    fn counts(&mut self) -> Result<Counts, Fault> {
+        if self.failed {
+            return Err(Fault::Store);
+        }
+        match self.tally() {
+            Ok(counts) => Ok(counts),
             Err(Fault::Memory) => Err(Fault::Memory),
             Err(Fault::Store) => {
                 self.failed = true;

@@ -7,7 +7,8 @@ ghost use Rattle.std.specs.Prelude.{◌≡◌, ◌<◌, ◌+◌, ◌-◌, ◌^�
 ghost use Rattle.sqlite.specs.Held.{state};
 ghost use Rattle.sqlite.specs.State.{HasCleanDisk};
 ghost use Rattle.saga_core.specs.RowSources.{count_of, Hands};
-ghost use Rattle.sql_reads.specs.Causes.{FailsForReasonIn, StaysUp};
+ghost use Rattle.sql_reads.specs.Causes.{FailsForReasonIn};
+ghost use Rattle.sql_model.specs.Staying.{StaysUp};
 ghost use Rattle.sql_reads.specs.ItemSearch.{IsLow};
 ghost use Rattle.sql_reads.specs.RemainingRows.{ItemsRest};
 ghost use Rattle.tables.specs.Lending.{StaysUnder};

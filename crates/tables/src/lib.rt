@@ -7,6 +7,7 @@
 #![tactic(auto)]
 
 mod books;
+mod counting;
 mod faults;
 mod item_rows;
 mod opening;

@@ -20,7 +20,8 @@ use crate::faults::OpenFault;
 use commands::Fault;
 use desk_sql::{Version, has_no_tables, make_tables, read_meta};
 use saga_core::Record;
-use sql_reads::{fault_of, read_journey};
+use sql_model::fault_of;
+use sql_reads::read_journey;
 use sqlite::{Alter, Connection};
 use std::alloc::Global;
 

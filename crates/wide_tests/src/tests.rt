@@ -1,5 +1,7 @@
 //! How the bodies of requests are framed, and what is read of them, however they arrive.
 mod bodies;
+mod messages;
+mod texts;
 
 use bodies::{Expected, Reading};
 use http_wide::{BodyFault, BodyKind, Unframed, body_kind};

@@ -24,15 +24,21 @@ fn ask_unnamed(rt: &impl Abort, alloc: Global, talk: &mut Talk, asked: &str, bod
 }
 
 /// Sends requests that name no agent and have no body, and expects their pages.
-fn go_on_unnamed(rt: &impl Abort, alloc: Global, talk: &mut Talk, rows: &[(&'static str, Page)]) {
+pub fn go_on_unnamed(
+    rt: &impl Abort,
+    alloc: Global,
+    talk: &mut Talk,
+    rows: &[(&'static str, Page)],
+) {
     for &(asked, page) in rows {
         ask_unnamed(rt, alloc, talk, asked, b"");
         talk.page(rt, alloc, page);
     }
 }
 
-/// Sends a talk to a new desk at this door, and checks its answers and how many of them stop the desk.
-fn is_answered_at(rt: &impl Abort, alloc: Global, door: Door, talk: &Talk, stops: usize) {
+/// Sends a talk to a new desk at this door, and checks its answers and how many of them stop the desk. Nothing behind a
+/// closing page is answered.
+pub fn is_answered_at(rt: &impl Abort, alloc: Global, door: Door, talk: &Talk, stops: usize) {
     let mut desk = new_desk(rt, alloc);
     let paths = Paths::new(alloc).expect(rt, "memory");
     let mut incoming = Incoming::new(alloc).expect(rt, "memory");
@@ -49,6 +55,9 @@ fn is_answered_at(rt: &impl Abort, alloc: Global, door: Door, talk: &Talk, stops
         if answer.stops {
             stopped = stopped.saturating_add(1);
         }
+        if answer.closes {
+            break;
+        }
     }
     reads(rt, "at a door", &told, &talk.told);
     assert!(rt; stopped == stops, "{stopped} pages stop the desk");
@@ -56,7 +65,7 @@ fn is_answered_at(rt: &impl Abort, alloc: Global, door: Door, talk: &Talk, stops
 
 const STOPPING: Page = ("200 OK", "", 20, r#"{"state":"stopping"}"#);
 
-const ONLY_GET: Page = (
+pub const ONLY_GET: Page = (
     "405 Method Not Allowed",
     "Allow: GET\r\n",
     34,

@@ -14,20 +14,25 @@ fn words_of(alloc: Global, text: &str) -> Result<Vec<String>, AllocError> {
     Ok(words)
 }
 
-/// The text in the table of a desk that serves: without a number of connections, or a path, there is a dash for it.
+/// The text in the table of a desk that serves: without a number of connections, or a path, there is a dash for it. Where
+/// it logs, that follows.
 fn served_text(
     alloc: Global,
     file: &str,
     port: u16,
     connections: Option<u16>,
     house: Option<String>,
+    page: bool,
+    log: bool,
 ) -> Result<String, AllocError> {
     let count = match connections {
         Some(count) => format!(in alloc; "{count}")?,
         None => String::from_str(alloc, "-")?,
     };
     let house = house.as_ref().map_or("-", |path| path.as_str());
-    format!(in alloc; "serve|{file}|{port}|{count}|{house}")
+    let page = if page { "|page" } else { "" };
+    let log = if log { "|log" } else { "" };
+    format!(in alloc; "serve|{file}|{port}|{count}|{house}{page}{log}")
 }
 
 /// A format in the table: nothing for a text.
@@ -49,8 +54,10 @@ fn asked(alloc: Global, words: Vec<String>) -> Result<String, AllocError> {
                 port,
                 connections,
                 house,
+                page,
+                log,
             },
-        ) => served_text(alloc, file.as_str(), port, connections, house),
+        ) => served_text(alloc, file.as_str(), port, connections, house, page, log),
         Ok(Job::Recover { file }) => format!(in alloc; "recover|{file}"),
         Ok(Job::Load { file, csv, batch }) => format!(in alloc; "load|{file}|{csv}|{batch}"),
         Ok(Job::Stock { file, format }) => format!(in alloc; "stock|{file}{}", shown(format)),
@@ -71,7 +78,7 @@ fn asked(alloc: Global, words: Vec<String>) -> Result<String, AllocError> {
 
 // the words, separated by bars, and the job with its values; a bad number of a journey is no usage
 #[rattlefmt::skip]
-const JOBS: [(&str, &str); 44] = [
+const JOBS: [(&str, &str); 48] = [
     ("run|x.db",                    "run|x.db"),
     ("run|a b/x.db",                "run|a b/x.db"),
     ("run|--|-x.db",                "run|-x.db"),
@@ -86,6 +93,10 @@ const JOBS: [(&str, &str); 44] = [
     ("serve|x.db|--port|8099",                        "serve|x.db|8099|-|-"),
     ("serve|x.db|--port|8099|--house|d.sock",         "serve|x.db|8099|-|d.sock"),
     ("serve|--house=a b/d|x.db|--connections|2|--port|1", "serve|x.db|1|2|a b/d"),
+    ("serve|x.db|--port|8099|--page",                 "serve|x.db|8099|-|-|page"),
+    ("serve|--page|--house|d.sock|--port|8099|x.db",  "serve|x.db|8099|-|d.sock|page"),
+    ("serve|x.db|--port|8099|--log",                  "serve|x.db|8099|-|-|log"),
+    ("serve|--log|x.db|--house|d|--port|1",           "serve|x.db|1|-|d|log"),
     ("recover|x.db",                "recover|x.db"),
     ("recover|a b/x.db",            "recover|a b/x.db"),
     ("recover|--|-x.db",            "recover|-x.db"),
@@ -129,7 +140,7 @@ fn words_name_a_job_with_its_values(rt: HostRuntime) -> Result<(), Fail> {
 
 // what the row shows, the words, and the prefix of the usage
 #[rattlefmt::skip]
-const REFUSED: [(&str, &str, &str); 68] = [
+const REFUSED: [(&str, &str, &str); 72] = [
     ("another subcommand",       "fly|x.db",       "error: unrecognized subcommand 'fly'"),
     ("a subcommand in capitals", "RUN|x.db",       "error: unrecognized subcommand 'RUN'"),
     ("a part of a subcommand",   "ru|x.db",        "error: unrecognized subcommand 'ru'"),
@@ -168,7 +179,11 @@ const REFUSED: [(&str, &str, &str); 68] = [
     ("no port",                  "serve|x|--connections|1", "error: the following required arguments were not provided:\n  --port <PORT>\n"),
     ("neither",                  "serve|x", "error: the following required arguments were not provided:\n  --port <PORT>\n"),
     ("a house without a path",   "serve|x|--port|80|--house", "error: a value is required for '--house <PATH>' but none was supplied\n"),
+    ("two pages",                "serve|x|--port|80|--page|--page", "error: the argument '--page' cannot be used multiple times\n"),
+    ("a page with a value",      "serve|x|--port|80|--page=yes", "error: unexpected value 'yes' for '--page' found"),
     ("two houses",               "serve|x|--port|80|--house|a|--house|b", "error: the argument '--house <PATH>' cannot be used multiple times\n"),
+    ("a log with a value",       "serve|x|--port|80|--log=yes", "error: unexpected value 'yes' for '--log' found; no more were expected\n"),
+    ("two logs",                 "serve|x|--port|80|--log|--log", "error: the argument '--log' cannot be used multiple times\n"),
     ("connections of no digit",  "serve|x|--port|80|--connections|all", "error: invalid value 'all' for '--connections <N>'"),
     ("no file to serve",         "serve|--port|80|--connections|1", "error: the following required arguments were not provided:\n  <FILE>\n"),
     ("two files to serve",       "serve|x|y|--port|80|--connections|1", "error: unexpected argument 'y' found\n"),

@@ -82,7 +82,7 @@ pub struct Run {
 }
 
 /// The turns of a schedule are served by a desk, on seats of their own.
-fn serve_all<T: Turns>(
+pub fn serve_all<T: Turns>(
     rt: &impl Abort,
     alloc: Global,
     turns: &mut T,
@@ -127,8 +127,13 @@ pub fn served(
     }
 }
 
-/// The pages that a plain desk gives to the requests, answered in this order, for each peer.
-fn plainly(rt: &impl Abort, alloc: Global, peers: &[Peer], order: &[usize]) -> Vec<Vec<u8>> {
+/// The pages that a plain desk gives to the requests, answered in this order, for each peer; and the desk after them.
+pub fn plainly(
+    rt: &impl Abort,
+    alloc: Global,
+    peers: &[Peer],
+    order: &[usize],
+) -> (Vec<Vec<u8>>, Ready<MemBook>) {
     let mut desk = new_desk(rt, alloc);
     let mut asked = Vec::new(alloc);
     let mut pages = Vec::new(alloc);
@@ -145,7 +150,7 @@ fn plainly(rt: &impl Abort, alloc: Global, peers: &[Peer], order: &[usize]) -> V
         let ended = serve(alloc, &mut request, writer, &mut desk);
         assert!(rt; ended.is_ok(), "{ended:?}");
     }
-    pages
+    (pages, desk)
 }
 
 #[test]
@@ -156,7 +161,7 @@ fn pages_are_those_of_the_requests_one_after_another(rt: HostRuntime) {
         let peers = random_peers(&rt, alloc, &mut dice);
         let mut desk = new_desk(&rt, alloc);
         let run = served(&rt, alloc, &mut desk, peers.as_slice(), seed, false);
-        let pages = plainly(&rt, alloc, peers.as_slice(), run.order.as_slice());
+        let (pages, _) = plainly(&rt, alloc, peers.as_slice(), run.order.as_slice());
         assert!(rt; run.order.len() == 37, "{seed}: {}", run.order.len());
         assert!(rt; run.written == pages, "{seed}");
     }

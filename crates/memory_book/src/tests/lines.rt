@@ -2,13 +2,14 @@
 //!
 //! `load NAME CELL PLACES` loads a batch, whose rows are separated by commas; `begin PLAN`, `step ID`, `abort ID P`,
 //! `stop ID` and `save ID` are the other commands. `items ID` asks for a journey's items, `unfinished ID` for the first
-//! unfinished journey above this number, `free CELL` for the free places of a cell, `cells WANT` for those of a want's
+//! unfinished journey above this number, `owned AGENT ID` for the first journey of this agent above it, `count all` for how
+//! many events, journeys and unfinished journeys there are, `free CELL` for the free places of a cell, `cells WANT` for those of a want's
 //! nights, and `stock` for all cells. `@` and a letter or digit represents the cell, or the first five parts of a want,
 //! that `NAMES` has.
 use crate::MemBook;
 use allotment::{Cell, Row};
 use plan::Plan;
-use saga_core::{Ask, Batch, Book, Command, Fault, Name, Reply};
+use saga_core::{Agent, Ask, Batch, Book, Brief, Command, Counts, Fault, Name, Reply};
 use std::alloc::Global;
 use std::process::Abort;
 use std::test::Fail;
@@ -125,9 +126,31 @@ fn items(alloc: Global, book: &mut MemBook, id: u64) -> Result<String, Fail> {
     Ok(line)
 }
 
+/// The first journey of an agent above a number, with its agent and its position, or `none`.
+fn owned(alloc: Global, book: &mut MemBook, text: &str) -> Result<String, Fail> {
+    let (agent, after) = text.split_once(' ').ok_or("no number")?;
+    let agent = Agent::parse(agent).ok_or("no agent")?;
+    summary(alloc, book.first_owned(&agent, after.parse()?)?)
+}
+
 /// The first unfinished journey above a number, with its agent and its position, or `none`.
 fn unfinished(alloc: Global, book: &mut MemBook, after: u64) -> Result<String, Fail> {
-    let Some(brief) = book.first_unfinished(after)? else {
+    summary(alloc, book.first_unfinished(after)?)
+}
+
+/// How many events, journeys and unfinished journeys there are.
+fn counts(alloc: Global, book: &mut MemBook) -> Result<String, Fail> {
+    let Counts {
+        events,
+        journeys,
+        unfinished,
+    } = book.counts()?;
+    Ok(format!(in alloc; "{events} {journeys} {unfinished}")?)
+}
+
+/// A journey's number, agent and state, or `none`.
+fn summary(alloc: Global, found: Option<Brief>) -> Result<String, Fail> {
+    let Some(brief) = found else {
         return Ok(String::from_str(alloc, "none")?);
     };
     let id = brief.id;
@@ -198,6 +221,8 @@ fn answer(alloc: Global, book: &mut MemBook, line: &str) -> Result<String, Fail>
         None => stock(alloc, book),
         Some(("items", id)) => items(alloc, book, id.parse()?),
         Some(("unfinished", after)) => unfinished(alloc, book, after.parse()?),
+        Some(("owned", agent)) => owned(alloc, book, agent),
+        Some(("count", _)) => counts(alloc, book),
         Some(("free", cell)) => free(alloc, book, cell),
         Some(("cells", want)) => cells(alloc, book, want),
         Some(_) => Ok(reply(book, &written_command(alloc, &written)?, None)?.line(alloc)?),

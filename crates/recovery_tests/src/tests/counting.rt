@@ -1,8 +1,8 @@
 //! A book that counts the reads of an unfinished journey before its first command. It promises nothing: it is never
 //! sound.
 use allotment::{Cell, Held, Night, Want};
-use commands::{Ask, Command, Fault, Item, Reply};
-use saga_core::{Book, Brief, Record};
+use commands::{Agent, Ask, Command, Fault, Item, Reply};
+use saga_core::{Book, Brief, Counts, Record};
 
 /// A book, and how many such reads came before its first command.
 #[derive(Drop)]
@@ -61,6 +61,14 @@ impl<B: Book> Book for CountingBook<B> {
             self.looks = self.looks.saturating_add(1);
         }
         self.book.first_unfinished(after)
+    }
+
+    fn first_owned(&mut self, agent: &Agent, after: u64) -> Result<Option<Brief>, Fault> {
+        self.book.first_owned(agent, after)
+    }
+
+    fn counts(&mut self) -> Result<Counts, Fault> {
+        self.book.counts()
     }
 
     fn cells(&mut self, want: &Want) -> Result<Vec<(Night, Held)>, Fault> {

@@ -1,8 +1,8 @@
 //! A book whose store fails. It promises nothing: it is never sound.
 use allotment::{Cell, Held, Night, Want};
-use commands::{Ask, Command, Fault, Item, Reply};
+use commands::{Agent, Ask, Command, Fault, Item, Reply};
 use memory_book::MemBook;
-use saga_core::{Book, Brief, Record};
+use saga_core::{Book, Brief, Counts, Record};
 
 /// A desk in memory, and after how many replies its store fails at the next call.
 #[derive(Drop)]
@@ -72,6 +72,16 @@ impl Book for FailingBook {
             Ok(brief) => Ok(brief),
             Err(_) => Err(Fault::Memory),
         }
+    }
+
+    fn first_owned(&mut self, _agent: &Agent, _after: u64) -> Result<Option<Brief>, Fault> {
+        self.failed = true;
+        Err(Fault::Store)
+    }
+
+    fn counts(&mut self) -> Result<Counts, Fault> {
+        self.failed = true;
+        Err(Fault::Store)
     }
 
     fn cells(&mut self, _want: &Want) -> Result<Vec<(Night, Held)>, Fault> {

@@ -3,7 +3,7 @@ use Rattle.std.proofs.Common.{◌∙◌, ap, map, codes, refl, subst, sym}
 use Rattle.std.specs.Prelude.{Err, Some}
 use Rattle.std.proofs.lemmas.Result.{err_from_is_err_and}
 use Rattle.std.specs.String.{string_bytes}
-use Rattle.command_line.specs.Jobs.{format_of, has_bad_value, is_malformed, number_named, most_port, most_connections, value_in, IsUsage}
+use Rattle.command_line.specs.Jobs.{format_of, has_bad_value, is_malformed, is_set, number_named, most_port, most_connections, value_in, IsUsage}
 use Rattle.command_line.specs.Subcommands.{app_for}
 use Rattle.command_line.proofs.NumberLemmas.{refuses-bad_number, refuses-format, refuses-no_format, refuses-no_port, refuses-numbers}
 use Rattle.command_line.proofs.SubcommandLemmas.{value_in-matches, value_read}
@@ -31,6 +31,8 @@ returns-in-Serve-clause-job c =
         ap (number_named most_port) (value_in-matches app words m (codes "PORT") rows) ∙ c.in_ok-port-in-Serve.ensures.number,
         ap (number_named most_connections) (value_in-matches app words m (codes "N") rows) ∙ c.in_ok-connections-in-Serve.ensures.number,
         value_in-matches app words m (codes "PATH") rows ∙ c.in_ok-house-in-Serve.ensures.value,
+        ap is_set (value_in-matches app words m (codes "PAGE") rows) ∙ sym c.is_given-page.ensures.given,
+        ap is_set (value_in-matches app words m (codes "LOG") rows) ∙ sym c.is_given-log.ensures.given,
       );
     }
 

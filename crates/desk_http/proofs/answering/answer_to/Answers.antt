@@ -10,8 +10,8 @@ returns-in_err-page-in-Asks-clause-answer g c = λ sound s stood m is.
     let book = g.B.Book in
     let failed = err_from_is_err_and c.from_residual-in_err-page-in-Asks.result c.from_residual-in_err-page-in-Asks.ensures.1 in
     rw (failed.1, failed.2)
-    (request_failed (book.stands c.page_of.new.book) (book.leaves c.page_of.new.book) c.args.door s c.in-Asks.request m c.in_err-page-in-Asks.field-0.0
-    (subst (λ taken. IsTaken taken m) c.in-Asks.is is) (c.in_err-page-in-Asks.ensures.page sound s stood))
+    (request_failed (book.stands c.page_of.new.book) (book.leaves c.page_of.new.book) c.args.door s c.in-Asks.request c.in_ok-refusal-in-Asks.refusal m c.in_err-page-in-Asks.field-0.0
+    (subst (λ taken. IsTaken taken m) c.in-Asks.is is) c.in_ok-refusal-in-Asks.ensures.refusal (c.in_err-page-in-Asks.ensures.page sound s stood))
 
 pub returns-in_ok-page-in-NoHead-clause-answer : goal.returns-in_ok-page-in-NoHead-clause-answer
 returns-in_ok-page-in-NoHead-clause-answer g c = λ sound s stood m is.
@@ -23,21 +23,21 @@ returns-in_ok-page-in-NoHead-clause-answer g c = λ sound s stood m is.
 pub returns-in_ok-page-in-Asks-clause-answer : goal.returns-in_ok-page-in-Asks-clause-answer
 returns-in_ok-page-in-Asks-clause-answer g c = λ sound s stood m is.
     let book = g.B.Book in
-    request_answered (book.stands c.page_of.new.book) (book.leaves c.page_of.new.book) c.args.door s c.in-Asks.request m _ c.in_ok-page-in-Asks.page _
-    (subst (λ taken. IsTaken taken m) c.in-Asks.is is) (c.in_ok-page-in-Asks.ensures.page sound s stood) c.closes.ensures.closes
+    request_answered (book.stands c.page_of.new.book) (book.leaves c.page_of.new.book) c.args.door s c.in-Asks.request c.in_ok-refusal-in-Asks.refusal m _ c.in_ok-page-in-Asks.page _
+    (subst (λ taken. IsTaken taken m) c.in-Asks.is is) c.in_ok-refusal-in-Asks.ensures.refusal (c.in_ok-page-in-Asks.ensures.page sound s stood) c.closes.ensures.closes
     (record { bytes = c.new-in-Asks.ensures.bytes; closes = c.new-in-Asks.ensures.closes; memory = c.new-in-Asks.ensures.memory })
 
 -- bytes that are no head close
 pub returns-in_ok-page-in-NoHead-clause-closes : goal.returns-in_ok-page-in-NoHead-clause-closes
 returns-in_ok-page-in-NoHead-clause-closes g c =
-    page_closes c.args.message.now _ true c.new.ensures.closes
-    (λ m is. no_head_closes m (subst (λ taken. IsTaken taken m) c.in-NoHead.is is))
+    page_closes c.args.door c.args.message.now _ true c.new.ensures.closes
+    (λ m is. no_head_closes c.args.door m (subst (λ taken. IsTaken taken m) c.in-NoHead.is is))
 
 -- a request closes as it says, or where it is refused
 pub returns-in_ok-page-in-Asks-clause-closes : goal.returns-in_ok-page-in-Asks-clause-closes
 returns-in_ok-page-in-Asks-clause-closes g c =
-    page_closes c.args.message.now _ c.closes.result c.new-in-Asks.ensures.closes
-    (λ m is. request_closes c.in-Asks.request c.closes.result c.closes.ensures.closes m (subst (λ taken. IsTaken taken m) c.in-Asks.is is))
+    page_closes c.args.door c.args.message.now _ c.closes.result c.new-in-Asks.ensures.closes
+    (λ m is. request_closes c.args.door c.in-Asks.request c.in_ok-refusal-in-Asks.refusal c.closes.result c.in_ok-refusal-in-Asks.ensures.refusal c.closes.ensures.closes m (subst (λ taken. IsTaken taken m) c.in-Asks.is is))
 
 -- bytes that are no head do not stop the desk
 pub returns-in_ok-page-in-NoHead-clause-stops : goal.returns-in_ok-page-in-NoHead-clause-stops

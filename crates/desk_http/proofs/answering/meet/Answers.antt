@@ -15,3 +15,9 @@ returns-in-SeePlan-clause-page g c = λ sound s stood.
     let book = g.B.Book in
     subst (λ demand. Meets (book.stands c.see_plan.new.book) (book.leaves c.see_plan.new.book) s (demand_said demand) c.see_plan.result)
     (sym c.in-SeePlan.is) (c.see_plan.ensures.page sound s stood)
+
+pub returns-in-SeeMine-clause-page : goal.returns-in-SeeMine-clause-page
+returns-in-SeeMine-clause-page g c = λ sound s stood.
+    let book = g.B.Book in
+    subst (λ demand. Meets (book.stands c.see_mine.new.book) (book.leaves c.see_mine.new.book) s (demand_said demand) c.see_mine.result)
+    (sym c.in-SeeMine.is) (c.see_mine.ensures.page sound s stood)

@@ -12,3 +12,7 @@ pub returns-in-House : goal.returns-in-House
 returns-in-House c = record {
   stops = λ m is. subst (λ door. c.stops_at_house.result ≡ stops door m) (sym c.in-House.is) (c.stops_at_house.ensures.stops m is);
 }
+
+-- nobody stops it at the door with a page
+pub returns-in-Page : goal.returns-in-Page
+returns-in-Page c = record { stops = λ m is. subst (λ door. false ≡ stops door m) (sym c.in-Page.is) refl }

@@ -19,3 +19,11 @@ returns-in-House c = record {
       subst (λ door. Demands (demand_of door parts body) c.demand_at_house.result) (sym c.in-House.is)
       (c.demand_at_house.ensures.demand parts body is);
 }
+
+-- at the door with a page
+pub returns-in-Page : goal.returns-in-Page
+returns-in-Page c = record {
+  demand = λ parts body is.
+      subst (λ door. Demands (demand_of door parts body) c.demand_at_page.result) (sym c.in-Page.is)
+      (c.demand_at_page.ensures.demand parts body is);
+}

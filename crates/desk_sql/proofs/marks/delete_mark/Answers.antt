@@ -5,6 +5,7 @@ use Rattle.sqlite.specs.State.{ExecutesInside}
 use Rattle.desk_sql.specs.Causes.{HasReason}
 use Rattle.desk_sql.specs.Texts.{delete_mark_text}
 use Rattle.desk_sql.proofs.Changing.{drops, place_params}
+use Rattle.desk_sql.proofs.RowidsTaken.{delete_rowids}
 use Rattle.desk_sql.proofs.Refusing.{if_failed}
 use Rattle.desk_sql.proofs.RemovedRows.{drop_reason}
 use Rattle.desk_sql.proofs.marks.delete_mark.Goals as goal
@@ -26,3 +27,11 @@ returns-clause-reason g c clean t may fits up =
     (ExecutesInside 0 delete_mark_text (place_params c.args.journey c.args.pos) (state g.S.Store c.args.tx.now.conn.now) (state g.S.Store c.execute.new.self.conn.now)) c.execute.result
     (simp pos_is at (c.execute.ensures.runs clean may.inside))
     (λ e ran. drop_reason (state g.S.Store c.args.tx.now.conn.now) (state g.S.Store c.execute.new.self.conn.now) t c.args.journey c.args.pos e may up ran)
+
+-- the rowids that are left
+pub returns-clause-rowids : goal.returns-clause-rowids
+returns-clause-rowids g c clean t may fits n has =
+    let journey = c.requires.journey in
+    let at = c.requires.pos in
+    delete_rowids (state g.S.Store c.args.tx.now.conn.now) (state g.S.Store c.execute.new.self.conn.now) t c.args.journey c.args.pos c.execute.result may
+    (simp (pos_is) at (c.execute.ensures.runs clean may.inside)) n has

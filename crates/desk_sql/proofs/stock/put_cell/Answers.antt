@@ -7,6 +7,7 @@ use Rattle.desk_sql.specs.Causes.{HasReason}
 use Rattle.desk_sql.specs.Texts.{put_cell_text}
 use Rattle.desk_sql.proofs.Putting.{puts, put_params}
 use Rattle.desk_sql.proofs.PutReasons.{put_cell_reason}
+use Rattle.desk_sql.proofs.RowidsTaken.{cell_rowids}
 use Rattle.desk_sql.proofs.Refusing.{if_failed}
 use Rattle.desk_sql.proofs.stock.put_cell.Goals as goal
 
@@ -31,3 +32,13 @@ returns-clause-reason g c rowids clean t may fits up =
     (ExecutesInside 0 put_cell_text (put_params (placed c.args.cell)) (state g.S.Store c.args.tx.now.conn.now) (state g.S.Store c.execute.new.self.conn.now)) c.execute.result
     (simp (pos_is, c.as_bytes.ensures.value, c.as_bytes-2.ensures.value) at (c.execute.ensures.runs clean may.inside))
     (λ e ran. put_cell_reason (state g.S.Store c.args.tx.now.conn.now) (state g.S.Store c.execute.new.self.conn.now) t (placed c.args.cell) e rowids may fits up ran)
+
+-- the rowids that are left
+pub returns-clause-rowids : goal.returns-clause-rowids
+returns-clause-rowids g c clean t may fits n has =
+    let kind = c.requires.0 in
+    let night = c.requires.1.0 in
+    let allot = c.requires.1.1.0 in
+    let free = c.requires.1.1.1.0 in
+    cell_rowids (state g.S.Store c.args.tx.now.conn.now) (state g.S.Store c.execute.new.self.conn.now) t (placed c.args.cell) c.execute.result may
+    (simp (pos_is, c.as_bytes.ensures.value, c.as_bytes-2.ensures.value) at (c.execute.ensures.runs clean may.inside)) n has

@@ -4,6 +4,7 @@ use Rattle.sqlite.specs.Held.{state}
 use Rattle.desk_sql.proofs.Writing.{pos_is}
 use Rattle.desk_sql.proofs.Changing.{changes_fewer, shift_params}
 use Rattle.desk_sql.proofs.UpdateReasons.{fewer_reason}
+use Rattle.desk_sql.proofs.RowidsTaken.{fewer_rowids}
 use Rattle.desk_sql.proofs.Refusing.{if_failed}
 use Rattle.desk_sql.specs.Causes.{HasReason}
 use Rattle.desk_sql.specs.Texts.{shift_nights_text}
@@ -31,3 +32,13 @@ returns-clause-reason g c rowids clean t may fits up =
     (ExecutesInside 0 shift_nights_text (shift_params c.args.range (pos c.args.count)) (state g.S.Store c.args.tx.now.conn.now) (state g.S.Store c.execute.new.self.conn.now)) c.execute.result
     (simp (pos_is, c.as_bytes.ensures.value, c.as_bytes-2.ensures.value) at (c.execute.ensures.runs clean may.inside))
     (λ e ran. fewer_reason (state g.S.Store c.args.tx.now.conn.now) (state g.S.Store c.execute.new.self.conn.now) t c.args.range c.args.count e rowids may fits up ran)
+
+-- the rowids that are left
+pub returns-clause-rowids : goal.returns-clause-rowids
+returns-clause-rowids g c clean t may fits n has =
+    let count = c.requires.count in
+    let kind = c.requires.range.0 in
+    let first = c.requires.range.1.0 in
+    let last = c.requires.range.1.1.0 in
+    fewer_rowids (state g.S.Store c.args.tx.now.conn.now) (state g.S.Store c.execute.new.self.conn.now) t c.args.range c.args.count c.execute.result fits may
+    (simp (pos_is, c.as_bytes.ensures.value, c.as_bytes-2.ensures.value) at (c.execute.ensures.runs clean may.inside)) n has

@@ -2,7 +2,7 @@
 use Rattle.std.specs.Prelude.{decimal, length}
 use Rattle.std.proofs.Common.{◌∙◌}
 use Rattle.std.proofs.lemmas.Result.{IfOk-weaker}
-use Rattle.http_pages.specs.Pages.{allow_line, body_bytes, close_line, is_report, media_type}
+use Rattle.http_pages.specs.Pages.{body_bytes, close_line, media_of, media_type}
 use Rattle.http_pages.specs.Statuses.{phrase, status_code}
 use Rattle.http_pages.proofs.HeadLemmas.{head_lines}
 use Rattle.http_pages.proofs.heads.head_of.Goals as goal
@@ -12,8 +12,8 @@ pub returns : goal.returns
 returns c =
     let page = c.args.page.now in
     let code = c.as_u16-code.ensures.value ∙ c.code.ensures.code in
-    let whole = head_lines (decimal (status_code page.status)) (phrase page.status) (decimal (length (body_bytes page.body))) (media_type (is_report page.body)) (allow_line page.allow) (close_line c.args.closes) in
+    let whole = head_lines (decimal (status_code page.status)) (phrase page.status) (decimal (length (body_bytes page.body))) (media_type (media_of page.body)) c.args.fields.now (close_line c.args.closes) in
     record {
       head = IfOk-weaker c.format.result _ _ (λ head printed. printed
-          ∙ rw (code, c.phrase-phrase.ensures.phrase, c.bytes_of.ensures.bytes, c.media_type_of-media_type.ensures.media_type, c.allow_line-allow.ensures.line, c.close_line-close.ensures.line) whole) c.format.ensures.ok;
+          ∙ rw (code, c.phrase-phrase.ensures.phrase, c.bytes_of.ensures.bytes, c.media_type_of-media_type.ensures.media_type, c.close_line-close.ensures.line) whole) c.format.ensures.ok;
     }

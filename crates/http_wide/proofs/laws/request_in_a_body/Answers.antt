@@ -1,5 +1,5 @@
 -- The laws are used as they stand.
-use Rattle.std.proofs.Common.{◌≡◌, ℕ, List, [], ◌∷◌, ◌++◌, refl, sym}
+use Rattle.std.proofs.Common.{◌≡◌, ℕ, List, [], ◌∷◌, ◌++◌, refl, subst, sym, false}
 use Rattle.std.specs.Prelude.{codes, length, Ok, None, ◌^◌}
 use Rattle.std.proofs.lemmas.Bool.{leb-true, ltb-true}
 use Rattle.std.proofs.lemmas.List.Elements.{All-from_recursion}
@@ -15,7 +15,8 @@ use Rattle.http_wide.specs.declared.framing.BodyKind.TheVariants.{Chunked}
 use Rattle.http_wide.specs.Bodies.{IsBody}
 use Rattle.http_wide.specs.Calls.{Calls, finds_end}
 use Rattle.http_wide.specs.Examples.{at_chunks, post_bytes, post_page, text_of_get}
-use Rattle.http_wide.specs.Framing.{body_kind}
+use Rattle.http_wide.specs.Framing.{head_kind}
+use Rattle.http_wide.specs.Wide.{Asks, Wide, WideMessages, ends_after}
 use Rattle.http_wide.proofs.BodyLemmas.{begins}
 use Rattle.http_wide.proofs.LawLemmas.{body_more}
 use Rattle.http_wide.proofs.laws.request_in_a_body.Goals as goal
@@ -51,7 +52,7 @@ post_is_a_head = record {
 }
 
 -- its body comes in chunks
-in_chunks : body_kind (parts_of post_page) ≡ Ok Chunked
+in_chunks : head_kind (parts_of post_page) ≡ Ok Chunked
 unfolding known_fields elements eq_ignore_case trim_ows is_token_byte
 in_chunks = refl
 
@@ -116,3 +117,21 @@ returns-clause-cut c = λ rest other left calls.
 
 pub returns-clause-one : goal.returns-clause-one
 returns-clause-one c = λ other left is. c.one_body.ensures.law Chunked text_of_get other get_bytes left [] is text_is_a_body
+
+-- the connection stays open after the POST
+stays_open : ends_after (parts_of post_page) ≡ false
+unfolding known_fields elements eq_ignore_case trim_ows is_token_byte
+stays_open = refl
+
+pub returns-clause-first : goal.returns-clause-first
+returns-clause-first c = λ rest left m begins. c.one_first.ensures.law (post_bytes ++ (text_of_get ++ rest)) m (Asks post_page get_bytes) left rest begins
+    (c.no_body_is_a_head.ensures.law post_bytes text_of_get get_bytes rest post_page Chunked post_is_a_head in_chunks text_is_a_body).0
+
+-- what comes after the first of a list is the same
+same_later : (m n : Wide) (later others : List Wide) → m ∷ later ≡ n ∷ others → others ≡ later
+same_later m n later others same = cc
+
+pub returns-clause-passed : goal.returns-clause-passed
+returns-clause-passed c = λ rest m later are.
+    let found = (c.bodies_are_passed.ensures.law post_bytes text_of_get get_bytes rest post_page Chunked post_is_a_head in_chunks text_is_a_body stays_open (m ∷ later)).0 are in
+    subst (λ z. WideMessages rest z) (same_later m (Asks post_page get_bytes) later found.0 found.1) found.2

@@ -3,7 +3,7 @@ use Rattle.std.proofs.Common.{inl, refl}
 use Rattle.desk_sql.proofs.Selecting.{ok_then}
 use Rattle.sql_reads.proofs.HandedTold.{there_at, left_by}
 use Rattle.sql_reads.proofs.HandedBriefs.{all_unfinished, lists_all, unfinished_told}
-use Rattle.sql_reads.proofs.ReadReasons.{stays_up}
+use Rattle.sql_model.proofs.Staying.{stays_up}
 use Rattle.sql_reads.proofs.Starting.{not_started, ok_all}
 use Rattle.sql_reads.proofs.brief_rows.start_unfinished.Goals as goal
 

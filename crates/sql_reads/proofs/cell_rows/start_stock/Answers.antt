@@ -4,7 +4,7 @@ use Rattle.desk_sql.proofs.Selecting.{ok_then}
 use Rattle.sql_model.specs.Reading.{stock_row_of}
 use Rattle.sql_reads.proofs.HandedTold.{there_at, left_by}
 use Rattle.sql_reads.proofs.HandedStock.{stock_in_order}
-use Rattle.sql_reads.proofs.ReadReasons.{stays_up}
+use Rattle.sql_model.proofs.Staying.{stays_up}
 use Rattle.sql_reads.proofs.Starting.{not_started, ok_all}
 use Rattle.sql_reads.proofs.cell_rows.start_stock.Goals as goal
 

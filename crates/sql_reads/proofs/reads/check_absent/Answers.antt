@@ -8,7 +8,8 @@ use Rattle.sql_reads.proofs.ReadJourneys.{journey_past}
 use Rattle.commands.specs.declared.faults.Fault.TheVariants.{Store}
 use Rattle.sqlite.specs.Held.{state}
 use Rattle.desk_sql.specs.Readable.{HasMeta}
-use Rattle.sql_reads.proofs.ReadReasons.{of_error, few_journeys, meta_there, sql_reason, stays_up}
+use Rattle.sql_model.proofs.Staying.{of_error, stays_up}
+use Rattle.sql_reads.proofs.ReadReasons.{few_journeys, meta_there, sql_reason}
 use Rattle.sql_reads.proofs.reads.check_absent.Goals as goal
 
 pub returns-in-Ok-clause-absent : goal.returns-in-Ok-clause-absent

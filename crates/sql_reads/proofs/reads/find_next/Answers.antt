@@ -6,7 +6,8 @@ use Rattle.sql_reads.proofs.ReadSought.{next_sought}
 use Rattle.commands.specs.declared.faults.Fault.TheVariants.{Store}
 use Rattle.sqlite.specs.Held.{state}
 use Rattle.desk_sql.specs.Readable.{Any}
-use Rattle.sql_reads.proofs.ReadReasons.{item_early, of_error, sql_reason, stays_up}
+use Rattle.sql_model.proofs.Staying.{of_error, stays_up}
+use Rattle.sql_reads.proofs.ReadReasons.{item_early, sql_reason}
 use Rattle.sql_reads.proofs.reads.find_next.Goals as goal
 
 pub returns-in-Ok-clause-next : goal.returns-in-Ok-clause-next

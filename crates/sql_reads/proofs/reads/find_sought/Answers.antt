@@ -6,7 +6,8 @@ use Rattle.sql_reads.proofs.ReadSought.{sought_nowhere, absent_read, sought_ther
 use Rattle.commands.specs.declared.faults.Fault.TheVariants.{Store}
 use Rattle.sqlite.specs.Held.{state}
 use Rattle.desk_sql.specs.Readable.{HasAgentText}
-use Rattle.sql_reads.proofs.ReadReasons.{of_error, has_text, row_number, sql_reason, stays_up}
+use Rattle.sql_model.proofs.Staying.{of_error, stays_up}
+use Rattle.sql_reads.proofs.ReadReasons.{has_text, row_number, sql_reason}
 use Rattle.sql_reads.proofs.reads.find_sought.Goals as goal
 
 pub returns-then-id-gt-LARGEST-clause-sought : goal.returns-then-id-gt-LARGEST-clause-sought

@@ -11,7 +11,8 @@ use Rattle.sql_reads.proofs.ReadStock.{some_night}
 use Rattle.commands.specs.declared.faults.Fault.TheVariants.{Store}
 use Rattle.sqlite.specs.Held.{state}
 use Rattle.desk_sql.specs.Readable.{Any}
-use Rattle.sql_reads.proofs.ReadReasons.{of_error, not_store, sql_reason, stays_up}
+use Rattle.sql_model.proofs.Staying.{of_error, stays_up}
+use Rattle.sql_reads.proofs.ReadReasons.{not_store, sql_reason}
 use Rattle.sql_reads.proofs.GoodStock.{good_nights}
 use Rattle.sql_reads.proofs.reads.read_cells.Goals as goal
 

@@ -10,7 +10,8 @@ use Rattle.sql_reads.proofs.ReadJourneys.{brief_told, none_told, none_above}
 use Rattle.commands.specs.declared.faults.Fault.TheVariants.{Store}
 use Rattle.sqlite.specs.Held.{state}
 use Rattle.desk_sql.specs.Readable.{HaveAgentTexts}
-use Rattle.sql_reads.proofs.ReadReasons.{of_error, unfinished_there, unfinished_above, have_texts, row_agent, row_cursor, row_low, sql_reason, stays_up}
+use Rattle.sql_model.proofs.Staying.{of_error, stays_up}
+use Rattle.sql_reads.proofs.ReadReasons.{unfinished_there, unfinished_above, have_texts, row_agent, row_cursor, row_low, sql_reason}
 use Rattle.sql_reads.proofs.reads.read_first_unfinished.Goals as goal
 
 pub returns-in-Ok-None-clause-first : goal.returns-in-Ok-None-clause-first

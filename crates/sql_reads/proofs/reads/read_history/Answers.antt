@@ -13,7 +13,8 @@ use Rattle.commands.specs.declared.faults.Fault.TheVariants.{Store}
 use Rattle.sqlite.specs.Held.{state}
 use Rattle.desk_sql.specs.Readable.{Any}
 use Rattle.sql_reads.specs.GoodRows.{IsMemory}
-use Rattle.sql_reads.proofs.ReadReasons.{all_some, of_error, not_store, sql_reason, stays_up, stays_twice, fails_twice}
+use Rattle.sql_model.proofs.Staying.{of_error, stays_up, stays_twice, fails_twice}
+use Rattle.sql_reads.proofs.ReadReasons.{all_some, not_store, sql_reason}
 use Rattle.sql_reads.proofs.reads.read_history.Goals as goal
 
 pub returns-in-Ok-clause-items : goal.returns-in-Ok-clause-items

@@ -13,7 +13,8 @@ use Rattle.sql_reads.proofs.ReadJourneys.{record_none, record_shown, marks_eithe
 use Rattle.commands.specs.declared.faults.Fault.TheVariants.{Store}
 use Rattle.desk_sql.specs.Readable.{HasAgentText}
 use Rattle.sql_reads.proofs.ReadJourneys.{journey_there}
-use Rattle.sql_reads.proofs.ReadReasons.{of_error, found_there, has_text, row_agent, row_cursor, sql_reason, stays_up, stays_twice, fails_twice}
+use Rattle.sql_model.proofs.Staying.{of_error, stays_up, stays_twice, fails_twice}
+use Rattle.sql_reads.proofs.ReadReasons.{found_there, has_text, row_agent, row_cursor, sql_reason}
 use Rattle.sql_reads.proofs.reads.read_journey.Goals as goal
 
 pub returns-in-Ok-None-clause-journey : goal.returns-in-Ok-None-clause-journey

@@ -9,7 +9,8 @@ use Rattle.sql_reads.proofs.ReadLemmas.{keeps_each, has_found}
 use Rattle.commands.specs.declared.faults.Fault.TheVariants.{Store}
 use Rattle.sqlite.specs.Held.{state}
 use Rattle.desk_sql.specs.Readable.{Any}
-use Rattle.sql_reads.proofs.ReadReasons.{of_error, sql_reason, stays_up}
+use Rattle.sql_model.proofs.Staying.{of_error, stays_up}
+use Rattle.sql_reads.proofs.ReadReasons.{sql_reason}
 use Rattle.sql_reads.proofs.GoodMarks.{good_marks}
 use Rattle.sql_reads.proofs.reads.read_marks.Goals as goal
 

@@ -12,7 +12,8 @@ use Rattle.sql_reads.proofs.ReadJourneys.{stand_shown, stand_none}
 use Rattle.commands.specs.declared.faults.Fault.TheVariants.{Store}
 use Rattle.sqlite.specs.Held.{state}
 use Rattle.desk_sql.specs.Readable.{HasAgentText}
-use Rattle.sql_reads.proofs.ReadReasons.{of_error, found_there, has_text, row_agent, row_cursor, sql_reason, stays_up}
+use Rattle.sql_model.proofs.Staying.{of_error, stays_up}
+use Rattle.sql_reads.proofs.ReadReasons.{found_there, has_text, row_agent, row_cursor, sql_reason}
 use Rattle.sql_reads.proofs.reads.read_stand.Goals as goal
 
 pub returns-in-Ok-None-clause-stand : goal.returns-in-Ok-None-clause-stand

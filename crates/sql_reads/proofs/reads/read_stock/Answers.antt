@@ -8,7 +8,8 @@ use Rattle.sql_reads.proofs.ReadLemmas.{keeps_on, has_found, also_ok}
 use Rattle.commands.specs.declared.faults.Fault.TheVariants.{Store}
 use Rattle.sqlite.specs.Held.{state}
 use Rattle.desk_sql.specs.Readable.{HaveCellTexts}
-use Rattle.sql_reads.proofs.ReadReasons.{of_error, not_store, sql_reason, stays_up}
+use Rattle.sql_model.proofs.Staying.{of_error, stays_up}
+use Rattle.sql_reads.proofs.ReadReasons.{not_store, sql_reason}
 use Rattle.sql_reads.proofs.GoodStock.{good_cells, cell_texts}
 use Rattle.sql_reads.proofs.reads.read_stock.Goals as goal
 

@@ -8,7 +8,8 @@ use Rattle.desk_sql.specs.Versions.{number_of, AreOfVersion}
 use Rattle.tables.proofs.OpenKept.{has_version, has_number, keeps_named, still_found}
 use Rattle.commands.specs.declared.faults.Fault.TheVariants.{Store as FaultStore}
 use Rattle.desk_sql.specs.Readable.{HasMeta}
-use Rattle.sql_reads.proofs.ReadReasons.{of_error, meta_there, sql_reason}
+use Rattle.sql_model.proofs.Staying.{of_error}
+use Rattle.sql_reads.proofs.ReadReasons.{meta_there, sql_reason}
 use Rattle.tables.proofs.opening.read_version.Goals as goal
 
 pub returns-in-Some-clause-finds : goal.returns-in-Some-clause-finds

@@ -3,38 +3,46 @@ use Rattle.std.proofs.Common.{◌≡◌, ◌∙◌, [], ◌∷◌, All, map, cod
 use Rattle.std.proofs.lemmas.Result.{IfOk-weaker}
 use Rattle.clap.specs.Words.{AddsArg, app_of, rule_of}
 use Rattle.clap.specs.declared.builder.Command.{Command}
-use Rattle.command_line.specs.Subcommands.{app_for, name_of, needed, needed_for, optional, rules_for, IsValue, Requires}
-use Rattle.command_line.proofs.SubcommandLemmas.{and_value, ids_fit, long_value, long_rule, no_value, rules_for-others, with_values}
+use Rattle.command_line.specs.Subcommands.{app_for, flagged, name_of, needed, needed_for, optional, rules_for, Requires}
+use Rattle.command_line.proofs.SubcommandLemmas.{IsWord, and_flag, and_value, ids_fit, long_flag, long_value, long_rule, no_value, rules_for-others, with_values}
 use Rattle.command_line.proofs.subcommands.Subcommand.command.Goals as goal
 
--- `serve` has a file, a port, and perhaps a number of connections and a path
-pub returns-in_ok-arg-in-Serve-2 : goal.returns-in_ok-arg-in-Serve-2
-returns-in_ok-arg-in-Serve-2 c =
+-- `serve` has a file, a port, and perhaps a number of connections, a path, a page and a log
+pub returns-in_ok-arg-in-Serve-4 : goal.returns-in_ok-arg-in-Serve-4
+returns-in_ok-arg-in-Serve-4 c =
     let s = c.args.self in
     let b = c.in_ok-bare.ensures in
     let file = c.value.result in
     let port = c.long-port.result in
     let count = c.long-number.result in
     let house = c.long-house.result in
-    let xs = file ∷ port ∷ count ∷ house ∷ [] in
+    let page = c.long-page.result in
+    let log = c.long-log.result in
+    let xs = file ∷ port ∷ count ∷ house ∷ page ∷ log ∷ [] in
     let port_value = long_value c.value-in-Serve.result port _ c.long-port.ensures c.value-in-Serve.ensures.value in
     let count_value = long_value c.extra.result count _ c.long-number.ensures c.extra.ensures.value in
     let house_value = long_value c.extra-in-Serve.result house _ c.long-house.ensures c.extra-in-Serve.ensures.value in
-    let all : All IsValue xs = and_value file (port ∷ count ∷ house ∷ []) c.value.ensures.value
-    (and_value port (count ∷ house ∷ []) port_value (and_value count (house ∷ []) count_value (and_value house [] house_value no_value))) in
+    let page_value = long_flag c.flag.result page _ c.long-page.ensures c.flag.ensures.flag in
+    let log_value = long_flag c.flag-in-Serve.result log _ c.long-log.ensures c.flag-in-Serve.ensures.flag in
+    let all : All IsWord xs = and_value file (port ∷ count ∷ house ∷ page ∷ log ∷ []) c.value.ensures.value
+    (and_value port (count ∷ house ∷ page ∷ log ∷ []) port_value (and_value count (house ∷ page ∷ log ∷ []) count_value
+    (and_value house (page ∷ log ∷ []) house_value (and_flag page (log ∷ []) page_value (and_flag log [] log_value no_value))))) in
     let second = long_rule c.value-in-Serve.result port _ (needed (codes "PORT")) c.long-port.ensures c.value-in-Serve.ensures.rule in
     let third = long_rule c.extra.result count _ (optional (codes "N")) c.long-number.ensures c.extra.ensures.rule in
-    let last = long_rule c.extra-in-Serve.result house _ (optional (codes "PATH")) c.long-house.ensures c.extra-in-Serve.ensures.rule in
+    let fourth = long_rule c.extra-in-Serve.result house _ (optional (codes "PATH")) c.long-house.ensures c.extra-in-Serve.ensures.rule in
+    let fifth = long_rule c.flag.result page _ (flagged (codes "PAGE")) c.long-page.ensures c.flag.ensures.rule in
+    let last = long_rule c.flag-in-Serve.result log _ (flagged (codes "LOG")) c.long-log.ensures c.flag-in-Serve.ensures.rule in
     let listed : map rule_of xs ≡ rules_for s = ap₂ (λ r rs. r ∷ rs) c.value.ensures.rule
-    (ap₂ (λ r rs. r ∷ rs) second (ap₂ (λ r rs. r ∷ rs) third (ap (λ r. r ∷ []) last))) ∙ ap rules_for (sym c.in-Serve.is) in
-    let made : (command : Command) → AddsArg c.in_ok-arg-in-Serve-2.field-0 house command
+    (ap₂ (λ r rs. r ∷ rs) second (ap₂ (λ r rs. r ∷ rs) third (ap₂ (λ r rs. r ∷ rs) fourth (ap₂ (λ r rs. r ∷ rs) fifth
+    (ap (λ r. r ∷ []) last))))) ∙ ap rules_for (sym c.in-Serve.is) in
+    let made : (command : Command) → AddsArg c.in_ok-arg-in-Serve-4.field-0 log command
     → (app_of command ≡ app_for s) × All (Requires command) (needed_for s) =
     λ command added. with_values (name_of s) c.in_ok-bare.bare command xs (rules_for s)
-    (c.in_ok-over_file.over_file, c.in_ok-over_file.ensures, (c.in_ok-arg-in-Serve.field-0, c.in_ok-arg-in-Serve.ensures, (c.in_ok-arg-in-Serve-2.field-0, c.in_ok-arg-in-Serve-2.ensures, (command, added, refl))))
+    (c.in_ok-over_file.over_file, c.in_ok-over_file.ensures, (c.in_ok-arg-in-Serve.field-0, c.in_ok-arg-in-Serve.ensures, (c.in_ok-arg-in-Serve-2.field-0, c.in_ok-arg-in-Serve-2.ensures, (c.in_ok-arg-in-Serve-3.field-0, c.in_ok-arg-in-Serve-3.ensures, (c.in_ok-arg-in-Serve-4.field-0, c.in_ok-arg-in-Serve-4.ensures, (command, added, refl))))))
     b.app b.args b.groups b.globals b.negates all listed (ids_fit s) in
     record {
-      app = IfOk-weaker c.arg-in-Serve-3.result _ _ (λ command added. (made command added).0) c.arg-in-Serve-3.ensures;
-      each = IfOk-weaker c.arg-in-Serve-3.result _ _ (λ command added. (made command added).1) c.arg-in-Serve-3.ensures;
+      app = IfOk-weaker c.arg-in-Serve-5.result _ _ (λ command added. (made command added).0) c.arg-in-Serve-5.ensures;
+      each = IfOk-weaker c.arg-in-Serve-5.result _ _ (λ command added. (made command added).1) c.arg-in-Serve-5.ensures;
     }
 
 -- `load` has a file, an allotment file and the name of the batch
@@ -47,7 +55,7 @@ returns-in_ok-arg-in-Load c =
     let name = c.long-name.result in
     let xs = file ∷ csv ∷ name ∷ [] in
     let named = long_value c.value-in-Load.result name _ c.long-name.ensures c.value-in-Load.ensures.value in
-    let all : All IsValue xs = and_value file (csv ∷ name ∷ []) c.value.ensures.value
+    let all : All IsWord xs = and_value file (csv ∷ name ∷ []) c.value.ensures.value
     (and_value csv (name ∷ []) c.value-csv.ensures.value (and_value name [] named no_value)) in
     let last = long_rule c.value-in-Load.result name _ (needed (codes "NAME")) c.long-name.ensures c.value-in-Load.ensures.rule in
     let listed : map rule_of xs ≡ rules_for s = ap₂ (λ r rs. r ∷ rs) c.value.ensures.rule
@@ -71,7 +79,7 @@ returns-in-Stock c =
     let format = c.format.result in
     let xs = file ∷ format ∷ [] in
     let is = c.format.ensures in
-    let all : All IsValue xs = and_value file (format ∷ []) c.value.ensures.value
+    let all : All IsWord xs = and_value file (format ∷ []) c.value.ensures.value
     (and_value format [] is.value no_value) in
     let listed : map rule_of xs ≡ rules_for s = ap₂ (λ r rs. r ∷ rs) c.value.ensures.rule
     (ap (λ r. r ∷ []) is.rule) ∙ ap rules_for (sym c.in-Stock.is) in
@@ -94,7 +102,7 @@ returns-in-Unfinished c =
     let format = c.format-in-Unfinished.result in
     let xs = file ∷ format ∷ [] in
     let is = c.format-in-Unfinished.ensures in
-    let all : All IsValue xs = and_value file (format ∷ []) c.value.ensures.value
+    let all : All IsWord xs = and_value file (format ∷ []) c.value.ensures.value
     (and_value format [] is.value no_value) in
     let listed : map rule_of xs ≡ rules_for s = ap₂ (λ r rs. r ∷ rs) c.value.ensures.rule
     (ap (λ r. r ∷ []) is.rule) ∙ ap rules_for (sym c.in-Unfinished.is) in
@@ -118,7 +126,7 @@ returns-in_ok-arg-in-History c =
     let format = c.format-in-History.result in
     let xs = file ∷ id ∷ format ∷ [] in
     let is = c.format-in-History.ensures in
-    let all : All IsValue xs = and_value file (id ∷ format ∷ []) c.value.ensures.value
+    let all : All IsWord xs = and_value file (id ∷ format ∷ []) c.value.ensures.value
     (and_value id (format ∷ []) c.value-id.ensures.value (and_value format [] is.value no_value)) in
     let listed : map rule_of xs ≡ rules_for s = ap₂ (λ r rs. r ∷ rs) c.value.ensures.rule
     (ap₂ (λ r rs. r ∷ rs) c.value-id.ensures.rule (ap (λ r. r ∷ []) is.rule)) ∙ ap rules_for (sym c.in-History.is) in
@@ -138,7 +146,7 @@ returns-in_default c =
     let s = c.args.self in
     let b = c.in_ok-bare.ensures in
     let file = c.value.result in
-    let all : All IsValue (file ∷ []) = and_value file [] c.value.ensures.value no_value in
+    let all : All IsWord (file ∷ []) = and_value file [] c.value.ensures.value no_value in
     let listed : map rule_of (file ∷ []) ≡ rules_for s =
     ap (λ r. r ∷ []) c.value.ensures.rule ∙ sym (rules_for-others s c.in_default.not-Serve c.in_default.not-Load c.in_default.not-Stock c.in_default.not-Unfinished c.in_default.not-History) in
     let made = with_values (name_of s) c.in_ok-bare.bare c.in_ok-over_file.over_file (file ∷ []) (rules_for s)

@@ -2,7 +2,7 @@
 use Rattle.std.proofs.Common.{◌≡◌, ◌∙◌, ap, sym, subst, ◌↔◌}
 use Rattle.http1.specs.Decoder.{decoder_for}
 use Rattle.http1.specs.declared.decode.Decoder.TheVariants.{Chunked}
-use Rattle.http_wide.specs.Bodies.{Awaits, IsBody, framing_of, limits}
+use Rattle.http_wide.specs.Bodies.{Awaits, IsBody, first_reading, framing_of, limits}
 use Rattle.http_wide.proofs.BodyLemmas.{begins, reading}
 use Rattle.http_wide.proofs.bodies.BodyReader.new.Goals as goal
 use Rattle.http_wide.proofs.bodies.BodyReader.new.Goals.{in-Sized, in-Chunked}
@@ -14,9 +14,11 @@ returns c =
       | in-Chunked w ↦ w.decoder-is ∙ ap (λ chunks. Chunked chunks 8192) w.new.ensures
           ∙ ap (λ kind. decoder_for limits (framing_of kind)) (sym w.in-Chunked.is)
     ] in
+    let first : reading c.match-kind.decoder c.new-2.result.items ≡ first_reading c.args.kind =
+    ap (λ d. reading d c.new-2.result.items) is
+    ∙ ap (λ items. reading (decoder_for limits (framing_of c.args.kind)) items) c.new-2.ensures.items in
     record {
+      first = first;
       waits = λ stream body rest.
-          subst (λ e. IsBody c.args.kind stream body rest ↔ Awaits (reading e c.new-2.result.items) stream body rest) (sym is)
-          (subst (λ items. IsBody c.args.kind stream body rest ↔ Awaits (reading (decoder_for limits (framing_of c.args.kind)) items) stream body rest)
-          (sym c.new-2.ensures.items) (begins c.args.kind stream body rest));
+          subst (λ r. IsBody c.args.kind stream body rest ↔ Awaits r stream body rest) (sym first) (begins c.args.kind stream body rest);
     }

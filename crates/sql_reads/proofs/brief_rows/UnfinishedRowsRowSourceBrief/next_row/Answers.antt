@@ -9,7 +9,7 @@ use Rattle.sql_reads.proofs.HandedBriefs.{brief_same}
 use Rattle.commands.specs.declared.faults.Fault.TheVariants.{Store}
 use Rattle.sqlite.specs.Held.{state}
 use Rattle.sql_reads.proofs.HandedGood.{brief_good, briefs_text}
-use Rattle.sql_reads.proofs.ReadReasons.{of_error, stays_up}
+use Rattle.sql_model.proofs.Staying.{of_error, stays_up}
 use Rattle.sql_reads.proofs.brief_rows.UnfinishedRowsRowSourceBrief.next_row.Goals as goal
 
 pub returns-in-Some-clause-next : goal.returns-in-Some-clause-next

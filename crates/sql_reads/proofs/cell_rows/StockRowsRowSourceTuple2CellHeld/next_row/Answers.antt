@@ -9,7 +9,7 @@ use Rattle.commands.specs.declared.faults.Fault.TheVariants.{Store}
 use Rattle.sqlite.specs.Held.{state}
 use Rattle.sql_model.specs.Reading.{stock_row_of}
 use Rattle.sql_reads.proofs.HandedGood.{cell_good, cells_text}
-use Rattle.sql_reads.proofs.ReadReasons.{of_error, stays_up}
+use Rattle.sql_model.proofs.Staying.{of_error, stays_up}
 use Rattle.sql_reads.proofs.cell_rows.StockRowsRowSourceTuple2CellHeld.next_row.Goals as goal
 
 pub returns-in-Some-clause-next : goal.returns-in-Some-clause-next

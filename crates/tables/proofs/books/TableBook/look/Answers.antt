@@ -15,5 +15,5 @@ returns-then-after-self-clause-first g c clean s here =
 -- the look changed nothing
 pub returns-else-after-self-clause-same : goal.returns-else-after-self-clause-same
 returns-else-after-self-clause-same g c clean =
-    still_stands c.args.self.now.failed c.args.self.now.finished (state g.S.Store c.args.self.now.conn)
+    still_stands c.args.self.now.failed c.args.self.now.finished c.args.self.now.unfinished (state g.S.Store c.args.self.now.conn)
     (state g.S.Store c.read_first_unfinished.new.conn) c.read_first_unfinished.ensures.same c.read_first_unfinished.result

@@ -21,6 +21,7 @@ returns-clause-same g c clean s here = elim c.match-found.branch [
             subst (AreFinishedTo s.ledger) (sym (w.self2-is ∙ w.saturating_sub-self.ensures))
             (finished-found s.ledger c.args.self.now.finished w.in-Some.brief here.known
             (sym w.in-Some.is ∙ c.in_ok-found.ensures.first was s here.desk here.keeps));
+        counted = here.counted;
         desk = here.desk;
         keeps =
             subst (λ h. Keeps (state g.S.Store h) s) (sym there)
@@ -38,6 +39,7 @@ returns-clause-same g c clean s here = elim c.match-found.branch [
             (sym (w.self2-is ∙ (w.in_ok-self-in-None.ensures.counts was s here.desk kept).journeys_are))
             (finished-all s.ledger c.args.self.now.finished here.known
             (sym w.in-None.is ∙ c.in_ok-found.ensures.first early s here.desk here.keeps));
+        counted = here.counted;
         desk = here.desk;
         keeps =
             subst (λ h. Keeps (state g.S.Store h) s) (sym there)
@@ -52,7 +54,7 @@ returns-in_err-self-in-None-clause-same g c clean =
     let old = state g.S.Store c.args.self.now.conn in
     let first = state g.S.Store c.read_first_unfinished.new.conn in
     let end = state g.S.Store c.read_counts.new.conn in
-    uncounted c.args.self.now.failed c.args.self.now.finished old first end f
+    uncounted c.args.self.now.failed c.args.self.now.finished c.args.self.now.unfinished old first end f
     (λ s keeps. c.in_ok-found.ensures.same s keeps)
     (λ s keeps is. c.in_err-self-in-None.ensures.memory s keeps (ap Err is))
     _ (search rules)
@@ -60,5 +62,5 @@ returns-in_err-self-in-None-clause-same g c clean =
 -- the look alone changed nothing
 pub returns-in_err-found-clause-same : goal.returns-in_err-found-clause-same
 returns-in_err-found-clause-same g c clean =
-    still_stands c.args.self.now.failed c.args.self.now.finished (state g.S.Store c.args.self.now.conn)
+    still_stands c.args.self.now.failed c.args.self.now.finished c.args.self.now.unfinished (state g.S.Store c.args.self.now.conn)
     (state g.S.Store c.read_first_unfinished.new.conn) c.read_first_unfinished.ensures.same c.from_residual.result

@@ -1,0 +1,1643 @@
+//! The page and its policy. Made by `scripts/page.py` from `web/desk.html`.
+
+/// What the page may load and do: its own style and script, and requests to the desk that served it.
+pub const POLICY: &str =
+    r#"default-src 'none'; script-src 'sha256-TwXluV7kIEgwb6BifBy3mvaysq0VYZuRkgMPPvbRBow='; style-src 'sha256-qPKRZL53v0D0XNK5s9UHwo/TCEuz9GUCGoB4PZUxovw='; connect-src 'self'; frame-ancestors 'none'; base-uri 'none'; form-action 'none'"#;
+
+/// The page, in HTML.
+pub const PAGE: &str = r##"<!doctype html>
+<html lang="en">
+<head>
+<meta charset="utf-8">
+<meta name="viewport" content="width=device-width, initial-scale=1">
+<meta name="color-scheme" content="light dark">
+<title>Desk</title>
+<style>
+:root {
+  color-scheme: light dark;
+  --ground: light-dark(#f2f4f7, #10151b);
+  --card: light-dark(#ffffff, #19202a);
+  --sunk: light-dark(#e9edf2, #131920);
+  --ink: light-dark(#17202a, #e8edf2);
+  --soft: light-dark(#4a5663, #abb7c3);
+  --line: light-dark(#d3d9e0, #323d49);
+  --edge: light-dark(#74808c, #7f8c99);
+  --accent: light-dark(#14589a, #86bdf9);
+  --on-accent: light-dark(#ffffff, #0b1118);
+  --chosen: light-dark(#dcebfb, #1d3a58);
+  --good: light-dark(#1a6a35, #80d195);
+  --warn: light-dark(#874a00, #f1b562);
+  --bad: light-dark(#a02c14, #ffa28c);
+  --taken: light-dark(#cbdff4, #25486b);
+  --full: light-dark(#ecd2cb, #57322b);
+  --flight: light-dark(#d9e7fb, #1f3d66);
+  --room: light-dark(#dcefda, #214a2c);
+  --transfer: light-dark(#f7e6c4, #4f3b11);
+  --cover: light-dark(#eadff6, #413060);
+}
+* { box-sizing: border-box; }
+[hidden] { display: none !important; }
+html { scroll-padding-top: 64px; }
+body {
+  margin: 0; background: var(--ground); color: var(--ink);
+  font: 15px/1.45 system-ui, "Segoe UI", Roboto, "Liberation Sans", Arial, sans-serif;
+}
+h1 { margin: 0; }
+h2 { font-size: 17px; line-height: 1.3; margin: 0 0 8px; }
+h2.big { font-size: 21px; }
+h3 { font-size: 15px; line-height: 1.3; margin: 0; }
+#one > h3 { margin: 16px 0 6px; }
+h1:focus, main:focus { outline: none; }
+p { margin: 0 0 8px; }
+code, .code { font-family: ui-monospace, "DejaVu Sans Mono", "Liberation Mono", Menlo, Consolas, monospace; }
+.soft { color: var(--soft); }
+.small { font-size: 13px; }
+.good { color: var(--good); }
+.warn { color: var(--warn); }
+.bad { color: var(--bad); }
+a { color: var(--accent); }
+:focus-visible { outline: 3px solid var(--accent); outline-offset: 2px; }
+.unseen { position: absolute; width: 1px; height: 1px; overflow: hidden; clip-path: inset(50%); white-space: nowrap; }
+.skip { position: absolute; left: -9999px; top: 4px; z-index: 9; padding: 8px 12px; background: var(--card); }
+.skip:focus { left: 4px; }
+
+button, input, select {
+  font: inherit; color: inherit; background: var(--card); border: 1px solid var(--edge); border-radius: 6px;
+  min-height: 34px; padding: 4px 10px;
+}
+input[type="number"] { width: 68px; padding-right: 4px; }
+input[type="checkbox"] { min-height: 0; width: 18px; height: 18px; margin: 0; accent-color: var(--accent); }
+button { cursor: pointer; }
+button:hover { border-color: var(--accent); color: var(--accent); }
+button.main:not([aria-disabled]) {
+  background: var(--accent); color: var(--on-accent); border-color: var(--accent); font-weight: 600;
+}
+button.main:not([aria-disabled]):hover { text-decoration: underline; color: var(--on-accent); }
+button.flat:not([aria-disabled]) { border-color: transparent; background: transparent; color: var(--accent); padding: 4px 8px; }
+button.flat:not([aria-disabled]):hover { border-color: var(--accent); }
+button.sign { min-width: 34px; padding: 2px 6px; }
+button:disabled, [aria-disabled="true"] {
+  color: var(--soft); border: 1px dashed var(--edge); background: transparent; cursor: default; font-weight: 400;
+}
+button:disabled:hover, [aria-disabled="true"]:hover { color: var(--soft); text-decoration: none; border-color: var(--edge); }
+label { display: inline-flex; align-items: center; gap: 6px; }
+.row { display: flex; flex-wrap: wrap; gap: 8px; align-items: center; }
+.card { background: var(--card); border: 1px solid var(--line); border-radius: 10px; padding: 14px; }
+
+header {
+  position: sticky; top: 0; z-index: 5; background: var(--card); border-bottom: 1px solid var(--line);
+  display: flex; flex-wrap: wrap; align-items: center; gap: 2px 14px; padding: 6px 16px;
+}
+.brand { font-size: 18px; letter-spacing: .02em; }
+nav { display: flex; gap: 2px; }
+nav a { padding: 7px 11px; border-radius: 6px; color: var(--ink); text-decoration: none; white-space: nowrap; }
+nav a:hover { background: var(--sunk); }
+nav a[aria-current] { background: var(--chosen); font-weight: 600; box-shadow: inset 0 -3px var(--accent); }
+#state { margin: 0 0 0 auto; font-size: 13px; color: var(--soft); }
+#state::before {
+  content: ""; display: inline-block; width: 9px; height: 9px; border-radius: 50%; background: var(--good);
+  margin-right: 6px;
+}
+#state.off::before { background: transparent; border: 2px solid var(--bad); }
+#away { background: var(--full); border-bottom: 1px solid var(--line); padding: 8px 16px; }
+#away p { margin: 0; }
+#notes { position: fixed; z-index: 6; left: 12px; bottom: 14px; width: min(440px, calc(100vw - 24px)); display: grid; gap: 8px; }
+body.chosen #notes { bottom: 112px; }
+.note {
+  display: flex; gap: 8px; align-items: flex-start; justify-content: space-between; background: var(--card); padding: 8px 8px 8px 12px;
+  border: 1px solid var(--edge); border-left: 6px solid var(--good); border-radius: 8px; box-shadow: 0 4px 16px rgb(0 0 0 / .25);
+}
+.note.isbad { border-left-color: var(--bad); }
+.note.iswarn { border-left-color: var(--warn); }
+.note p { margin: 4px 0; overflow-wrap: anywhere; }
+
+main { padding: 16px; max-width: 1900px; margin: 0 auto; }
+.desk { display: grid; gap: 16px; grid-template-columns: minmax(0, 1fr); }
+.tools { display: flex; flex-wrap: wrap; gap: 10px 14px; align-items: end; margin: 8px 0 14px; }
+.tools label { flex-direction: column; align-items: flex-start; gap: 2px; font-size: 13px; color: var(--soft); }
+.tools select, .tools input { color: var(--ink); font-size: 15px; }
+.turn { display: flex; gap: 4px; align-items: end; }
+
+.key { display: flex; flex-wrap: wrap; gap: 4px 16px; font-size: 13px; color: var(--soft); margin-bottom: 10px; }
+.key i {
+  display: inline-block; width: 16px; height: 16px; border: 1px solid var(--edge); border-radius: 4px;
+  vertical-align: -3px; margin-right: 5px;
+}
+.key i.half { background: linear-gradient(to top, var(--taken) 50%, transparent 50%); }
+.key i.isfull { background: var(--full); }
+.cals { display: grid; gap: 12px; grid-template-columns: repeat(auto-fill, minmax(min(100%, 300px), 1fr)); }
+.cal { padding: 10px 10px 8px; content-visibility: auto; contain-intrinsic-size: auto 390px; }
+.cal .top { display: flex; justify-content: space-between; align-items: baseline; gap: 8px; margin-bottom: 4px; }
+.cal table { width: 100%; border-collapse: separate; border-spacing: 2px; table-layout: fixed; }
+.cal th { font-size: 12px; font-weight: 500; color: var(--soft); padding: 0; }
+.cal td {
+  padding: 0; height: 48px; text-align: center; vertical-align: top; border-radius: 6px; font-size: 12px;
+  color: var(--soft);
+}
+.cal td.none { padding-top: 2px; }
+.night {
+  position: relative; overflow: hidden; width: 100%; height: 48px; min-height: 0; padding: 1px 0 0; border: 1px solid var(--line);
+  border-radius: 6px; display: block; line-height: 1.15; color: var(--ink);
+}
+.night i { position: absolute; left: 0; right: 0; bottom: 0; height: var(--part); background: var(--taken); }
+.night.isfull i { background: var(--full); }
+.night span { position: relative; display: block; }
+.night .day { font-size: 11px; color: var(--ink); }
+.night .free { font-size: 15px; font-weight: 650; }
+.night.isfull .free { font-weight: 400; }
+.night .of { font-size: 11px; }
+.night:hover { color: var(--ink); border-color: var(--accent); }
+[aria-selected="true"] > .night::after {
+  content: ""; position: absolute; inset: -1px; border: 3px solid var(--accent); border-radius: 6px;
+}
+.night:focus-visible { outline-offset: 1px; z-index: 1; }
+.kind { display: inline-block; padding: 0 7px; border-radius: 5px; font-size: 13px; font-weight: 500; color: var(--ink); }
+.kind.flight { background: var(--flight); }
+.kind.room { background: var(--room); }
+.kind.transfer { background: var(--transfer); }
+.kind.cover { background: var(--cover); }
+
+#bar {
+  position: sticky; bottom: 0; z-index: 4; margin: 0 16px; background: var(--card); border: 2px solid var(--accent);
+  border-bottom: 0; border-radius: 10px 10px 0 0; padding: 10px 14px; box-shadow: 0 -4px 16px rgb(0 0 0 / .2);
+}
+#bar h2 { margin: 0 0 6px; font-size: 15px; }
+#bar .row { gap: 8px 14px; }
+
+.steps { list-style: none; margin: 0 0 10px; padding: 0; }
+.step { border: 1px solid var(--line); border-radius: 8px; padding: 8px 10px; }
+.step.isbad { border: 2px solid var(--bad); }
+.step .top { display: flex; align-items: center; gap: 4px; }
+.step .top h3 { margin-right: auto; }
+.options { list-style: none; margin: 4px 0 0; padding: 0; }
+.options > li { padding: 6px 0; border-top: 1px solid var(--line); }
+.options .row { margin-top: 4px; gap: 4px 8px; }
+.options .what { flex: 1; }
+.options label { font-size: 13px; color: var(--soft); gap: 4px; }
+.options input { color: var(--ink); min-height: 30px; padding: 2px 4px; font-size: 14px; }
+.options input[type="date"] { width: 126px; }
+.options input[type="number"] { width: 50px; }
+.options button { min-height: 28px; padding: 1px 6px; font-size: 13px; }
+.save { margin: 0; padding: 5px 0 5px 12px; font-size: 14px; border-left: 3px solid var(--line); margin-left: 20px; }
+.save.on { border-left: 3px dashed var(--accent); }
+.save label { min-height: 26px; }
+.last { height: 8px; }
+#line { width: 100%; font-size: 13px; }
+.hint { font-size: 13px; color: var(--soft); margin: 4px 0 8px; }
+
+table.list { width: 100%; border-collapse: collapse; }
+table.list th {
+  text-align: left; font-size: 13px; font-weight: 600; color: var(--soft); padding: 4px 8px;
+  border-bottom: 1px solid var(--edge);
+}
+table.list td { padding: 7px 8px; border-bottom: 1px solid var(--line); vertical-align: top; overflow-wrap: anywhere; }
+table.list tr.now td { background: var(--chosen); }
+table.list td:first-child, table.list th:first-child { width: 82px; }
+table.list a { display: inline-block; min-width: 40px; min-height: 24px; font-weight: 600; }
+.list .state { white-space: nowrap; }
+.is {
+  display: inline-block; padding: 1px 9px; border-radius: 20px; border: 1px solid; font-size: 13px; font-weight: 600;
+  white-space: nowrap;
+}
+.is.run { color: var(--accent); }
+.is.back { color: var(--warn); }
+.is.ended { color: var(--good); }
+.is.undone { color: var(--soft); border-style: dashed; }
+
+.path { overflow-x: auto; border: 1px solid var(--line); border-radius: 8px; background: var(--card); margin: 0 0 6px; }
+.path svg { display: block; }
+.drawn path { fill: none; }
+.path text { fill: var(--ink); font: 12px system-ui, "Segoe UI", Roboto, "Liberation Sans", Arial, sans-serif; }
+.path .code { font: 600 12px ui-monospace, "DejaVu Sans Mono", "Liberation Mono", monospace; }
+.path .dim { fill: var(--soft); }
+.drawn .level { stroke: var(--line); }
+.drawn .safe { stroke: var(--accent); stroke-width: 1.5; stroke-dasharray: 3 4; }
+.drawn .stands { stroke: var(--good); stroke-width: 5; stroke-linecap: round; }
+.drawn .gone { stroke: var(--good); stroke-width: 2; stroke-dasharray: 5 4; }
+.drawn .down { stroke: var(--bad); stroke-width: 2.5; }
+.drawn .stay { stroke: var(--edge); stroke-width: 2.5; }
+.drawn .turning { stroke: var(--bad); stroke-width: 1.5; stroke-dasharray: 3 3; }
+.drawn .turned { fill: var(--bad); }
+.drawn .flag { fill: var(--accent); stroke: var(--accent); stroke-width: 1.5; }
+.drawn .ahead { stroke: var(--edge); stroke-width: 2; stroke-dasharray: 1 6; stroke-linecap: round; }
+.drawn .dot { fill: var(--ink); }
+.drawn .here { fill: var(--card); stroke: var(--ink); stroke-width: 3; }
+.signs {
+  display: flex; flex-wrap: wrap; gap: 2px 16px; font-size: 13px; color: var(--soft); margin: 0 0 14px; padding: 0;
+  list-style: none;
+}
+.signs svg { vertical-align: middle; margin-right: 5px; }
+.acts { margin: 10px 0 14px; }
+.acts button { min-height: 40px; }
+.acts > p { margin: 8px 0 0; }
+ol.items { margin: 0; padding-left: 26px; }
+ol.items li { padding: 2px 0; }
+ol.items .code { display: inline-block; min-width: 46px; font-weight: 600; }
+.planned { margin: 0 0 8px; padding: 0; list-style: none; }
+.planned > li {
+  padding: 6px 8px; border-left: 5px solid var(--line); margin-bottom: 4px; background: var(--sunk);
+  border-radius: 0 6px 6px 0;
+}
+.planned > li.isdone { border-left-color: var(--good); }
+.planned > li.isnext { border-left-color: var(--accent); }
+.planned ul { margin: 2px 0 0; padding-left: 20px; }
+dialog {
+  color: var(--ink); background: var(--card); border: 1px solid var(--edge); border-radius: 10px; padding: 18px;
+  width: min(460px, calc(100vw - 24px));
+}
+dialog::backdrop { background: rgb(0 0 0 / .45); }
+dialog .row { justify-content: flex-end; margin-top: 12px; }
+#v-who .card { max-width: 480px; margin: 5vh auto; }
+
+@media (max-width: 1079px) {
+  [data-view="stock"] #v-plan, [data-view="plan"] #v-stock, [data-view="journey"] #v-list, [data-view="list"] #v-one {
+    display: none;
+  }
+}
+@media (min-width: 1080px) {
+  .desk.book { grid-template-columns: minmax(0, 1fr) 440px; }
+  .desk.own { grid-template-columns: 460px minmax(0, 1fr); }
+  .side { position: sticky; top: 64px; align-self: start; max-height: calc(100vh - 80px); overflow-y: auto; }
+}
+@media (max-width: 480px) {
+  body.chosen #notes { bottom: 190px; }
+  main { padding: 12px 10px; }
+  header { padding: 6px 10px; }
+  .brand { display: none; }
+  nav { width: 100%; justify-content: space-between; }
+  nav a { padding: 7px 8px; }
+  #bar { margin: 0; border-radius: 0; border-left: 0; border-right: 0; }
+  .card { padding: 10px; }
+  .cal { padding: 8px 4px; }
+}
+@media (prefers-reduced-motion: no-preference) {
+  .night i { transition: height .3s; }
+}
+@media print { header, #bar, #notes, .acts, .tools { display: none !important; } }
+</style>
+</head>
+<body>
+<a class="skip" href="#main">Skip to the content</a>
+<header>
+<strong class="brand">Desk</strong>
+<nav aria-label="Views" id="nav" hidden>
+<a href="#/stock" data-for="stock">Stock</a>
+<a href="#/plan" data-for="plan">New journey<span id="steps-in-plan"></span></a>
+<a href="#/journeys" data-for="list journey">My journeys<span id="open-ones"></span></a>
+</nav>
+<p id="state" role="status"></p>
+<button id="who" type="button" class="flat" hidden></button>
+</header>
+<div id="away" role="alert" hidden></div>
+<div id="notes" aria-live="polite" role="log" aria-label="What happened"></div>
+<main id="main" tabindex="-1">
+<h1 id="title" class="unseen" tabindex="-1">Desk</h1>
+<noscript><p>This page works with its script, which this browser does not run.</p></noscript>
+<section id="v-who" aria-labelledby="h-who" hidden>
+<form class="card" id="who-form" novalidate>
+<h2 id="h-who" class="big">Who works here?</h2>
+<p>The desk shows you your own journeys and those of nobody else. The name is kept in this browser; another window may work for
+another agent.</p>
+<p><label for="agent">Agent</label></p>
+<div class="row"><input id="agent" maxlength="16" autocomplete="off" autocapitalize="none" spellcheck="false" aria-describedby="agent-form">
+<button class="main">Begin work</button></div>
+<p class="hint" id="agent-form">1 to 16 small letters and digits, such as ann</p>
+<div id="known"></div>
+</form>
+</section>
+<div class="desk book" id="book" hidden>
+<section id="v-stock" aria-labelledby="h-stock">
+<h2 id="h-stock" class="big">Stock</h2>
+<div id="filters"></div>
+<div id="cals" class="cals"></div>
+</section>
+<section id="v-plan" class="card side" aria-labelledby="h-plan">
+<h2 id="h-plan" class="big">New journey</h2>
+<div id="plan"></div>
+</section>
+</div>
+<div class="desk own" id="own" hidden>
+<section id="v-list" class="card side" aria-labelledby="h-list">
+<h2 id="h-list" class="big">My journeys</h2>
+<div id="list"></div>
+</section>
+<section id="v-one" class="card" aria-labelledby="h-one">
+<h2 id="h-one" class="big">One journey</h2>
+<div id="one"></div>
+</section>
+</div>
+</main>
+<section id="bar" aria-labelledby="h-bar" hidden></section>
+<dialog id="sure" aria-labelledby="sure-title"><h2 id="sure-title"></h2><p id="sure-text"></p>
+<div class="row"><button type="button" id="sure-no">Leave it</button><button type="button" class="main" id="sure-yes"></button></div></dialog>
+<script>
+'use strict';
+(() => {
+// ---- words, nights, wants
+
+const KINDS = ['flight', 'room', 'transfer', 'cover'];
+const MOST = { flight: 1, room: 30, transfer: 1, cover: 60 };
+const LETTER = { flight: 'F', room: 'R', transfer: 'T', cover: 'C' };
+const MONTHS = 'January February March April May June July August September October November December'.split(' ');
+const DAYS = 'Monday Tuesday Wednesday Thursday Friday Saturday Sunday'.split(' ');
+const FIRST = '2000-01-01', LAST = '2099-12-31';
+const PATIENCE = 15000, NEWS = 4000, AGAIN = 2000, PAGE = 100, ROWS = 50;
+
+const $ = id => document.getElementById(id);
+const night = time => new Date(time).toISOString().slice(0, 10);
+const plus = (from, days) => night(Date.parse(from) + days * 864e5);
+const long = n => `${+n.slice(8)} ${MONTHS[n.slice(5, 7) - 1]} ${n.slice(0, 4)}`;
+const short = n => `${+n.slice(8)} ${MONTHS[n.slice(5, 7) - 1].slice(0, 3)} ${n.slice(0, 4)}`;
+const count = (n, one, more = one + 's') => `${n.toLocaleString('en')} ${n === 1 ? one : more}`;
+const productOf = w => `${w.kind} ${w.supplier} ${w.product}`;
+const spanOf = w => w.nights === 1 ? short(w.first) : `${short(w.first)}, ${count(w.nights, 'night')}`;
+const wantText = w => `${productOf(w)}, ${spanOf(w)}, ${count(w.count, 'place')}`;
+const optionText = w => [LETTER[w.kind], w.supplier, w.product, w.first, w.nights, w.count].join('/');
+const planLine = plan => plan.steps.map(
+  step => step.options.map(optionText).join('|') + (step.save ? '*' : '')
+).join(';') + '!' + plan.tries;
+
+const CAUSES = {
+  tries: 'the tries are a number from 0 to 9', steps: 'a journey has 1 to 24 steps', options: 'a step has 1 to 8 options',
+  save: 'there is no save-point after the last step', shape: 'it is not written as a plan is', kind: 'its kind is F, R, T or C',
+  code: 'a supplier and a product are 1 to 8 of A to Z and 0 to 9', night: 'its first night is no day from 2000 to 2099',
+  nights: 'it has too many nights for its kind (a flight or a transfer 1, a room 30, cover 60), or ends after 2099',
+  count: 'it wants 1 to 50 places',
+};
+const REFUSALS = {
+  BadHead: 'The desk does not take requests from this address. Open it as 127.0.0.1 or localhost.',
+  NoAgent: 'The desk does not accept this name of an agent.',
+  NoKey: 'The desk does not accept the key of this request.',
+  BadBody: 'The desk cannot read this request.',
+  UnknownPath: 'This desk does not know what was asked for. It may be an older one.',
+  WrongMethod: 'This desk does not do what was asked for.',
+  NoJourney: 'You have no journey of this number.',
+  Finished: 'The journey has ended or is undone. It cannot be changed any more.',
+  NoSavePoint: 'The journey cannot turn back to there: no save-point stands there, or it goes back past it already.',
+  NoSave: 'No save-point can be taken here: one stands here already, or the journey is at its start or on its way back.',
+  KeyReused: 'The key of this request was used for another one before. Please do it again.',
+  TooLarge: 'The request is too large.',
+  Limit: 'The desk cannot hold any more events.',
+  NoLength: 'The request came without its length.',
+};
+const refusalText = page => page.name === 'BadPlan'
+  ? `The plan is refused: ${page.step ? `in step ${page.step}, ` : ''}${CAUSES[page.cause] || page.cause}.`
+  : REFUSALS[page.name] || `The desk refused it: ${page.name}.`;
+
+// readLine(text): the plan of a plan line; throws words where it is none
+function readLine(text) {
+  const found = /^(.*)!([0-9])$/.exec(text.trim());
+  if (!found) throw 'A plan line ends with ! and one digit, the tries.';
+  const parts = found[1].split(';');
+  if (parts.length > 24) throw `A plan line is not read: ${CAUSES.steps}.`;
+  const steps = parts.map((part, at) => {
+    const save = part.endsWith('*');
+    const fail = cause => { throw `Step ${at + 1} of the plan line is not read: ${CAUSES[cause]}.`; };
+    if (save && at === parts.length - 1) fail('save');
+    const options = (save ? part.slice(0, -1) : part).split('|').map(one => {
+      const words = one.split('/'), [letter, supplier, product, first, nights, places] = words;
+      const kind = KINDS.find(k => LETTER[k] === letter);
+      if (words.length !== 6) fail('shape');
+      if (!kind) fail('kind');
+      if (![supplier, product].every(code => /^[A-Z0-9]{1,8}$/.test(code))) fail('code');
+      if (!isNight(first)) fail('night');
+      if (!/^[1-9]\d?$/.test(nights) || nights > MOST[kind] || plus(first, nights - 1) > LAST) fail('nights');
+      if (!/^[1-9]\d?$/.test(places) || places > 50) fail('count');
+      return { count: +places, first, kind, nights: +nights, product, supplier };
+    });
+    if (options.length > 8) fail('options');
+    return { options, save };
+  });
+  return { steps, tries: +found[2] };
+}
+const isNight = text => /^20\d\d-\d\d-\d\d$/.test(text) && !isNaN(Date.parse(text)) && night(Date.parse(text)) === text;
+
+// ---- what is drawn
+
+function build(node, props, kids) {
+  for (const [name, value] of Object.entries(props || {})) {
+    if (value === undefined || value === null || value === false) continue;
+    if (name.startsWith('on')) node.addEventListener(name.slice(2), value);
+    else if (name === 'value') node.value = node.drawn = value;
+    else if (name === 'checked') node.checked = value;
+    else node.setAttribute(name, value === true ? '' : value);
+  }
+  node.append(...kids.flat(9).filter(kid => kid !== undefined && kid !== null && kid !== false && kid !== ''));
+  return node;
+}
+const h = (tag, props, ...kids) => build(document.createElement(tag), props, kids);
+const s = (tag, props, ...kids) => build(document.createElementNS('http://www.w3.org/2000/svg', tag), props, kids);
+const button = (text, f, onclick, props) => h('button', { type: 'button', 'data-f': f, onclick, ...props }, text);
+// wholeField(word, f, low, high, value, set): a field for a number in these limits, after its word
+const wholeField = (word, f, low, high, value, set, props) => h('label', {}, word, h('input', {
+  type: 'number', min: low, max: high, value, 'data-f': f, ...props,
+  onchange: ({ target }) => {
+    target.value = target.drawn = Math.min(high, Math.max(low, Math.round(+target.value) || low));
+    set(+target.value);
+  },
+}));
+const kindOf = w => h('span', { class: 'kind ' + w.kind }, w.kind);
+const product = w => [kindOf(w), ` ${w.supplier} ${w.product}`];
+
+// paint(box, kids): the box has these; what had the focus has it again, by its data-f
+function paint(box, ...kids) {
+  const at = document.activeElement, had = at !== box && box.contains(at), f = had && at.dataset.f;
+  // what is being typed is left alone; the box is drawn again later
+  if (had && at.matches('input:not([type=checkbox])') && at.value !== at.drawn) { delete box.dataset.key; return; }
+  const from = had && at.selectionStart;
+  const scrolled = [...box.querySelectorAll('[data-scroll]')].map(one => one.scrollLeft);
+  box.replaceChildren(...kids.flat(9).filter(Boolean));
+  box.querySelectorAll('[data-scroll]').forEach((one, n) => { if (scrolled[n] !== undefined) one.scrollLeft = scrolled[n]; });
+  if (had) {
+    const same = f && box.querySelector(`[data-f="${CSS.escape(f)}"]`);
+    const next = same || box.querySelector('[data-rest]') || $('title');
+    next.focus({ preventScroll: true });
+    if (same && typeof from === 'number') same.setSelectionRange(from, from);
+  }
+}
+
+// ---- what the browser keeps
+
+const storage = name => { try { return window[name]; } catch { return null; } };
+const local = storage('localStorage'), session = storage('sessionStorage');
+
+function kept(store, name, otherwise) {
+  try {
+    const text = store.getItem('desk.' + name);
+    return text === null ? otherwise : JSON.parse(text);
+  } catch { return otherwise; }
+}
+function keep(store, name, value) {
+  try { store.setItem('desk.' + name, JSON.stringify(value)); return true; } catch { return false; }
+}
+const hex = bytes => [...crypto.getRandomValues(new Uint8Array(bytes))].map(byte => byte.toString(16).padStart(2, '0')).join('');
+// a UUID of version 4 without its hyphens
+function newKey() {
+  const key = hex(16);
+  return key.slice(0, 12) + '4' + key.slice(13, 16) + '89ab'[parseInt(key[16], 16) % 4] + key.slice(17);
+}
+
+let agent = kept(session, 'agent', kept(local, 'agent', ''));
+let view = 'stock', number = 0, turn = 0;
+let stockText = null, stock = new Map(), months = [];
+let own = new Map(), histories = new Map(), plans = new Map(), complete = false;
+let draft = null, chosen = null, into = 0, badStep = 0, places = 1;
+// journeys of which a page came, until it is known how they are now
+let settling = new Map();
+let reached = null, timer = 0, looking = false, lookAgain = false;
+let filter = kept(session, 'filter', { kind: '', supplier: '', product: '', month: '' });
+let sought = { state: '', text: '', rows: ROWS };
+
+const isOpen = journey => journey.state === 'run' || journey.state === 'back';
+
+// ---- reading
+
+class Refused extends Error {
+  constructor(page) { super(page.name); this.page = page; }
+}
+
+async function get(path, isText) {
+  const answer = await fetch(
+    path,
+    { headers: { 'Desk-Agent': agent }, cache: 'no-store', credentials: 'omit', signal: AbortSignal.timeout(PATIENCE) }
+  );
+  const text = await answer.text();
+  if (answer.ok && isText) return text;
+  const page = JSON.parse(text);
+  if (page.refused) throw new Refused(page);
+  if (!answer.ok) throw new Error(text);
+  return page;
+}
+const listIn = page => Object.values(page).find(Array.isArray);
+
+// look(): asks what is new, and draws it; goes on every few seconds while the page can be seen
+async function look() {
+  if (looking) { lookAgain = true; return; }
+  clearTimeout(timer);
+  if (document.hidden || !agent) return;
+  looking = true;
+  const mine = turn;
+  try {
+    if (view !== 'list' || stockText === null) await lookAtStock(mine);
+    await lookAtOwn(mine);
+    if (view === 'journey' && mine === turn) await lookAtOne(number, mine);
+    isReached(true);
+  } catch (why) {
+    if (why instanceof Refused) { isReached(true); say('bad', refusalText(why.page)); } else isReached(false);
+  }
+  looking = false;
+  if (mine === turn) draw();
+  if (waiting().length && !isLost) flush();
+  if (lookAgain || mine !== turn) { lookAgain = false; look(); return; }
+  timer = setTimeout(look, reached ? NEWS : AGAIN);
+}
+
+async function lookAtStock(mine) {
+  const text = await get('/stock', true);
+  if (mine !== turn || text === stockText) return;
+  stockText = text;
+  stock = new Map();
+  let least = '', most = '';
+  for (const line of text.split('\n')) {
+    const [kind, supplier, product, when, allot, , free] = line.trim().split(/\s+/);
+    if (!KINDS.includes(kind) || !isNight(when)) continue;
+    const name = `${kind} ${supplier} ${product}`;
+    if (!stock.has(name)) stock.set(name, { kind, supplier, product, nights: new Map() });
+    stock.get(name).nights.set(when, { allot: +allot, free: +free });
+    const month = when.slice(0, 7);
+    if (!least || month < least) least = month;
+    if (month > most) most = month;
+  }
+  months = [];
+  for (let month = least; least && month <= most; month = plus(month + '-28', 7).slice(0, 7)) months.push(month);
+}
+
+async function lookAtOwn(mine) {
+  if (!complete) {
+    const all = new Map();
+    if (await readMine(0, all, mine)) { own = all; complete = true; }
+    return;
+  }
+  const open = listIn(await get('/unfinished')), now = new Set(open.map(one => one.journey));
+  if (mine !== turn) return;
+  const most = Math.max(0, ...own.keys());
+  if (
+    open.some(one => one.journey <= most && !isOpen(own.get(one.journey) || { state: '' }))
+  ) { complete = false; own = new Map(); return lookAtOwn(mine); }
+  for (const one of open) own.set(one.journey, one);
+  const gone = [...own.values()].filter(one => isOpen(one) && !now.has(one.journey)).map(one => one.journey);
+  if (gone.length > 8) return readMine(Math.min(...gone) - 1, own, mine);
+  for (const id of gone) {
+    const one = await get('/journeys/' + id);
+    if (mine !== turn) return;
+    take(id, one);
+  }
+  await readMine(most, own, mine);
+}
+
+// readMine(after, into): all own journeys above this number; whether they are still asked for
+async function readMine(after, into, mine) {
+  for (;;) {
+    const page = listIn(await get('/mine' + (after ? '/' + after : '')));
+    if (mine !== turn) return false;
+    for (const one of page) into.set(one.journey, one);
+    if (page.length < PAGE) return true;
+    after = page[page.length - 1].journey;
+  }
+}
+
+function take(id, { history, ...where }) {
+  own.set(id, where);
+  if (history) histories.set(id, { history, where });
+}
+
+async function lookAtOne(id, mine) {
+  try {
+    if (!plans.has(id)) {
+      const plan = await get(`/journeys/${id}/plan`);
+      if (mine !== turn) return;
+      plans.set(id, plan);
+    }
+    const known = histories.has(id) && own.get(id), was = settling.get(id);
+    if (known && !isOpen(known) && !was) return;
+    const one = await get('/journeys/' + id);
+    if (mine !== turn) return;
+    take(id, one);
+    if (settling.get(id) === was) settling.delete(id);
+  } catch (why) {
+    if (!(why instanceof Refused) || why.page.name !== 'NoJourney') throw why;
+    plans.set(id, null);
+  }
+}
+
+// ---- sending: each request is kept with its key until its page came, and retried as it was
+
+const TAB = 'desk.tab.', POST = 'desk.post.';
+let tab = kept(session, 'tab', '') || hex(8), sending = false, resend = 0, sent = 0, isLost = false;
+
+// a window has a name of its own, which it holds while it is open; one that was copied from another takes a new one
+async function nameWindow() {
+  for (;;) {
+    keep(session, 'tab', tab);
+    if (!navigator.locks) return;
+    const is = await new Promise(then => navigator.locks.request(TAB + tab, { ifAvailable: true }, lock => {
+      then(lock);
+      return lock && new Promise(() => {});
+    }));
+    if (is) return;
+    tab = hex(8);
+  }
+}
+
+const named = nameWindow();
+
+function waiting() {
+  const found = [];
+  for (let n = 0; local && n < local.length; n++) {
+    const name = local.key(n);
+    if (name.startsWith(POST)) found.push(kept(local, name.slice(5), null));
+  }
+  return found.filter(Boolean).sort((a, b) => a.at - b.at || a.turn - b.turn);
+}
+
+// those of this window, and of windows that are closed
+async function ownWaiting() {
+  const held = navigator.locks ? new Set((await navigator.locks.query()).held.map(lock => lock.name)) : new Set();
+  return waiting().filter(
+    one => one.tab === tab || (navigator.locks ? !held.has(TAB + one.tab) : Date.now() - one.at > 2 * PATIENCE)
+  );
+}
+
+async function send(path, body, what, about) {
+  await named;
+  const request = { key: newKey(), tab, at: Date.now(), turn: sent++, agent, path, body, what, about };
+  if (!keep(local, 'post.' + request.key, request)) {
+    say('bad', 'This browser cannot keep the request, so it was not sent. Allow this page to store data, or free some space.');
+    return;
+  }
+  draw();
+  flush();
+}
+
+async function flush() {
+  if (sending) return;
+  sending = true;
+  clearTimeout(resend);
+  let is = true;
+  try {
+    for (let list = await ownWaiting(); list.length && is; list = is ? await ownWaiting() : []) is = await sendKept(list[0]);
+  } finally { sending = false; }
+  if (!is) resend = setTimeout(flush, AGAIN);
+}
+
+// sendKept(request): whether its page came; two windows do not send one request at a time
+async function sendKept(request) {
+  const go = async lock => {
+    if (!lock) return false;
+    if (!kept(local, 'post.' + request.key, null)) return true;
+    let page;
+    try { page = await pageOf(request); } catch { isLost = true; draw(); look(); return false; }
+    local.removeItem(POST + request.key);
+    isLost = false;
+    isReached(true);
+    hear(request, page);
+    return true;
+  };
+  return navigator.locks ? navigator.locks.request(POST + request.key, { ifAvailable: true }, go) : go(true);
+}
+
+async function pageOf({ path, key, agent, body }) {
+  const answer = await fetch(path, {
+    method: 'POST', body, cache: 'no-store', credentials: 'omit', signal: AbortSignal.timeout(PATIENCE),
+    headers: { 'Desk-Agent': agent, 'Desk-Key': key, 'Content-Type': 'application/json' },
+  });
+  const page = JSON.parse(await answer.text());
+  if (!(page.refused || (answer.ok && page.journey))) throw new Error('no page of the desk');
+  return page;
+}
+
+// hear(request, page): what the desk answered
+function hear(request, page) {
+  const isOwn = request.agent === agent, whose = isOwn ? '' : ` (for ${request.agent})`;
+  if (page.refused) {
+    if (isOwn && request.about === 'new' && page.step) badStep = page.step;
+    say('bad', `${request.what}${whose}: ${refusalText(page)}`);
+  } else if (request.about === 'new') {
+    say('good', `Journey ${page.journey} is begun${whose}.`);
+    if (isOwn) {
+      own.set(page.journey, { journey: page.journey, pos: 0, state: 'run' });
+      if (request.body === bodyOf(draft)) setDraft({ steps: [], tries: draft.tries });
+      if (request.tab === tab && (view === 'plan' || view === 'stock')) location.hash = '#/journeys/' + page.journey;
+    }
+  } else {
+    if (isOwn) settling.set(page.journey, request.key);
+    const plan = plans.get(page.journey), { word, text } = itemSaid(page, isOwn ? plan : null);
+    say(word, `Journey ${page.journey}${whose}: ${text}`);
+  }
+  draw();
+  look();
+}
+
+function itemSaid({ item, state, target }, plan) {
+  const [, letter, a, b] = /^([TCBS])(\d+)\.?(\w*)$/.exec(item);
+  const want = plan && plan.steps[a - 1] && plan.steps[a - 1].options[b - 1];
+  const of = want ? ` (${wantText(want)})` : '', to = +a ? `save-point ${a}` : 'the start';
+  const end = {
+    ended: ' All steps are done: the journey has ended.', undone: ' Nothing is held any more: the journey is undone.'
+  }[state] || '';
+  if (letter === 'T') return { word: 'good', text: `step ${a} is done${b > 1 ? `, with option ${b}` : ''}${of}.${end}` };
+  if (letter === 'C') return {
+    word: 'good', text: `step ${a} is given back${of}.${end || (state === 'run' ? ' It goes forward again.' : '')}`
+  };
+  if (letter === 'S') return { word: 'good', text: `save-point ${a} is taken.` };
+  const cause = { r: 'the step found no place', s: 'the desk was started anew', a: 'as you asked' }[b];
+  return {
+    word: b === 'a' ? 'good' : 'warn',
+    text: `${cause}: it turns back to ${to}.${end || (target === undefined ? ' It is there.' : ' Its steps are then given back, one at a time.')}`
+  };
+}
+
+// ---- what is said
+
+const told = [];
+function say(word, text, time = 9000) {
+  const same = told.find(note => note.text === text);
+  if (same) drop(same);
+  while (told.length > 2) drop(told[0]);
+  const note = { text, node: h('div', { class: 'note is' + word }, h('p', {}, word === 'bad' ? h('strong', {}, 'Refused. ') : '', text),
+    button('Close', '', () => drop(note), { class: 'flat', 'aria-label': `Close: ${text}` })) };
+  told.push(note);
+  $('notes').append(note.node);
+  if (word === 'good') setTimeout(() => drop(note), time);
+}
+function drop(note) {
+  const at = told.indexOf(note);
+  if (at < 0) return;
+  told.splice(at, 1);
+  const had = note.node.contains(document.activeElement);
+  note.node.remove();
+  if (had) $('title').focus({ preventScroll: true });
+}
+
+function isReached(now) {
+  if (reached !== now) {
+    const was = reached;
+    reached = now;
+    if (now && was === false) { say('good', 'The desk can be reached again.'); look(); }
+  }
+}
+
+function drawState() {
+  const list = waiting().filter(one => one.tab === tab || one.agent === agent);
+  const isAway = reached === false || (isLost && list.length);
+  $('state').className = isAway ? 'off' : '';
+  const text = !agent ? ''
+    : isAway ? 'Not reached'
+      : reached === null ? 'Looking for the desk'
+        : list.length ? 'Sending' : 'Up to date';
+  if ($('state').textContent !== text) $('state').textContent = text;
+  $('state').hidden = !text;
+  const away = $('away'), words = isAway && agent ? [
+    reached === false
+      ? 'The desk cannot be reached. This page tries again every two seconds. What you see may be old.'
+      : 'A request got no answer. This page retries it every two seconds.',
+    list.length
+      ? `${count(list.length, 'request')} will be retried, and ${list.length === 1 ? 'takes' : 'each takes'} effect once: `
+        + list.map(one => one.what).join('; ') + '.'
+      : '',
+  ] : [];
+  if (away.dataset.words !== words.join()) {
+    away.dataset.words = words.join();
+    away.replaceChildren(...words.filter(Boolean).map(word => h('p', {}, word)));
+  }
+  away.hidden = !words.length;
+}
+
+// sure(title, text, yes): asks once more; whether the answer was yes
+function sure(title, text, yes) {
+  $('sure-title').textContent = title;
+  $('sure-text').textContent = text;
+  $('sure-yes').textContent = yes;
+  const box = $('sure');
+  return new Promise(then => {
+    let is = false;
+    $('sure-yes').onclick = () => { is = true; box.close(); };
+    $('sure-no').onclick = () => box.close();
+    box.onclose = () => then(is);
+    box.showModal();
+    $('sure-no').focus();
+  });
+}
+
+// ---- who works here
+
+function setAgent(name) {
+  agent = name;
+  keep(session, 'agent', name);
+  keep(local, 'agent', name);
+  keep(local, 'agents', [name, ...kept(local, 'agents', []).filter(one => one !== name)].slice(0, 12));
+  startAgent();
+  location.hash = '#/stock';
+  route(true);
+}
+function startAgent() {
+  turn++;
+  own = new Map(); histories = new Map(); plans = new Map(); complete = false; settling = new Map(); chosen = null; badStep = 0; stockText = null;
+  draft = agent ? kept(local, 'draft.' + agent, { steps: [], tries: 0 }) : { steps: [], tries: 0 };
+}
+function drawWho() {
+  const known = kept(local, 'agents', []);
+  paint($('known'), known.length && [
+    h('p', { class: 'soft' }, 'Worked here before:'),
+    h('div', { class: 'row' }, known.map(name => button(name, 'known.' + name, () => setAgent(name)))),
+  ]);
+}
+$('who-form').addEventListener('submit', event => {
+  event.preventDefault();
+  const name = $('agent').value.trim();
+  if (/^[a-z0-9]{1,16}$/.test(name)) { $('agent').removeAttribute('aria-invalid'); setAgent(name); return; }
+  $('agent').setAttribute('aria-invalid', 'true');
+  say('bad', 'An agent is 1 to 16 small letters and digits.');
+  $('agent').focus();
+});
+
+// ---- the stock
+
+const places2 = n => n < 10000 ? String(n) : `${Math.floor(n / 1000)}k`;
+const monthText = month => `${MONTHS[month.slice(5) - 1]} ${month.slice(0, 4)}`;
+const cellAt = (w, when) => { const one = stock.get(productOf(w)); return one && one.nights.get(when); };
+const partOf = ({ allot, free }) => allot ? Math.round(100 * (allot - free) / allot) : 100;
+
+// fits(want): whether it has its places now, and why
+function fits(want) {
+  let least = Infinity, at = '';
+  for (let n = 0; n < want.nights; n++) {
+    const when = plus(want.first, n), cell = cellAt(want, when);
+    if (!cell) return { is: false, why: `nothing is allotted on ${short(when)}` };
+    if (cell.free < want.count) return { is: false, why: `${cell.free ? `only ${cell.free}` : 'none'} free on ${short(when)}` };
+    if (cell.free < least) { least = cell.free; at = when; }
+  }
+  return { is: true, why: `${least} free${want.nights > 1 ? ` on ${short(at)}, the fullest night` : ''}` };
+}
+const fitText = want => {
+  const { is, why } = fits(want);
+  return h('span', { class: is ? 'good' : 'bad' }, `${is ? 'Fits now' : 'Does not fit now'}: ${why}`);
+};
+
+function setFilter(change) {
+  Object.assign(filter, change);
+  keep(session, 'filter', filter);
+  drawStock();
+}
+
+function drawFilters() {
+  const all = [...stock.values()], named = (name, some) => [...new Set(some.map(one => one[name]))].sort();
+  const pick = (name, word, values) => h('label', {}, word, h('select',
+    { 'data-f': 'filter.' + name, onchange: event => setFilter({ [name]: event.target.value }) },
+    h('option', { value: '', selected: !filter[name] }, 'all'),
+    values.map(value => h('option', { value, selected: value === filter[name] }, value))));
+  const kinds = KINDS.filter(kind => all.some(one => one.kind === kind));
+  const suppliers = named('supplier', all.filter(one => !filter.kind || one.kind === filter.kind));
+  const products = named(
+    'product',
+    all.filter(one => (!filter.kind || one.kind === filter.kind) && (!filter.supplier || one.supplier === filter.supplier))
+  );
+  const at = months.indexOf(filter.month);
+  const move = (by, word, sign) => button(sign, 'month' + by, () => months[at + by] && setFilter({ month: months[at + by] }),
+    { class: 'sign', 'aria-label': word, 'aria-disabled': !months[at + by] && 'true' });
+  const key = JSON.stringify([filter, kinds, suppliers, products, months.length, months[0]]);
+  if ($('filters').dataset.key === key) return;
+  $('filters').dataset.key = key;
+  paint($('filters'), h('div', { class: 'tools', role: 'group', 'aria-label': 'What is shown' },
+    h('div', { class: 'turn' }, move(-1, 'Month before', '‹'),
+      h('label', {}, 'Month', h('select', { 'data-f': 'month', onchange: event => setFilter({ month: event.target.value }) },
+        months.map(month => h('option', { value: month, selected: month === filter.month }, monthText(month))))),
+      move(1, 'Month after', '›')),
+    pick('kind', 'Kind', kinds), pick('supplier', 'Supplier', suppliers), pick('product', 'Product', products)),
+  h(
+    'div', { class: 'key' }, h('span', {}, 'In each night: free places of those allotted.'),
+    h('span', {}, h('i', { class: 'half' }), 'taken in part'), h('span', {}, h('i', { class: 'isfull' }), 'nothing free')
+  ));
+}
+
+// settleFilter(): the filter names what there is
+function settleFilter() {
+  const all = [...stock.values()];
+  const has = test => all.some(test);
+  if (filter.kind && !has(one => one.kind === filter.kind)) filter.kind = '';
+  if (
+    filter.supplier && !has(one => one.supplier === filter.supplier && (!filter.kind || one.kind === filter.kind))
+  ) filter.supplier = '';
+  if (
+    filter.product && !has(
+      one => one.product === filter.product && (!filter.supplier || one.supplier === filter.supplier)
+        && (!filter.kind || one.kind === filter.kind)
+    )
+  ) filter.product = '';
+  if (!months.includes(filter.month)) {
+    const today = night(Date.now()).slice(0, 7);
+    filter.month = months.find(
+      month => month >= today && has(one => [...one.nights.keys()].some(when => when.startsWith(month)))
+    ) || months[months.length - 1] || '';
+  }
+}
+
+function drawStock() {
+  if (stockText === null) {
+    if (!$('cals').childElementCount) $('cals').replaceChildren(h('p', { class: 'soft' }, 'Looking at the stock …'));
+    return;
+  }
+  if (!stock.size) {
+    $('filters').replaceChildren();
+    delete $('filters').dataset.key;
+    $('cals').replaceChildren(
+      h(
+        'p', {},
+        'The desk has no places yet. They come with the allotment files of suppliers, which whoever runs the desk loads.'
+      )
+    );
+    return;
+  }
+  settleFilter();
+  drawFilters();
+  const shown = [...stock.values()].filter(
+    one => (!filter.kind || one.kind === filter.kind) && (!filter.supplier || one.supplier === filter.supplier)
+      && (!filter.product || one.product === filter.product)
+  );
+  const inMonth = shown.map(
+    one => ({ one, nights: [...one.nights].filter(([when]) => when.startsWith(filter.month)) })
+  ).filter(({ nights }) => nights.length);
+  const old = new Map([...$('cals').children].map(card => [card.dataset.key, card]));
+  const cards = inMonth.map(({ one, nights }) => {
+    const key = productOf(one) + filter.month + JSON.stringify(nights);
+    return old.get(key) || calendar(one, nights, key);
+  });
+  const others = shown.length - inMonth.length;
+  if (others) cards.push(
+    h(
+      'p', { class: 'soft', 'data-key': 'others' + others },
+      `${count(others, inMonth.length ? 'other product' : 'product')} ${others === 1 ? 'has' : 'have'} no night in ${monthText(filter.month)}.`
+    )
+  );
+  const now = [...$('cals').children];
+  if (cards.length !== now.length || cards.some((card, n) => card !== now[n])) {
+    const at = document.activeElement, f = $('cals').contains(at) && at.dataset.f;
+    if (cards.length === now.length) cards.forEach((card, n) => card !== now[n] && now[n].replaceWith(card));
+    else $('cals').replaceChildren(...cards);
+    const again = f && $('cals').querySelector(`[data-f="${f}"]`);
+    if (again && again !== document.activeElement) focusNight(again);
+  }
+  paintChosen();
+}
+
+// calendar(one, nights, key): a product's nights of the month, Monday first
+function calendar(one, nights, key) {
+  const month = filter.month, title = 'cal ' + productOf(one), id = title.replace(/ /g, '-');
+  const known = new Map(nights), first = month + '-01', gap = (new Date(first).getUTCDay() + 6) % 7;
+  const days = new Date(Date.UTC(month.slice(0, 4), month.slice(5), 0)).getUTCDate();
+  const free = nights.reduce((sum, [, cell]) => sum + cell.free, 0);
+  const rows = [];
+  for (let at = -gap; at < days; at += 7) {
+    rows.push(h('tr', {}, [0, 1, 2, 3, 4, 5, 6].map(n => {
+      const day = at + n + 1;
+      if (day < 1 || day > days) return h('td', {});
+      const when = `${month}-${String(day).padStart(2, '0')}`, cell = known.get(when);
+      return cell
+        ? h('td', { 'aria-selected': 'false' }, nightButton(one, when, cell, when === nights[0][0]))
+        : h('td', { class: 'none' }, day);
+    })));
+  }
+  return h('article', { class: 'card cal', 'data-key': key, 'aria-labelledby': id },
+    h('div', { class: 'top' }, h('h3', { id }, product(one)), h('span', { class: 'soft small' }, `${count(free, 'place')} free`)),
+    h('table', { role: 'grid', 'aria-labelledby': id, 'aria-multiselectable': 'true' },
+      h('thead', {}, h('tr', {}, DAYS.map(day => h('th', { scope: 'col', abbr: day }, day.slice(0, 2))))),
+      h('tbody', {}, rows)));
+}
+
+function nightButton(one, when, cell, isFirst) {
+  const part = partOf(cell), isFull = !cell.free;
+  const fill = h('i', {});
+  fill.style.setProperty('--part', part + '%');
+  return h('button', {
+    type: 'button', class: 'night' + (isFull ? ' isfull' : ''), tabindex: isFirst ? 0 : -1,
+    'data-night': when, 'data-of': productOf(one),
+    'data-f': `${productOf(one)} ${when}`, 'aria-label': `${long(when)}, ${cell.free} of ${cell.allot} free, ${part} % taken`,
+  }, fill, h('span', { class: 'day' }, +when.slice(8)), h('span', { class: 'free' }, places2(cell.free)), h('span', { class: 'of' }, 'of ' + places2(cell.allot)));
+}
+
+function focusNight(button) {
+  for (const other of button.closest('table').querySelectorAll('.night[tabindex="0"]')) other.tabIndex = -1;
+  button.tabIndex = 0;
+  button.focus();
+}
+
+$('cals').addEventListener('focusin', event => {
+  const at = event.target.closest('.night');
+  if (at && at.tabIndex !== 0) focusNight(at);
+});
+$('cals').addEventListener('click', event => {
+  const at = event.target.closest('.night');
+  if (at) choose(at, event.shiftKey, event.detail === 0);
+});
+$('cals').addEventListener('keydown', event => {
+  const at = event.target.closest('.night');
+  if (!at) return;
+  const all = [...at.closest('table').querySelectorAll('.night')], when = at.dataset.night;
+  const near = by => by < 0
+    ? all.filter(one => one.dataset.night <= plus(when, by)).pop() : all.find(one => one.dataset.night >= plus(when, by));
+  const to = {
+    ArrowLeft: () => near(-1), ArrowRight: () => near(1), ArrowUp: () => near(-7), ArrowDown: () => near(7),
+    Home: () => all[0], End: () => all[all.length - 1]
+  }[event.key];
+  if (to) {
+    event.preventDefault();
+    const next = to();
+    if (!next) return;
+    focusNight(next);
+    if (event.shiftKey) {
+      if (!chosen || productOf(chosen) !== at.dataset.of) choose(at, false, false);
+      choose(next, true, false);
+    }
+  } else if (event.key === 'PageUp' || event.key === 'PageDown') {
+    event.preventDefault();
+    const month = months[months.indexOf(filter.month) + (event.key === 'PageUp' ? -1 : 1)];
+    if (!month) return;
+    setFilter({ month });
+    const same = [...$('cals').querySelectorAll(`.night[data-of="${at.dataset.of}"]`)];
+    if (same.length) focusNight(same.find(one => one.dataset.night.slice(8) >= when.slice(8)) || same[same.length - 1]);
+    else $('filters').querySelector('[data-f="month"]').focus();
+  } else if (event.key === 'Escape' && chosen) {
+    event.preventDefault();
+    unchoose();
+  }
+});
+
+// choose(night): begins a choice, or makes the one that there is longer
+function choose(at, isLonger, byKey) {
+  const [kind, supplier, product] = at.dataset.of.split(' '), when = at.dataset.night;
+  const same = chosen && productOf(chosen) === at.dataset.of;
+  const nights = same ? Math.round((Date.parse(when) - Date.parse(chosen.first)) / 864e5) + 1 : 0;
+  // a key in what is chosen leaves it as it is
+  const isIn = byKey && nights >= 1 && nights <= chosen.nights && chosen.nights > 1;
+  const isOn = same && nights >= 1 && nights <= MOST[kind] && (isLonger || (nights > 1 && chosen.nights === 1));
+  if (isOn) chosen.nights = nights;
+  else if (!isIn && (!isLonger || !same)) chosen = { count: places, first: when, kind, nights: 1, product, supplier };
+  paintChosen();
+  drawBar();
+  if (byKey) $('bar').querySelector('[data-f="bar.step"]').focus();
+}
+function unchoose() {
+  const back = chosen && $('cals').querySelector(`[data-f="${productOf(chosen)} ${chosen.first}"]`);
+  const had = $('bar').contains(document.activeElement);
+  chosen = null;
+  into = 0;
+  paintChosen();
+  drawBar();
+  if (had) if (back && back.offsetParent) focusNight(back); else $('title').focus();
+}
+function paintChosen() {
+  const is = at => chosen && at.dataset.of === productOf(chosen) && at.dataset.night >= chosen.first && at.dataset.night <= plus(
+    chosen.first, chosen.nights - 1
+  );
+  for (const at of $('cals').querySelectorAll('.night')) {
+    const now = String(Boolean(is(at)));
+    if (at.parentNode.getAttribute('aria-selected') !== now) at.parentNode.setAttribute('aria-selected', now);
+  }
+}
+
+// the bar: what is chosen, and where it goes
+function drawBar() {
+  const bar = $('bar'), is = chosen && (view === 'stock' || view === 'plan');
+  bar.hidden = !is;
+  document.body.classList.toggle('chosen', Boolean(is));
+  if (!is) { bar.replaceChildren(); delete bar.dataset.key; return; }
+  const key = JSON.stringify([chosen, draft.steps.map(step => step.options.length), fits(chosen)]);
+  if (bar.dataset.key === key) return;
+  bar.dataset.key = key;
+  const most = MOST[chosen.kind], steps = draft.steps.length;
+  const set = name => value => {
+    chosen[name] = value;
+    places = chosen.count;
+    paintChosen();
+    drawBar();
+  };
+  if (!(into >= 1 && into <= steps)) into = steps;
+  paint(bar, h('h2', { id: 'h-bar' }, 'Chosen: ', product(chosen), `, ${spanOf(chosen)}`),
+    h('div', { class: 'row' },
+      most > 1 && wholeField('Nights', 'bar.nights', 1, most, chosen.nights, set('nights')),
+      wholeField('Places', 'bar.count', 1, 50, chosen.count, set('count')),
+      fitText(chosen),
+      steps < 24 && button(`Add as step ${steps + 1}`, 'bar.step', () => addStep(), { class: 'main' }),
+      steps > 0 && h('span', { class: 'row' },
+        button('Add as an option of', 'bar.option', () => addOption(into),
+          { 'aria-label': 'Add as an option of the step that is named next' }),
+        h('select', {
+          'aria-label': 'The step that gets the option', 'data-f': 'bar.into',
+          onchange: event => { into = +event.target.value; },
+        }, draft.steps.map((step, n) => h('option', { value: n + 1, selected: n + 1 === into }, `step ${n + 1}`)))),
+      button('Drop', 'bar.drop', unchoose, { class: 'flat', 'aria-label': 'Drop the choice' })));
+}
+$('bar').addEventListener('keydown', event => { if (event.key === 'Escape') { event.preventDefault(); unchoose(); } });
+
+function addStep() {
+  const text = wantText(chosen);
+  draft.steps.push({ options: [chosen], save: false });
+  say('good', `Step ${draft.steps.length} of the new journey: ${text}.`, 4000);
+  added();
+}
+function addOption(into) {
+  const step = draft.steps[into - 1];
+  if (step.options.length > 7) { say('bad', 'A step has at most 8 options.'); return; }
+  step.options.push(chosen);
+  say('good', `Option ${step.options.length} of step ${into}: ${wantText(chosen)}.`, 4000);
+  added();
+}
+function added() {
+  setDraft(draft);
+  const want = chosen;
+  chosen = { ...want };
+  unchoose();
+  draw();
+}
+
+// ---- the journey that is put together
+
+const bodyOf = plan => JSON.stringify(plan);
+function setDraft(next) {
+  draft = next;
+  badStep = 0;
+  if (draft.steps.length) draft.steps[draft.steps.length - 1].save = false;
+  keep(local, 'draft.' + agent, draft);
+  drawPlan();
+}
+const moved = (list, from, to) => { const all = [...list], [one] = all.splice(from, 1); all.splice(to, 0, one); return all; };
+
+function drawPlan() {
+  const isSent = waiting().some(one => one.about === 'new' && one.agent === agent);
+  const key = JSON.stringify([draft, isSent, badStep, stockText && stockText.length])
+    + draft.steps.map(step => step.options.map(want => fits(want).why)).join();
+  $('steps-in-plan').textContent = draft.steps.length ? ` (${draft.steps.length})` : '';
+  if ($('plan').dataset.key === key) return;
+  $('plan').dataset.key = key;
+  const steps = draft.steps, hasSave = steps.some(step => step.save);
+  if (!steps.length) {
+    paint($('plan'),
+      h('p', {}, 'Choose a night in the stock, then ', h('b', {}, 'Add as step 1'), '.'),
+      h('p', { class: 'soft' }, 'Each step takes places in one go. A step may have more options, of which the first is tried first, '
+        + 'and a save-point after it, to which the journey can come back.'),
+      lineInput());
+    return;
+  }
+  const clear = async () => {
+    const text = `Its ${count(steps.length, 'step')} will be dropped here. Nothing was sent to the desk.`;
+    if (!await sure('Clear the new journey?', text, 'Clear it')) return;
+    setDraft({ steps: [], tries: 0 });
+    $('title').focus();
+  };
+  paint($('plan'),
+    h('ol', { class: 'steps' }, steps.map((step, at) => [stepItem(step, at), saveItem(step, at)])),
+    wholeField('Tries', 'tries', 0, 9, draft.tries, tries => setDraft({ ...draft, tries }), { 'aria-describedby': 'tries-say' }),
+    h('p', { class: 'hint', id: 'tries-say' }, triesText(hasSave)),
+    lineInput(),
+    h('div', { class: 'row' },
+      button(isSent ? 'Sending …' : 'Begin the journey', 'begin',
+        () => isSent || send('/journeys', bodyOf(draft), 'Begin a journey', 'new'),
+        { class: 'main', 'aria-disabled': isSent && 'true' }),
+      button('Clear', 'clear', clear, { 'aria-label': 'Clear the new journey' })));
+}
+
+// saveItem(step, at): what stands between a step and the next one
+function saveItem(step, at) {
+  if (at === draft.steps.length - 1) return h('li', { class: 'last', role: 'presentation' });
+  const onchange = event => { step.save = event.target.checked; setDraft(draft); };
+  return h('li', { class: 'save' + (step.save ? ' on' : '') }, h('label', {},
+    h('input', { type: 'checkbox', checked: step.save, 'data-f': `save.${at}`, onchange }), `Save-point after step ${at + 1}`));
+}
+function triesText(hasSave) {
+  const { tries } = draft;
+  if (!tries) return 'A step that finds no place leads the journey back to its start.';
+  if (!hasSave) return 'There is no save-point, so a step that finds no place leads back to the start, whatever the tries.';
+  const those = tries === 1 ? 'The first step that finds no place leads' : `The first ${tries} steps that find no place lead`;
+  return `${those} back to the last save-point, from which the next option is tried; the one after that leads back to the start.`;
+}
+
+function lineInput() {
+  const text = draft.steps.length ? planLine(draft) : '';
+  const onchange = event => {
+    const typed = event.target.value.trim();
+    if (typed === text) return;
+    try { setDraft(typed ? readLine(typed) : { steps: [], tries: 0 }); } catch (why) {
+      if (typeof why !== 'string') throw why;
+      say('bad', why);
+      event.target.setAttribute('aria-invalid', 'true');
+    }
+  };
+  return h('div', {},
+    h('p', { class: 'hint' }, h('label', { for: 'line' }, 'As a plan line (it can be changed here, or pasted)')),
+    h('div', { class: 'row' }, h('input', {
+      id: 'line', class: 'code', value: text, 'data-f': 'line', spellcheck: 'false', autocomplete: 'off',
+      autocapitalize: 'characters', onchange,
+    })), h('p', {}));
+}
+
+function stepItem(step, at) {
+  const steps = draft.steps, name = `step ${at + 1}`;
+  const before = steps.slice(0, at).some(one => one.save);
+  const sign = (text, f, word, is, act) => button(
+    text, `${f}.${at}`, () => is && act(), { class: 'flat sign', 'aria-label': word, 'aria-disabled': !is && 'true' }
+  );
+  const order = to => {
+    const last = steps.length - 1;
+    setDraft({ ...draft, steps: moved(steps, at, to).map((one, n) => n === last ? { ...one, save: false } : one) });
+  };
+  return h('li', { class: 'step' + (badStep === at + 1 ? ' isbad' : '') },
+    h('div', { class: 'top' }, h('h3', {}, `Step ${at + 1}`),
+      sign('↑', 'up', `Move ${name} up`, at > 0, () => order(at - 1)),
+      sign('↓', 'down', `Move ${name} down`, at < steps.length - 1, () => order(at + 1)),
+      sign('✕', 'remove', `Remove ${name}`, true, () => setDraft({ ...draft, steps: steps.filter((one, n) => n !== at) }))),
+    badStep === at + 1 && h('p', { class: 'bad' }, 'The desk refused this step. The message says why.'),
+    h('ul', { class: 'options' }, step.options.map((want, n) => optionItem(step, at, want, n))),
+    step.options.length > 1 && !before && h(
+      'p', { class: 'hint' },
+      'Without a save-point before this step, its further options are not tried: a refusal leads to the start.'
+    ));
+}
+
+function optionItem(step, at, want, n) {
+  const name = `option ${n + 1} of step ${at + 1}`, many = step.options.length > 1, f = `${at}.${n}`;
+  const set = (key, value) => { want[key] = value; setDraft(draft); };
+  const most = MOST[want.kind], small = word => ({ class: 'flat sign', 'aria-label': word });
+  const prefer = () => { step.options = moved(step.options, n, n - 1); setDraft(draft); };
+  const remove = () => { step.options.splice(n, 1); setDraft(draft); };
+  const labelled = word => ({ 'aria-label': `${word} of ${name}` });
+  return h('li', {},
+    h('div', { class: 'row' },
+      many && h('span', { class: 'soft' }, `${n + 1}.`),
+      h('span', { class: 'what' }, product(want), `, ${spanOf(want)}`),
+      many && n > 0 && button('↑', 'prefer.' + f, prefer, small(`Prefer ${name} to the one before`)),
+      many && button('✕', 'drop.' + f, remove, small(`Remove ${name}`))),
+    h('div', { class: 'row' },
+      h('label', {}, 'First', h('input', {
+        type: 'date', min: FIRST, max: LAST, value: want.first, 'data-f': 'first.' + f, ...labelled('First night'),
+        onchange: event => isNight(event.target.value) ? set('first', event.target.value) : drawPlanAgain(),
+      })),
+      most > 1 && wholeField('Nights', 'nights.' + f, 1, most, want.nights, nights => set('nights', nights), labelled('Nights')),
+      wholeField('Places', 'count.' + f, 1, 50, want.count, places => set('count', places), labelled('Places'))),
+    h('div', { class: 'small' }, fitText(want)));
+}
+
+function drawPlanAgain() { delete $('plan').dataset.key; drawPlan(); }
+
+// ---- own journeys
+
+const STATES = { run: 'under way', back: 'going back', ended: 'ended', undone: 'undone' };
+function stateText(one) {
+  const plan = plans.get(one.journey), of = plan ? ` of ${plan.steps.length}` : '';
+  if (one.state === 'run') return `under way, at ${one.pos}${of}`;
+  return one.state === 'back' ? `going back, ${one.pos} to ${one.target}` : STATES[one.state];
+}
+const stateMark = one => h('span', { class: 'is ' + one.state }, stateText(one));
+function planText(plan) {
+  return plan.steps.map(
+    ({ options: [want, ...more] }) => `${want.kind} ${want.product}${more.length ? ` or ${count(more.length, 'other')}` : ''}`
+  ).join(', ') + ` · ${short(plan.steps[0].options[0].first)}`;
+}
+
+function drawList() {
+  const all = [...own.values()].sort((a, b) => b.journey - a.journey);
+  const open = all.filter(isOpen).length;
+  $('open-ones').textContent = open ? ` (${open})` : '';
+  if (view !== 'list' && view !== 'journey') return;
+  const sum = state => all.filter(one => one.state === state).length;
+  const text = sought.text.trim().toLowerCase();
+  const isText = one => !text || String(one.journey).startsWith(text)
+    || (plans.get(one.journey) && planText(plans.get(one.journey)).toLowerCase().includes(text));
+  const isState = one => !sought.state || (sought.state === 'open' ? isOpen(one) : one.state === sought.state);
+  const some = all.filter(one => isState(one) && isText(one));
+  const rows = some.slice(0, sought.rows);
+  const key = JSON.stringify(
+    [complete, all.length, open, sought, some.length, view, number, rows.map(one => [one, plans.has(one.journey)])]
+  );
+  if ($('list').dataset.key === key) return;
+  $('list').dataset.key = key;
+  if (!all.length) {
+    paint($('list'),
+      h('p', {}, complete ? 'You have no journey yet. Put one together from the stock.' : 'Looking at your journeys …'),
+      complete && h('p', {}, h('a', { href: '#/stock' }, 'To the stock')));
+    return;
+  }
+  const seek = change => { sought = { ...sought, rows: ROWS, ...change }; drawList(); };
+  const states = [['', `all (${all.length})`], ['open', `not finished (${open})`],
+    ...Object.keys(STATES).map(state => [state, `${STATES[state]} (${sum(state)})`])];
+  paint($('list'),
+    h('div', { class: 'tools', role: 'group', 'aria-label': 'Which journeys are shown' },
+      h('label', {}, 'State', h('select', { 'data-f': 'list.state', onchange: event => seek({ state: event.target.value }) },
+        states.map(([value, word]) => h('option', { value, selected: value === sought.state }, word)))),
+      h('label', {}, 'Number or product', h('input', {
+        type: 'search', value: sought.text, size: 14, 'data-f': 'list.text', oninput: event => seek({ text: event.target.value }),
+      }))),
+    !some.length ? h('p', {}, 'No journey is like that.') : h('table', { class: 'list', 'aria-labelledby': 'h-list' },
+      h('thead', {}, h('tr', {}, h('th', { scope: 'col' }, 'Journey'), h('th', { scope: 'col' }, 'State and plan'))),
+      h('tbody', {}, rows.map(listRow))),
+    some.length > rows.length && button(`Show ${Math.min(ROWS, some.length - rows.length)} more of ${some.length}`, 'more',
+      () => seek({ rows: sought.rows + ROWS })));
+  fillPlans(text && !/^\d+$/.test(text) ? all : rows);
+}
+
+function listRow(one) {
+  const isShown = view === 'journey' && one.journey === number, plan = plans.get(one.journey);
+  return h('tr', { class: isShown && 'now' },
+    h('td', {}, h('a', {
+      href: '#/journeys/' + one.journey, 'data-f': 'to.' + one.journey, 'aria-label': `Journey ${one.journey}`,
+      'aria-current': isShown && 'page',
+    }, one.journey)),
+    h('td', {}, stateMark(one), plan && h('div', { class: 'small soft' }, planText(plan))));
+}
+
+// fillPlans(rows): asks for the plans of those that are listed, one after another
+let filling = false;
+async function fillPlans(rows) {
+  if (filling) return;
+  filling = true;
+  const mine = turn;
+  let asked = 0, more = false;
+  try {
+    for (const one of rows) {
+      if (plans.has(one.journey) || document.hidden) continue;
+      if (mine !== turn || (view !== 'list' && view !== 'journey')) break;
+      const plan = await get(`/journeys/${one.journey}/plan`);
+      if (mine === turn) plans.set(one.journey, plan);
+      if (++asked === ROWS) { more = true; break; }
+    }
+  } catch { /* the news say that the desk is not reached */ }
+  filling = false;
+  if (asked || more) drawList();
+}
+
+// ---- one journey
+
+// walk(history, plan): each item with where it led from and to; what stands; the save-points; how often it was refused
+function walk(history, plan) {
+  const steps = [], stands = [], marks = new Set();
+  let pos = 0, used = 0;
+  history.forEach((item, at) => {
+    const [, letter, first, second] = /^([TCBS])(\d+)\.?(\w*)$/.exec(item), a = +first, from = pos;
+    const one = { item, letter, a, b: second, from, to: from };
+    if (letter === 'T') {
+      one.to = pos = a;
+      stands.push(one);
+      one.want = plan.steps[a - 1].options[second - 1];
+      one.stands = true;
+    }
+    if (letter === 'C') {
+      const last = stands.pop();
+      if (last) last.stands = false;
+      marks.delete(a);
+      one.to = pos = a - 1;
+      one.want = plan.steps[a - 1].options[second - 1];
+    }
+    if (letter === 'S') marks.add(a);
+    if (letter === 'B' && second === 'r') { one.want = plan.steps[from] && optionAt(plan, from + 1, used); used++; }
+    steps.push(one);
+  });
+  for (let p = 1; p <= pos; p++) if (plan.steps[p - 1].save) marks.add(p);
+  return { steps, stands, pos, used, saves: [...marks].sort((a, b) => a - b) };
+}
+const optionAt = (plan, step, used) => {
+  const { options } = plan.steps[step - 1];
+  return options[Math.min(used, options.length - 1)];
+};
+
+const BACK = { s: 'the desk was started anew', r: 'no place was found', a: 'as asked' };
+function itemText(one) {
+  const want = one.want ? ` (${wantText(one.want)})` : '', to = one.a ? `save-point ${one.a}` : 'the start';
+  if (one.letter === 'T') return `step ${one.a} done${one.b > 1 ? ` with option ${one.b}` : ''}${want}${one.stands ? '' : ', undone later'}`;
+  if (one.letter === 'C') return `step ${one.a} given back${want}`;
+  if (one.letter === 'S') return `save-point taken at ${one.a}`;
+  return `turned back to ${to}: ${one.b === 'r' ? `no place was found for step ${one.from + 1}${want}` : BACK[one.b]}`;
+}
+
+function drawOne() {
+  if (view !== 'journey') { if (view === 'list') drawNone(); return; }
+  const plan = plans.get(number), { history, where: one } = histories.get(number) || {};
+  const sending = waiting().filter(request => request.about === number && request.agent === agent);
+  const key = JSON.stringify(
+    [number, one, history, plan && 1, plan === null, sending.map(request => request.key), settling.has(number)]
+  ) + (plan && one && isOpen(one) && plan.steps.map(step => step.options.map(want => fits(want).why)).join());
+  if ($('one').dataset.key === key) return;
+  $('one').dataset.key = key;
+  $('h-one').textContent = `Journey ${number}`;
+  if (plan === null) {
+    paint($('one'), h('p', {}, `${agent} has no journey ${number}.`), h('p', {}, h('a', { href: '#/journeys' }, 'To my journeys')));
+    return;
+  }
+  if (!one || !plan || !history) { paint($('one'), h('p', { class: 'soft' }, 'Looking at the journey …')); return; }
+  const way = walk(history, plan), drawn = `${number} ${history.length}`, stand = way.stands.length;
+  const saves = way.saves.length ? `; save-points: ${way.saves.join(', ')}` : '';
+  const steps = `${stand} of ${count(plan.steps.length, 'step')} ${stand === 1 ? 'stands' : 'stand'}${saves}`;
+  paint($('one'),
+    h('p', {}, stateMark(one), ' ', h('span', { class: 'soft' }, steps)),
+    actions(one, plan, way, sending),
+    h('div', {
+      class: 'path drawn', tabindex: 0, role: 'region', 'data-scroll': true, 'data-f': 'path',
+      'aria-label': `Path of journey ${number}, can be scrolled sideways`,
+    }, pathPicture(one, plan, way)),
+    signs(),
+    h('h3', {}, 'Plan'),
+    h('ol', { class: 'planned' }, plan.steps.map((step, at) => planned(step, at, one, plan, way))),
+    h('p', { class: 'small' }, `Tries: ${plan.tries}, refused so far: ${way.used}. `, h('span', { class: 'code' }, planLine(plan))),
+    h('p', {}, button('Use as a new journey', 'again', () => useAgain(plan))),
+    h('h3', {}, 'What happened'),
+    history.length
+      ? h('ol', { class: 'items' }, way.steps.map(step => h('li', {}, h('span', { class: 'code' }, step.item), ' ', itemText(step))))
+      : h('p', { class: 'soft' }, 'Nothing yet.'));
+  // what is newest is seen
+  if ($('one').dataset.drawn !== drawn) { $('one').dataset.drawn = drawn; $('one').querySelector('.path').scrollLeft = 1e5; }
+}
+function drawNone() {
+  if ($('one').dataset.key === 'none') return;
+  $('one').dataset.key = 'none';
+  $('h-one').textContent = 'One journey';
+  paint(
+    $('one'),
+    h('p', { class: 'soft' }, 'Choose a journey from the list: its path, its plan and what may be done now are shown here.')
+  );
+}
+async function useAgain(plan) {
+  if (
+    draft.steps.length && !await sure(
+      'Replace the new journey?', `The ${count(draft.steps.length, 'step')} that you have put together will be dropped.`,
+      'Replace them'
+    )
+  ) return;
+  setDraft(JSON.parse(JSON.stringify(plan)));
+  location.hash = '#/plan';
+}
+
+// actions: what may be done now, and nothing else
+function actions(one, plan, way, sending) {
+  if (!isOpen(one)) return h('p', { class: 'acts soft', tabindex: -1, 'data-rest': true }, one.state === 'ended'
+    ? 'The journey has ended: all its places stay taken, and it cannot be changed any more.'
+    : 'The journey is undone: it holds nothing, and cannot be changed any more.');
+  const id = number, wait = sending.length > 0 || settling.has(id), drawnAt = performance.now();
+  const off = { 'aria-disabled': wait && 'true' }, next = way.pos + 1, isBack = one.state === 'back';
+  // the second click of two quick ones was not meant for what stands here since the first
+  const isQuick = event => event && event.detail > 1 && performance.now() - drawnAt < 400;
+  const act = (path, what) => event => wait || isQuick(event) || send(`/journeys/${id}/${path}`, '', what, id);
+  const turnBack = (p, to) => async () => {
+    if (wait) return;
+    const is = await sure(`Turn journey ${id} back to ${to}?`, turnText(p, way.pos - p), `Turn back to ${to}`);
+    if (is) act('abort/' + p, `Turn journey ${id} back to ${to}`)();
+  };
+  const canSave = !isBack && way.pos > 0 && !way.saves.includes(way.pos);
+  const turns = [0, ...way.saves].filter(p => !isBack || p < one.target).sort((a, b) => b - a);
+  return h('div', { class: 'acts' },
+    h('div', { class: 'row', role: 'group', 'aria-label': 'What may be done now' },
+      isBack ? button(`Give back step ${way.pos}`, 'step', act('step', `Give back step ${way.pos} of journey ${id}`), { class: 'main', ...off })
+        : button(`Do step ${next}`, 'step', act('step', `Step ${next} of journey ${id}`), { class: 'main', ...off }),
+      canSave && button(`Take save-point ${way.pos}`, 'mark', act('save', `Save-point ${way.pos} of journey ${id}`), off),
+      turns.map(p => [p, p ? `save-point ${p}` : 'the start'])
+        .map(([p, to]) => button(`Turn back to ${to}`, 'turn.' + p, turnBack(p, to), off)),
+      wait && h('span', { class: 'soft', role: 'status' }, 'Sending …')),
+    isBack ? backText(one.target) : nextText(next, optionAt(plan, next, way.used)));
+}
+const nextText = (next, want) => h('p', {}, `Step ${next} will take ${wantText(want)}. `, fitText(want), '.');
+const backText = target => h('p', { class: 'warn' },
+  `The journey goes back to ${target ? `save-point ${target}` : 'its start'}. Its places are held until each step is given back.`);
+// turnText(p, many): what comes of a turn to p, below which so many steps stand
+function turnText(p, many) {
+  const given = `${count(many, 'step')} will then be given back${many > 1 ? ', one at a time' : ''}`;
+  if (!p) return `${many ? `${given}, and` : 'It has done nothing yet, and'} the journey will be undone. It cannot be begun again.`;
+  return many ? `${given}. From there it goes forward again.` : 'The journey is there. Nothing is given back.';
+}
+
+function planned(step, at, one, plan, way) {
+  const done = way.stands[at], isNext = one.state === 'run' && at === way.pos, next = isNext && optionAt(plan, at + 1, way.used);
+  const was = !done && way.steps.some(item => item.letter === 'T' && item.a === at + 1);
+  const word = done ? 'stands' : isNext ? 'comes next' : was ? 'undone' : one.state === 'undone' ? 'not done' : 'to come';
+  return h('li', { class: done ? 'isdone' : isNext ? 'isnext' : '' }, h('b', {}, `Step ${at + 1}`), ` ${word}`, way.saves.includes(at + 1) ? ', save-point after it' : step.save && ', a save-point once it is done',
+    h(
+      'ul', {},
+      step.options.map(
+        (want, n) => h(
+          'li', {}, product(want), `, ${spanOf(want)}, ${count(want.count, 'place')}`,
+          done && +done.b === n + 1
+            ? h('b', { class: 'good' }, ' – taken')
+            : next === want && step.options.length > 1 && h('b', {}, ' – tried next')
+        )
+      )
+    ));
+}
+
+const SIGNS = [
+  ['stands', 'done, and stands'], ['gone', 'done, and undone later'], ['down', 'given back'],
+  ['turning', 'turned back'], ['safe', 'save-point'], ['ahead', 'to come']
+];
+const signs = () => h(
+  'ul', { class: 'signs drawn', 'aria-hidden': 'true' },
+  SIGNS.map(
+    ([name, text]) => h('li', {}, s('svg', { width: 30, height: 10 }, s('path', { class: name, d: 'M3 5H27' })), text)
+  )
+);
+
+// pathPicture: the journey over its steps, up and down between save-points
+function pathPicture(one, plan, way) {
+  const n = plan.steps.length, room = $('one').clientWidth, left = room < 500 ? 104 : 148, high = n > 12 ? 30 : 46, top = 26;
+  const steps = way.steps, at = steps.length;
+  const goal = one.state === 'run' ? n : one.state === 'back' ? one.target : way.pos, rest = Math.abs(goal - way.pos);
+  const wide = Math.max(58, Math.min(84, (room - left - 70) / (at + rest / 2)));
+  const y = p => top + (n - p) * high, x = at => left + 16 + at * wide;
+  const width = Math.max(room - 2, x(at) + rest * wide / 2 + 52), height = y(0) + 74;
+  const kids = [];
+  const line = (name, d) => kids.push(s('path', { class: name, d }));
+  const text = (px, py, words, props) => kids.push(s('text', { x: px, y: py, ...props }, words));
+  for (let p = 0; p <= n; p++) {
+    const isSafe = way.saves.includes(p) || (p && plan.steps[p - 1].save);
+    line(isSafe ? 'safe' : 'level', `M${left} ${y(p)}H${width - 8}`);
+    const taken = p && way.stands[p - 1], want = p && (taken ? taken.want : plan.steps[p - 1].options[0]);
+    text(left - 10, y(p) + 4, p, { 'text-anchor': 'end', class: 'code' });
+    text(
+      8, y(p) + 4,
+      p
+        ? left < 148
+        ? `${LETTER[want.kind]} ${want.product}` : `${LETTER[want.kind]} ${want.supplier} ${want.product}`.slice(0, 17)
+        : 'start',
+      { class: taken ? '' : 'dim' }
+    );
+    if (isSafe) kids.push(s('path', { class: 'flag', d: `M${left - 4} ${y(p) + 5}v-13l9 3.5l-9 3.5` }));
+  }
+  steps.forEach((step, k) => {
+    const x0 = x(k), x1 = x(k + 1), mid = (x0 + x1) / 2, y0 = y(step.from), y1 = y(step.to);
+    if (step.letter === 'T') line(step.stands ? 'stands' : 'gone', `M${x0} ${y0}L${x1} ${y1}`);
+    if (step.letter === 'C') line('down', `M${x0} ${y0}L${x1} ${y1}`);
+    if (step.letter === 'B' || step.letter === 'S') line('stay', `M${x0} ${y0}L${x1} ${y0}`);
+    if (step.letter === 'B') {
+      if (step.a < step.from) {
+        line('turning', `M${mid} ${y0}V${y(step.a) - 9}`);
+        kids.push(s('path', { class: 'turned', d: `M${mid} ${y(step.a) - 1}l-5 -9h10` }));
+      }
+      kids.push(s('circle', { class: 'turned', cx: mid, cy: y0, r: 5 }));
+    }
+    if (step.letter === 'S') kids.push(s('path', { class: 'flag', d: `M${mid - 2} ${y0}v-17l11 4.5l-11 4.5` }));
+    text(mid, y(0) + 34, step.item, { 'text-anchor': 'middle', class: 'code' });
+    text(
+      mid, y(0) + 51,
+      {
+        T: step.want && step.want.product, C: 'given back', S: 'saved',
+        B: { r: 'no place', s: 'restart', a: 'asked' }[step.b]
+      }[step.letter],
+      { 'text-anchor': 'middle', class: 'dim' }
+    );
+  });
+  if (rest) line('ahead', `M${x(at)} ${y(way.pos)}L${x(at) + rest * wide / 2} ${y(goal)}`);
+  steps.forEach((step, k) => kids.push(s('circle', { class: 'dot', cx: x(k), cy: y(step.from), r: 3 })));
+  kids.push(s('circle', { class: 'here', cx: x(at), cy: y(way.pos), r: 6 }));
+  text(x(at) + 12, y(way.pos) - 10, isOpen(one) ? 'here' : STATES[one.state], { class: 'code' });
+  const told = steps.map(step => `${step.item}: ${itemText(step)}`).join('; ');
+  return s('svg', { width, height, viewBox: `0 0 ${width} ${height}`, role: 'img', 'aria-labelledby': 'path-title path-desc' },
+    s(
+      'title', { id: 'path-title' }, `The path of journey ${number}: ${stateText(one)}`
+    ), s('desc', { id: 'path-desc' }, told || 'Nothing happened yet.'), kids);
+}
+
+// ---- the whole
+
+const TITLES = { stock: 'Stock', plan: 'New journey', list: 'My journeys', who: 'Who works here?' };
+function route(isMoved) {
+  const path = location.hash.slice(2), found = /^journeys\/([1-9]\d{0,11})$/.exec(path), before = view + number;
+  number = found ? +found[1] : 0;
+  view = !agent || path === 'who' ? 'who' : found ? 'journey' : { plan: 'plan', journeys: 'list' }[path] || 'stock';
+  document.body.dataset.view = view;
+  const title = found && agent ? `Journey ${number}` : TITLES[view];
+  document.title = `${title} – Desk`;
+  $('title').textContent = title;
+  $('v-who').hidden = view !== 'who';
+  $('book').hidden = view !== 'stock' && view !== 'plan';
+  $('own').hidden = view !== 'list' && view !== 'journey';
+  $('nav').hidden = $('who').hidden = !agent;
+  $('who').textContent = `Agent ${agent}`;
+  $('who').setAttribute('aria-label', `Agent ${agent}, change`);
+  for (const link of $('nav').children) if (link.dataset.for.split(' ').includes(view)) link.setAttribute(
+    'aria-current', 'page'
+  ); else link.removeAttribute('aria-current');
+  draw();
+  if (view === 'who') drawWho();
+  if (isMoved && before !== view + number) { $('title').focus({ preventScroll: true }); scrollTo(0, 0); look(); }
+}
+function draw() {
+  drawState();
+  if (view === 'stock' || view === 'plan') { drawStock(); drawPlan(); }
+  drawBar();
+  drawList();
+  drawOne();
+  $('steps-in-plan').textContent = draft.steps.length ? ` (${draft.steps.length})` : '';
+}
+
+$('who').addEventListener('click', () => { location.hash = '#/who'; });
+document.querySelector('.skip').addEventListener('click', event => { event.preventDefault(); $('main').focus(); });
+// a key that is held down acts once
+$('one').addEventListener('keydown', event => { if (event.repeat && event.target.closest('.acts')) event.preventDefault(); });
+for (const name of ['change', 'input']) document.addEventListener(
+  name, event => { if (name === 'change' || event.target.type === 'search') event.target.drawn = event.target.value; },
+  true
+);
+addEventListener('hashchange', route);
+document.addEventListener('visibilitychange', () => { if (!document.hidden) { look(); flush(); } });
+let resized = 0;
+addEventListener(
+  'resize', () => { clearTimeout(resized); resized = setTimeout(() => { delete $('one').dataset.key; drawOne(); }, 150); }
+);
+addEventListener('online', () => { look(); flush(); });
+addEventListener('storage', event => {
+  if (event.key === 'desk.draft.' + agent) { draft = kept(local, 'draft.' + agent, draft); drawPlan(); }
+  if (event.key && event.key.startsWith(POST)) draw();
+});
+startAgent();
+route();
+if (view === 'who') $('agent').focus();
+named.then(() => { flush(); look(); });
+})();
+</script>
+</body>
+</html>
+"##;

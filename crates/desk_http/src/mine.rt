@@ -1,0 +1,83 @@
+//! The own journeys of who asks, finished ones too. A view changes nothing.
+ghost use Rattle.std.specs.Prelude.{◌≡◌, IfOk, IsErrOf, IsTrue};
+ghost use Rattle.std.specs.String.{string_bytes};
+ghost use Rattle.serde_json.specs.Written.{compact_text};
+ghost use Rattle.ledger.specs.Answer.{State};
+ghost use Rattle.saga_core.specs.Books.{LeavesNoMore};
+ghost use Rattle.http_pages.specs.Pages.{page_said, value_page};
+ghost use Rattle.desk_http.specs.Answering.{Shows};
+ghost use Rattle.desk_http.specs.Pages.{mine_of, mine_shown};
+
+use crate::doors::Asker;
+use http_pages::{Body, Owners, Page, mine_body, shown_page};
+use protocols::ServeFault;
+use saga_core::{Book, Brief};
+use std::alloc::{AllocError, Global};
+
+/// How many journeys a page shows, at most.
+const MOST_SHOWN: usize = 100;
+
+/// The page of the first hundred of the own journeys of who asks above a number, by rising number.
+pub(crate) fn see_mine<B: Book>(
+    alloc: Global,
+    book: &mut B,
+    asker: &Asker,
+    after: u64,
+) -> Result<Page, ServeFault>
+    ensures page { B.is_sound book.new → (s : State) → B.stands book.old s →
+        Shows (B.stands book.new) (B.leaves book.new) s (λ page.
+        page_said page ≡ value_page (mine_shown asker.now (mine_of s.ledger asker.now after))) result }
+
+    ensures failed { IsErrOf result ServeFault.Store → IsTrue (B.has_failed book.new) }
+    ensures stays_failed { IsTrue (B.has_failed book.old) → IsTrue (B.has_failed book.new) }
+    ensures stays_left { IsTrue (B.has_failed book.old) →
+        LeavesNoMore (B.leaves book.old) (B.leaves book.new) }
+
+    ensures sound { B.is_sound book.new → B.is_sound book.old }
+{
+    let briefs = mine_above(alloc, book, asker, after)?;
+    let body = body_of(alloc, asker, &briefs)?;
+    Ok(shown_page(Body::Json(body)))
+}
+
+/// The body that shows own journeys, to the house each with its agent. The only fault is out of memory.
+fn body_of(alloc: Global, asker: &Asker, briefs: &[Brief]) -> Result<String, AllocError>
+    ensures body { IfOk result
+        (λ body. string_bytes body ≡ compact_text (mine_shown asker.now briefs.now)) }
+{
+    match asker {
+        Asker::Agent(_) => mine_body(alloc, Owners::Hidden, briefs),
+        Asker::House => mine_body(alloc, Owners::Shown, briefs),
+    }
+}
+
+/// The first hundred of the own journeys of who asks above a number, by rising number.
+fn mine_above<B: Book>(
+    alloc: Global,
+    book: &mut B,
+    asker: &Asker,
+    after: u64,
+) -> Result<Vec<Brief>, ServeFault>
+    ensures briefs { B.is_sound book.new → (s : State) → B.stands book.old s →
+        Shows (B.stands book.new) (B.leaves book.new) s
+        (λ briefs. briefs.items ≡ mine_of s.ledger asker.now after) result }
+
+    ensures failed { IsErrOf result ServeFault.Store → IsTrue (B.has_failed book.new) }
+    ensures stays_failed { IsTrue (B.has_failed book.old) → IsTrue (B.has_failed book.new) }
+    ensures stays_left { IsTrue (B.has_failed book.old) →
+        LeavesNoMore (B.leaves book.old) (B.leaves book.new) }
+
+    ensures sound { B.is_sound book.new → B.is_sound book.old }
+{
+    let owner = asker.owner();
+    let mut briefs = Vec::new(alloc);
+    let mut last = after;
+    for _shown in 0..MOST_SHOWN {
+        let Some(brief) = book.first_owned(&owner, last)? else {
+            return Ok(briefs);
+        };
+        last = brief.id;
+        briefs.push(brief)?;
+    }
+    Ok(briefs)
+}

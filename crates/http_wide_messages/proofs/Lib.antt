@@ -1,0 +1,4 @@
+pub mod StartLemmas
+pub mod PlainLemmas
+pub mod FirstLemmas
+pub mod DueLemmas

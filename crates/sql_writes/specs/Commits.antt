@@ -1,0 +1,48 @@
+-- Why an event is not committed, and what is left of the rowids that the store may choose.
+use Rattle.std.specs.Prelude.{◌⊎◌, ◌+◌, ℕ, true, Option, Result, IsErrOf, IsTrue}
+use Rattle.sqlite.specs.Store.{Ghosts}
+use Rattle.sqlite.specs.Held.{Held, state}
+use Rattle.sqlite.specs.State.{HasCleanDisk}
+use Rattle.sqlite.specs.Steps.{FailsToCommit}
+use Rattle.sqlite.specs.declared.error.Error.TheVariants.{SqliteFailure}
+use Rattle.sqlite.specs.declared.error.ErrorCode.TheVariants.{OutOfMemory}
+use Rattle.commands.specs.declared.faults.Fault.{Fault}
+use Rattle.commands.specs.declared.faults.Fault.TheVariants.{Store}
+use Rattle.desk_sql.specs.Calls.{Makes}
+use Rattle.desk_sql.specs.Causes.{IsUp, HasFaulted}
+use Rattle.desk_sql.specs.Rows.{Tables}
+use Rattle.desk_sql.specs.Writable.{HasRowids}
+use Rattle.ledger.specs.Answer.{State}
+use Rattle.sql_model.specs.Keeping.{Keeps}
+use Rattle.sql_model.specs.Standing.{StandsFor}
+use Rattle.sql_writes.specs.declared.events.Numbers.{Numbers}
+use Rattle.sql_writes.specs.declared.events.Keeping.{Keeping}
+use Rattle.sql_writes.specs.declared.events.Event.{Event}
+use Rattle.sql_writes.specs.Kinds.{Fits, event_rows}
+use Rattle.sql_writes.specs.Permits.{PermitsEvent, event_rowids}
+
+module _ {S : Type 0} (g : Ghosts S) (old new : Held S) where
+  -- a transaction that began here wrote these rows, and its commit ran out of memory
+  pub record RanOut (s : State) (after : Tables → Tables) : Type 0 where
+    pub tables : Tables
+    pub stands : StandsFor tables s
+    pub late : Held S
+    pub wrote : Makes (state g (record old { in_transaction = true })) (state g late) (after tables)
+    pub failed : FailsToCommit (state g late) (state g new) (SqliteFailure OutOfMemory)
+
+  -- On a state that is kept, in a store that is up: where the rows permit the event and enough rowids are left, the fault
+  -- `Store` says that the disk failed or refused meanwhile, or that the commit ran out of memory.
+  abbrev pub FailsToCommitFor : Numbers → Event → Option Keeping → {V : Type 0} → Result V Fault → Type 0
+  FailsToCommitFor n e k result =
+      HasCleanDisk (state g new) → (s : State) → Keeps (state g old) s
+      → ((t : Tables) → StandsFor t s → PermitsEvent n e k t)
+      → HasRowids (event_rowids n e k) (state g old).now.trees → IsUp (state g old)
+      → IsErrOf result Store → HasFaulted (state g old) (state g new) ⊎ RanOut s (event_rows n e k)
+
+  -- an event takes at most its rowids, whether it is committed or not
+  abbrev pub LeavesRowids : Numbers → Event → Option Keeping → Type 0
+  LeavesRowids n e k =
+      HasCleanDisk (state g new) → (s : State) → Keeps (state g old) s
+      → ((t : Tables) → StandsFor t s → Fits n e t)
+      → (m : ℕ) → HasRowids (event_rowids n e k + m) (state g old).now.trees
+      → IsTrue (state g new).is_open → HasRowids m (state g new).now.trees

@@ -1,0 +1,59 @@
+-- The unfinished journeys above a number, counted one after another. For `count_unfinished` and `TableBook`.
+use Rattle.std.proofs.Common.{◌≡◌, ℕ, suc, ◌<◌, ◌≤◌, List, [], ◌∷◌, length, cond, refl, ap, sym, ◌∙◌, arith}
+use Rattle.std.proofs.lemmas.Bool.{ltb-true, ltb-false}
+use Rattle.std.specs.Prelude.{Bool, true, false, ◌&&◌, not, nat_lt, Option, Some, None, filter, filter_map, option_map, unwrap_or}
+use Rattle.std.specs.List.{cons_option}
+use Rattle.ledger.specs.History.{is_finished, is_open}
+use Rattle.ledger.specs.Ledger.{Event, numbers}
+use Rattle.saga_core.specs.Views.{brief_of, first_unfinished, is_unfinished_above, unfinished_of}
+use Rattle.saga_core.specs.declared.records.Brief.{Brief}
+use Rattle.saga_core.proofs.BriefLemmas.{briefs_of, rises, first_above, none_found}
+use Rattle.saga_core.proofs.FirstLemmas.{Tells, tells}
+use Rattle.tables.specs.FinishedJourneys.{AreFinishedTo}
+use Rattle.tables.specs.UnfinishedCount.{unfinished_above}
+
+abbrev goes_on : Brief → Bool
+goes_on b = not (is_finished b.cursor.phase)
+
+-- if none is found above a number, none is left to count
+pub none_left : (l : List Event) (last : ℕ) → None ≡ first_unfinished l last → unfinished_above l last ≡ 0
+none_left l last is = ap length (none_found (is_unfinished_above last) (briefs_of l) (sym is))
+
+-- one that is found is counted, and those above it are left
+pub one_counted : (l : List Event) (last : ℕ) (b : Brief) → Some b ≡ first_unfinished l last
+    → unfinished_above l last ≡ suc (unfinished_above l b.id)
+one_counted l last b is = ap length (first_above goes_on 1 last (briefs_of l) b (rises l) (sym is))
+
+-- two tests that agree on the listed journeys let the same ones pass
+filter-same : (f g : Brief → Bool) (h : ℕ → Option Brief) (js : List ℕ)
+    → ((j : ℕ) (b : Brief) → h j ≡ Some b → f b ≡ g b)
+    → filter f (filter_map h js) ≡ filter g (filter_map h js)
+filter-same f g h [] agree = refl
+filter-same f g h (j ∷ js) agree = go (h j) refl (filter-same f g h js agree)
+  where
+    go : (o : Option Brief) → h j ≡ o → filter f (filter_map h js) ≡ filter g (filter_map h js)
+        → filter f (cons_option o (filter_map h js)) ≡ filter g (cons_option o (filter_map h js))
+    go None e rest = rest
+    go (Some b) e rest =
+        ap (λ v. cond v (b ∷ filter f (filter_map h js)) (filter f (filter_map h js))) (agree j b e)
+        ∙ ap (λ more. cond (g b) (b ∷ more) more) rest
+
+-- if all journeys up to a number have finished, the unfinished ones are those above it
+pub all_counted : (l : List Event) (n : ℕ) → AreFinishedTo l n → unfinished_above l n ≡ length (unfinished_of l)
+all_counted l n has =
+    ap length
+    (filter-same (is_unfinished_above n) goes_on (brief_of l) (numbers l)
+    (λ j b is. by_number j b (tells l j b is) (nat_lt n b.id) refl))
+  where
+    both_false : (v w : Bool) → w ≡ false → (v && w) ≡ w
+    both_false true w e = refl
+    both_false false w e = sym e
+
+    by_number : (j : ℕ) (b : Brief) → Tells l j b → (v : Bool) → nat_lt n b.id ≡ v → is_unfinished_above n b ≡ goes_on b
+    by_number j b t true e = ap (λ v. v && goes_on b) e
+    by_number j b t false e =
+        let within = ltb-false n b.id e in
+        let same = t.number in
+        let ended : is_open b.cursor.phase ≡ false =
+        sym (ap (λ o. unwrap_or (option_map is_open o) false) t.phase_is) ∙ has.closed j (omega (arith, within, same)) in
+        both_false (nat_lt n b.id) (goes_on b) ended

@@ -1,0 +1,45 @@
+-- One more journey is counted, or none is left.
+use Rattle.std.proofs.Common.{◌≡◌, ◌+◌, ◌∙◌, sym, ap, suc, arith}
+use Rattle.std.specs.Prelude.{Some, None}
+use Rattle.saga_core.specs.Views.{first_unfinished}
+use Rattle.tables.specs.UnfinishedCount.{unfinished_above}
+use Rattle.tables.proofs.WalkLemmas.{none_left, one_counted}
+use Rattle.tables.proofs.counting.count_unfinished.Goals as goal
+
+-- none was counted
+pub loop-count-init : goal.loop-count-init
+loop-count-init g c = record {
+  outside = c.requires;
+  keeps = λ s keeps. keeps;
+  stop = λ clean db may. may;
+  less = λ clean. clean;
+  so_far = λ clean s desk keeps. omega arith;
+}
+
+-- none is left
+pub returns-in_default-clause-number : goal.returns-in_default-clause-number
+returns-in_default-clause-number g c clean s desk keeps =
+    let at = c.loop-count.invariant in
+    let read = c.read_first_unfinished.ensures in
+    let so_far = at.so_far (read.less clean) s desk keeps in
+    let none : None ≡ first_unfinished s.ledger c.loop-count.last = sym c.in_default.is ∙ c.in_ok-brief.ensures.first clean s desk (at.keeps s keeps) in
+    let left = none_left s.ledger c.loop-count.last none in
+    omega (arith, so_far, left)
+
+-- one more is counted
+pub loop-count-preserved : goal.loop-count-preserved
+loop-count-preserved g c =
+    let at = c.loop-count.invariant in
+    let read = c.read_first_unfinished.ensures in
+    record {
+      outside = read.outside;
+      keeps = λ s keeps. read.same s (at.keeps s keeps);
+      stop = λ clean db may. at.stop (read.less clean) db (read.stop clean db may);
+      less = λ clean. at.less (read.less clean);
+      so_far = λ clean s desk keeps.
+          let so_far = at.so_far (read.less clean) s desk keeps in
+          let next : Some c.in-Some.brief ≡ first_unfinished s.ledger c.loop-count.last =
+          sym c.in-Some.is ∙ c.in_ok-brief.ensures.first clean s desk (at.keeps s keeps) in
+          let one = one_counted s.ledger c.loop-count.last c.in-Some.brief next in
+          omega (arith, so_far, one);
+    }

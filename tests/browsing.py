@@ -1,0 +1,110 @@
+"""A headless Chromium beside another client of one desk. Prints what went wrong, and nothing else."""
+import os
+import signal
+import subprocess
+import time
+
+from selenium import webdriver
+from selenium.webdriver.chrome.service import Service
+
+from driving import DESK, Client, free_port, is_whole, request
+
+STOCK = request("GET", "/stock")
+AT_ONCE = 5  # seconds: the most that anybody waits
+wrong = []
+
+# Asks for the stock so many times at once, and returns each status and body.
+ASKS = """
+const [count, done] = arguments;
+const ask = () => fetch("/stock", {headers: {"Desk-Agent": "ann"}, cache: "no-store"})
+  .then(page => page.text().then(text => page.status + " " + text));
+Promise.all(Array.from({length: count}, ask)).then(done, error => done([String(error)]));
+"""
+
+# Opens a connection ahead, for which nothing is asked.
+AHEAD = """
+const link = document.createElement("link");
+link.rel = "preconnect";
+link.href = location.origin;
+link.crossOrigin = arguments[0];
+document.head.append(link);
+"""
+
+
+def holds(what, is_so):
+    if not is_so:
+        wrong.append(what)
+
+
+def started():
+    """The desk, at its port."""
+    for _ in range(3):
+        port = free_port()
+        served = subprocess.Popen(
+            [DESK, "serve", "trips.db", "--port", str(port)], stdin=subprocess.DEVNULL, stdout=subprocess.PIPE,
+        )
+        if served.stdout.readline():
+            return served, port
+        served.wait()
+    raise SystemExit("no desk")
+
+
+def browser():
+    options = webdriver.ChromeOptions()
+    options.binary_location = "/usr/bin/chromium"
+    for word in ("--headless=new", "--no-sandbox", "--disable-gpu", "--disable-dev-shm-usage", "--no-first-run",
+                 "--disable-background-networking", "--disable-component-update"):
+        options.add_argument(word)
+    return webdriver.Chrome(service=Service("/usr/bin/chromedriver"), options=options)
+
+
+def connections(served):
+    """How many connections the desk has: its sockets but the one that listens."""
+    folder = f"/proc/{served.pid}/fd"
+    return sum(os.readlink(f"{folder}/{name}").startswith("socket:") for name in os.listdir(folder)) - 1
+
+
+def timed(what, call):
+    """What a call returns, which must come at once."""
+    begun = time.monotonic()
+    result = call()
+    took = time.monotonic() - begun
+    holds(f"{what}: after {took:.1f} seconds", took < AT_ONCE)
+    return result
+
+
+def look(served, port, driver):
+    """The browser opens connections, asks over some of them, and leaves them all silent; nobody waits."""
+    pages = timed("twelve requests at once", lambda: driver.execute_async_script(ASKS, 12))
+    holds(f"twelve pages: {pages}", len(pages) == 12 and all(p.startswith("200 ") and p.rstrip().endswith("cells 0") for p in pages))
+    for crossed in ("anonymous", "use-credentials"):
+        driver.execute_script(AHEAD, crossed)
+    time.sleep(1)
+    count = connections(served)
+    holds(f"connections that are left silent: {count}", count >= 3)
+    other = Client(port)
+    for number in range(20):
+        found = timed(f"another client's request {number}", lambda: other.ask(STOCK))
+        holds(f"another client's page {number}", is_whole(found))
+    other.close()
+    holds("the silent ones stay", connections(served) >= count - 1)
+    pages = timed("one more request", lambda: driver.execute_async_script(ASKS, 1))
+    holds(f"one more page: {pages}", pages[0].startswith("200 "))
+
+
+def main():
+    served, port = started()
+    driver = browser()
+    try:
+        driver.set_script_timeout(60)
+        timed("the first page", lambda: driver.get(f"http://127.0.0.1:{port}/stock"))
+        holds("the first page", '{"name":"NoAgent","refused":2}' in driver.page_source)
+        look(served, port, driver)
+    finally:
+        driver.quit()
+        served.send_signal(signal.SIGKILL)
+        served.wait()
+    print("\n".join(wrong))
+
+
+main()

@@ -1,0 +1,219 @@
+"""A desk with its page, and headless Chromium: for the scripts that try the page and draw it."""
+import http.client
+import json
+import os
+import shutil
+import signal
+import socket
+import subprocess
+import time
+
+from selenium import webdriver
+from selenium.common.exceptions import ElementClickInterceptedException, StaleElementReferenceException
+from selenium.webdriver.chrome.options import Options
+from selenium.webdriver.chrome.service import Service
+from selenium.webdriver.common.action_chains import ActionChains
+from selenium.webdriver.common.keys import Keys
+from selenium.webdriver.support.ui import Select
+
+DESK = os.environ["DESK"]
+PATIENCE = float(os.environ.get("PATIENCE", "60"))
+SEEN = """const isSeen = one => one.checkVisibility({visibilityProperty: true});
+const seen = css => [...document.querySelectorAll(css)].filter(isSeen);
+const named = one => one.getAttribute('aria-label') || one.innerText.trim();
+"""
+CHROMIUM, DRIVER = shutil.which("chromium"), shutil.which("chromedriver")
+
+
+def free_port():
+    with socket.socket() as probe:
+        probe.bind(("127.0.0.1", 0))
+        return probe.getsockname()[1]
+
+
+def wait_until(holds, what):
+    """Waits until this holds, and gives what it returned. What is waited for is a text, or a call that gives one."""
+    deadline = time.monotonic() + PATIENCE
+    while True:
+        try:
+            found = holds()
+        except StaleElementReferenceException:
+            found = None
+        if found:
+            return found
+        if time.monotonic() > deadline:
+            raise AssertionError(f"this did not come: {what() if callable(what) else what}")
+        time.sleep(0.05)
+
+
+class Desk:
+    """The program over a file, with its page, at a port that it keeps when it is started again."""
+
+    def __init__(self, file):
+        self.file, self.port, self.process = file, free_port(), None
+        self.start()
+
+    def start(self):
+        self.process = subprocess.Popen(
+            [DESK, "serve", self.file, "--port", str(self.port), "--page"], stdin=subprocess.DEVNULL,
+            stdout=subprocess.PIPE, stderr=subprocess.PIPE,
+        )
+        said = self.process.stdout.readline()
+        if said != f"ready {self.port}\n".encode():
+            raise SystemExit(f"no desk at {self.port}: {said!r} {self.process.communicate()}")
+
+    def kill(self):
+        self.process.send_signal(signal.SIGKILL)
+        self.process.communicate()
+
+    def ask(self, method, path, agent="ann", key="", body="", host=None):
+        """The status and the body of a page, of which JSON is read."""
+        line = http.client.HTTPConnection("127.0.0.1", self.port, timeout=PATIENCE)
+        fields = {"Desk-Agent": agent, **({"Desk-Key": key} if key else {}), **({"Host": host} if host else {})}
+        line.request(method, path, body if method == "POST" else None, fields)
+        page = line.getresponse()
+        text = page.read().decode()
+        line.close()
+        return page.status, json.loads(text) if page.getheader("Content-Type") == "application/json" else text
+
+    def post(self, path, key, body="", agent="ann"):
+        status, page = self.ask("POST", path, agent, key, body)
+        if status != 200:
+            raise AssertionError(f"{path}: {status} {page}")
+        return page
+
+    def load(self, name, rows):
+        """Loads rows of a cell's five fields."""
+        text = "".join(f"{row}\n" for row in ["kind,supplier,product,night,places", *rows])
+        self.post(f"/batches/{name}", "load-" + name, text)
+
+    def history(self, identity, agent="ann"):
+        return self.ask("GET", f"/journeys/{identity}", agent)[1].get("history")
+
+    def url(self, path=""):
+        return f"http://127.0.0.1:{self.port}/{path}"
+
+
+class Browser:
+    """A window of headless Chromium of its own, with a profile that is gone at its end."""
+
+    def __init__(self, folder, network=None, words=(), width=1280, height=900):
+        options = Options()
+        options.binary_location = CHROMIUM
+        for word in (
+            "--headless=new", "--no-sandbox", "--disable-gpu", "--disable-dev-shm-usage", "--hide-scrollbars", "--lang=en-GB",
+            "--force-color-profile=srgb", "--disable-background-networking", "--disable-component-update", "--no-first-run",
+            f"--user-data-dir={folder}", f"--window-size={width},{height}", *words,
+        ):
+            options.add_argument(word)
+        if network:
+            options.add_argument(f"--proxy-server=http://127.0.0.1:{network.port}")
+            options.add_argument("--proxy-bypass-list=<-loopback>")
+        options.set_capability("goog:loggingPrefs", {"browser": "ALL"})
+        self.network = network
+        self.driver = webdriver.Chrome(service=Service(DRIVER), options=options)
+        self.driver.set_page_load_timeout(PATIENCE)
+        self.size(width, height)
+
+    def size(self, width, height, factor=1):
+        self.driver.execute_cdp_cmd("Emulation.setDeviceMetricsOverride", {
+            "width": width, "height": height, "deviceScaleFactor": factor, "mobile": False})
+
+    def scheme(self, name):
+        self.driver.execute_cdp_cmd("Emulation.setEmulatedMedia", {"features": [
+            {"name": "prefers-color-scheme", "value": name}, {"name": "prefers-reduced-motion", "value": "reduce"}]})
+
+    def open(self, url):
+        self.driver.get(url)
+
+    def script(self, text, *words):
+        return self.driver.execute_script(text, *words)
+
+    def all(self, css):
+        """What is seen of these, in the order of the page."""
+        return self.script(SEEN + "return seen(arguments[0])", css)
+
+    def one(self, css, what=""):
+        return wait_until(lambda: next(iter(self.all(css)), None), what or css)
+
+    def named(self, name, within=""):
+        """The button or link with this accessible name, or this text, once it may be pressed."""
+        def find():
+            return self.script(SEEN + """const [name, within] = arguments;
+                return seen(`${within} button, ${within} a`)
+                    .find(one => named(one) === name && one.ariaDisabled !== 'true')""", name, within)
+        return wait_until(find, lambda: f"a button {name!r}; there are {self.names('main button:not(.night)')}")
+
+    def names(self, css):
+        return self.script(SEEN + "return seen(arguments[0]).map(named)", css)
+
+    def click(self, find):
+        """Clicks what is found, once it can be clicked."""
+        def done():
+            try:
+                one = find()
+                self.script("arguments[0].scrollIntoView({block: 'center'})", one)
+                one.click()
+                return True
+            except (StaleElementReferenceException, ElementClickInterceptedException):
+                return False
+        wait_until(done, "a click")
+
+    def click_on(self, css):
+        self.click(lambda: self.one(css))
+
+    def press(self, name, within=""):
+        self.click(lambda: self.named(name, within))
+
+    def types(self, css, *keys):
+        """Types keys to a field, which may be drawn anew meanwhile."""
+        def done():
+            try:
+                self.one(css).send_keys(*keys)
+                return True
+            except StaleElementReferenceException:
+                return False
+        wait_until(done, "a field to type to")
+
+    def picks(self, css, value):
+        """Picks a value from a list."""
+        def done():
+            try:
+                Select(self.one(css)).select_by_value(value)
+                return True
+            except StaleElementReferenceException:
+                return False
+        wait_until(done, f"{value!r} in a list")
+
+    def keys(self, *keys):
+        """Types keys to whatever has the focus."""
+        for key in keys:
+            ActionChains(self.driver, duration=0).send_keys(key).perform()
+
+    def keys_with_shift(self, *keys):
+        ActionChains(self.driver, duration=0).key_down(Keys.SHIFT).send_keys(*keys).key_up(Keys.SHIFT).perform()
+
+    def focus(self):
+        """What has the focus: its data-f, its accessible name, or its id."""
+        return self.script("""const a = document.activeElement;
+            return a.dataset.f || a.getAttribute('aria-label') || a.id || a.textContent""")
+
+    def text(self, css="body"):
+        return " ".join(self.script(SEEN + "return seen(arguments[0]).map(one => one.innerText)", css))
+
+    def shows(self, text, css="body"):
+        wait_until(lambda: text in self.text(css), lambda: f"{text!r} in {css}; it is {self.text(css)!r}")
+
+    def works_as(self, url, agent):
+        """Opens the page, and names the agent of this window."""
+        self.open(url)
+        self.types("#agent", Keys.CONTROL + "a" + Keys.NULL, agent, Keys.ENTER)
+        self.shows("Up to date", "#state")
+
+    def errors(self):
+        """What the console has to complain of, except for pages that did not come and refusals."""
+        said = [one["message"] for one in self.driver.get_log("browser") if one["level"] == "SEVERE"]
+        return [text for text in said if "Failed to load resource" not in text]
+
+    def end(self):
+        self.driver.quit()

@@ -1,0 +1,82 @@
+"""Pages that are not the desk's own: they reach nothing of it, and the page loads nothing from elsewhere."""
+import http.server
+import json
+import threading
+
+from page_driving import Browser, wait_until
+from page_scenes import same
+
+
+class Foreign(http.server.BaseHTTPRequestHandler):
+    """A page of another origin, which tries what it can."""
+
+    def do_GET(self):
+        port = self.path.strip("/")
+        body = f"""<!doctype html><title>foreign</title>
+<iframe src="http://127.0.0.1:{port}/" name="framed"></iframe><iframe name="sink"></iframe>
+<form method="post" target="sink" action="http://127.0.0.1:{port}/journeys/1/step"></form><script>
+const desk = "http://127.0.0.1:{port}", fields = {{"Desk-Agent": "ann", "Desk-Key": "foreign"}}, done = {{}};
+const tries = {{
+  stock: () => fetch(desk + "/stock", {{headers: fields}}),
+  step: () => fetch(desk + "/journeys/1/step", {{method: "POST", headers: fields, body: ""}}),
+  page: () => fetch(desk + "/"),
+  plain: () => fetch(desk + "/journeys/1/step", {{method: "POST", mode: "no-cors", body: ""}}),
+}};
+window.framed = () => {{ try {{ return frames.framed.document.title }} catch {{ return "not reached" }} }};
+(async () => {{
+  for (const [name, go] of Object.entries(tries)) {{
+    done[name] = await go().then(page => page.type === "opaque" ? "unseen" : page.text(), () => "not reached");
+  }}
+  document.forms[0].submit();
+  setTimeout(() => window.done = done, 1000);
+}})();
+</script>""".encode()
+        self.send_response(200)
+        self.send_header("Content-Type", "text/html")
+        self.send_header("Content-Length", str(len(body)))
+        self.end_headers()
+        self.wfile.write(body)
+
+    def log_message(self, *_):
+        pass
+
+
+def foreign_pages(scene):
+    """A page of another origin, and this page under a name that is bent to its address, reach nothing."""
+    desk = scene.desk
+    scene.begins(steps=1)
+    scene.browser.end()
+    server = http.server.ThreadingHTTPServer(("127.0.0.1", 0), Foreign)
+    threading.Thread(target=server.serve_forever, daemon=True).start()
+    bent = "--host-resolver-rules=MAP bent.example 127.0.0.1"
+    scene.browser = browser = Browser(f"{scene.folder}/foreign", words=[bent])
+    try:
+        browser.open(f"http://127.0.0.1:{server.server_address[1]}/{desk.port}")
+        done = wait_until(lambda: browser.script("return window.done"), "what the foreign page tried")
+        expected = {"stock": "not reached", "step": "not reached", "page": "not reached", "plain": "unseen"}
+        same("what it reached", expected, done)
+        same("the page in a frame", "not reached", browser.script("return window.framed()"))
+        browser.driver.switch_to.frame("framed")
+        framed = browser.script("return document.querySelectorAll('#agent, main').length")
+        same("the page does not work in a frame", 0, framed)
+        browser.driver.switch_to.default_content()
+        same("nothing was done", ["T1.1"], desk.history(1))
+    finally:
+        server.shutdown()
+    browser.open(f"http://bent.example:{desk.port}/")
+    same("the bent name", {"name": "BadHead", "refused": 1}, json.loads(browser.script("return document.body.innerText")))
+    tried = """const then = arguments[0], headers = {'Desk-Agent': 'ann', 'Desk-Key': 'bent'};
+      fetch('/journeys/1/step', {method: 'POST', body: '', headers})
+        .then(page => page.text().then(text => then([page.status, text])))"""
+    same("what the bent name reaches", [400, '{"name":"BadHead","refused":1}'], browser.driver.execute_async_script(tried))
+    same("nothing was done", ["T1.1"], desk.history(1))
+    for name in ("127.0.0.1", "localhost"):
+        browser.open(f"http://{name}:{desk.port}/")
+        browser.one("#agent")
+    elsewhere = """const then = arguments[0];
+      document.addEventListener('securitypolicyviolation', event => then(event.effectiveDirective));
+      fetch('https://example.org/').then(() => then('reached'), () => {});"""
+    same("a request to elsewhere is stopped by the policy", "connect-src", browser.driver.execute_async_script(elsewhere))
+    added = """const one = document.createElement('script'); one.textContent = 'window.ran = 1';
+      document.body.append(one); return window.ran ? 'yes' : 'no'"""
+    same("a script that was added runs", "no", browser.script(added))

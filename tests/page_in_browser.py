@@ -1,0 +1,120 @@
+"""Runs the scenes of the page in headless Chromium; prints those that went wrong. With names, only those scenes.
+
+Then each of SPOILED is put into the page on its way to the browser, one at a time, and the scene has to find it."""
+import sys
+import tempfile
+import time
+import traceback
+from concurrent.futures import ThreadPoolExecutor
+
+import page_driving
+import page_foreign
+import page_lost
+import page_rules
+import page_scenes
+import page_views
+from page_scenes import Scene
+
+SCENES = {
+    scene.__name__: scene for scene in (
+        page_lost.nothing_twice, page_rules.large, page_rules.rules, page_scenes.by_clicks, page_scenes.by_keys,
+        page_views.not_while_hidden, page_lost.many_wait, page_lost.hang_and_kill, page_scenes.last_place,
+        page_foreign.foreign_pages, page_scenes.refused_by_the_desk, page_scenes.refusals_in_words, page_views.draft_is_changed,
+        page_views.agents_are_apart, page_views.filters, page_rules.focus_order, page_rules.first_visit,
+    )
+}
+
+
+def one_row(mode, events):
+    return lambda scene: page_lost.nothing_twice(scene, ((mode, events),))
+
+
+# what is spoiled; the old and the new text of the page; the scene that finds it, and what it then says
+SPOILED = (
+    ("a new key each time", "'Desk-Key': key", "'Desk-Key': newKey()", one_row("lose", "nothing"),
+     "one key and one body"),
+    ("a request that is not kept", "if (!keep(local, 'post.' + request.key, request)) {",
+     "if (!keep(session, 'post.' + request.key, request)) {", one_row("lose", "nothing"), "lose, nothing: the request"),
+    ("a key with hyphens", "return key.slice(0, 12) + '4'", "return key.slice(0, 8) + '-4'", one_row("lose", "nothing"),
+     "the form of the key"),
+    ("another window's request is left",
+     "(navigator.locks ? !held.has(TAB + one.tab) : Date.now() - one.at > 2 * PATIENCE)", "false",
+     one_row("lose", "another window"), "'Up to date' in #state; it is 'Sending'"),
+    ("news while hidden", "if (document.hidden || !agent) return;", "if (!agent) return;", page_views.not_while_hidden,
+     "requests of a hidden page"),
+    ("a button that is refused", "!isBack && way.pos > 0 && !way.saves.includes(way.pos)", "!isBack && way.pos > 0", page_scenes.by_clicks,
+     "what may be done now"),
+    ("a button too few", "[0, ...way.saves].filter(", "way.saves.filter(", page_scenes.by_clicks, "what may be done now"),
+    ("an undone step that is drawn as standing", "if (last) last.stands = false;", "", page_scenes.by_clicks,
+     "the picture: stands, undone"),
+    ("a night that no key chooses", "if (at) choose(at, event.shiftKey, event.detail === 0);",
+     "if (at && event.detail) choose(at, event.shiftKey, false);", page_scenes.by_keys,
+     "the focus after a night is chosen"),
+    ("the focus is lost", "next.focus({ preventScroll: true });", "", page_scenes.by_keys, "the focus stays at the step"),
+    ("an agent for all windows", "kept(session, 'agent', kept(local, 'agent', ''))", "kept(local, 'agent', '')",
+     page_scenes.last_place, "each window has its own agent"),
+    ("a refusal without words", "Finished: 'The journey has ended or is undone. It cannot be changed any more.',", "",
+     page_scenes.refusals_in_words, "Finished is put in words"),
+    ("faint words", "--soft: light-dark(#4a5663, #abb7c3);", "--soft: light-dark(#8a96a3, #abb7c3);", page_rules.rules,
+     "its words have a contrast"),
+    ("faint words in the dark", "--bad: light-dark(#a02c14, #ffa28c);", "--bad: light-dark(#a02c14, #7a3a20);",
+     page_rules.rules, "its words have a contrast"),
+    ("a field without a name", "h('option', { value, selected: value === filter[name] }, value))));",
+     "h('option', { value, selected: value === filter[name] }, value)))).lastChild;", page_rules.rules,
+     "a combobox has no name"),
+    ("a page that is too wide", "main { padding: 16px;", "main { padding: 16px; min-width: 420px;", page_rules.rules,
+     "in a window of 360"),
+    ("an order of its own", "#state { margin", "#nav a:last-child { order: -1; } #state { margin", page_rules.focus_order,
+     "the order that is seen"),
+    ("a focus that is not seen", ":focus-visible { outline: 3px solid var(--accent);",
+     ":focus-visible { outline: 0 solid var(--accent);", page_rules.focus_order, "one sees that the focus is at"),
+    ("own journeys end with a page", "if (page.length < PAGE) return true;", "return true;", page_rules.large,
+     "'all (1000)' in #list"),
+)
+
+
+def failure_of(act, spoil=None):
+    """What went wrong with a scene, or nothing."""
+    with tempfile.TemporaryDirectory() as folder:
+        scene = None
+        try:
+            scene = Scene(folder, spoil, agent="" if getattr(act, "without_agent", False) else "ann")
+            act(scene)
+            return ""
+        except AssertionError as wrong:
+            return str(wrong)
+        except Exception:  # whatever else stops a scene is wrong too
+            return traceback.format_exc(limit=-4)
+        finally:
+            if scene:
+                scene.end()
+
+
+def run_scene(name):
+    begun = time.monotonic()
+    wrong = failure_of(SCENES[name])
+    return f"{name}: {wrong}" if wrong else "", f"{name} {time.monotonic() - begun:.0f}"
+
+
+def run_spoiled(row):
+    what, old, new, act, says = row
+    begun = time.monotonic()
+    found = failure_of(act, (old, new))
+    wrong = "" if says in found else f"spoiled by {what}: the scene should say {says!r}; it says {found or 'nothing'!r}"
+    return wrong, f"{what} {time.monotonic() - begun:.0f}"
+
+
+def main(names):
+    with ThreadPoolExecutor(3) as runs:
+        outcomes = list(runs.map(run_scene, [name for name in SCENES if not names or name in names]))
+        if not names or "spoiled" in names:
+            page_driving.PATIENCE = min(page_driving.PATIENCE, 12)
+            outcomes += runs.map(run_spoiled, SPOILED)
+    for wrong, took in outcomes:
+        print(took, file=sys.stderr)
+        if wrong:
+            print(wrong)
+
+
+if __name__ == "__main__":
+    main(sys.argv[1:])

@@ -1,0 +1,150 @@
+"""A proxy between a browser and desks: it may lose a page, hold a request, answer in the desk's place, or spoil the page."""
+import base64
+import hashlib
+import http.client
+import json
+import re
+import socket
+import threading
+import urllib.parse
+from typing import NamedTuple
+
+SECONDS = 60
+HERE = ("127.0.0.1", "localhost")
+# what a proxy does not pass on
+OWN = ("proxy-connection", "connection")
+
+
+class Request(NamedTuple):
+    """A request of a browser, as a proxy gets it."""
+
+    method: str
+    where: object
+    fields: list
+    body: bytes
+
+    def field(self, name):
+        return next((value for known, value in self.fields if known.lower() == name), None)
+
+
+def request_in(source):
+    """The next request of a connection; None at its end, and where the browser itself asks for something elsewhere."""
+    try:
+        method, url, _ = source.readline().decode().split(" ")
+        fields = []
+        while line := source.readline().decode().rstrip("\r\n"):
+            fields.append(tuple(line.split(": ", 1)))
+        request = Request(method, urllib.parse.urlsplit(url), fields, b"")
+        if method == "CONNECT" or request.where.hostname not in HERE:
+            return None
+        return request._replace(body=source.read(int(request.field("content-length") or 0)))
+    except (ValueError, OSError):
+        return None
+
+
+def page_of(status, reason, fields, text):
+    """The bytes of a page."""
+    head = [f"HTTP/1.1 {status} {reason}", f"Content-Length: {len(text)}", *(f"{name}: {value}" for name, value in fields)]
+    return "\r\n".join([*head, "", ""]).encode() + text
+
+
+def answer_to(request):
+    """What the desk answers: status, reason, fields and text; None where it is not reached."""
+    line = http.client.HTTPConnection("127.0.0.1", request.where.port or 80, timeout=SECONDS)
+    try:
+        line.putrequest(request.method, request.where.path or "/", skip_host=True, skip_accept_encoding=True)
+        for name, value in request.fields:
+            if name.lower() not in OWN:
+                line.putheader(name, value)
+        line.endheaders(request.body)
+        page = line.getresponse()
+        fields = [(name, value) for name, value in page.getheaders() if name.lower() not in (*OWN, "content-length")]
+        return page.status, page.reason, fields, page.read()
+    except (OSError, http.client.HTTPException):
+        return None
+    finally:
+        line.close()
+
+
+def hashes_in(page):
+    """The hashes of a page's style and script, as its policy names them."""
+    parts = re.findall(rb"<(?:style|script)>(.*?)</(?:style|script)>", page, re.DOTALL)
+    return [base64.b64encode(hashlib.sha256(part).digest()).decode() for part in parts]
+
+
+def spoiled(fields, page, old, new):
+    """The fields and the page with the new text in the place of the old one, under a policy that allows it."""
+    if page.count(old.encode()) != 1:
+        raise SystemExit(f"the page has this {page.count(old.encode())} times: {old}")
+    changed = page.replace(old.encode(), new.encode())
+    for was, now in zip(hashes_in(page), hashes_in(changed)):
+        fields = [(name, value.replace(was, now)) for name, value in fields]
+    return fields, changed
+
+
+class Network:
+    """`mode` says what becomes of POSTs: each is passed on; or its page is lost once it was carried out; or it is held until it
+    is let go, and then lost. `instead` is the status and the page that the next POST gets in the place of the desk's. With
+    `holds_gets` each GET waits until they are released. With `spoil`, an old and a new text, the desk's page is spoiled."""
+
+    def __init__(self, spoil=None):
+        self.mode, self.posts, self.paths, self.instead, self.holds_gets = "pass", [], [], None, False
+        self.spoil, self.let_go, self.lets_get = spoil, threading.Event(), threading.Event()
+        self.socket = socket.create_server(("127.0.0.1", 0), backlog=64)
+        self.port = self.socket.getsockname()[1]
+        threading.Thread(target=self.accept, daemon=True).start()
+
+    def accept(self):
+        while True:
+            try:
+                stream, _ = self.socket.accept()
+            except OSError:
+                return
+            threading.Thread(target=self.serve, args=(stream,), daemon=True).start()
+
+    def serve(self, stream):
+        with stream, stream.makefile("rb") as source:
+            while (request := request_in(source)) and (page := self.comes(request)):
+                try:
+                    stream.sendall(page)
+                except OSError:
+                    return
+
+    def comes(self, request):
+        """A request comes: the bytes of its page; nothing where the connection ends instead."""
+        path = request.where.path
+        self.paths.append((request.method, path, request.field("host")))
+        if request.method != "POST":
+            if self.holds_gets and path != "/":
+                self.lets_get.wait(SECONDS)
+            return self.passed_on(request)
+        mode, instead = self.mode, self.instead
+        self.posts.append((path, request.field("desk-agent"), request.field("desk-key"), request.body))
+        if mode == "hold":
+            self.let_go.wait(SECONDS)
+            return None
+        if instead:
+            self.instead = None
+            return page_of(instead[0], "Instead", [("Content-Type", "application/json")], json.dumps(instead[1]).encode())
+        page = self.passed_on(request)
+        return None if mode == "lose" else page
+
+    def passed_on(self, request):
+        """The bytes of the desk's page; None where it is not reached."""
+        found = answer_to(request)
+        if not found:
+            return None
+        status, reason, fields, text = found
+        if self.spoil and request.where.path == "/":
+            fields, text = spoiled(fields, text, *self.spoil)
+        return page_of(status, reason, fields, text)
+
+    def release_gets(self):
+        self.holds_gets = False
+        self.lets_get.set()
+        self.lets_get = threading.Event()
+
+    def end(self):
+        self.socket.close()
+        self.let_go.set()
+        self.lets_get.set()

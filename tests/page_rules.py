@@ -1,0 +1,224 @@
+"""The rules by which everybody can use the page, in light and dark, from 360 to 1,920 pixels; and views that hold much.
+
+1. Each control, picture, table and region has a name; two controls of a kind in one view do not share one, but for nights.
+2. One heading of the first level; no level is left out; each id once; the page has a language, and each view a title.
+3. Words have a contrast of 4.5 with all that may be behind them, large ones 3; the borders of fields and the lines of the
+   path have 3.
+4. Each control is at least 24 by 24 pixels; nothing is wider than the window.
+5. The tabulator comes to each control once, in the order of the page, and one sees where it is; nothing holds it back.
+"""
+import os
+import time
+
+from selenium.webdriver.common.keys import Keys
+
+from page_driving import wait_until
+from page_scenes import JUNE, LINE, TWO, comes, same
+
+# what the page shows and is to have a name, by its role in the browser's own tree for screen readers
+NAMED = {
+    "button", "link", "textbox", "searchbox", "combobox", "checkbox", "spinbutton", "Date", "dialog", "img", "image", "table",
+    "grid", "region", "navigation", "article", "group", "log",
+}
+CONTROLS = {"button", "link", "textbox", "searchbox", "combobox", "checkbox", "spinbutton", "Date"}
+
+with open(os.path.join(os.path.dirname(os.path.abspath(__file__)), "page_rules.js"), encoding="utf-8") as rules_text:
+    LOOK = rules_text.read()
+
+
+def names_of(browser):
+    """What is wrong with the names, by the browser's own tree for screen readers."""
+    wrong, seen, inner = [], set(), set()
+    for node in browser.driver.execute_cdp_cmd("Accessibility.getFullAXTree", {})["nodes"]:
+        # what a date is made of is the browser's own
+        if node.get("role", {}).get("value") == "Date" or node["nodeId"] in inner:
+            inner.update(node.get("childIds", ()))
+        if node["nodeId"] in inner:
+            continue
+        role, name = node.get("role", {}).get("value"), node.get("name", {}).get("value", "").strip()
+        if node.get("ignored") or role not in NAMED:
+            continue
+        if not name:
+            wrong.append(f"a {role} has no name")
+        elif role in CONTROLS and " free, " not in name:
+            if (role, name) in seen:
+                wrong.append(f"more than one {role} is named {name!r}")
+            seen.add((role, name))
+    return wrong
+
+
+def look_at(browser, what, widths=(360, 1280, 1920)):
+    """No rule is broken by what is shown."""
+    same(f"{what}: names", [], names_of(browser))
+    for scheme in ("dark", "light"):
+        browser.scheme(scheme)
+        for width in widths:
+            browser.size(width, 900)
+            time.sleep(0.25)
+            same(f"{what}, {scheme}, {width} pixels", [], browser.script(LOOK))
+    browser.size(1280, 900)
+
+
+def rules(scene):
+    """Each view, in each of its forms."""
+    browser, desk = scene.browser, scene.desk
+    look_at(browser, "stock")
+    scene.chooses("room INN SEA", JUNE[2])
+    look_at(browser, "a night that is chosen")
+    browser.press("Add as step 1")
+    scene.chooses("room INN YARD", JUNE[2])
+    look_at(browser, "a night that may become an option")
+    browser.open(desk.url("#/plan"))
+    look_at(browser, "a plan of one step")
+    browser.types("#line", Keys.CONTROL + "a" + Keys.NULL, LINE, Keys.TAB)
+    comes("three steps", 3, lambda: len(browser.all(".step")))
+    scene.network.instead = (400, {"cause": "night", "name": "BadPlan", "refused": 5, "step": 2})
+    browser.press("Begin the journey")
+    browser.one(".step.isbad")
+    look_at(browser, "a plan that is refused")
+    browser.press("Clear the new journey")
+    browser.one("dialog[open]")
+    look_at(browser, "a question")
+    browser.click_on("#sure-no")
+    browser.press("Begin the journey")
+    browser.shows("Journey 1", "#h-one")
+    look_at(browser, "a journey that is begun")
+    for path in ("step", "step", "step", "save", "abort/1"):
+        desk.post(f"/journeys/1/{path}", f"rule-{len(desk.history(1))}", "")
+    browser.shows("B1a", "ol.items")
+    look_at(browser, "a journey that goes back")
+    for n in range(3):
+        desk.post("/journeys/1/step", f"last-{n}", "")
+    browser.shows("The journey has ended", ".acts")
+    look_at(browser, "a journey that has ended")
+    undone = scene.begins(TWO, "undone")
+    desk.post(f"/journeys/{undone}/abort/0", "undo", "")
+    scene.begins(TWO, "other", 1)
+    browser.open(desk.url("#/journeys"))
+    browser.shows("all (3)", "#list")
+    look_at(browser, "the list")
+    scene.desk.kill()
+    browser.shows("The desk cannot be reached", "#away")
+    look_at(browser, "no desk")
+    desk.start()
+    browser.press("Agent ann, change")
+    look_at(browser, "who works here")
+
+
+FOCUS = """const a = document.activeElement, style = getComputedStyle(a), box = a.getBoundingClientRect();
+if (a === document.body) return null;
+return {at: [...document.querySelectorAll('*')].indexOf(a), what: a.dataset.f || a.getAttribute('aria-label') || a.id || a.textContent,
+  ring: style.outlineStyle !== 'none' && parseFloat(style.outlineWidth) >= 2, inMain: !!a.closest('main'),
+  left: box.left, top: box.top + scrollY, right: box.right, bottom: box.bottom + scrollY};"""
+ALL = """const all = [...document.querySelectorAll('a[href], button, input, select, [tabindex="0"]')];
+return all.filter(a => a.tabIndex >= 0 && a.checkVisibility({visibilityProperty: true}))
+  .map(a => a.dataset.f || a.getAttribute('aria-label') || a.id || a.textContent);"""
+FROM_THE_START = """const first = document.createElement('span'); first.tabIndex = -1;
+document.body.prepend(first); first.focus(); first.remove();"""
+
+
+def comes_to_all(browser, what):
+    """The tabulator comes to each control once, in the order of the page, and one sees where it is."""
+    browser.script(FROM_THE_START)
+    stops = []
+    for _ in range(200):
+        browser.keys(Keys.TAB)
+        stop = browser.script(FOCUS)
+        if stop is None or (len(stops) > 1 and stop["at"] == stops[0]["at"]):
+            break
+        # a date is one control with some stops
+        if not stops or stop["at"] != stops[-1]["at"]:
+            stops.append(stop)
+    same(f"{what}: what the tabulator comes to", browser.script(ALL), [stop["what"] for stop in stops])
+    for before, after in zip(stops, stops[1:]):
+        pair = f"{what}: {before['what']} and then {after['what']}"
+        same(f"{pair}: the order of the page", True, before["at"] < after["at"])
+        is_left = before["inMain"] == after["inMain"] and after["right"] <= before["left"]
+        is_back = is_left and (after["bottom"] <= before["top"] or abs(after["top"] - before["top"]) < 4)
+        same(f"{pair}: the order that is seen", False, is_back)
+    for stop in stops:
+        same(f"{what}: one sees that the focus is at {stop['what']}", True, stop["ring"])
+
+
+def focus_order(scene):
+    browser = scene.browser
+    browser.open(scene.desk.url("#/plan"))
+    browser.types("#line", LINE, Keys.TAB)
+    comes("three steps", 3, lambda: len(browser.all(".step")))
+    browser.picks('[data-f="filter.kind"]', "room")
+    comes("rooms", 2, lambda: len(browser.all(".cal")))
+    for width in (1280, 360):
+        browser.size(width, 900)
+        comes_to_all(browser, f"a new journey, {width} pixels")
+    browser.size(1280, 900)
+    scene.begins(TWO, "focus", 1)
+    scene.shows_journey(1)
+    browser.shows("transfer", "#list")
+    for width in (1280, 360):
+        browser.size(width, 900)
+        time.sleep(0.4)
+        comes_to_all(browser, f"a journey, {width} pixels")
+    browser.size(1280, 900)
+    browser.open(scene.desk.url("#/journeys"))
+    browser.driver.refresh()
+    browser.shows("all (1)", "#list")
+    browser.keys(Keys.TAB)
+    wait_until(lambda: browser.focus() == "Skip to the content", "the link that skips comes first")
+    browser.keys(Keys.ENTER)
+    same("it skips to the content", "main", browser.script("return document.activeElement.id"))
+
+
+def first_visit(scene):
+    """A browser that was never here is asked who works here, and the question has the focus."""
+    browser = scene.browser
+    browser.open(scene.desk.url())
+    comes("the focus", "agent", lambda: browser.script("return document.activeElement.id"))
+    look_at(browser, "the first visit")
+    comes_to_all(browser, "the first visit")
+    browser.driver.switch_to.active_element.click()
+    browser.types("#agent", "ann\n")
+    browser.shows("Up to date", "#state")
+
+
+first_visit.without_agent = True
+
+
+def large(scene):
+    """1,000 journeys of an agent, and 2,000 cells in a month: all are there, and nothing becomes too wide."""
+    browser, desk = scene.browser, scene.desk
+    have = len(desk.ask("GET", "/stock")[1].splitlines()) - 2
+    june = [f"room,S{n:03},DBL,{night},{n + 1}" for n in range(66) for night in JUNE][:2000 - have]
+    desk.load("large", june)
+    for n in range(1000):
+        desk.post("/journeys", f"large-{n}", TWO)
+        if n % 10 < 9:
+            desk.post(f"/journeys/{n + 1}/abort/0", f"undo-{n}")
+    same("the cells", 2000, len(desk.ask("GET", "/stock")[1].splitlines()) - 2)
+    before = len(scene.network.paths)
+    browser.driver.refresh()
+    comes("the nights", 2000, lambda: browser.script("return document.querySelectorAll('.night').length"))
+    browser.press("My journeys (100)")
+    browser.shows("all (1000)", "#list")
+    pages = [path for _, path, _ in scene.network.paths[before:] if path.startswith("/mine")]
+    same("each page of own journeys is read once", ["/mine", *(f"/mine/{n}" for n in range(100, 1001, 100))], pages[:11])
+    same("and then what may be new", {"/mine/1000"}, {"/mine/1000", *pages[11:]})
+    same("the newest is first", "Journey 1000", browser.names("#list tbody a")[0])
+    browser.picks('[data-f="list.state"]', "open")
+    browser.shows("not finished (100)", "#list")
+    same("those under way", ["Journey 1000", "Journey 990"], browser.names("#list tbody a")[:2])
+    browser.press("Show 50 more of 100")
+    comes("all of them", "Journey 10", lambda: browser.names("#list tbody a")[-1])
+    browser.picks('[data-f="list.state"]', "")
+    browser.types('[data-f="list.text"]', "77")
+    comes("those of a number", 11, lambda: len(browser.all("#list tbody tr")))
+    browser.press("Journey 77")
+    browser.shows("undone", "#one")
+    browser.open(desk.url("#/stock"))
+    comes("the nights", 2000, lambda: browser.script("return document.querySelectorAll('.night').length"))
+    for width in (360, 1920):
+        browser.size(width, 900)
+        same(f"{width} pixels", width, browser.script("return Math.max(document.documentElement.scrollWidth, innerWidth)"))
+    scene.night("room S064 DBL", JUNE[-1])
+    browser.script("arguments[0].focus()", scene.night("room S064 DBL", JUNE[0]))
+    browser.keys(*[Keys.ARROW_RIGHT] * 5)
+    same("the arrows", f"room S064 DBL {JUNE[5]}", browser.focus())

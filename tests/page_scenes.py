@@ -1,0 +1,337 @@
+"""What agents do at the page, as scenes over a new desk: each tells what went wrong by an AssertionError."""
+import json
+import time
+
+from selenium.webdriver.common.keys import Keys
+
+from page_driving import Browser, Desk, wait_until
+from page_network import Network
+
+JUNE = [f"2030-06-{day:02}" for day in range(1, 31)]
+LINE = "F/AL/A1/2030-06-01/1/1*;R/INN/SEA/2030-06-01/2/1|R/INN/YARD/2030-06-01/2/1;T/BUS/X/2030-06-01/1/1!1"
+START = "Turn back to the start"
+
+
+def same(what, expected, found):
+    if expected != found:
+        raise AssertionError(f"{what}\n  expected: {expected!r}\n  found:    {found!r}")
+
+
+def comes(what, expected, find):
+    """Waits until this is found."""
+    found = []
+
+    def holds():
+        found[:] = [find()]
+        return found == [expected]
+    try:
+        wait_until(holds, what)
+    except AssertionError:
+        same(what, expected, found[0])
+
+
+def option(kind, supplier, product, first="2030-06-01", nights=1, count=1):
+    return {"kind": kind, "supplier": supplier, "product": product, "first": first, "nights": nights, "count": count}
+
+
+def plan(*steps, saves=(), tries=0):
+    """The body of a plan of these options, one a step, with save-points after these steps."""
+    return json.dumps({"steps": [{"options": [one], "save": n in saves} for n, one in enumerate(steps, 1)], "tries": tries})
+
+
+FLIGHT, TRANSFER = option("flight", "AL", "A1"), option("transfer", "BUS", "X")
+TWO = plan(FLIGHT, TRANSFER, saves=(1,))
+
+
+class Scene:
+    """A desk with places in June, a network, and a browser before both."""
+
+    def __init__(self, folder, spoil=None, agent="ann"):
+        self.folder, self.spoil = folder, spoil
+        self.desk = Desk(f"{folder}/trips.db")
+        self.network = Network(spoil)
+        self.browser = None
+        try:
+            rows = [f"flight,AL,A1,{JUNE[0]},9", f"transfer,BUS,X,{JUNE[0]},9", f"flight,AL,LAST,{JUNE[0]},1"]
+            rows += [f"room,INN,SEA,{night},{0 if night == JUNE[1] else 4}" for night in JUNE[:10]]
+            rows += [f"room,INN,YARD,{night},4" for night in JUNE]
+            self.desk.load("june", rows)
+            self.browser = Browser(f"{folder}/profile", self.network)
+            if agent:
+                self.browser.works_as(self.desk.url(), agent)
+        except BaseException:
+            self.end()
+            raise
+
+    def end(self):
+        if self.browser:
+            self.browser.end()
+        self.network.end()
+        self.desk.kill()
+
+    def night(self, product, when):
+        return self.browser.one(f'.night[data-of="{product}"][data-night="{when}"]')
+
+    def chooses(self, product, when):
+        self.browser.click(lambda: self.night(product, when))
+
+    def kept(self):
+        """How many requests the browser keeps to be sent."""
+        return self.browser.script("return Object.keys(localStorage).filter(key => key.startsWith('desk.post.')).length")
+
+    def note(self, text):
+        self.browser.shows(text, "#notes")
+
+    def may(self, *names):
+        """The buttons of the journey that is shown are these, and no others."""
+        comes("what may be done now", list(names), lambda: self.browser.names(".acts button:not([aria-disabled])"))
+
+    def does(self, button, item, identity=1):
+        """Presses this button; the journey then ends with this item."""
+        self.browser.press(button, ".acts")
+        comes(f"{button}: the item", item, lambda: (self.desk.history(identity) or [""])[-1])
+        self.browser.shows(item, "ol.items")
+
+    def turns(self, button, item):
+        """Presses a button that asks once more, and says yes."""
+        self.browser.press(button, ".acts")
+        self.browser.one("dialog[open]")
+        self.does_yes(item)
+
+    def does_yes(self, item):
+        self.browser.click_on("#sure-yes")
+        comes("the item", item, lambda: self.desk.history(1)[-1])
+        self.browser.shows(item, "ol.items")
+
+    def begins(self, body=TWO, key="b1", steps=0, agent="ann"):
+        """A journey that was begun, and stepped, without the page."""
+        identity = self.desk.post("/journeys", key, body, agent)["journey"]
+        for n in range(steps):
+            self.desk.post(f"/journeys/{identity}/step", f"{key}-{n}", "", agent)
+        return identity
+
+    def shows_journey(self, identity):
+        self.browser.open(self.desk.url(f"#/journeys/{identity}"))
+        self.browser.shows(f"Journey {identity}", "#h-one")
+        self.browser.one(".path svg")
+
+
+def is_ended(scene):
+    """The journey of LINE has ended; its picture shows what stands and what was undone."""
+    browser = scene.browser
+    scene.may()
+    browser.shows("The journey has ended", ".acts")
+    same("the history", ["T1.1", "B1r", "T2.2", "S2", "B1a", "C2.2", "T2.2", "T3.1"], scene.desk.history(1))
+    counts = [browser.script("return document.querySelectorAll(arguments[0]).length", f".path {name}") for name in (
+        "path.stands", "path.gone", "path.down", "circle.turned", "path.turning")]
+    same("the picture: stands, undone, given back, turns, turns that lead lower", [3, 1, 1, 2, 1], counts)
+    said = browser.script("return document.querySelector('.path desc').textContent")
+    for words in (
+        "B1r: turned back to save-point 1: no place was found for step 2 (room INN SEA, 1 Jun 2030, 2 nights, 1 place)",
+        "T2.2: step 2 done with option 2", "S2: save-point taken at 2", "B1a: turned back to save-point 1: as asked",
+        "C2.2: step 2 given back",
+    ):
+        same(f"the picture says {words}", True, words in said)
+    same("the console", [], browser.errors())
+
+
+def by_clicks(scene):
+    """A journey of three steps with options and a save-point is put together, stepped, refused, turned back and ended."""
+    browser = scene.browser
+    scene.chooses("flight AL A1", JUNE[0])
+    browser.press("Add as step 1")
+    scene.chooses("room INN SEA", JUNE[0])
+    scene.chooses("room INN SEA", JUNE[1])
+    browser.shows("Does not fit now: none free on 2 Jun 2030", "#bar")
+    browser.press("Add as step 2")
+    scene.chooses("room INN YARD", JUNE[0])
+    scene.chooses("room INN YARD", JUNE[1])
+    browser.shows("Fits now: 4 free", "#bar")
+    browser.press("Add as an option of the step that is named next")
+    scene.chooses("transfer BUS X", JUNE[0])
+    browser.press("Add as step 3")
+    browser.click_on('[data-f="save.0"]')
+    browser.types('[data-f="tries"]', Keys.BACKSPACE, "1", Keys.TAB)
+    comes("the plan line", LINE, lambda: browser.one("#line").get_attribute("value"))
+    browser.press("Begin the journey")
+    scene.may("Do step 1", START)
+    same("the plan", LINE.count(";"), browser.text(".planned").count("Step") - 1)
+    scene.does("Do step 1", "T1.1")
+    scene.may("Do step 2", "Turn back to save-point 1", START)
+    scene.does("Do step 2", "B1r")
+    scene.note("the step found no place: it turns back to save-point 1. It is there.")
+    scene.does("Do step 2", "T2.2")
+    scene.may("Do step 3", "Take save-point 2", "Turn back to save-point 1", START)
+    scene.does("Take save-point 2", "S2")
+    scene.may("Do step 3", "Turn back to save-point 2", "Turn back to save-point 1", START)
+    browser.press(START, ".acts")
+    browser.shows("2 steps will then be given back, one at a time, and the journey will be undone", "dialog")
+    browser.click_on("#sure-no")
+    same("left as it is", "S2", scene.desk.history(1)[-1])
+    scene.turns("Turn back to save-point 1", "B1a")
+    scene.may("Give back step 2", START)
+    scene.does("Give back step 2", "C2.2")
+    scene.does("Do step 2", "T2.2")
+    scene.does("Do step 3", "T3.1")
+    is_ended(scene)
+
+
+def tab_to(browser, name, most=60):
+    """Presses the tabulator until this has the focus."""
+    passed = []
+    for _ in range(most):
+        if browser.focus() == name:
+            return
+        browser.keys(Keys.TAB)
+        passed.append(browser.focus())
+    raise AssertionError(f"the tabulator does not come to {name!r}; it came to {passed}")
+
+
+# the buttons by their data-f, and the items that come of them
+PRESSED = (
+    ("step", "T1.1"), ("step", "B1r"), ("step", "T2.2"), ("mark", "S2"), ("turn.1", "B1a"), ("step", "C2.2"), ("step", "T2.2"),
+    ("step", "T3.1"),
+)
+
+
+def by_keys(scene):
+    """The same by the keyboard alone: no element is clicked or focused by a script."""
+    browser = scene.browser
+    tab_to(browser, "flight AL A1 2030-06-01")
+    browser.keys(Keys.ENTER)
+    same("the focus after a night is chosen", "bar.step", browser.focus())
+    browser.keys(Keys.ENTER)
+    same("the focus after a step was added", "flight AL A1 2030-06-01", browser.focus())
+    tab_to(browser, "room INN SEA 2030-06-01")
+    browser.keys(Keys.ARROW_RIGHT, Keys.ARROW_DOWN, Keys.END, Keys.HOME)
+    same("arrows come back", "room INN SEA 2030-06-01", browser.focus())
+    browser.keys(Keys.SPACE, Keys.ESCAPE)
+    same("a choice that is dropped", "room INN SEA 2030-06-01", browser.focus())
+    browser.keys(Keys.SPACE)
+    browser.keys(Keys.ESCAPE)
+    browser.keys(Keys.SPACE)
+    browser.keys_with_shift(Keys.TAB, Keys.TAB)
+    same("back to the nights", "bar.nights", browser.focus())
+    browser.keys(Keys.ARROW_UP, Keys.TAB)
+    tab_to(browser, "bar.step")
+    browser.keys(Keys.ENTER)
+    tab_to(browser, "room INN YARD 2030-06-01")
+    browser.keys_with_shift(Keys.ARROW_RIGHT)
+    browser.keys(Keys.ENTER)
+    browser.shows("room INN YARD, 1 Jun 2030, 2 nights", "#bar")
+    tab_to(browser, "bar.option")
+    browser.keys(Keys.ENTER)
+    tab_to(browser, "transfer BUS X 2030-06-01")
+    browser.keys(Keys.SPACE, Keys.ENTER)
+    tab_to(browser, "save.0")
+    browser.keys(Keys.SPACE)
+    tab_to(browser, "tries")
+    browser.keys(Keys.ARROW_UP, Keys.TAB)
+    comes("the plan line", LINE, lambda: browser.one("#line").get_attribute("value"))
+    tab_to(browser, "begin")
+    browser.keys(Keys.ENTER)
+    comes("the view", "Journey 1", lambda: browser.text("#h-one"))
+    for n, (name, item) in enumerate(PRESSED, 1):
+        tab_to(browser, name)
+        comes(f"{item}: it may be pressed", None, lambda: browser.script("return document.activeElement.ariaDisabled"))
+        browser.keys(Keys.ENTER)
+        if name.startswith("turn"):
+            same("the focus in the question", "sure-no", browser.focus())
+            browser.keys(Keys.ESCAPE)
+            same("the focus after the question", name, browser.focus())
+            browser.keys(Keys.ENTER, Keys.TAB, Keys.ENTER)
+        comes(f"{item}: the items that are shown", n, lambda: len(browser.all("ol.items li")))
+        same(item, item, scene.desk.history(1)[-1])
+        if item in ("T1.1", "B1r"):
+            comes("the focus stays at the step", "step", browser.focus)
+    is_ended(scene)
+
+
+# the refusals of a request, but for that of a plan
+NAMES = (
+    "BadHead", "NoAgent", "NoKey", "BadBody", "UnknownPath", "WrongMethod", "NoJourney", "Finished", "NoSavePoint", "NoSave",
+    "KeyReused", "TooLarge", "Limit", "NoLength",
+)
+
+
+def refusals_in_words(scene):
+    """Each refusal that the desk may give is said in words of its own."""
+    browser = scene.browser
+    scene.begins()
+    scene.shows_journey(1)
+    said = set()
+    for number, name in enumerate(NAMES):
+        scene.network.instead = (409, {"name": name, "refused": number + 1})
+        browser.press("Do step 1", ".acts")
+        text = wait_until(lambda: next((text for text in browser.names(".note.isbad p") if text not in said), ""), f"words for {name}")
+        same(f"{name} is put in words", False, name in text or "The desk refused it" in text)
+        said.add(text)
+        scene.may("Do step 1", START)
+    same("nothing is kept to be retried", 0, scene.kept())
+    browser.open(scene.desk.url("#/plan"))
+    browser.types("#line", "F/AL/A1/2030-06-01/1/1!0", Keys.TAB)
+    scene.network.instead = (400, {"cause": "night", "name": "BadPlan", "refused": 5, "step": 1})
+    browser.press("Begin the journey")
+    scene.note("The plan is refused: in step 1, its first night is no day from 2000 to 2099.")
+    browser.one(".step.isbad")
+
+
+def refused_by_the_desk(scene):
+    """What another window did meanwhile makes the desk refuse; the page says why, and then shows what is."""
+    browser = scene.browser
+    rows = (
+        (["step"], "Take save-point 1", "save", "No save-point can be taken here"),
+        (["step", "save", "abort/0"], "Turn back to save-point 1", None, "The journey cannot turn back to there"),
+        (["step"], "Do step 2", "abort/0 step", "The journey has ended or is undone"),
+    )
+    for n, (before, button, meanwhile, words) in enumerate(rows, 1):
+        identity = scene.begins(plan(FLIGHT, TRANSFER), key=f"b{n}")
+        if meanwhile is None:
+            before, meanwhile = before[:-1], before[-1]
+        for k, word in enumerate(before):
+            scene.desk.post(f"/journeys/{identity}/{word}", f"b{n}-{k}")
+        scene.shows_journey(identity)
+        browser.named(button, ".acts")
+        scene.network.holds_gets = True
+        time.sleep(0.3)
+        for k, word in enumerate(meanwhile.split()):
+            scene.desk.post(f"/journeys/{identity}/{word}", f"m{n}-{k}")
+        browser.press(button, ".acts")
+        if browser.all("dialog[open]"):
+            browser.click_on("#sure-yes")
+        scene.note(words)
+        scene.network.release_gets()
+        comes("what may be done then", False, lambda: button in browser.names(".acts button"))
+
+
+def last_place(scene):
+    """Two agents in two windows want the last place: one has it, the other is told, and both see that it is gone."""
+    browser, driver = scene.browser, scene.browser.driver
+    windows = [driver.current_window_handle]
+    driver.switch_to.new_window("window")
+    windows.append(driver.current_window_handle)
+    browser.works_as(scene.desk.url("#/who"), "bob")
+    for at, agent in enumerate(("ann", "bob")):
+        driver.switch_to.window(windows[at])
+        driver.refresh()
+        same("each window has its own agent", f"Agent {agent}", browser.text("#who"))
+        scene.chooses("flight AL LAST", JUNE[0])
+        browser.press("Add as step 1")
+        browser.press("Begin the journey")
+        browser.shows("Fits now: 1 free", ".acts")
+    for at in (0, 1):
+        driver.switch_to.window(windows[at])
+        browser.press("Do step 1", ".acts")
+    outcomes = []
+    for at, agent in enumerate(("ann", "bob"), 1):
+        driver.switch_to.window(windows[at - 1])
+        comes("it is over", True, lambda: bool(browser.all(".is.ended, .is.undone")) and not browser.all(".acts button"))
+        outcomes.append((scene.desk.history(at, agent), browser.text("#one .is")))
+        browser.press("Stock")
+        gone = "1 June 2030, 0 of 1 free, 100 % taken"
+        comes("the place is gone", gone, lambda: scene.night("flight AL LAST", JUNE[0]).get_attribute("aria-label"))
+    same("one has it", [(["B0r"], "undone"), (["T1.1"], "ended")], sorted(outcomes))
+    refused = scene.desk.ask("GET", "/journeys/1", "bob")
+    same("another's journey is not shown", (404, {"name": "NoJourney", "refused": 9}), refused)
+    browser.open(scene.desk.url("#/journeys/1"))
+    browser.shows("bob has no journey 1", "#one")

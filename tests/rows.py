@@ -1,0 +1,210 @@
+"""Worked rows: what the desk is asked and has to answer, written by hand in rows.txt, through the program. A row of lines is
+run over HTTP too, each line as the request of the same meaning, and each page as the answer says it.
+
+rows.py ROWS.txt [WORD]    the rows whose names have this word; prints how many rows and runs there were
+"""
+import json
+import os
+import re
+import sqlite3
+import sys
+
+import rows_by_hand
+from driving import Client, Server, desk
+from rows_pages import SHORT, Wrong, expect, message, page, page_of, plan_value, request_of
+
+
+# The text of the rows.
+
+
+def long(text):
+    """The text with its short forms written out."""
+    text = re.sub(r"\[(\d+) ([^\]]*)\]", lambda m: m[2] * int(m[1]), text)
+    for name, cell in SHORT.items():
+        text = text.replace(name, cell)
+    return text
+
+
+def each(line):
+    """The line with each of its numbers."""
+    found = re.search(r"\{(\d+)\.\.(\d+)\}", line)
+    if not found:
+        return [line]
+    width = len(found[1]) if found[1].startswith("0") else 0
+    numbers = range(int(found[1]), int(found[2]) + 1)
+    return [re.sub(r"\{\d+\.\.\d+\}", f"{n:0{width}}", line) for n in numbers]
+
+
+def rows_in(path):
+    """The rows: their names, and their parts, each with its words and its lines."""
+    with open(path, encoding="ascii") as file:
+        text = file.read()
+    for block in re.split(r"^= ", text, flags=re.M)[1:]:
+        name, *lines = block.rstrip("\n").split("\n")
+        parts = []
+        for line in lines:
+            word, _, rest = line.partition(" ")
+            if word in ("run", "call", "file", "sql", "http"):
+                parts.append((word, long(rest), []))
+            elif line:
+                parts[-1][2].extend(each(long(line)))
+        yield name, parts
+
+
+def pair(line):
+    """What is asked, and the answer."""
+    asked, _, answer = line.partition(" => ")
+    return ("" if asked == "(empty)" else asked), answer
+
+
+# The parts of a row.
+
+
+def run(lines):
+    asked = [pair(line) for line in lines]
+    ended = desk("run", "trips.db", lines="".join(line + "\n" for line, _ in asked))
+    found = ended.out.split("\n")
+    for (line, answer), one in zip(asked, found):
+        expect(line[:200], answer, one)
+    expect("the output", "".join(answer + "\n" for _, answer in asked), ended.out)
+    expect("the end", (0, ""), (ended.status, ended.err))
+
+
+def call(words, lines):
+    out = "".join(line[2:] + "\n" for line in lines if line.startswith("| "))
+    told = dict(line.split(" ", 1) for line in lines if not line.startswith("| "))
+    ended = desk(*words.split(" "))
+    err = f"fault {told['fault']}\n" if "fault" in told else ""
+    expect(words, (out, err, int(told.get("status", "0"))), (ended.out, ended.err, ended.status))
+
+
+def write(name, lines):
+    with open(name, "w", encoding="ascii") as file:
+        file.write("".join(line[2:] + "\n" for line in lines))
+
+
+def sql(text):
+    statement, _, expected = text.partition(" => ")
+    connection = sqlite3.connect("trips.db")
+    rows = connection.execute(statement).fetchall()
+    connection.commit()
+    connection.close()
+    if expected:
+        expect(statement, expected, " ".join("|".join(map(str, row)) for row in rows))
+
+
+def http(lines):
+    """Requests over one connection."""
+    server = Server("trips.db")
+    client = Client(server.port)
+    try:
+        for line in lines:
+            asked, answer = pair(line)
+            first, *fields = re.split(r" (?=(?:key|as|body|file|plan) )", asked)
+            told = dict(field.split(" ", 1) for field in fields)
+            sent = message(*first.split(" "), told.get("as", "ann"), told.get("key", ""), body_of(told))
+            status, size, body = answer.split(" ", 2)
+            found = client.ask(sent)
+            if size == "+":
+                expect(asked, True, found.startswith(b"HTTP/1.1 200 OK\r\n") and f"\n{body}\n".encode() in found)
+                continue
+            body = body.replace("\\n", "\n")
+            expect(f"{asked}: the length", int(size), len(body))
+            expect(asked, page(int(status), body, "GET" if status == "405" else ""), found)
+    finally:
+        client.close()
+        ended = server.end()
+    expect("the end", (f"ready {server.port}\n", "", 0), (ended.out, ended.err, ended.status))
+
+
+def body_of(told):
+    """The body that a request is told to have."""
+    if "file" in told:
+        with open(told["file"], "rb") as file:
+            return file.read()
+    if "plan" in told:
+        return json.dumps(plan_value(told["plan"])).encode()
+    return told.get("body", "").replace("\\n", "\n").encode()
+
+
+class Twin:
+    """The lines of a row as requests of the agent `desk`, whose journeys are those of the house too."""
+
+    def __init__(self):
+        self.keys = 0
+
+    def run(self, lines):
+        server = Server("trips.db")
+        client = Client(server.port)
+        try:
+            for line in lines:
+                asked, answer = pair(line)
+                self.keys += 1
+                target, body = request_of(asked)
+                sent = message("POST", target, "desk", f"k{self.keys}", body.encode())
+                expect(f"{asked[:200]}, over HTTP", page_of(answer), client.ask(sent))
+        finally:
+            client.close()
+            ended = server.end()
+        expect("the end", (f"ready {server.port}\n", "", 0), (ended.out, ended.err, ended.status))
+
+
+def has_twin(parts):
+    """Whether all that a row asks of `run` may be asked over HTTP."""
+    lines = [line for word, _, lines in parts if word == "run" for line in lines]
+    return bool(lines) and all(request_of(pair(line)[0]) for line in lines)
+
+
+def clear():
+    for name in os.listdir("."):
+        os.remove(name)
+
+
+def runs(parts, as_lines):
+    """One run of a row, on a new file."""
+    clear()
+    for word, words, lines in parts:
+        if word == "run":
+            as_lines(lines)
+        elif word == "call":
+            call(words, lines)
+        elif word == "file":
+            write(words, lines)
+        elif word == "sql":
+            sql(words)
+        else:
+            http(lines)
+
+
+def main():
+    path, word = os.path.abspath(sys.argv[1]), sys.argv[2] if len(sys.argv) > 2 else ""
+    rows, count, wrong = 0, 0, 0
+    os.makedirs("rows", exist_ok=True)
+    os.chdir("rows")
+    for name, parts in rows_in(path):
+        if word not in name:
+            continue
+        rows += 1
+        for kind, as_lines in (("", run), (", over HTTP", Twin().run if has_twin(parts) else None)):
+            if as_lines is None:
+                continue
+            count += 1
+            try:
+                runs(parts, as_lines)
+            except Wrong as fault:
+                wrong += 1
+                print(f"rows.py: {name}{kind}: {fault}", file=sys.stderr)
+    for row in rows_by_hand.ROWS if not word else ():
+        rows, count = rows + 1, count + 1
+        clear()
+        try:
+            row()
+        except Wrong as fault:
+            wrong += 1
+            print(f"rows.py: {row.__name__}: {fault}", file=sys.stderr)
+    print(f"{rows} rows, {count} runs, {wrong} wrong")
+    sys.exit(1 if wrong or not rows else 0)
+
+
+if __name__ == "__main__":
+    main()
