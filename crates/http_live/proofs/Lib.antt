@@ -3,3 +3,4 @@ pub mod Merged
 pub mod WorldLemmas
 pub mod RestLemmas
 pub mod Ends
+mod DoorLemmas

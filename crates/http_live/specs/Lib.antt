@@ -5,3 +5,5 @@ pub mod Merging
 pub mod Examples
 pub mod Worlds
 pub mod Seats
+pub mod Doors
+pub mod Arrivals

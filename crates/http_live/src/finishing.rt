@@ -1,5 +1,6 @@
 //! Handing out what waits, once no more messages are answered.
 ghost use Rattle.std.specs.Prelude.{◌≡◌, map};
+ghost use Rattle.http_live.specs.Arrivals.{arrivals_at};
 ghost use Rattle.http_live.specs.Seats.{exchanges_at};
 
 use crate::seats::Seat;
@@ -10,6 +11,7 @@ use std::io::{Read, Write};
 /// connection for which nothing waits is over, and a peer that comes is let go.
 pub fn finish_many<T: Turns>(seats: &mut [Seat<T::Reader, T::Writer>], turns: &mut T)
     ensures kept { map exchanges_at seats.new ≡ map exchanges_at seats.old }
+    ensures arrivals { map arrivals_at seats.new ≡ map arrivals_at seats.old }
 {
     for _ in 0..u64::MAX {
         if !finish_turn(seats, turns) {
@@ -21,9 +23,10 @@ pub fn finish_many<T: Turns>(seats: &mut [Seat<T::Reader, T::Writer>], turns: &m
 /// Takes the next turn, and reports whether there was one.
 fn finish_turn<T: Turns>(seats: &mut [Seat<T::Reader, T::Writer>], turns: &mut T) -> bool
     ensures kept { map exchanges_at seats.new ≡ map exchanges_at seats.old }
+    ensures arrivals { map arrivals_at seats.new ≡ map arrivals_at seats.old }
 {
     match turns.next_turn() {
-        Turn::Comes(_, _, _, _) => true,
+        Turn::Comes(_, _, _, _, _) => true,
         Turn::Ready(at) => {
             hand_out_at(seats, turns, at);
             true
@@ -39,6 +42,7 @@ fn finish_turn<T: Turns>(seats: &mut [Seat<T::Reader, T::Writer>], turns: &mut T
 /// Hands out what waits at a seat.
 fn hand_out_at<T: Turns>(seats: &mut [Seat<T::Reader, T::Writer>], turns: &mut T, at: usize)
     ensures kept { map exchanges_at seats.new ≡ map exchanges_at seats.old }
+    ensures arrivals { map arrivals_at seats.new ≡ map arrivals_at seats.old }
 {
     if at >= seats.len() {
         return;
@@ -50,6 +54,7 @@ fn hand_out_at<T: Turns>(seats: &mut [Seat<T::Reader, T::Writer>], turns: &mut T
 /// The connection of a seat ends.
 fn clear_at<R: Read + Drop, W: Write + Drop>(seats: &mut [Seat<R, W>], at: usize)
     ensures kept { map exchanges_at seats.new ≡ map exchanges_at seats.old }
+    ensures arrivals { map arrivals_at seats.new ≡ map arrivals_at seats.old }
 {
     if at >= seats.len() {
         return;

@@ -1,12 +1,13 @@
 //! Places for one connection after another.
-ghost use Rattle.std.specs.Prelude.{◌≡◌, ◌+◌, ◌≤◌, [], length, map, Ok, IfErr, IfOk, IfSome, IsErrOf, IsTrue};
+ghost use Rattle.std.specs.Prelude.{◌≡◌, ◌∷◌, ◌++◌, ◌+◌, ◌≤◌, [], All, length, map, Ok, IfErr, IfOk, IfSome, IsErrOf, IsTrue};
 ghost use Rattle.saga_core.specs.Books.{LeavesNoMore};
 ghost use Rattle.http_conversations.specs.Conversations.{history};
 ghost use Rattle.http_conversations.specs.Leading.{GoesOn, has_broken};
 ghost use Rattle.http_conversations.specs.Exchanges.{StopAtLast, since};
+ghost use Rattle.http_live.specs.Arrivals.{arrival, arrivals_at};
 ghost use Rattle.http_live.specs.Endings.{turn_stops};
 ghost use Rattle.http_live.specs.Resting.{Rests};
-ghost use Rattle.http_live.specs.Seats.{HasDoor, HasStopAt, exchanges_at};
+ghost use Rattle.http_live.specs.Seats.{HasDoor, HasStopAt, connections_at, exchanges_at};
 
 use crate::connection::Connection;
 use crate::standing::Standing;
@@ -15,6 +16,7 @@ use desk_http::Door;
 use http_conversations::MOST_READ;
 use http_pages::Paths;
 use http_server::Log;
+use http_ways::Way;
 use saga_core::Book;
 use std::alloc::{AllocError, Global};
 use std::io::{Read, Write};
@@ -34,6 +36,7 @@ impl<R: Read + Drop, W: Write + Drop> Seat<R, W> {
     /// No connection was here.
     pub fn new() -> Seat<R, W>
         ensures none { exchanges_at result ≡ [] }
+        ensures empty { connections_at result ≡ [] }
     {
         Seat {
             connection: None,
@@ -41,19 +44,21 @@ impl<R: Read + Drop, W: Write + Drop> Seat<R, W> {
         }
     }
 
-    /// A connection takes the seat, by this door. Which was there before ends.
-    pub(crate) fn take(&mut self, alloc: Global, door: Door, reader: R, writer: W)
+    /// A connection takes the seat, by this door and this way. Which was there before ends.
+    pub(crate) fn take(&mut self, alloc: Global, door: Door, way: Way, reader: R, writer: W)
         ensures kept { exchanges_at self.new ≡ exchanges_at self.old }
-        ensures door { HasDoor door self.new.connection }
+        ensures door { HasDoor door way self.new.connection }
+        ensures arrivals { arrivals_at self.new ≡ arrivals_at self.old ++ arrival reader writer door ∷ [] }
     {
         self.clear();
-        self.connection = Some(Connection::new(alloc, door, reader, writer));
+        self.connection = Some(Connection::new(alloc, door, way, reader, writer));
     }
 
     /// The connection ends, if there is one.
     pub(crate) fn clear(&mut self)
         ensures kept { exchanges_at self.new ≡ exchanges_at self.old }
         ensures none { self.new.connection ≡ None }
+        ensures arrivals { arrivals_at self.new ≡ arrivals_at self.old }
     {
         if let Some(connection) = self.connection.take() {
             self.left = self.left.and(&connection, &());
@@ -79,6 +84,7 @@ impl<R: Read + Drop, W: Write + Drop> Seat<R, W> {
     /// Hands out what waits for the connection, if there is one. One that is over ends.
     pub(crate) fn hand_out(&mut self) -> Standing
         ensures kept { exchanges_at self.new ≡ exchanges_at self.old }
+        ensures arrivals { arrivals_at self.new ≡ arrivals_at self.old }
     {
         let Some(connection) = &mut self.connection else {
             return Standing::Over;
@@ -104,6 +110,7 @@ impl<R: Read + Drop, W: Write + Drop> Seat<R, W> {
         ensures at_most_one { length (exchanges_at self.new) ≤ length (exchanges_at self.old) + 1 }
         ensures rests { IfOk result (λ standing. IfSome self.new.connection
             (λ connection. Rests standing (history connection.conversation))) }
+        ensures arrivals { arrivals_at self.new ≡ arrivals_at self.old }
         ensures stopped { result ≡ Ok Standing.Stopped → HasStopAt self.new }
         ensures stopping { StopAtLast (turn_stops result) (since (exchanges_at self.old) (exchanges_at self.new)) }
 
@@ -131,6 +138,8 @@ pub fn empty_seats<R: Read + Drop, W: Write + Drop>(
     alloc: Global,
 ) -> Result<Vec<Seat<R, W>>, AllocError>
     ensures seats { IfOk result (λ seats. length seats.items ≡ SEATS) }
+    ensures none { IfOk result (λ seats. All (λ seat. exchanges_at seat ≡ []) seats.items) }
+    ensures empty { IfOk result (λ seats. All (λ seat. connections_at seat ≡ []) seats.items) }
 {
     let mut seats = Vec::with_capacity(alloc, SEATS)?;
     for _ in 0..SEATS {

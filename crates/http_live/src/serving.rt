@@ -2,6 +2,7 @@
 ghost use Rattle.std.specs.Prelude.{◌≡◌, ◌<◌, ◌≤◌, [], length, map, false, Ok, Some, IfErr, IsErrOf, IsTrue};
 ghost use Rattle.saga_core.specs.Books.{LeavesNoMore};
 ghost use Rattle.http_conversations.specs.Leading.{has_broken};
+ghost use Rattle.http_live.specs.Arrivals.{AreAtTheirDoors};
 ghost use Rattle.http_live.specs.Endings.{ends_stopped, has_stopped};
 ghost use Rattle.http_live.specs.Merging.{Merges};
 ghost use Rattle.http_live.specs.Seats.{HasStopAmong, IsTaken, exchanges_at};
@@ -15,6 +16,7 @@ use commands::Fault;
 use desk_http::Door;
 use http_conversations::MOST_READ;
 use http_pages::Paths;
+use http_ways::Way;
 use recovery::Ready;
 use saga_core::Book;
 use std::alloc::Global;
@@ -35,6 +37,7 @@ pub fn serve_many<T: Turns, B: Book>(
     ensures worlds { WorldsGoOn (B.is_sound book.new) (B.stands book.old) (B.stands book.new) (B.leaves book.new)
         (has_broken result) (has_stopped result) (map exchanges_at seats.old) (map exchanges_at seats.new) }
     ensures stopped { result ≡ Ok Ending.Stopped → HasStopAmong seats.new }
+    ensures doors { AreAtTheirDoors T.is_at seats.old → AreAtTheirDoors T.is_at seats.new }
 
     ensures failed { IsErrOf result Fault.Store → IsTrue (B.has_failed book.new) }
     ensures stays_failed { IsTrue (B.has_failed book.old) → IsTrue (B.has_failed book.new) }
@@ -66,6 +69,7 @@ fn serve_turns<T: Turns, B: Book>(
     ensures served { Merges (B.is_sound book.new) (B.stands book.old) (B.stands book.new) (B.leaves book.new)
         (has_broken result) (has_stopped result) (map exchanges_at seats.old) (map exchanges_at seats.new) }
     ensures stopped { result ≡ Ok Ending.Stopped → HasStopAmong seats.new }
+    ensures doors { AreAtTheirDoors T.is_at seats.old → AreAtTheirDoors T.is_at seats.new }
 
     ensures failed { IsErrOf result Fault.Store → IsTrue (B.has_failed book.new) }
     ensures stays_failed { IsTrue (B.has_failed book.old) → IsTrue (B.has_failed book.new) }
@@ -98,6 +102,7 @@ fn take_turn<T: Turns, B: Book>(
     ensures served { Merges (B.is_sound book.new) (B.stands book.old) (B.stands book.new) (B.leaves book.new)
         (has_broken result) (ends_stopped result) (map exchanges_at seats.old) (map exchanges_at seats.new) }
     ensures stopped { result ≡ Ok (Some Ending.Stopped) → HasStopAmong seats.new }
+    ensures doors { AreAtTheirDoors T.is_at seats.old → AreAtTheirDoors T.is_at seats.new }
 
     ensures failed { IsErrOf result Fault.Store → IsTrue (B.has_failed book.new) }
     ensures stays_failed { IsTrue (B.has_failed book.old) → IsTrue (B.has_failed book.new) }
@@ -107,8 +112,8 @@ fn take_turn<T: Turns, B: Book>(
     ensures sound { B.is_sound book.new → B.is_sound book.old }
 {
     match turns.next_turn() {
-        Turn::Comes(at, door, reader, writer) => {
-            welcome(alloc, seats, at, door, reader, writer);
+        Turn::Comes(at, door, way, reader, writer) => {
+            welcome::<T>(alloc, seats, at, door, way, reader, writer);
             Ok(None)
         }
         Turn::Ready(at) => {
@@ -150,20 +155,24 @@ fn show_page<T: Turns>(
     }
 }
 
-/// A peer takes a seat, by its door. Where there is no such seat, it is let go.
-fn welcome<R: Read + Drop, W: Write + Drop>(
+/// A peer takes a seat, by its door and its way. Where there is no such seat, it is let go.
+fn welcome<T: Turns>(
     alloc: Global,
-    seats: &mut [Seat<R, W>],
+    seats: &mut [Seat<T::Reader, T::Writer>],
     at: usize,
     door: Door,
-    reader: R,
-    writer: W,
+    way: Way,
+    reader: T::Reader,
+    writer: T::Writer,
 )
+    requires door { T.is_at reader door }
+
     ensures kept { map exchanges_at seats.new ≡ map exchanges_at seats.old }
-    ensures taken { at < length seats.old → IsTaken at door seats.old seats.new }
+    ensures taken { at < length seats.old → IsTaken at door way seats.old seats.new }
+    ensures doors { AreAtTheirDoors T.is_at seats.old → AreAtTheirDoors T.is_at seats.new }
 {
     if at >= seats.len() {
         return;
     }
-    seats[at].take(alloc, door, reader, writer);
+    seats[at].take(alloc, door, way, reader, writer);
 }

@@ -1,13 +1,17 @@
 //! Where turns come from.
+ghost use Rattle.desk_http.specs.declared.doors.Door.{Door};
+ghost use Rattle.http_live.specs.Doors.{ComesByItsDoor};
+
 use crate::standing::Standing;
 use desk_http::Door;
+use http_ways::Way;
 use std::io::{Read, Write};
 
 /// What happens next.
 #[derive(Drop)]
 pub enum Turn<R, W> {
-    /// A peer takes this seat, by this door. Who had it before leaves.
-    Comes(usize, Door, R, W),
+    /// A peer takes this seat, by this door and this way. Who had it before leaves.
+    Comes(usize, Door, Way, R, W),
     /// The connection of this seat may go on.
     Ready(usize),
     /// The connection of this seat is ended.
@@ -22,8 +26,12 @@ pub trait Turns {
 
     type Writer: Write + Drop;
 
-    /// Waits for the next turn.
-    fn next_turn(&mut self) -> Turn<Self::Reader, Self::Writer>;
+    /// What this reader gives comes in at this door.
+    ghost is_at: { Self.Reader → Door → Type 0 };
+
+    /// Waits for the next turn. A peer comes by the door of its reader.
+    fn next_turn(&mut self) -> Turn<Self::Reader, Self::Writer>
+        ensures door { ComesByItsDoor is_at result };
 
     /// Sees what was received at a seat and may be answered in its turn, which comes next. Nothing depends on it: a log may
     /// be kept so.

@@ -1,13 +1,34 @@
 -- How a world goes on with what came over sockets.
-use Rattle.std.specs.Prelude.{Bool, List}
+use Rattle.std.specs.Prelude.{◌≡◌, Bool, List, [], All, map}
+use Rattle.std.specs.declared.io.traits.Read as Read
+use Rattle.std.specs.declared.io.traits.Write as Write
 use Rattle.ledger.specs.Answer.{State}
 use Rattle.ledger.specs.World.{Moment}
 use Rattle.saga_core.specs.Worlds.{StandsAtEnd}
 use Rattle.http_conversations.specs.Exchanges.{Exchange}
+use Rattle.http_live.specs.Arrivals.{AreAtTheirDoors}
+use Rattle.http_live.specs.Merging.{IsMerged, Seated, exchange_of}
+use Rattle.http_live.specs.Seats.{exchanges_at}
 use Rattle.http_live.specs.Worlds.{GoesOnBy}
+use Rattle.http_live.specs.declared.seats.Seat.{Seat}
+use Rattle.http_sockets.specs.Doors.{IsAt}
+use Rattle.http_sockets.specs.declared.ends.ReadEnd.{ReadEnd}
+use Rattle.http_sockets.specs.declared.ends.WriteEnd.{WriteEnd}
 
 -- each world at whose end the book stood goes on by some exchanges, while the book is sound
 abbrev pub GoOnBySome : Type 0 → (State → Type 0) → (State → Type 0) → (State → State → Type 0) → Bool → Type 0
 GoOnBySome sound stood stands leaves store_failed =
     (exchanges : List Exchange) × (sound → (w : List Moment) → StandsAtEnd stood w
     → GoesOnBy store_failed stands leaves w exchanges)
+
+-- The same, by the exchanges of seats that had none before, merged: each connection of the seats came over a socket, and
+-- its messages came in at the door of that socket.
+pub record GoOnBySockets (r : Read.Ghosts ReadEnd) (w : Write.Ghosts WriteEnd) (sound : Type 0) (stood stands : State → Type 0)
+    (leaves : State → State → Type 0) (store_failed : Bool) : Type 0 where
+  pub seats : List (Seat ReadEnd WriteEnd r w)
+  pub doors : AreAtTheirDoors IsAt seats
+  pub before : List (List Exchange)
+  pub none : All (λ exchanges. exchanges ≡ []) before
+  pub merged : List Seated
+  pub is_merged : IsMerged before (map exchanges_at seats) merged
+  pub worlds : sound → (v : List Moment) → StandsAtEnd stood v → GoesOnBy store_failed stands leaves v (map exchange_of merged)

@@ -1,5 +1,7 @@
 //! The two ends of a connection over a socket.
-use desk_http::Door;
+ghost use Rattle.std.specs.Prelude.{◌≡◌, IfOk};
+
+use desk_http::{Door, Site};
 use mio::net::{TcpStream, UnixStream};
 use mio::{Interest, Registry, Token};
 use std::alloc::{AllocError, Global};
@@ -23,6 +25,8 @@ pub struct ReadEnd(Rc<Socket>);
 pub struct WriteEnd(Rc<Socket>);
 
 impl Socket {
+    ghost use Rattle.http_sockets.specs.Doors.{IsDoorOf};
+
     /// What the system reports of it is told under this token.
     pub(crate) fn register(&mut self, registry: &Registry, token: Token) -> io::Result<()> {
         let both = Interest::READABLE | Interest::WRITABLE;
@@ -32,11 +36,14 @@ impl Socket {
         }
     }
 
-    /// By which door its requests come in: at the port by this one.
-    pub(crate) fn door(&self, at_port: Door) -> Door {
-        match self {
-            Socket::Port(_) => at_port,
-            Socket::Path(_) => Door::House,
+    /// By which door its requests come in: at the port by the one with a page, if it is served there.
+    pub(crate) fn door(&self, page: Option<Site>) -> Door
+        ensures door { IsDoorOf self.now result }
+    {
+        match (self, page) {
+            (Socket::Port(_), Some(site)) => Door::Page(site),
+            (Socket::Port(_), None) => Door::Port,
+            (Socket::Path(_), _) => Door::House,
         }
     }
 
@@ -50,7 +57,9 @@ impl Socket {
 }
 
 /// The two ends of a socket.
-pub(crate) fn ends_of(socket: &Rc<Socket>) -> Result<(ReadEnd, WriteEnd), AllocError> {
+pub(crate) fn ends_of(socket: &Rc<Socket>) -> Result<(ReadEnd, WriteEnd), AllocError>
+    ensures read { IfOk result (λ ends. ends.0.0.value ≡ socket.now.value) }
+{
     Ok((ReadEnd(socket.clone()?), WriteEnd(socket.clone()?)))
 }
 

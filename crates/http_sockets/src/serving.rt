@@ -2,7 +2,7 @@
 ghost use Rattle.std.specs.Prelude.{◌≡◌, IsErrOf, IsTrue};
 ghost use Rattle.saga_core.specs.Books.{LeavesNoMore};
 ghost use Rattle.http_conversations.specs.Leading.{has_broken};
-ghost use Rattle.http_sockets.specs.Going.{GoOnBySome};
+ghost use Rattle.http_sockets.specs.Going.{GoOnBySockets, GoOnBySome};
 
 use crate::ends::{ReadEnd, WriteEnd};
 use crate::sockets::Sockets;
@@ -11,6 +11,7 @@ use http_live::{Ending, Seat, empty_seats, finish_many, serve_many};
 use recovery::Ready;
 use saga_core::Book;
 use std::alloc::Global;
+use std::io::{Read, Write};
 
 /// Serves the sockets until their limits end it, the house asks the desk to stop, or the store fails. Where the house asks,
 /// the pages that wait go out, for at most five seconds. Out of memory, nobody was served.
@@ -21,6 +22,8 @@ pub fn serve_sockets<B: Book>(
 ) -> Result<(), Fault>
     ensures worlds { GoOnBySome (B.is_sound book.new) (B.stands book.old) (B.stands book.new) (B.leaves book.new)
         (has_broken result) }
+    ensures doors { GoOnBySockets ⟦<ReadEnd as Read>⟧ ⟦<WriteEnd as Write>⟧ (B.is_sound book.new) (B.stands book.old)
+        (B.stands book.new) (B.leaves book.new) (has_broken result) }
 
     ensures failed { IsErrOf result Fault.Store → IsTrue (B.has_failed book.new) }
     ensures stays_failed { IsTrue (B.has_failed book.old) → IsTrue (B.has_failed book.new) }

@@ -1,13 +1,18 @@
 //! Turns from the system: what epoll reports, and who comes and goes.
+ghost use Rattle.std.specs.Prelude.{◌≡◌, None, IfOk, IfSome, IsSome, OnErr, OnOk};
+ghost use Rattle.http_live.specs.Doors.{ComesByItsDoor};
+ghost use Rattle.http_sockets.specs.Doors.{IsAt};
+
 use crate::ends::{ReadEnd, Socket, WriteEnd, ends_of};
-use crate::journal::Journal;
 use crate::limits::Limits;
 use crate::listeners::{Accepted, FIRST, Listeners};
 use crate::places::Places;
 use desk_http::{Door, Site};
+use http_journal::Journal;
 use http_live::{SEATS, Standing, Turn, Turns};
 use http_log::Why;
 use http_pages::HtmlPage;
+use http_ways::Way;
 use mio::{Events, Poll, Token};
 use std::alloc::{AllocError, Global};
 use std::collections::VecDeque;
@@ -49,8 +54,10 @@ pub struct Sockets<'a> {
     poll: Poll,
     events: Events,
     listeners: Listeners<'a>,
-    /// By which door requests come in at the port.
-    at_port: Door,
+    /// The page that is served at the port, if one is.
+    page: Option<Site>,
+    /// By which way requests are read.
+    way: Way,
     places: Places,
     /// The seats that go on in this round, and those of the next one.
     round: VecDeque<usize>,
@@ -64,6 +71,8 @@ pub struct Sockets<'a> {
 }
 
 impl<'a> Sockets<'a> {
+    ghost use Rattle.http_sockets.specs.Doors.{page_at_port};
+
     /// Listens on a port of 127.0.0.1, and on a path if there is one, which its owner alone may open.
     pub fn bind(
         rt: &'a HostRuntime,
@@ -71,7 +80,9 @@ impl<'a> Sockets<'a> {
         port: u16,
         path: Option<&'a str>,
         limits: Limits,
-    ) -> io::Result<Sockets<'a>> {
+    ) -> io::Result<Sockets<'a>>
+        ensures no_page { IfOk result (λ sockets. page_at_port sockets ≡ None) }
+    {
         let poll = Poll::new(rt)?;
         let events = Events::with_capacity(alloc, EVENTS)?;
         let places = Places::new(alloc, SEATS)?;
@@ -92,7 +103,8 @@ impl<'a> Sockets<'a> {
             poll,
             events,
             listeners,
-            at_port: Door::Port,
+            page: None,
+            way: Way::Profile,
             places,
             round,
             next,
@@ -121,10 +133,20 @@ impl<'a> Sockets<'a> {
     }
 
     /// Who comes to the port from now on is served this page too.
-    pub fn show(&mut self, page: HtmlPage) -> io::Result<()> {
+    pub fn show(&mut self, page: HtmlPage) -> io::Result<()>
+        ensures shown { OnOk result (IfSome (page_at_port self.new) (λ site. site.page ≡ page)) }
+        ensures some { OnOk result (IsSome (page_at_port self.new)) }
+
+        ensures err { OnErr result (page_at_port self.new ≡ page_at_port self.old) }
+    {
         let port = self.port()?;
-        self.at_port = Door::Page(Site { port, page });
+        self.page = Some(Site { port, page });
         Ok(())
+    }
+
+    /// Who comes from now on may speak HTTP as libraries, proxies and pools do.
+    pub fn widen(&mut self) {
+        self.way = Way::Wide;
     }
 
     /// Whether no turn came since the system failed to report what happens.
@@ -160,7 +182,9 @@ impl<'a> Sockets<'a> {
     }
 
     /// The next turn of this round.
-    fn turn_of_round(&mut self) -> Option<Turn<ReadEnd, WriteEnd>> {
+    fn turn_of_round(&mut self) -> Option<Turn<ReadEnd, WriteEnd>>
+        ensures door { IfSome result (ComesByItsDoor IsAt) }
+    {
         if let Some(at) = self.leaving.pop_front() {
             let why = self.places.why_overdue(at);
             self.note_end(at, why);
@@ -181,7 +205,9 @@ impl<'a> Sockets<'a> {
     }
 
     /// The next peer takes a seat, if one waits.
-    fn welcome(&mut self) -> Option<Turn<ReadEnd, WriteEnd>> {
+    fn welcome(&mut self) -> Option<Turn<ReadEnd, WriteEnd>>
+        ensures door { IfSome result (ComesByItsDoor IsAt) }
+    {
         for _ in 0..WELCOMES {
             if !self.welcomes() {
                 return None;
@@ -208,18 +234,20 @@ impl<'a> Sockets<'a> {
         self.to_come = self.to_come.map(|count| count.saturating_sub(1));
     }
 
-    /// A peer takes a seat.
-    fn seated(&mut self, socket: Socket, at: usize) -> io::Result<Turn<ReadEnd, WriteEnd>> {
+    /// A peer takes a seat, by the door of its socket.
+    fn seated(&mut self, socket: Socket, at: usize) -> io::Result<Turn<ReadEnd, WriteEnd>>
+        ensures door { IfOk result (ComesByItsDoor IsAt) }
+    {
         let mut socket = socket;
-        let door = socket.door(self.at_port);
         socket.register(self.poll.registry(), Token(at.saturating_add(FIRST)))?;
         let socket = Rc::new(self.alloc, socket)?;
+        let door = socket.door(self.page);
         let (reader, writer) = ends_of(&socket)?;
         self.places.take(at, socket, self.tick);
         if let Some(journal) = &mut self.journal {
             journal.comes(at, matches!(door, Door::House));
         }
-        Ok(Turn::Comes(at, door, reader, writer))
+        Ok(Turn::Comes(at, door, self.way, reader, writer))
     }
 
     /// Begins the next round: waits until a seat may go on or somebody comes, or a tick is over.
@@ -281,6 +309,8 @@ impl Turns for Sockets<'_> {
 
     type Writer = WriteEnd;
 
+    ghost is_at = { IsAt };
+
     fn next_turn(&mut self) -> Turn<ReadEnd, WriteEnd> {
         for _ in 0..u64::MAX {
             if let Some(turn) = self.turn_of_round() {
@@ -299,7 +329,7 @@ impl Turns for Sockets<'_> {
 
     fn see_received(&mut self, at: usize, received: &[u8]) {
         if let Some(journal) = &mut self.journal {
-            journal.sees_received(at, received);
+            journal.sees_received(at, self.way, received);
         }
     }
 

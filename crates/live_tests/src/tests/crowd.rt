@@ -1,9 +1,13 @@
 //! A source of turns over few seats: peers come at any time, some in place of others, go on in a random order, and some
 //! are cut off.
+ghost use Rattle.std.specs.Prelude.{◌≡◌, IfSome};
+ghost use Rattle.http_live.specs.Doors.{ComesByItsDoor};
+
 use crate::tests::dice::Dice;
 use crate::tests::ends::{Notes, Pieces, Sink};
 use crate::tests::peers::Peer;
 use http_live::{Standing, Turn, Turns};
+use http_ways::Way;
 
 /// How many seats the peers share.
 const SHARED: u64 = 3;
@@ -50,7 +54,9 @@ impl<'a> Crowd<'a> {
     }
 
     /// The next peer comes, if there is one more.
-    fn comes(&mut self, seat: usize) -> Option<Turn<Pieces<'a>, Sink<'a>>> {
+    fn comes(&mut self, seat: usize) -> Option<Turn<Pieces<'a>, Sink<'a>>>
+        ensures door { IfSome result (ComesByItsDoor (λ reader door. reader.door ≡ door)) }
+    {
         let at = self.came;
         let peer = self.peers.get(at)?;
         self.came = at.saturating_add(1);
@@ -59,6 +65,7 @@ impl<'a> Crowd<'a> {
             *seated = Some(at);
         }
         let reader = Pieces {
+            door: peer.door,
             left: peer.sent.as_slice(),
             step: peer.read_step,
             fails: peer.fails,
@@ -71,7 +78,7 @@ impl<'a> Crowd<'a> {
             step: peer.write_step,
             dice: Dice::new(self.dice.roll(1_000_000)),
         };
-        Some(Turn::Comes(seat, peer.door, reader, writer))
+        Some(Turn::Comes(seat, peer.door, Way::Profile, reader, writer))
     }
 }
 
@@ -79,6 +86,8 @@ impl<'a> Turns for Crowd<'a> {
     type Reader = Pieces<'a>;
 
     type Writer = Sink<'a>;
+
+    ghost is_at = { λ reader door. reader.door ≡ door };
 
     fn next_turn(&mut self) -> Turn<Pieces<'a>, Sink<'a>> {
         if self.left == 0 {

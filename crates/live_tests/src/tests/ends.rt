@@ -1,5 +1,6 @@
 //! The two ends of a connection: they give and take pieces of a random size, or none yet, and may fail.
 use crate::tests::dice::Dice;
+use desk_http::Door;
 use std::cell::RefCell;
 use std::io::{self, ErrorKind, Read, Write};
 
@@ -9,6 +10,8 @@ pub type Notes = RefCell<Vec<Vec<u8>>>;
 /// Gives its bytes in pieces. After the last byte it reports the end, or fails.
 #[derive(Drop)]
 pub struct Pieces<'a> {
+    /// By which door its peer comes.
+    pub door: Door,
     pub left: &'a [u8],
     /// How many bytes a read gives, at most.
     pub step: u64,

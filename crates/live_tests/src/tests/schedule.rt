@@ -1,8 +1,11 @@
 //! A source of turns: every peer comes, and then one after another may go on, in a random order or in turn.
+ghost use Rattle.std.specs.Prelude.{◌≡◌};
+
 use crate::tests::dice::Dice;
 use crate::tests::ends::{Notes, Pieces, Sink};
 use crate::tests::peers::Peer;
 use http_live::{Standing, Turn, Turns};
+use http_ways::Way;
 
 #[derive(Drop)]
 pub struct Schedule<'a> {
@@ -24,11 +27,14 @@ impl<'a> Turns for Schedule<'a> {
 
     type Writer = Sink<'a>;
 
+    ghost is_at = { λ reader door. reader.door ≡ door };
+
     fn next_turn(&mut self) -> Turn<Pieces<'a>, Sink<'a>> {
         let seat = self.came;
         if let Some(peer) = self.peers.get(seat) {
             self.came = seat.saturating_add(1);
             let reader = Pieces {
+                door: peer.door,
                 left: peer.sent.as_slice(),
                 step: peer.read_step,
                 fails: peer.fails,
@@ -41,7 +47,7 @@ impl<'a> Turns for Schedule<'a> {
                 step: peer.write_step,
                 dice: Dice::new(self.dice.roll(1_000_000)),
             };
-            return Turn::Comes(seat, peer.door, reader, writer);
+            return Turn::Comes(seat, peer.door, Way::Profile, reader, writer);
         }
         if self.left == 0 {
             return Turn::End;

@@ -15,6 +15,7 @@ loop-init g c =
       served = merges_none (book.is_sound b) (book.stands b) (book.leaves b) _ _ refl;
       stays_failed = λ failed. failed;
       stays_left = λ failed s t left. left;
+      doors = λ doors. doors;
       sound = λ sound. sound;
     }
 
@@ -32,6 +33,7 @@ loop-preserved g c =
           (ap (λ end. ends_stopped (Ok end)) c.in-None.is) turn.served);
       stays_failed = λ failed. turn.stays_failed (at.invariant.stays_failed failed);
       stays_left = λ failed s t left. turn.stays_left (at.invariant.stays_failed failed) s t (at.invariant.stays_left failed s t left);
+      doors = λ doors. turn.doors (at.invariant.doors doors);
       sound = λ sound. at.invariant.sound (turn.sound sound);
     }
 
@@ -64,3 +66,10 @@ returns-in-Some-clause-served g c =
 pub returns-in-Some-clause-stays_left : goal.returns-in-Some-clause-stays_left
 returns-in-Some-clause-stays_left g c = λ failed s t left.
     c.in_ok-ending.ensures.stays_left (c.loop.invariant.stays_failed failed) s t (c.loop.invariant.stays_left failed s t left)
+
+-- each connection is still at its door
+pub returns-in_err-ending-clause-doors : goal.returns-in_err-ending-clause-doors
+returns-in_err-ending-clause-doors g c = λ doors. c.in_err-ending.ensures.doors (c.loop.invariant.doors doors)
+
+pub returns-in-Some-clause-doors : goal.returns-in-Some-clause-doors
+returns-in-Some-clause-doors g c = λ doors. c.in_ok-ending.ensures.doors (c.loop.invariant.doors doors)

@@ -9,6 +9,7 @@ use Rattle.http_live.specs.Endings.{ending_after, ends_stopped, is_stop}
 use Rattle.http_live.specs.Seats.{HasStopAt, exchanges_at}
 use Rattle.http_conversations.proofs.Steps.{no_stop}
 use Rattle.http_live.proofs.RestLemmas.{asked_to_stop, stop_as, stops_in_turn}
+use Rattle.http_live.proofs.DoorLemmas.{kept_at}
 use Rattle.http_live.proofs.LeadLemmas.{goes_on_none}
 use Rattle.http_live.proofs.Merged.{merges_none, merges_set}
 use Rattle.http_live.proofs.serving.take_turn.Goals as goal
@@ -83,3 +84,21 @@ returns-then-at-seats-clause-stopped g c = λ is.
     sym c.ending_after.ensures.ending ∙ (let e : c.ending_after.result ≡ Some ends.Stopped = cc in e) in
     any-set HasStopAt c.args.seats.now c.in-Ready.at _ c.if-at-seats.true
     (c.in_ok-standing-in-Ready.ensures.stopped (ap Ok (asked_to_stop c.in_ok-standing-in-Ready.standing ending)))
+
+-- the store failed at the message of a seat, whose connection is as it came
+pub returns-in_err-standing-in-Ready-clause-doors : goal.returns-in_err-standing-in-Ready-clause-doors
+returns-in_err-standing-in-Ready-clause-doors g c =
+    kept_at g.T.Turns.is_at c.args.seats.now c.in-Ready.at c.index-seats-at.result _ c.if-at-seats.true
+    c.in_err-standing-in-Ready.ensures.arrivals
+
+-- the connection of a seat went on
+pub returns-then-at-seats-clause-doors : goal.returns-then-at-seats-clause-doors
+returns-then-at-seats-clause-doors g c =
+    kept_at g.T.Turns.is_at c.args.seats.now c.in-Ready.at c.index-seats-at.result _ c.if-at-seats.true
+    c.in_ok-standing-in-Ready.ensures.arrivals
+
+-- the connection of a seat ends
+pub returns-then-at-seats-2-clause-doors : goal.returns-then-at-seats-2-clause-doors
+returns-then-at-seats-2-clause-doors g c =
+    kept_at g.T.Turns.is_at c.args.seats.now c.in-Leaves.at c.index-seats-at-then-at-seats-2.result _ c.if-at-seats-2.true
+    c.clear.ensures.arrivals

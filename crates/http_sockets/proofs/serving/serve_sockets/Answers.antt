@@ -1,9 +1,13 @@
 -- What came over the sockets is how each world goes on.
-use Rattle.std.proofs.Common.{[], false, map, refl}
+use Rattle.std.proofs.Common.{◌≡◌, [], All, false, map, refl, subst, sym}
+use Rattle.std.proofs.lemmas.List.Elements.{All-nil}
 use Rattle.std.proofs.lemmas.Result.{err_from_is_err_and}
 use Rattle.http_live.specs.Merging.{exchange_of}
+use Rattle.http_live.specs.Seats.{connections_at, exchanges_at}
 use Rattle.http_live.proofs.Merged.{merges_none}
 use Rattle.http_live.proofs.WorldLemmas.{worlds_go_on}
+use Rattle.http_sockets.specs.Doors.{IsAt}
+use Rattle.http_sockets.proofs.SeatLemmas.{at_doors, no_exchanges}
 use Rattle.http_sockets.proofs.serving.serve_sockets.Goals as goal
 
 -- out of memory, nobody was served
@@ -25,3 +29,51 @@ returns-in_err-ending-clause-worlds g c =
 -- the exchanges of all seats, merged
 pub returns-clause-worlds : goal.returns-clause-worlds
 returns-clause-worlds g c = let m = c.in_ok-ending.ensures.worlds in (map exchange_of m.merged, m.worlds)
+
+-- out of memory, there were no seats
+pub returns-in_default-clause-doors : goal.returns-in_default-clause-doors
+returns-in_default-clause-doors g c =
+    let book = g.B.Book in
+    let b = c.args.book.now in
+    let m = worlds_go_on false false (book.is_sound b) (book.stands b) (book.stands b) (book.leaves b) [] [] (g.met.B.Book.settled b)
+    (merges_none (book.is_sound b) (book.stands b) (book.leaves b) [] [] refl) in record {
+      seats = [];
+      doors = All-nil _;
+      before = [];
+      none = All-nil _;
+      merged = m.merged;
+      is_merged = m.is_merged;
+      worlds = m.worlds;
+    }
+
+-- the store failed: the seats until then
+pub returns-in_err-ending-clause-doors : goal.returns-in_err-ending-clause-doors
+returns-in_err-ending-clause-doors g c =
+    let failed = err_from_is_err_and c.from_residual.result c.from_residual.ensures.1 in
+    let m = c.in_err-ending.ensures.worlds in
+    let seats = c.as_mut_slice.result.now in
+    let same = sym c.as_mut_slice.ensures.value in
+    rw (failed.1, failed.2) (record {
+      seats = c.serve_many.new.seats;
+      doors = c.in_err-ending.ensures.doors (at_doors seats IsAt (subst (All (λ seat. connections_at seat ≡ [])) same c.in-Ok.ensures.empty));
+      before = map exchanges_at seats;
+      none = no_exchanges seats (subst (All (λ seat. exchanges_at seat ≡ [])) same c.in-Ok.ensures.none);
+      merged = m.merged;
+      is_merged = m.is_merged;
+      worlds = m.worlds;
+    })
+
+-- the seats as they were served
+pub returns-clause-doors : goal.returns-clause-doors
+returns-clause-doors g c =
+    let m = c.in_ok-ending.ensures.worlds in
+    let seats = c.as_mut_slice.result.now in
+    let same = sym c.as_mut_slice.ensures.value in record {
+      seats = c.serve_many.new.seats;
+      doors = c.in_ok-ending.ensures.doors (at_doors seats IsAt (subst (All (λ seat. connections_at seat ≡ [])) same c.in-Ok.ensures.empty));
+      before = map exchanges_at seats;
+      none = no_exchanges seats (subst (All (λ seat. exchanges_at seat ≡ [])) same c.in-Ok.ensures.none);
+      merged = m.merged;
+      is_merged = m.is_merged;
+      worlds = m.worlds;
+    }

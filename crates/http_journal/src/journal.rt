@@ -1,10 +1,10 @@
-//! The log of what is served: which lines are written, and when. `http_log` has their form.
-//!
-//! A line that cannot be made or written is left out: nothing depends on the log.
-use commands::{Agent, Key};
+//! Which lines of the log are written, and when.
+use crate::known::Known;
+use crate::texts::{ask_of, asked_by, is_closing};
 use http_live::Standing;
-use http_log::{Asked, Peer, Recent, Why, ended_line, opened_line, request_line};
-use http_messages::{Message, Request, first_message};
+use http_log::{Recent, Why, ended_line, opened_line, request_line};
+use http_messages::Message;
+use http_ways::{Way, first_by};
 use log::info;
 use std::alloc::{AllocError, Global};
 
@@ -15,27 +15,9 @@ pub fn log_opening(rt: &HostRuntime, alloc: Global, recovered: u64) {
     }
 }
 
-/// What the log knows of a seat.
-#[derive(Drop)]
-struct Known {
-    /// Whether a connection is here.
-    is_here: bool,
-    peer: Peer,
-    /// How many requests were answered, or lost their pages.
-    requests: u64,
-    /// The message that may be answered in this turn.
-    message: Option<Message>,
-    /// Whether part of a message was received.
-    has_part: bool,
-    /// Whether something was left of its page after its last turn.
-    is_unsent: bool,
-    /// Whether its last page closes.
-    closes: bool,
-}
-
 /// The log.
 #[derive(Drop)]
-pub(crate) struct Journal<'a> {
+pub struct Journal<'a> {
     rt: &'a HostRuntime,
     alloc: Global,
     /// How many connections came.
@@ -46,7 +28,7 @@ pub(crate) struct Journal<'a> {
 
 impl<'a> Journal<'a> {
     /// The log of so many seats.
-    pub(crate) fn new(
+    pub fn new(
         rt: &'a HostRuntime,
         alloc: Global,
         count: usize,
@@ -65,7 +47,7 @@ impl<'a> Journal<'a> {
     }
 
     /// A connection takes a seat. Which was there before is displaced.
-    pub(crate) fn comes(&mut self, at: usize, is_house: bool) {
+    pub fn comes(&mut self, at: usize, is_house: bool) {
         self.ends(at, Why::Displaced);
         self.came = self.came.saturating_add(1);
         if let Some(known) = self.seats.get_mut(at) {
@@ -76,20 +58,20 @@ impl<'a> Journal<'a> {
         }
     }
 
-    /// What was received at a seat may be answered now.
-    pub(crate) fn sees_received(&mut self, at: usize, received: &[u8]) {
+    /// What was received at a seat may be answered now, and is read by this way.
+    pub fn sees_received(&mut self, at: usize, way: Way, received: &[u8]) {
         let Some(known) = self.seats.get_mut(at) else {
             return;
         };
         known.has_part = !received.is_empty();
-        known.message = match first_message(self.alloc, received) {
-            Ok(Some((message, _))) => Some(message),
+        known.message = match first_by(self.alloc, way, received) {
+            Ok(Some((arrived, _))) => Some(arrived.message),
             _ => None,
         };
     }
 
     /// A turn of a seat ended so, with this left of its page; a connection that is over has none.
-    pub(crate) fn sees_page(&mut self, at: usize, standing: Standing, page: &[u8]) {
+    pub fn sees_page(&mut self, at: usize, standing: Standing, page: &[u8]) {
         if standing == Standing::Over {
             let is_lost = self.answers(at, b"lost");
             self.ends_itself(at, is_lost);
@@ -148,7 +130,7 @@ impl<'a> Journal<'a> {
     }
 
     /// The connection of a seat ended, if one was here.
-    pub(crate) fn ends(&mut self, at: usize, why: Why) {
+    pub fn ends(&mut self, at: usize, why: Why) {
         let Some(known) = self.seats.get_mut(at) else {
             return;
         };
@@ -162,86 +144,9 @@ impl<'a> Journal<'a> {
     }
 
     /// All connections end.
-    pub(crate) fn ends_all(&mut self) {
+    pub fn ends_all(&mut self) {
         for at in 0..self.seats.len() {
             self.ends(at, Why::Stopped);
         }
-    }
-}
-
-impl Known {
-    /// Nobody is here.
-    fn new() -> Known {
-        Known {
-            is_here: false,
-            peer: Peer {
-                number: 0,
-                is_house: false,
-            },
-            requests: 0,
-            message: None,
-            has_part: false,
-            is_unsent: false,
-            closes: false,
-        }
-    }
-}
-
-/// Whether a page closes: the last field of its head says so.
-fn is_closing(page: &[u8]) -> bool {
-    for at in 0..page.len() {
-        let (head, rest) = page.split_at(at);
-        if rest.starts_with(b"\r\n\r\n") {
-            return head.ends_with(b"\r\nConnection: close");
-        }
-    }
-    false
-}
-
-/// Under which agent and key a message asks for something to be carried out, if it does.
-fn ask_of(message: &Message) -> Option<(Agent, Key)> {
-    match message {
-        Message::Asks(request) if request.method.as_slice() == b"POST".as_slice() => {
-            Some((request.agent?, request.key?))
-        }
-        _ => None,
-    }
-}
-
-/// What the line of a message says of it.
-fn asked_by<'m>(message: &'m Message, status: &'m [u8], again: bool) -> Asked<'m> {
-    match message {
-        Message::NoHead => Asked {
-            agent: b"",
-            method: b"",
-            target: b"",
-            status,
-            key: b"",
-            again,
-        },
-        Message::Asks(request) => Asked {
-            agent: agent_text(request),
-            method: request.method.as_slice(),
-            target: request.target.as_slice(),
-            status,
-            key: key_text(request),
-            again,
-        },
-    }
-}
-
-/// The agent of a request, or nothing.
-fn agent_text(request: &Request) -> &[u8] {
-    match &request.agent {
-        Some(agent) => agent.as_str().as_bytes(),
-        None => b"",
-    }
-}
-
-/// The key of a request, or nothing.
-fn key_text(request: &Request) -> &[u8] {
-    match &request.key {
-        Some(key) => key.as_str().as_bytes(),
-        None => b"",
     }
 }
