@@ -154,7 +154,7 @@ completes "desk u" "unfinished" desk u
 completes "desk --h" "--help" desk --h
 completes "desk --v" "--version" desk --v
 completes "desk help r" "run recover" desk help r
-completes "desk serve --" "--port --connections --house --page --log --wide --help" desk serve --
+completes "desk serve --" "--port --connections --house --page --log --help" desk serve --
 completes "desk load --b" "--batch" desk load --b
 completes "desk stock --p" "" desk stock --p
 completes "desk stock --f" "--format" desk stock --f

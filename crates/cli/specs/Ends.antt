@@ -46,7 +46,7 @@ TellsReady port held holds = Appends held holds (ready_line port)
 -- what a job that is done prints on standard output; nothing is said here of the answers of `run` and of reports
 abbrev pub TellsOf : Job → Option (List ℕ) → Option (List ℕ) → Type 0
 TellsOf (Run file) held holds = ⊤
-TellsOf (Serve file port connections house page log wide) held holds = TellsReady port held holds
+TellsOf (Serve file port connections house page log) held holds = TellsReady port held holds
 TellsOf (Recover file) held holds = TellsRecovered held holds
 TellsOf (Load file csv batch) held holds = TellsAccepted held holds
 TellsOf (Stock file format) held holds = ⊤

@@ -100,7 +100,6 @@ fn carry_out<R: Read, O: Write, N: Write>(
             house,
             page,
             log,
-            wide,
         } => {
             let served = Served {
                 port,
@@ -108,7 +107,6 @@ fn carry_out<R: Read, O: Write, N: Write>(
                 house: house.as_ref().map(|path| path.as_str()),
                 page,
                 log,
-                wide,
             };
             serve_file(rt, alloc, file.as_str(), served, out, notes)
         }

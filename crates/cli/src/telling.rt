@@ -4,8 +4,7 @@ ghost use Rattle.std.specs.Io.KnownBytes.{Keeps};
 ghost use Rattle.desk_lines.specs.Lines.{journey_in as journey_of};
 ghost use Rattle.program_ends.specs.Ends.{EndsJob};
 
-use crate::desks::{FileConnection, close_after, connect_there};
-use crate::files::NewLog;
+use crate::desks::{close_after, connect_there};
 use commands::Refusal;
 use desk_jobs::{history_over, stock_over, unfinished_over};
 use desk_lines::journey_in;
@@ -69,19 +68,7 @@ pub(crate) fn report_file<O: Write>(
         Err(ended) => return ended,
     };
     let (conn, end) = report_over(alloc, report, conn, out);
-    close_shown(rt, conn, log, end)
-}
-
-/// Closes a connection after a report that ended so, and returns that end. A report that showed its rows is done, even if the
-/// log could not be copied into the file: nothing has changed, and the next opening finds the log.
-fn close_shown(rt: &HostRuntime, conn: FileConnection, log: NewLog, end: End) -> Ended
-    ensures end { result.end ≡ end }
-{
-    let closed = close_after(rt, conn, log, &end);
-    match end {
-        End::Done => Ended::from(End::Done),
-        end => closed.after(end),
-    }
+    close_after(rt, conn, log, &end).after(end)
 }
 
 /// Prints a report of the desk of a connection, through a buffer, since a report is many short lines.

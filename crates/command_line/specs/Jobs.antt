@@ -18,7 +18,7 @@ use Rattle.reports.specs.declared.formats.Format.TheVariants as format
 -- the subcommand of a job; the job that prints the version has none
 abbrev pub subcommand_of : Job → Option Subcommand
 subcommand_of (Run file) = Some sub.Run
-subcommand_of (Serve file port connections house page log wide) = Some sub.Serve
+subcommand_of (Serve file port connections house page log) = Some sub.Serve
 subcommand_of (Recover file) = Some sub.Recover
 subcommand_of (Load file csv batch) = Some sub.Load
 subcommand_of (Stock file format) = Some sub.Stock
@@ -70,10 +70,6 @@ page_in value = is_set (value (codes "PAGE"))
 abbrev pub log_in : (Text → Option Text) → Bool
 log_in value = is_set (value (codes "LOG"))
 
--- whether HTTP is read as libraries and proxies speak it, by its name
-abbrev pub wide_in : (Text → Option Text) → Bool
-wide_in value = is_set (value (codes "WIDE"))
-
 -- the format that a word names
 abbrev pub format_named : Text → Option Format
 format_named word =
@@ -94,13 +90,12 @@ format_in value = format_of (value (codes "FORMAT"))
 -- the values of a job are those under their names
 abbrev pub HasValues : (Text → Option Text) → Job → Type 0
 HasValues value (Run file) = NamesFile value (string_bytes file)
-HasValues value (Serve file port connections house page log wide) = NamesFile value (string_bytes file)
+HasValues value (Serve file port connections house page log) = NamesFile value (string_bytes file)
     × (port_in value ≡ Some port)
     × (connections_in value ≡ connections)
     × (house_in value ≡ option_map string_bytes house)
     × (page_in value ≡ page)
     × (log_in value ≡ log)
-    × (wide_in value ≡ wide)
 HasValues value (Recover file) = NamesFile value (string_bytes file)
 HasValues value (Load file csv batch) = NamesFile value (string_bytes file)
     × (value (codes "CSV") ≡ Some (string_bytes csv))

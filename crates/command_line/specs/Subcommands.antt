@@ -69,10 +69,6 @@ page_flag = record (flagged (codes "PAGE")) { long = Some (codes "page") }
 abbrev pub log_flag : Rule
 log_flag = record (flagged (codes "LOG")) { long = Some (codes "log") }
 
--- HTTP as libraries and proxies speak it is asked for by `--wide`
-abbrev pub wide_flag : Rule
-wide_flag = record (flagged (codes "WIDE")) { long = Some (codes "wide") }
-
 -- the format of a report follows `--format`
 abbrev pub report_format : Rule
 report_format = record (optional (codes "FORMAT")) { long = Some (codes "format") }
@@ -80,8 +76,7 @@ report_format = record (optional (codes "FORMAT")) { long = Some (codes "format"
 -- the values that a subcommand reads, in their order
 abbrev pub rules_for : Subcommand → List Rule
 rules_for Run = needed (codes "FILE") ∷ []
-rules_for Serve =
-    needed (codes "FILE") ∷ port_number ∷ connections_number ∷ house_path ∷ page_flag ∷ log_flag ∷ wide_flag ∷ []
+rules_for Serve = needed (codes "FILE") ∷ port_number ∷ connections_number ∷ house_path ∷ page_flag ∷ log_flag ∷ []
 rules_for Recover = needed (codes "FILE") ∷ []
 rules_for Load = needed (codes "FILE") ∷ needed (codes "CSV") ∷ batch_name ∷ []
 rules_for Stock = needed (codes "FILE") ∷ report_format ∷ []

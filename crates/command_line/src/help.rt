@@ -99,11 +99,7 @@ agent works. A request to the port must then name 127.0.0.1, localhost or
 
 With --log, standard error has a line for each request, one for each
 connection that ended, and one for what the opening recovered. Without it
-nothing but a fault is written there.
-
-With --wide, HTTP is read as libraries and proxies speak it: HTTP/1.0, a
-body in chunks, a POST without a body, HEAD, OPTIONS and 'Expect:
-100-continue' too. No cache keeps a page then.";
+nothing but a fault is written there.";
 
 const SERVE_NOTES: &str = "\
 Requests:

@@ -25,8 +25,6 @@ pub enum Job {
         page: bool,
         /// Whether it writes its log on standard error.
         log: bool,
-        /// Whether it reads HTTP as libraries, proxies and pools speak it.
-        wide: bool,
     },
     /// Recover the desk over this file.
     Recover {

@@ -140,16 +140,12 @@ impl Subcommand {
                     "page",
                 );
                 let log = flag(alloc, "LOG", "Log each request on standard error").long("log");
-                let wide = flag(alloc, "WIDE", "Read HTTP as libraries and proxies speak it").long(
-                    "wide",
-                );
                 over_file
                     .arg(port)?
                     .arg(number)?
                     .arg(house)?
                     .arg(page)?
-                    .arg(log)?
-                    .arg(wide)
+                    .arg(log)
             }
             Subcommand::Load => {
                 let csv = value(alloc, "CSV", "The allotment file, or - for standard input");

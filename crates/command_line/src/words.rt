@@ -73,7 +73,6 @@ fn job_of(alloc: Global, subcommand: Subcommand, words: &[String]) -> Result<Job
             let house = value_if_given(alloc, &matches, "PATH")?;
             let page = is_given(&matches, "PAGE");
             let log = is_given(&matches, "LOG");
-            let wide = is_given(&matches, "WIDE");
             Ok(Job::Serve {
                 file,
                 port,
@@ -81,7 +80,6 @@ fn job_of(alloc: Global, subcommand: Subcommand, words: &[String]) -> Result<Job
                 house,
                 page,
                 log,
-                wide,
             })
         }
         Subcommand::Recover => Ok(Job::Recover { file }),

@@ -1,11 +1,9 @@
 //! What no clause says: that sessions succeed where nothing fails, and that after each stop a session finds what was answered.
 ghost use Rattle.std.specs.Prelude.{◌≡◌};
-ghost use Rattle.desk_http.specs.declared.doors.Door.TheVariants.{Port};
 
 use crate::{Power, Session, Steady, run_sessions};
 use desk_http::Door;
 use http_live::{Seat, Standing, Turn, Turns};
-use http_ways::Way;
 use sqlite::Connection;
 use std::alloc::Global;
 use std::cell::RefCell;
@@ -62,13 +60,13 @@ impl<'a> Turns for Peer<'a> {
 
     type Writer = Sink<'a>;
 
-    ghost is_at = { λ reader door. door ≡ Port };
+    ghost is_at = { λ reader door. door ≡ Door.Port };
 
     fn next_turn(&mut self) -> Turn<&'static [u8], Sink<'a>> {
         if !self.has_come {
             self.has_come = true;
             let sink = Sink { notes: self.notes };
-            return Turn::Comes(0, Door::Port, Way::Profile, self.text.as_bytes(), sink);
+            return Turn::Comes(0, Door::Port, self.text.as_bytes(), sink);
         }
         if self.turns == 0 {
             return Turn::End;

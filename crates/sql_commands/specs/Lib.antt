@@ -1,5 +1,4 @@
 pub mod Answering
-pub mod Committing
 pub mod Loading
 pub mod Moving
 pub mod OptionChoice

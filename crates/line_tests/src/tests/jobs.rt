@@ -24,7 +24,6 @@ fn served_text(
     house: Option<String>,
     page: bool,
     log: bool,
-    wide: bool,
 ) -> Result<String, AllocError> {
     let count = match connections {
         Some(count) => format!(in alloc; "{count}")?,
@@ -33,8 +32,7 @@ fn served_text(
     let house = house.as_ref().map_or("-", |path| path.as_str());
     let page = if page { "|page" } else { "" };
     let log = if log { "|log" } else { "" };
-    let wide = if wide { "|wide" } else { "" };
-    format!(in alloc; "serve|{file}|{port}|{count}|{house}{page}{log}{wide}")
+    format!(in alloc; "serve|{file}|{port}|{count}|{house}{page}{log}")
 }
 
 /// A format in the table: nothing for a text.
@@ -58,18 +56,8 @@ fn asked(alloc: Global, words: Vec<String>) -> Result<String, AllocError> {
                 house,
                 page,
                 log,
-                wide,
             },
-        ) => served_text(
-            alloc,
-            file.as_str(),
-            port,
-            connections,
-            house,
-            page,
-            log,
-            wide,
-        ),
+        ) => served_text(alloc, file.as_str(), port, connections, house, page, log),
         Ok(Job::Recover { file }) => format!(in alloc; "recover|{file}"),
         Ok(Job::Load { file, csv, batch }) => format!(in alloc; "load|{file}|{csv}|{batch}"),
         Ok(Job::Stock { file, format }) => format!(in alloc; "stock|{file}{}", shown(format)),
@@ -90,7 +78,7 @@ fn asked(alloc: Global, words: Vec<String>) -> Result<String, AllocError> {
 
 // the words, separated by bars, and the job with its values; a bad number of a journey is no usage
 #[rattlefmt::skip]
-const JOBS: [(&str, &str); 50] = [
+const JOBS: [(&str, &str); 48] = [
     ("run|x.db",                    "run|x.db"),
     ("run|a b/x.db",                "run|a b/x.db"),
     ("run|--|-x.db",                "run|-x.db"),
@@ -109,8 +97,6 @@ const JOBS: [(&str, &str); 50] = [
     ("serve|--page|--house|d.sock|--port|8099|x.db",  "serve|x.db|8099|-|d.sock|page"),
     ("serve|x.db|--port|8099|--log",                  "serve|x.db|8099|-|-|log"),
     ("serve|--log|x.db|--house|d|--port|1",           "serve|x.db|1|-|d|log"),
-    ("serve|x.db|--port|8099|--wide",                 "serve|x.db|8099|-|-|wide"),
-    ("serve|--wide|--log|x.db|--port|1|--page",       "serve|x.db|1|-|-|page|log|wide"),
     ("recover|x.db",                "recover|x.db"),
     ("recover|a b/x.db",            "recover|a b/x.db"),
     ("recover|--|-x.db",            "recover|-x.db"),
@@ -154,7 +140,7 @@ fn words_name_a_job_with_its_values(rt: HostRuntime) -> Result<(), Fail> {
 
 // what the row shows, the words, and the prefix of the usage
 #[rattlefmt::skip]
-const REFUSED: [(&str, &str, &str); 44] = [
+const REFUSED: [(&str, &str, &str); 72] = [
     ("another subcommand",       "fly|x.db",       "error: unrecognized subcommand 'fly'"),
     ("a subcommand in capitals", "RUN|x.db",       "error: unrecognized subcommand 'RUN'"),
     ("a part of a subcommand",   "ru|x.db",        "error: unrecognized subcommand 'ru'"),
@@ -178,6 +164,34 @@ const REFUSED: [(&str, &str, &str); 44] = [
     ("a version in one letter",  "-v",             "error: unexpected argument '-v' found"),
     ("a version as a word",      "version",        "error: unrecognized subcommand 'version'"),
     ("a part of it",             "--vers",         "error: unexpected argument '--vers' found"),
+    ("port 0",                   "serve|x|--port|0|--connections|1", "error: invalid value '0' for '--port <PORT>': not a number from 1 to 65535\n"),
+    ("port 65536",               "serve|x|--port|65536|--connections|1", "error: invalid value '65536' for '--port <PORT>': not a number from 1 to 65535\n"),
+    ("a port past every number", "serve|x|--port|18446744073709551617|--connections|1", "error: invalid value '18446744073709551617' for '--port <PORT>'"),
+    ("a port with a sign",       "serve|x|--port|+80|--connections|1", "error: invalid value '+80' for '--port <PORT>'"),
+    ("a port below zero",        "serve|x|--port=-80|--connections|1", "error: invalid value '-80' for '--port <PORT>'"),
+    ("a port with a zero",       "serve|x|--port|080|--connections|1", "error: invalid value '080' for '--port <PORT>'"),
+    ("a port with a blank",      "serve|x|--port|80 |--connections|1", "error: invalid value '80 ' for '--port <PORT>'"),
+    ("a port by its name",       "serve|x|--port|http|--connections|1", "error: invalid value 'http' for '--port <PORT>'"),
+    ("an empty port",            "serve|x|--port=|--connections|1", "error: "),
+    ("connections 0",            "serve|x|--port|80|--connections|0", "error: invalid value '0' for '--connections <N>': not a number from 1 to 1000\n"),
+    ("connections 1001",         "serve|x|--port|80|--connections|1001", "error: invalid value '1001' for '--connections <N>': not a number from 1 to 1000\n"),
+    ("both out of range",        "serve|x|--port|0|--connections|0", "error: invalid value '0' for '--port <PORT>'"),
+    ("no port",                  "serve|x|--connections|1", "error: the following required arguments were not provided:\n  --port <PORT>\n"),
+    ("neither",                  "serve|x", "error: the following required arguments were not provided:\n  --port <PORT>\n"),
+    ("a house without a path",   "serve|x|--port|80|--house", "error: a value is required for '--house <PATH>' but none was supplied\n"),
+    ("two pages",                "serve|x|--port|80|--page|--page", "error: the argument '--page' cannot be used multiple times\n"),
+    ("a page with a value",      "serve|x|--port|80|--page=yes", "error: unexpected value 'yes' for '--page' found"),
+    ("two houses",               "serve|x|--port|80|--house|a|--house|b", "error: the argument '--house <PATH>' cannot be used multiple times\n"),
+    ("a log with a value",       "serve|x|--port|80|--log=yes", "error: unexpected value 'yes' for '--log' found; no more were expected\n"),
+    ("two logs",                 "serve|x|--port|80|--log|--log", "error: the argument '--log' cannot be used multiple times\n"),
+    ("connections of no digit",  "serve|x|--port|80|--connections|all", "error: invalid value 'all' for '--connections <N>'"),
+    ("no file to serve",         "serve|--port|80|--connections|1", "error: the following required arguments were not provided:\n  <FILE>\n"),
+    ("two files to serve",       "serve|x|y|--port|80|--connections|1", "error: unexpected argument 'y' found\n"),
+    ("a flag without a port",    "serve|x|--connections|1|--port", "error: a value is required for '--port <PORT>' but none was supplied\n"),
+    ("two ports",                "serve|x|--port|80|--port|81|--connections|1", "error: the argument '--port <PORT>' cannot be used multiple times\n"),
+    ("a part of a flag",         "serve|x|--por|80|--connections|1", "error: unexpected argument '--por' found\n"),
+    ("help of serve",            "serve|--help", "Serve HTTP requests from many clients at once\n\nOpens the database FILE, created if absent."),
+    ("serve, in short",          "serve|-h", "Serve HTTP requests from many clients at once\n\nUsage: desk serve [OPTIONS] --port <PORT> <FILE>\n"),
     ("no file for stock",        "stock",          "error: the following required arguments were not provided:\n  <FILE>\n\nUsage: desk stock <FILE>\n"),
     ("two files for stock",      "stock|x|y",      "error: unexpected argument 'y' found\n\nUsage: desk stock [OPTIONS] <FILE>\n"),
     ("two for unfinished",       "unfinished|x|y", "error: unexpected argument 'y' found\n\nUsage: desk unfinished [OPTIONS] <FILE>\n"),
@@ -201,53 +215,9 @@ const REFUSED: [(&str, &str, &str); 44] = [
     ("load, in short",           "load|-h",        "Load allotments from a CSV file, as one batch\n\nUsage: desk load --batch <NAME> <FILE> <CSV>\n"),
 ];
 
-// the same, of the words of serve
-#[rattlefmt::skip]
-const REFUSED_OF_SERVE: [(&str, &str, &str); 30] = [
-    ("port 0",                   "serve|x|--port|0|--connections|1", "error: invalid value '0' for '--port <PORT>': not a number from 1 to 65535\n"),
-    ("port 65536",               "serve|x|--port|65536|--connections|1", "error: invalid value '65536' for '--port <PORT>': not a number from 1 to 65535\n"),
-    ("a port past every number", "serve|x|--port|18446744073709551617|--connections|1", "error: invalid value '18446744073709551617' for '--port <PORT>'"),
-    ("a port with a sign",       "serve|x|--port|+80|--connections|1", "error: invalid value '+80' for '--port <PORT>'"),
-    ("a port below zero",        "serve|x|--port=-80|--connections|1", "error: invalid value '-80' for '--port <PORT>'"),
-    ("a port with a zero",       "serve|x|--port|080|--connections|1", "error: invalid value '080' for '--port <PORT>'"),
-    ("a port with a blank",      "serve|x|--port|80 |--connections|1", "error: invalid value '80 ' for '--port <PORT>'"),
-    ("a port by its name",       "serve|x|--port|http|--connections|1", "error: invalid value 'http' for '--port <PORT>'"),
-    ("an empty port",            "serve|x|--port=|--connections|1", "error: "),
-    ("connections 0",            "serve|x|--port|80|--connections|0", "error: invalid value '0' for '--connections <N>': not a number from 1 to 1000\n"),
-    ("connections 1001",         "serve|x|--port|80|--connections|1001", "error: invalid value '1001' for '--connections <N>': not a number from 1 to 1000\n"),
-    ("both out of range",        "serve|x|--port|0|--connections|0", "error: invalid value '0' for '--port <PORT>'"),
-    ("no port",                  "serve|x|--connections|1", "error: the following required arguments were not provided:\n  --port <PORT>\n"),
-    ("neither",                  "serve|x", "error: the following required arguments were not provided:\n  --port <PORT>\n"),
-    ("a house without a path",   "serve|x|--port|80|--house", "error: a value is required for '--house <PATH>' but none was supplied\n"),
-    ("two pages",                "serve|x|--port|80|--page|--page", "error: the argument '--page' cannot be used multiple times\n"),
-    ("a page with a value",      "serve|x|--port|80|--page=yes", "error: unexpected value 'yes' for '--page' found"),
-    ("two houses",               "serve|x|--port|80|--house|a|--house|b", "error: the argument '--house <PATH>' cannot be used multiple times\n"),
-    ("a log with a value",       "serve|x|--port|80|--log=yes", "error: unexpected value 'yes' for '--log' found; no more were expected\n"),
-    ("two logs",                 "serve|x|--port|80|--log|--log", "error: the argument '--log' cannot be used multiple times\n"),
-    ("wide with a value",        "serve|x|--port|80|--wide=yes", "error: unexpected value 'yes' for '--wide' found; no more were expected\n"),
-    ("twice wide",               "serve|x|--port|80|--wide|--wide", "error: the argument '--wide' cannot be used multiple times\n"),
-    ("connections of no digit",  "serve|x|--port|80|--connections|all", "error: invalid value 'all' for '--connections <N>'"),
-    ("no file to serve",         "serve|--port|80|--connections|1", "error: the following required arguments were not provided:\n  <FILE>\n"),
-    ("two files to serve",       "serve|x|y|--port|80|--connections|1", "error: unexpected argument 'y' found\n"),
-    ("a flag without a port",    "serve|x|--connections|1|--port", "error: a value is required for '--port <PORT>' but none was supplied\n"),
-    ("two ports",                "serve|x|--port|80|--port|81|--connections|1", "error: the argument '--port <PORT>' cannot be used multiple times\n"),
-    ("a part of a flag",         "serve|x|--por|80|--connections|1", "error: unexpected argument '--por' found\n"),
-    ("help of serve",            "serve|--help", "Serve HTTP requests from many clients at once\n\nOpens the database FILE, created if absent."),
-    ("serve, in short",          "serve|-h", "Serve HTTP requests from many clients at once\n\nUsage: desk serve [OPTIONS] --port <PORT> <FILE>\n"),
-];
-
 #[test]
 fn other_words_get_the_usage(rt: HostRuntime) -> Result<(), Fail> {
     for &(case, words, expected) in &REFUSED {
-        let found = asked(rt.alloc(), words_of(rt.alloc(), words)?)?;
-        holds(&rt, case, found.as_str().starts_with(expected));
-    }
-    Ok(())
-}
-
-#[test]
-fn other_words_of_serve_get_the_usage(rt: HostRuntime) -> Result<(), Fail> {
-    for &(case, words, expected) in &REFUSED_OF_SERVE {
         let found = asked(rt.alloc(), words_of(rt.alloc(), words)?)?;
         holds(&rt, case, found.as_str().starts_with(expected));
     }

@@ -33,7 +33,6 @@ returns-in-Serve-clause-job c =
         value_in-matches app words m (codes "PATH") rows ∙ c.in_ok-house-in-Serve.ensures.value,
         ap is_set (value_in-matches app words m (codes "PAGE") rows) ∙ sym c.is_given-page.ensures.given,
         ap is_set (value_in-matches app words m (codes "LOG") rows) ∙ sym c.is_given-log.ensures.given,
-        ap is_set (value_in-matches app words m (codes "WIDE") rows) ∙ sym c.is_given-wide.ensures.given,
       );
     }
 

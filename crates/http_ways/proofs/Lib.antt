@@ -1,4 +1,0 @@
-pub mod HeadLemmas
-pub mod TextLemmas
-pub mod PageLemmas
-pub mod SaidLemmas

@@ -1,4 +1,0 @@
-pub mod Ways
-pub mod Reading
-pub mod Pages
-pub mod Laws
