@@ -5,7 +5,7 @@
 # scripts/limit.bash most_steps 30
 #
 # It says which two lines it changed. The texts of tests, examples and docs keep the old value, and the bodies that must be
-# refused are not tried. It takes as long as ./build.
+# refused are not tried. It takes as long as ./build; after ./build --keep only what the limit touches is proved again.
 set -u
 top=$(cd "$(dirname "${BASH_SOURCE[0]}")/.." && pwd)
 copy=$top/out/limit
@@ -31,6 +31,15 @@ replace() {
   say "${1%:*}: $(sed -n "${1##*:}p" "${1%:*}")"
 }
 
+# take_kept: what rt has kept of each crate goes along
+take_kept() {
+  local kept
+  for kept in "$top"/crates/*/out/{incremental,rlib}; do
+    [ -d "$kept" ] || continue
+    mkdir -p "$copy/${kept#"$top"/}" && cp -a --reflink=auto "$kept/." "$copy/${kept#"$top"/}" || return
+  done
+}
+
 [[ $#:${1-}:${2-} =~ ^2:[a-z_]+:[0-9]+$ ]] || {
   echo "usage: scripts/limit.bash NAME VALUE" >&2
   exit 2
@@ -40,6 +49,7 @@ mkdir -p "$copy/.git" && tar -C "$top" --exclude=./.git --exclude=out -cf - . | 
 trap 'rm -rf "$copy"' EXIT
 trap 'exit 130' INT
 trap 'exit 143' TERM
+take_kept || exit 2
 cd "$copy" || exit 2
 definition=$(one_line "^$1 = [0-9]+\$" crates/*/specs/Limits.antt) || fail "no limit, or more than one, is defined as $1"
 code=$(one_line "const ${1^^}: [a-z0-9]+ = [0-9_]+;\$" crates/*/src/limits.rt) || fail "no constant, or more than one, is ${1^^}"

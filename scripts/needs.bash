@@ -41,6 +41,20 @@ install_absent() {
   return 1
 }
 
+# install_servers: the same, and no service of the packages begins, now or when the machine starts again
+install_servers() (
+  policy=/usr/sbin/policy-rc.d
+  [ ${#absent[@]} -gt 0 ] || exit 0
+  as_root true 2>/dev/null || exit 1
+  if [ ! -e "$policy" ]; then
+    trap 'as_root rm -f "$policy"' EXIT
+    printf '#!/bin/sh\nexit 101\n' | as_root sh -c 'cat >"$1" && chmod 755 "$1"' - "$policy" || exit 1
+  fi
+  servers=("${absent[@]}")
+  install_absent || exit 1
+  [ ! -d /run/systemd/system ] || as_root systemctl --quiet disable "${servers[@]}" 2>/dev/null || true
+)
+
 # stop_on_absent: installs what is absent; where it cannot, names the one command that does, and ends with 127
 stop_on_absent() {
   install_absent && return 0

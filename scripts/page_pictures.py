@@ -117,7 +117,7 @@ def take(camera, network):
     browser.script("document.querySelector('#line').value = arguments[0]; document.querySelector('#line').dispatchEvent(new Event('change'))",
                    "F/AL/OSLO1/2030-06-10/1/2*;R/FJORD/SUITE/2030-06-10/3/2|R/FJORD/DBL/2030-06-10/3/2;T/BUS/PIER/2030-06-11/1/2!1")
     wait_until(lambda: len(browser.all(".step")) == 3, "three steps")
-    camera.keeps("plan", 1280, 1000)
+    camera.keeps("plan", 1280, 1030)
     camera.opens("#/journeys", "all (10)")
     time.sleep(1)
     camera.keeps("journeys", 1280, 760)

@@ -43,7 +43,7 @@ has_said() {
 begins() {
   rm -f copying
   touch hold
-  PATH=$work/slow:$PATH env --default-signal=INT,QUIT "$tool" "$@" >out 2>err </dev/null &
+  PATH=$work/slow:$PATH env --default-signal=HUP,INT,QUIT "$tool" "$@" >out 2>err </dev/null &
   backup=$!
   for _ in {1..1000}; do
     [ ! -e copying ] || return 0

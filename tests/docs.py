@@ -3,12 +3,16 @@ the page prints: DESK FOLDER PAGE ..
 
 A block that begins with ```console has commands, each after "$ ", its further lines after "> ", and its output below. What a
 command prints on standard output and standard error is compared line by line; a line feed at the end may be absent. A command
-that ends with "&" goes on in the background, and its output is awaited. The port 8080 stands for one that is free. The
-folder has the program, as desk, and the repository's tools. A block of another kind has no commands, and its kind is named.
+that ends with "&" goes on in the background, and its output is awaited. The ports 8080 and 8081 stand for two that are free.
+The folder has the program, as desk, and the repository's tools. A block of another kind has no commands, and its kind is named.
+
+A block that begins with ```console TOOL needs this tool: a command, or what NEEDS says. Where it is absent, the commands of the
+block are skipped, which the last line says. A tool that goes on in the background is a proxy, which listens at port 8081.
 """
 import os
 import random
 import re
+import shutil
 import signal
 import socket
 import subprocess
@@ -20,6 +24,15 @@ import time
 NOT_RUN = {
     "sudo": "it changes the machine",
 }
+
+# tools that are no commands, and the command that succeeds where they are there
+NEEDS = {
+    "php-curl": ["php", "-r", "exit(extension_loaded('curl') ? 0 : 1);"],
+    "requests": ["python3", "-c", "import requests"],
+}
+
+# where Debian has servers; not every user looks there
+SERVERS = "/usr/sbin"
 
 # kinds of blocks without commands
 OTHER_KINDS = {"text", "csv", "json", "sql", "http", "antt", "rust"}
@@ -33,10 +46,10 @@ class Wrong(Exception):
 
 
 class Command:
-    """A command with its line on the page, and the lines that it is to print."""
+    """A command with its line on the page, the tool that its block needs, and the lines that it is to print."""
 
-    def __init__(self, line, text):
-        self.line, self.text, self.printed = line, [text], []
+    def __init__(self, line, text, tool):
+        self.line, self.text, self.tool, self.printed = line, [text], tool, []
 
     def source(self):
         return "\n".join(self.text) + "\n"
@@ -48,12 +61,12 @@ class Command:
         return re.search(r"(?<!&)&\s*(#.*)?$", self.text[-1]) is not None
 
 
-def commands_of(block, first):
-    """The commands of a console block whose first line has this number."""
+def commands_of(block, first, tool):
+    """The commands of a console block whose first line has this number, and which needs this tool, or none."""
     commands = []
     for number, line in enumerate(block, first):
         if line.startswith("$ "):
-            commands.append(Command(number, line[2:]))
+            commands.append(Command(number, line[2:], tool))
         elif not commands:
             raise Wrong(f"line {number}: a console block begins with a command, after '$ '")
         elif not commands[-1].printed and (line == ">" or line.startswith("> ")):
@@ -82,8 +95,9 @@ def commands_on(lines):
     """All commands of a page."""
     commands = []
     for kind, first, block in blocks_of(lines):
-        if kind == "console":
-            commands += commands_of(block, first)
+        words = kind.split()
+        if words[:1] == ["console"] and len(words) < 3:
+            commands += commands_of(block, first, words[1] if words[1:] else None)
         elif kind not in OTHER_KINDS:
             raise Wrong(f"line {first - 1}: a block of no kind that is known: '{kind}'")
         elif any(re.match(r"\s*(\$ |\./)", line) for line in block):
@@ -124,26 +138,48 @@ def free_port():
                 pass
 
 
+def accepts(port):
+    """Whether somebody listens on this port."""
+    with socket.socket() as s:
+        return s.connect_ex(("127.0.0.1", int(port))) == 0
+
+
+def with_servers(path):
+    """The folders in which commands are looked for, with those of servers."""
+    return path + os.pathsep + SERVERS
+
+
+def has(tool):
+    """Whether this tool is here."""
+    if tool not in NEEDS:
+        return shutil.which(tool, path=with_servers(os.environ["PATH"])) is not None
+    try:
+        return subprocess.run(NEEDS[tool], capture_output=True, check=False).returncode == 0
+    except OSError:
+        return False
+
+
 class Shell:
     """A shell in a folder, in which commands run one after another."""
 
     def __init__(self, folder, desk):
         self.folder, self.background, self.outputs = folder, [], 0
         self.kept = tempfile.mkdtemp(dir=os.path.dirname(folder))
-        environment = dict(os.environ, DESK=desk, HOME=folder, CURL_HOME=self.kept, LC_ALL="C", TZ="UTC")
+        environment = dict(os.environ, DESK=desk, HOME=folder, CURL_HOME=self.kept, LC_ALL="C", TZ="UTC",
+                           PATH=with_servers(os.environ["PATH"]), NO_PROXY="127.0.0.1", no_proxy="127.0.0.1")
         with open(os.path.join(self.kept, ".curlrc"), "w", encoding="utf-8") as rc:
             # no progress, which a terminal does not show either
             rc.write("silent\nshow-error\nnoproxy = *\n")
         self.bash = subprocess.Popen(["bash", "--norc", "--noprofile"], cwd=folder, env=environment, text=True,
                                      stdin=subprocess.PIPE, stdout=subprocess.PIPE, start_new_session=True)
 
-    def run(self, command, port):
+    def run(self, command, ports):
         """Runs a command, and gives the file that has its output."""
         self.outputs += 1
         source = os.path.join(self.kept, f"command{self.outputs}")
         output = os.path.join(self.kept, f"output{self.outputs}")
         with open(source, "w", encoding="utf-8") as out:
-            out.write(command.source().replace("8080", port))
+            out.write(at_ports(command.source(), ports))
         # a job that is disowned is not reported by the shell when it ends
         self.bash.stdin.write(f". {source} </dev/null >{output} 2>&1; disown -a; echo done $!\n")
         self.bash.stdin.flush()
@@ -175,9 +211,14 @@ def lines_in(path):
         return text.read().splitlines()
 
 
-def compare(command, found, port):
+def at_ports(text, ports):
+    """A text of a page with the ports that stand for 8080 and 8081."""
+    return re.sub("808[01]", lambda port: ports[int(port[0][-1])], text)
+
+
+def compare(command, found, ports):
     """The lines that a command has printed are those that the page prints."""
-    printed = [line.replace("8080", port) for line in command.printed]
+    printed = [at_ports(line, ports) for line in command.printed]
     if printed != found:
         shown = "\n".join(["  " + command.source().rstrip("\n"), "printed on the page:"] + ["  " + line for line in printed] +
                           ["found:"] + ["  " + line for line in found])
@@ -192,29 +233,40 @@ def make_folder(desk, room):
     return folder
 
 
-def run_page(desk, folder, page):
-    """Runs the commands of a page in this folder, and gives how many ran and how many did not."""
+def run_commands(desk, folder, commands):
+    """Runs these commands in this folder."""
+    ports = (free_port(), free_port())
+    shell = Shell(folder, desk)
+    try:
+        background = []
+        for command in commands:
+            output = shell.run(command, ports)
+            if command.is_background():
+                wait_until(lambda: len(lines_in(output)) >= len(command.printed))
+                background.append((command, output))
+                if command.tool:
+                    wait_until(lambda: accepts(ports[1]))
+            compare(command, lines_in(output), ports)
+        for command, output in background:
+            compare(command, lines_in(output), ports)
+    finally:
+        shell.end()
+
+
+def run_page(desk, folder, page, absent):
+    """Runs the commands of a page in this folder, and gives how many ran, were not run, and were skipped because their tool is
+    absent; these tools are added to absent."""
     with open(page, encoding="utf-8") as text:
         lines = text.read().splitlines()
     check_links(page, lines)
     commands = commands_on(lines)
-    run = [command for command in commands if command.is_run()]
+    lacking = {tool for tool in {command.tool for command in commands} if tool and not has(tool)}
+    absent |= lacking
+    here = [command for command in commands if command.tool not in lacking]
+    run = [command for command in here if command.is_run()]
     if run:
-        port = free_port()
-        shell = Shell(folder, desk)
-        try:
-            background = []
-            for command in run:
-                output = shell.run(command, port)
-                if command.is_background():
-                    wait_until(lambda: len(lines_in(output)) >= len(command.printed))
-                    background.append((command, output))
-                compare(command, lines_in(output), port)
-            for command, output in background:
-                compare(command, lines_in(output), port)
-        finally:
-            shell.end()
-    return len(run), len(commands) - len(run)
+        run_commands(desk, folder, run)
+    return len(run), len(here) - len(run), len(commands) - len(here)
 
 
 def took_too_long(*_):
@@ -223,16 +275,16 @@ def took_too_long(*_):
 
 def main(desk, room, pages):
     signal.signal(signal.SIGALRM, took_too_long)
-    ran, left, wrong = 0, 0, 0
+    counts, absent, wrong = [0, 0, 0], set(), 0
     desk, folder = os.path.abspath(desk), make_folder(os.path.abspath(desk), os.path.abspath(room))
     for page in pages:
         try:
-            counts = run_page(desk, folder, page)
-            ran, left = ran + counts[0], left + counts[1]
+            counts = [sum(pair) for pair in zip(counts, run_page(desk, folder, page, absent))]
         except Wrong as why:
             print(f"{page}: {why}", file=sys.stderr)
             wrong += 1
-    print(f"{ran} commands of {len(pages)} pages printed what the pages print; {left} were not run")
+    skipped = f"{counts[2]} skipped" + (f", without {', '.join(sorted(absent))}" if absent else "")
+    print(f"{counts[0]} commands of {len(pages)} pages printed what the pages print; {counts[1]} were not run, {skipped}")
     return 1 if wrong else 0
 
 

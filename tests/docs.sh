@@ -23,7 +23,7 @@ refuses_page() {
 # accepts_page WHAT TEXT: a page with this text passes
 accepts_page() {
   printf '%b' "$2" >pages/page.md
-  same "$1" "1 commands of 1 pages printed what the pages print; 0 were not run" \
+  same "$1" "1 commands of 1 pages printed what the pages print; 0 were not run, 0 skipped" \
     "$(python3 "$tests/docs.py" "$DESK" rooms pages/page.md 2>&1)"
 }
 
@@ -32,8 +32,11 @@ accepts_page "what is printed" '```console\n$ printf "a\\nb"\na\nb\n```\n'
 accepts_page "more lines of a command" '```console\n$ cat <<X\n> a\n> X\na\n```\n'
 printf '%b' '```console\n$ echo a >f\n```\n' >pages/one.md
 printf '%b' '```console\n$ cat f\na\n$ sudo false\n```\n' >pages/two.md
-same "all pages in one folder" "2 commands of 2 pages printed what the pages print; 1 were not run" \
+same "all pages in one folder" "2 commands of 2 pages printed what the pages print; 1 were not run, 0 skipped" \
   "$(python3 "$tests/docs.py" "$DESK" rooms pages/one.md pages/two.md 2>&1)"
+printf '%b' '```console no-such-tool\n$ false\n```\n```console printf\n$ echo a\na\n```\n' >pages/page.md
+same "a tool that is absent" "1 commands of 1 pages printed what the pages print; 0 were not run, 1 skipped, without no-such-tool" \
+  "$(python3 "$tests/docs.py" "$DESK" rooms pages/page.md 2>&1)"
 refuses_page "another output" "line 2:" '```console\n$ echo a\nb\n```\n'
 refuses_page "no output" "line 2:" '```console\n$ true\nb\n```\n'
 refuses_page "more output" "line 2:" '```console\n$ echo a; echo b\na\n```\n'
@@ -41,6 +44,7 @@ refuses_page "output on standard error" "line 2:" '```console\n$ echo a >&2\n```
 refuses_page "a later output of the background" "line 2:" '```console\n$ (echo a; sleep 0.3; echo b) &\na\n$ sleep 1\n```\n'
 refuses_page "a block of no kind" "line 1: a block of no kind that is known: ''" '```\n$ echo a\n```\n'
 refuses_page "a block of another kind" "line 1: a block of no kind that is known: 'sh'" '```sh\necho a\n```\n'
+refuses_page "two tools" "line 1: a block of no kind that is known: 'console php ruby'" '```console php ruby\n$ true\n```\n'
 refuses_page "a command outside" "line 1: a command outside a console block" '```text\n$ echo a\n```\n'
 refuses_page "output without a command" "line 2: a console block begins with a command, after '$ '" '```console\na\n```\n'
 refuses_page "a block without an end" "line 1: the block has no end" '```console\n$ echo a\na\n'

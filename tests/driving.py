@@ -115,6 +115,33 @@ def request(method, path, key="", body=b""):
     return "\r\n".join([f"{method} {path} HTTP/1.1", *fields, "", ""]).encode() + body
 
 
+def opened(port):
+    """A connection to the desk, on which each write is sent at once."""
+    stream = socket.create_connection(("127.0.0.1", port), PATIENCE)
+    stream.setsockopt(socket.IPPROTO_TCP, socket.TCP_NODELAY, 1)
+    return stream
+
+
+def end_writing(stream):
+    """Ends what this side writes, if the desk has not ended the connection already."""
+    try:
+        stream.shutdown(socket.SHUT_WR)
+    except OSError:
+        pass
+
+
+def rest_of(stream):
+    """All that comes until the desk ends the connection, in order or not; then it is closed."""
+    text = b""
+    try:
+        while piece := stream.recv(65536):
+            text += piece
+    except OSError:
+        pass
+    stream.close()
+    return text
+
+
 class Client:
     """A connection to the desk."""
 

@@ -74,6 +74,15 @@ class WordScene(Scene):
         assert self.usual.status == 0, str(self.usual)
 
 
+class ReportScene(WordScene):
+    """A report, which changes nothing: one that showed all its rows is done, even if its log could not be copied on closing."""
+
+    def silence(self, ended, names):
+        """What is wrong with how it ended after calls of these names failed."""
+        is_shown = ended.out == self.usual.out
+        return f"all is shown: {ended}" if is_shown and ended.status != 0 and CHANGES.issuperset(names) else ""
+
+
 class LineScene(Scene):
     """Lines."""
 
@@ -246,9 +255,9 @@ def scenes():
     yield WordScene("load", closed, "load", "cut/trips.db", "june.csv", "--batch", "june")
     yield ServeScene("serve", closed, http_requests(4))
     yield ByteScene("serve, byte by byte", closed, http_requests(4))
-    yield WordScene("stock", killed, "stock", "cut/trips.db")
-    yield WordScene("unfinished", closed, "unfinished", "cut/trips.db")
-    yield WordScene("history", killed, "history", "cut/trips.db", "1")
+    yield ReportScene("stock", killed, "stock", "cut/trips.db")
+    yield ReportScene("unfinished", closed, "unfinished", "cut/trips.db")
+    yield ReportScene("history", killed, "history", "cut/trips.db", "1")
     yield WordScene("migrate", old_file(closed), "migrate", "cut/trips.db", measure=lambda t: int("mark" in (t or ())))
 
 

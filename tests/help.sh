@@ -8,7 +8,7 @@ program=$DESK
 say() { printf 'help.sh: %s\n' "$*" >&2; }
 . "$top/scripts/manual.bash"
 
-commands="run serve recover load stock unfinished history migrate"
+commands="run serve recover load stock unfinished journeys history migrate"
 
 # helps WHAT WORDS: the program prints a help on standard error, into the file err, and ends with 2
 helps() {
@@ -154,7 +154,7 @@ completes "desk u" "unfinished" desk u
 completes "desk --h" "--help" desk --h
 completes "desk --v" "--version" desk --v
 completes "desk help r" "run recover" desk help r
-completes "desk serve --" "--port --connections --house --page --log --help" desk serve --
+completes "desk serve --" "--port --connections --house --page --log --wide --help" desk serve --
 completes "desk load --b" "--batch" desk load --b
 completes "desk stock --p" "" desk stock --p
 completes "desk stock --f" "--format" desk stock --f

@@ -4,16 +4,13 @@ Prints what went wrong, and how much was sent.
 
 malformed.py EACH    of the cuts only each EACH-th; whole requests and single bytes always
 """
-import collections
 import random
-import select
-import socket
-import struct
 import subprocess
 import sys
 import time
 
 from driving import DESK, free_port
+from sending import Sender
 
 AGENT = b"Desk-Agent: ann\r\n"
 KEY = b"Desk-Key: k1\r\n"
@@ -27,8 +24,6 @@ UNKNOWN = (404, b'{"name":"UnknownPath","refused":7}', False)
 NO_JOURNEY = (404, b'{"name":"NoJourney","refused":9}', False)
 NO_LENGTH = (411, b'{"name":"NoLength","refused":19}', True)
 TOO_LARGE = (413, b'{"name":"TooLarge","refused":15}', True)
-wrong = []
-sent = collections.Counter()
 
 
 def with_fields(method, fields):
@@ -109,7 +104,7 @@ def begins(key):
     return with_fields(b"POST", b"Host: d\r\nContent-Length: %d\r\n" % len(body)).replace(b"k1", key) + body
 
 
-def pages_of(text, is_head=False):
+def pages_of(text):
     """The pages in these bytes: status, body, and whether the connection ends after it. What is no page is told as it is."""
     pages = []
     while text:
@@ -138,142 +133,49 @@ def expected_of(message, pages, count):
     return pages[:whole]
 
 
-def opened(port):
-    stream = socket.create_connection(("127.0.0.1", port), 60)
-    stream.setsockopt(socket.IPPROTO_TCP, socket.TCP_NODELAY, 1)
-    return stream
+def cut_pages(message, pages, count):
+    return [expected_of(message, pages, count)]
 
 
-def rest_of(stream):
-    """All that comes until the desk ends the connection."""
-    text = b""
-    try:
-        while piece := stream.recv(65536):
-            text += piece
-    except OSError:
-        pass
-    stream.close()
-    return text
+def is_served(sender, what):
+    sender.asked_once(what, GOOD, [UNFINISHED])
 
 
-def compare(what, expected, text):
-    found = pages_of(text)
-    if found != expected and len(wrong) < 20:
-        wrong.append(f"{what}\n  expected: {expected}\n  found:    {found}")
-
-
-def end_writing(stream):
-    try:
-        stream.shutdown(socket.SHUT_WR)
-    except OSError:
-        pass
-
-
-def whole(port, rows):
-    for name, (message, pages) in rows.items():
-        stream = opened(port)
-        try:
-            stream.sendall(message)
-        except OSError:
-            pass
-        end_writing(stream)
-        compare(f"{name}, whole", pages, rest_of(stream))
-        sent["whole"] += 1
-
-
-def byte_by_byte(port, rows, most):
-    """All rows at once: the next byte of each in turn. A page is read when it comes, so that a reset loses none."""
-    waiting = list(rows.items())
-    talks = {}
-    while waiting or talks:
-        while waiting and len(talks) < most:
-            name, (message, pages) = waiting.pop()
-            talks[opened(port)] = [name, message, pages, 0, b""]
-        ready, _, _ = select.select(list(talks), [], [], 0)
-        for stream, talk in list(talks.items()):
-            name, message, pages, at, text = talk
-            is_over = False
-            if stream in ready:
-                try:
-                    piece = stream.recv(65536)
-                except OSError:
-                    piece = b""
-                talk[4] += piece
-                is_over = not piece
-            if not is_over and at < len(message):
-                try:
-                    stream.send(message[at : at + 1])
-                    sent["bytes"] += 1
-                except OSError:
-                    is_over = True
-                talk[3] += 1
-                if talk[3] == len(message):
-                    end_writing(stream)
-            if is_over:
-                compare(f"{name}, byte by byte", pages, talk[4] + rest_of(stream))
-                del talks[stream]
-        sent["rounds"] += 1
-
-
-def cut(port, rows, each, chance):
-    """Each beginning of each row, in one piece or byte by byte; then the connection ends in order, or is reset."""
-    for name, (message, pages) in rows.items():
-        for count in range(chance.randrange(each), len(message), each):
-            stream = opened(port)
-            in_bytes = chance.random() < 0.3
-            try:
-                for at in range(0, count, 1 if in_bytes else max(count, 1)):
-                    stream.send(message[at : at + 1] if in_bytes else message[:count])
-            except OSError:
-                pass
-            sent["cuts"] += 1
-            if chance.random() < 0.3:
-                stream.setsockopt(socket.SOL_SOCKET, socket.SO_LINGER, struct.pack("ii", 1, 0))
-                stream.close()
-                sent["resets"] += 1
-                continue
-            end_writing(stream)
-            compare(f"{name}, cut after {count} bytes", expected_of(message, pages, count), rest_of(stream))
-
-
-def is_served(port, what):
-    stream = opened(port)
-    stream.sendall(GOOD)
-    end_writing(stream)
-    compare(f"{what}: another client", [UNFINISHED], rest_of(stream))
+def try_all(sender, each, chance):
+    """All rows, and begins that are cut; then five begins, byte by byte."""
+    sender.whole(ROWS | LONG)
+    is_served(sender, "after whole ones")
+    sender.byte_by_byte(ROWS | LONG, 60)
+    is_served(sender, "after single bytes")
+    sender.cut(ROWS, each, chance)
+    is_served(sender, "after cuts")
+    sender.cut({f"a begin, {n}": (begins(b"c%d" % n), []) for n in range(3)}, each, chance)
+    is_served(sender, "after begins that were cut")
+    before = time.monotonic()
+    for n in range(5):
+        sender.byte_by_byte({f"a begin under {n}": (begins(b"b%d" % n), [(200, b'{"journey":%d}' % (n + 1), False)])}, 1)
+    sender.sent["seconds for five begins"] = round(time.monotonic() - before)
 
 
 def main():
-    each, chance = int(sys.argv[1]), random.Random(1987)
     port = free_port()
+    sender = Sender(port, pages_of, cut_pages)
     with subprocess.Popen([DESK, "serve", "trips.db", "--port", str(port)], stdin=subprocess.DEVNULL,
                           stdout=subprocess.PIPE, stderr=subprocess.PIPE) as desk:
         desk.stdout.readline()
         try:
-            whole(port, ROWS | LONG)
-            is_served(port, "after whole ones")
-            byte_by_byte(port, ROWS | LONG, 60)
-            is_served(port, "after single bytes")
-            cut(port, ROWS, each, chance)
-            is_served(port, "after cuts")
-            cut(port, {f"a begin, {n}": (begins(b"c%d" % n), []) for n in range(3)}, each, chance)
-            is_served(port, "after begins that were cut")
-            begun = {f"a begin under {n}": (begins(b"b%d" % n), None) for n in range(5)}
-            before = time.monotonic()
-            for n, (name, (message, _)) in enumerate(begun.items(), 1):
-                byte_by_byte(port, {name: (message, [(200, b'{"journey":%d}' % n, False)])}, 1)
-            sent["seconds for five begins"] = round(time.monotonic() - before)
+            try_all(sender, int(sys.argv[1]), random.Random(1987))
             if desk.poll() is not None:
-                wrong.append(f"the desk has ended: {desk.returncode}")
+                sender.wrong.append(f"the desk has ended: {desk.returncode}")
         finally:
             desk.kill()
             out, err = desk.communicate()
         if err:
-            wrong.append(f"the desk told {err!r}")
-    print(", ".join(f"{name}: {count}" for name, count in sent.items()))
-    for text in wrong:
+            sender.wrong.append(f"the desk told {err!r}")
+    print(sender.summary())
+    for text in sender.wrong:
         print(text, file=sys.stderr)
-    sys.exit(1 if wrong else 0)
+    sys.exit(1 if sender.wrong else 0)
 
 
 main()

@@ -39,4 +39,5 @@ for ((n = 1; ; n++)); do
   [ -e refused ] && [ "$wrong" -eq 0 ] || break
 done
 same "$n allocations, $faults of them missed" yes "$([ "$n" -gt 100 ] && [ "$faults" -gt 100 ] && echo yes)"
+echo "$((n - 1)) allocations refused to a run of two lines, of which $faults ended in a fault"
 finish

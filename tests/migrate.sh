@@ -26,44 +26,6 @@ leaves() {
   same "$1: the file" "$before" "$(sum "$6")"
 }
 
-# old_tables: the statements of schema 1
-old_tables() {
-  cat <<'SQL'
-CREATE TABLE meta(one INTEGER PRIMARY KEY CHECK(one = 1),
-  version INTEGER NOT NULL, events INTEGER NOT NULL,
-  journeys INTEGER NOT NULL) STRICT;
-CREATE TABLE stock(kind INTEGER NOT NULL
-  CHECK(kind BETWEEN 0 AND 3),
-  supplier TEXT NOT NULL, product TEXT NOT NULL,
-  night INTEGER NOT NULL, allot INTEGER NOT NULL,
-  free INTEGER NOT NULL CHECK(free >= 0 AND free <= allot),
-  PRIMARY KEY(kind, supplier, product, night)) STRICT;
-CREATE TABLE batch(name TEXT NOT NULL PRIMARY KEY,
-  num INTEGER NOT NULL UNIQUE, content BLOB NOT NULL) STRICT;
-CREATE TABLE journey(id INTEGER PRIMARY KEY,
-  num INTEGER NOT NULL UNIQUE, agent TEXT NOT NULL,
-  steps INTEGER NOT NULL, tries INTEGER NOT NULL,
-  pos INTEGER NOT NULL,
-  phase INTEGER NOT NULL CHECK(phase BETWEEN 0 AND 3),
-  target INTEGER NOT NULL, used INTEGER NOT NULL) STRICT;
-CREATE TABLE step(journey INTEGER NOT NULL REFERENCES journey(id),
-  place INTEGER NOT NULL, opt INTEGER NOT NULL,
-  save INTEGER NOT NULL CHECK(save IN (0, 1)),
-  taken INTEGER NOT NULL CHECK(taken IN (0, 1)),
-  kind INTEGER NOT NULL, supplier TEXT NOT NULL,
-  product TEXT NOT NULL, night INTEGER NOT NULL,
-  nights INTEGER NOT NULL, places INTEGER NOT NULL,
-  PRIMARY KEY(journey, place, opt)) STRICT;
-CREATE TABLE entry(num INTEGER PRIMARY KEY,
-  journey INTEGER NOT NULL REFERENCES journey(id),
-  item INTEGER NOT NULL CHECK(item BETWEEN 0 AND 2),
-  a INTEGER NOT NULL, b INTEGER NOT NULL) STRICT;
-CREATE TABLE answer(agent TEXT NOT NULL, mark TEXT NOT NULL,
-  ask BLOB NOT NULL, reply TEXT NOT NULL,
-  PRIMARY KEY(agent, mark)) STRICT;
-SQL
-}
-
 # old_journeys FOURS: the rows of a batch and of four times so many journeys. Of each four the first has ended, the second is
 # going back to a save-point, the third was refused at once, and the fourth, which the house began, is running
 old_journeys() {
@@ -103,7 +65,7 @@ SQL
 # makes_old FILE FOURS: a file of schema 1, with 1 event and 10 more for each four journeys
 makes_old() {
   rm -f "$1" "$1"-*
-  { echo 'BEGIN;' && old_tables && old_journeys "$2" && echo 'COMMIT;'; } | sqlite3 "$1" || exit 2
+  { echo 'BEGIN;' && cat "$tests/schema_1.sql" && old_journeys "$2" && echo 'COMMIT;'; } | sqlite3 "$1" || exit 2
 }
 
 # holds FILE: what its tables hold, whatever the order of rows
@@ -387,4 +349,5 @@ refusals=0
 refuses_each old.db "migrated 1 to 2 events 11"
 refuses_each new.db "refused 23 AlreadyNew"
 same "$refusals allocations were refused" yes "$([ "$refusals" -gt 100 ] && echo yes)"
+echo "kills left $olds old files and $news new ones; $refusals allocations refused to migrations"
 finish

@@ -9,7 +9,9 @@ import subprocess
 import time
 
 from selenium import webdriver
-from selenium.common.exceptions import ElementClickInterceptedException, StaleElementReferenceException
+from selenium.common.exceptions import (
+    ElementClickInterceptedException, ElementNotInteractableException, StaleElementReferenceException,
+)
 from selenium.webdriver.chrome.options import Options
 from selenium.webdriver.chrome.service import Service
 from selenium.webdriver.common.action_chains import ActionChains
@@ -162,6 +164,12 @@ class Browser:
     def click_on(self, css):
         self.click(lambda: self.one(css))
 
+    def presses_slowly(self, css):
+        """Presses the button of the mouse on this, and releases it a while later, as a hand does."""
+        one = self.one(css)
+        self.script("arguments[0].scrollIntoView({block: 'center'})", one)
+        ActionChains(self.driver).click_and_hold(one).pause(0.3).release().perform()
+
     def press(self, name, within=""):
         self.click(lambda: self.named(name, within))
 
@@ -171,7 +179,7 @@ class Browser:
             try:
                 self.one(css).send_keys(*keys)
                 return True
-            except StaleElementReferenceException:
+            except (StaleElementReferenceException, ElementNotInteractableException):
                 return False
         wait_until(done, "a field to type to")
 

@@ -20,7 +20,7 @@ SCENES = {
         page_lost.nothing_twice, page_rules.large, page_rules.rules, page_scenes.by_clicks, page_scenes.by_keys,
         page_views.not_while_hidden, page_lost.many_wait, page_lost.hang_and_kill, page_scenes.last_place,
         page_foreign.foreign_pages, page_scenes.refused_by_the_desk, page_scenes.refusals_in_words, page_views.draft_is_changed,
-        page_views.agents_are_apart, page_views.filters, page_rules.focus_order, page_rules.first_visit,
+        page_views.agents_are_apart, page_views.another_file, page_views.filters, page_rules.focus_order, page_rules.first_visit,
     )
 }
 
@@ -51,6 +51,11 @@ SPOILED = (
      "if (at && event.detail) choose(at, event.shiftKey, false);", page_scenes.by_keys,
      "the focus after a night is chosen"),
     ("the focus is lost", "next.focus({ preventScroll: true });", "", page_scenes.by_keys, "the focus stays at the step"),
+    ("a view that is opened without the focus", "$(STARTS[view]).focus({ preventScroll: true });", "", page_scenes.by_keys,
+     "the focus in a view that was opened"),
+    ("a click that is lost where it ends what is typed", "isChanging || performance.now() - pressed < 2000", "isChanging", page_views.draft_is_changed,
+     "the plan line"),
+    ("a focus that is lost once a number was typed", "  isChanging = true;\n", "", page_scenes.by_keys, "the next field"),
     ("an agent for all windows", "kept(session, 'agent', kept(local, 'agent', ''))", "kept(local, 'agent', '')",
      page_scenes.last_place, "each window has its own agent"),
     ("a refusal without words", "Finished: 'The journey has ended or is undone. It cannot be changed any more.',", "",

@@ -4,7 +4,7 @@ import time
 from selenium.webdriver.common.keys import Keys
 
 from page_driving import wait_until
-from page_scenes import LINE, comes, same
+from page_scenes import LINE, TRANSFER, comes, plan, same
 
 
 def draft_is_changed(scene):
@@ -21,14 +21,18 @@ def draft_is_changed(scene):
     browser.press("Remove option 2 of step 3")
     browser.press("Remove step 1")
     line_is("T/BUS/X/2030-06-01/1/1;R/INN/YARD/2030-06-01/2/1!1")
-    browser.types('[data-f="count.0.0"]', Keys.BACKSPACE, "7", Keys.TAB)
-    browser.click_on('[data-f="save.0"]')
+    # a click ends what is typed, and still does what it is for
+    browser.types('[data-f="count.0.0"]', Keys.BACKSPACE, "7")
+    browser.presses_slowly('[data-f="save.0"]')
     line_is("T/BUS/X/2030-06-01/1/7*;R/INN/YARD/2030-06-01/2/1!1")
+    # the 7th of July, in whichever order the browser has day and month
+    browser.script("arguments[0].focus()", browser.one('[data-f="first.0.0"]'))
+    browser.keys(*"07072031")
     browser.press("Move step 2 up")
-    line_is("R/INN/YARD/2030-06-01/2/1;T/BUS/X/2030-06-01/1/7!1")
+    line_is("R/INN/YARD/2030-06-01/2/1;T/BUS/X/2031-07-07/1/7!1")
     browser.open(scene.desk.url("#/plan"))
     browser.driver.refresh()
-    line_is("R/INN/YARD/2030-06-01/2/1;T/BUS/X/2030-06-01/1/7!1")
+    line_is("R/INN/YARD/2030-06-01/2/1;T/BUS/X/2031-07-07/1/7!1")
     for bad, words in (
         ("F/AL/A1/2030-02-29/1/1!0", "night"), ("F/AL/A1/2030-06-01/2/1!0", "too many nights"),
         ("F/AL/A1/2030-06-01/1/1", "tries"), ("F/AL/A1/2030-06-01/1/1*!0", "save-point"),
@@ -83,6 +87,28 @@ def agents_are_apart(scene):
     browser.press("Agent bob, change")
     browser.press("ann", "#known")
     browser.named("My journeys (1)")
+
+
+def another_file(scene):
+    """The desk is started over another file: the page shows what that one has, and says nothing of the first one."""
+    browser, desk = scene.browser, scene.desk
+    browser.open(desk.url("#/journeys/1"))
+    browser.shows("ann has no journey 1", "#one")
+    scene.begins()
+    scene.begins(key="b2")
+    browser.shows("Fits now", ".acts")
+    browser.press("My journeys (2)")
+    browser.shows("flight A1, transfer X", "#list")
+    desk.kill()
+    browser.shows("The desk cannot be reached", "#away")
+    desk.file = f"{scene.folder}/other.db"
+    desk.start()
+    browser.shows("You have no journey yet", "#list")
+    scene.begins(plan(TRANSFER), "other")
+    browser.named("My journeys (1)")
+    browser.shows("transfer X", "#list")
+    same("the first file's plan", False, "flight A1" in browser.text("#list"))
+    same("refusals", [], browser.names(".note.isbad p"))
 
 
 def filters(scene):

@@ -7,7 +7,7 @@ import socket
 import sqlite3
 import struct
 
-from driving import PATIENCE, Client, Server, desk
+from driving import Client, Server, desk, end_writing, opened, rest_of
 from rows_pages import HEADING, SHORT, Wrong, compact, expect, page, plan_value
 
 GET = b"GET /unfinished HTTP/1.1\r\nHost: d\r\nDesk-Agent: ann\r\n\r\n"
@@ -31,28 +31,16 @@ def post(target, key, body=b""):
     return f"POST {target} HTTP/1.1\r\n{fields}\r\n\r\n".encode() + body
 
 
-def read_all(stream):
-    """What comes until the connection ends, in order or not."""
-    found = b""
-    try:
-        while piece := stream.recv(65536):
-            found += piece
-    except OSError:
-        pass
-    return found
-
-
 def sends(server, data, by_bytes=False):
     """One connection that sends these bytes and ends; what comes back until its end."""
-    with socket.create_connection(("127.0.0.1", server.port), PATIENCE) as stream:
-        stream.setsockopt(socket.IPPROTO_TCP, socket.TCP_NODELAY, 1)
-        try:
-            for piece in ([bytes([one]) for one in data] if by_bytes else [data]):
-                stream.sendall(piece)
-            stream.shutdown(socket.SHUT_WR)
-        except OSError:
-            pass  # it was closed behind a closing page
-        return read_all(stream)
+    stream = opened(server.port)
+    try:
+        for piece in ([bytes([one]) for one in data] if by_bytes else [data]):
+            stream.sendall(piece)
+    except OSError:
+        pass  # it was closed after a closing page
+    end_writing(stream)
+    return rest_of(stream)
 
 
 def served(inputs, lines="", env=None):
@@ -222,40 +210,6 @@ def recovery_stops_after_six_commits():
     ], desk("history", "trips.db", "1").out.split("\n"))
 
 
-SCHEMA_1 = """
-CREATE TABLE meta(one INTEGER PRIMARY KEY CHECK(one = 1),
-  version INTEGER NOT NULL, events INTEGER NOT NULL,
-  journeys INTEGER NOT NULL) STRICT;
-CREATE TABLE stock(kind INTEGER NOT NULL
-  CHECK(kind BETWEEN 0 AND 3),
-  supplier TEXT NOT NULL, product TEXT NOT NULL,
-  night INTEGER NOT NULL, allot INTEGER NOT NULL,
-  free INTEGER NOT NULL CHECK(free >= 0 AND free <= allot),
-  PRIMARY KEY(kind, supplier, product, night)) STRICT;
-CREATE TABLE batch(name TEXT NOT NULL PRIMARY KEY,
-  num INTEGER NOT NULL UNIQUE, content BLOB NOT NULL) STRICT;
-CREATE TABLE journey(id INTEGER PRIMARY KEY,
-  num INTEGER NOT NULL UNIQUE, agent TEXT NOT NULL,
-  steps INTEGER NOT NULL, tries INTEGER NOT NULL,
-  pos INTEGER NOT NULL,
-  phase INTEGER NOT NULL CHECK(phase BETWEEN 0 AND 3),
-  target INTEGER NOT NULL, used INTEGER NOT NULL) STRICT;
-CREATE TABLE step(journey INTEGER NOT NULL REFERENCES journey(id),
-  place INTEGER NOT NULL, opt INTEGER NOT NULL,
-  save INTEGER NOT NULL CHECK(save IN (0, 1)),
-  taken INTEGER NOT NULL CHECK(taken IN (0, 1)),
-  kind INTEGER NOT NULL, supplier TEXT NOT NULL,
-  product TEXT NOT NULL, night INTEGER NOT NULL,
-  nights INTEGER NOT NULL, places INTEGER NOT NULL,
-  PRIMARY KEY(journey, place, opt)) STRICT;
-CREATE TABLE entry(num INTEGER PRIMARY KEY,
-  journey INTEGER NOT NULL REFERENCES journey(id),
-  item INTEGER NOT NULL CHECK(item BETWEEN 0 AND 2),
-  a INTEGER NOT NULL, b INTEGER NOT NULL) STRICT;
-CREATE TABLE answer(agent TEXT NOT NULL, mark TEXT NOT NULL,
-  ask BLOB NOT NULL, reply TEXT NOT NULL,
-  PRIMARY KEY(agent, mark)) STRICT;
-"""
 TWO = f"{SHORT['$A1']}/1/1;{SHORT['$X']}/1/1!0"
 KEPT = [
     ("k1", "/journeys", compact(plan_value(TWO)), "journey 1 begun", '{"journey":1}'),
@@ -268,7 +222,8 @@ KEPT = [
 def make_old_file():
     """A file of schema 1 with a journey that goes back, and three kept replies."""
     connection = sqlite3.connect("trips.db")
-    connection.executescript(SCHEMA_1)
+    with open(os.path.join(os.path.dirname(__file__), "schema_1.sql"), encoding="ascii") as file:
+        connection.executescript(file.read())
     content = f"{SHORT['$A1']}/10\n{SHORT['$X']}/10\n".encode()
     rows = {
         "meta": [(1, 1, 4, 1)],

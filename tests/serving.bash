@@ -5,21 +5,24 @@ free_port() {
   python3 -c 'import socket; s = socket.socket(); s.bind(("127.0.0.1", 0)); print(s.getsockname()[1])'
 }
 
-# serves CONNECTIONS [WORD ..]: the desk serves so many, with these words, as process $desk, on $port; what it tells goes to
-# told and desk_err
-serves() {
-  local count=$1 tries
-  shift
+# serves_with [WORD ..]: the desk serves with these words, as process $desk, on $port; what it tells goes to told and desk_err
+serves_with() {
+  local tries
   for tries in 1 2 3; do
     port=$(free_port)
     : >told
-    "$DESK" serve trips.db --port "$port" --connections "$count" "$@" >told 2>desk_err &
+    "$DESK" serve trips.db --port "$port" "$@" >told 2>desk_err &
     desk=$!
     while kill -0 "$desk" 2>/dev/null && [ ! -s told ]; do sleep 0.01; done
     [ -s told ] && return 0
     wait "$desk"
   done
   return 1
+}
+
+# serves CONNECTIONS [WORD ..]: the same, for so many connections
+serves() {
+  serves_with --connections "$@"
 }
 
 # ends_with WHAT STATUS: the desk ends by itself, with this status

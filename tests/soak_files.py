@@ -15,16 +15,22 @@ from soak_lives import Life
 from soak_talk import Wrong, without_repeats
 
 FILES = ("trips.db", "trips.db-wal")
+NO_DATABASE = "file is not a database"
 
 
 def rows_in(path):
-    """The rows of the tables of a file and its log, by Python's own SQLite; none where there are no tables."""
+    """The rows of the tables of a file and its log, by Python's own SQLite; none where there are no tables, or no database
+    yet, as a first opening that was cut off may leave it."""
     if not os.path.exists(path):
         return None
     connection = sqlite3.connect(path)
     try:
         names = [row[0] for row in connection.execute("SELECT name FROM sqlite_schema WHERE type = 'table'")]
         return {name: sorted(connection.execute(f"SELECT * FROM {name}")) for name in names} or None
+    except sqlite3.DatabaseError as error:
+        if str(error) == NO_DATABASE:
+            return None
+        raise Wrong(f"Python's SQLite: {error}") from error
     finally:
         connection.close()
 

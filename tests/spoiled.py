@@ -13,7 +13,7 @@ from failing_calls import CHANGES, FAILED, SOCKETS, Trial, scenes
 from shown import Events
 
 # of each scene, the calls that are tried, and which of them
-TRIED = {"stock": (CHANGES, slice(-3, None)), "serve": (SOCKETS, slice(0, 4))}
+TRIED = {"recover": (CHANGES, slice(-3, None)), "serve": (SOCKETS, slice(0, 4))}
 
 
 class Ends(Trial):

@@ -337,6 +337,16 @@ measure_stock() (
   awk -v told="$told" -v ours="$ours" -v opening="$opening" -v plain="$plain" \
     'BEGIN { sub("cells ", "", told)
              printf "%d %.0f %.0f %.0f %.2f %.2f 3.0\n", told, ours, opening, plain, ours / plain, (ours - opening) / plain }'
+  # a part of the cells: a product of 250 nights, and a supplier who has none, of each kind
+  product=$(took "$desk" stock cells.db --kind flight --supplier LOAD --product P0025)
+  few=$(tail -n 1 out)
+  nobody=$(took "$desk" stock cells.db --supplier NOBODY)
+  none=$(tail -n 1 out)
+  echo "stock shown report-ms of-it-opening-ms over-the-whole-without-opening at-most"
+  awk -v few="$few" -v none="$none" -v product="$product" -v nobody="$nobody" -v ours="$ours" -v opening="$opening" \
+    'BEGIN { sub("cells ", "", few); sub("cells ", "", none)
+             printf "a-product %d %.0f %.0f %.3f 0.1\n", few, product, opening, (product - opening) / (ours - opening)
+             printf "a-supplier %d %.0f %.0f %.3f 0.1\n", none, nobody, opening, (nobody - opening) / (ours - opening) }'
   "$desk" run few.db </dev/null
   "$bench" load few.db 1 >loaded || exit 1
   few=$(peak_of_report few.db 500)
@@ -425,9 +435,10 @@ measure_migrate() (
   awk -v few="$few" -v many="$many" 'BEGIN { printf "items-99999 %d %d %d 20000\n", few, many, many - few }'
 )
 
-# What serves on the port that is given, each over a file of its own: the desk; the same row changes by libsqlite3;
-# these with the same reads
+# What serves on the port that is given, each over a file of its own: the desk; the desk with --wide; the same row changes by
+# libsqlite3; these with the same reads
 desk_at() { exec "$desk" serve desk.db --port "$1" --connections 1; }
+wide_at() { exec "$desk" serve wide.db --port "$1" --connections 1 --wide; }
 rows_at() { exec "$top/crates/bench/out/http" rows.db "$1"; }
 reading_at() { exec "$top/crates/bench/out/http" reading.db "$1" reading; }
 
@@ -470,13 +481,13 @@ same_pages() {
   fi
 }
 
-# asked_all: each server in turn, over new files; the times go to the files ours, plain and with-reads
+# asked_all: each server in turn, over new files; the times go to the files ours, wide, plain and with-reads
 asked_all() {
   rm -f ./*.db*
   echo "set flight-1 F/AL/A1/2030-06-01 100000" | "$desk" run desk.db >answers || return 1
-  refused_none || return 1
-  asked desk_at >>ours && asked rows_at >>plain && asked reading_at >>with-reads || return 1
-  same_pages desk_at rows_at && same_pages desk_at reading_at && same_rows desk.db rows.db
+  refused_none && cp desk.db wide.db || return 1
+  asked desk_at >>ours && asked wide_at >>wide && asked rows_at >>plain && asked reading_at >>with-reads || return 1
+  same_pages desk_at rows_at && same_pages desk_at reading_at && same_rows desk.db rows.db && same_rows desk.db wide.db
 }
 
 # The tables of the measure below. Each line of the file `all` has a name, the desk's time, that of the same row
@@ -510,18 +521,26 @@ table_of_heads() {
     END { told("desk", desk, "1.3"); told("libsqlite3", plain, "-") }' all
 }
 
+# each line of the file `wider` has a name, the desk's time, and that with --wide
+table_of_wide() {
+  echo "with-wide desk wide ratio at-most"
+  awk '{ printf "%s %.1f %.1f %.2f %s\n", $1, $2, $3, $3 / $2, $1 == "get" || $1 == "step" ? "1.10" : "-" }' wider
+}
+
 # Requests over HTTP, beside a plain loop that makes the same row changes by libsqlite3, and beside this with the
-# same reads; requests that come byte by byte, beside those that come whole; and what a byte of a head takes as the
-# head grows.
+# same reads; requests that come byte by byte, beside those that come whole; what a byte of a head takes as the head grows; and all
+# of these with --wide.
 measure_http() (
   has_c http http && has_c http ask || exit 0
   works_in_memory
   for ((round = 0; round < 10; round++)); do asked_all || exit 1; done
   paste -d ' ' <(shortest ours | cut -d ' ' -f 1,3) <(shortest plain | cut -d ' ' -f 3) \
     <(shortest with-reads | cut -d ' ' -f 3) >all
+  paste -d ' ' <(shortest ours | cut -d ' ' -f 1,3) <(shortest wide | cut -d ' ' -f 3) >wider
   table_of_requests
   table_of_bytewise
   table_of_heads
+  table_of_wide
 )
 
 # A day of agencies: how long agents wait in their busiest hour, and what one desk carries at most. Syncs count here, so the

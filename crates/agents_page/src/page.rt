@@ -2,7 +2,7 @@
 
 /// What the page may load and do: its own style and script, and requests to the desk that served it.
 pub const POLICY: &str =
-    r#"default-src 'none'; script-src 'sha256-TwXluV7kIEgwb6BifBy3mvaysq0VYZuRkgMPPvbRBow='; style-src 'sha256-qPKRZL53v0D0XNK5s9UHwo/TCEuz9GUCGoB4PZUxovw='; connect-src 'self'; frame-ancestors 'none'; base-uri 'none'; form-action 'none'"#;
+    r#"default-src 'none'; script-src 'sha256-BMrr0VCW4CLlXzMtP007m881Fx4LXeYfbGLYM+fl3Jg='; style-src 'sha256-bbvFO2V/nRRXjDXkhnhMW8AlP1SCRZEWsCrtSytBsKQ='; connect-src 'self'; frame-ancestors 'none'; base-uri 'none'; form-action 'none'"#;
 
 /// The page, in HTML.
 pub const PAGE: &str = r##"<!doctype html>
@@ -47,7 +47,7 @@ h2 { font-size: 17px; line-height: 1.3; margin: 0 0 8px; }
 h2.big { font-size: 21px; }
 h3 { font-size: 15px; line-height: 1.3; margin: 0; }
 #one > h3 { margin: 16px 0 6px; }
-h1:focus, main:focus { outline: none; }
+h1:focus, h2:focus, main:focus { outline: none; }
 p { margin: 0 0 8px; }
 code, .code { font-family: ui-monospace, "DejaVu Sans Mono", "Liberation Mono", Menlo, Consolas, monospace; }
 .soft { color: var(--soft); }
@@ -194,7 +194,7 @@ table.list td { padding: 7px 8px; border-bottom: 1px solid var(--line); vertical
 table.list tr.now td { background: var(--chosen); }
 table.list td:first-child, table.list th:first-child { width: 82px; }
 table.list a { display: inline-block; min-width: 40px; min-height: 24px; font-weight: 600; }
-.list .state { white-space: nowrap; }
+.list .plan { display: -webkit-box; -webkit-line-clamp: 3; -webkit-box-orient: vertical; overflow: hidden; }
 .is {
   display: inline-block; padding: 1px 9px; border-radius: 20px; border: 1px solid; font-size: 13px; font-weight: 600;
   white-space: nowrap;
@@ -295,7 +295,7 @@ dialog .row { justify-content: flex-end; margin-top: 12px; }
 <noscript><p>This page works with its script, which this browser does not run.</p></noscript>
 <section id="v-who" aria-labelledby="h-who" hidden>
 <form class="card" id="who-form" novalidate>
-<h2 id="h-who" class="big">Who works here?</h2>
+<h2 id="h-who" class="big" tabindex="-1">Who works here?</h2>
 <p>The desk shows you your own journeys and those of nobody else. The name is kept in this browser; another window may work for
 another agent.</p>
 <p><label for="agent">Agent</label></p>
@@ -307,22 +307,22 @@ another agent.</p>
 </section>
 <div class="desk book" id="book" hidden>
 <section id="v-stock" aria-labelledby="h-stock">
-<h2 id="h-stock" class="big">Stock</h2>
+<h2 id="h-stock" class="big" tabindex="-1">Stock</h2>
 <div id="filters"></div>
 <div id="cals" class="cals"></div>
 </section>
 <section id="v-plan" class="card side" aria-labelledby="h-plan">
-<h2 id="h-plan" class="big">New journey</h2>
+<h2 id="h-plan" class="big" tabindex="-1">New journey</h2>
 <div id="plan"></div>
 </section>
 </div>
 <div class="desk own" id="own" hidden>
 <section id="v-list" class="card side" aria-labelledby="h-list">
-<h2 id="h-list" class="big">My journeys</h2>
+<h2 id="h-list" class="big" tabindex="-1">My journeys</h2>
 <div id="list"></div>
 </section>
 <section id="v-one" class="card" aria-labelledby="h-one">
-<h2 id="h-one" class="big">One journey</h2>
+<h2 id="h-one" class="big" tabindex="-1">One journey</h2>
 <div id="one"></div>
 </section>
 </div>
@@ -351,6 +351,9 @@ const short = n => `${+n.slice(8)} ${MONTHS[n.slice(5, 7) - 1].slice(0, 3)} ${n.
 const count = (n, one, more = one + 's') => `${n.toLocaleString('en')} ${n === 1 ? one : more}`;
 const productOf = w => `${w.kind} ${w.supplier} ${w.product}`;
 const spanOf = w => w.nights === 1 ? short(w.first) : `${short(w.first)}, ${count(w.nights, 'night')}`;
+const weekday = n => DAYS[(new Date(n).getUTCDay() + 6) % 7].slice(0, 3);
+// daysOf(want): the weekdays of its first night and its last
+const daysOf = w => weekday(w.first) + (w.nights === 1 ? '' : ` to ${weekday(plus(w.first, w.nights - 1))}`);
 const wantText = w => `${productOf(w)}, ${spanOf(w)}, ${count(w.count, 'place')}`;
 const optionText = w => [LETTER[w.kind], w.supplier, w.product, w.first, w.nights, w.count].join('/');
 const planLine = plan => plan.steps.map(
@@ -439,20 +442,49 @@ const wholeField = (word, f, low, high, value, set, props) => h('label', {}, wor
 const kindOf = w => h('span', { class: 'kind ' + w.kind }, w.kind);
 const product = w => [kindOf(w), ` ${w.supplier} ${w.product}`];
 
+// nothing is drawn anew between the press of a button and its release, since the click has to find it, nor while a field tells its
+// change, since the focus is on its way to the next one. A press that is never released holds nothing back for long
+let pressed = -Infinity, isChanging = false;
+const isHeld = () => isChanging || performance.now() - pressed < 2000;
+const listen = (names, act) => names.split(' ').forEach(name => document.addEventListener(name, act, true));
+listen('mousedown', event => {
+  if (event.button === 0 && event.target.closest('button, a, label')) pressed = performance.now();
+});
+listen('keydown', event => {
+  if (event.key === ' ' && event.target.closest('button, [type=checkbox]')) pressed = performance.now();
+  // a date is typed part by part
+  if (event.target.type === 'date' && event.key !== 'Tab') event.target.isTyped = true;
+});
+listen('mouseup keyup dragend contextmenu', () => {
+  if (pressed > 0) setTimeout(draw);
+  pressed = -Infinity;
+});
+listen('change', ({ target }) => {
+  target.drawn = target.value;
+  isChanging = true;
+  setTimeout(() => { isChanging = false; draw(); });
+});
+listen('input', ({ target }) => { if (target.type === 'search') target.drawn = target.value; });
+listen('focusout', ({ target }) => { if (target.isTyped) { target.isTyped = false; setTimeout(draw); } });
+
 // paint(box, kids): the box has these; what had the focus has it again, by its data-f
 function paint(box, ...kids) {
   const at = document.activeElement, had = at !== box && box.contains(at), f = had && at.dataset.f;
   // what is being typed is left alone; the box is drawn again later
-  if (had && at.matches('input:not([type=checkbox])') && at.value !== at.drawn) { delete box.dataset.key; return; }
-  const from = had && at.selectionStart;
-  const scrolled = [...box.querySelectorAll('[data-scroll]')].map(one => one.scrollLeft);
+  const isTyped = had && (at.isTyped || (at.matches('input:not([type=checkbox])') && at.value !== at.drawn));
+  if (isHeld() || isTyped) { delete box.dataset.key; return; }
+  const from = had && at.selectionStart, to = had && at.selectionEnd;
+  // what was scrolled to its end stays there
+  const scrolled = [...box.querySelectorAll('[data-scroll]')]
+    .map(one => one.scrollLeft + one.clientWidth >= one.scrollWidth - 2 ? 1e5 : one.scrollLeft);
   box.replaceChildren(...kids.flat(9).filter(Boolean));
   box.querySelectorAll('[data-scroll]').forEach((one, n) => { if (scrolled[n] !== undefined) one.scrollLeft = scrolled[n]; });
   if (had) {
     const same = f && box.querySelector(`[data-f="${CSS.escape(f)}"]`);
     const next = same || box.querySelector('[data-rest]') || $('title');
     next.focus({ preventScroll: true });
-    if (same && typeof from === 'number') same.setSelectionRange(from, from);
+    if (same && typeof from === 'number') same.setSelectionRange(from, to);
+    else if (same && same.type === 'number') same.select();
   }
 }
 
@@ -486,7 +518,7 @@ let draft = null, chosen = null, into = 0, badStep = 0, places = 1;
 let settling = new Map();
 let reached = null, timer = 0, looking = false, lookAgain = false;
 let filter = kept(session, 'filter', { kind: '', supplier: '', product: '', month: '' });
-let sought = { state: '', text: '', rows: ROWS };
+let sought = { state: '', text: '', ...kept(session, 'sought', {}), rows: ROWS };
 
 const isOpen = journey => journey.state === 'run' || journey.state === 'back';
 
@@ -561,19 +593,30 @@ async function lookAtOwn(mine) {
   const open = listIn(await get('/unfinished')), now = new Set(open.map(one => one.journey));
   if (mine !== turn) return;
   const most = Math.max(0, ...own.keys());
-  if (
-    open.some(one => one.journey <= most && !isOpen(own.get(one.journey) || { state: '' }))
-  ) { complete = false; own = new Map(); return lookAtOwn(mine); }
+  if (open.some(one => one.journey <= most && !isOpen(own.get(one.journey) || { state: '' }))) return lookAnew(mine);
   for (const one of open) own.set(one.journey, one);
   const gone = [...own.values()].filter(one => isOpen(one) && !now.has(one.journey)).map(one => one.journey);
-  if (gone.length > 8) return readMine(Math.min(...gone) - 1, own, mine);
-  for (const id of gone) {
-    const one = await get('/journeys/' + id);
+  if (gone.length > 8) await readMine(Math.min(...gone) - 1, own, mine);
+  else for (const id of gone) {
+    const one = await unlessAbsent(get('/journeys/' + id));
     if (mine !== turn) return;
-    take(id, one);
+    if (one) take(id, one);
   }
+  if (mine !== turn) return;
+  if (gone.some(id => isOpen(own.get(id)))) return lookAnew(mine);
   await readMine(most, own, mine);
 }
+// lookAnew(): the desk has another file now, or an older one: nothing that was known is
+function lookAnew(mine) {
+  complete = false;
+  own = new Map(); histories = new Map(); plans = new Map();
+  return lookAtOwn(mine);
+}
+// unlessAbsent(page): null where there is no such journey
+const unlessAbsent = page => page.catch(why => {
+  if (why instanceof Refused && why.page.name === 'NoJourney') return null;
+  throw why;
+});
 
 // readMine(after, into): all own journeys above this number; whether they are still asked for
 async function readMine(after, into, mine) {
@@ -592,22 +635,18 @@ function take(id, { history, ...where }) {
 }
 
 async function lookAtOne(id, mine) {
-  try {
-    if (!plans.has(id)) {
-      const plan = await get(`/journeys/${id}/plan`);
-      if (mine !== turn) return;
-      plans.set(id, plan);
-    }
-    const known = histories.has(id) && own.get(id), was = settling.get(id);
-    if (known && !isOpen(known) && !was) return;
-    const one = await get('/journeys/' + id);
+  if (!plans.get(id)) {
+    const plan = await unlessAbsent(get(`/journeys/${id}/plan`));
     if (mine !== turn) return;
-    take(id, one);
-    if (settling.get(id) === was) settling.delete(id);
-  } catch (why) {
-    if (!(why instanceof Refused) || why.page.name !== 'NoJourney') throw why;
-    plans.set(id, null);
+    plans.set(id, plan);
+    if (!plan) return;
   }
+  const known = histories.has(id) && own.get(id), was = settling.get(id);
+  if (known && !isOpen(known) && !was) return;
+  const one = await unlessAbsent(get('/journeys/' + id));
+  if (mine !== turn) return;
+  if (one) take(id, one); else plans.set(id, null);
+  if (settling.get(id) === was) settling.delete(id);
 }
 
 // ---- sending: each request is kept with its key until its page came, and retried as it was
@@ -923,6 +962,7 @@ function settleFilter() {
 }
 
 function drawStock() {
+  if (isHeld()) return;
   if (stockText === null) {
     if (!$('cals').childElementCount) $('cals').replaceChildren(h('p', { class: 'soft' }, 'Looking at the stock …'));
     return;
@@ -1102,7 +1142,7 @@ function drawBar() {
     drawBar();
   };
   if (!(into >= 1 && into <= steps)) into = steps;
-  paint(bar, h('h2', { id: 'h-bar' }, 'Chosen: ', product(chosen), `, ${spanOf(chosen)}`),
+  paint(bar, h('h2', { id: 'h-bar' }, 'Chosen: ', product(chosen), `, ${spanOf(chosen)} (${daysOf(chosen)})`),
     h('div', { class: 'row' },
       most > 1 && wholeField('Nights', 'bar.nights', 1, most, chosen.nights, set('nights')),
       wholeField('Places', 'bar.count', 1, 50, chosen.count, set('count')),
@@ -1253,7 +1293,7 @@ function optionItem(step, at, want, n) {
   return h('li', {},
     h('div', { class: 'row' },
       many && h('span', { class: 'soft' }, `${n + 1}.`),
-      h('span', { class: 'what' }, product(want), `, ${spanOf(want)}`),
+      h('span', { class: 'what' }, product(want), `, ${spanOf(want)} (${daysOf(want)})`),
       many && n > 0 && button('↑', 'prefer.' + f, prefer, small(`Prefer ${name} to the one before`)),
       many && button('✕', 'drop.' + f, remove, small(`Remove ${name}`))),
     h('div', { class: 'row' },
@@ -1278,9 +1318,9 @@ function stateText(one) {
 }
 const stateMark = one => h('span', { class: 'is ' + one.state }, stateText(one));
 function planText(plan) {
-  return plan.steps.map(
+  return `${short(plan.steps[0].options[0].first)} · ` + plan.steps.map(
     ({ options: [want, ...more] }) => `${want.kind} ${want.product}${more.length ? ` or ${count(more.length, 'other')}` : ''}`
-  ).join(', ') + ` · ${short(plan.steps[0].options[0].first)}`;
+  ).join(', ');
 }
 
 function drawList() {
@@ -1296,7 +1336,7 @@ function drawList() {
   const some = all.filter(one => isState(one) && isText(one));
   const rows = some.slice(0, sought.rows);
   const key = JSON.stringify(
-    [complete, all.length, open, sought, some.length, view, number, rows.map(one => [one, plans.has(one.journey)])]
+    [complete, all.length, open, sought, some.length, view, number, rows.map(one => [one, Boolean(plans.get(one.journey))])]
   );
   if ($('list').dataset.key === key) return;
   $('list').dataset.key = key;
@@ -1306,7 +1346,11 @@ function drawList() {
       complete && h('p', {}, h('a', { href: '#/stock' }, 'To the stock')));
     return;
   }
-  const seek = change => { sought = { ...sought, rows: ROWS, ...change }; drawList(); };
+  const seek = change => {
+    sought = { ...sought, rows: ROWS, ...change };
+    keep(session, 'sought', { state: sought.state, text: sought.text });
+    drawList();
+  };
   const states = [['', `all (${all.length})`], ['open', `not finished (${open})`],
     ...Object.keys(STATES).map(state => [state, `${STATES[state]} (${sum(state)})`])];
   paint($('list'),
@@ -1316,7 +1360,7 @@ function drawList() {
       h('label', {}, 'Number or product', h('input', {
         type: 'search', value: sought.text, size: 14, 'data-f': 'list.text', oninput: event => seek({ text: event.target.value }),
       }))),
-    !some.length ? h('p', {}, 'No journey is like that.') : h('table', { class: 'list', 'aria-labelledby': 'h-list' },
+    !some.length ? h('p', {}, 'No journey matches.') : h('table', { class: 'list', 'aria-labelledby': 'h-list' },
       h('thead', {}, h('tr', {}, h('th', { scope: 'col' }, 'Journey'), h('th', { scope: 'col' }, 'State and plan'))),
       h('tbody', {}, rows.map(listRow))),
     some.length > rows.length && button(`Show ${Math.min(ROWS, some.length - rows.length)} more of ${some.length}`, 'more',
@@ -1331,7 +1375,7 @@ function listRow(one) {
       href: '#/journeys/' + one.journey, 'data-f': 'to.' + one.journey, 'aria-label': `Journey ${one.journey}`,
       'aria-current': isShown && 'page',
     }, one.journey)),
-    h('td', {}, stateMark(one), plan && h('div', { class: 'small soft' }, planText(plan))));
+    h('td', {}, stateMark(one), plan && h('div', { class: 'plan small soft' }, planText(plan))));
 }
 
 // fillPlans(rows): asks for the plans of those that are listed, one after another
@@ -1343,7 +1387,7 @@ async function fillPlans(rows) {
   let asked = 0, more = false;
   try {
     for (const one of rows) {
-      if (plans.has(one.journey) || document.hidden) continue;
+      if (plans.get(one.journey) || document.hidden) continue;
       if (mine !== turn || (view !== 'list' && view !== 'journey')) break;
       const plan = await get(`/journeys/${one.journey}/plan`);
       if (mine === turn) plans.set(one.journey, plan);
@@ -1432,7 +1476,10 @@ function drawOne() {
       ? h('ol', { class: 'items' }, way.steps.map(step => h('li', {}, h('span', { class: 'code' }, step.item), ' ', itemText(step))))
       : h('p', { class: 'soft' }, 'Nothing yet.'));
   // what is newest is seen
-  if ($('one').dataset.drawn !== drawn) { $('one').dataset.drawn = drawn; $('one').querySelector('.path').scrollLeft = 1e5; }
+  if ($('one').dataset.key && $('one').dataset.drawn !== drawn) {
+    $('one').dataset.drawn = drawn;
+    $('one').querySelector('.path').scrollLeft = 1e5;
+  }
 }
 function drawNone() {
   if ($('one').dataset.key === 'none') return;
@@ -1527,15 +1574,17 @@ function pathPicture(one, plan, way) {
   const goal = one.state === 'run' ? n : one.state === 'back' ? one.target : way.pos, rest = Math.abs(goal - way.pos);
   const wide = Math.max(58, Math.min(84, (room - left - 70) / (at + rest / 2)));
   const y = p => top + (n - p) * high, x = at => left + 16 + at * wide;
-  const width = Math.max(room - 2, x(at) + rest * wide / 2 + 52), height = y(0) + 74;
+  const needed = x(at) + rest * wide / 2 + 52, isScrolled = needed > room - 1;
+  const width = isScrolled ? needed + 14 : room - 2, height = y(0) + 74, end = width - (isScrolled ? 30 : 8);
   const kids = [];
   const line = (name, d) => kids.push(s('path', { class: name, d }));
   const text = (px, py, words, props) => kids.push(s('text', { x: px, y: py, ...props }, words));
   for (let p = 0; p <= n; p++) {
     const isSafe = way.saves.includes(p) || (p && plan.steps[p - 1].save);
-    line(isSafe ? 'safe' : 'level', `M${left} ${y(p)}H${width - 8}`);
+    line(isSafe ? 'safe' : 'level', `M${left} ${y(p)}H${end}`);
     const taken = p && way.stands[p - 1], want = p && (taken ? taken.want : plan.steps[p - 1].options[0]);
     text(left - 10, y(p) + 4, p, { 'text-anchor': 'end', class: 'code' });
+    if (isScrolled) text(width - 8, y(p) + 4, p, { 'text-anchor': 'end', class: 'code' });
     text(
       8, y(p) + 4,
       p
@@ -1560,14 +1609,14 @@ function pathPicture(one, plan, way) {
     }
     if (step.letter === 'S') kids.push(s('path', { class: 'flag', d: `M${mid - 2} ${y0}v-17l11 4.5l-11 4.5` }));
     text(mid, y(0) + 34, step.item, { 'text-anchor': 'middle', class: 'code' });
-    text(
-      mid, y(0) + 51,
-      {
-        T: step.want && step.want.product, C: 'given back', S: 'saved',
-        B: { r: 'no place', s: 'restart', a: 'asked' }[step.b]
-      }[step.letter],
-      { 'text-anchor': 'middle', class: 'dim' }
-    );
+    const words = {
+      T: step.want && step.want.product, C: 'given back', S: 'saved', B: { r: 'no place', s: 'restart', a: 'asked' }[step.b],
+    }[step.letter] || '';
+    // longer words are set as narrow as the column is
+    const isLong = words.length * (step.letter === 'T' ? 8.4 : 6.4) > wide - 4;
+    text(mid, y(0) + 51, words, {
+      'text-anchor': 'middle', class: 'dim', textLength: isLong && wide - 4, lengthAdjust: isLong && 'spacingAndGlyphs',
+    });
   });
   if (rest) line('ahead', `M${x(at)} ${y(way.pos)}L${x(at) + rest * wide / 2} ${y(goal)}`);
   steps.forEach((step, k) => kids.push(s('circle', { class: 'dot', cx: x(k), cy: y(step.from), r: 3 })));
@@ -1583,6 +1632,8 @@ function pathPicture(one, plan, way) {
 // ---- the whole
 
 const TITLES = { stock: 'Stock', plan: 'New journey', list: 'My journeys', who: 'Who works here?' };
+// what has the focus once a view was opened
+const STARTS = { stock: 'h-stock', plan: 'h-plan', list: 'h-list', journey: 'h-one', who: 'agent' };
 function route(isMoved) {
   const path = location.hash.slice(2), found = /^journeys\/([1-9]\d{0,11})$/.exec(path), before = view + number;
   number = found ? +found[1] : 0;
@@ -1602,7 +1653,7 @@ function route(isMoved) {
   ); else link.removeAttribute('aria-current');
   draw();
   if (view === 'who') drawWho();
-  if (isMoved && before !== view + number) { $('title').focus({ preventScroll: true }); scrollTo(0, 0); look(); }
+  if (isMoved && before !== view + number) { $(STARTS[view]).focus({ preventScroll: true }); scrollTo(0, 0); look(); }
 }
 function draw() {
   drawState();
@@ -1617,10 +1668,6 @@ $('who').addEventListener('click', () => { location.hash = '#/who'; });
 document.querySelector('.skip').addEventListener('click', event => { event.preventDefault(); $('main').focus(); });
 // a key that is held down acts once
 $('one').addEventListener('keydown', event => { if (event.repeat && event.target.closest('.acts')) event.preventDefault(); });
-for (const name of ['change', 'input']) document.addEventListener(
-  name, event => { if (name === 'change' || event.target.type === 'search') event.target.drawn = event.target.value; },
-  true
-);
 addEventListener('hashchange', route);
 document.addEventListener('visibilitychange', () => { if (!document.hidden) { look(); flush(); } });
 let resized = 0;

@@ -35,6 +35,8 @@ pub(crate) struct Served<'a> {
     pub page: bool,
     /// Whether the log is written, on the standard error of the host.
     pub log: bool,
+    /// Whether HTTP is read as libraries, proxies and pools speak it.
+    pub wide: bool,
 }
 
 /// Serves connections over the database in a file, after recovery. Where a Unix socket was made, its file is removed when
@@ -144,12 +146,21 @@ fn bind<'a>(
     };
     match Sockets::bind(rt, alloc, served.port, served.house, limits) {
         Ok(sockets) => {
-            let sockets = with_log(sockets, served.log)?;
+            let sockets = with_log(widened(sockets, served.wide), served.log)?;
             with_page(sockets, served.page)
         }
         Err(error) if error.kind() == ErrorKind::OutOfMemory => Err(ProgramFault::Memory),
         Err(_) => Err(ProgramFault::Net),
     }
+}
+
+/// The sockets, which read HTTP as libraries, proxies and pools speak it if that is asked for.
+fn widened(sockets: Sockets<'_>, wide: bool) -> Sockets<'_> {
+    let mut sockets = sockets;
+    if wide {
+        sockets.widen();
+    }
+    sockets
 }
 
 /// The sockets, which serve the page for browsers if that is asked for.

@@ -4,12 +4,14 @@ ghost use Rattle.std.specs.Io.KnownBytes.{Keeps};
 ghost use Rattle.desk_lines.specs.Lines.{journey_in as journey_of};
 ghost use Rattle.program_ends.specs.Ends.{EndsJob};
 
-use crate::desks::{close_after, connect_there};
+use crate::desks::{FileConnection, close_after, connect_there};
+use crate::files::NewLog;
 use commands::Refusal;
-use desk_jobs::{history_over, stock_over, unfinished_over};
+use desk_jobs::{history_over, journeys_over, stock_over};
 use desk_lines::journey_in;
+use filters::{CellFilter, JourneyFilter};
 use program_ends::{End, Ended, ProgramFault};
-use reports::Format;
+use reports::{Format, JourneyReport};
 use sqlite::{Alter, Connection};
 use std::alloc::Global;
 use std::io::{BufWriter, Write};
@@ -17,10 +19,10 @@ use std::io::{BufWriter, Write};
 /// What a report of a desk that is not recovered shows.
 #[derive(Clone, Copy)]
 pub(crate) enum Shown {
-    /// The places of each cell.
-    Stock,
-    /// The unfinished journeys.
-    Unfinished,
+    /// The places of each cell that is asked for.
+    Stock(CellFilter),
+    /// The journeys that are asked for, under a name.
+    Journeys(JourneyReport, JourneyFilter),
     /// The history of the journey of this number.
     History(u64),
 }
@@ -68,7 +70,19 @@ pub(crate) fn report_file<O: Write>(
         Err(ended) => return ended,
     };
     let (conn, end) = report_over(alloc, report, conn, out);
-    close_after(rt, conn, log, &end).after(end)
+    close_shown(rt, conn, log, end)
+}
+
+/// Closes a connection after a report that ended so, and returns that end. A report that showed its rows is done, even if the
+/// log could not be copied into the file: nothing has changed, and the next opening finds the log.
+fn close_shown(rt: &HostRuntime, conn: FileConnection, log: NewLog, end: End) -> Ended
+    ensures end { result.end ≡ end }
+{
+    let closed = close_after(rt, conn, log, &end);
+    match end {
+        End::Done => Ended::from(End::Done),
+        end => closed.after(end),
+    }
 }
 
 /// Prints a report of the desk of a connection, through a buffer, since a report is many short lines.
@@ -89,8 +103,10 @@ fn report_over<S: Alter + Drop, O: Write>(
     };
     let Report { shown, format } = report;
     match shown {
-        Shown::Stock => stock_over(alloc, conn, format, &mut buffered),
-        Shown::Unfinished => unfinished_over(alloc, conn, format, &mut buffered),
+        Shown::Stock(filter) => stock_over(alloc, conn, &filter, format, &mut buffered),
+        Shown::Journeys(name, filter) => {
+            journeys_over(alloc, conn, name, &filter, format, &mut buffered)
+        }
         Shown::History(id) => history_over(alloc, conn, format, id, &mut buffered),
     }
 }

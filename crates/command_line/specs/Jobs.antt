@@ -5,9 +5,10 @@ use Rattle.std.specs.Option.{option_and_then, option_map_or}
 use Rattle.std.specs.String.{string_bytes}
 use Rattle.allotment.specs.Texts.{number_from}
 use Rattle.clap.specs.Words.{App, Text, first_of, matches_of}
+use Rattle.command_line.specs.Filters.{HasCells, HasJourneys, has_bad_cells, has_bad_journeys, phases_in, unfinished_in}
 use Rattle.command_line.specs.Subcommands.{app_for, is_refused_by, name_of, subcommand_in}
 use Rattle.command_line.specs.declared.jobs.Job.{Job}
-use Rattle.command_line.specs.declared.jobs.Job.TheVariants.{Run, Serve, Recover, Load, Stock, Unfinished, History, Migrate, Version}
+use Rattle.command_line.specs.declared.jobs.Job.TheVariants.{Run, Serve, Recover, Load, Stock, Unfinished, Journeys, History, Migrate, Version}
 use Rattle.command_line.specs.declared.jobs.JobFault.{JobFault}
 use Rattle.command_line.specs.declared.jobs.JobFault.TheVariants.{Usage, Memory}
 use Rattle.command_line.specs.declared.subcommands.Subcommand.{Subcommand}
@@ -18,11 +19,12 @@ use Rattle.reports.specs.declared.formats.Format.TheVariants as format
 -- the subcommand of a job; the job that prints the version has none
 abbrev pub subcommand_of : Job → Option Subcommand
 subcommand_of (Run file) = Some sub.Run
-subcommand_of (Serve file port connections house page log) = Some sub.Serve
+subcommand_of (Serve file port connections house page log wide) = Some sub.Serve
 subcommand_of (Recover file) = Some sub.Recover
 subcommand_of (Load file csv batch) = Some sub.Load
-subcommand_of (Stock file format) = Some sub.Stock
-subcommand_of (Unfinished file format) = Some sub.Unfinished
+subcommand_of (Stock file filter format) = Some sub.Stock
+subcommand_of (Unfinished file filter format) = Some sub.Unfinished
+subcommand_of (Journeys file filter format) = Some sub.Journeys
 subcommand_of (History file id format) = Some sub.History
 subcommand_of (Migrate file) = Some sub.Migrate
 subcommand_of Version = None
@@ -70,6 +72,10 @@ page_in value = is_set (value (codes "PAGE"))
 abbrev pub log_in : (Text → Option Text) → Bool
 log_in value = is_set (value (codes "LOG"))
 
+-- whether HTTP is read as libraries and proxies speak it, by its name
+abbrev pub wide_in : (Text → Option Text) → Bool
+wide_in value = is_set (value (codes "WIDE"))
+
 -- the format that a word names
 abbrev pub format_named : Text → Option Format
 format_named word =
@@ -90,18 +96,26 @@ format_in value = format_of (value (codes "FORMAT"))
 -- the values of a job are those under their names
 abbrev pub HasValues : (Text → Option Text) → Job → Type 0
 HasValues value (Run file) = NamesFile value (string_bytes file)
-HasValues value (Serve file port connections house page log) = NamesFile value (string_bytes file)
+HasValues value (Serve file port connections house page log wide) = NamesFile value (string_bytes file)
     × (port_in value ≡ Some port)
     × (connections_in value ≡ connections)
     × (house_in value ≡ option_map string_bytes house)
     × (page_in value ≡ page)
     × (log_in value ≡ log)
+    × (wide_in value ≡ wide)
 HasValues value (Recover file) = NamesFile value (string_bytes file)
 HasValues value (Load file csv batch) = NamesFile value (string_bytes file)
     × (value (codes "CSV") ≡ Some (string_bytes csv))
     × (value (codes "NAME") ≡ Some (string_bytes batch))
-HasValues value (Stock file format) = NamesFile value (string_bytes file) × (format_in value ≡ Some format)
-HasValues value (Unfinished file format) = NamesFile value (string_bytes file) × (format_in value ≡ Some format)
+HasValues value (Stock file filter format) = NamesFile value (string_bytes file)
+    × HasCells value filter
+    × (format_in value ≡ Some format)
+HasValues value (Unfinished file filter format) = NamesFile value (string_bytes file)
+    × HasJourneys unfinished_in value filter
+    × (format_in value ≡ Some format)
+HasValues value (Journeys file filter format) = NamesFile value (string_bytes file)
+    × HasJourneys phases_in value filter
+    × (format_in value ≡ Some format)
 HasValues value (History file id format) = NamesFile value (string_bytes file)
     × (value (codes "ID") ≡ Some (string_bytes id))
     × (format_in value ≡ Some format)
@@ -137,15 +151,17 @@ abbrev pub IsJob : List Text → Job → Type 0
 IsJob [] job = ⊥
 IsJob (word ∷ others) job = IsVersionJob word job ⊎ IsSubcommandJob word others job
 
--- the subcommand reads a number that is malformed, or missing where it is required, or a format that is none
+-- the subcommand reads a number that is malformed, or missing where it is required, a format that is none, or a value that
+-- asks for no cell or journey
 abbrev pub has_bad_value : Subcommand → (Text → Option Text) → Bool
 has_bad_value sub.Serve value = is_none (port_in value) || is_malformed most_connections (value (codes "N"))
-has_bad_value sub.Stock value = is_none (format_in value)
-has_bad_value sub.Unfinished value = is_none (format_in value)
+has_bad_value sub.Stock value = has_bad_cells value || is_none (format_in value)
+has_bad_value sub.Unfinished value = has_bad_journeys unfinished_in value || is_none (format_in value)
+has_bad_value sub.Journeys value = has_bad_journeys phases_in value || is_none (format_in value)
 has_bad_value sub.History value = is_none (format_in value)
 has_bad_value _ value = false
 
--- the words after a subcommand are refused: by clap, or for a value that is no number or no format
+-- the words after a subcommand are refused: by clap, or for a value that spells nothing
 abbrev pub refuses : Subcommand → List Text → Bool
 refuses s words = is_refused_by (app_for s) words || has_bad_value s (value_in (app_for s) words)
 

@@ -2,6 +2,7 @@
 ghost use Rattle.std.specs.Prelude.{◌≡◌};
 ghost use Rattle.command_line.specs.declared.jobs.JobFault.TheVariants.{Memory};
 
+use filters::{CellFilter, JourneyFilter};
 use reports::Format;
 use std::alloc::AllocError;
 
@@ -25,6 +26,8 @@ pub enum Job {
         page: bool,
         /// Whether it writes its log on standard error.
         log: bool,
+        /// Whether it reads HTTP as libraries, proxies and pools speak it.
+        wide: bool,
     },
     /// Recover the desk over this file.
     Recover {
@@ -36,14 +39,22 @@ pub enum Job {
         csv: String,
         batch: String,
     },
-    /// Print the stock of the desk over this file.
+    /// Print the stock of the desk over this file: the cells that are asked for.
     Stock {
         file: String,
+        filter: CellFilter,
         format: Format,
     },
-    /// Print the unfinished journeys of the desk over this file.
+    /// Print the unfinished journeys of the desk over this file that are asked for.
     Unfinished {
         file: String,
+        filter: JourneyFilter,
+        format: Format,
+    },
+    /// Print the journeys of the desk over this file that are asked for.
+    Journeys {
+        file: String,
+        filter: JourneyFilter,
         format: Format,
     },
     /// Print the history of a journey of the desk over this file.

@@ -1,6 +1,7 @@
-//! The desk over HTTP: the answer to a message.
+//! The desk over HTTP: the answers to the messages of a connection.
 //!
-//! `answer_to` executes the demand of a message over a book, and returns the page that reports its outcome.
+//! `serve` reads messages from a reader, executes their demands over a book, and writes the page of each message before
+//! it reads the next.
 //!
 //! A request comes in at a *door*: the port, with a page for browsers or without, or the house's own, where one that names
 //! no agent is the house's.
@@ -19,6 +20,7 @@ mod law_examples;
 mod laws;
 mod mine;
 mod senders;
+mod serving;
 mod showing;
 
 pub use answering::{Answer, answer_to};
@@ -27,3 +29,4 @@ pub use faults::reading_fault;
 pub use law_examples::step_is_retried;
 pub use laws::again;
 pub use protocols::ServeFault;
+pub use serving::{Served, serve};

@@ -1,9 +1,9 @@
 -- Where the answer to one message leads the book. For Talk::answer.
 use Rattle.std.proofs.Common.{◌≡◌, ℕ, Bool, true, false, List, [], ◌∷◌, take, Some, None, Err, refl, sym, ap, ◌∙◌, append-nil, ◌⊎◌, inl, inr}
 use Rattle.ledger.specs.Answer.{State}
-use Rattle.http_messages.specs.Messages.{Message, IsMessage}
-use Rattle.desk_http.specs.Answering.{Answers}
-use Rattle.desk_http.specs.Pages.{IsPage, state_after}
+use Rattle.desk_http.specs.Pages.{state_after}
+use Rattle.http_ways.specs.Pages.{AnswersBy, IsPageBy}
+use Rattle.http_ways.specs.Ways.{Said, Says}
 use Rattle.protocols.specs.declared.faults.ServeFault.{ServeFault}
 use Rattle.protocols.specs.declared.faults.ServeFault.TheVariants.{Memory, Read, Store, Write}
 use Rattle.http_conversations.specs.Exchanges.{Exchange}
@@ -16,35 +16,35 @@ module _ (sound : Type 0) (stood stands : State → Type 0) (leaves : State → 
   none xs ys same kept =
       record { exchanges = []; more = same ∙ sym (append-nil xs); ends = λ is_sound s was. (s, refl, kept s was) }
 
-  module _ (h k : History) (count : ℕ) (m : Message) (is : IsMessage (take count h.waiting) m) where
+  module _ (h k : History) (count : ℕ) (m : Said) (is : Says h.way (take count h.waiting) m) where
     -- it got its page
     pub got : (page : List ℕ) (c stop : Bool) → k ≡ after_answer h count page c stop
-        → (sound → (s : State) → stood s → IsPage h.door s m page × stands (state_after h.door s m))
+        → (sound → (s : State) → stood s → IsPageBy h.door s m page × stands (state_after h.door s m.meant))
         → GoesOn sound stood stands leaves false h.exchanges k.exchanges
     got page c stop same came = record {
       exchanges = exchange h count (Some page) ∷ [];
       more = ap (λ (j : History). j.exchanges) same;
       ends = λ is_sound s was.
           let here = came is_sound s was in
-          (state_after h.door s m, (state_after h.door s m, record { message = m; is_message = is; comes = (here.0, refl) }, refl), here.1);
+          (state_after h.door s m.meant, (state_after h.door s m.meant, record { message = m; is_message = is; comes = (here.0, refl) }, refl), here.1);
     }
 
     -- it lost its page, and was carried out or not
     pub lost : k ≡ after_loss h count
-        → (sound → (s : State) → stood s → stands s ⊎ stands (state_after h.door s m))
+        → (sound → (s : State) → stood s → stands s ⊎ stands (state_after h.door s m.meant))
         → GoesOn sound stood stands leaves false h.exchanges k.exchanges
     lost same came = record {
       exchanges = exchange h count None ∷ [];
       more = ap (λ (j : History). j.exchanges) same;
       ends = λ is_sound s was. elim (came is_sound s was) [
         | inl here ↦ (s, (s, record { message = m; is_message = is; comes = inl refl }, refl), here)
-        | inr there ↦ (state_after h.door s m, (state_after h.door s m, record { message = m; is_message = is; comes = inr refl }, refl), there)
+        | inr there ↦ (state_after h.door s m.meant, (state_after h.door s m.meant, record { message = m; is_message = is; comes = inr refl }, refl), there)
       ];
     }
 
     -- the store failed at it
     pub broke : k ≡ after_loss h count
-        → (sound → (s : State) → stood s → leaves s (state_after h.door s m))
+        → (sound → (s : State) → stood s → leaves s (state_after h.door s m.meant))
         → GoesOn sound stood stands leaves true h.exchanges k.exchanges
     broke same came = record {
       exchanges = exchange h count None ∷ [];
@@ -64,7 +64,7 @@ module _ (sound : Type 0) (stood stands : State → Type 0) (leaves : State → 
 
     -- a fault came
     pub failed : (fault : ServeFault) → k ≡ after_loss h count
-        → (sound → (s : State) → stood s → Answers stands leaves s h.door m (Err fault))
+        → (sound → (s : State) → stood s → AnswersBy stands leaves s h.door m (Err fault))
         → GoesOn sound stood stands leaves (has_broken {T = Bool} (Err (fault_by fault))) h.exchanges k.exchanges
     failed Memory same came = lost same came
     failed Store same came = broke same came

@@ -1,4 +1,2 @@
 pub mod Steps
 pub mod AnswerSteps
-mod ServeLemmas
-mod NextLemmas

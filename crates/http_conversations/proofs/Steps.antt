@@ -1,27 +1,32 @@
 -- What each step of a conversation keeps true.
-use Rattle.std.proofs.Common.{◌≡◌, ℕ, zero, suc, ◌+◌, ◌<◌, ◌≤◌, Bool, true, false, if◌then◌else◌, List, [], ◌∷◌, ◌++◌, length, length-append, length-drop, take, drop, All, Option, Some, None, Result, Ok, Err, IfOk, OnErr, IsSome, unwrap_or, refl, sym, ap, ◌∙◌, subst, append_assoc, append-nil, arith, inl, inr}
+use Rattle.std.proofs.Common.{◌≡◌, ℕ, zero, suc, ◌+◌, ◌<◌, ◌≤◌, Bool, true, false, if◌then◌else◌, List, [], ◌∷◌, ◌++◌, length, length-append, length-drop, take, drop, All, Option, Some, None, Result, Ok, Err, IfOk, OnErr, IsSome, refl, sym, ap, ◌∙◌, subst, append_assoc, append-nil, arith, inl, inr}
 use Rattle.std.specs.Io.KnownBytes.{Appends, Consumes, Keeps}
 use Rattle.std.proofs.lemmas.List.{take-append-drop}
 use Rattle.std.proofs.Math.Seq.{drop-append_seam, drop-length}
 use Rattle.std.proofs.lemmas.List.Elements.{All-append, All-nil}
 use Rattle.std.proofs.lemmas.Grind.{flat_map-append, common_steps}
 use Rattle.commands.specs.declared.faults.Fault.{Fault}
-use Rattle.http_messages.specs.Messages.{Message, IsMessage}
 use Rattle.desk_http.specs.Pages.{closes, stops}
 use Rattle.desk_http.specs.declared.doors.Door.{Door}
+use Rattle.http_wide_pages.specs.Pages.{go_on}
+use Rattle.http_ways.specs.Reading.{IsDueBy}
+use Rattle.http_ways.specs.Ways.{Said, Says}
+use Rattle.http_ways.specs.declared.ways.Way.{Way}
+use Rattle.http_ways.specs.declared.ways.Way.TheVariants.{Profile, Wide}
 use Rattle.http_conversations.specs.declared.stages.Stage.{Stage}
 use Rattle.http_conversations.specs.declared.stages.Stage.TheVariants.{Open, Closing, Failed}
-use Rattle.http_conversations.specs.Exchanges.{Exchange, AreAnswered, EndWithStop, IsAnswered, IsAt, IsNoStop, StopAtLast, bytes_of, pages_of, since}
-use Rattle.http_conversations.specs.History.{AnswersOne, History, IsServed, Passes, TakesFirst, after_answer, after_failure, after_loss, after_received, after_sent, exchange, kept, new_history, stops_by}
+use Rattle.http_conversations.specs.Exchanges.{Exchange, AreAnswered, EndWithStop, IsAnswered, IsAt, IsBy, IsNoStop, StopAtLast, answer_of, bytes_of, go_on_if, pages_of, since}
+use Rattle.http_conversations.specs.History.{AnswersOne, GivesGoOn, HasNoGoOn, History, IsServed, Passes, TakesFirst, after_answer, after_failure, after_go_on, after_loss, after_received, after_sent, exchange, kept, new_history, stops_by}
 
 -- Nothing was done yet.
-pub begins : (door : Door) → IsServed (new_history door)
-begins door = record {
+pub begins : (door : Door) (way : Way) → IsServed (new_history door way)
+begins door way = record {
   rest = [];
   received = refl;
   waits = refl;
   answered = All-nil (IsAnswered false);
   at_door = All-nil (IsAt door);
+  by_way = All-nil (IsBy way);
   stopping = λ is. cc;
   sent = refl;
 }
@@ -40,6 +45,7 @@ receives h more x = record {
   waits = keeps_more h.stage h.waiting x.rest more x.waits;
   answered = x.answered;
   at_door = x.at_door;
+  by_way = x.by_way;
   stopping = x.stopping;
   sent = x.sent;
 }
@@ -52,6 +58,7 @@ sends h count x = record {
   waits = x.waits;
   answered = x.answered;
   at_door = x.at_door;
+  by_way = x.by_way;
   stopping = x.stopping;
   sent = append_assoc h.sent (take count h.pending) (drop count h.pending)
       ∙ ap (λ t. h.sent ++ t) (take-append-drop count h.pending) ∙ x.sent;
@@ -76,6 +83,10 @@ module _ (h : History) (is_open : h.stage ≡ Open) (x : IsServed h) where
   all_at_door : (e : Exchange) → e.door ≡ h.door → All (IsAt h.door) (h.exchanges ++ e ∷ [])
   all_at_door e is = All-append (IsAt h.door) h.exchanges (e ∷ []) x.at_door (one (IsAt h.door) e is)
 
+  -- all were read by the way, with one more
+  all_by_way : (e : Exchange) → e.way ≡ h.way → All (IsBy h.way) (h.exchanges ++ e ∷ [])
+  all_by_way e is = All-append (IsBy h.way) h.exchanges (e ∷ []) x.by_way (one (IsBy h.way) e is)
+
   -- the message is the first of what was not taken
   taken : (count : ℕ) (e : Exchange) → e.bytes ≡ take count h.waiting
       → h.received ≡ bytes_of (h.exchanges ++ e ∷ []) ++ drop count h.waiting
@@ -83,16 +94,29 @@ module _ (h : History) (is_open : h.stage ≡ Open) (x : IsServed h) where
       let all = waits_all in
       grind (arith, common_steps, x.received, is, all, take-append-drop count h.waiting, flat_map-append (λ (y : Exchange). y.bytes) h.exchanges (e ∷ []))
 
+  -- the pages with one more
+  pages_with : (e : Exchange) → pages_of (h.exchanges ++ e ∷ []) ++ [] ≡ pages_of h.exchanges ++ answer_of e
+  pages_with e =
+      append-nil (pages_of (h.exchanges ++ e ∷ [])) ∙ flat_map-append answer_of h.exchanges (e ∷ [])
+      ∙ ap (λ t. pages_of h.exchanges ++ t) (append-nil (answer_of e))
+
   -- its page waits behind what was handed out
-  paged : (e : Exchange) (page : List ℕ) → h.pending ≡ [] → e.page ≡ Some page → h.sent ++ page ≡ pages_of (h.exchanges ++ e ∷ [])
-  paged e page free is = grind (arith, common_steps, x.sent, free, is, flat_map-append (λ (y : Exchange). unwrap_or y.page []) h.exchanges (e ∷ []))
+  paged : (count : ℕ) (page : List ℕ) → h.pending ≡ []
+      → h.sent ++ page ≡ pages_of (h.exchanges ++ exchange h count (Some page) ∷ []) ++ []
+  paged count page free =
+      let out : h.sent ≡ pages_of h.exchanges ++ go_on_if h.went_on =
+      sym (append-nil h.sent) ∙ ap (λ t. h.sent ++ t) (sym free) ∙ x.sent in
+      ap (λ t. t ++ page) out ∙ append_assoc (pages_of h.exchanges) (go_on_if h.went_on) page
+      ∙ sym (pages_with (exchange h count (Some page)))
 
   -- a page that was lost is none
-  unpaged : (e : Exchange) → e.page ≡ None → h.sent ++ h.pending ≡ pages_of (h.exchanges ++ e ∷ [])
-  unpaged e is = grind (arith, common_steps, x.sent, is, flat_map-append (λ (y : Exchange). unwrap_or y.page []) h.exchanges (e ∷ []))
+  unpaged : (count : ℕ) → h.sent ++ h.pending ≡ pages_of (h.exchanges ++ exchange h count None ∷ []) ++ []
+  unpaged count =
+      x.sent ∙ ap (λ t. pages_of h.exchanges ++ t) (sym (append-nil (go_on_if h.went_on)))
+      ∙ sym (pages_with (exchange h count None))
 
   -- where the message asks the desk to stop, it is the last
-  asked_last : (count : ℕ) (m : Message) (page : List ℕ) → IsMessage (take count h.waiting) m → stops h.door m ≡ true
+  asked_last : (count : ℕ) (m : Said) (page : List ℕ) → Says h.way (take count h.waiting) m → stops h.door m.meant ≡ true
       → EndWithStop (h.exchanges ++ exchange h count (Some page) ∷ [])
   asked_last count m page is asked = record {
     before = h.exchanges;
@@ -103,8 +127,8 @@ module _ (h : History) (is_open : h.stage ≡ Open) (x : IsServed h) where
     asked = asked;
   }
 
-  gets : (count : ℕ) (m : Message) (page : List ℕ) (c : Bool) → IsMessage (take count h.waiting) m → closes h.door m ≡ c → h.pending ≡ []
-      → IsServed (after_answer h count page c (stops h.door m))
+  gets : (count : ℕ) (m : Said) (page : List ℕ) (c : Bool) → Says h.way (take count h.waiting) m → closes h.door m.meant ≡ c
+      → h.pending ≡ [] → IsServed (after_answer h count page c (stops h.door m.meant))
   gets count m page false is closing free =
       let e = exchange h count (Some page) in record {
         rest = drop count h.waiting;
@@ -113,8 +137,9 @@ module _ (h : History) (is_open : h.stage ≡ Open) (x : IsServed h) where
         answered = All-append (IsAnswered false) h.exchanges (e ∷ []) all_open
             (one (IsAnswered false) e (record { message = m; is_message = is; closing_as = closing; has_page = refl }));
         at_door = all_at_door e refl;
+        by_way = all_by_way e refl;
         stopping = asked_last count m page is;
-        sent = paged e page free refl;
+        sent = paged count page free;
       }
   gets count m page true is closing free =
       let e = exchange h count (Some page) in record {
@@ -123,11 +148,12 @@ module _ (h : History) (is_open : h.stage ≡ Open) (x : IsServed h) where
         waits = refl;
         answered = (h.exchanges, e, refl, all_open, record { message = m; is_message = is; closing_as = closing; has_page = refl });
         at_door = all_at_door e refl;
+        by_way = all_by_way e refl;
         stopping = asked_last count m page is;
-        sent = paged e page free refl;
+        sent = paged count page free;
       }
 
-  loses : (count : ℕ) (m : Message) → IsMessage (take count h.waiting) m → IsServed (after_loss h count)
+  loses : (count : ℕ) (m : Said) → Says h.way (take count h.waiting) m → IsServed (after_loss h count)
   loses count m is =
       let e = exchange h count None in record {
         rest = drop count h.waiting;
@@ -135,8 +161,9 @@ module _ (h : History) (is_open : h.stage ≡ Open) (x : IsServed h) where
         waits = refl;
         answered = (h.exchanges, e ∷ [], refl, all_open, record { message = m; is_message = is; has_none = refl });
         at_door = all_at_door e refl;
+        by_way = all_by_way e refl;
         stopping = λ is. cc;
-        sent = unpaged e refl;
+        sent = unpaged count;
       }
 
   fails : IsServed (after_failure h)
@@ -146,6 +173,7 @@ module _ (h : History) (is_open : h.stage ≡ Open) (x : IsServed h) where
     waits = refl;
     answered = (h.exchanges, [], sym (append-nil h.exchanges), all_open, tt);
     at_door = x.at_door;
+    by_way = x.by_way;
     stopping = λ is. cc;
     sent = x.sent;
   }
@@ -153,7 +181,7 @@ module _ (h : History) (is_open : h.stage ≡ Open) (x : IsServed h) where
 -- The first message was taken, or not.
 pub takes : (r : Result Bool Fault) (h k : History) → TakesFirst r h k → IsServed h → IsServed k
 takes (Ok true) h k t x =
-    subst IsServed (sym t.is) (gets h t.is_open x t.count t.message t.page (closes h.door t.message) t.is_message refl t.free)
+    subst IsServed (sym t.is) (gets h t.is_open x t.count t.message t.page (closes h.door t.message.meant) t.is_message refl t.free)
 takes (Ok false) h k t x = subst IsServed (sym t) x
 takes (Err fault) h k t x = elim t [
   | inl lost ↦ subst IsServed (sym lost.is) (loses h lost.is_open x lost.count lost.message lost.is_message)
@@ -168,7 +196,7 @@ moved_within bytes count false = omega (arith, length-drop count bytes)
 -- no more waits than before
 pub takes_within : (r : Result Bool Fault) (h k : History) (most : ℕ) → TakesFirst r h k → length h.waiting < most → length k.waiting < most
 takes_within (Ok true) h k most t within =
-    omega (arith, within, ap (λ (j : History). length j.waiting) t.is, moved_within h.waiting t.count (closes h.door t.message))
+    omega (arith, within, ap (λ (j : History). length j.waiting) t.is, moved_within h.waiting t.count (closes h.door t.message.meant))
 takes_within (Ok false) h k most t within = omega (arith, within, ap (λ (j : History). length j.waiting) t)
 takes_within (Err fault) h k most t within = elim t [
   | inl lost ↦ omega (arith, within, ap (λ (j : History). length j.waiting) lost.is)
@@ -182,6 +210,15 @@ takes_passes (Ok false) h k t = (ap (λ (j : History). j.received) t, ap (λ (j 
 takes_passes (Err fault) h k t = elim t [
   | inl lost ↦ (ap (λ (j : History). j.received) lost.is, ap (λ (j : History). j.sent) lost.is)
   | inr failed ↦ (ap (λ (j : History). j.received) failed.1, ap (λ (j : History). j.sent) failed.1)
+]
+
+-- the way stays
+pub takes_way : (r : Result Bool Fault) (h k : History) → TakesFirst r h k → k.way ≡ h.way
+takes_way (Ok true) h k t = ap (λ (j : History). j.way) t.is
+takes_way (Ok false) h k t = ap (λ (j : History). j.way) t
+takes_way (Err fault) h k t = elim t [
+  | inl lost ↦ ap (λ (j : History). j.way) lost.is
+  | inr failed ↦ ap (λ (j : History). j.way) failed.1
 ]
 
 -- the door stays
@@ -198,7 +235,7 @@ pub takes_one : (r : Result Bool Fault) (h k : History) → TakesFirst r h k →
 takes_one (Ok true) h k t is = record {
   bytes = take t.count h.waiting;
   one = ap (λ (j : History). j.exchanges) t.is
-      ∙ ap (λ page. h.exchanges ++ (record { door = h.door; bytes = take t.count h.waiting; page = Some page }) ∷ []) (sym (ap (λ (j : History). j.pending) t.is));
+      ∙ ap (λ page. h.exchanges ++ (record { door = h.door; way = h.way; bytes = take t.count h.waiting; went_on = h.went_on; page = Some page }) ∷ []) (sym (ap (λ (j : History). j.pending) t.is));
   message = t.message;
   is_message = t.is_message;
   stopping = ap (λ (j : History). j.stops) t.is;
@@ -223,6 +260,64 @@ takes_fault (Err fault) h k t = elim t [
   | inl lost ↦ ap (λ (j : History). j.stage) lost.is
   | inr failed ↦ ap (λ (j : History). j.stage) failed.1
 ]
+
+-- 100 Continue was given, or not.
+
+-- by the profile it never is, and else once
+not_given : (way : Way) (bytes : List ℕ) (given : Bool) → IsDueBy way bytes given → given ≡ false
+not_given Profile bytes given due = absurd due
+not_given Wide bytes given due = due.1
+
+gives : (h : History) → h.pending ≡ [] → IsDueBy h.way h.waiting h.went_on → IsServed h → IsServed (after_go_on h)
+gives h free due x = record {
+  rest = x.rest;
+  received = x.received;
+  waits = x.waits;
+  answered = x.answered;
+  at_door = x.at_door;
+  by_way = x.by_way;
+  stopping = x.stopping;
+  sent =
+      let out : h.sent ≡ pages_of h.exchanges ++ [] =
+      sym (append-nil h.sent) ∙ ap (λ t. h.sent ++ t) (sym free) ∙ x.sent
+      ∙ ap (λ given. pages_of h.exchanges ++ go_on_if given) (not_given h.way h.waiting h.went_on due) in
+      ap (λ t. t ++ go_on) (out ∙ append-nil (pages_of h.exchanges));
+}
+
+-- what a call found of it
+abbrev pub GoesOnBy : {E : Type 0} → Result Bool E → History → History → Type 0
+GoesOnBy (Ok true) h k = GivesGoOn h k
+GoesOnBy (Ok false) h k = k ≡ h
+GoesOnBy (Err e) h k = k ≡ h
+
+pub goes_on_by : {E : Type 0} (r : Result Bool E) (h k : History) → (r ≡ Ok true → GivesGoOn h k)
+    → (r ≡ Ok false → HasNoGoOn h × (k ≡ h)) → OnErr r (k ≡ h) → GoesOnBy r h k
+goes_on_by (Ok true) h k given none failed = given refl
+goes_on_by (Ok false) h k given none failed = (none refl).1
+goes_on_by (Err e) h k given none failed = failed
+
+pub goes_on : {E : Type 0} (r : Result Bool E) (h k : History) → GoesOnBy r h k → IsServed h → IsServed k
+goes_on (Ok true) h k is x = subst IsServed (sym is.is) (gives h is.free is.due x)
+goes_on (Ok false) h k is x = subst IsServed (sym is) x
+goes_on (Err e) h k is x = subst IsServed (sym is) x
+
+-- as much waits as before
+pub goes_on_within : {E : Type 0} (r : Result Bool E) (h k : History) (most : ℕ) → GoesOnBy r h k → length h.waiting < most
+    → length k.waiting < most
+goes_on_within (Ok true) h k most is within = omega (arith, within, ap (λ (j : History). length j.waiting) is.is)
+goes_on_within (Ok false) h k most is within = omega (arith, within, ap (λ (j : History). length j.waiting) is)
+goes_on_within (Err e) h k most is within = omega (arith, within, ap (λ (j : History). length j.waiting) is)
+
+-- nothing was read, handed out or answered
+pub goes_on_passes : {E : Type 0} (r : Result Bool E) (h k : History) → GoesOnBy r h k → Passes h k
+goes_on_passes (Ok true) h k is = (ap (λ (j : History). j.received) is.is, ap (λ (j : History). j.sent) is.is)
+goes_on_passes (Ok false) h k is = (ap (λ (j : History). j.received) is, ap (λ (j : History). j.sent) is)
+goes_on_passes (Err e) h k is = (ap (λ (j : History). j.received) is, ap (λ (j : History). j.sent) is)
+
+pub goes_on_keeps : {E : Type 0} (r : Result Bool E) (h k : History) → GoesOnBy r h k → k.exchanges ≡ h.exchanges
+goes_on_keeps (Ok true) h k is = ap (λ (j : History). j.exchanges) is.is
+goes_on_keeps (Ok false) h k is = ap (λ (j : History). j.exchanges) is
+goes_on_keeps (Err e) h k is = ap (λ (j : History). j.exchanges) is
 
 -- What one write did, or did not.
 
@@ -280,7 +375,7 @@ no_stop xs ys same =
     subst (All IsNoStop) (sym (ap (λ t. drop (length xs) t) same ∙ drop-length xs)) (All-nil IsNoStop)
 
 -- one message got its page
-one_stop : (stop : Bool) (e : Exchange) (m : Message) → IsMessage e.bytes m → IsSome e.page → stops e.door m ≡ stop
+one_stop : (stop : Bool) (e : Exchange) (m : Said) → Says e.way e.bytes m → IsSome e.page → stops e.door m.meant ≡ stop
     → StopAtLast stop (e ∷ [])
 one_stop true e m is page asked =
     ([], e, refl, All-nil IsNoStop, record { message = m; is_message = is; asked = asked; has_page = page })

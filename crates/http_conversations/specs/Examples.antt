@@ -1,12 +1,13 @@
 -- A worked conversation, computed. Letters stand for messages, and digits for their pages; `c` closes.
 use Rattle.std.specs.Prelude.{◌≡◌, true, false, [], codes, refl}
 use Rattle.desk_http.specs.declared.doors.Door.TheVariants.{Port}
+use Rattle.http_ways.specs.declared.ways.Way.TheVariants.{Profile}
 use Rattle.http_conversations.specs.Exchanges.{bytes_of, pages_of}
 use Rattle.http_conversations.specs.History.{History, after_answer, after_loss, after_received, after_sent, new_history}
 
 -- `ac` came in one read, and `a` got the page `12`, one byte of which was handed out
 abbrev pub answered_once : History
-answered_once = after_sent (after_answer (after_received (new_history Port) (codes "ac")) 1 (codes "12") false false) 1
+answered_once = after_sent (after_answer (after_received (new_history Port Profile) (codes "ac")) 1 (codes "12") false false) 1
 
 pub other_byte_waits : answered_once.pending ≡ codes "2"
 other_byte_waits = refl

@@ -1,10 +1,13 @@
 -- What a conversation has done, and what is true of it.
 use Rattle.std.specs.Prelude.{◌≡◌, ◌≢◌, ◌≤◌, ◌<◌, ◌⊎◌, ℕ, Bool, true, false, List, [], ◌∷◌, ◌++◌, All, length, take, drop, Option, Some, None, Result, Ok, Err, if◌then◌else◌}
 use Rattle.commands.specs.declared.faults.Fault.{Fault}
-use Rattle.http_messages.specs.Messages.{HasNoMessage, IsMessage, Message}
 use Rattle.desk_http.specs.Pages.{closes, stops}
 use Rattle.desk_http.specs.declared.doors.Door.{Door}
-use Rattle.http_conversations.specs.Exchanges.{Exchange, AreAnswered, EndWithStop, IsAt, bytes_of, pages_of}
+use Rattle.http_wide_pages.specs.Pages.{go_on}
+use Rattle.http_ways.specs.Reading.{IsDueBy}
+use Rattle.http_ways.specs.Ways.{Said, Says, SaysNothing}
+use Rattle.http_ways.specs.declared.ways.Way.{Way}
+use Rattle.http_conversations.specs.Exchanges.{Exchange, AreAnswered, EndWithStop, IsAt, IsBy, bytes_of, go_on_if, pages_of}
 use Rattle.http_conversations.specs.declared.stages.Stage.{Stage}
 use Rattle.http_conversations.specs.declared.stages.Stage.TheVariants.{Open, Closing, Failed}
 use Rattle.http_conversations.specs.declared.limits.TheConstants.{MOST_PENDING, MOST_WAITING}
@@ -12,9 +15,13 @@ use Rattle.http_conversations.specs.declared.limits.TheConstants.{MOST_PENDING, 
 pub record History : Type 0 where
   -- the door at which the messages come in
   pub door : Door
+  -- the way by which they are read
+  pub way : Way
   pub stage : Stage
   -- the message that was answered last asked the desk to stop
   pub stops : Bool
+  -- 100 Continue was given for the message that comes next
+  pub went_on : Bool
   -- all that was received, and what of it waits
   pub received : List ℕ
   pub waiting : List ℕ
@@ -31,23 +38,26 @@ kept Closing bytes = []
 kept Failed bytes = []
 
 -- True of every conversation: what was received begins with the messages of the exchanges, and what was handed out and
--- then waits is their pages.
+-- then waits is their pages, and 100 Continue, if it was given for the next message.
 pub record IsServed (h : History) : Type 0 where
   pub rest : List ℕ
   pub received : h.received ≡ bytes_of h.exchanges ++ rest
   pub waits : h.waiting ≡ kept h.stage rest
   pub answered : AreAnswered h.stage h.exchanges
   pub at_door : All (IsAt h.door) h.exchanges
+  pub by_way : All (IsBy h.way) h.exchanges
   pub stopping : h.stops ≡ true → EndWithStop h.exchanges
-  pub sent : h.sent ++ h.pending ≡ pages_of h.exchanges
+  pub sent : h.sent ++ h.pending ≡ pages_of h.exchanges ++ go_on_if h.went_on
 
 -- Steps.
 
-abbrev pub new_history : Door → History
-new_history door = record {
+abbrev pub new_history : Door → Way → History
+new_history door way = record {
   door = door;
+  way = way;
   stage = Open;
   stops = false;
+  went_on = false;
   received = [];
   waiting = [];
   exchanges = [];
@@ -66,7 +76,8 @@ after_sent h count = record h { sent = h.sent ++ take count h.pending; pending =
 
 -- the exchange with a message of so many bytes
 abbrev pub exchange : History → ℕ → Option (List ℕ) → Exchange
-exchange h count page = record { door = h.door; bytes = take count h.waiting; page = page }
+exchange h count page =
+    record { door = h.door; way = h.way; bytes = take count h.waiting; went_on = h.went_on; page = page }
 
 -- the first bytes were used; after a closing page, all are
 abbrev pub moved_on : History → ℕ → Bool → History
@@ -79,6 +90,7 @@ moved_on h count closing = record h {
 abbrev pub after_answer : History → ℕ → List ℕ → Bool → Bool → History
 after_answer h count page closing stopping = record (moved_on h count closing) {
   stops = stopping;
+  went_on = false;
   exchanges = h.exchanges ++ exchange h count (Some page) ∷ [];
   pending = page;
 }
@@ -90,24 +102,24 @@ after_failure h = record h { stage = Failed; stops = false; waiting = [] }
 -- that message lost its page
 abbrev pub after_loss : History → ℕ → History
 after_loss h count =
-    record (after_failure h) { exchanges = h.exchanges ++ exchange h count None ∷ [] }
+    record (after_failure h) { went_on = false; exchanges = h.exchanges ++ exchange h count None ∷ [] }
 
 -- no page waits, and messages are answered: the first bytes are this message, and this page says whether it closes
 pub record GetsPage (old new : History) : Type 0 where
   pub is_open : old.stage ≡ Open
   pub free : old.pending ≡ []
   pub count : ℕ
-  pub message : Message
-  pub is_message : IsMessage (take count old.waiting) message
+  pub message : Said
+  pub is_message : Says old.way (take count old.waiting) message
   pub page : List ℕ
-  pub is : new ≡ after_answer old count page (closes old.door message) (stops old.door message)
+  pub is : new ≡ after_answer old count page (closes old.door message.meant) (stops old.door message.meant)
 
 -- the first bytes are this message, and its page was lost
 pub record LosesPage (old new : History) : Type 0 where
   pub is_open : old.stage ≡ Open
   pub count : ℕ
-  pub message : Message
-  pub is_message : IsMessage (take count old.waiting) message
+  pub message : Said
+  pub is_message : Says old.way (take count old.waiting) message
   pub is : new ≡ after_loss old count
 
 -- the first message got its page, or nothing changed; at a fault it lost its page, or was not looked at
@@ -115,6 +127,21 @@ abbrev pub TakesFirst : Result Bool Fault → History → History → Type 0
 TakesFirst (Ok true) old new = GetsPage old new
 TakesFirst (Ok false) old new = new ≡ old
 TakesFirst (Err fault) old new = LosesPage old new ⊎ ((old.stage ≡ Open) × (new ≡ after_failure old))
+
+-- 100 Continue is given
+abbrev pub after_go_on : History → History
+after_go_on h = record h { went_on = true; pending = go_on }
+
+-- no page waits, and messages are answered: 100 Continue is due for the next message, and is given
+pub record GivesGoOn (old new : History) : Type 0 where
+  pub is_open : old.stage ≡ Open
+  pub free : old.pending ≡ []
+  pub due : IsDueBy old.way old.waiting old.went_on
+  pub is : new ≡ after_go_on old
+
+-- it is not to be given now: a page waits, or the conversation is over, or it is not due
+abbrev pub HasNoGoOn : History → Type 0
+HasNoGoOn h = (h.pending ≢ []) ⊎ (h.stage ≢ Open) ⊎ (¬ (IsDueBy h.way h.waiting h.went_on))
 
 -- What may come next.
 
@@ -125,10 +152,11 @@ Passes old new = (new.received ≡ old.received) × (new.sent ≡ old.sent)
 -- one more message got its page, which waits; whether it asked the desk to stop is known
 pub record AnswersOne (old new : History) : Type 0 where
   pub bytes : List ℕ
-  pub one : new.exchanges ≡ old.exchanges ++ record { door = old.door; bytes = bytes; page = Some new.pending } ∷ []
-  pub message : Message
-  pub is_message : IsMessage bytes message
-  pub stopping : new.stops ≡ stops old.door message
+  pub one : new.exchanges
+      ≡ old.exchanges ++ record { door = old.door; way = old.way; bytes = bytes; went_on = old.went_on; page = Some new.pending } ∷ []
+  pub message : Said
+  pub is_message : Says old.way bytes message
+  pub stopping : new.stops ≡ stops old.door message.meant
 
 -- a message was answered, and asked the desk to stop
 abbrev pub stops_by : Result Bool Fault → History → Bool
@@ -138,7 +166,7 @@ stops_by (Err fault) h = false
 
 -- no message is to be answered now: a page waits, or the conversation is over, or no message is whole
 abbrev pub HasNoTurn : History → Type 0
-HasNoTurn h = (h.pending ≢ []) ⊎ (h.stage ≢ Open) ⊎ HasNoMessage h.waiting
+HasNoTurn h = (h.pending ≢ []) ⊎ (h.stage ≢ Open) ⊎ SaysNothing h.way h.waiting
 
 -- it may read: no more pages wait than may, and no more bytes than a message may have
 pub record WantsRead (h : History) : Type 0 where

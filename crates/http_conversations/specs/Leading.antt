@@ -5,20 +5,21 @@ use Rattle.commands.specs.declared.faults.Fault.{Fault}
 use Rattle.commands.specs.declared.faults.Fault.TheVariants.{Memory, Store}
 use Rattle.protocols.specs.declared.faults.ServeFault.{ServeFault}
 use Rattle.protocols.specs.declared.faults.ServeFault.TheVariants as serve
-use Rattle.http_messages.specs.Messages.{Message, IsMessage}
-use Rattle.desk_http.specs.Pages.{IsPage, state_after}
+use Rattle.desk_http.specs.Pages.{state_after}
 use Rattle.desk_http.specs.declared.doors.Door.{Door}
+use Rattle.http_ways.specs.Pages.{IsPageBy}
+use Rattle.http_ways.specs.Ways.{Said, Says}
 use Rattle.http_conversations.specs.Exchanges.{Exchange}
 
 -- the message, which came in at a door, gets its page, and is carried out; where the page was lost, it is carried out or not
-abbrev pub Comes : Door → State → Message → Option (List ℕ) → State → Type 0
-Comes door s m (Some page) t = IsPage door s m page × (t ≡ state_after door s m)
-Comes door s m None t = (t ≡ s) ⊎ (t ≡ state_after door s m)
+abbrev pub Comes : Door → State → Said → Option (List ℕ) → State → Type 0
+Comes door s m (Some page) t = IsPageBy door s m page × (t ≡ state_after door s m.meant)
+Comes door s m None t = (t ≡ s) ⊎ (t ≡ state_after door s m.meant)
 
 -- an exchange leads from one state to the next
 pub record LeadsBy (s : State) (x : Exchange) (t : State) : Type 0 where
-  pub message : Message
-  pub is_message : IsMessage x.bytes message
+  pub message : Said
+  pub is_message : Says x.way x.bytes message
   pub comes : Comes x.door s message x.page t
 
 -- exchanges lead from one state to another, each from where the one before led
@@ -35,12 +36,12 @@ pub record BreaksOff (leaves : State → State → Type 0) (s : State) (exchange
   pub before : List Exchange
   pub last : Exchange
   pub at_last : exchanges ≡ before ++ last ∷ []
-  pub message : Message
-  pub is_message : IsMessage last.bytes message
+  pub message : Said
+  pub is_message : Says last.way last.bytes message
   pub is_lost : last.page ≡ None
   pub at : State
   pub leads : Leads s before at
-  pub left : leaves at (state_after last.door at message)
+  pub left : leaves at (state_after last.door at message.meant)
 
 -- where the exchanges lead, if the store did not fail at the last, or if it did
 abbrev pub Ends : Bool → (State → Type 0) → (State → State → Type 0) → State → List Exchange → Type 0

@@ -4,4 +4,3 @@ pub mod Examples
 pub mod Talks
 pub mod Leading
 pub mod Conversations
-pub mod Serving

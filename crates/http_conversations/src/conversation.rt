@@ -3,7 +3,7 @@ ghost use Rattle.std.specs.Prelude.{◌≡◌, ◌≢◌, ◌+◌, ◌<◌, ◌�
 ghost use Rattle.std.specs.Io.KnownBytes.{Appends, Consumes, IsAtEnd, Keeps};
 ghost use Rattle.saga_core.specs.Books.{LeavesNoMore};
 ghost use Rattle.http_conversations.specs.Exchanges.{StopAtLast, since};
-ghost use Rattle.http_conversations.specs.History.{AnswersOne, HasNoTurn, IsServed, Passes, TakesFirst, WantsRead, after_received, after_sent, new_history, stops_by};
+ghost use Rattle.http_conversations.specs.History.{AnswersOne, GivesGoOn, HasNoGoOn, HasNoTurn, IsServed, Passes, WantsRead, after_received, after_sent, new_history, stops_by};
 ghost use Rattle.http_conversations.specs.Leading.{GoesOn, has_broken};
 ghost use Rattle.http_conversations.specs.Talks.{history_of};
 ghost use Rattle.http_conversations.specs.declared.limits.TheConstants.{MOST_READ, MOST_WAITING};
@@ -12,12 +12,12 @@ use crate::limits::{MOST_PENDING, MOST_READ, MOST_WAITING};
 use crate::stages::Stage;
 use crate::talk::Talk;
 use commands::Fault;
-use desk_http::{Door, answer_to};
-use http_messages::first_message;
+use desk_http::Door;
 use http_pages::Paths;
+use http_ways::Way;
 use protocols::ServeFault;
 use saga_core::Book;
-use std::alloc::Global;
+use std::alloc::{AllocError, Global};
 use std::io::{self, Read, Write};
 
 /// Messages come in, and each is answered once the page before it went out whole.
@@ -33,12 +33,12 @@ pub struct Conversation {
 impl Conversation {
     ghost use Rattle.http_conversations.specs.Conversations.{history};
 
-    /// Nothing was received at this door. It allocates nothing.
-    pub fn new(alloc: Global, door: Door) -> Conversation
-        ensures none { history result ≡ new_history door }
+    /// Nothing was received at this door, where messages are read by this way. It allocates nothing.
+    pub fn new(alloc: Global, door: Door, way: Way) -> Conversation
+        ensures none { history result ≡ new_history door way }
     {
         Conversation {
-            talk: Talk::new(alloc, door),
+            talk: Talk::new(alloc, door, way),
         }
     }
 
@@ -66,9 +66,9 @@ impl Conversation {
     pub fn answer<B: Book>(&mut self, paths: &Paths, book: &mut B) -> Result<bool, Fault>
         ensures goes_on { GoesOn (B.is_sound book.new) (B.stands book.old) (B.stands book.new) (B.leaves book.new)
             (has_broken result) (history self.old).exchanges (history self.new).exchanges }
-        ensures takes { TakesFirst result (history self.old) (history self.new) }
         ensures passes { Passes (history self.old) (history self.new) }
         ensures door { (history self.new).door ≡ (history self.old).door }
+        ensures way { (history self.new).way ≡ (history self.old).way }
         ensures at_most_one { length (history self.new).exchanges ≤ length (history self.old).exchanges + 1 }
         ensures one { result ≡ Ok true → AnswersOne (history self.old) (history self.new) }
         ensures stopping { StopAtLast (stops_by result (history self.new))
@@ -85,6 +85,21 @@ impl Conversation {
         ensures sound { B.is_sound book.new → B.is_sound book.old }
     {
         self.talk.answer(paths, book)
+    }
+
+    /// Gives `100 Continue` where it is due, and reports whether it was: no page waits, the head of the next message asks for
+    /// it, nothing of its body came, and it was not given for this message before. By the profile it never is. The only fault
+    /// is out of memory.
+    pub fn go_on(&mut self) -> Result<bool, AllocError>
+        ensures given { result ≡ Ok true → GivesGoOn (history self.old) (history self.new) }
+        ensures none { result ≡ Ok false → HasNoGoOn (history self.old)
+            × (history self.new ≡ history self.old) }
+        ensures passes { Passes (history self.old) (history self.new) }
+        ensures kept { (history self.new).exchanges ≡ (history self.old).exchanges }
+
+        ensures memory { OnErr result (history self.new ≡ history self.old) }
+    {
+        self.talk.go_on()
     }
 
     /// Writes once what is pending.
@@ -150,8 +165,8 @@ impl Conversation {
     }
 
     /// True of every conversation, after any calls: what was received begins with the messages of its exchanges, and what
-    /// was handed out, and then what is pending, is their pages, up to and with the first that closes. All came in at its
-    /// door; where it says that the desk is to stop, the last one is a request of the house for that.
+    /// was handed out, and then what is pending, is their pages, up to and with the first that closes, each after its
+    /// `100 Continue`, where one was given. All came in at its door and were read by its way; where it says that the desk is to stop, the last one is a request of the house for that.
     pub fn always_served(&self)
         ensures served { ∥ IsServed (history self.now) ∥₁ }
     {}

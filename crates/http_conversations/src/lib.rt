@@ -10,11 +10,9 @@
 
 mod conversation;
 mod limits;
-mod serving;
 mod stages;
 mod talk;
 
 pub use conversation::Conversation;
 pub use limits::{MOST_PENDING, MOST_READ, MOST_WAITING};
-pub use serving::{Served, serve};
 pub use stages::Stage;

@@ -2,20 +2,20 @@
 ghost use Rattle.std.specs.Prelude.{◌≡◌, ◌≢◌, ◌+◌, ◌<◌, ◌≤◌, ℕ, [], List, length, take, drop, vec_capacity, Ok, true, false, IfOk, OnErr, IsErrOf, IsTrue};
 ghost use Rattle.std.specs.Io.KnownBytes.{Appends, Consumes, IsAtEnd, Keeps};
 ghost use Rattle.saga_core.specs.Books.{LeavesNoMore};
-ghost use Rattle.http_messages.specs.Reading.{IsFirstOf};
+ghost use Rattle.http_ways.specs.Reading.{IsFirstOfBy};
 ghost use Rattle.http_conversations.specs.Leading.{GoesOn, fault_by, has_broken};
-ghost use Rattle.http_conversations.specs.History.{HasNoTurn, TakesFirst, after_answer, after_failure, after_loss, after_received, after_sent, kept, moved_on, new_history};
+ghost use Rattle.http_conversations.specs.History.{GivesGoOn, HasNoGoOn, HasNoTurn, TakesFirst, after_answer, after_failure, after_loss, after_received, after_sent, kept, moved_on, new_history};
 ghost use Rattle.http_conversations.specs.Talks.{history_of};
 
 use crate::stages::Stage;
 use commands::Fault;
-use desk_http::{Answer, Door, answer_to};
-use http_messages::{Message, first_message};
+use desk_http::{Answer, Door};
 use http_pages::Paths;
 use http_server::Log;
+use http_ways::{Arrived, Way, answer_by, first_by, go_on_by, go_on_text};
 use protocols::ServeFault;
 use saga_core::Book;
-use std::alloc::Global;
+use std::alloc::{AllocError, Global};
 use std::io::{self, Read, Write};
 
 /// A message that was taken.
@@ -26,6 +26,8 @@ pub struct Taken {
     /// Whether it has a page; else that was lost.
     pub(crate) has_page: bool,
     pub(crate) page: Vec<u8>,
+    /// Whether `100 Continue` went before it.
+    pub(crate) went_on: bool,
 }
 
 /// What was received and is not yet used, and what is left of the page that goes out.
@@ -33,9 +35,12 @@ pub struct Taken {
 pub struct Talk {
     pub(crate) alloc: Global,
     pub(crate) door: Door,
+    pub(crate) way: Way,
     pub(crate) stage: Stage,
     /// The message that was answered last asked the desk to stop.
     pub(crate) stops: bool,
+    /// `100 Continue` was given for the message that comes next.
+    pub(crate) went_on: bool,
     pub(crate) waiting: Vec<u8>,
     pub(crate) pending: Vec<u8>,
     /// What waited after each read, and where the new bytes began.
@@ -47,15 +52,17 @@ pub struct Talk {
 }
 
 impl Talk {
-    /// Nothing was received at this door. It allocates nothing.
-    pub(crate) fn new(alloc: Global, door: Door) -> Talk
-        ensures none { history_of result ≡ new_history door }
+    /// Nothing was received at this door, where messages are read by this way. It allocates nothing.
+    pub(crate) fn new(alloc: Global, door: Door, way: Way) -> Talk
+        ensures none { history_of result ≡ new_history door way }
     {
         Talk {
             alloc,
             door,
+            way,
             stage: Stage::Open,
             stops: false,
+            went_on: false,
             waiting: Vec::new(alloc),
             pending: Vec::new(alloc),
             reads: Log::new(),
@@ -115,8 +122,8 @@ impl Talk {
         if !matches!(self.stage, Stage::Open) || !self.pending.is_empty() {
             return Ok(false);
         }
-        match first_message(self.alloc, &self.waiting) {
-            Ok(Some((message, count))) => self.answer_first(paths, &message, count, book),
+        match first_by(self.alloc, self.way, &self.waiting) {
+            Ok(Some((arrived, count))) => self.answer_first(paths, &arrived, count, book),
             Ok(None) => Ok(false),
             Err(_) => {
                 self.fail();
@@ -129,11 +136,11 @@ impl Talk {
     fn answer_first<B: Book>(
         &mut self,
         paths: &Paths,
-        message: &Message,
+        arrived: &Arrived,
         count: usize,
         book: &mut B,
     ) -> Result<bool, Fault>
-        requires first { IsFirstOf self.old.waiting.items message.now count }
+        requires first { IsFirstOfBy self.old.way self.old.waiting.items arrived.now count }
         requires is_open { self.old.stage ≡ Stage.Open }
         requires free { self.old.pending.items ≡ [] }
 
@@ -149,7 +156,7 @@ impl Talk {
 
         ensures sound { B.is_sound book.new → B.is_sound book.old }
     {
-        match answer_to(self.alloc, paths, self.door, message, book) {
+        match answer_by(self.alloc, paths, self.door, arrived, book) {
             Ok(answer) => {
                 self.keep(count, answer);
                 Ok(true)
@@ -174,7 +181,9 @@ impl Talk {
             count,
             has_page: true,
             page: answer.bytes,
+            went_on: self.went_on,
         };
+        self.went_on = false;
         self.exchanges = self.exchanges.and(&self.waiting, &taken);
         self.pending = taken.page;
         self.move_on(count, closes);
@@ -203,7 +212,9 @@ impl Talk {
             count,
             has_page: false,
             page: Vec::new(self.alloc),
+            went_on: self.went_on,
         };
+        self.went_on = false;
         self.exchanges = self.exchanges.and(&self.waiting, &taken);
         self.fail();
     }
@@ -215,6 +226,26 @@ impl Talk {
         self.stage = Stage::Failed;
         self.stops = false;
         self.waiting = Vec::new(self.alloc);
+    }
+
+    /// Gives `100 Continue` where it is due: no page waits, the head of the next message asks for it, and nothing of its
+    /// body came. The only fault is out of memory.
+    pub(crate) fn go_on(&mut self) -> Result<bool, AllocError>
+        ensures given { result ≡ Ok true → GivesGoOn (history_of self.old) (history_of self.new) }
+        ensures none { result ≡ Ok false → HasNoGoOn (history_of self.old)
+            × (history_of self.new ≡ history_of self.old) }
+
+        ensures memory { OnErr result (history_of self.new ≡ history_of self.old) }
+    {
+        if !matches!(self.stage, Stage::Open) || !self.pending.is_empty() {
+            return Ok(false);
+        }
+        if !go_on_by(self.way, &self.waiting, self.went_on) {
+            return Ok(false);
+        }
+        self.pending = go_on_text(self.alloc)?;
+        self.went_on = true;
+        Ok(true)
     }
 
     /// Writes once what is pending.

@@ -1,10 +1,11 @@
 -- Each connection is at its door, since it came so. For serve_many.
-use Rattle.std.proofs.Common.{◌≡◌, ◌∙◌, ℕ, ◌<◌, List, [], ◌∷◌, ◌++◌, All, length, map, refl, sym, ap, subst, slice_index_or, slice_set}
+use Rattle.std.proofs.Common.{◌≡◌, ◌∙◌, ℕ, ◌<◌, Bool, true, false, List, [], ◌∷◌, ◌++◌, All, length, map, refl, sym, ap, subst, slice_index_or, slice_set}
 use Rattle.std.proofs.Math.Logic.{∥∥₁_map}
 use Rattle.std.proofs.lemmas.List.Elements.{All-append, All-cons, All-get_or, All-head, All-map, All-nil, All-set, All-tail, All-weaker}
 use Rattle.std.specs.declared.io.traits.Read as Read
 use Rattle.std.specs.declared.io.traits.Write as Write
 use Rattle.desk_http.specs.declared.doors.Door.{Door}
+use Rattle.http_conversations.specs.History.{GivesGoOn, History}
 use Rattle.http_live.specs.Arrivals.{AreAtTheirDoors, Arrival, IsAtItsDoor, arrival, arrival_of, arrivals_at}
 use Rattle.http_live.specs.Seats.{connections_at}
 use Rattle.http_live.specs.declared.connection.Connection.{Connection}
@@ -69,3 +70,15 @@ module _ {R W : Type 0} {r : Read.Ghosts R} {w : Write.Ghosts W} (is_at : R → 
       (All-append (CameByItsDoor is_at) (arrivals_at old) (arrival reader writer door ∷ [])
       (all_came old (All-get_or (λ seat. All (IsAtItsDoor is_at) (connections_at seat)) seats i d within all))
       (All-cons (CameByItsDoor is_at) (arrival reader writer door) [] one (All-nil _))))) all
+
+-- 100 Continue was given at the same door, or was not
+pub goes_on_at : (given : Bool) (h k : History) → (given ≡ true → GivesGoOn h k) → (given ≡ false → k ≡ h) → k.door ≡ h.door
+goes_on_at true h k gives none = ap (λ (j : History). j.door) (gives refl).is
+goes_on_at false h k gives none = ap (λ (j : History). j.door) (none refl)
+
+abbrev with_ends : {R W : Type 0} → List (R × W) → Door → Arrival R W
+with_ends ends door = record { ends = ends; door = door }
+
+-- with the same ends, by the same door
+pub same_arrival : {R W : Type 0} (ends : List (R × W)) (d e : Door) → e ≡ d → with_ends ends e ≡ with_ends ends d
+same_arrival ends d e same = ap (λ t. with_ends ends t) same

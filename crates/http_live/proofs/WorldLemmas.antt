@@ -75,9 +75,9 @@ record Done (s : State) (xs : List Exchange) (t : State) : Type 0 where
 
 module _ (x : Exchange) (xs : List Exchange) (s u t : State) (one : LeadsBy s x u) (rest : Done u xs t) where
   -- its message was carried out
-  carried : HasPage x.door s one.message x.page → u ≡ state_after x.door s one.message → Done s (x ∷ xs) t
+  carried : HasPage x.door s one.message x.page → u ≡ state_after x.door s one.message.meant → Done s (x ∷ xs) t
   carried page is = record {
-    messages = (x.door, one.message) ∷ rest.messages;
+    messages = (x.door, one.message.meant) ∷ rest.messages;
     done = (
       u,
       rest.messages,
@@ -137,7 +137,7 @@ goes_on_by true stands leaves w xs settled here e =
       done = d.done;
       next = e.message;
       is_next = e.is_message;
-      among = cuts stands leaves w d.messages (e.last.door, e.message) here (subst (λ u. leaves u (state_after e.last.door u e.message)) d.leads_to e.left);
+      among = cuts stands leaves w d.messages (e.last.door, e.message.meant) here (subst (λ u. leaves u (state_after e.last.door u e.message.meant)) d.leads_to e.left);
       answered = refl;
       under_way = refl;
     }

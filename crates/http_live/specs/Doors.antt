@@ -6,7 +6,7 @@ use Rattle.http_live.specs.declared.turns.Turn.TheVariants.{Comes, Ready, Leaves
 
 -- a peer that comes in this turn comes by the door of its reader
 abbrev pub ComesByItsDoor : {R W : Type 0} → (R → Door → Type 0) → Turn R W → Type 0
-ComesByItsDoor is_at (Comes at door reader writer) = is_at reader door
+ComesByItsDoor is_at (Comes at door way reader writer) = is_at reader door
 ComesByItsDoor is_at (Ready at) = ⊤
 ComesByItsDoor is_at (Leaves at) = ⊤
 ComesByItsDoor is_at End = ⊤

@@ -1,12 +1,13 @@
 -- Three exchanges of two seats, as they were merged, computed.
-use Rattle.std.specs.Prelude.{◌≡◌, ℕ, List, [], ◌∷◌, codes, Some, refl}
+use Rattle.std.specs.Prelude.{◌≡◌, ℕ, List, [], ◌∷◌, false, codes, Some, refl}
 use Rattle.desk_http.specs.declared.doors.Door.TheVariants.{Port}
+use Rattle.http_ways.specs.declared.ways.Way.TheVariants.{Profile}
 use Rattle.http_conversations.specs.Exchanges.{Exchange}
 use Rattle.http_live.specs.Merging.{Seated, of_seat}
 
 -- a message, and its page
 abbrev pub exchange : List ℕ → List ℕ → Exchange
-exchange bytes page = record { door = Port; bytes = bytes; page = Some page }
+exchange bytes page = record { door = Port; way = Profile; bytes = bytes; went_on = false; page = Some page }
 
 -- seat 0 has the first and the last, seat 1 the one between
 abbrev pub three : List Seated

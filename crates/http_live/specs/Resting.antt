@@ -1,6 +1,6 @@
 -- What a connection waits for after its turn.
 use Rattle.std.specs.Prelude.{◌≡◌, ◌≢◌, ◌⊎◌, [], true, false, ⊤}
-use Rattle.http_messages.specs.Messages.{HasNoMessage}
+use Rattle.http_ways.specs.Ways.{SaysNothing}
 use Rattle.http_conversations.specs.History.{History}
 use Rattle.http_conversations.specs.declared.stages.Stage.TheVariants.{Open, Closing}
 use Rattle.http_live.specs.declared.standing.Standing.{Standing}
@@ -9,13 +9,13 @@ use Rattle.http_live.specs.declared.standing.Standing.TheVariants.{Between, Amid
 -- each page was handed out, and no whole message waits for an answer
 pub record IsUsedUp (h : History) : Type 0 where
   pub sent : h.pending ≡ []
-  pub answered : (h.stage ≢ Open) ⊎ HasNoMessage h.waiting
+  pub answered : (h.stage ≢ Open) ⊎ SaysNothing h.way h.waiting
 
 -- no page waits, and what waits is not a whole message
 pub record WaitsForMore (h : History) : Type 0 where
   pub is_open : h.stage ≡ Open
   pub sent : h.pending ≡ []
-  pub none : HasNoMessage h.waiting
+  pub none : SaysNothing h.way h.waiting
 
 -- every page was handed out, the last of which closes
 pub record HasClosed (h : History) : Type 0 where

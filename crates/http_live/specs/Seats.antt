@@ -4,6 +4,7 @@ use Rattle.std.specs.List.{Any, flat_map}
 use Rattle.std.specs.declared.io.traits.Read as Read
 use Rattle.std.specs.declared.io.traits.Write as Write
 use Rattle.desk_http.specs.declared.doors.Door.{Door}
+use Rattle.http_ways.specs.declared.ways.Way.{Way}
 use Rattle.http_conversations.specs.Conversations.{history}
 use Rattle.http_conversations.specs.Exchanges.{Exchange}
 use Rattle.http_live.specs.declared.connection.Connection.{Connection}
@@ -18,15 +19,16 @@ module _ {R W : Type 0} {r : Read.Ghosts R} {w : Write.Ghosts W} where
   exchanges_now None = []
   exchanges_now (Some c) = exchanges_with c
 
-  -- there is one, whose messages come in at this door
-  abbrev pub HasDoor : Door → Option (Connection R W r w) → Type 0
-  HasDoor door None = ⊥
-  HasDoor door (Some c) = (history c.conversation).door ≡ door
+  -- there is one, whose messages come in at this door, and are read by this way
+  abbrev pub HasDoor : Door → Way → Option (Connection R W r w) → Type 0
+  HasDoor door way None = ⊥
+  HasDoor door way (Some c) =
+      ((history c.conversation).door ≡ door) × ((history c.conversation).way ≡ way)
 
-  -- a connection took one seat by this door, and no other seat has changed
-  abbrev pub IsTaken : ℕ → Door → List (Seat R W r w) → List (Seat R W r w) → Type 0
-  IsTaken at door before after =
-      (seat : Seat R W r w) × (after ≡ slice_set before at seat) × HasDoor door seat.connection
+  -- a connection took one seat by this door and this way, and no other seat has changed
+  abbrev pub IsTaken : ℕ → Door → Way → List (Seat R W r w) → List (Seat R W r w) → Type 0
+  IsTaken at door way before after =
+      (seat : Seat R W r w) × (after ≡ slice_set before at seat) × HasDoor door way seat.connection
 
   -- the message that was answered last asked the desk to stop
   abbrev pub HasStop : Option (Connection R W r w) → Type 0

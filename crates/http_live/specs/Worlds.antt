@@ -4,14 +4,16 @@ use Rattle.ledger.specs.Answer.{State, start}
 use Rattle.ledger.specs.World.{Moment, after}
 use Rattle.saga_core.specs.Runs.{Asks}
 use Rattle.saga_core.specs.Worlds.{StandsAtEnd, EndsWith, EndsAmong}
-use Rattle.http_messages.specs.Messages.{Message, IsMessage}
-use Rattle.desk_http.specs.Pages.{IsPage, command_in, state_after}
+use Rattle.http_messages.specs.Messages.{Message}
+use Rattle.desk_http.specs.Pages.{command_in, state_after}
 use Rattle.desk_http.specs.Worlds.{asks_by}
 use Rattle.desk_http.specs.declared.doors.Door.{Door}
+use Rattle.http_ways.specs.Pages.{IsPageBy}
+use Rattle.http_ways.specs.Ways.{Said, Says}
 use Rattle.http_conversations.specs.Exchanges.{Exchange, StopAtLast}
 use Rattle.http_live.specs.Merging.{IsMerged, Seated, exchange_of}
 
--- a message, with the door at which it came in
+-- a message that is meant, with the door at which it came in
 abbrev pub Heard : Type 0
 Heard = Door × Message
 
@@ -21,17 +23,17 @@ asks_of [] = []
 asks_of (m ∷ later) = asks_by (command_in m.0 m.1) ++ asks_of later
 
 -- the page of the message in this state, unless it was lost
-abbrev pub HasPage : Door → State → Message → Option (List ℕ) → Type 0
+abbrev pub HasPage : Door → State → Said → Option (List ℕ) → Type 0
 HasPage door s m None = ⊤
-HasPage door s m (Some page) = IsPage door s m page
+HasPage door s m (Some page) = IsPageBy door s m page
 
 -- In the state s the message of an exchange was carried out, which leads to t, and then these; one that lost its page was
 -- carried out or not.
 pub record IsDone (s t : State) (x : Exchange) (ms later : List Heard) : Type 0 where
-  pub message : Message
-  pub is_message : IsMessage x.bytes message
+  pub message : Said
+  pub is_message : Says x.way x.bytes message
   pub page : HasPage x.door s message x.page
-  pub done : ((ms ≡ (x.door, message) ∷ later) × (t ≡ state_after x.door s message))
+  pub done : ((ms ≡ (x.door, message.meant) ∷ later) × (t ≡ state_after x.door s message.meant))
       ⊎ ((x.page ≡ None) × (ms ≡ later) × (t ≡ s))
 
 -- From the state s these messages of the exchanges were carried out, each once and in order: all that have pages, each
@@ -56,11 +58,11 @@ pub record EndsAmongExchanges (stands : State → Type 0) (leaves : State → St
   pub is_lost : last.page ≡ None
   pub messages : List Heard
   pub done : AreDone (after start w) before messages
-  pub next : Message
-  pub is_next : IsMessage last.bytes next
-  pub among : EndsAmong stands leaves w (asks_of (messages ++ (last.door, next) ∷ [])) true
+  pub next : Said
+  pub is_next : Says last.way last.bytes next
+  pub among : EndsAmong stands leaves w (asks_of (messages ++ (last.door, next.meant) ∷ [])) true
   pub answered : among.progress.answered ≡ asks_of messages
-  pub under_way : among.progress.under_way ≡ asks_of ((last.door, next) ∷ [])
+  pub under_way : among.progress.under_way ≡ asks_of ((last.door, next.meant) ∷ [])
 
 -- the world goes on by exchanges, if the store did not fail, or if it did at the last
 abbrev pub GoesOnBy : Bool → (State → Type 0) → (State → State → Type 0) → List Moment → List Exchange → Type 0

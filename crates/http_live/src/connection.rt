@@ -14,6 +14,7 @@ use desk_http::Door;
 use http_conversations::{Conversation, MOST_READ, Stage};
 use http_pages::Paths;
 use http_server::Log;
+use http_ways::Way;
 use saga_core::Book;
 use std::alloc::Global;
 use std::io::{self, ErrorKind, Read, Write};
@@ -35,17 +36,18 @@ impl<R: Read + Drop, W: Write + Drop> Connection<R, W> {
     ghost use Rattle.http_live.specs.Seats.{exchanges_with};
     ghost use Rattle.http_live.specs.Resting.{IsUsedUp, Rests};
 
-    /// Nothing was read or written. Its messages come in at this door.
-    pub(crate) fn new(alloc: Global, door: Door, reader: R, writer: W) -> Connection<R, W>
+    /// Nothing was read or written. Its messages come in at this door, and are read by this way.
+    pub(crate) fn new(alloc: Global, door: Door, way: Way, reader: R, writer: W) -> Connection<R, W>
         ensures none { exchanges_with result ≡ [] }
         ensures door { (history result.conversation).door ≡ door }
         ensures arrival { arrival_of result ≡ arrival reader writer door }
+        ensures way { (history result.conversation).way ≡ way }
     {
         let came = Log::new().and(&reader, &writer);
         Connection {
             reader,
             writer,
-            conversation: Conversation::new(alloc, door),
+            conversation: Conversation::new(alloc, door, way),
             came,
         }
     }
@@ -109,9 +111,38 @@ impl<R: Read + Drop, W: Write + Drop> Connection<R, W> {
         }
         match self.answer(paths, book) {
             Ok(true) => Ok(self.answered()),
-            Ok(false) => Ok(self.pull(buffer)),
+            Ok(false) => Ok(self.go_on(buffer)),
             Err(Fault::Memory) => Ok(Standing::Over),
             Err(Fault::Store) => Err(Fault::Store),
+        }
+    }
+
+    /// Gives `100 Continue` where it is due, or else reads, where no page waits and no message is whole.
+    fn go_on(&mut self, buffer: &mut [u8]) -> Standing
+        requires small { length buffer.old ≤ MOST_READ }
+
+        ensures kept { exchanges_with self.new ≡ exchanges_with self.old }
+        ensures arrival { arrival_of self.new ≡ arrival_of self.old }
+        ensures rests { IsUsedUp (history self.old.conversation) →
+            Rests result (history self.new.conversation) }
+        ensures unstopped { is_stop result ≡ false }
+    {
+        if self.gives_go_on() {
+            Standing::Busy
+        } else {
+            self.pull(buffer)
+        }
+    }
+
+    /// Gives `100 Continue` where it is due, and reports whether it was.
+    fn gives_go_on(&mut self) -> bool
+        ensures kept { exchanges_with self.new ≡ exchanges_with self.old }
+        ensures arrival { arrival_of self.new ≡ arrival_of self.old }
+        ensures none { result ≡ false → history self.new.conversation ≡ history self.old.conversation }
+    {
+        match self.conversation.go_on() {
+            Ok(given) => given,
+            Err(_) => false,
         }
     }
 

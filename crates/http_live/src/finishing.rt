@@ -26,7 +26,7 @@ fn finish_turn<T: Turns>(seats: &mut [Seat<T::Reader, T::Writer>], turns: &mut T
     ensures arrivals { map arrivals_at seats.new ≡ map arrivals_at seats.old }
 {
     match turns.next_turn() {
-        Turn::Comes(_, _, _, _) => true,
+        Turn::Comes(_, _, _, _, _) => true,
         Turn::Ready(at) => {
             hand_out_at(seats, turns, at);
             true

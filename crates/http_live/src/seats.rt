@@ -16,6 +16,7 @@ use desk_http::Door;
 use http_conversations::MOST_READ;
 use http_pages::Paths;
 use http_server::Log;
+use http_ways::Way;
 use saga_core::Book;
 use std::alloc::{AllocError, Global};
 use std::io::{Read, Write};
@@ -43,14 +44,14 @@ impl<R: Read + Drop, W: Write + Drop> Seat<R, W> {
         }
     }
 
-    /// A connection takes the seat, by this door. Which was there before ends.
-    pub(crate) fn take(&mut self, alloc: Global, door: Door, reader: R, writer: W)
+    /// A connection takes the seat, by this door and this way. Which was there before ends.
+    pub(crate) fn take(&mut self, alloc: Global, door: Door, way: Way, reader: R, writer: W)
         ensures kept { exchanges_at self.new ≡ exchanges_at self.old }
-        ensures door { HasDoor door self.new.connection }
+        ensures door { HasDoor door way self.new.connection }
         ensures arrivals { arrivals_at self.new ≡ arrivals_at self.old ++ arrival reader writer door ∷ [] }
     {
         self.clear();
-        self.connection = Some(Connection::new(alloc, door, reader, writer));
+        self.connection = Some(Connection::new(alloc, door, way, reader, writer));
     }
 
     /// The connection ends, if there is one.

@@ -16,6 +16,7 @@ use commands::Fault;
 use desk_http::Door;
 use http_conversations::MOST_READ;
 use http_pages::Paths;
+use http_ways::Way;
 use recovery::Ready;
 use saga_core::Book;
 use std::alloc::Global;
@@ -111,8 +112,8 @@ fn take_turn<T: Turns, B: Book>(
     ensures sound { B.is_sound book.new → B.is_sound book.old }
 {
     match turns.next_turn() {
-        Turn::Comes(at, door, reader, writer) => {
-            welcome::<T>(alloc, seats, at, door, reader, writer);
+        Turn::Comes(at, door, way, reader, writer) => {
+            welcome::<T>(alloc, seats, at, door, way, reader, writer);
             Ok(None)
         }
         Turn::Ready(at) => {
@@ -154,23 +155,24 @@ fn show_page<T: Turns>(
     }
 }
 
-/// A peer takes a seat, by its door. Where there is no such seat, it is let go.
+/// A peer takes a seat, by its door and its way. Where there is no such seat, it is let go.
 fn welcome<T: Turns>(
     alloc: Global,
     seats: &mut [Seat<T::Reader, T::Writer>],
     at: usize,
     door: Door,
+    way: Way,
     reader: T::Reader,
     writer: T::Writer,
 )
     requires door { T.is_at reader door }
 
     ensures kept { map exchanges_at seats.new ≡ map exchanges_at seats.old }
-    ensures taken { at < length seats.old → IsTaken at door seats.old seats.new }
+    ensures taken { at < length seats.old → IsTaken at door way seats.old seats.new }
     ensures doors { AreAtTheirDoors T.is_at seats.old → AreAtTheirDoors T.is_at seats.new }
 {
     if at >= seats.len() {
         return;
     }
-    seats[at].take(alloc, door, reader, writer);
+    seats[at].take(alloc, door, way, reader, writer);
 }

@@ -4,13 +4,14 @@ ghost use Rattle.http_live.specs.Doors.{ComesByItsDoor};
 
 use crate::standing::Standing;
 use desk_http::Door;
+use http_ways::Way;
 use std::io::{Read, Write};
 
 /// What happens next.
 #[derive(Drop)]
 pub enum Turn<R, W> {
-    /// A peer takes this seat, by this door. Who had it before leaves.
-    Comes(usize, Door, R, W),
+    /// A peer takes this seat, by this door and this way. Who had it before leaves.
+    Comes(usize, Door, Way, R, W),
     /// The connection of this seat may go on.
     Ready(usize),
     /// The connection of this seat is ended.

@@ -9,14 +9,13 @@
 
 mod ends;
 mod files;
-mod journal;
 mod limits;
 mod listeners;
 mod places;
 mod serving;
 mod sockets;
 
-pub use journal::log_opening;
+pub use http_journal::log_opening;
 pub use limits::{Limits, PATIENCE};
 pub use serving::serve_sockets;
 pub use sockets::Sockets;

@@ -4,14 +4,15 @@ ghost use Rattle.http_live.specs.Doors.{ComesByItsDoor};
 ghost use Rattle.http_sockets.specs.Doors.{IsAt};
 
 use crate::ends::{ReadEnd, Socket, WriteEnd, ends_of};
-use crate::journal::Journal;
 use crate::limits::Limits;
 use crate::listeners::{Accepted, FIRST, Listeners};
 use crate::places::Places;
 use desk_http::{Door, Site};
+use http_journal::Journal;
 use http_live::{SEATS, Standing, Turn, Turns};
 use http_log::Why;
 use http_pages::HtmlPage;
+use http_ways::Way;
 use mio::{Events, Poll, Token};
 use std::alloc::{AllocError, Global};
 use std::collections::VecDeque;
@@ -55,6 +56,8 @@ pub struct Sockets<'a> {
     listeners: Listeners<'a>,
     /// The page that is served at the port, if one is.
     page: Option<Site>,
+    /// By which way requests are read.
+    way: Way,
     places: Places,
     /// The seats that go on in this round, and those of the next one.
     round: VecDeque<usize>,
@@ -101,6 +104,7 @@ impl<'a> Sockets<'a> {
             events,
             listeners,
             page: None,
+            way: Way::Profile,
             places,
             round,
             next,
@@ -138,6 +142,11 @@ impl<'a> Sockets<'a> {
         let port = self.port()?;
         self.page = Some(Site { port, page });
         Ok(())
+    }
+
+    /// Who comes from now on may speak HTTP as libraries, proxies and pools do.
+    pub fn widen(&mut self) {
+        self.way = Way::Wide;
     }
 
     /// Whether no turn came since the system failed to report what happens.
@@ -238,7 +247,7 @@ impl<'a> Sockets<'a> {
         if let Some(journal) = &mut self.journal {
             journal.comes(at, matches!(door, Door::House));
         }
-        Ok(Turn::Comes(at, door, reader, writer))
+        Ok(Turn::Comes(at, door, self.way, reader, writer))
     }
 
     /// Begins the next round: waits until a seat may go on or somebody comes, or a tick is over.
@@ -320,7 +329,7 @@ impl Turns for Sockets<'_> {
 
     fn see_received(&mut self, at: usize, received: &[u8]) {
         if let Some(journal) = &mut self.journal {
-            journal.sees_received(at, received);
+            journal.sees_received(at, self.way, received);
         }
     }
 

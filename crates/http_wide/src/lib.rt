@@ -1,4 +1,4 @@
-//! HTTP as libraries, proxies and pools speak it, for a profile that is narrower. The program does not use it yet.
+//! HTTP as libraries, proxies and pools speak it, for a profile that is narrower.
 //!
 //! `asked_kind` says what a head asks for, `body_kind` how the body of a request is framed, or why the request is
 //! refused, and a `Denial` how it is answered then. `BodyReader` reads a body, in whatever pieces it arrives: it decodes

@@ -1,5 +1,4 @@
-//! The first message of bytes as libraries, proxies and pools write HTTP, with its meaning in the desk's profile. The
-//! program does not use it yet.
+//! The first message of bytes as libraries, proxies and pools write HTTP, with its meaning in the desk's profile.
 //!
 //! `first_wide_message` reads one message: a request, which then is a `Request` of `http_messages`; a message that is
 //! denied, with the status that answers it; or a byte that begins no method. `go_on_is_due` says when `100 Continue` is

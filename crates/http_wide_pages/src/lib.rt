@@ -1,4 +1,4 @@
-//! What is sent to libraries, proxies and pools beside the pages of the desk's profile. The program does not use it yet.
+//! What is sent to libraries, proxies and pools beside the pages of the desk's profile.
 //!
 //! `wide_page` gives a page of the profile the lines that keep it out of caches, and leaves out its body for HEAD.
 //! `denial_page` answers what is not read, `not_allowed_page` another method, `options_page` OPTIONS, and `go_on` is

@@ -52,7 +52,8 @@ fn read_old<S: Alter>(conn: &mut Connection<S>) -> Result<Meta, MigrateFault>
 
 /// The numbers that were read, if they are of version 1 and below the limit.
 fn old_only(meta: Meta) -> Result<Meta, MigrateFault>
-    ensures ok { IfOk result (λ m. (m ≡ meta) × (m.version ≡ 1) × (m.events < 2 ^ 62) × (m.journeys < 2 ^ 62)) }
+    ensures ok { IfOk result (λ m. (m ≡ meta) × (m.version ≡ 1)
+        × (m.events < 2 ^ 62) × (m.journeys < 2 ^ 62)) }
 
     ensures refused { IfErr result (RefusesNumbers meta) }
 {
@@ -125,7 +126,8 @@ pub fn migrate<S: Alter>(conn: &mut Connection<S>) -> Result<Migrated, MigrateFa
     ensures version { OnOk result (SawVersion S.Store conn.old conn.new 1) }
 
     ensures bare { conn.old.schema ≡ no_schema → result ≡ Err (MigrateFault.UnknownSchema 0) }
-    ensures already_new { result ≡ Err MigrateFault.AlreadyNew → SawVersion S.Store conn.old conn.new 2 }
+    ensures already_new { result ≡ Err MigrateFault.AlreadyNew
+        → SawVersion S.Store conn.old conn.new 2 }
     ensures unknown_schema { (n : ℕ) → result ≡ Err (MigrateFault.UnknownSchema n)
         → SawUnknown S.Store conn.old conn.new n }
     ensures only_old { IfErr result (λ why. IsRefusal why → WasNotOld S.Store conn.old conn.new) }

@@ -271,10 +271,10 @@ module _ (c : Connected) (leaves : State → State → Type 0) (clean : HasClean
         wrote = Appends-nil held;
         end = crashed w e.among.progress l.was_kept;
         answers = record {
-          asks = by_exchange.asks_of (e.messages ++ (e.last.door, e.next) ∷ []);
+          asks = by_exchange.asks_of (e.messages ++ (e.last.door, e.next.meant) ∷ []);
           come = (
-            e.messages ++ (e.last.door, e.next) ∷ [],
-            subst (λ xs. by_exchange.AreDone s xs (e.messages ++ (e.last.door, e.next) ∷ [])) (sym e.at_last)
+            e.messages ++ (e.last.door, e.next.meant) ∷ [],
+            subst (λ xs. by_exchange.AreDone s xs (e.messages ++ (e.last.door, e.next.meant) ∷ [])) (sym e.at_last)
                 (done_next e.last e.next e.is_next e.is_lost s e.before e.messages e.done),
             refl,
           );

@@ -12,12 +12,13 @@ use Rattle.protocols.specs.declared.faults.ServeFault.TheVariants.{Memory, Store
 use Rattle.desk_lines.specs.Lines.{lines, answer_line, answer_lines, state_after_lines, meaning_in, written}
 use Rattle.desk_lines.specs.Serving as of_lines
 use Rattle.desk_lines.specs.Worlds as by_line
-use Rattle.http_messages.specs.Messages.{Message, BeginsWith, BeginsWithAll, IsMessage}
+use Rattle.http_messages.specs.Messages.{Message, BeginsWith, BeginsWithAll}
 use Rattle.http_messages.proofs.MessageLemmas.{one_message}
 use Rattle.desk_http.specs.Pages.{ArePages, IsPage, command_in, state_after, state_after_all}
 use Rattle.desk_http.specs.Serving as of_messages
 use Rattle.desk_http.specs.declared.doors.Door.TheVariants.{Port}
 use Rattle.desk_http.specs.Worlds as by_message
+use Rattle.http_ways.specs.Ways.{Said, Says}
 use Rattle.http_conversations.specs.Exchanges.{Exchange}
 use Rattle.http_live.specs.Worlds.{AreDone, HasPage, Heard, asks_of}
 use Rattle.sessions.specs.Openings.{Input, Lines, Messages, Connections, AsksFor, IsTold}
@@ -253,32 +254,32 @@ messages_tell x s bytes rest Store ms next pages carried answered comes left don
 
 -- Exchanges.
 
-module _ (last : Exchange) (m : Message) (is_message : IsMessage last.bytes m) (is_lost : last.page ≡ None) where
+module _ (last : Exchange) (m : Said) (is_message : Says last.way last.bytes m) (is_lost : last.page ≡ None) where
   -- the last one was carried out, and its page was lost
   pub done_next : (s : State) (before : List Exchange) (ms : List Heard) → AreDone s before ms
-      → AreDone s (before ++ last ∷ []) (ms ++ (last.door, m) ∷ [])
+      → AreDone s (before ++ last ∷ []) (ms ++ (last.door, m.meant) ∷ [])
   done_next s [] ms none = (
-    state_after last.door s m,
+    state_after last.door s m.meant,
     [],
     record {
       message = m;
       is_message = is_message;
       page = subst (HasPage last.door s m) (sym is_lost) tt;
-      done = inl (ap (λ l. l ++ (last.door, m) ∷ []) none, refl);
+      done = inl (ap (λ l. l ++ (last.door, m.meant) ∷ []) none, refl);
     },
     refl,
   )
   done_next s (x ∷ before) ms all =
       let one = all.2 in (
         all.0,
-        all.1 ++ (last.door, m) ∷ [],
+        all.1 ++ (last.door, m.meant) ∷ [],
         record {
           message = one.message;
           is_message = one.is_message;
           page = one.page;
           done = elim one.done [
-            | inl carried ↦ inl (ap (λ l. l ++ (last.door, m) ∷ []) carried.0, carried.1)
-            | inr lost ↦ inr (lost.0, ap (λ l. l ++ (last.door, m) ∷ []) lost.1, lost.2)
+            | inl carried ↦ inl (ap (λ l. l ++ (last.door, m.meant) ∷ []) carried.0, carried.1)
+            | inr lost ↦ inr (lost.0, ap (λ l. l ++ (last.door, m.meant) ∷ []) lost.1, lost.2)
           ];
         },
         done_next all.0 before all.1 all.3,

@@ -21,8 +21,9 @@ module _ {R W : Type 0} {r : Read.Ghosts R} {w : Write.Ghosts W} where
   abbrev pub Exchanged : List (Seat R W r w) → List (Seat R W r w) → (List Exchange → Type 0) → Type 0
   Exchanged before after So = (merged : List Seated) × IsAccount before after merged × So (map exchange_of merged)
 
-  -- What was handed out to the peer of a connection is a prefix of the pages of its exchanges, and what was received begins
-  -- with their messages. Where its ends report their bytes, that was written to the one, and this was read from the other.
+  -- What was handed out to the peer of a connection is a prefix of the pages of its exchanges, with each 100 Continue that
+  -- was given, and what was received begins with their messages. Where its ends report their bytes, that was written to the
+  -- one, and this was read from the other.
   pub record IsSentItsPages (c : Connection R W r w) : Type 0 where
     pub pages : ∥ IsServed (history c.conversation) ∥₁
     pub ends : ∥ Faithful r.remaining w.contents c.came.items c.reader c.writer (history c.conversation).received

@@ -4,6 +4,7 @@ ghost use Rattle.std.specs.Prelude.{◌≡◌};
 use crate::{Power, Session, Steady, run_sessions};
 use desk_http::Door;
 use http_live::{Seat, Standing, Turn, Turns};
+use http_ways::Way;
 use sqlite::Connection;
 use std::alloc::Global;
 use std::cell::RefCell;
@@ -66,7 +67,7 @@ impl<'a> Turns for Peer<'a> {
         if !self.has_come {
             self.has_come = true;
             let sink = Sink { notes: self.notes };
-            return Turn::Comes(0, Door::Port, self.text.as_bytes(), sink);
+            return Turn::Comes(0, Door::Port, Way::Profile, self.text.as_bytes(), sink);
         }
         if self.turns == 0 {
             return Turn::End;

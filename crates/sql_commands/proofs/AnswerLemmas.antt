@@ -1,6 +1,6 @@
 -- The outcome of a begin, and the rows that represent it. For the functions that answer.
-use Rattle.std.specs.Prelude.{not, is_some, IfOk, Ok, Err, Result}
-use Rattle.std.proofs.Common.{◌≡◌, ◌+◌, ◌<◌, length, Option, Some, None, IsTrue, sym, ap, ◌∙◌}
+use Rattle.std.specs.Prelude.{not, is_some, IfOk, IsUtf8, Ok, Err, Result}
+use Rattle.std.proofs.Common.{◌≡◌, ◌+◌, ◌<◌, ℕ, List, length, Option, Some, None, IsTrue, sym, ap, subst, ◌∙◌}
 use Rattle.commands.specs.Asks.{Asked}
 use Rattle.commands.specs.Request as request
 use Rattle.commands.specs.declared.faults.Fault.{Fault}
@@ -8,6 +8,7 @@ use Rattle.commands.specs.declared.replies.Reply.{Reply}
 use Rattle.commands.specs.declared.replies.Reply.TheVariants.{Begun as Begins}
 use Rattle.desk_sql.specs.Rows.{Tables}
 use Rattle.desk_sql.specs.FoundRows.{FindsAnswer, answer_of}
+use Rattle.desk_sql.specs.Readable.{HasReplyText}
 use Rattle.desk_sql.specs.declared.answers.KeptAnswer.{KeptAnswer}
 use Rattle.desk_sql.specs.declared.meta.Meta.{Meta}
 use Rattle.plan.specs.PlanModel.{is_plan}
@@ -16,13 +17,14 @@ use Rattle.sql_model.specs.Standing.{StandsFor, IsDesk}
 use Rattle.sql_model.specs.Reading.{IsAnswerOf}
 use Rattle.sql_model.proofs.Beginning.{beginner, begin_stands}
 use Rattle.sql_model.proofs.Readings.{next_is_above, answer_read}
-use Rattle.sql_model.proofs.Answered.{tells-some, tells-none, outcome-known}
+use Rattle.sql_model.proofs.Answered.{answer_found, tells-some, tells-none, outcome-known}
 use Rattle.sql_writes.specs.declared.events.Numbers.{Numbers}
 use Rattle.sql_writes.specs.declared.events.JourneyBegun.{JourneyBegun}
 use Rattle.sql_writes.specs.declared.events.Event.TheVariants.{Begin}
 use Rattle.sql_commands.specs.declared.answering.Answered.{Answered}
-use Rattle.sql_commands.specs.Answering.{AnswersAgain, Counts, Finds}
+use Rattle.sql_commands.specs.Answering.{AnswersAgain, Counts, Finds, IsKeptLine}
 use Rattle.sql_commands.specs.Moving.{LeadsTo}
+use Rattle.sql_commands.proofs.LineTexts.{line_text}
 
 -- with the next numbers, the rows of a new journey lead to the outcome of its begin
 pub begin_leads : (s : State) (ask : Option Asked) (counts : Meta) (n : Numbers) (b : JourneyBegun) → IsDesk s
@@ -48,6 +50,19 @@ known_reply t s ask found r st desk finds again =
         ap (λ (o : Outcome). o.state) known,
       )),
     )
+
+-- and what was kept is the line of an accepted reply
+pub kept_line : (t : Tables) (s : State) (ask : Asked) (found : KeptAnswer) → StandsFor t s → IsDesk s
+    → FindsAnswer ask.agent ask.key t (Some found) → IsKeptLine found
+kept_line t s ask found st desk finds =
+    let told = tells-some IsAnswerOf (answer_of ask.agent ask.key found) (s.kept ask.agent ask.key) (answer_read t s st desk ask.agent ask.key (Some found) finds) in
+    record { reply = told.0.reply; accepted = told.2.accepted; line = told.2.reply }
+
+-- each such line can be read
+pub reply_texts : (t : Tables) (s : State) → StandsFor t s → IsDesk s → (agent key : List ℕ) → HasReplyText agent key t
+reply_texts t s st desk agent key a has =
+    let told = tells-some IsAnswerOf a (s.kept agent key) (answer_found s.kept t.answer agent key (Some a) st.answer desk.keepable has) in
+    subst IsUtf8 (sym told.2.reply) (line_text told.0.reply told.2.accepted)
 
 -- if no row was found, the key is new
 pub new_key : (t : Tables) (s : State) (ask : Asked) → StandsFor t s → IsDesk s → FindsAnswer ask.agent ask.key t None → kept_for s (Some ask) ≡ None

@@ -22,7 +22,7 @@ use Rattle.sql_commands.specs.OptionChoice.{IsRowChosen, IsTakenChosen, IsNextCh
 use Rattle.sql_commands.specs.declared.options.Choice.{Choice}
 
 -- each number of a list has its element
-numbered_there : {X : Type 0} (xs : List X) (n : ℕ) → 1 ≤ n → n ≤ length xs → (x : X) × (numbered xs n ≡ Some x)
+pub numbered_there : {X : Type 0} (xs : List X) (n : ℕ) → 1 ≤ n → n ≤ length xs → (x : X) × (numbered xs n ≡ Some x)
 numbered_there xs zero one low = absurd (omega arith)
 numbered_there xs (suc i) one low = go xs i (omega arith)
   where

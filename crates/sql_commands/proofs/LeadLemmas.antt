@@ -1,5 +1,5 @@
 -- The rows of each event of a journey lead to the state with it. For DueLemmas, `commit_kept` and `commit_answered`.
-use Rattle.std.proofs.Common.{◌≡◌, ℕ, ◌+◌, length, Option, Some, None, IsTrue, sym, ap, subst, ◌∙◌}
+use Rattle.std.proofs.Common.{◌≡◌, ℕ, ◌+◌, length, List, Option, Some, None, IsTrue, refl, sym, ap, subst, ◌∙◌}
 use Rattle.allotment.specs.Want.{Wanted}
 use Rattle.plan.specs.PlanModel.{want_at}
 use Rattle.commands.specs.Asks.{Asked}
@@ -14,6 +14,8 @@ use Rattle.ledger.specs.Ledger.{Did, Journey, journeys, journey_at, history, is_
 use Rattle.ledger_transitions.specs.JourneyChanges.{cursor_after}
 use Rattle.ledger_transitions.specs.Cursors.{cursor_of}
 use Rattle.ledger_transitions.proofs.Places.{transaction_fits}
+use Rattle.desk_sql.specs.Changes.{kept}
+use Rattle.sql_model.specs.Beginning.{answer_row_of}
 use Rattle.sql_model.specs.Standing.{IsDesk}
 use Rattle.sql_transitions.proofs.Conditions.{items_below, nights_have_free, nights_have_room}
 use Rattle.sql_transitions.proofs.GivingBack.{compensation_stands}
@@ -42,6 +44,11 @@ pub record IsKeeping (k : Keeping) (ask : Asked) (reply : Reply) : Type 0 where
   pub key : k.key.now ≡ ask.key
   pub text : k.text.now ≡ ask.text
   pub line : k.line.now ≡ reply_line reply
+
+-- the row that is kept is that of the ask and the reply
+pub kept_row : (agent key text line : List ℕ) (ask : Asked) (reply : Reply) → agent ≡ ask.agent → key ≡ ask.key → text ≡ ask.text
+    → line ≡ reply_line reply → kept agent key text line ≡ answer_row_of ask reply
+kept_row agent key text line ask reply agent_is key_is text_is line_is = rw (agent_is, key_is, text_is, line_is) refl
 
 -- with an ask there is one more row, that of its reply
 pub kept_leads : (n : Numbers) (e : Event) (k : Keeping) (ask : Asked) (reply : Reply) (s next : State)

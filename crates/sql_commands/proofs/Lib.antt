@@ -1,11 +1,15 @@
 pub mod AnswerLemmas
 pub mod ChoiceLemmas
 pub mod ComingLemmas
+pub mod CommitReasons
 pub mod DueLemmas
 pub mod LeadLemmas
+pub mod LineTexts
 pub mod LoadComes
 pub mod LoadRows
 pub mod NextLemmas
 pub mod OkLemmas
+pub mod OptionReasons
+pub mod Reasons
 pub mod SmallLemmas
 pub mod StepLemmas

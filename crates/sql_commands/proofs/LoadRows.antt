@@ -1,7 +1,7 @@
 -- What is read of the rows of a batch, in order. For `content_of`, `cells_of` and LoadComes.
 use Rattle.std.proofs.Common.{◌≡◌, ℕ, zero, suc, ◌+◌, ◌<◌, List, [], ◌∷◌, ◌++◌, length, map, take, get_or, cond, Bool, true, false, Some, None, refl, sym, ap, ap₂, ◌∙◌, arith, append_assoc, append-nil}
-use Rattle.std.specs.Prelude.{position, not, nat_lt}
-use Rattle.std.specs.List.{list_all, position_or_len}
+use Rattle.std.specs.Prelude.{position, not, nat_lt, Result, Ok, Err, IsOk, IsErrOf}
+use Rattle.std.specs.List.{AllByRecursion, list_all, position_or_len}
 use Rattle.std.proofs.lemmas.Bool.{and_parts, and_from, lt-ltb}
 use Rattle.std.proofs.lemmas.Bool.Decides.{nat_tests}
 use Rattle.std.proofs.lemmas.List.{map-append}
@@ -18,16 +18,20 @@ use Rattle.allotment.specs.declared.places.Held.{Held as HeldPlaces}
 use Rattle.ledger.specs.Answer.{State}
 use Rattle.ledger.specs.Ledger.{held, is_not_below_held}
 use Rattle.desk_sql.specs.Rows.{StockRow}
+use Rattle.commands.specs.declared.faults.Fault.{Fault}
+use Rattle.commands.specs.declared.faults.Fault.TheVariants.{Store}
 use Rattle.desk_sql.specs.Stock.{put}
+use Rattle.desk_sql.specs.declared.stock.NightFound.{NightFound}
 use Rattle.sql_model.specs.ExpectedRows.{batch_text}
-use Rattle.sql_model.specs.Reading.{stock_row_of}
+use Rattle.sql_model.specs.Reading.{night_seen, stock_row_of}
+use Rattle.sql_reads.specs.GoodRows.{IsGoodNight}
 use Rattle.sql_model.specs.Standing.{IsDesk}
 use Rattle.sql_transitions.specs.Loading.{put_rows}
 use Rattle.sql_writes.specs.Loads.{put_each}
 use Rattle.sql_writes.proofs.LoadLemmas.{take-more}
 use Rattle.desk_sql.specs.declared.versions.Version.TheVariants.{Two}
 use Rattle.sql_model.specs.Keeping.{Keeps}
-use Rattle.sql_commands.specs.Loading.{GetsPlaces, HavePlaces, HasLooked, row_loaded}
+use Rattle.sql_commands.specs.Loading.{HaveNoMoreFree, GetsPlaces, HavePlaces, HasLooked, row_loaded}
 use Rattle.sql_reads.specs.Reading.{OnlyReads}
 use Rattle.sql_reads.proofs.ReadLemmas.{reads_then}
 
@@ -141,3 +145,15 @@ text_more rows i r text within is e =
     ∙ ap (λ (t : List ℕ). batch_text (take i rows) ++ t) (sym (append-nil (row_text r ++ line_feed ∷ [])))
     ∙ sym (flat_map-append (λ (q : Row). row_text q ++ line_feed ∷ []) (take i rows) (r ∷ []))
     ∙ ap batch_text (sym (take-more rows i r within is))
+
+-- Store only for a reason.
+
+-- of each good night no more places are free than allotted
+pub no_more_free : (found : List NightFound) → AllByRecursion (λ (n : NightFound). IsGoodNight (night_seen n)) found → HaveNoMoreFree found
+no_more_free [] all = tt
+no_more_free (n ∷ found) all = (all.0.places.free, no_more_free found all.1)
+
+-- what succeeded did not fail
+pub not_failed : {V : Type 0} (r : Result V Fault) → IsOk r → ¬ IsErrOf r Store
+not_failed (Ok v) ok store = cc
+not_failed (Err f) ok store = cc

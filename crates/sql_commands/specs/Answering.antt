@@ -43,6 +43,12 @@ AnswersAgain found ask r =
     (s : State) (k : KeptReply) → found.ask.items ≡ k.text
     → string_bytes found.reply ≡ reply_line k.reply → IsTrue (is_accepted k.reply) → r ≡ (answered_again s ask.text k).reply
 
+-- what was kept is the line of an accepted reply
+pub record IsKeptLine (found : KeptAnswer) : Type 0 where
+  pub reply : Reply
+  pub accepted : IsTrue (is_accepted reply)
+  pub line : string_bytes found.reply ≡ reply_line reply
+
 module _ {S : Type 0} (g : Ghosts S) (old new : Held S) where
   -- after a success the connection keeps what it kept
   abbrev pub KeepsOn : {V : Type 0} → Result V Fault → Type 0

@@ -1,4 +1,5 @@
 pub mod Answering
+pub mod Committing
 pub mod Loading
 pub mod Moving
 pub mod OptionChoice

@@ -1,6 +1,6 @@
 -- What a load of a batch finds, its outcome, and what it leaves.
-use Rattle.std.specs.Prelude.{◌≡◌, ℕ, ◌+◌, ◌-◌, not, true, false, List, [], ◌∷◌, map, position, nat_le, Option, Some, None, Result, IfOk, OnOk, IsTrue}
-use Rattle.std.specs.List.{list_all}
+use Rattle.std.specs.Prelude.{◌≡◌, ◌≤◌, ℕ, ◌+◌, ◌-◌, not, true, false, List, [], ◌∷◌, map, position, nat_le, Option, Some, None, Result, IfOk, OnOk, IsTrue}
+use Rattle.std.specs.List.{AllByRecursion, list_all}
 use Rattle.sqlite.specs.Store.{Ghosts}
 use Rattle.sqlite.specs.Held.{Held, state}
 use Rattle.sqlite.specs.State.{HasCleanDisk}
@@ -21,6 +21,7 @@ use Rattle.ledger.specs.Replies as rules
 use Rattle.desk_sql.specs.Rows.{StockRow}
 use Rattle.desk_sql.specs.declared.batches.BatchFound.{BatchFound}
 use Rattle.desk_sql.specs.declared.meta.Meta.{Meta}
+use Rattle.desk_sql.specs.declared.stock.NightFound.{NightFound}
 use Rattle.sql_model.specs.ExpectedRows.{batch_text}
 use Rattle.sql_model.specs.Reading.{stock_row_of}
 use Rattle.sql_model.specs.Standing.{IsDesk}
@@ -49,6 +50,10 @@ AnswersKnown b content r =
     → r ≡ (rules.answer_known b.name b.rows known).reply
 
 -- New batches.
+
+-- of each night no more places are free than allotted
+abbrev pub HaveNoMoreFree : List NightFound → Type 0
+HaveNoMoreFree nights = AllByRecursion (λ (n : NightFound). n.free ≤ n.allot) nights
 
 -- how many places of a cell journeys hold
 abbrev pub IsHeldOf : Cell → State → ℕ → Type 0

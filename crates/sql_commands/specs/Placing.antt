@@ -73,6 +73,13 @@ abbrev pub SeesStand : Option (List ℕ) → ℕ → State → Option Stand → 
 SeesStand who id s None = seen_journey s.ledger who id ≡ None
 SeesStand who id s (Some stand) = (r : Record) × IsSeen s who id r × (stand_of r ≡ stand)
 
+-- the journey of this number has this agent, these steps and this cursor
+pub record StandsAt (id : ℕ) (stand : Stand) (s : State) : Type 0 where
+  pub journey : l.Journey
+  pub at : journey_at s.ledger id ≡ Some journey
+  pub steps : stand.steps ≡ step_count journey.plan
+  pub cursor : stand.cursor ≡ cursor_of journey.plan (history s.ledger id)
+
 -- the answer is the item of a move, or its refusal
 abbrev pub Fits : ℕ → Planned → Cursor → Answer → Result Item Refusal → Type 0
 Fits j plan c answered next =

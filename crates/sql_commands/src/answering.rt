@@ -1,10 +1,13 @@
 //! The reply to a command.
-ghost use Rattle.std.specs.Prelude.{◌≡◌, false, IfOk, IsTrue, Some};
+ghost use Rattle.std.specs.Prelude.{◌≡◌, false, IfErr, IfOk, IsTrue, Some};
 ghost use Rattle.std.specs.Option.{option_copied as asker};
 ghost use Rattle.commands.specs.Orders.{request_of};
 ghost use Rattle.ledger.specs.Answer.{is_request};
-ghost use Rattle.sql_commands.specs.Answering.{AnswersAgain, AnswersFirst, Finds, KeepsOn, KeepsAtMemory, TellsNew};
+ghost use Rattle.sql_commands.specs.Answering.{AnswersAgain, IsKeptLine, AnswersFirst, Finds, KeepsOn, KeepsAtMemory, TellsNew};
 ghost use Rattle.sql_commands.specs.Answering.{Answers, KeepsNext, LeavesOld, AnswersNew, KeepsNew, LeavesNew};
+ghost use Rattle.sql_model.specs.Staying.{StaysUp};
+ghost use Rattle.sql_reads.specs.Causes.{FailsForReason};
+ghost use Rattle.sql_reads.specs.GoodRows.{IsMemory};
 ghost use Rattle.sql_reads.specs.Reading.{LeavesAsBefore, ShowsKept, WasClean};
 
 use crate::begins::answer_begin;
@@ -29,6 +32,7 @@ pub struct Answered {
 /// fault of the store.
 fn again(alloc: Global, kept: &KeptAnswer, ask: &Ask) -> Result<Reply, Fault>
     ensures again { IfOk result (AnswersAgain kept.now ask.now) }
+    ensures there { IsKeptLine kept.now → IfErr result IsMemory }
 {
     if kept.ask.as_slice() != ask.text() {
         return Ok(Reply::Refused(Refusal::KeyReused));
@@ -54,6 +58,9 @@ fn find_reply<S: Alter>(
     ensures memory { KeepsAtMemory S.Store conn.old conn.new result }
     ensures left { LeavesAsBefore S.Store conn.old conn.new }
     ensures sound { WasClean S.Store conn.old conn.new }
+
+    ensures store { FailsForReason S.Store conn.old conn.new result }
+    ensures up { StaysUp S.Store conn.old conn.new }
 {
     match find_answer(conn, ask.agent().as_str(), ask.key().as_str()) {
         Ok(None) => Ok(None),

@@ -6,6 +6,8 @@ ghost use Rattle.std.specs.Option.{option_copied as asked_by};
 ghost use Rattle.sql_writes.specs.Kinds.{IsSmall};
 ghost use Rattle.sql_commands.specs.Answering.{KeepsAtMemory};
 ghost use Rattle.sql_model.specs.Keeping.{Keeps, MayLeave};
+ghost use Rattle.sql_model.specs.Staying.{StaysUp};
+ghost use Rattle.sql_commands.specs.Committing.{FailsToCommit, LeavesRowids};
 ghost use Rattle.sql_commands.specs.Moving.{LeadsTo};
 ghost use Rattle.sql_reads.specs.Reading.{WasClean};
 
@@ -33,6 +35,10 @@ fn commit_kept<S: Alter>(
     ensures left { (s next : State) → LeadsTo numbers event.now (Some ask.now) reply.now s next
         → Keeps (state S.Store conn.old) s → MayLeave (state S.Store conn.new) s next }
     ensures sound { WasClean S.Store conn.old conn.new }
+
+    ensures store { FailsToCommit S.Store conn.old conn.new numbers event.now (Some ask.now) reply.now result }
+    ensures rowids { LeavesRowids S.Store conn.old conn.new numbers event.now (Some ask.now) }
+    ensures up { StaysUp S.Store conn.old conn.new }
 {
     let line = match reply.line(alloc) {
         Ok(line) => line,
@@ -68,6 +74,10 @@ pub(crate) fn commit_answered<S: Alter>(
     ensures left { (s next : State) → LeadsTo numbers event.now (asked_by ask.entry) reply.now s next
         → Keeps (state S.Store conn.old) s → MayLeave (state S.Store conn.new) s next }
     ensures sound { WasClean S.Store conn.old conn.new }
+
+    ensures store { FailsToCommit S.Store conn.old conn.new numbers event.now (asked_by ask.entry) reply.now result }
+    ensures rowids { LeavesRowids S.Store conn.old conn.new numbers event.now (asked_by ask.entry) }
+    ensures up { StaysUp S.Store conn.old conn.new }
 {
     match ask {
         None => commit_event(conn, numbers, event, None),

@@ -1,7 +1,9 @@
 //! The number of events and of journeys.
 ghost use Rattle.std.specs.Prelude.{◌≡◌, false, IfOk};
 ghost use Rattle.sql_commands.specs.Answering.{Counts, IsCounted, KeepsOn, KeepsAtMemory};
+ghost use Rattle.sql_reads.specs.Causes.{FailsForReason};
 ghost use Rattle.sql_reads.specs.Reading.{LeavesAsBefore, ShowsKept, WasClean};
+ghost use Rattle.sql_model.specs.Staying.{StaysUp};
 
 use commands::{Fault, MOST_EVENTS};
 use desk_sql::{Meta, read_meta};
@@ -19,6 +21,9 @@ pub fn read_counts<S: Alter>(conn: &mut Connection<S>) -> Result<Meta, Fault>
     ensures memory { KeepsAtMemory S.Store conn.old conn.new result }
     ensures left { LeavesAsBefore S.Store conn.old conn.new }
     ensures sound { WasClean S.Store conn.old conn.new }
+
+    ensures store { FailsForReason S.Store conn.old conn.new result }
+    ensures up { StaysUp S.Store conn.old conn.new }
 {
     match read_meta(conn) {
         Ok(meta) if meta.events <= MOST_EVENTS && meta.journeys <= MOST_EVENTS => Ok(meta),

@@ -2,16 +2,19 @@
 //!
 //! All reads come first: the numbers of `meta`, the batch of that name, and how many places of each cell are held. Then
 //! the batch is written in one commit, with the places of its cells, and with its reply if there is an ask.
-ghost use Rattle.std.specs.Prelude.{◌≡◌, false, string_bytes, IfOk, MatchResult};
+ghost use Rattle.std.specs.Prelude.{◌≡◌, false, string_bytes, IfOk, IsOk, MatchResult};
 ghost use Rattle.std.specs.Option.{option_copied as asked_by};
 ghost use Rattle.commands.specs.Request.{Load};
 ghost use Rattle.ledger.specs.Replies.{loaded as reply_to};
 ghost use Rattle.sql_transitions.specs.Loading.{held_seen};
 ghost use Rattle.sql_model.specs.ExpectedRows.{batch_text};
 ghost use Rattle.sql_commands.specs.Answering.{AnswersNew, KeepsNew, LeavesNew, KeepsAtMemory, IsCounted};
+ghost use Rattle.sql_commands.specs.Loading.{HaveNoMoreFree};
 ghost use Rattle.sql_commands.specs.Loading.{TellsName, AnswersKnown, IsHeldOf, LeavesPlaces, GetsPlaces};
 ghost use Rattle.sql_commands.specs.Loading.{HavePlaces, TellsBelow, IsNewName, IsLoadDue};
 ghost use Rattle.sql_commands.specs.Loading.{AnswersWhere, KeepsWhere, LeavesWhere};
+ghost use Rattle.sql_model.specs.Staying.{StaysUp};
+ghost use Rattle.sql_reads.specs.Causes.{FailsForReason};
 ghost use Rattle.sql_reads.specs.Reading.{KeepsOn, KeepsEach, LeavesAsBefore, ShowsKept, WasClean};
 
 use crate::committing::commit_answered;
@@ -56,6 +59,9 @@ fn find_known<S: Alter>(conn: &mut Connection<S>, name: &str) -> Result<Option<B
     ensures same { KeepsOn S.Store conn.old conn.new }
     ensures stop { LeavesAsBefore S.Store conn.old conn.new }
     ensures less { WasClean S.Store conn.old conn.new }
+
+    ensures store { FailsForReason S.Store conn.old conn.new result }
+    ensures up { StaysUp S.Store conn.old conn.new }
 {
     match find_batch(conn, name) {
         Ok(found) => Ok(found),
@@ -67,6 +73,7 @@ fn find_known<S: Alter>(conn: &mut Connection<S>, name: &str) -> Result<Option<B
 /// of the store.
 fn held_of(found: &[NightFound]) -> Result<u64, Fault>
     ensures held { IfOk result (λ n. n ≡ held_seen found.now) }
+    ensures there { HaveNoMoreFree found.now → IsOk result }
 {
     match found.first() {
         Some(night) if night.free <= night.allot => Ok(night.allot - night.free),
@@ -84,6 +91,9 @@ fn read_held<S: Alter>(alloc: Global, conn: &mut Connection<S>, cell: Cell) -> R
     ensures same { KeepsEach S.Store conn.old conn.new }
     ensures stop { LeavesAsBefore S.Store conn.old conn.new }
     ensures less { WasClean S.Store conn.old conn.new }
+
+    ensures store { FailsForReason S.Store conn.old conn.new result }
+    ensures up { StaysUp S.Store conn.old conn.new }
 {
     let supplier = cell.supplier();
     let product = cell.product();
@@ -128,6 +138,9 @@ fn read_places<S: Alter>(
     ensures same { KeepsEach S.Store conn.old conn.new }
     ensures stop { LeavesAsBefore S.Store conn.old conn.new }
     ensures less { WasClean S.Store conn.old conn.new }
+
+    ensures store { FailsForReason S.Store conn.old conn.new result }
+    ensures up { StaysUp S.Store conn.old conn.new }
 {
     match read_held(alloc, conn, row.cell()) {
         Ok(held) => Ok(places_left(row, held)),
@@ -149,6 +162,9 @@ fn cells_of<S: Alter>(
     ensures same { KeepsEach S.Store conn.old conn.new }
     ensures stop { LeavesAsBefore S.Store conn.old conn.new }
     ensures less { WasClean S.Store conn.old conn.new }
+
+    ensures store { FailsForReason S.Store conn.old conn.new result }
+    ensures up { StaysUp S.Store conn.old conn.new }
 {
     let mut cells = Vec::new(alloc);
     for (place, row) in rows.iter().enumerate() {

@@ -16,6 +16,8 @@ ghost use Rattle.plan.specs.PlanModel.{Planned};
 ghost use Rattle.sql_commands.specs.Moving.{AnswersDue, KeepsDue, LeavesDue, IsEventOf, IsNext, asked_for};
 ghost use Rattle.sql_commands.specs.Moving.{AnswersMade, KeepsMade, LeavesMade, AnswersMove, KeepsMove, LeavesMove};
 ghost use Rattle.sql_commands.specs.Placing.{IsPlaced, MayBeMade, Sees};
+ghost use Rattle.sql_model.specs.Staying.{StaysUp};
+ghost use Rattle.sql_reads.specs.Causes.{FailsForReason};
 ghost use Rattle.sql_reads.specs.Reading.{KeepsOn, LeavesAsBefore, ShowsKept, WasClean};
 
 use crate::committing::commit_answered;
@@ -67,6 +69,9 @@ fn find_seen<S: Alter>(
     ensures same { KeepsOn S.Store conn.old conn.new }
     ensures stop { LeavesAsBefore S.Store conn.old conn.new }
     ensures less { WasClean S.Store conn.old conn.new }
+
+    ensures store { FailsForReason S.Store conn.old conn.new result }
+    ensures up { StaysUp S.Store conn.old conn.new }
 {
     match read_journey(alloc, conn, Version::Two, id) {
         Ok(None) => Ok(None),

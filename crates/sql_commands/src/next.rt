@@ -13,6 +13,7 @@ const MOST_USED: usize = 1 << 62;
 /// Whether a journey of so many steps may have this cursor.
 pub(crate) fn is_placed(steps: usize, cursor: Cursor) -> bool
     ensures placed { result ≡ true → IsPlacedIn steps cursor }
+    ensures exact { IsPlacedIn steps cursor → result ≡ true }
 {
     let Cursor { pos, phase, used } = cursor;
     let is_there = match phase {

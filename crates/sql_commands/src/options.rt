@@ -1,10 +1,15 @@
 //! The choice of an option of a step, by the rows of that step alone.
-ghost use Rattle.std.specs.Prelude.{◌≡◌, ◌≤◌, ◌<◌, ◌+◌, ◌^◌, false, IfOk, find, length, min};
+ghost use Rattle.std.specs.Prelude.{◌≡◌, ◌≤◌, ◌<◌, ◌+◌, ◌^◌, false, IfErr, IfOk, find, length, min, Some};
 ghost use Rattle.std.specs.Option.{option_copied};
 ghost use Rattle.plan.specs.Limits.{most_options};
+ghost use Rattle.desk_sql.specs.declared.versions.Version.TheVariants.{Two};
+ghost use Rattle.sql_model.specs.Staying.{StaysUp};
+ghost use Rattle.sql_reads.specs.Causes.{FailsWhere};
+ghost use Rattle.sql_reads.specs.GoodRows.{IsMemory};
 ghost use Rattle.sql_reads.specs.PlanRows.{TellsWant};
 ghost use Rattle.sql_reads.specs.Reading.{KeepsOn, LeavesAsBefore, ShowsKept, WasClean};
 ghost use Rattle.sql_commands.specs.OptionChoice.{IsLastChoice, IsNextChoice, IsOfRow, IsRowChosen, IsTakenChosen, is_taken_row};
+ghost use Rattle.sql_commands.specs.OptionChoice.{AreOfStep, HasStep, HasTaken, IsOfOption, TakesLast};
 
 use allotment::Want;
 use commands::Fault;
@@ -26,6 +31,7 @@ pub(crate) struct Choice {
 fn choice_of(alloc: Global, row: &StepFound, option: usize) -> Result<Choice, Fault>
     ensures row { IfOk result (IsOfRow row.now option) }
     ensures few { IfOk result (λ choice. choice.option ≤ most_options) }
+    ensures there { IsOfOption row.now → option ≤ most_options → IfErr result IsMemory }
 {
     if option > MOST_OPTIONS {
         return Err(Fault::Store);
@@ -38,6 +44,7 @@ fn choice_of(alloc: Global, row: &StepFound, option: usize) -> Result<Choice, Fa
 fn choose_next(alloc: Global, rows: &[StepFound], used: usize) -> Result<Choice, Fault>
     ensures chosen { IfOk result (IsRowChosen rows.now (min (used + 1) (length rows.now))) }
     ensures few { IfOk result (λ choice. choice.option ≤ most_options) }
+    ensures there { AreOfStep rows.now → IfErr result IsMemory }
 {
     let option = used.saturating_add(1).min(rows.len());
     if option == 0 {
@@ -60,6 +67,7 @@ fn find_taken(rows: &[StepFound]) -> Option<&StepFound>
 fn choose_taken(alloc: Global, rows: &[StepFound]) -> Result<Choice, Fault>
     ensures chosen { IfOk result (IsTakenChosen rows.now) }
     ensures few { IfOk result (λ choice. choice.option ≤ most_options) }
+    ensures there { HasTaken rows.now → IfErr result IsMemory }
 {
     match find_taken(rows) {
         Some(row) => choice_of(alloc, row, row.opt as usize),
@@ -85,6 +93,9 @@ pub(crate) fn next_choice<S: Alter>(
     ensures same { KeepsOn S.Store conn.old conn.new }
     ensures stop { LeavesAsBefore S.Store conn.old conn.new }
     ensures less { WasClean S.Store conn.old conn.new }
+
+    ensures store { FailsWhere S.Store conn.old conn.new Two result (HasStep id step) }
+    ensures up { StaysUp S.Store conn.old conn.new }
 {
     match find_options(alloc, conn, id, step as u64) {
         Ok(rows) => choose_next(alloc, rows.as_slice(), used),
@@ -109,6 +120,9 @@ pub(crate) fn last_choice<S: Alter>(
     ensures same { KeepsOn S.Store conn.old conn.new }
     ensures stop { LeavesAsBefore S.Store conn.old conn.new }
     ensures less { WasClean S.Store conn.old conn.new }
+
+    ensures store { FailsWhere S.Store conn.old conn.new Two result (TakesLast id step) }
+    ensures up { StaysUp S.Store conn.old conn.new }
 {
     match find_options(alloc, conn, id, step as u64) {
         Ok(rows) => choose_taken(alloc, rows.as_slice()),

@@ -6,10 +6,13 @@ ghost use Rattle.std.specs.Prelude.{◌≡◌, ◌≤◌, ◌<◌, ◌^◌, fals
 ghost use Rattle.std.specs.Option.{option_copied as asked_by};
 ghost use Rattle.plan.specs.Limits.{most_options, most_steps};
 ghost use Rattle.ledger.specs.Answer.{asker};
+ghost use Rattle.desk_sql.specs.declared.versions.Version.TheVariants.{Two};
+ghost use Rattle.sql_model.specs.Staying.{StaysUp};
+ghost use Rattle.sql_reads.specs.Causes.{FailsForReason, FailsWhere};
 ghost use Rattle.sql_reads.specs.Reading.{KeepsOn, LeavesAsBefore, ShowsKept, WasClean};
 ghost use Rattle.sql_commands.specs.Answering.{AnswersNew, KeepsNew, LeavesNew, KeepsAtMemory};
 ghost use Rattle.sql_commands.specs.Moving.{Comes, FitsIn, MayCome, IsStepUp, IsStepDown};
-ghost use Rattle.sql_commands.specs.Placing.{IsPlacedIn, SeesStand};
+ghost use Rattle.sql_commands.specs.Placing.{IsPlacedIn, SeesStand, StandsAt};
 ghost use Rattle.commands.specs.Request.{Step};
 ghost use Rattle.sql_writes.specs.Kinds.{IsSmall};
 
@@ -55,6 +58,9 @@ fn find_stand<S: Alter>(
     ensures same { KeepsOn S.Store conn.old conn.new }
     ensures stop { LeavesAsBefore S.Store conn.old conn.new }
     ensures less { WasClean S.Store conn.old conn.new }
+
+    ensures store { FailsForReason S.Store conn.old conn.new result }
+    ensures up { StaysUp S.Store conn.old conn.new }
 {
     match read_stand(conn, id) {
         Ok(None) => Ok(None),
@@ -143,6 +149,9 @@ fn fits_nights<S: Alter>(
     ensures same { KeepsOn S.Store conn.old conn.new }
     ensures stop { LeavesAsBefore S.Store conn.old conn.new }
     ensures less { WasClean S.Store conn.old conn.new }
+
+    ensures store { FailsForReason S.Store conn.old conn.new result }
+    ensures up { StaysUp S.Store conn.old conn.new }
 {
     match read_cells(alloc, conn, want) {
         Ok(cells) => Ok(fits(cells.as_slice(), want)),
@@ -168,6 +177,9 @@ fn find_coming<S: Alter>(
     ensures same { KeepsOn S.Store conn.old conn.new }
     ensures stop { LeavesAsBefore S.Store conn.old conn.new }
     ensures less { WasClean S.Store conn.old conn.new }
+
+    ensures store { FailsWhere S.Store conn.old conn.new Two result (StandsAt id stand.now) }
+    ensures up { StaysUp S.Store conn.old conn.new }
 {
     match stand.cursor.phase {
         Phase::Run => {

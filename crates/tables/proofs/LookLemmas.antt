@@ -1,7 +1,10 @@
 -- A search for unfinished journeys that could not read the counts. For `TableBook::look_on`.
-use Rattle.std.proofs.Common.{◌≡◌, ℕ, Bool, refl, sym, subst}
+use Rattle.std.proofs.Common.{◌≡◌, ℕ, Bool, inl, refl, sym, subst, arith}
 use Rattle.std.specs.Prelude.{Option, Result, Ok, Err}
+use Rattle.sqlite.specs.Held.{Held}
 use Rattle.sqlite.specs.State.{State as Connected}
+use Rattle.sqlite.specs.Store.{Ghosts}
+use Rattle.sql_model.specs.Staying.{StaysUp}
 use Rattle.commands.specs.declared.faults.Fault.{Fault}
 use Rattle.commands.specs.declared.faults.Fault.TheVariants.{Memory, Store}
 use Rattle.ledger.specs.Answer.{State}
@@ -53,3 +56,7 @@ untold Before failed finished unfinished mid end Memory first second result is =
     })
 untold Before failed finished unfinished mid end Store first second result is =
     subst (books.Keeps Before (Stands failed finished unfinished end)) (sym is) tt
+
+-- where no call reached the store, it is as much up as before
+pub stays_alone : {S : Type 0} (g : Ghosts S) (a : Held S) → StaysUp g a a
+stays_alone g a = record { counts = omega arith; up = λ clean up. inl up }

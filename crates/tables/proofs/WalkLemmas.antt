@@ -1,10 +1,13 @@
 -- The unfinished journeys above a number, counted one after another. For `count_unfinished` and `TableBook`.
-use Rattle.std.proofs.Common.{◌≡◌, ℕ, suc, ◌<◌, ◌≤◌, List, [], ◌∷◌, length, cond, refl, ap, sym, ◌∙◌, arith}
+use Rattle.std.proofs.Common.{◌≡◌, ℕ, zero, suc, ◌<◌, ◌≤◌, List, [], ◌∷◌, length, cond, refl, ap, sym, ◌∙◌, arith}
 use Rattle.std.proofs.lemmas.Bool.{ltb-true, ltb-false}
+use Rattle.std.proofs.lemmas.List.Sums.{count_by-le-length, length-filter}
+use Rattle.sql_reads.proofs.ReadReasons.{few_journeys}
+use Rattle.allotment.specs.Cells.{numbers_from}
 use Rattle.std.specs.Prelude.{Bool, true, false, ◌&&◌, not, nat_lt, Option, Some, None, filter, filter_map, option_map, unwrap_or}
 use Rattle.std.specs.List.{cons_option}
 use Rattle.ledger.specs.History.{is_finished, is_open}
-use Rattle.ledger.specs.Ledger.{Event, numbers}
+use Rattle.ledger.specs.Ledger.{Event, journeys, numbers}
 use Rattle.saga_core.specs.Views.{brief_of, first_unfinished, is_unfinished_above, unfinished_of}
 use Rattle.saga_core.specs.declared.records.Brief.{Brief}
 use Rattle.saga_core.proofs.BriefLemmas.{briefs_of, rises, first_above, none_found}
@@ -23,6 +26,29 @@ none_left l last is = ap length (none_found (is_unfinished_above last) (briefs_o
 pub one_counted : (l : List Event) (last : ℕ) (b : Brief) → Some b ≡ first_unfinished l last
     → unfinished_above l last ≡ suc (unfinished_above l b.id)
 one_counted l last b is = ap length (first_above goes_on 1 last (briefs_of l) b (rises l) (sym is))
+
+-- a list has as many elements that pass, and are told, as it has elements at most
+few_told : {X Y : Type 0} (h : X → Option Y) (xs : List X) → length (filter_map h xs) ≤ length xs
+few_told h [] = omega arith
+few_told {X} {Y} h (x ∷ xs) = go (h x) (few_told h xs)
+  where
+    go : (o : Option Y) → length (filter_map h xs) ≤ length xs → length (cons_option o (filter_map h xs)) ≤ length (x ∷ xs)
+    go None rest = omega arith
+    go (Some y) rest = omega arith
+
+as_many : (first n : ℕ) → length (numbers_from first n) ≡ n
+as_many first zero = refl
+as_many first (suc n) = ap suc (as_many (suc first) n)
+
+-- no more journeys are unfinished than there are events
+pub few_unfinished : (l : List Event) (after : ℕ) → unfinished_above l after ≤ length l
+few_unfinished l after =
+    let passed = length-filter (is_unfinished_above after) (briefs_of l) in
+    let some = count_by-le-length (is_unfinished_above after) (briefs_of l) in
+    let told = few_told (brief_of l) (numbers l) in
+    let many = as_many 1 (length (journeys l)) in
+    let few = few_journeys l in
+    omega (arith, passed, some, told, many, few)
 
 -- two tests that agree on the listed journeys let the same ones pass
 filter-same : (f g : Brief → Bool) (h : ℕ → Option Brief) (js : List ℕ)

@@ -65,6 +65,8 @@ impl<S: Alter> TableBook<S> {
     ghost use Rattle.std.specs.Prelude.{length};
     ghost use Rattle.saga_core.specs.Views.{counts_of, unfinished_of};
     ghost use Rattle.sql_reads.specs.Reading.{LeavesAsBefore};
+    ghost use Rattle.sql_model.specs.Staying.{StaysUp};
+    ghost use Rattle.tables.specs.BookTerms.{FailsForReason};
 
     /// Returns the first unfinished journey. The book remembers that the journeys before it have finished.
     fn look_on(&mut self) -> Result<Option<Brief>, Fault>
@@ -73,6 +75,9 @@ impl<S: Alter> TableBook<S> {
         ensures stop { LeavesAsBefore S.Store self.old.conn self.new.conn }
         ensures failed { self.new.failed ≡ self.old.failed }
         ensures sound { WasClean S.Store self.old.conn self.new.conn }
+
+        ensures store { FailsForReason S.Store self.old self.new result }
+        ensures up { StaysUp S.Store self.old.conn self.new.conn }
     {
         let found = read_first_unfinished(&mut self.conn, self.finished)?;
         self.finished = match &found {
@@ -90,6 +95,9 @@ impl<S: Alter> TableBook<S> {
         ensures stop { LeavesAsBefore S.Store self.old.conn self.new.conn }
         ensures failed { self.new.failed ≡ self.old.failed }
         ensures sound { WasClean S.Store self.old.conn self.new.conn }
+
+        ensures store { FailsForReason S.Store self.old self.new result }
+        ensures up { StaysUp S.Store self.old.conn self.new.conn }
     {
         if after <= self.finished {
             self.look_on()
@@ -105,6 +113,9 @@ impl<S: Alter> TableBook<S> {
         ensures stop { LeavesAsBefore S.Store self.old.conn self.new.conn }
         ensures failed { self.new.failed ≡ self.old.failed }
         ensures sound { WasClean S.Store self.old.conn self.new.conn }
+
+        ensures store { FailsForReason S.Store self.old self.new result }
+        ensures up { StaysUp S.Store self.old.conn self.new.conn }
     {
         if let Some(count) = self.unfinished {
             return Ok(count);
@@ -121,6 +132,9 @@ impl<S: Alter> TableBook<S> {
         ensures stop { LeavesAsBefore S.Store self.old.conn self.new.conn }
         ensures failed { self.new.failed ≡ self.old.failed }
         ensures sound { WasClean S.Store self.old.conn self.new.conn }
+
+        ensures store { FailsForReason S.Store self.old self.new result }
+        ensures up { StaysUp S.Store self.old.conn self.new.conn }
     {
         let unfinished = self.count()?;
         let meta = read_counts(&mut self.conn)?;
@@ -203,7 +217,7 @@ impl<S: Alter> Opened<S> {
 
 impl<S: Alter> Book for TableBook<S> {
     ghost use Rattle.ledger.specs.Ledger.{history};
-    ghost use Rattle.saga_core.specs.Views.{ShowsCells, IsStock, first_owned};
+    ghost use Rattle.saga_core.specs.Views.{ShowsCells, IsStock, counts_of, first_owned, first_unfinished, record_of};
     ghost use Rattle.sql_reads.specs.Reading.{WasClean};
     ghost use Rattle.tables.specs.BookTerms.{FailsForReason, KeepsKnowing, LeavesNoMore, ShowsKept};
     ghost use Rattle.sqlite.specs.State.{HasCleanDisk};
@@ -230,7 +244,17 @@ impl<S: Alter> Book for TableBook<S> {
         }
     }
 
-    fn journey(&mut self, id: u64) -> Result<Option<Record>, Fault> {
+    fn journey(&mut self, id: u64) -> Result<Option<Record>, Fault>
+        ensures journey { ShowsKept S.Store self.old self.new (λ s found. found ≡ record_of s.ledger id) result }
+        ensures same { KeepsKnowing S.Store self.old self.new result }
+        ensures stop { HasCleanDisk (state S.Store self.new.conn) → LeavesNoMore S.Store self.old self.new }
+        ensures fails { IsErrOf result Fault.Store ↔ IsTrue self.new.failed }
+        ensures stays_failed { IsTrue self.old.failed → IsTrue self.new.failed }
+        ensures stays_left { IsTrue self.old.failed → LeavesNoMore S.Store self.old self.new }
+        ensures sound { WasClean S.Store self.old.conn self.new.conn }
+
+        ensures store { FailsForReason S.Store self.old self.new result }
+    {
         if self.failed {
             return Err(Fault::Store);
         }
@@ -268,7 +292,18 @@ impl<S: Alter> Book for TableBook<S> {
         }
     }
 
-    fn first_unfinished(&mut self, after: u64) -> Result<Option<Brief>, Fault> {
+    fn first_unfinished(&mut self, after: u64) -> Result<Option<Brief>, Fault>
+        ensures first { ShowsKept S.Store self.old self.new
+            (λ s found. found ≡ first_unfinished s.ledger after) result }
+        ensures same { KeepsKnowing S.Store self.old self.new result }
+        ensures stop { HasCleanDisk (state S.Store self.new.conn) → LeavesNoMore S.Store self.old self.new }
+        ensures fails { IsErrOf result Fault.Store ↔ IsTrue self.new.failed }
+        ensures stays_failed { IsTrue self.old.failed → IsTrue self.new.failed }
+        ensures stays_left { IsTrue self.old.failed → LeavesNoMore S.Store self.old self.new }
+        ensures sound { WasClean S.Store self.old.conn self.new.conn }
+
+        ensures store { FailsForReason S.Store self.old self.new result }
+    {
         if self.failed {
             return Err(Fault::Store);
         }
@@ -307,7 +342,17 @@ impl<S: Alter> Book for TableBook<S> {
         }
     }
 
-    fn counts(&mut self) -> Result<Counts, Fault> {
+    fn counts(&mut self) -> Result<Counts, Fault>
+        ensures counts { ShowsKept S.Store self.old self.new (λ s counts. counts ≡ counts_of s.ledger) result }
+        ensures same { KeepsKnowing S.Store self.old self.new result }
+        ensures stop { HasCleanDisk (state S.Store self.new.conn) → LeavesNoMore S.Store self.old self.new }
+        ensures fails { IsErrOf result Fault.Store ↔ IsTrue self.new.failed }
+        ensures stays_failed { IsTrue self.old.failed → IsTrue self.new.failed }
+        ensures stays_left { IsTrue self.old.failed → LeavesNoMore S.Store self.old self.new }
+        ensures sound { WasClean S.Store self.old.conn self.new.conn }
+
+        ensures store { FailsForReason S.Store self.old self.new result }
+    {
         if self.failed {
             return Err(Fault::Store);
         }

@@ -1,5 +1,7 @@
 //! How many journeys are unfinished: counted once, and from then on by what each new reply tells.
 ghost use Rattle.std.specs.Prelude.{◌≡◌, false, IfSome};
+ghost use Rattle.sql_model.specs.Staying.{StaysUp};
+ghost use Rattle.sql_reads.specs.Causes.{FailsForReason};
 ghost use Rattle.sql_reads.specs.Reading.{KeepsOn, LeavesAsBefore, ShowsKept, WasClean};
 ghost use Rattle.tables.specs.UnfinishedCount.{CountsOn, FollowsCount, unfinished_above};
 
@@ -52,6 +54,9 @@ pub(crate) fn count_unfinished<S: Alter>(conn: &mut Connection<S>, after: u64) -
     ensures same { KeepsOn S.Store conn.old conn.new }
     ensures stop { LeavesAsBefore S.Store conn.old conn.new }
     ensures less { WasClean S.Store conn.old conn.new }
+
+    ensures store { FailsForReason S.Store conn.old conn.new result }
+    ensures up { StaysUp S.Store conn.old conn.new }
 {
     let mut last = after;
     for count in 0..MOST_EVENTS + 1 {

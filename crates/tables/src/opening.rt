@@ -75,6 +75,8 @@ impl<S: Alter> Opened<S> {
 
 impl<S: Alter> Opened<S> {
     ghost use Rattle.std.specs.Borrow.{sem};
+    ghost use Rattle.sql_model.specs.Staying.{StaysUp};
+    ghost use Rattle.sql_reads.specs.Causes.{FailsForReasonIn};
     ghost use Rattle.sql_reads.specs.Reading.{IsRecordAt, KeepsEach, LeavesAsBefore, ShowsKeptIn};
     ghost use Rattle.tables.specs.Lending.{LendsConnection};
 
@@ -88,6 +90,10 @@ impl<S: Alter> Opened<S> {
             → self.new.conn.in_transaction ≡ false }
         ensures stop { LeavesAsBefore S.Store self.old.conn self.new.conn }
         ensures sound { WasClean S.Store self.old.conn self.new.conn }
+
+        ensures store { self.old.conn.in_transaction ≡ false
+            → FailsForReasonIn S.Store self.old.conn self.new.conn self.old.version result }
+        ensures up { StaysUp S.Store self.old.conn self.new.conn }
     {
         if !self.is_outside() {
             return Err(Fault::Store);

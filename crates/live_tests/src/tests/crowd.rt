@@ -7,6 +7,7 @@ use crate::tests::dice::Dice;
 use crate::tests::ends::{Notes, Pieces, Sink};
 use crate::tests::peers::Peer;
 use http_live::{Standing, Turn, Turns};
+use http_ways::Way;
 
 /// How many seats the peers share.
 const SHARED: u64 = 3;
@@ -77,7 +78,7 @@ impl<'a> Crowd<'a> {
             step: peer.write_step,
             dice: Dice::new(self.dice.roll(1_000_000)),
         };
-        Some(Turn::Comes(seat, peer.door, reader, writer))
+        Some(Turn::Comes(seat, peer.door, Way::Profile, reader, writer))
     }
 }
 

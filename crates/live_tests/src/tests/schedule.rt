@@ -5,6 +5,7 @@ use crate::tests::dice::Dice;
 use crate::tests::ends::{Notes, Pieces, Sink};
 use crate::tests::peers::Peer;
 use http_live::{Standing, Turn, Turns};
+use http_ways::Way;
 
 #[derive(Drop)]
 pub struct Schedule<'a> {
@@ -46,7 +47,7 @@ impl<'a> Turns for Schedule<'a> {
                 step: peer.write_step,
                 dice: Dice::new(self.dice.roll(1_000_000)),
             };
-            return Turn::Comes(seat, peer.door, reader, writer);
+            return Turn::Comes(seat, peer.door, Way::Profile, reader, writer);
         }
         if self.left == 0 {
             return Turn::End;

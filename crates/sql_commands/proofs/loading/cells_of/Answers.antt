@@ -1,5 +1,5 @@
 -- One more row is examined: its cell has its places, or it is the first row below what is held.
-use Rattle.std.proofs.Common.{◌≡◌, ◌+◌, ◌<◌, ◌++◌, ◌∷◌, [], ◌∙◌, Bool, true, if◌then◌else◌, take, length, refl, sym, ap, subst, arith}
+use Rattle.std.proofs.Common.{◌≡◌, ◌+◌, ◌<◌, ◌++◌, ◌∷◌, [], ◌∙◌, Bool, true, if◌then◌else◌, take, length, refl, sym, ap, subst, arith, rules}
 use Rattle.std.specs.Prelude.{is_ok, not}
 use Rattle.allotment.specs.declared.cells.Cell.{Cell}
 use Rattle.ledger.specs.Ledger.{is_not_below_held}
@@ -8,6 +8,9 @@ use Rattle.sql_writes.proofs.LoadLemmas.{take-more}
 use Rattle.sql_commands.specs.Loading.{GetsPlaces, HasLooked}
 use Rattle.sql_reads.specs.Reading.{OnlyReads}
 use Rattle.sql_commands.proofs.LoadRows.{first_below, looked_more}
+use Rattle.std.specs.Prelude.{Err}
+use Rattle.commands.specs.declared.faults.Fault.TheVariants.{Store}
+use Rattle.sql_model.proofs.Staying.{fails_twice, stays_twice}
 use Rattle.sql_commands.proofs.loading.cells_of.Goals as goal
 
 pub returns-in_default-clause-cells : goal.returns-in_default-clause-cells
@@ -46,4 +49,21 @@ loop-place-preserved g c =
           (sym (take-more rows n row within c.index-rows-place.is))
           (looked_more g.S.Store old c.loop-place.conn new (take n rows) cells c.loop-place.invariant.looked reads row p
           (λ clean s desk keeps. subst (GetsPlaces row s) c.in-Some.is (c.in_ok-places.ensures.places clean s desk keeps))));
+      up = stays_twice g.S.Store old c.loop-place.conn new c.loop-place.invariant.up c.read_places.ensures.up c.read_places.ensures.less;
     }
+
+-- the read of one more failed
+pub returns-in_err-places-clause-store : goal.returns-in_err-places-clause-store
+returns-in_err-places-clause-store g c clean s desk spelled keeps up store =
+    let at = c.loop-place.invariant in
+    let failed : c.read_places.result ≡ Err Store = search rules in
+    fails_twice g.S.Store c.args.conn.now c.loop-place.conn c.read_places.new.conn at.up c.read_places.ensures.up c.read_places.ensures.less clean up
+    (λ still. c.read_places.ensures.store clean s desk spelled (at.looked.reads.keeps Two s keeps) still failed)
+
+pub returns-in_err-places-clause-up : goal.returns-in_err-places-clause-up
+returns-in_err-places-clause-up g c =
+    stays_twice g.S.Store c.args.conn.now c.loop-place.conn c.read_places.new.conn c.loop-place.invariant.up c.read_places.ensures.up c.read_places.ensures.less
+
+pub returns-in_default-clause-up : goal.returns-in_default-clause-up
+returns-in_default-clause-up g c =
+    stays_twice g.S.Store c.args.conn.now c.loop-place.conn c.read_places.new.conn c.loop-place.invariant.up c.read_places.ensures.up c.read_places.ensures.less

@@ -1,6 +1,10 @@
 -- The outcome that the rows of a step give is the answer of the rules.
 use Rattle.std.proofs.Common.{◌≡◌, rules, arith}
+use Rattle.std.specs.Prelude.{Err}
+use Rattle.commands.specs.declared.faults.Fault.TheVariants.{Store}
+use Rattle.sql_model.proofs.Staying.{fails_twice, stays_twice}
 use Rattle.sql_commands.proofs.ComingLemmas.{up_comes, down_comes, refused_comes}
+use Rattle.sql_commands.proofs.Reasons.{has_step, takes_last}
 use Rattle.sql_commands.proofs.step_outcome.find_coming.Goals as goal
 
 pub returns-then-fitting-clause-comes : goal.returns-then-fitting-clause-comes
@@ -28,3 +32,36 @@ returns-else-fitting-clause-comes g c clean s desk keeps who r is same =
     refused_comes s desk who c.args.id r is stand same c.in_ok-choice-in-Run.choice (c.requires.placed.short (search rules))
     (c.in_ok-choice-in-Run.ensures.next clean1 s desk keeps)
     ((rw c.if-fitting.false at c.in_ok-fitting-in-Run.ensures.fits) clean s desk keeps1)
+
+-- Store only for a reason: the next step has its rows, and so has the last one that stands.
+
+pub returns-in_err-choice-in-Run-clause-store : goal.returns-in_err-choice-in-Run-clause-store
+returns-in_err-choice-in-Run-clause-store g c clean s desk spelled keeps has up store =
+    let failed : c.next_choice.result ≡ Err Store = search rules in
+    c.next_choice.ensures.store clean s desk spelled keeps (has_step s c.args.id c.args.stand.now has (c.requires.placed.short (search rules))) up failed
+
+pub returns-in_err-fitting-in-Run-clause-store : goal.returns-in_err-fitting-in-Run-clause-store
+returns-in_err-fitting-in-Run-clause-store g c clean s desk spelled keeps has up store =
+    let failed : c.fits_nights.result ≡ Err Store = search rules in
+    fails_twice g.S.Store c.args.conn.now c.next_choice.new.conn c.fits_nights.new.conn c.next_choice.ensures.up c.fits_nights.ensures.up c.fits_nights.ensures.less clean up
+    (λ still. c.fits_nights.ensures.store clean s desk spelled (c.next_choice.ensures.same s keeps) still failed)
+
+pub returns-in_err-choice-in-Back-clause-store : goal.returns-in_err-choice-in-Back-clause-store
+returns-in_err-choice-in-Back-clause-store g c clean s desk spelled keeps has up store =
+    let failed : c.last_choice.result ≡ Err Store = search rules in
+    let above = c.requires.placed.above c.in-Back.field-0 c.in-Back.is in
+    c.last_choice.ensures.store clean s desk spelled keeps (takes_last s desk c.args.id c.args.stand.now has (omega (arith, above))) up failed
+
+-- The store stays up.
+
+pub returns-in_err-fitting-in-Run-clause-up : goal.returns-in_err-fitting-in-Run-clause-up
+returns-in_err-fitting-in-Run-clause-up g c =
+    stays_twice g.S.Store c.args.conn.now c.next_choice.new.conn c.fits_nights.new.conn c.next_choice.ensures.up c.fits_nights.ensures.up c.fits_nights.ensures.less
+
+pub returns-then-fitting-clause-up : goal.returns-then-fitting-clause-up
+returns-then-fitting-clause-up g c =
+    stays_twice g.S.Store c.args.conn.now c.next_choice.new.conn c.fits_nights.new.conn c.next_choice.ensures.up c.fits_nights.ensures.up c.fits_nights.ensures.less
+
+pub returns-else-fitting-clause-up : goal.returns-else-fitting-clause-up
+returns-else-fitting-clause-up g c =
+    stays_twice g.S.Store c.args.conn.now c.next_choice.new.conn c.fits_nights.new.conn c.next_choice.ensures.up c.fits_nights.ensures.up c.fits_nights.ensures.less

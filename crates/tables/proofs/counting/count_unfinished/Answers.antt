@@ -1,9 +1,12 @@
 -- One more journey is counted, or none is left.
-use Rattle.std.proofs.Common.{◌≡◌, ◌+◌, ◌∙◌, sym, ap, suc, arith}
-use Rattle.std.specs.Prelude.{Some, None}
+use Rattle.std.proofs.Common.{◌≡◌, ◌+◌, ◌∙◌, sym, ap, suc, arith, rules}
+use Rattle.std.specs.Prelude.{Some, None, Err}
+use Rattle.commands.specs.declared.faults.Fault.TheVariants.{Store}
 use Rattle.saga_core.specs.Views.{first_unfinished}
 use Rattle.tables.specs.UnfinishedCount.{unfinished_above}
-use Rattle.tables.proofs.WalkLemmas.{none_left, one_counted}
+use Rattle.sql_model.proofs.Staying.{fails_twice, stays_twice}
+use Rattle.tables.proofs.LookLemmas.{stays_alone}
+use Rattle.tables.proofs.WalkLemmas.{few_unfinished, none_left, one_counted}
 use Rattle.tables.proofs.counting.count_unfinished.Goals as goal
 
 -- none was counted
@@ -13,6 +16,7 @@ loop-count-init g c = record {
   keeps = λ s keeps. keeps;
   stop = λ clean db may. may;
   less = λ clean. clean;
+  up = stays_alone g.S.Store c.args.conn.now;
   so_far = λ clean s desk keeps. omega arith;
 }
 
@@ -36,6 +40,7 @@ loop-count-preserved g c =
       keeps = λ s keeps. read.same s (at.keeps s keeps);
       stop = λ clean db may. at.stop (read.less clean) db (read.stop clean db may);
       less = λ clean. at.less (read.less clean);
+      up = stays_twice g.S.Store c.args.conn.now c.loop-count.conn c.read_first_unfinished.new.conn at.up read.up read.less;
       so_far = λ clean s desk keeps.
           let so_far = at.so_far (read.less clean) s desk keeps in
           let next : Some c.in-Some.brief ≡ first_unfinished s.ledger c.loop-count.last =
@@ -43,3 +48,22 @@ loop-count-preserved g c =
           let one = one_counted s.ledger c.loop-count.last c.in-Some.brief next in
           omega (arith, so_far, one);
     }
+
+-- Store only for a reason.
+
+-- the read of one more failed
+pub returns-in_err-brief-clause-store : goal.returns-in_err-brief-clause-store
+returns-in_err-brief-clause-store g c clean s desk spelled keeps up store =
+    let at = c.loop-count.invariant in
+    let read = c.read_first_unfinished.ensures in
+    let failed : c.read_first_unfinished.result ≡ Err Store = search rules in
+    fails_twice g.S.Store c.args.conn.now c.loop-count.conn c.read_first_unfinished.new.conn at.up read.up read.less clean up
+    (λ still. read.store clean s desk spelled (at.keeps s keeps) still failed)
+
+-- no ledger has so many journeys
+pub returns-clause-store : goal.returns-clause-store
+returns-clause-store g c clean s desk spelled keeps up store =
+    let at = c.loop-count.invariant in
+    let so_far = at.so_far clean s desk keeps in
+    let few = few_unfinished s.ledger c.args.after in
+    absurd (omega (arith, so_far, few, spelled.few))

@@ -1,7 +1,7 @@
 -- The first message was taken, or not.
 use Rattle.std.proofs.Math.Logic.{∥∥₁_map}
 use Rattle.http_conversations.specs.Talks.{history_of}
-use Rattle.http_conversations.proofs.Steps.{takes, takes_at_most_one, takes_door, takes_fault, takes_one, takes_passes, takes_stopping, takes_within}
+use Rattle.http_conversations.proofs.Steps.{takes, takes_at_most_one, takes_door, takes_fault, takes_one, takes_passes, takes_stopping, takes_way, takes_within}
 use Rattle.http_conversations.proofs.conversation.Conversation.answer.Goals as goal
 
 pub invariant_of-self : goal.invariant_of-self
@@ -32,6 +32,10 @@ returns-clause-fault g c =
 pub returns-clause-door : goal.returns-clause-door
 returns-clause-door g c =
     takes_door c.answer.result (history_of c.args.self.now.talk) (history_of c.answer.new.self) c.answer.ensures.takes
+
+pub returns-clause-way : goal.returns-clause-way
+returns-clause-way g c =
+    takes_way c.answer.result (history_of c.args.self.now.talk) (history_of c.answer.new.self) c.answer.ensures.takes
 
 pub returns-clause-stopping : goal.returns-clause-stopping
 returns-clause-stopping g c =

@@ -9,22 +9,22 @@ pub returns-in-Ok-clause-goes_on : goal.returns-in-Ok-clause-goes_on
 returns-in-Ok-clause-goes_on g c =
     let book = g.B.Book in
     let first = c.requires.first in
-    let new = c.answer_to.new.book in
+    let new = c.answer_by.new.book in
     got (book.is_sound new) (book.stands c.args.book.now) (book.stands new) (book.leaves new)
-    (history_of c.args.self.now) (history_of c.keep.new.self) c.args.count first.message first.is_message
+    (history_of c.args.self.now) (history_of c.keep.new.self) c.args.count first.said first.says
     c.in-Ok.answer.bytes.items c.in-Ok.answer.closes c.in-Ok.answer.stops c.keep.ensures.answered
-    (λ sound s stood. let came = c.in-Ok.ensures.answer sound s stood first.message first.is_taken in (came.0.0, came.1))
+    (λ sound s stood. let came = c.in-Ok.ensures.answer sound s stood first.said first.is_read in (came.0.0, came.1))
 
 pub returns-in-Err-clause-goes_on : goal.returns-in-Err-clause-goes_on
 returns-in-Err-clause-goes_on g c =
     let book = g.B.Book in
     let first = c.requires.first in
-    let new = c.answer_to.new.book in
+    let new = c.answer_by.new.book in
     let h = history_of c.args.self.now in
     let k = history_of c.lose.new.self in
     subst (λ fault. GoesOn (book.is_sound new) (book.stands c.args.book.now) (book.stands new) (book.leaves new)
     (has_broken {T = Bool} (Err fault)) h.exchanges k.exchanges)
     (sym c.fault_of.ensures.fault)
     (failed (book.is_sound new) (book.stands c.args.book.now) (book.stands new) (book.leaves new)
-    h k c.args.count first.message first.is_message c.in-Err.fault c.lose.ensures.lost
-    (λ sound s stood. c.in-Err.ensures.answer sound s stood first.message first.is_taken))
+    h k c.args.count first.said first.says c.in-Err.fault c.lose.ensures.lost
+    (λ sound s stood. c.in-Err.ensures.answer sound s stood first.said first.is_read))

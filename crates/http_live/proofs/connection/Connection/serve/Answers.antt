@@ -11,7 +11,7 @@ use Rattle.http_live.proofs.connection.Connection.serve.Goals as goal
 pub returns-in-Ok-false-clause-rests : goal.returns-in-Ok-false-clause-rests
 returns-in-Ok-false-clause-rests g c =
     let none = c.in-Ok-false.ensures.none (ap Ok c.in-Ok-false.field-0-test) in
-    c.pull.ensures.rests
+    c.go_on.ensures.rests
     (used_up (history c.args.self.now.conversation) (history c.answer.new.self.conversation) c.wants_write.result
     c.wants_write.ensures.pending.1 c.if-wants_write.false none.0 none.1)
 
@@ -33,5 +33,5 @@ returns-in-Ok-true-clause-stopping g c =
 pub returns-in-Ok-false-clause-stopping : goal.returns-in-Ok-false-clause-stopping
 returns-in-Ok-false-clause-stopping g c =
     let none = c.in-Ok-false.ensures.none (ap Ok c.in-Ok-false.field-0-test) in
-    none_stops (is_stop c.pull.result) (exchanges_with c.args.self.now) (exchanges_with c.pull.new.self)
-    c.pull.ensures.unstopped (c.pull.ensures.kept ∙ ap (λ (h : History). h.exchanges) none.1)
+    none_stops (is_stop c.go_on.result) (exchanges_with c.args.self.now) (exchanges_with c.go_on.new.self)
+    c.go_on.ensures.unstopped (c.go_on.ensures.kept ∙ ap (λ (h : History). h.exchanges) none.1)

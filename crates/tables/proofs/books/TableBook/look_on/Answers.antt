@@ -1,4 +1,4 @@
-use Rattle.std.proofs.Common.{sym, ap, subst, ◌∙◌, rules}
+use Rattle.std.proofs.Common.{◌≡◌, sym, ap, subst, ◌∙◌, rules}
 use Rattle.std.specs.Prelude.{Err}
 use Rattle.sqlite.specs.Held.{state}
 use Rattle.sqlite.specs.State.{HasCleanDisk}
@@ -6,6 +6,9 @@ use Rattle.sql_model.specs.Keeping.{Keeps}
 use Rattle.tables.specs.FinishedJourneys.{AreFinishedTo}
 use Rattle.tables.proofs.FinishedLemmas.{finished-found, finished-all}
 use Rattle.tables.proofs.LookLemmas.{still_stands, uncounted}
+use Rattle.commands.specs.declared.faults.Fault.TheVariants.{Store}
+use Rattle.sql_model.specs.Staying.{StaysUp}
+use Rattle.sql_model.proofs.Staying.{fails_twice, stays_twice}
 use Rattle.tables.proofs.books.TableBook.look_on.Goals as goal
 use Rattle.tables.proofs.books.TableBook.look_on.Goals.{in-Some, in-None+in_ok-self-in-None}
 
@@ -64,3 +67,37 @@ pub returns-in_err-found-clause-same : goal.returns-in_err-found-clause-same
 returns-in_err-found-clause-same g c clean =
     still_stands c.args.self.now.failed c.args.self.now.finished c.args.self.now.unfinished (state g.S.Store c.args.self.now.conn)
     (state g.S.Store c.read_first_unfinished.new.conn) c.read_first_unfinished.ensures.same c.from_residual.result
+
+-- Store only for a reason: the search failed, or the read of the counts after it.
+
+pub returns-in_err-found-clause-store : goal.returns-in_err-found-clause-store
+returns-in_err-found-clause-store g c clean s here spelled up store =
+    let failed : c.read_first_unfinished.result ≡ Err Store = search rules in
+    c.read_first_unfinished.ensures.store clean s here.desk spelled here.keeps up failed
+
+pub returns-in_err-self-in-None-clause-store : goal.returns-in_err-self-in-None-clause-store
+returns-in_err-self-in-None-clause-store g c clean s here spelled up store =
+    let old = c.args.self.now.conn in
+    let mid = c.read_first_unfinished.new.conn in
+    let failed : c.read_counts.result ≡ Err Store = search rules in
+    fails_twice g.S.Store old mid c.read_counts.new.conn c.read_first_unfinished.ensures.up c.read_counts.ensures.up c.read_counts.ensures.sound clean up
+    (λ still. c.read_counts.ensures.store clean s here.desk spelled (c.read_first_unfinished.ensures.same s here.keeps) still failed)
+
+-- The store stays up.
+
+pub returns-in_err-self-in-None-clause-up : goal.returns-in_err-self-in-None-clause-up
+returns-in_err-self-in-None-clause-up g c =
+    stays_twice g.S.Store c.args.self.now.conn c.read_first_unfinished.new.conn c.read_counts.new.conn
+    c.read_first_unfinished.ensures.up c.read_counts.ensures.up c.read_counts.ensures.sound
+
+pub returns-clause-up : goal.returns-clause-up
+returns-clause-up g c = elim c.match-found.branch [
+  | in-Some w ↦
+      let there = ap (λ p. p.1.0) w.self-is in
+      subst (λ h. StaysUp g.S.Store c.args.self.now.conn h) (sym there) c.read_first_unfinished.ensures.up
+  | in-None+in_ok-self-in-None w ↦
+      let there = ap (λ p. p.1.0) w.self-is in
+      subst (λ h. StaysUp g.S.Store c.args.self.now.conn h) (sym there)
+      (stays_twice g.S.Store c.args.self.now.conn c.read_first_unfinished.new.conn w.read_counts.new.conn
+      c.read_first_unfinished.ensures.up w.read_counts.ensures.up w.read_counts.ensures.sound)
+]

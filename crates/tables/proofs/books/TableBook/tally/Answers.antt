@@ -1,10 +1,12 @@
 -- The unfinished journeys were counted, and the other numbers could not be read.
-use Rattle.std.proofs.Common.{ap, rules}
+use Rattle.std.proofs.Common.{◌≡◌, ap, rules}
 use Rattle.std.specs.Prelude.{Err}
 use Rattle.sqlite.specs.Held.{state}
 use Rattle.sqlite.specs.State.{HasCleanDisk}
 use Rattle.tables.specs.BookTerms.{StandsBook}
 use Rattle.tables.proofs.LookLemmas.{untold}
+use Rattle.commands.specs.declared.faults.Fault.TheVariants.{Store}
+use Rattle.sql_model.proofs.Staying.{fails_twice, stays_twice}
 use Rattle.tables.proofs.books.TableBook.tally.Goals as goal
 
 pub returns-in_err-meta-clause-same : goal.returns-in_err-meta-clause-same
@@ -17,3 +19,24 @@ returns-in_err-meta-clause-same g c clean =
     (λ s here. c.in_ok-unfinished.ensures.same at_mid s here)
     (λ s keeps is. c.in_err-meta.ensures.memory s keeps (ap Err is))
     _ (search rules)
+
+-- the counts could not be read after the unfinished journeys were counted
+pub returns-in_err-meta-clause-store : goal.returns-in_err-meta-clause-store
+returns-in_err-meta-clause-store g c clean s here spelled up store =
+    let old = c.args.self.now.conn in
+    let mid = c.count.new.self.conn in
+    let at_mid : HasCleanDisk (state g.S.Store mid) = c.read_counts.ensures.sound clean in
+    let now = c.in_ok-unfinished.ensures.same at_mid s here in
+    let failed : c.read_counts.result ≡ Err Store = search rules in
+    fails_twice g.S.Store old mid c.read_counts.new.conn c.count.ensures.up c.read_counts.ensures.up c.read_counts.ensures.sound clean up
+    (λ still. c.read_counts.ensures.store clean s now.desk spelled now.keeps still failed)
+
+pub returns-in_err-meta-clause-up : goal.returns-in_err-meta-clause-up
+returns-in_err-meta-clause-up g c =
+    stays_twice g.S.Store c.args.self.now.conn c.count.new.self.conn c.read_counts.new.conn
+    c.count.ensures.up c.read_counts.ensures.up c.read_counts.ensures.sound
+
+pub returns-clause-up : goal.returns-clause-up
+returns-clause-up g c =
+    stays_twice g.S.Store c.args.self.now.conn c.count.new.self.conn c.read_counts.new.conn
+    c.count.ensures.up c.read_counts.ensures.up c.read_counts.ensures.sound

@@ -1,0 +1,4 @@
+pub mod Ways
+pub mod Reading
+pub mod Pages
+pub mod Laws

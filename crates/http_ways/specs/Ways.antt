@@ -1,0 +1,71 @@
+-- What bytes say by a way: the message of the profile that is meant, and how its page is laid out.
+use Rattle.std.specs.Prelude.{◌≡◌, ◌⊎◌, ◌≤◌, ◌<◌, ℕ, List, ◌++◌, length}
+use Rattle.httparse.specs.Grammar.{RequestHead}
+use Rattle.http_messages.specs.Heads.{parts_of}
+use Rattle.http_messages.specs.Messages as sent
+use Rattle.http_messages.specs.Messages.{HasNoMessage, IsMessage}
+use Rattle.http_wide.specs.Framing.{asked_kind}
+use Rattle.http_wide.specs.Wide as wide
+use Rattle.http_wide.specs.Wide.{BeginsWith, Wide}
+use Rattle.http_wide.specs.declared.denials.Denial.{Denial}
+use Rattle.http_wide.specs.declared.denials.Denial.TheVariants.{TooLarge}
+use Rattle.http_wide_messages.specs.Messages.{IsOpen, IsWideMessage, rest_of}
+use Rattle.http_wide_messages.specs.Plain.{plain_parts}
+use Rattle.http_wide_messages.specs.declared.messages.WideMessage.TheVariants as taken
+use Rattle.http_ways.specs.declared.reading.TheConstants.{MOST_TEXT}
+use Rattle.http_ways.specs.declared.ways.Layout.{Layout}
+use Rattle.http_ways.specs.declared.ways.Layout.TheVariants as layout
+use Rattle.http_ways.specs.declared.ways.Way.{Way}
+use Rattle.http_ways.specs.declared.ways.Way.TheVariants as way
+
+-- the message of the profile that is meant, and how its page is laid out
+pub record Said : Type 0 where
+  pub meant : sent.Message
+  pub layout : Layout
+
+-- the message is not read, and its page is laid out so
+abbrev pub unread : Layout → Said
+unread l = record { meant = sent.NoHead; layout = l }
+
+-- the message of the profile asks what this head asks with this body
+pub record IsMeantBy (h : RequestHead) (body : List ℕ) (x : Said) : Type 0 where
+  pub plain : RequestHead
+  pub parts : parts_of plain ≡ plain_parts (parts_of h) body
+  pub meant : x.meant ≡ sent.Asks plain body
+  pub layout : x.layout ≡ layout.Wide (asked_kind h.method)
+
+-- a message that is not read gets the page of its status
+abbrev pub IsDeniedFor : List ℕ → Wide → Said → Type 0
+IsDeniedFor bytes w x = (why : Denial) × IsWideMessage bytes (taken.Denied why) w × (x ≡ unread (layout.Denied why))
+
+-- what is meant by a wide message
+abbrev pub Means : List ℕ → Wide → Said → Type 0
+Means bytes wide.NoMethod x = x ≡ unread layout.Nothing
+Means bytes wide.NoHead x = IsDeniedFor bytes wide.NoHead x
+Means bytes (wide.Unread h why) x = IsDeniedFor bytes (wide.Unread h why) x
+Means bytes (wide.BadBody h) x = IsDeniedFor bytes (wide.BadBody h) x
+Means bytes (wide.Asks h body) x = IsMeantBy h body x
+
+-- these bytes are this message, whatever follows them
+abbrev pub IsWideText : List ℕ → Wide → Type 0
+IsWideText bytes w = (more : List ℕ) → BeginsWith (bytes ++ more) w (rest_of w more)
+
+-- these bytes are a message, of which this is meant
+abbrev pub IsSaidWidely : List ℕ → Said → Type 0
+IsSaidWidely bytes x = (w : Wide) × IsWideText bytes w × Means bytes w x
+
+-- as many bytes as a message may have, and no message is whole
+pub record IsTooLong (bytes : List ℕ) (x : Said) : Type 0 where
+  pub none : IsOpen bytes
+  pub long : MOST_TEXT ≤ length bytes
+  pub denied : x ≡ unread (layout.Denied TooLarge)
+
+-- these bytes say this by a way
+abbrev pub Says : Way → List ℕ → Said → Type 0
+Says way.Profile bytes x = IsMessage bytes x.meant × (x.layout ≡ layout.Profile)
+Says way.Wide bytes x = IsSaidWidely bytes x ⊎ IsTooLong bytes x
+
+-- the bytes begin with no whole message; by the wide way they are fewer than a message may have
+abbrev pub SaysNothing : Way → List ℕ → Type 0
+SaysNothing way.Profile bytes = HasNoMessage bytes
+SaysNothing way.Wide bytes = IsOpen bytes × (length bytes < MOST_TEXT)

@@ -1,0 +1,28 @@
+//! The law of what is said by the wide way. A call does nothing at run time.
+ghost use Rattle.std.specs.Prelude.{◌≡◌, ◌++◌, ◌∷◌, [], ℕ, List};
+ghost use Rattle.http_messages.specs.Examples.{get_bytes};
+ghost use Rattle.http_wide.specs.Examples.{post_bytes, post_page, text_of_get};
+ghost use Rattle.http_wide.specs.Wide.{Asks, Wide, WideMessages};
+ghost use Rattle.http_ways.specs.Laws.{SaidIsFirst};
+
+use http_wide::request_in_a_body;
+
+/// What bytes say is the first wide message of each stream that begins with them, and after it come the messages of what
+/// follows them. So the messages that a conversation answered are the first wide messages of what it received.
+pub fn said_is_first()
+    ensures law { SaidIsFirst }
+{}
+
+/// The law used on a POST whose one chunk is a whole request: it is the first message, and the next one is looked for after
+/// it.
+///
+/// The proof applies the law to this request. A law with one more premise, which it does not meet, is refused here.
+pub fn post_is_first()
+    ensures first { (more : List ℕ) (m : Wide) (later : List Wide) →
+        WideMessages ((post_bytes ++ text_of_get) ++ more) (m ∷ later) → m ≡ Asks post_page get_bytes }
+    ensures passed { (more : List ℕ) (m : Wide) (later : List Wide) →
+        WideMessages ((post_bytes ++ text_of_get) ++ more) (m ∷ later) → WideMessages more later }
+{
+    request_in_a_body();
+    said_is_first();
+}

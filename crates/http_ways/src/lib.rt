@@ -1,0 +1,23 @@
+//! The two ways in which messages are read and pages are laid out: the desk's profile, and HTTP as libraries, proxies and
+//! pools speak it.
+//!
+//! `first_by` reads the first message of bytes by a way, `answer_by` answers it, and `go_on_by` says when `100 Continue` is
+//! sent. By the profile they do what `first_message` and `answer_to` do. By the wide way a message is answered as the one of
+//! the profile that has its meaning, and its page has the lines for caches.
+//!
+//! Words: a message is *meant* as the one of the profile that is carried out for it; its *layout* is how the page of that
+//! one is shown.
+#![tactic(auto)]
+
+mod answering;
+mod going_on;
+mod laws;
+mod reading;
+mod showing;
+mod ways;
+
+pub use answering::answer_by;
+pub use going_on::{go_on_by, go_on_text};
+pub use laws::{post_is_first, said_is_first};
+pub use reading::{MOST_TEXT, first_by};
+pub use ways::{Arrived, Layout, Way};

@@ -1,0 +1,2 @@
+pub mod HandedCells
+pub mod HandedBriefs

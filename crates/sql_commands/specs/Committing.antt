@@ -1,0 +1,53 @@
+-- Why an event is not committed with its reply, and what it leaves of the rowids that the store may choose.
+use Rattle.std.specs.Prelude.{◌⊎◌, ◌+◌, ℕ, suc, Option, Some, None, Result, IsErrOf, IsTrue}
+use Rattle.sqlite.specs.Store.{Ghosts}
+use Rattle.sqlite.specs.Held.{Held, state}
+use Rattle.sqlite.specs.State.{HasCleanDisk}
+use Rattle.commands.specs.Asks.{Asked}
+use Rattle.commands.specs.declared.faults.Fault.{Fault}
+use Rattle.commands.specs.declared.faults.Fault.TheVariants.{Store}
+use Rattle.commands.specs.declared.replies.Reply.{Reply}
+use Rattle.desk_sql.specs.Causes.{IsUp, HasFaulted}
+use Rattle.desk_sql.specs.Rows.{Tables}
+use Rattle.desk_sql.specs.Writable.{HasRowids, MayKeep}
+use Rattle.ledger.specs.Answer.{State}
+use Rattle.sql_model.specs.Beginning.{answer_row_of, with_answer}
+use Rattle.sql_model.specs.Keeping.{Keeps}
+use Rattle.sql_model.specs.Standing.{StandsFor}
+use Rattle.sql_writes.specs.Commits.{RanOut}
+use Rattle.sql_writes.specs.Kinds.{Fits, rows_after}
+use Rattle.sql_writes.specs.Permits.{Permits, rowids_of}
+use Rattle.sql_writes.specs.declared.events.Numbers.{Numbers}
+use Rattle.sql_writes.specs.declared.events.Event.{Event}
+
+-- the rows permit an event, and its reply if there is an ask
+abbrev pub PermitsAnswer : Numbers → Event → Option Asked → Reply → Tables → Type 0
+PermitsAnswer n e None reply t = Permits n e t
+PermitsAnswer n e (Some ask) reply t = Permits n e t × MayKeep (answer_row_of ask reply) t
+
+-- how many rowids the store chooses for them
+abbrev pub answer_rowids : Numbers → Event → Option Asked → ℕ
+answer_rowids n e None = rowids_of n e
+answer_rowids n e (Some ask) = suc (rowids_of n e)
+
+-- the tables with their rows
+abbrev pub answer_rows : Numbers → Event → Option Asked → Reply → Tables → Tables
+answer_rows n e ask reply t = with_answer ask reply (rows_after n e t)
+
+module _ {S : Type 0} (g : Ghosts S) (old new : Held S) where
+  -- On a state that is kept, in a store that is up: where the rows permit the event and its reply, and enough rowids are
+  -- left, a fault of the store says that its disk failed or refused meanwhile, or that the commit ran out of memory.
+  abbrev pub FailsToCommit : Numbers → Event → Option Asked → Reply → {V : Type 0} → Result V Fault → Type 0
+  FailsToCommit n e ask reply result =
+      HasCleanDisk (state g new) → (s : State) → Keeps (state g old) s
+      → ((t : Tables) → StandsFor t s → PermitsAnswer n e ask reply t)
+      → HasRowids (answer_rowids n e ask) (state g old).now.trees → IsUp (state g old)
+      → IsErrOf result Store → HasFaulted (state g old) (state g new) ⊎ RanOut g old new s (answer_rows n e ask reply)
+
+  -- they take at most their rowids, whether they are committed or not
+  abbrev pub LeavesRowids : Numbers → Event → Option Asked → Type 0
+  LeavesRowids n e ask =
+      HasCleanDisk (state g new) → (s : State) → Keeps (state g old) s
+      → ((t : Tables) → StandsFor t s → Fits n e t)
+      → (m : ℕ) → HasRowids (answer_rowids n e ask + m) (state g old).now.trees
+      → IsTrue (state g new).is_open → HasRowids m (state g new).now.trees

@@ -1,0 +1,4 @@
+pub mod ListMeanings
+pub mod CellAnswers
+pub mod JourneyAnswers
+pub mod Handed

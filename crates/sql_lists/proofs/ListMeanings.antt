@@ -1,0 +1,69 @@
+-- Each text means under the desk's schema what the definitions say, and takes its parameters. For the statements.
+use Rattle.std.proofs.Common.{ℕ, List, [], ◌∷◌, Bool, true, false, Option, None, Some, refl}
+use Rattle.std.specs.Prelude.{is_some}
+use Rattle.sqlite.specs.declared.types.Value.TheVariants.{Text}
+use Rattle.sqlite.specs.Listing.{understood}
+use Rattle.sqlite_tied.specs.Compute.{everything}
+use Rattle.desk_sql.specs.declared.versions.Version.{Version}
+use Rattle.desk_sql.specs.declared.versions.Version.TheVariants.{One, Two}
+use Rattle.desk_sql.specs.Meanings.{find_stock_names, journey_names}
+use Rattle.desk_sql.specs.Rows.{whole}
+use Rattle.desk_sql.proofs.Causing.{Takes}
+use Rattle.desk_sql.proofs.Meaning.{MeansEach}
+use Rattle.sql_lists.specs.CellLists.{cells_query, cells_text}
+use Rattle.sql_lists.specs.JourneyLists.{journeys_query, journeys_text}
+
+pub cells_means : (s p : Bool) → MeansEach (cells_text s p) (cells_query s p) find_stock_names
+unfolding understood everything
+cells_means false false One = record { is = refl; plain = (refl, refl); unlisted = refl; selects = refl }
+cells_means false false Two = record { is = refl; plain = (refl, refl); unlisted = refl; selects = refl }
+cells_means true false One = record { is = refl; plain = (refl, refl); unlisted = refl; selects = refl }
+cells_means true false Two = record { is = refl; plain = (refl, refl); unlisted = refl; selects = refl }
+cells_means false true One = record { is = refl; plain = (refl, refl); unlisted = refl; selects = refl }
+cells_means false true Two = record { is = refl; plain = (refl, refl); unlisted = refl; selects = refl }
+cells_means true true One = record { is = refl; plain = (refl, refl); unlisted = refl; selects = refl }
+cells_means true true Two = record { is = refl; plain = (refl, refl); unlisted = refl; selects = refl }
+
+module _ (kind first last : ℕ) where
+  pub any_takes : (v : Version) → Takes v (cells_text false false) (cells_query false false) (whole kind ∷ whole first ∷ whole last ∷ [])
+  unfolding understood everything
+  any_takes One = record { whole = refl; typed = refl }
+  any_takes Two = record { whole = refl; typed = refl }
+
+  pub supplier_takes : (supplier : List ℕ) (v : Version)
+      → Takes v (cells_text true false) (cells_query true false) (whole kind ∷ Text supplier ∷ whole first ∷ whole last ∷ [])
+  unfolding understood everything
+  supplier_takes supplier One = record { whole = refl; typed = refl }
+  supplier_takes supplier Two = record { whole = refl; typed = refl }
+
+  pub product_takes : (product : List ℕ) (v : Version)
+      → Takes v (cells_text false true) (cells_query false true) (whole kind ∷ Text product ∷ whole first ∷ whole last ∷ [])
+  unfolding understood everything
+  product_takes product One = record { whole = refl; typed = refl }
+  product_takes product Two = record { whole = refl; typed = refl }
+
+  pub both_take : (supplier product : List ℕ) (v : Version)
+      → Takes v (cells_text true true) (cells_query true true)
+      (whole kind ∷ Text supplier ∷ Text product ∷ whole first ∷ whole last ∷ [])
+  unfolding understood everything
+  both_take supplier product One = record { whole = refl; typed = refl }
+  both_take supplier product Two = record { whole = refl; typed = refl }
+
+pub journeys_means : (agent : Bool) → MeansEach (journeys_text agent) (journeys_query agent) journey_names
+unfolding understood everything
+journeys_means false One = record { is = refl; plain = (refl, refl); unlisted = refl; selects = refl }
+journeys_means false Two = record { is = refl; plain = (refl, refl); unlisted = refl; selects = refl }
+journeys_means true One = record { is = refl; plain = (refl, refl); unlisted = refl; selects = refl }
+journeys_means true Two = record { is = refl; plain = (refl, refl); unlisted = refl; selects = refl }
+
+module _ (least most : ℕ) where
+  pub all_take : (v : Version) → Takes v (journeys_text false) (journeys_query false) (whole least ∷ whole most ∷ [])
+  unfolding understood everything
+  all_take One = record { whole = refl; typed = refl }
+  all_take Two = record { whole = refl; typed = refl }
+
+  pub agent_takes : (agent : List ℕ) (v : Version)
+      → Takes v (journeys_text true) (journeys_query true) (Text agent ∷ whole least ∷ whole most ∷ [])
+  unfolding understood everything
+  agent_takes agent One = record { whole = refl; typed = refl }
+  agent_takes agent Two = record { whole = refl; typed = refl }

@@ -1,0 +1,33 @@
+-- The tables of a file of schema 1, which migrate.sh and rows_by_hand.py make.
+CREATE TABLE meta(one INTEGER PRIMARY KEY CHECK(one = 1),
+  version INTEGER NOT NULL, events INTEGER NOT NULL,
+  journeys INTEGER NOT NULL) STRICT;
+CREATE TABLE stock(kind INTEGER NOT NULL
+  CHECK(kind BETWEEN 0 AND 3),
+  supplier TEXT NOT NULL, product TEXT NOT NULL,
+  night INTEGER NOT NULL, allot INTEGER NOT NULL,
+  free INTEGER NOT NULL CHECK(free >= 0 AND free <= allot),
+  PRIMARY KEY(kind, supplier, product, night)) STRICT;
+CREATE TABLE batch(name TEXT NOT NULL PRIMARY KEY,
+  num INTEGER NOT NULL UNIQUE, content BLOB NOT NULL) STRICT;
+CREATE TABLE journey(id INTEGER PRIMARY KEY,
+  num INTEGER NOT NULL UNIQUE, agent TEXT NOT NULL,
+  steps INTEGER NOT NULL, tries INTEGER NOT NULL,
+  pos INTEGER NOT NULL,
+  phase INTEGER NOT NULL CHECK(phase BETWEEN 0 AND 3),
+  target INTEGER NOT NULL, used INTEGER NOT NULL) STRICT;
+CREATE TABLE step(journey INTEGER NOT NULL REFERENCES journey(id),
+  place INTEGER NOT NULL, opt INTEGER NOT NULL,
+  save INTEGER NOT NULL CHECK(save IN (0, 1)),
+  taken INTEGER NOT NULL CHECK(taken IN (0, 1)),
+  kind INTEGER NOT NULL, supplier TEXT NOT NULL,
+  product TEXT NOT NULL, night INTEGER NOT NULL,
+  nights INTEGER NOT NULL, places INTEGER NOT NULL,
+  PRIMARY KEY(journey, place, opt)) STRICT;
+CREATE TABLE entry(num INTEGER PRIMARY KEY,
+  journey INTEGER NOT NULL REFERENCES journey(id),
+  item INTEGER NOT NULL CHECK(item BETWEEN 0 AND 2),
+  a INTEGER NOT NULL, b INTEGER NOT NULL) STRICT;
+CREATE TABLE answer(agent TEXT NOT NULL, mark TEXT NOT NULL,
+  ask BLOB NOT NULL, reply TEXT NOT NULL,
+  PRIMARY KEY(agent, mark)) STRICT;
