@@ -8,7 +8,7 @@ program=$DESK
 say() { printf 'help.sh: %s\n' "$*" >&2; }
 . "$top/scripts/manual.bash"
 
-commands="run serve recover load stock unfinished journeys history migrate"
+commands="run serve recover load stock unfinished history migrate"
 
 # helps WHAT WORDS: the program prints a help on standard error, into the file err, and ends with 2
 helps() {

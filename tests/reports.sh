@@ -105,55 +105,6 @@ tells "the history of one that goes back" 0 '{"agent":"desk","journey":3,"plan":
 tells "a history as records" 0 "journey,item$cr
 3,T1.1$cr
 3,B0a$cr" "" history trips.db 3 --format csv
-
-# a part of them: the cells and the journeys that have each of the values named
-heading="kind     supplier product  night       allot   held   free"
-flight="flight   AL       A1       2030-06-01     10      3      7"
-double="room     INN      DBL      2030-06-02      5      0      5"
-part() {
-  local what=$1 shown=$2
-  shift 2
-  tells "the stock of $what" 0 "$heading
-${shown:+$shown
-}cells $(grep -c . <<<"$shown")" "" stock trips.db "$@"
-}
-part "a kind" "$double" --kind room
-part "a kind that has none" "" --kind cover
-part "a supplier" "$flight" --supplier AL
-part "a supplier of another kind" "" --supplier AL --kind room
-part "a part of a supplier's name" "" --supplier A
-part "a product" "$double" --product DBL
-part "a product of another supplier" "" --product DBL --supplier AL
-part "a product and its supplier" "$double" --supplier INN --product DBL
-part "nights from the first on" "$flight
-$double" --from 2030-06-01
-part "nights from the second on" "$double" --from 2030-06-02
-part "nights to the first" "$flight" --to 2030-06-01
-part "nights from the last to the first" "" --from 2030-06-02 --to 2030-06-01
-part "one night of a product" "$double" --kind room --supplier INN --product DBL --from 2030-06-02 --to 2030-06-02
-part "all nights" "$flight
-$double" --from 2000-01-01 --to 2099-12-31
-tells "the stock of a supplier as objects" 0 '{"allot":5,"free":5,"held":0,"kind":"room","night":"2030-06-02","product":"DBL","supplier":"INN"}' \
-  "" stock trips.db --supplier INN --format json
-first="           1 desk             ended 1"
-second="           2 desk             run 1"
-third="           3 desk             back 1 to 0"
-tells "all journeys" 0 "$first
-$second
-$third
-journeys 3" "" journeys trips.db
-tells "journeys that ended" 0 "$first
-journeys 1" "" journeys trips.db --state ended
-tells "journeys that run, of an agent" 0 "$second
-journeys 1" "" journeys trips.db --state run --agent desk
-tells "journeys that are undone" 0 "journeys 0" "" journeys trips.db --state undone
-tells "journeys of another agent" 0 "journeys 0" "" journeys trips.db --agent ann
-tells "unfinished journeys that go back" 0 "$third
-unfinished 1" "" unfinished trips.db --state back
-tells "unfinished journeys of another agent" 0 "unfinished 0" "" unfinished trips.db --agent ann
-tells "journeys that ended as objects" 0 '{"agent":"desk","journey":1,"pos":1,"state":"ended"}' "" journeys trips.db --state ended --format json
-tells "journeys that ended as records" 0 "journey,agent,state,pos,target$cr
-1,desk,ended,1,$cr" "" journeys trips.db --state ended --format csv
 for format in json csv; do
   tells "an absent journey in $format" 1 "refused 9 NoJourney" "" history trips.db 4 --format "$format"
 done
@@ -194,13 +145,12 @@ same "nothing was committed" "$before" "$(rows 'SELECT events FROM meta')"
 
 tells "stock of an absent file" 1 "" "fault 26 File" stock absent.db
 tells "unfinished journeys of an absent file" 1 "" "fault 26 File" unfinished absent.db
-tells "the journeys of an absent file" 1 "" "fault 26 File" journeys absent.db
 tells "the history of an absent file" 1 "" "fault 26 File" history absent.db 1
 same "none is made" "" "$(ls absent.db 2>/dev/null)"
 mkdir folder
 head -c 5000 /dev/zero | tr '\0' x >text.db
 : >empty.db
-for word in stock unfinished journeys; do
+for word in stock unfinished; do
   tells "$word of a folder" 1 "" "fault 21 Store" "$word" folder
   tells "$word of a text file" 1 "" "fault 21 Store" "$word" text.db
 done

@@ -19,7 +19,6 @@ use command_line::{Job, version_line};
 use commands::Refusal;
 use desk_jobs::{recover_over, run_over};
 use program_ends::{End, Ended, ProgramFault};
-use reports::JourneyReport;
 use std::alloc::Global;
 use std::io::{Read, Write, sink};
 use streams::send;
@@ -118,28 +117,12 @@ fn carry_out<R: Read, O: Write, N: Write>(
             let (file, csv, batch) = (file.as_str(), csv.as_str(), batch.as_str());
             load_file(rt, alloc, file, csv, batch, reader, out, notes)
         }
-        Job::Stock {
-            file,
-            filter,
-            format,
-        } => {
-            let shown = Shown::Stock(filter);
+        Job::Stock { file, format } => {
+            let shown = Shown::Stock;
             report_file(rt, alloc, file.as_str(), Report { shown, format }, out)
         }
-        Job::Unfinished {
-            file,
-            filter,
-            format,
-        } => {
-            let shown = Shown::Journeys(JourneyReport::Unfinished, filter);
-            report_file(rt, alloc, file.as_str(), Report { shown, format }, out)
-        }
-        Job::Journeys {
-            file,
-            filter,
-            format,
-        } => {
-            let shown = Shown::Journeys(JourneyReport::Journeys, filter);
+        Job::Unfinished { file, format } => {
+            let shown = Shown::Unfinished;
             report_file(rt, alloc, file.as_str(), Report { shown, format }, out)
         }
         Job::History { file, id, format } => {

@@ -7,11 +7,10 @@ ghost use Rattle.program_ends.specs.Ends.{EndsJob};
 use crate::desks::{FileConnection, close_after, connect_there};
 use crate::files::NewLog;
 use commands::Refusal;
-use desk_jobs::{history_over, journeys_over, stock_over};
+use desk_jobs::{history_over, stock_over, unfinished_over};
 use desk_lines::journey_in;
-use filters::{CellFilter, JourneyFilter};
 use program_ends::{End, Ended, ProgramFault};
-use reports::{Format, JourneyReport};
+use reports::Format;
 use sqlite::{Alter, Connection};
 use std::alloc::Global;
 use std::io::{BufWriter, Write};
@@ -19,10 +18,10 @@ use std::io::{BufWriter, Write};
 /// What a report of a desk that is not recovered shows.
 #[derive(Clone, Copy)]
 pub(crate) enum Shown {
-    /// The places of each cell that is asked for.
-    Stock(CellFilter),
-    /// The journeys that are asked for, under a name.
-    Journeys(JourneyReport, JourneyFilter),
+    /// The places of each cell.
+    Stock,
+    /// The unfinished journeys.
+    Unfinished,
     /// The history of the journey of this number.
     History(u64),
 }
@@ -103,10 +102,8 @@ fn report_over<S: Alter + Drop, O: Write>(
     };
     let Report { shown, format } = report;
     match shown {
-        Shown::Stock(filter) => stock_over(alloc, conn, &filter, format, &mut buffered),
-        Shown::Journeys(name, filter) => {
-            journeys_over(alloc, conn, name, &filter, format, &mut buffered)
-        }
+        Shown::Stock => stock_over(alloc, conn, format, &mut buffered),
+        Shown::Unfinished => unfinished_over(alloc, conn, format, &mut buffered),
         Shown::History(id) => history_over(alloc, conn, format, id, &mut buffered),
     }
 }

@@ -14,7 +14,7 @@ use Rattle.clap.specs.declared.parser.ArgMatches.{ArgMatches}
 use Rattle.command_line.specs.Jobs.{value_in}
 use Rattle.command_line.specs.Subcommands.{bare_app, has_any, ids_in, needed, needed_in, rules_for, with_rules, IsFlag, IsValue, Requires}
 use Rattle.command_line.specs.declared.subcommands.Subcommand.{Subcommand}
-use Rattle.command_line.specs.declared.subcommands.Subcommand.TheVariants.{Run, Serve, Recover, Load, Stock, Unfinished, Journeys, History, Migrate}
+use Rattle.command_line.specs.declared.subcommands.Subcommand.TheVariants.{Run, Serve, Recover, Load, Stock, Unfinished, History, Migrate}
 
 -- an argument is a value, or one that nothing requires
 pub record IsWord (arg : Arg) : Type 0 where
@@ -173,23 +173,21 @@ ids_fit Recover = refl
 ids_fit Load = refl
 ids_fit Stock = refl
 ids_fit Unfinished = refl
-ids_fit Journeys = refl
 ids_fit History = refl
 ids_fit Migrate = refl
 
 -- every other subcommand has only a file
 pub rules_for-others : (s : Subcommand) → (s ≡ Serve → ⊥) → (s ≡ Load → ⊥) → (s ≡ Stock → ⊥)
-    → (s ≡ Unfinished → ⊥) → (s ≡ Journeys → ⊥) → (s ≡ History → ⊥)
+    → (s ≡ Unfinished → ⊥) → (s ≡ History → ⊥)
     → rules_for s ≡ needed (codes "FILE") ∷ []
-rules_for-others Run serve load stock unfinished journeys history = refl
-rules_for-others Serve serve load stock unfinished journeys history = absurd (serve refl)
-rules_for-others Recover serve load stock unfinished journeys history = refl
-rules_for-others Load serve load stock unfinished journeys history = absurd (load refl)
-rules_for-others Stock serve load stock unfinished journeys history = absurd (stock refl)
-rules_for-others Unfinished serve load stock unfinished journeys history = absurd (unfinished refl)
-rules_for-others Journeys serve load stock unfinished journeys history = absurd (journeys refl)
-rules_for-others History serve load stock unfinished journeys history = absurd (history refl)
-rules_for-others Migrate serve load stock unfinished journeys history = refl
+rules_for-others Run serve load stock unfinished history = refl
+rules_for-others Serve serve load stock unfinished history = absurd (serve refl)
+rules_for-others Recover serve load stock unfinished history = refl
+rules_for-others Load serve load stock unfinished history = absurd (load refl)
+rules_for-others Stock serve load stock unfinished history = absurd (stock refl)
+rules_for-others Unfinished serve load stock unfinished history = absurd (unfinished refl)
+rules_for-others History serve load stock unfinished history = absurd (history refl)
+rules_for-others Migrate serve load stock unfinished history = refl
 
 -- one more argument, before the others
 and_word : (x : Arg) (xs : List Arg) → IsWord x → All IsWord xs → All IsWord (x ∷ xs)

@@ -5,10 +5,9 @@ use Rattle.std.specs.Option.{option_and_then, option_map_or}
 use Rattle.std.specs.String.{string_bytes}
 use Rattle.allotment.specs.Texts.{number_from}
 use Rattle.clap.specs.Words.{App, Text, first_of, matches_of}
-use Rattle.command_line.specs.Filters.{HasCells, HasJourneys, has_bad_cells, has_bad_journeys, phases_in, unfinished_in}
 use Rattle.command_line.specs.Subcommands.{app_for, is_refused_by, name_of, subcommand_in}
 use Rattle.command_line.specs.declared.jobs.Job.{Job}
-use Rattle.command_line.specs.declared.jobs.Job.TheVariants.{Run, Serve, Recover, Load, Stock, Unfinished, Journeys, History, Migrate, Version}
+use Rattle.command_line.specs.declared.jobs.Job.TheVariants.{Run, Serve, Recover, Load, Stock, Unfinished, History, Migrate, Version}
 use Rattle.command_line.specs.declared.jobs.JobFault.{JobFault}
 use Rattle.command_line.specs.declared.jobs.JobFault.TheVariants.{Usage, Memory}
 use Rattle.command_line.specs.declared.subcommands.Subcommand.{Subcommand}
@@ -22,9 +21,8 @@ subcommand_of (Run file) = Some sub.Run
 subcommand_of (Serve file port connections house page log wide) = Some sub.Serve
 subcommand_of (Recover file) = Some sub.Recover
 subcommand_of (Load file csv batch) = Some sub.Load
-subcommand_of (Stock file filter format) = Some sub.Stock
-subcommand_of (Unfinished file filter format) = Some sub.Unfinished
-subcommand_of (Journeys file filter format) = Some sub.Journeys
+subcommand_of (Stock file format) = Some sub.Stock
+subcommand_of (Unfinished file format) = Some sub.Unfinished
 subcommand_of (History file id format) = Some sub.History
 subcommand_of (Migrate file) = Some sub.Migrate
 subcommand_of Version = None
@@ -107,15 +105,8 @@ HasValues value (Recover file) = NamesFile value (string_bytes file)
 HasValues value (Load file csv batch) = NamesFile value (string_bytes file)
     × (value (codes "CSV") ≡ Some (string_bytes csv))
     × (value (codes "NAME") ≡ Some (string_bytes batch))
-HasValues value (Stock file filter format) = NamesFile value (string_bytes file)
-    × HasCells value filter
-    × (format_in value ≡ Some format)
-HasValues value (Unfinished file filter format) = NamesFile value (string_bytes file)
-    × HasJourneys unfinished_in value filter
-    × (format_in value ≡ Some format)
-HasValues value (Journeys file filter format) = NamesFile value (string_bytes file)
-    × HasJourneys phases_in value filter
-    × (format_in value ≡ Some format)
+HasValues value (Stock file format) = NamesFile value (string_bytes file) × (format_in value ≡ Some format)
+HasValues value (Unfinished file format) = NamesFile value (string_bytes file) × (format_in value ≡ Some format)
 HasValues value (History file id format) = NamesFile value (string_bytes file)
     × (value (codes "ID") ≡ Some (string_bytes id))
     × (format_in value ≡ Some format)
@@ -151,17 +142,15 @@ abbrev pub IsJob : List Text → Job → Type 0
 IsJob [] job = ⊥
 IsJob (word ∷ others) job = IsVersionJob word job ⊎ IsSubcommandJob word others job
 
--- the subcommand reads a number that is malformed, or missing where it is required, a format that is none, or a value that
--- asks for no cell or journey
+-- the subcommand reads a number that is malformed, or missing where it is required, or a format that is none
 abbrev pub has_bad_value : Subcommand → (Text → Option Text) → Bool
 has_bad_value sub.Serve value = is_none (port_in value) || is_malformed most_connections (value (codes "N"))
-has_bad_value sub.Stock value = has_bad_cells value || is_none (format_in value)
-has_bad_value sub.Unfinished value = has_bad_journeys unfinished_in value || is_none (format_in value)
-has_bad_value sub.Journeys value = has_bad_journeys phases_in value || is_none (format_in value)
+has_bad_value sub.Stock value = is_none (format_in value)
+has_bad_value sub.Unfinished value = is_none (format_in value)
 has_bad_value sub.History value = is_none (format_in value)
 has_bad_value _ value = false
 
--- the words after a subcommand are refused: by clap, or for a value that spells nothing
+-- the words after a subcommand are refused: by clap, or for a value that is no number or no format
 abbrev pub refuses : Subcommand → List Text → Bool
 refuses s words = is_refused_by (app_for s) words || has_bad_value s (value_in (app_for s) words)
 

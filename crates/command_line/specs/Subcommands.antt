@@ -9,7 +9,7 @@ use Rattle.clap.specs.declared.builder.Command.{Command}
 use Rattle.clap.specs.declared.builder.command.Command.TheViews.{out-Command}
 use Rattle.clap.specs.declared.parser.ArgMatches.{ArgMatches}
 use Rattle.command_line.specs.declared.subcommands.Subcommand.{Subcommand}
-use Rattle.command_line.specs.declared.subcommands.Subcommand.TheVariants.{Run, Serve, Recover, Load, Stock, Unfinished, Journeys, History, Migrate}
+use Rattle.command_line.specs.declared.subcommands.Subcommand.TheVariants.{Run, Serve, Recover, Load, Stock, Unfinished, History, Migrate}
 
 -- the word that names a subcommand
 abbrev pub name_of : Subcommand → Text
@@ -19,7 +19,6 @@ name_of Recover = codes "recover"
 name_of Load = codes "load"
 name_of Stock = codes "stock"
 name_of Unfinished = codes "unfinished"
-name_of Journeys = codes "journeys"
 name_of History = codes "history"
 name_of Migrate = codes "migrate"
 
@@ -32,7 +31,6 @@ subcommand_in word =
     else if bytes_eq word (codes "load") then Some Load
     else if bytes_eq word (codes "stock") then Some Stock
     else if bytes_eq word (codes "unfinished") then Some Unfinished
-    else if bytes_eq word (codes "journeys") then Some Journeys
     else if bytes_eq word (codes "history") then Some History
     else if bytes_eq word (codes "migrate") then Some Migrate
     else None
@@ -79,23 +77,6 @@ wide_flag = record (flagged (codes "WIDE")) { long = Some (codes "wide") }
 abbrev pub report_format : Rule
 report_format = record (optional (codes "FORMAT")) { long = Some (codes "format") }
 
--- a value follows an option of this name
-abbrev pub named_by : Text → Rule → Rule
-named_by name rule = record rule { long = Some name }
-
--- the cells that are asked for: their kind, supplier, product, and their first and last night
-abbrev pub cell_rules : List Rule
-cell_rules =
-    named_by (codes "kind") (optional (codes "KIND")) ∷ named_by (codes "supplier") (optional (codes "SUPPLIER"))
-    ∷ named_by (codes "product") (optional (codes "PRODUCT")) ∷ named_by (codes "from") (optional (codes "FROM"))
-    ∷ named_by (codes "to") (optional (codes "TO")) ∷ report_format ∷ []
-
--- the journeys that are asked for: their agent and state
-abbrev pub journey_rules : List Rule
-journey_rules =
-    named_by (codes "agent") (optional (codes "AGENT")) ∷ named_by (codes "state") (optional (codes "STATE"))
-    ∷ report_format ∷ []
-
 -- the values that a subcommand reads, in their order
 abbrev pub rules_for : Subcommand → List Rule
 rules_for Run = needed (codes "FILE") ∷ []
@@ -103,9 +84,8 @@ rules_for Serve =
     needed (codes "FILE") ∷ port_number ∷ connections_number ∷ house_path ∷ page_flag ∷ log_flag ∷ wide_flag ∷ []
 rules_for Recover = needed (codes "FILE") ∷ []
 rules_for Load = needed (codes "FILE") ∷ needed (codes "CSV") ∷ batch_name ∷ []
-rules_for Stock = needed (codes "FILE") ∷ cell_rules
-rules_for Unfinished = needed (codes "FILE") ∷ journey_rules
-rules_for Journeys = needed (codes "FILE") ∷ journey_rules
+rules_for Stock = needed (codes "FILE") ∷ report_format ∷ []
+rules_for Unfinished = needed (codes "FILE") ∷ report_format ∷ []
 rules_for History = needed (codes "FILE") ∷ needed (codes "ID") ∷ report_format ∷ []
 rules_for Migrate = needed (codes "FILE") ∷ []
 

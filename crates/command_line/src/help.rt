@@ -192,17 +192,9 @@ Print the allotted, held and free places of each cell
 
 Opens the database FILE without recovering it, and changes no row of it.
 Prints a heading, a line for each cell, by kind, supplier, product and night,
-and 'cells N'. With options, only cells that have each of the values named are
-shown and counted. Standard input is not read.";
+and 'cells N'. Standard input is not read.";
 
 const STOCK_NOTES: &str = "\
-Options that choose cells:
-  --kind KIND          flight, room, transfer or cover
-  --supplier SUPPLIER  1 to 8 of A-Z and 0-9
-  --product PRODUCT    1 to 8 of A-Z and 0-9
-  --from FROM          The first night, as 2030-06-01
-  --to TO              The last night
-
 Formats:
   text  A heading, a line for each cell, and 'cells N'
   json  An object on a line for each cell: allot, free, held, kind, night,
@@ -223,24 +215,16 @@ Example:
   cells 1
   $ desk stock trips.db --format csv | tr -d '\\r'
   kind,supplier,product,night,allot,held,free
-  flight,AL,A1,2030-06-01,9,0,9
-  $ desk stock trips.db --supplier AL --from 2030-06-02
-  kind     supplier product  night       allot   held   free
-  cells 0";
+  flight,AL,A1,2030-06-01,9,0,9";
 
 const UNFINISHED: &str = "\
 Print the journeys that have not ended
 
 Opens the database FILE without recovering it, and changes no row of it.
 Prints a line for each journey that has neither ended nor is undone, with its
-number, agent and state, and 'unfinished N'. With options, only journeys of
-the agent and in the state are shown and counted. Standard input is not read.";
+number, agent and state, and 'unfinished N'. Standard input is not read.";
 
 const UNFINISHED_NOTES: &str = "\
-Options that choose journeys:
-  --agent AGENT  1 to 16 of a-z and 0-9; journeys begun by lines are of desk
-  --state STATE  run or back
-
 Formats:
   text  A line for each journey, and 'unfinished N'
   json  An object on a line for each journey: agent, journey, pos, state,
@@ -260,41 +244,6 @@ Example:
   unfinished 1
   $ desk unfinished trips.db --format json
   {\"agent\":\"desk\",\"journey\":1,\"pos\":0,\"state\":\"run\"}";
-
-const JOURNEYS: &str = "\
-Print all journeys, ended ones too
-
-Opens the database FILE without recovering it, and changes no row of it.
-Prints a line for each journey, by rising number, with its number, agent and
-state, and 'journeys N'. With options, only journeys of the agent and in the
-state are shown and counted. Standard input is not read.";
-
-const JOURNEYS_NOTES: &str = "\
-Options that choose journeys:
-  --agent AGENT  1 to 16 of a-z and 0-9; journeys begun by lines are of desk
-  --state STATE  run, back, ended or undone
-
-Formats:
-  text  A line for each journey, and 'journeys N'
-  json  An object on a line for each journey: agent, journey, pos, state,
-        and target if the journey goes back
-  csv   A heading and a record for each journey; lines end with CR LF
-
-Exit status:
-  0  The report is printed
-  1  A refusal, on standard output, or a fault, on standard error
-  2  Wrong usage, or help, on standard error
-
-Example:
-  $ echo 'begin F/AL/A1/2030-06-01/1/1!0' | desk run trips.db
-  journey 1 begun
-  $ desk recover trips.db
-  recovered 1
-  $ desk journeys trips.db
-             1 desk             undone 0
-  journeys 1
-  $ desk journeys trips.db --state ended
-  journeys 0";
 
 const HISTORY: &str = "\
 Print what happened to a journey, oldest first
@@ -370,7 +319,6 @@ impl Subcommand {
             Subcommand::Load => LOAD,
             Subcommand::Stock => STOCK,
             Subcommand::Unfinished => UNFINISHED,
-            Subcommand::Journeys => JOURNEYS,
             Subcommand::History => HISTORY,
             Subcommand::Migrate => MIGRATE,
         }
@@ -385,7 +333,6 @@ impl Subcommand {
             Subcommand::Load => LOAD_NOTES,
             Subcommand::Stock => STOCK_NOTES,
             Subcommand::Unfinished => UNFINISHED_NOTES,
-            Subcommand::Journeys => JOURNEYS_NOTES,
             Subcommand::History => HISTORY_NOTES,
             Subcommand::Migrate => MIGRATE_NOTES,
         }

@@ -2,7 +2,6 @@
 ghost use Rattle.std.specs.Prelude.{◌≡◌};
 ghost use Rattle.command_line.specs.declared.jobs.JobFault.TheVariants.{Memory};
 
-use filters::{CellFilter, JourneyFilter};
 use reports::Format;
 use std::alloc::AllocError;
 
@@ -39,22 +38,14 @@ pub enum Job {
         csv: String,
         batch: String,
     },
-    /// Print the stock of the desk over this file: the cells that are asked for.
+    /// Print the stock of the desk over this file.
     Stock {
         file: String,
-        filter: CellFilter,
         format: Format,
     },
-    /// Print the unfinished journeys of the desk over this file that are asked for.
+    /// Print the unfinished journeys of the desk over this file.
     Unfinished {
         file: String,
-        filter: JourneyFilter,
-        format: Format,
-    },
-    /// Print the journeys of the desk over this file that are asked for.
-    Journeys {
-        file: String,
-        filter: JourneyFilter,
         format: Format,
     },
     /// Print the history of a journey of the desk over this file.

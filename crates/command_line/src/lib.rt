@@ -4,7 +4,6 @@
 //! of the program. `call_of` takes off the word that asks for an explanation of faults, which stands before those of the job.
 #![tactic(auto)]
 
-mod asked;
 mod explaining;
 mod help;
 mod jobs;

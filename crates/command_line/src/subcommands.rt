@@ -1,7 +1,7 @@
 //! The subcommands of the program: their words, and the values that each of them reads.
 ghost use Rattle.std.specs.Prelude.{◌≡◌, [], false, All, IfOk, IfSome};
 ghost use Rattle.clap.specs.Words.{app_of, args_of, groups_of, rule_of};
-ghost use Rattle.command_line.specs.Subcommands.{app_for, bare_app, flagged, has_globals, name_of, named_by, needed, needed_for, negates_needs, optional, report_format, subcommand_in, IsFlag, IsValue, Requires};
+ghost use Rattle.command_line.specs.Subcommands.{app_for, bare_app, flagged, has_globals, name_of, needed, needed_for, negates_needs, optional, report_format, subcommand_in, IsFlag, IsValue, Requires};
 
 use clap::{Arg, ArgAction, Command};
 use std::alloc::{AllocError, Global};
@@ -15,21 +15,19 @@ pub(crate) enum Subcommand {
     Load,
     Stock,
     Unfinished,
-    Journeys,
     History,
     Migrate,
 }
 
 impl Subcommand {
     /// All subcommands, in the order of the usage.
-    pub(crate) const ALL: [Subcommand; 9] = [
+    pub(crate) const ALL: [Subcommand; 8] = [
         Subcommand::Run,
         Subcommand::Serve,
         Subcommand::Recover,
         Subcommand::Load,
         Subcommand::Stock,
         Subcommand::Unfinished,
-        Subcommand::Journeys,
         Subcommand::History,
         Subcommand::Migrate,
     ];
@@ -46,7 +44,6 @@ impl Subcommand {
             "load" => Some(Subcommand::Load),
             "stock" => Some(Subcommand::Stock),
             "unfinished" => Some(Subcommand::Unfinished),
-            "journeys" => Some(Subcommand::Journeys),
             "history" => Some(Subcommand::History),
             "migrate" => Some(Subcommand::Migrate),
             _ => None,
@@ -64,7 +61,6 @@ impl Subcommand {
             Subcommand::Load => "load",
             Subcommand::Stock => "stock",
             Subcommand::Unfinished => "unfinished",
-            Subcommand::Journeys => "journeys",
             Subcommand::History => "history",
             Subcommand::Migrate => "migrate",
         }
@@ -79,7 +75,6 @@ impl Subcommand {
             Subcommand::Load => "desk load",
             Subcommand::Stock => "desk stock",
             Subcommand::Unfinished => "desk unfinished",
-            Subcommand::Journeys => "desk journeys",
             Subcommand::History => "desk history",
             Subcommand::Migrate => "desk migrate",
         }
@@ -94,7 +89,6 @@ impl Subcommand {
             Subcommand::Load => "Load allotments from a CSV file, as one batch",
             Subcommand::Stock => "Print the allotted, held and free places of each cell",
             Subcommand::Unfinished => "Print the journeys that have not ended",
-            Subcommand::Journeys => "Print all journeys, ended ones too",
             Subcommand::History => "Print what happened to a journey, oldest first",
             Subcommand::Migrate => "Migrate a database from schema 1 to schema 2, in one commit",
         }
@@ -108,7 +102,6 @@ impl Subcommand {
             }
             Subcommand::Stock
             | Subcommand::Unfinished
-            | Subcommand::Journeys
             | Subcommand::History
             | Subcommand::Migrate => "The database file, which must exist",
         }
@@ -163,50 +156,8 @@ impl Subcommand {
                 let name = value(alloc, "NAME", "The name of the batch").long("batch");
                 over_file.arg(csv)?.arg(name)
             }
-            Subcommand::Stock => {
-                let kind = option(
-                    alloc,
-                    "KIND",
-                    "kind",
-                    "Show a kind: flight, room, transfer or cover",
-                );
-                let supplier = option(alloc, "SUPPLIER", "supplier", "Show a supplier");
-                let product = option(alloc, "PRODUCT", "product", "Show a product");
-                let from = option(
-                    alloc,
-                    "FROM",
-                    "from",
-                    "Show nights from a day on, as 2030-06-01",
-                );
-                let to = option(alloc, "TO", "to", "Show nights to a day");
-                over_file
-                    .arg(kind)?
-                    .arg(supplier)?
-                    .arg(product)?
-                    .arg(from)?
-                    .arg(to)?
-                    .arg(format(alloc))
-            }
-            Subcommand::Unfinished => {
-                let agent = option(alloc, "AGENT", "agent", "Show those of an agent");
-                let state = option(
-                    alloc,
-                    "STATE",
-                    "state",
-                    "Show those in a state: run or back",
-                );
-                over_file.arg(agent)?.arg(state)?.arg(format(alloc))
-            }
-            Subcommand::Journeys => {
-                let agent = option(alloc, "AGENT", "agent", "Show those of an agent");
-                let state = option(
-                    alloc,
-                    "STATE",
-                    "state",
-                    "Show those in a state: run, back, ended or undone",
-                );
-                over_file.arg(agent)?.arg(state)?.arg(format(alloc))
-            }
+            Subcommand::Stock => over_file.arg(format(alloc)),
+            Subcommand::Unfinished => over_file.arg(format(alloc)),
             Subcommand::History => {
                 let id = value(alloc, "ID", "The number of the journey");
                 over_file.arg(id)?.arg(format(alloc))
@@ -241,14 +192,6 @@ fn flag<'a>(alloc: Global, id: &'a str, help: &'a str) -> Arg<'a>
     ensures flag { IsFlag result }
 {
     Arg::new(alloc, id).help(help).action(ArgAction::SetTrue)
-}
-
-/// A value that may be left out, and follows an option of this name.
-fn option<'a>(alloc: Global, id: &'a str, name: &'a str, help: &'a str) -> Arg<'a>
-    ensures rule { rule_of result ≡ named_by name.entry.now (optional id.entry.now) }
-    ensures value { IsValue result }
-{
-    extra(alloc, id, help).long(name)
 }
 
 /// The format of a report.

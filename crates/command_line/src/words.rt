@@ -9,7 +9,6 @@ ghost use Rattle.clap.specs.Words.{first_value, found_of, kind_of, matches_of, r
 ghost use Rattle.command_line.specs.Jobs.{are_refused, format_named, format_of, is_malformed, is_set, names_version, number_named, refuses, IsJob, IsJobOf, IsText, IsUsage};
 ghost use Rattle.command_line.specs.Subcommands.{app_for, is_refused_by, needed_for};
 
-use crate::asked::{cells_in, journeys_in, unfinished_in};
 use crate::help::PROGRAM;
 use crate::jobs::{Job, JobFault};
 use crate::subcommands::Subcommand;
@@ -92,31 +91,12 @@ fn job_of(alloc: Global, subcommand: Subcommand, words: &[String]) -> Result<Job
             Ok(Job::Load { file, csv, batch })
         }
         Subcommand::Stock => {
-            let filter = cells_in(alloc, &matches)?;
             let format = format_in(alloc, &matches)?;
-            Ok(Job::Stock {
-                file,
-                filter,
-                format,
-            })
+            Ok(Job::Stock { file, format })
         }
         Subcommand::Unfinished => {
-            let filter = unfinished_in(alloc, &matches)?;
             let format = format_in(alloc, &matches)?;
-            Ok(Job::Unfinished {
-                file,
-                filter,
-                format,
-            })
-        }
-        Subcommand::Journeys => {
-            let filter = journeys_in(alloc, &matches)?;
-            let format = format_in(alloc, &matches)?;
-            Ok(Job::Journeys {
-                file,
-                filter,
-                format,
-            })
+            Ok(Job::Unfinished { file, format })
         }
         Subcommand::History => {
             let id = value_of(alloc, &matches, "ID")?;

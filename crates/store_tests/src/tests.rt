@@ -1,8 +1,10 @@
 mod asking;
 mod asks;
 mod begins;
+mod counted;
 mod faults;
 mod helping;
 mod moves;
 mod opening;
+mod owned;
 mod sources;

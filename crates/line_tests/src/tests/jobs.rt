@@ -1,7 +1,6 @@
 //! The jobs of the words of the command line.
 use crate::tests::desks::{holds, reads};
 use command_line::{Job, JobFault, job};
-use filters::{CellFilter, JourneyFilter, JourneyState, Phases};
 use reports::Format;
 use std::alloc::{AllocError, Global};
 use std::test::Fail;
@@ -47,53 +46,6 @@ fn shown(format: Format) -> &'static str {
     }
 }
 
-/// The text in the table of a stock report: each value that is asked for follows.
-fn stock_asked(
-    alloc: Global,
-    file: &str,
-    filter: CellFilter,
-    format: Format,
-) -> Result<String, AllocError> {
-    let mut text = format!(in alloc; "stock|{file}{}", shown(format))?;
-    if let Some(kind) = filter.kind {
-        write!(text, "|kind {}", kind.word())?;
-    }
-    if let Some(supplier) = filter.supplier {
-        write!(text, "|supplier {supplier}")?;
-    }
-    if let Some(product) = filter.product {
-        write!(text, "|product {product}")?;
-    }
-    if let Some(from) = filter.from {
-        write!(text, "|from {from}")?;
-    }
-    if let Some(to) = filter.to {
-        write!(text, "|to {to}")?;
-    }
-    Ok(text)
-}
-
-/// The text in the table of a report of journeys: the agent follows if one is asked for, and the phases if they are not
-/// those of every journey of the report.
-fn journeys_asked(
-    alloc: Global,
-    name: &str,
-    file: &str,
-    filter: JourneyFilter,
-    format: Format,
-) -> Result<String, AllocError> {
-    let agent = filter.agent.as_ref().map_or("-", |agent| agent.as_str());
-    let phases = match filter.phases {
-        Phases::All => "all",
-        Phases::Unfinished => "unfinished",
-        Phases::Only(JourneyState::Run) => "run",
-        Phases::Only(JourneyState::Back) => "back",
-        Phases::Only(JourneyState::Ended) => "ended",
-        Phases::Only(JourneyState::Undone) => "undone",
-    };
-    format!(in alloc; "{name}|{file}{}|{agent} {phases}", shown(format))
-}
-
 /// The job of words as a text in the table: the job with its values, or only the usage.
 fn asked(alloc: Global, words: Vec<String>) -> Result<String, AllocError> {
     match job(alloc, words) {
@@ -111,27 +63,11 @@ fn asked(alloc: Global, words: Vec<String>) -> Result<String, AllocError> {
         ) => served_text(alloc, file.as_str(), port, connections, house, page, log, wide),
         Ok(Job::Recover { file }) => format!(in alloc; "recover|{file}"),
         Ok(Job::Load { file, csv, batch }) => format!(in alloc; "load|{file}|{csv}|{batch}"),
-        Ok(
-            Job::Stock {
-                file,
-                filter,
-                format,
-            },
-        ) => stock_asked(alloc, file.as_str(), filter, format),
-        Ok(
-            Job::Unfinished {
-                file,
-                filter,
-                format,
-            },
-        ) => journeys_asked(alloc, "unfinished", file.as_str(), filter, format),
-        Ok(
-            Job::Journeys {
-                file,
-                filter,
-                format,
-            },
-        ) => journeys_asked(alloc, "journeys", file.as_str(), filter, format),
+        Ok(Job::Stock { file, format }) => format!(in alloc; "stock|{file}{}", shown(format)),
+        Ok(Job::Unfinished { file, format }) => format!(in alloc;
+            "unfinished|{file}{}",
+            shown(format)
+        ),
         Ok(Job::History { file, id, format }) => format!(in alloc;
             "history|{file}|{id}{}",
             shown(format)
@@ -145,7 +81,7 @@ fn asked(alloc: Global, words: Vec<String>) -> Result<String, AllocError> {
 
 // the words, separated by bars, and the job with its values; a bad number of a journey is no usage
 #[rattlefmt::skip]
-const JOBS: [(&str, &str); 61] = [
+const JOBS: [(&str, &str); 50] = [
     ("run|x.db",                    "run|x.db"),
     ("run|a b/x.db",                "run|a b/x.db"),
     ("run|--|-x.db",                "run|-x.db"),
@@ -174,10 +110,10 @@ const JOBS: [(&str, &str); 61] = [
     ("stock|a b/x.db",              "stock|a b/x.db"),
     ("stock|--|-x.db",              "stock|-x.db"),
     ("stock|-",                     "stock|-"),
-    ("unfinished|x.db",             "unfinished|x.db|- unfinished"),
-    ("unfinished|a b/x.db",         "unfinished|a b/x.db|- unfinished"),
-    ("unfinished|--|-x.db",         "unfinished|-x.db|- unfinished"),
-    ("unfinished|-",                "unfinished|-|- unfinished"),
+    ("unfinished|x.db",             "unfinished|x.db"),
+    ("unfinished|a b/x.db",         "unfinished|a b/x.db"),
+    ("unfinished|--|-x.db",         "unfinished|-x.db"),
+    ("unfinished|-",                "unfinished|-"),
     ("load|x.db|a.csv|--batch|b1",  "load|x.db|a.csv|b1"),
     ("load|--batch|b1|x.db|a.csv",  "load|x.db|a.csv|b1"),
     ("load|x.db|--batch=b-1|a.csv", "load|x.db|a.csv|b-1"),
@@ -188,23 +124,11 @@ const JOBS: [(&str, &str); 61] = [
     ("stock|x.db|--format|text",    "stock|x.db"),
     ("stock|x.db|--format|json",    "stock|x.db|json"),
     ("stock|--format=csv|x.db",     "stock|x.db|csv"),
-    ("unfinished|x.db|--format|csv", "unfinished|x.db|csv|- unfinished"),
-    ("unfinished|--format|json|--|-x.db", "unfinished|-x.db|json|- unfinished"),
+    ("unfinished|x.db|--format|csv", "unfinished|x.db|csv"),
+    ("unfinished|--format|json|--|-x.db", "unfinished|-x.db|json"),
     ("history|x.db|12|--format|csv", "history|x.db|12|csv"),
     ("history|--format=json|x.db|one", "history|x.db|one|json"),
     ("migrate|x.db",                "migrate|x.db"),
-    ("stock|x.db|--kind|room",      "stock|x.db|kind room"),
-    ("stock|--supplier|AL|x.db",    "stock|x.db|supplier AL"),
-    ("stock|x.db|--product=12345678", "stock|x.db|product 12345678"),
-    ("stock|x.db|--to|2099-12-31|--from|2000-01-01", "stock|x.db|from 2000-01-01|to 2099-12-31"),
-    ("stock|x.db|--kind|cover|--supplier|INN|--product|DBL|--from|2030-06-01|--to|2030-06-30|--format|csv",
-        "stock|x.db|csv|kind cover|supplier INN|product DBL|from 2030-06-01|to 2030-06-30"),
-    ("unfinished|x.db|--agent|ann|--state|back", "unfinished|x.db|ann back"),
-    ("unfinished|x.db|--state|run", "unfinished|x.db|- run"),
-    ("journeys|x.db",               "journeys|x.db|- all"),
-    ("journeys|x.db|--state|undone|--format|json", "journeys|x.db|json|- undone"),
-    ("journeys|--agent|a234567890123456|x.db|--state|ended", "journeys|x.db|a234567890123456 ended"),
-    ("journeys|--|-x.db",           "journeys|-x.db|- all"),
     ("--version",                   "version"),
     ("-V",                          "version"),
     ("--version|run|x.db",          "version"),
@@ -221,7 +145,7 @@ fn words_name_a_job_with_its_values(rt: HostRuntime) -> Result<(), Fail> {
 
 // what the row shows, the words, and the prefix of the usage
 #[rattlefmt::skip]
-const REFUSED: [(&str, &str, &str); 89] = [
+const REFUSED: [(&str, &str, &str); 74] = [
     ("another subcommand",       "fly|x.db",       "error: unrecognized subcommand 'fly'"),
     ("a subcommand in capitals", "RUN|x.db",       "error: unrecognized subcommand 'RUN'"),
     ("a part of a subcommand",   "ru|x.db",        "error: unrecognized subcommand 'ru'"),
@@ -287,21 +211,6 @@ const REFUSED: [(&str, &str, &str); 89] = [
     ("two formats",              "stock|x|--format|csv|--format|csv", "error: the argument '--format <FORMAT>' cannot be used multiple times\n"),
     ("a flag without a format",  "stock|x|--format", "error: a value is required for '--format <FORMAT>' but none was supplied\n"),
     ("an empty format",          "stock|x|--format=", "error: invalid value '' for '--format <FORMAT>': not text, json or csv\n"),
-    ("an unknown kind",          "stock|x|--kind|F", "error: invalid value 'F' for '--kind <KIND>': not flight, room, transfer or cover\n"),
-    ("a supplier of 9",          "stock|x|--supplier|ABCDEFGHI", "error: invalid value 'ABCDEFGHI' for '--supplier <SUPPLIER>': not 1 to 8 of A-Z and 0-9\n"),
-    ("a product in small",       "stock|x|--product|a1", "error: invalid value 'a1' for '--product <PRODUCT>': not 1 to 8 of A-Z and 0-9\n"),
-    ("a day that is none",       "stock|x|--from|2030-02-30", "error: invalid value '2030-02-30' for '--from <FROM>': not a day from 2000-01-01 to 2099-12-31\n"),
-    ("a day past all nights",    "stock|x|--to|2100-01-01", "error: invalid value '2100-01-01' for '--to <TO>': not a day from 2000-01-01 to 2099-12-31\n"),
-    ("a bad kind before a bad format", "stock|x|--format|xml|--kind|F", "error: invalid value 'F' for '--kind <KIND>'"),
-    ("two suppliers",            "stock|x|--supplier|A|--supplier|B", "error: the argument '--supplier <SUPPLIER>' cannot be used multiple times\n"),
-    ("a supplier of journeys",   "journeys|x|--supplier|A", "error: unexpected argument '--supplier' found\n"),
-    ("an agent in capitals",     "journeys|x|--agent|Ann", "error: invalid value 'Ann' for '--agent <AGENT>': not 1 to 16 of a-z and 0-9\n"),
-    ("an agent of 17",           "unfinished|x|--agent|a2345678901234567", "error: invalid value 'a2345678901234567' for '--agent <AGENT>'"),
-    ("an unknown state",         "journeys|x|--state|done", "error: invalid value 'done' for '--state <STATE>': not run, back, ended or undone\n"),
-    ("ended ones, unfinished",   "unfinished|x|--state|ended", "error: invalid value 'ended' for '--state <STATE>': not run or back\n"),
-    ("no file for journeys",     "journeys", "error: the following required arguments were not provided:\n  <FILE>\n\nUsage: desk journeys <FILE>\n"),
-    ("two files for journeys",   "journeys|x|y", "error: unexpected argument 'y' found\n\nUsage: desk journeys [OPTIONS] <FILE>\n"),
-    ("help of journeys",         "journeys|--help", "Print all journeys, ended ones too\n\nOpens the database FILE without recovering it"),
     ("a format of run",          "run|x|--format|json", "error: unexpected argument '--format' found\n"),
     ("no name of the batch",     "load|x|y",       "error: the following required arguments were not provided:\n  --batch <NAME>\n\nUsage: desk load --batch <NAME> <FILE> <CSV>\n"),
     ("a flag without a name",    "load|x|y|--batch", "error: a value is required for '--batch <NAME>' but none was supplied\n"),

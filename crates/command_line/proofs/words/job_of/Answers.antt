@@ -1,13 +1,11 @@
 -- The values of a job are those of the matches.
-use Rattle.std.proofs.Common.{◌∙◌, ap, map, codes, false, refl, subst, sym}
+use Rattle.std.proofs.Common.{◌∙◌, ap, map, codes, refl, subst, sym}
 use Rattle.std.specs.Prelude.{Err, Some}
 use Rattle.std.proofs.lemmas.Result.{err_from_is_err_and}
 use Rattle.std.specs.String.{string_bytes}
-use Rattle.clap.specs.Words.{first_value, found_of}
-use Rattle.command_line.specs.Filters.{has_bad_cells, has_bad_journeys, phases_in, unfinished_in}
 use Rattle.command_line.specs.Jobs.{format_of, has_bad_value, is_malformed, is_set, number_named, most_port, most_connections, value_in, IsUsage}
 use Rattle.command_line.specs.Subcommands.{app_for}
-use Rattle.command_line.proofs.NumberLemmas.{cells_same, has_cells, has_journeys, journeys_same, refuses-bad, refuses-bad_number, refuses-format, refuses-no_format, refuses-no_port, refuses-numbers}
+use Rattle.command_line.proofs.NumberLemmas.{refuses-bad_number, refuses-format, refuses-no_format, refuses-no_port, refuses-numbers}
 use Rattle.command_line.proofs.SubcommandLemmas.{value_in-matches, value_read}
 use Rattle.command_line.proofs.words.job_of.Goals as goal
 
@@ -90,7 +88,6 @@ returns-in-Stock-clause-job c =
       subcommand = ap Some (sym c.in-Stock.is);
       values = (
         value_read app words m (codes "FILE") _ rows c.in_ok-file.ensures.value,
-        has_cells (value_in app words) (first_value (found_of m)) (λ id. value_in-matches app words m id rows) c.in_ok-filter-in-Stock.filter c.in_ok-filter-in-Stock.ensures.cells,
         ap format_of (value_in-matches app words m (codes "FORMAT") rows) ∙ c.in_ok-format-in-Stock.ensures.format,
       );
     }
@@ -99,33 +96,19 @@ pub returns-in-Stock-clause-taken : goal.returns-in-Stock-clause-taken
 returns-in-Stock-clause-taken c = λ _.
     let app = app_for c.args.subcommand in
     let words = map string_bytes c.args.words.now in
-    let m = c.in_ok-matches.matches in
-    let rows = c.in_ok-matches.ensures.rows in
-    refuses-format c.args.subcommand words (has_bad_cells (value_in app words)) c.in_ok-format-in-Stock.format
+    let value = value_in-matches app words c.in_ok-matches.matches (codes "FORMAT") c.in_ok-matches.ensures.rows in
+    refuses-format c.args.subcommand words c.in_ok-format-in-Stock.format
     (ap (λ s. has_bad_value s (value_in app words)) c.in-Stock.is)
-    (c.in_ok-matches.ensures.taken refl) (cells_same (value_in app words) (first_value (found_of m)) (λ id. value_in-matches app words m id rows) ∙ c.in_ok-filter-in-Stock.ensures.taken refl)
-    (ap format_of (value_in-matches app words m (codes "FORMAT") rows) ∙ c.in_ok-format-in-Stock.ensures.format)
+    (c.in_ok-matches.ensures.taken refl) (ap format_of value ∙ c.in_ok-format-in-Stock.ensures.format)
 
--- a usage is returned for a value only where it spells nothing
-pub returns-in_err-filter-in-Stock-clause-usage : goal.returns-in_err-filter-in-Stock-clause-usage
-returns-in_err-filter-in-Stock-clause-usage c = λ usage.
-    let app = app_for c.args.subcommand in
-    let words = map string_bytes c.args.words.now in
-    let m = c.in_ok-matches.matches in
-    let rows = c.in_ok-matches.ensures.rows in
-    let failed = err_from_is_err_and c.from_residual-in_err-filter-in-Stock.result c.from_residual-in_err-filter-in-Stock.ensures.1 in
-    refuses-bad c.args.subcommand words (has_bad_cells (value_in app words))
-    (ap (λ s. has_bad_value s (value_in app words)) c.in-Stock.is)
-    (cells_same (value_in app words) (first_value (found_of m)) (λ id. value_in-matches app words m id rows) ∙ c.in_err-filter-in-Stock.ensures.usage (subst IsUsage (failed.1 ∙ ap Err failed.2) usage))
-
--- and for a format only where a word is none
+-- a usage is returned only for a word that is no format
 pub returns-in_err-format-in-Stock-clause-usage : goal.returns-in_err-format-in-Stock-clause-usage
 returns-in_err-format-in-Stock-clause-usage c = λ usage.
     let app = app_for c.args.subcommand in
     let words = map string_bytes c.args.words.now in
     let value = value_in-matches app words c.in_ok-matches.matches (codes "FORMAT") c.in_ok-matches.ensures.rows in
     let failed = err_from_is_err_and c.from_residual-in_err-format-in-Stock.result c.from_residual-in_err-format-in-Stock.ensures.1 in
-    refuses-no_format c.args.subcommand words (has_bad_cells (value_in app words))
+    refuses-no_format c.args.subcommand words
     (ap (λ s. has_bad_value s (value_in app words)) c.in-Stock.is)
     (ap format_of value ∙ c.in_err-format-in-Stock.ensures.usage (subst IsUsage (failed.1 ∙ ap Err failed.2) usage))
 
@@ -139,7 +122,6 @@ returns-in-Unfinished-clause-job c =
       subcommand = ap Some (sym c.in-Unfinished.is);
       values = (
         value_read app words m (codes "FILE") _ rows c.in_ok-file.ensures.value,
-        has_journeys (value_in app words) (first_value (found_of m)) (λ id. value_in-matches app words m id rows) unfinished_in c.in_ok-filter-in-Unfinished.filter c.in_ok-filter-in-Unfinished.ensures.journeys,
         ap format_of (value_in-matches app words m (codes "FORMAT") rows) ∙ c.in_ok-format-in-Unfinished.ensures.format,
       );
     }
@@ -148,84 +130,21 @@ pub returns-in-Unfinished-clause-taken : goal.returns-in-Unfinished-clause-taken
 returns-in-Unfinished-clause-taken c = λ _.
     let app = app_for c.args.subcommand in
     let words = map string_bytes c.args.words.now in
-    let m = c.in_ok-matches.matches in
-    let rows = c.in_ok-matches.ensures.rows in
-    refuses-format c.args.subcommand words (has_bad_journeys unfinished_in (value_in app words)) c.in_ok-format-in-Unfinished.format
+    let value = value_in-matches app words c.in_ok-matches.matches (codes "FORMAT") c.in_ok-matches.ensures.rows in
+    refuses-format c.args.subcommand words c.in_ok-format-in-Unfinished.format
     (ap (λ s. has_bad_value s (value_in app words)) c.in-Unfinished.is)
-    (c.in_ok-matches.ensures.taken refl) (journeys_same (value_in app words) (first_value (found_of m)) (λ id. value_in-matches app words m id rows) unfinished_in ∙ c.in_ok-filter-in-Unfinished.ensures.taken refl)
-    (ap format_of (value_in-matches app words m (codes "FORMAT") rows) ∙ c.in_ok-format-in-Unfinished.ensures.format)
+    (c.in_ok-matches.ensures.taken refl) (ap format_of value ∙ c.in_ok-format-in-Unfinished.ensures.format)
 
--- a usage is returned for a value only where it spells nothing
-pub returns-in_err-filter-in-Unfinished-clause-usage : goal.returns-in_err-filter-in-Unfinished-clause-usage
-returns-in_err-filter-in-Unfinished-clause-usage c = λ usage.
-    let app = app_for c.args.subcommand in
-    let words = map string_bytes c.args.words.now in
-    let m = c.in_ok-matches.matches in
-    let rows = c.in_ok-matches.ensures.rows in
-    let failed = err_from_is_err_and c.from_residual-in_err-filter-in-Unfinished.result c.from_residual-in_err-filter-in-Unfinished.ensures.1 in
-    refuses-bad c.args.subcommand words (has_bad_journeys unfinished_in (value_in app words))
-    (ap (λ s. has_bad_value s (value_in app words)) c.in-Unfinished.is)
-    (journeys_same (value_in app words) (first_value (found_of m)) (λ id. value_in-matches app words m id rows) unfinished_in ∙ c.in_err-filter-in-Unfinished.ensures.usage (subst IsUsage (failed.1 ∙ ap Err failed.2) usage))
-
--- and for a format only where a word is none
+-- a usage is returned only for a word that is no format
 pub returns-in_err-format-in-Unfinished-clause-usage : goal.returns-in_err-format-in-Unfinished-clause-usage
 returns-in_err-format-in-Unfinished-clause-usage c = λ usage.
     let app = app_for c.args.subcommand in
     let words = map string_bytes c.args.words.now in
     let value = value_in-matches app words c.in_ok-matches.matches (codes "FORMAT") c.in_ok-matches.ensures.rows in
     let failed = err_from_is_err_and c.from_residual-in_err-format-in-Unfinished.result c.from_residual-in_err-format-in-Unfinished.ensures.1 in
-    refuses-no_format c.args.subcommand words (has_bad_journeys unfinished_in (value_in app words))
+    refuses-no_format c.args.subcommand words
     (ap (λ s. has_bad_value s (value_in app words)) c.in-Unfinished.is)
     (ap format_of value ∙ c.in_err-format-in-Unfinished.ensures.usage (subst IsUsage (failed.1 ∙ ap Err failed.2) usage))
-
-pub returns-in-Journeys-clause-job : goal.returns-in-Journeys-clause-job
-returns-in-Journeys-clause-job c =
-    let app = app_for c.args.subcommand in
-    let words = map string_bytes c.args.words.now in
-    let m = c.in_ok-matches.matches in
-    let rows = c.in_ok-matches.ensures.rows in
-    record {
-      subcommand = ap Some (sym c.in-Journeys.is);
-      values = (
-        value_read app words m (codes "FILE") _ rows c.in_ok-file.ensures.value,
-        has_journeys (value_in app words) (first_value (found_of m)) (λ id. value_in-matches app words m id rows) phases_in c.in_ok-filter-in-Journeys.filter c.in_ok-filter-in-Journeys.ensures.journeys,
-        ap format_of (value_in-matches app words m (codes "FORMAT") rows) ∙ c.in_ok-format-in-Journeys.ensures.format,
-      );
-    }
-
-pub returns-in-Journeys-clause-taken : goal.returns-in-Journeys-clause-taken
-returns-in-Journeys-clause-taken c = λ _.
-    let app = app_for c.args.subcommand in
-    let words = map string_bytes c.args.words.now in
-    let m = c.in_ok-matches.matches in
-    let rows = c.in_ok-matches.ensures.rows in
-    refuses-format c.args.subcommand words (has_bad_journeys phases_in (value_in app words)) c.in_ok-format-in-Journeys.format
-    (ap (λ s. has_bad_value s (value_in app words)) c.in-Journeys.is)
-    (c.in_ok-matches.ensures.taken refl) (journeys_same (value_in app words) (first_value (found_of m)) (λ id. value_in-matches app words m id rows) phases_in ∙ c.in_ok-filter-in-Journeys.ensures.taken refl)
-    (ap format_of (value_in-matches app words m (codes "FORMAT") rows) ∙ c.in_ok-format-in-Journeys.ensures.format)
-
--- a usage is returned for a value only where it spells nothing
-pub returns-in_err-filter-in-Journeys-clause-usage : goal.returns-in_err-filter-in-Journeys-clause-usage
-returns-in_err-filter-in-Journeys-clause-usage c = λ usage.
-    let app = app_for c.args.subcommand in
-    let words = map string_bytes c.args.words.now in
-    let m = c.in_ok-matches.matches in
-    let rows = c.in_ok-matches.ensures.rows in
-    let failed = err_from_is_err_and c.from_residual-in_err-filter-in-Journeys.result c.from_residual-in_err-filter-in-Journeys.ensures.1 in
-    refuses-bad c.args.subcommand words (has_bad_journeys phases_in (value_in app words))
-    (ap (λ s. has_bad_value s (value_in app words)) c.in-Journeys.is)
-    (journeys_same (value_in app words) (first_value (found_of m)) (λ id. value_in-matches app words m id rows) phases_in ∙ c.in_err-filter-in-Journeys.ensures.usage (subst IsUsage (failed.1 ∙ ap Err failed.2) usage))
-
--- and for a format only where a word is none
-pub returns-in_err-format-in-Journeys-clause-usage : goal.returns-in_err-format-in-Journeys-clause-usage
-returns-in_err-format-in-Journeys-clause-usage c = λ usage.
-    let app = app_for c.args.subcommand in
-    let words = map string_bytes c.args.words.now in
-    let value = value_in-matches app words c.in_ok-matches.matches (codes "FORMAT") c.in_ok-matches.ensures.rows in
-    let failed = err_from_is_err_and c.from_residual-in_err-format-in-Journeys.result c.from_residual-in_err-format-in-Journeys.ensures.1 in
-    refuses-no_format c.args.subcommand words (has_bad_journeys phases_in (value_in app words))
-    (ap (λ s. has_bad_value s (value_in app words)) c.in-Journeys.is)
-    (ap format_of value ∙ c.in_err-format-in-Journeys.ensures.usage (subst IsUsage (failed.1 ∙ ap Err failed.2) usage))
 
 pub returns-in-Load-clause-job : goal.returns-in-Load-clause-job
 returns-in-Load-clause-job c =
@@ -259,9 +178,9 @@ returns-in-History-clause-taken c = λ _.
     let app = app_for c.args.subcommand in
     let words = map string_bytes c.args.words.now in
     let value = value_in-matches app words c.in_ok-matches.matches (codes "FORMAT") c.in_ok-matches.ensures.rows in
-    refuses-format c.args.subcommand words false c.in_ok-format-in-History.format
+    refuses-format c.args.subcommand words c.in_ok-format-in-History.format
     (ap (λ s. has_bad_value s (value_in app words)) c.in-History.is)
-    (c.in_ok-matches.ensures.taken refl) refl (ap format_of value ∙ c.in_ok-format-in-History.ensures.format)
+    (c.in_ok-matches.ensures.taken refl) (ap format_of value ∙ c.in_ok-format-in-History.ensures.format)
 
 -- a usage is returned only for a word that is no format
 pub returns-in_err-format-in-History-clause-usage : goal.returns-in_err-format-in-History-clause-usage
@@ -270,7 +189,7 @@ returns-in_err-format-in-History-clause-usage c = λ usage.
     let words = map string_bytes c.args.words.now in
     let value = value_in-matches app words c.in_ok-matches.matches (codes "FORMAT") c.in_ok-matches.ensures.rows in
     let failed = err_from_is_err_and c.from_residual-in_err-format-in-History.result c.from_residual-in_err-format-in-History.ensures.1 in
-    refuses-no_format c.args.subcommand words false
+    refuses-no_format c.args.subcommand words
     (ap (λ s. has_bad_value s (value_in app words)) c.in-History.is)
     (ap format_of value ∙ c.in_err-format-in-History.ensures.usage (subst IsUsage (failed.1 ∙ ap Err failed.2) usage))
 

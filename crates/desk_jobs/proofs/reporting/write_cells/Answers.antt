@@ -1,24 +1,18 @@
--- The lines of the rows that remain.
-use Rattle.std.proofs.Common.{◌+◌, ap, ◌∙◌, rules}
+-- The report of the rows that remain.
+use Rattle.std.proofs.Common.{rules}
 use Rattle.sqlite.specs.Held.{state}
 use Rattle.sqlite.specs.State.{HasCleanDisk}
-use Rattle.reports.proofs.FrontLemmas.{front_whole}
+use Rattle.desk_jobs.proofs.ReportLemmas.{wrote_front, wrote_whole}
 use Rattle.desk_jobs.proofs.reporting.write_cells.Goals as goal
 
--- they were written, and counted after those before
+-- it was written, and flushed or not
 pub returns-in-Ok-clause-told : goal.returns-in-Ok-clause-told
-returns-in-Ok-clause-told g c clean going all rests =
-    let sound : HasCleanDisk (state g.S.Store c.stock_lines.new.rows.rows.now.conn.now) = search rules in
-    let wrote = c.in-Ok.ensures.written sound all (going, rests) in
-    record {
-      whole = wrote;
-      front = front_whole _ _ _ wrote;
-      going = (c.in-Ok.ensures.rest sound all (going, rests)).0;
-      counted = c.in-Ok.ensures.given ∙ ap (λ n. n + c.args.before.given) (c.in-Ok.ensures.number sound all (going, rests));
-    }
+returns-in-Ok-clause-told g c clean all rests =
+    let sound : HasCleanDisk (state g.S.Store c.stock_text.new.rows.rows.now.conn.now) = search rules in
+    wrote_whole _ _ _ _ c.flush.result (c.in-Ok.ensures.written sound all (c.new-progress.ensures.going, rests)) c.flush.ensures.same
 
--- a prefix of them was
+-- a prefix of it was
 pub returns-in-Err-clause-told : goal.returns-in-Err-clause-told
-returns-in-Err-clause-told g c clean going all rests =
-    let sound : HasCleanDisk (state g.S.Store c.stock_lines.new.rows.rows.now.conn.now) = search rules in
-    record { whole = tt; front = c.stock_lines.ensures.front sound all (going, rests); going = tt; counted = tt }
+returns-in-Err-clause-told g c clean all rests =
+    let sound : HasCleanDisk (state g.S.Store c.stock_text.new.rows.rows.now.conn.now) = search rules in
+    wrote_front _ _ _ _ (c.stock_text.ensures.front sound all (c.new-progress.ensures.going, rests))

@@ -74,92 +74,50 @@ returns-in_ok-arg-in-Load c =
       each = IfOk-weaker c.arg-in-Load-2.result _ _ (λ command added. (made command added).1) c.arg-in-Load-2.ensures;
     }
 
--- `stock` has a file, and perhaps what its cells are to be and a format
-pub returns-in_ok-arg-in-Stock-5 : goal.returns-in_ok-arg-in-Stock-5
-returns-in_ok-arg-in-Stock-5 c =
+-- `stock` has a file, and perhaps a format
+pub returns-in-Stock : goal.returns-in-Stock
+returns-in-Stock c =
     let s = c.args.self in
     let b = c.in_ok-bare.ensures in
     let file = c.value.result in
-    let kind = c.option-kind.result in
-    let supplier = c.option-supplier.result in
-    let product = c.option-product.result in
-    let from = c.option-from.result in
-    let to = c.option-to.result in
     let format = c.format.result in
-    let xs = file ∷ kind ∷ supplier ∷ product ∷ from ∷ to ∷ format ∷ [] in
+    let xs = file ∷ format ∷ [] in
     let is = c.format.ensures in
-    let all : All IsWord xs = and_value file (kind ∷ supplier ∷ product ∷ from ∷ to ∷ format ∷ []) c.value.ensures.value
-    (and_value kind (supplier ∷ product ∷ from ∷ to ∷ format ∷ []) c.option-kind.ensures.value
-    (and_value supplier (product ∷ from ∷ to ∷ format ∷ []) c.option-supplier.ensures.value
-    (and_value product (from ∷ to ∷ format ∷ []) c.option-product.ensures.value
-    (and_value from (to ∷ format ∷ []) c.option-from.ensures.value
-    (and_value to (format ∷ []) c.option-to.ensures.value (and_value format [] is.value no_value)))))) in
+    let all : All IsWord xs = and_value file (format ∷ []) c.value.ensures.value
+    (and_value format [] is.value no_value) in
     let listed : map rule_of xs ≡ rules_for s = ap₂ (λ r rs. r ∷ rs) c.value.ensures.rule
-    (ap₂ (λ r rs. r ∷ rs) c.option-kind.ensures.rule (ap₂ (λ r rs. r ∷ rs) c.option-supplier.ensures.rule
-    (ap₂ (λ r rs. r ∷ rs) c.option-product.ensures.rule (ap₂ (λ r rs. r ∷ rs) c.option-from.ensures.rule
-    (ap₂ (λ r rs. r ∷ rs) c.option-to.ensures.rule (ap (λ r. r ∷ []) is.rule)))))) ∙ ap rules_for (sym c.in-Stock.is) in
-    let made : (command : Command) → AddsArg c.in_ok-arg-in-Stock-5.field-0 format command
+    (ap (λ r. r ∷ []) is.rule) ∙ ap rules_for (sym c.in-Stock.is) in
+    let made : (command : Command) → AddsArg c.in_ok-over_file.over_file format command
     → (app_of command ≡ app_for s) × All (Requires command) (needed_for s) =
     λ command added. with_values (name_of s) c.in_ok-bare.bare command xs (rules_for s)
-    (c.in_ok-over_file.over_file, c.in_ok-over_file.ensures, (c.in_ok-arg-in-Stock.field-0, c.in_ok-arg-in-Stock.ensures, (c.in_ok-arg-in-Stock-2.field-0, c.in_ok-arg-in-Stock-2.ensures, (c.in_ok-arg-in-Stock-3.field-0, c.in_ok-arg-in-Stock-3.ensures, (c.in_ok-arg-in-Stock-4.field-0, c.in_ok-arg-in-Stock-4.ensures, (c.in_ok-arg-in-Stock-5.field-0, c.in_ok-arg-in-Stock-5.ensures, (command, added, refl)))))))
+    (c.in_ok-over_file.over_file, c.in_ok-over_file.ensures, (command, added, refl))
     b.app b.args b.groups b.globals b.negates all listed (ids_fit s) in
     record {
-      app = IfOk-weaker c.arg-in-Stock-6.result _ _ (λ command added. (made command added).0) c.arg-in-Stock-6.ensures;
-      each = IfOk-weaker c.arg-in-Stock-6.result _ _ (λ command added. (made command added).1) c.arg-in-Stock-6.ensures;
+      app = IfOk-weaker c.arg-in-Stock.result _ _ (λ command added. (made command added).0) c.arg-in-Stock.ensures;
+      each = IfOk-weaker c.arg-in-Stock.result _ _ (λ command added. (made command added).1) c.arg-in-Stock.ensures;
     }
 
--- `unfinished` has a file, and perhaps an agent, a state and a format
-pub returns-in_ok-arg-in-Unfinished-2 : goal.returns-in_ok-arg-in-Unfinished-2
-returns-in_ok-arg-in-Unfinished-2 c =
+-- `unfinished` has a file, and perhaps a format
+pub returns-in-Unfinished : goal.returns-in-Unfinished
+returns-in-Unfinished c =
     let s = c.args.self in
     let b = c.in_ok-bare.ensures in
     let file = c.value.result in
-    let agent = c.option-agent.result in
-    let state = c.option-state.result in
     let format = c.format-in-Unfinished.result in
-    let xs = file ∷ agent ∷ state ∷ format ∷ [] in
+    let xs = file ∷ format ∷ [] in
     let is = c.format-in-Unfinished.ensures in
-    let all : All IsWord xs = and_value file (agent ∷ state ∷ format ∷ []) c.value.ensures.value
-    (and_value agent (state ∷ format ∷ []) c.option-agent.ensures.value
-    (and_value state (format ∷ []) c.option-state.ensures.value (and_value format [] is.value no_value))) in
+    let all : All IsWord xs = and_value file (format ∷ []) c.value.ensures.value
+    (and_value format [] is.value no_value) in
     let listed : map rule_of xs ≡ rules_for s = ap₂ (λ r rs. r ∷ rs) c.value.ensures.rule
-    (ap₂ (λ r rs. r ∷ rs) c.option-agent.ensures.rule (ap₂ (λ r rs. r ∷ rs) c.option-state.ensures.rule
-    (ap (λ r. r ∷ []) is.rule))) ∙ ap rules_for (sym c.in-Unfinished.is) in
-    let made : (command : Command) → AddsArg c.in_ok-arg-in-Unfinished-2.field-0 format command
+    (ap (λ r. r ∷ []) is.rule) ∙ ap rules_for (sym c.in-Unfinished.is) in
+    let made : (command : Command) → AddsArg c.in_ok-over_file.over_file format command
     → (app_of command ≡ app_for s) × All (Requires command) (needed_for s) =
     λ command added. with_values (name_of s) c.in_ok-bare.bare command xs (rules_for s)
-    (c.in_ok-over_file.over_file, c.in_ok-over_file.ensures, (c.in_ok-arg-in-Unfinished.field-0, c.in_ok-arg-in-Unfinished.ensures, (c.in_ok-arg-in-Unfinished-2.field-0, c.in_ok-arg-in-Unfinished-2.ensures, (command, added, refl))))
+    (c.in_ok-over_file.over_file, c.in_ok-over_file.ensures, (command, added, refl))
     b.app b.args b.groups b.globals b.negates all listed (ids_fit s) in
     record {
-      app = IfOk-weaker c.arg-in-Unfinished-3.result _ _ (λ command added. (made command added).0) c.arg-in-Unfinished-3.ensures;
-      each = IfOk-weaker c.arg-in-Unfinished-3.result _ _ (λ command added. (made command added).1) c.arg-in-Unfinished-3.ensures;
-    }
-
--- `journeys` has a file, and perhaps an agent, a state and a format
-pub returns-in_ok-arg-in-Journeys-2 : goal.returns-in_ok-arg-in-Journeys-2
-returns-in_ok-arg-in-Journeys-2 c =
-    let s = c.args.self in
-    let b = c.in_ok-bare.ensures in
-    let file = c.value.result in
-    let agent = c.option-agent-in-Journeys.result in
-    let state = c.option-state-in-Journeys.result in
-    let format = c.format-in-Journeys.result in
-    let xs = file ∷ agent ∷ state ∷ format ∷ [] in
-    let is = c.format-in-Journeys.ensures in
-    let all : All IsWord xs = and_value file (agent ∷ state ∷ format ∷ []) c.value.ensures.value
-    (and_value agent (state ∷ format ∷ []) c.option-agent-in-Journeys.ensures.value
-    (and_value state (format ∷ []) c.option-state-in-Journeys.ensures.value (and_value format [] is.value no_value))) in
-    let listed : map rule_of xs ≡ rules_for s = ap₂ (λ r rs. r ∷ rs) c.value.ensures.rule
-    (ap₂ (λ r rs. r ∷ rs) c.option-agent-in-Journeys.ensures.rule (ap₂ (λ r rs. r ∷ rs) c.option-state-in-Journeys.ensures.rule
-    (ap (λ r. r ∷ []) is.rule))) ∙ ap rules_for (sym c.in-Journeys.is) in
-    let made : (command : Command) → AddsArg c.in_ok-arg-in-Journeys-2.field-0 format command
-    → (app_of command ≡ app_for s) × All (Requires command) (needed_for s) =
-    λ command added. with_values (name_of s) c.in_ok-bare.bare command xs (rules_for s)
-    (c.in_ok-over_file.over_file, c.in_ok-over_file.ensures, (c.in_ok-arg-in-Journeys.field-0, c.in_ok-arg-in-Journeys.ensures, (c.in_ok-arg-in-Journeys-2.field-0, c.in_ok-arg-in-Journeys-2.ensures, (command, added, refl))))
-    b.app b.args b.groups b.globals b.negates all listed (ids_fit s) in
-    record {
-      app = IfOk-weaker c.arg-in-Journeys-3.result _ _ (λ command added. (made command added).0) c.arg-in-Journeys-3.ensures;
-      each = IfOk-weaker c.arg-in-Journeys-3.result _ _ (λ command added. (made command added).1) c.arg-in-Journeys-3.ensures;
+      app = IfOk-weaker c.arg-in-Unfinished.result _ _ (λ command added. (made command added).0) c.arg-in-Unfinished.ensures;
+      each = IfOk-weaker c.arg-in-Unfinished.result _ _ (λ command added. (made command added).1) c.arg-in-Unfinished.ensures;
     }
 
 -- `history` has a file, the number of a journey, and perhaps a format
@@ -194,7 +152,7 @@ returns-in_default c =
     let file = c.value.result in
     let all : All IsWord (file ∷ []) = and_value file [] c.value.ensures.value no_value in
     let listed : map rule_of (file ∷ []) ≡ rules_for s =
-    ap (λ r. r ∷ []) c.value.ensures.rule ∙ sym (rules_for-others s c.in_default.not-Serve c.in_default.not-Load c.in_default.not-Stock c.in_default.not-Unfinished c.in_default.not-Journeys c.in_default.not-History) in
+    ap (λ r. r ∷ []) c.value.ensures.rule ∙ sym (rules_for-others s c.in_default.not-Serve c.in_default.not-Load c.in_default.not-Stock c.in_default.not-Unfinished c.in_default.not-History) in
     let made = with_values (name_of s) c.in_ok-bare.bare c.in_ok-over_file.over_file (file ∷ []) (rules_for s)
     (c.in_ok-over_file.over_file, c.in_ok-over_file.ensures, refl)
     b.app b.args b.groups b.globals b.negates all listed (ids_fit s) in

@@ -1,2 +1,0 @@
-pub mod HandedCells
-pub mod HandedBriefs

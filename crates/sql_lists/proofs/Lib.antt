@@ -1,4 +1,0 @@
-pub mod ListMeanings
-pub mod CellAnswers
-pub mod JourneyAnswers
-pub mod Handed

@@ -1,2 +1,0 @@
-pub mod CellLists
-pub mod JourneyLists
