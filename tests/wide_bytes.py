@@ -10,8 +10,8 @@ import subprocess
 import sys
 
 import wide_rows as rows
-from driving import DESK, free_port
-from sending import Sender, end_writing, rest_of
+from driving import DESK, end_writing, free_port, opened, rest_of
+from sending import Sender
 
 DATE = re.compile(rb"Date: [A-Z][a-z]{2}, [0-3]\d [A-Z][a-z]{2} \d{4} [0-2]\d:[0-5]\d:[0-6]\d GMT\r\n")
 SETUP = [
@@ -66,7 +66,7 @@ def goes_on(sender):
     """The desk asks for a body once, when its head has come and nothing of it, also for the second request of a connection."""
     for name, (message, shown, *_) in rows.ASKING.items():
         head, body = rows.head_of(message), message[len(rows.head_of(message)) :]
-        stream = sender.opened()
+        stream = opened(sender.port)
         stream.settimeout(20)
         for _ in range(2):
             stream.sendall(head)
@@ -88,7 +88,7 @@ def goes_on(sender):
 def ends_at_once(sender):
     """What begins no method ends the connection, although its client waits."""
     for name, message in rows.NO_METHOD.items():
-        stream = sender.opened()
+        stream = opened(sender.port)
         stream.settimeout(20)
         stream.sendall(message)
         sender.compare(f"{name}: the end", [b""], rest_of(stream))

@@ -1,10 +1,8 @@
 mod asking;
 mod asks;
 mod begins;
-mod counted;
 mod faults;
 mod helping;
 mod moves;
 mod opening;
-mod owned;
 mod sources;

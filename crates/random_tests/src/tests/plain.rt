@@ -3,7 +3,6 @@
 use allotment::{Cell, Want};
 use commands::{Agent, Ask, Batch, Cause, Command, Item, Key, Phase, Refusal, Reply};
 use plan::Plan;
-use saga_core::Counts;
 use std::alloc::{AllocError, Global};
 
 /// One event of the ledger.
@@ -175,49 +174,6 @@ impl Plain {
             }
         }
         number
-    }
-
-    /// The phase of a journey with this plan, and how many of its steps stand.
-    fn cursor(&self, id: u64, plan: &Plan) -> Result<(usize, Phase), AllocError> {
-        let items = self.history(id)?;
-        let pos = net(self.alloc, &items)?.len();
-        Ok((pos, phase(plan, &items, pos)))
-    }
-
-    /// How many events, journeys and unfinished journeys there are.
-    pub fn counts(&self) -> Result<Counts, AllocError> {
-        let mut journeys = 0u64;
-        let mut unfinished = 0u64;
-        for event in &self.events {
-            if let Event::Began(_, plan) = event {
-                journeys = journeys.saturating_add(1);
-                let (_, phase) = self.cursor(journeys, plan)?;
-                if !matches!(phase, Phase::Ended | Phase::Undone) {
-                    unfinished = unfinished.saturating_add(1);
-                }
-            }
-        }
-        Ok(Counts {
-            events: self.events.len() as u64,
-            journeys,
-            unfinished,
-        })
-    }
-
-    /// The journeys of an agent in order, each by its number, how many of its steps stand, and its phase.
-    pub fn owned(&self, agent: &Agent) -> Result<Vec<(u64, usize, Phase)>, AllocError> {
-        let mut owned = Vec::new(self.alloc);
-        let mut id = 0u64;
-        for event in &self.events {
-            if let Event::Began(owner, plan) = event {
-                id = id.saturating_add(1);
-                if *owner == *agent {
-                    let (pos, phase) = self.cursor(id, plan)?;
-                    owned.push((id, pos, phase))?;
-                }
-            }
-        }
-        Ok(owned)
     }
 
     /// The items of a journey.

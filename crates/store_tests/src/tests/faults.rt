@@ -3,7 +3,7 @@
 ghost use Rattle.std.specs.Prelude.{IsTrue, IfOk};
 ghost use Rattle.sqlite_disk.specs.Memory.{memory_is_usable};
 
-use crate::tests::helping::{ANN, Asking, PLAN, answered, begin, book_over, counts, holds, opened};
+use crate::tests::helping::{ANN, Asking, PLAN, begin, book_over, counts, holds, opened, told};
 use commands::{Command, Fault, Reply};
 use desk_sql::read_meta;
 use memory_files::{ClosedFile, Session, disk_of, leave_failing};
@@ -59,6 +59,19 @@ fn left_of(alloc: Global, mut disk: Fuse<Memory>, crashes: bool) -> io::Result<M
 
 fn has_blown<D: Disk>(disk: &mut D) -> bool {
     !disk.may_be_used() || disk.len().is_err()
+}
+
+/// The reply to the house, or to an agent.
+fn answered<S: Alter>(
+    alloc: Global,
+    book: &mut TableBook<S>,
+    command: &Command,
+    asking: Option<Asking<'_>>,
+) -> Result<Reply, Fault> {
+    match asking {
+        Some(asking) => told(alloc, book, command, asking),
+        None => book.act(command, None),
+    }
 }
 
 /// Begins journeys, and returns the last one that was answered. After the store has failed, nothing more is answered.

@@ -105,19 +105,6 @@ pub fn told<S: Alter>(
     book.act(command, Some(&Ask::new(agent, key, text)))
 }
 
-/// The reply to the house, or to an agent.
-pub fn answered<S: Alter>(
-    alloc: Global,
-    book: &mut TableBook<S>,
-    command: &Command,
-    asking: Option<Asking<'_>>,
-) -> Result<Reply, Fault> {
-    match asking {
-        Some(asking) => told(alloc, book, command, asking),
-        None => book.act(command, None),
-    }
-}
-
 /// Runs the texts in one transaction.
 pub fn run<S: Alter>(conn: &mut Connection<S>, texts: &str) -> Result<(), Error>
     requires outside { conn.old.in_transaction ≡ false }
