@@ -5,12 +5,10 @@ Prints what went wrong, and how much was sent.
 malformed.py EACH    of the cuts only each EACH-th; whole requests and single bytes always
 """
 import random
-import subprocess
 import sys
 import time
 
-from driving import DESK, free_port
-from sending import Sender
+from sending import Sender, at_desk
 
 AGENT = b"Desk-Agent: ann\r\n"
 KEY = b"Desk-Key: k1\r\n"
@@ -157,21 +155,15 @@ def try_all(sender, each, chance):
     sender.sent["seconds for five begins"] = round(time.monotonic() - before)
 
 
-def main():
-    port = free_port()
+def trial(port):
+    """What is sent to a desk at this port."""
     sender = Sender(port, pages_of, cut_pages)
-    with subprocess.Popen([DESK, "serve", "trips.db", "--port", str(port)], stdin=subprocess.DEVNULL,
-                          stdout=subprocess.PIPE, stderr=subprocess.PIPE) as desk:
-        desk.stdout.readline()
-        try:
-            try_all(sender, int(sys.argv[1]), random.Random(1987))
-            if desk.poll() is not None:
-                sender.wrong.append(f"the desk has ended: {desk.returncode}")
-        finally:
-            desk.kill()
-            out, err = desk.communicate()
-        if err:
-            sender.wrong.append(f"the desk told {err!r}")
+    try_all(sender, int(sys.argv[1]), random.Random(1987))
+    return sender
+
+
+def main():
+    sender = at_desk("trips.db", [], trial)
     print(sender.summary())
     for text in sender.wrong:
         print(text, file=sys.stderr)

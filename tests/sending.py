@@ -5,8 +5,9 @@ import collections
 import select
 import socket
 import struct
+import subprocess
 
-from driving import end_writing, opened, rest_of
+from driving import DESK, end_writing, free_port, opened, rest_of
 
 
 class Sender:
@@ -101,3 +102,22 @@ class Sender:
 
     def summary(self):
         return ", ".join(f"{name}: {count}" for name, count in self.sent.items())
+
+
+def at_desk(file, words, trial):
+    """The sender that a trial at a port returns, where a desk serves a new file with these words. What goes wrong with the desk
+    itself is wrong too."""
+    port = free_port()
+    with subprocess.Popen([DESK, "serve", file, "--port", str(port), *words], stdin=subprocess.DEVNULL, stdout=subprocess.PIPE,
+                          stderr=subprocess.PIPE) as desk:
+        desk.stdout.readline()
+        try:
+            sender = trial(port)
+            if desk.poll() is not None:
+                sender.wrong.append(f"the desk has ended: {desk.returncode}")
+        finally:
+            desk.kill()
+            _, err = desk.communicate()
+    if err:
+        sender.wrong.append(f"the desk told {err!r}")
+    return sender

@@ -6,12 +6,11 @@ wide_bytes.py EACH    of the cuts only each EACH-th; whole messages and single b
 """
 import random
 import re
-import subprocess
 import sys
 
 import wide_rows as rows
-from driving import DESK, end_writing, free_port, opened, rest_of
-from sending import Sender
+from driving import end_writing, opened, rest_of
+from sending import Sender, at_desk
 
 DATE = re.compile(rb"Date: [A-Z][a-z]{2}, [0-3]\d [A-Z][a-z]{2} \d{4} [0-2]\d:[0-5]\d:[0-6]\d GMT\r\n")
 SETUP = [
@@ -138,31 +137,19 @@ def try_plain(port, *_):
     return sender
 
 
-def at_desk(file, words, trial, each):
-    """A trial at a desk over a new file, with these words; how many rows were wrong."""
-    port = free_port()
-    with subprocess.Popen([DESK, "serve", file, "--port", str(port), *words], stdin=subprocess.DEVNULL, stdout=subprocess.PIPE,
-                          stderr=subprocess.PIPE) as desk:
-        desk.stdout.readline()
-        try:
-            sender = trial(port, each, random.Random(2022))
-            if desk.poll() is not None:
-                sender.wrong.append(f"the desk has ended: {desk.returncode}")
-        finally:
-            desk.kill()
-            _, err = desk.communicate()
-        if err:
-            sender.wrong.append(f"the desk told {err!r}")
-    print(" ".join(words) + ": " + sender.summary())
+def wrong_at(name, file, words, trial, each):
+    """A trial at a desk over a new file, with these words, called so in what is printed; how many rows were wrong."""
+    sender = at_desk(file, words, lambda port: trial(port, each, random.Random(2022)))
+    print(f"{name}: {sender.summary()}")
     for text in sender.wrong:
-        print(f"{' '.join(words)}: {text}", file=sys.stderr)
+        print(f"{name}: {text}", file=sys.stderr)
     return len(sender.wrong)
 
 
 def main():
     each = int(sys.argv[1])
-    wrong = at_desk("wide.db", ["--wide"], try_wide, each) if "plain" not in sys.argv else 0
-    wrong += at_desk("plain.db", [], try_plain, each)
+    wrong = wrong_at("wide", "wide.db", ["--wide"], try_wide, each) if "plain" not in sys.argv else 0
+    wrong += wrong_at("plain", "plain.db", [], try_plain, each)
     sys.exit(1 if wrong else 0)
 
 
