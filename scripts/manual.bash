@@ -41,7 +41,9 @@ values_told() {
 names_file() { [ "$1" = FILE ] || [ "$1" = CSV ]; }
 
 # choices_of VALUE TEXT: the words that may stand for the value of this name, with this text; nothing if it may be any word
-choices_of() { [ "$1" != FORMAT ] || sed 's/ (the default)//; s/,//g; s/ or / /' <<<"$2"; }
+choices_of() {
+  case $1 in FORMAT | KIND | STATE) sed 's/ (the default)//; s/^.*: //; s/,//g; s/ or / /' <<<"$2" ;; esac
+}
 
 # page_part LEVEL: roff of a help on standard input, but for its first line, how it is called, and the list of commands; its
 # headings are of this level, SH or SS

@@ -1,7 +1,8 @@
 #!/usr/bin/env bash
 # ./check tries all edits of a crate where a source of it, or of one below, has changed, and each of the others once in four
-# days. It says what is left out, leaves out nothing else, and fails where anything fails. In place of rt stands a script,
-# which notes the edits that it is given. The scripts run side by side, those first that take longest.
+# days. It says what is left out, leaves out nothing else, and fails where anything fails, at once if a source is not laid out.
+# In place of rt stands a script, which notes the edits that it is given. The scripts run side by side, those first that take
+# longest.
 . "$(dirname "${BASH_SOURCE[0]}")/helping.bash"
 if ! command -v git >/dev/null 2>&1; then
   echo "edits_chosen.sh: skipped, there is no git" >&2
@@ -18,6 +19,7 @@ export FAKE=$work/fake
 cat >"$FAKE/rt" <<'RT'
 #!/usr/bin/env bash
 if [ "$1" = version ]; then cat "$FAKE/version"; exit; fi
+if [ "$1" = fmt ]; then [ ! -e src/lib.rt ] || sed -i 's/  */ /g' src/lib.rt; exit; fi
 [ "$1" = ci ] && [ -d .git ] || exit 2
 find crates -name '*.edit' | sort >"$FAKE/edits"
 find . -type f ! -name '*.edit' | sort >"$FAKE/files"
@@ -105,6 +107,12 @@ gate 0 --since HEAD
 same "since the last commit" "desk 2, high 2, low 2, mid 2, other 2" "$(tried)"
 gate 0 --since HEAD~1
 same "since the one before" "desk 8, high 8, low 2, mid 8, other 2" "$(tried)"
+
+echo "one  two" >crates/low/src/lib.rt
+gate 1
+says "a source that is not laid out" "rt fmt lays out crates/low/src/lib.rt differently"
+same "a source that is not laid out: nothing is tried" absent "$([ -e "$FAKE/edits" ] || echo absent)"
+git checkout -q crates/low
 
 mkdir crates/other/proofs
 echo new >crates/other/proofs/New.antt

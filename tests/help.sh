@@ -8,7 +8,7 @@ program=$DESK
 say() { printf 'help.sh: %s\n' "$*" >&2; }
 . "$top/scripts/manual.bash"
 
-commands="run serve recover load stock unfinished history migrate"
+commands="run serve recover load stock summary holders unfinished journeys history why migrate"
 
 # helps WHAT WORDS: the program prints a help on standard error, into the file err, and ends with 2
 helps() {
@@ -149,16 +149,25 @@ completes() {
 bash_completion >desk.bash
 mkdir files && cd files && touch trips.db june.csv || exit 2
 same "complete -p desk" "complete -F _desk desk" "$(bash --norc -c '. ../desk.bash; complete -p desk')"
-completes "desk s" "serve stock" desk s
+completes "desk s" "serve stock summary" desk s
 completes "desk u" "unfinished" desk u
+completes "desk h" "holders history help" desk h
+completes "desk w" "why" desk w
 completes "desk --h" "--help" desk --h
 completes "desk --v" "--version" desk --v
 completes "desk help r" "run recover" desk help r
 completes "desk serve --" "--port --connections --house --page --log --wide --help" desk serve --
 completes "desk load --b" "--batch" desk load --b
-completes "desk stock --p" "" desk stock --p
-completes "desk stock --f" "--format" desk stock --f
+completes "desk stock --p" "--product" desk stock --p
+completes "desk stock --c" "--calendar" desk stock --c
+completes "desk stock --x" "" desk stock --x
+completes "desk stock --f" "--from --format" desk stock --f
+completes "a kind" "flight room transfer cover" desk stock --kind ""
+completes "a state of an unfinished journey" "run back" desk unfinished trips.db --state ""
+completes "a state that begins so" "undone" desk journeys trips.db --state u
+completes "a supplier" "" desk stock --supplier ""
 completes "a format" "text json csv" desk history trips.db 1 --format ""
+completes "a format of why" "text json csv" desk why trips.db 1 --format ""
 completes "a format that begins so" "json" desk unfinished trips.db --format j
 completes "desk run t" "trips.db" desk run t
 completes "desk load trips.db j" "june.csv" desk load trips.db j
@@ -179,7 +188,7 @@ fi
 
 fish_completion >desk.fish
 if command -v fish >/dev/null; then
-  same "fish: desk s" "serve stock" "$(HOME=$work fish -c 'source desk.fish; complete -C "desk s"' | cut -f1 | sort | one_line)"
+  same "fish: desk s" "serve stock summary" "$(HOME=$work fish -c 'source desk.fish; complete -C "desk s"' | cut -f1 | sort | one_line)"
   same "fish: desk serve --p" "--page --port" "$(HOME=$work fish -c 'source desk.fish; complete -C "desk serve --p"' | cut -f1 | one_line)"
   same "fish: a format" "csv json text" "$(HOME=$work fish -c 'source desk.fish; complete -C "desk stock --format "' | cut -f1 | sort | one_line)"
 else

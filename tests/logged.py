@@ -140,6 +140,38 @@ def kinds():
     silent.close()
 
 
+def widely():
+    """With --wide: each request is logged once, by its own method and the digits of its key; a first byte that begins no method
+    closes."""
+    served = Desk("widely.db", "--log", "--wide")
+    uuid = "7d444840-9dc0-11d1-b245-5ffdce74fad2"
+    digits = uuid.replace("-", "")
+    one = opened(served.port)
+    one.sendall(STOCK.replace(b"GET", b"HEAD", 1))
+    found = b""
+    while not found.endswith(b"\r\n\r\n"):
+        found += one.recv(65536)
+    head = b"POST /journeys HTTP/1.1\r\nHost: d\r\nDesk-Agent: ann\r\nDesk-Key: %s\r\n" % uuid.encode()
+    ask(one, head + b"Transfer-Encoding: chunked\r\n\r\n%x\r\n%s\r\n0\r\n\r\n" % (len(PLAN), PLAN))
+    one.sendall(head + b"Content-Length: %d\r\nExpect: 100-continue\r\n\r\n" % len(PLAN))
+    same("it goes on", b"HTTP/1.1 100 Continue\r\n\r\n", one.recv(25))
+    ask(one, PLAN)
+    one.close()
+    first = "request connection=1 door=port agent=ann"
+    served.has("the first connection ends", "ended connection=1 door=port requests=3 why=left")
+    same("its lines", [
+        f"{first} method=HEAD target=/stock status=200 key= again=no",
+        f"{first} method=POST target=/journeys status=200 key={digits} again=no",
+        f"{first} method=POST target=/journeys status=200 key={digits} again=yes",
+    ], served.log()[1:4])
+    hello = opened(served.port)
+    same("a TLS hello gets no page", b"", ask(hello, bytes.fromhex("16030102000100fc0303") + b"\x5a" * 60))
+    hello.close()
+    served.has("a TLS hello", "request connection=2 door=port agent= method= target= status=? key= again=no")
+    served.has("its end", "ended connection=2 door=port requests=1 why=closed")
+    served.kill()
+
+
 def odd_bytes():
     """Bytes of a peer that do not print are escaped: one line is one record, however odd they are."""
     served = Desk("odd.db", "--log")
@@ -287,7 +319,7 @@ def guarded(call):
 
 
 def main():
-    threads = [threading.Thread(target=guarded, args=(call,)) for call in (kinds, odd_bytes, cut, late, displaced, broken, silent)]
+    threads = [threading.Thread(target=guarded, args=(call,)) for call in (kinds, widely, odd_bytes, cut, late, displaced, broken, silent)]
     for thread in threads:
         thread.start()
     for thread in threads:

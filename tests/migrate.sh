@@ -100,6 +100,13 @@ state back 2 to 1"
 is_shown() {
   leaves "$1: stock" 0 "$stock" "" stock "$2"
   leaves "$1: unfinished" 0 "$unfinished" "" unfinished "$2"
+  leaves "$1: a part of the stock" 0 "$(sed -n '1p;4p' <<<"$stock")
+cells 1" "" stock "$2" --kind transfer --to $day
+  leaves "$1: unfinished journeys of an agent" 0 "$(grep ann <<<"$unfinished")
+unfinished 2" "" unfinished "$2" --agent ann
+  leaves "$1: undone journeys" 0 "           3 bob              undone 0
+           7 bob              undone 0
+journeys 2" "" journeys "$2" --state undone
   leaves "$1: a history" 0 "$history" "" history "$2" 2
   leaves "$1: another" 0 "journey 7 agent bob
 plan R/INN/A/$day/2/1|R/INN/B/$day/1/1!0

@@ -17,7 +17,7 @@ ends() {
   same "$1: standard error" "$3" "$(cat err)"
 }
 
-# is_whole FILE: it is well-formed, has a title and a description, needs nothing else, and is below 20 KB
+# is_whole FILE: it is well-formed, has a title and a description, needs nothing else, and is below 24 KB
 is_whole() {
   same "$1" "svg, 1 title, 1 desc" "$(python3 - "$1" 2>&1 <<'END'
 import sys
@@ -30,7 +30,7 @@ print(f"{top.tag.removeprefix(space)}, {count['title']} title, {count['desc']} d
 END
   )"
   same "$1: what it needs besides" "" "$(grep -oE '<script|<image|href|@import|@font-face|url\(' "$1")"
-  same "$1: below 20 KB" yes "$([ "$(wc -c <"$1")" -lt 20000 ] && echo yes)"
+  same "$1: below 24 KB" yes "$([ "$(wc -c <"$1")" -lt 24000 ] && echo yes)"
 }
 
 # draws WHAT ITEMS WORDS: the picture of these items says these words of them

@@ -33,9 +33,33 @@ same "the house's journeys, by HEAD" "200 0" \
   "$(curl -s -I -o head -w '%{http_code} %{size_download}' --max-time 20 "${at_house[@]}" http://desk/unfinished)"
 page "the house's methods" 204 "" "${at_house[@]}" -D head -X OPTIONS http://desk/stop
 same "those of a stop" "Allow: OPTIONS, POST" "$(tr -d '\r' <head | grep '^Allow')"
+same "the methods of a stop for which GET asks" "405 Allow: OPTIONS, POST" \
+  "$(curl -s -D - -o /dev/null --max-time 20 "${at_house[@]}" http://desk/stop | tr -d '\r' | sed -n 's/^HTTP[^ ]* \([0-9]*\).*/\1/p; /^Allow/p' | paste -sd ' ')"
+same "those for which HEAD asks, without a body" "405 0" \
+  "$(curl -s -I -o head -w '%{http_code} %{size_download}' --max-time 20 "${at_house[@]}" http://desk/stop)"
 page "a stop at the port" 404 '{"name":"UnknownPath","refused":7}' -H 'Desk-Agent: ann' -H 'Desk-Key: k2' -X POST \
   "http://127.0.0.1:$port/stop"
 page "a stop without a length" 200 '{"state":"stopping"}' "${at_house[@]}" -X POST http://desk/stop
 ends_well "with --wide"
 same "the begin acted once" "1" "$(rows 'SELECT journeys FROM meta')"
+
+# with --page another host is refused, whatever it asks for
+serves_with --wide --page || exit 1
+for method in GET HEAD POST OPTIONS DELETE; do
+  asks=(-X "$method")
+  [ "$method" != HEAD ] || asks=(-I)
+  for path in / /stock /journeys; do
+    same "$method $path of another host" "400 close" "$(curl -s -D - -o /dev/null --max-time 20 "${asks[@]}" \
+      -H 'Host: other.example' "http://127.0.0.1:$port$path" | tr -d '\r' |
+      sed -n 's/^HTTP[^ ]* \([0-9]*\).*/\1/p; s/^Connection: //p' | paste -sd ' ')"
+  done
+done
+page "the methods of the page" 204 "" -D head -X OPTIONS "http://127.0.0.1:$port/"
+same "its methods" "Allow: GET, HEAD, OPTIONS" "$(tr -d '\r' <head | grep '^Allow')"
+page "a POST to the page" 405 '{"name":"WrongMethod","refused":8}' -D head -X POST "http://127.0.0.1:$port/"
+same "its methods again" "Allow: GET, HEAD, OPTIONS" "$(tr -d '\r' <head | grep '^Allow')"
+same "the page by HEAD" "200 0" \
+  "$(curl -s -I -o head -w '%{http_code} %{size_download}' --max-time 20 "http://127.0.0.1:$port/")"
+kill "$desk"
+wait "$desk" 2>/dev/null
 finish

@@ -4,9 +4,11 @@ desk without --wide, whose bytes stay as they are. Prints what went wrong, and h
 
 wide_bytes.py EACH    of the cuts only each EACH-th; whole messages and single bytes always
 """
+import email.utils
 import random
 import re
 import sys
+import time
 
 import wide_rows as rows
 from driving import end_writing, opened, rest_of
@@ -94,6 +96,25 @@ def ends_at_once(sender):
         sender.sent["ended at once"] += 1
 
 
+def is_dated(sender):
+    """Each page has the date of the second in which it is given, once, after the lines for caches; what is no page has none."""
+    one, begin = rows.request(rows.BEGIN, rows.HOST, rows.ANN, rows.K1, rows.SIZE, body=rows.PLAN), time.time()
+    for name, message in {"a GET": rows.GET, "a kept page": one, "a HEAD": rows.GET.replace(b"GET", b"HEAD", 1),
+                          "OPTIONS": rows.request(b"OPTIONS * HTTP/1.1", rows.HOST), "no head": b"A\r\n\r\n",
+                          "another method": rows.request(b"DELETE /stock HTTP/1.1", rows.HOST, rows.ANN)}.items():
+        stream = opened(sender.port)
+        stream.sendall(message)
+        end_writing(stream)
+        head = rest_of(stream).partition(b"\r\n\r\n")[0] + b"\r\n"
+        lines = b"".join(line + b"\r\n" for line in rows.CACHE)
+        dates = DATE.findall(head.partition(lines)[2])
+        second = email.utils.parsedate_to_datetime(dates[0][6:].decode()).timestamp() if dates else 0
+        is_now = len(dates) == 1 and head.count(b"Date: ") == 1 and int(begin) <= second <= time.time()
+        if not is_now:
+            sender.wrong.append(f"{name}: the date\n  found:    {head}")
+        sender.sent["dated"] += 1
+
+
 def begins(sender):
     """Begins in chunks that come byte by byte, each under a key of its own."""
     for number in range(3, 8):
@@ -120,6 +141,7 @@ def try_wide(port, each, chance):
     usual.asked_once("after cuts", rows.GET, rows.UNFINISHED)
     goes_on(usual)
     ends_at_once(usual)
+    is_dated(usual)
     begins(usual)
     return usual
 

@@ -85,8 +85,7 @@ def wrong_method(wide, plain):
             plainly(page(b"405 Method Not Allowed", WRONG_METHOD, b"Allow: " + plain)))
 
 
-# GET and HEAD of a path that is posted to get the page of GET, which names POST alone
-NOT_GET, NOT_GET_PLAINLY = wrong_method(b"POST", b"POST")
+NOT_GET, NOT_GET_PLAINLY = wrong_method(b"OPTIONS, POST", b"POST")
 NOT_POST, NOT_POST_PLAINLY = wrong_method(b"GET, HEAD, OPTIONS", b"GET")
 HOST = b"Host: 127.0.0.1:8080"
 ANN = b"Desk-Agent: ann"
@@ -189,7 +188,7 @@ ONE = {
                                            NOT_POST_PLAINLY),
     "OPTIONS of an unknown path": (request(b"OPTIONS /stock/ HTTP/1.1", HOST), UNKNOWN),
     "a POST of a path that is read": (request(b"POST /stock HTTP/1.1", HOST, ANN, b"Desk-Key: x5", b"Content-Length: 0"),
-                                      *wrong_method(b"GET", b"GET")),
+                                      NOT_POST, NOT_POST_PLAINLY),
     "another method": (request(b"DELETE /stock HTTP/1.1", HOST, ANN), NOT_POST, NOT_POST_PLAINLY),
     "a GET of a path that is posted to": (request(b"GET /journeys HTTP/1.1", HOST, ANN), NOT_GET, NOT_GET_PLAINLY),
     # what asks for 100 Continue, although no body comes

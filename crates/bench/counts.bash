@@ -90,24 +90,33 @@ count_statements() {
 # library alone, took for each of so many
 tell_work() { awk -v name="$1" -v count="$2" -v desk="$3" -v store="$4" 'BEGIN { print name, desk / count, store / count }'; }
 
+# count_desk KEYED WORD ..: the instructions of the desk for these events, by lines or with a key
+count_desk() { if [ "$1" -eq 1 ]; then count_requests "${@:2}"; else count_lines "${@:2}"; fi; }
+
 # count_events NIGHTS KEYED: the instructions of each kind of event, over so many nights, by lines or with a key
 count_events() {
   local nights=$1 keyed=$2 count=50 kinds names=(none begin T B C) desk_count store_count desk_before=0 store_before=0 words
   has_nights base.db "$nights" || return 1
   for kinds in 0 1 2 3 4; do
     words=("nights=$nights" "count=$count" "kinds=$kinds" "keyed=$keyed")
-    if [ "$keyed" -eq 1 ]; then
-      desk_count=$(count_requests "${words[@]}") || return 1
-    else
-      desk_count=$(count_lines "${words[@]}") || return 1
-    fi
-    store_count=$(count_statements "${words[@]}") || return 1
+    desk_count=$(count_desk "$keyed" "${words[@]}") && store_count=$(count_statements "${words[@]}") || return 1
     [ "$kinds" -eq 0 ] ||
       tell_work "${names[kinds]}-$nights$([ "$keyed" -eq 0 ] || echo -keyed)" "$count" $((desk_count - desk_before)) \
         $((store_count - store_before))
     desk_before=$desk_count store_before=$store_count
   done
   same_rows trips.db store.db
+}
+
+# count_turns KEYED: the instructions of a turn that is asked for, by lines or with a key
+count_turns() {
+  local keyed=$1 count=50 words desk_count store_count desk_more store_more
+  words=(nights=1 "count=$count" "keyed=$keyed" asked=1)
+  has_nights base.db 1 || return 1
+  desk_count=$(count_desk "$keyed" "${words[@]}" kinds=2) && desk_more=$(count_desk "$keyed" "${words[@]}" kinds=3) &&
+    store_count=$(count_statements "${words[@]}" kinds=2) && store_more=$(count_statements "${words[@]}" kinds=3) &&
+    tell_work "asked-1$([ "$keyed" -eq 0 ] || echo -keyed)" "$count" $((desk_more - desk_count)) $((store_more - store_count)) &&
+    same_rows trips.db store.db
 }
 
 # count_gets GET: the instructions of this GET, while three journeys of two items each are under way, with 2,001 cells
@@ -124,7 +133,7 @@ measure_store() (
   has_callgrind store && has_c store send || exit 0
   works_in_memory
   if ! texts_are_the_desks; then exit 1; fi
-  local table name words tables=(events-1-0 events-30-0 events-1-1 events-30-1 gets-journey gets-unfinished gets-stock)
+  local table name words tables=(events-1-0 events-30-0 events-1-1 events-30-1 turns-0 turns-1 gets-journey gets-unfinished gets-stock)
   for table in "${tables[@]}"; do
     IFS=- read -r name words <<<"$table"
     in_folder "$table" "count_$name" ${words/-/ } &
@@ -143,7 +152,7 @@ texts_are_the_desks() {
   while IFS= read -r -d $'\x1e' text; do
     text=${text#*$'\x1f'}
     case $text in BEGIN | COMMIT) continue ;; esac
-    if ! grep -rqF "\"$text\"" "$top"/crates/desk_sql/src; then
+    if ! grep -rqF "\"$text\"" "$top"/crates/{desk_sql,sql_loads}/src; then
       say "the desk has no such statement any more: $text"
       return 1
     fi

@@ -6,13 +6,13 @@
 #   count    how many journeys there are, each of two steps, of which the second does not fit
 #   kinds    how many of the four kinds of events there are: all begin; all take the places of their first step (T); all turn
 #            back (B); all give the places back (C)
+#   asked    1: journeys turn back because they are asked to, by an abort to position 0, in place of a step that does not fit
 #   get      journey, unfinished or stock: with which request to continue, if any
 #   gets     how often
 #   load     the name of a batch: instead of these events, it is loaded after so many events as `before` says, as statements.
 #            Its rows are the input, an allotment file with 250 nights of each product
 #
-# Requests have a key, and so have statements if `keyed` is 1. The second read of `meta` and of the journey, which a desk
-# may make before a turn, is not among the statements.
+# Requests have a key, and so have statements if `keyed` is 1. No turn depends on the plan: no step may be tried again.
 function prepare(name, text) {
   printf "prepare%s%s%s", S, text, E
   number[name] = prepared++
@@ -29,9 +29,6 @@ function prepare_all() {
   prepare("find journey", "SELECT id, num, agent, steps, tries, pos, phase, target, used FROM journey WHERE id = ?1")
   prepare("find options", "SELECT place, opt, save, taken, kind, supplier, product, night, nights, places FROM step " \
     "WHERE journey = ?1 AND place = ?2 ORDER BY place, opt")
-  prepare("find steps", "SELECT place, opt, save, taken, kind, supplier, product, night, nights, places FROM step " \
-    "WHERE journey = ?1 ORDER BY place, opt")
-  prepare("find marks", "SELECT pos FROM mark WHERE journey = ?1 ORDER BY pos")
   prepare("find nights", "SELECT night, allot, free FROM stock WHERE kind = ?1 AND supplier = ?2 AND product = ?3 " \
     "AND night BETWEEN ?4 AND ?5 ORDER BY night")
   prepare("find items", "SELECT num, item, a, b FROM entry2 WHERE journey = ?1 AND num > ?2 ORDER BY num")
@@ -51,8 +48,9 @@ function prepare_all() {
   prepare("answer", "INSERT INTO answer VALUES (?1, ?2, ?3, ?4)")
   prepare("find batch", "SELECT num, content FROM batch WHERE name = ?1")
   prepare("batch", "INSERT INTO batch VALUES (?1, ?2, ?3)")
-  prepare("cell", "INSERT INTO stock VALUES (?1, ?2, ?3, ?4, ?5, ?6) ON CONFLICT(kind, supplier, product, night) " \
-    "DO UPDATE SET allot = excluded.allot, free = excluded.free")
+  prepare("cell", "INSERT INTO stock VALUES (?1, ?2, ?3, ?4, ?5, ?6)")
+  prepare("run", "UPDATE stock SET allot = ?4, free = ?5 WHERE kind = ?1 AND supplier = ?2 AND product = ?3 " \
+    "AND night BETWEEN ?6 AND ?7")
 }
 
 # what every event reads, and what each but a begin does
@@ -78,10 +76,10 @@ function end_event(key, ask, reply) {
   if (keyed) run("execute", "answer", text_of("ann") text_of(key) S "b" ask text_of(reply))
   run("execute", "commit", "")
 }
-function end_item(id, item, a, b, pos, phase, used, key, reply) {
+function end_item(id, item, a, b, pos, phase, used, key, way, reply) {
   run("execute", "move", int_of(id) int_of(pos) int_of(phase) int_of(0) int_of(used))
   run("execute", "item", int_of(++events) int_of(id) int_of(item) int_of(a) int_of(b))
-  end_event(key, "/journeys/" id "/step\n", "journey " id " " reply)
+  end_event(key, "/journeys/" id "/" way "\n", "journey " id " " reply)
 }
 
 function begin(id, key) {
@@ -102,16 +100,20 @@ function take(id, key) {
   run("execute", "begin", "")
   put_nights(1)
   run("execute", "taken", int_of(id) int_of(1) int_of(1) int_of(1))
-  end_item(id, 0, 1, 1, 1, 0, 0, key, "T1.1 run 1")
+  end_item(id, 0, 1, 1, 1, 0, 0, key, "step", "T1.1 run 1")
 }
 function turn(id, key) {
   read_first(key)
   read_journey(id, 2)
   read_nights(0, "NO", "NONE", 1)
-  run("query", "find steps", int_of(id))
-  run("query", "find marks", int_of(id))
   run("execute", "begin", "")
-  end_item(id, 2, 0, 1, 1, 1, 1, key, "B0r back 1 to 0")
+  end_item(id, 2, 0, 1, 1, 1, 1, key, "step", "B0r back 1 to 0")
+}
+function turn_asked(id, key) {
+  read_first(key)
+  run("query", "find journey", int_of(id))
+  run("execute", "begin", "")
+  end_item(id, 2, 0, 2, 1, 1, 0, key, "abort/0", "B0a back 1 to 0")
 }
 function give(id, key) {
   read_first(key)
@@ -120,29 +122,40 @@ function give(id, key) {
   put_nights(-1)
   run("execute", "taken", int_of(id) int_of(1) int_of(1) int_of(0))
   run("execute", "unmark", int_of(id) int_of(1))
-  end_item(id, 1, 1, 1, 0, 3, 1, key, "C1.1 undone 0")
+  end_item(id, 1, 1, 1, 0, 3, !asked, key, "step", "C1.1 undone 0")
 }
 
-# a batch of so many rows, whose cells are known by their texts and by their values
-function load_batch(  at) {
+# a batch of so many rows, whose cells are known by their texts and by their values: the nights of each product are a run, of
+# which 64 are read at once, and all cells are new in the first batch, and none in a later one
+function load_batch(  at, together) {
   read_first("")
   run("query", "find batch", text_of(load))
-  for (at = 1; at <= rows; at++) run("query", "find nights", cells[at] int_of(days[at]) int_of(days[at]))
+  for (at = 1; at <= rows; at += together) {
+    for (together = 1; together < 64 && cells[at + together] == cells[at]; ) together++
+    run("query", "find nights", cells[at] int_of(days[at]) int_of(days[at] + together - 1))
+  }
   run("execute", "begin", "")
   run("execute", "batch", text_of(load) int_of(++events) S "b" content)
-  for (at = 1; at <= rows; at++) run("execute", "cell", cells[at] int_of(days[at]) int_of(places[at]) int_of(places[at]))
+  for (at = 1; at <= rows; at++) {
+    if (cells[at] != cells[at - 1])
+      run("execute", "run", cells[at] int_of(places[at]) int_of(places[at]) int_of(days[at]) int_of(days[at] + 249))
+    if (!before) run("execute", "cell", cells[at] int_of(days[at]) int_of(places[at]) int_of(places[at]))
+  }
   end_event("", "", "")
 }
 
 function statements_of(which, id, key) {
   if (which == 1) begin(id, key)
   if (which == 2) take(id, key)
-  if (which == 3) turn(id, key)
+  if (which == 3 && !asked) turn(id, key)
+  if (which == 3 && asked) turn_asked(id, key)
   if (which == 4) give(id, key)
 }
 function line_of(which, id) {
   if (which == 1)
     printf "begin %s/%s/%s/2030-06-01/%d/1;F/NO/NONE/2030-06-01/1/1!0\n", substr("FR", kind + 1, 1), supplier, product, nights
+  else if (which == 3 && asked)
+    printf "abort %d 0\n", id
   else
     printf "step %d\n", id
 }
@@ -152,12 +165,13 @@ function request_of(method, target, fields, body) {
   printf "\r\n%s%s", body, E
 }
 
-function event(which, id,  key) {
+function event(which, id,  key, way) {
   key = "k" which "-" id
+  way = which == 3 && asked ? "abort/0" : "step"
   if (form == "statements") statements_of(which, id, key)
   if (form == "lines") line_of(which, id)
   if (form == "requests")
-    request_of("POST", which == 1 ? "/journeys" : "/journeys/" id "/step", "Desk-Key: " key "\r\n", which == 1 ? plan : "")
+    request_of("POST", which == 1 ? "/journeys" : "/journeys/" id "/" way, "Desk-Key: " key "\r\n", which == 1 ? plan : "")
 }
 
 # the answer to a GET: of the journey of that number, which began at the event of that number

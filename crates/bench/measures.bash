@@ -337,6 +337,16 @@ measure_stock() (
   awk -v told="$told" -v ours="$ours" -v opening="$opening" -v plain="$plain" \
     'BEGIN { sub("cells ", "", told)
              printf "%d %.0f %.0f %.0f %.2f %.2f 3.0\n", told, ours, opening, plain, ours / plain, (ours - opening) / plain }'
+  # a part of the cells: a product of 250 nights, and a supplier who has none, of each kind
+  product=$(took "$desk" stock cells.db --kind flight --supplier LOAD --product P0025)
+  few=$(tail -n 1 out)
+  nobody=$(took "$desk" stock cells.db --supplier NOBODY)
+  none=$(tail -n 1 out)
+  echo "stock shown report-ms of-it-opening-ms over-the-whole-without-opening at-most"
+  awk -v few="$few" -v none="$none" -v product="$product" -v nobody="$nobody" -v ours="$ours" -v opening="$opening" \
+    'BEGIN { sub("cells ", "", few); sub("cells ", "", none)
+             printf "a-product %d %.0f %.0f %.3f 0.1\n", few, product, opening, (product - opening) / (ours - opening)
+             printf "a-supplier %d %.0f %.0f %.3f 0.1\n", none, nobody, opening, (nobody - opening) / (ours - opening) }'
   "$desk" run few.db </dev/null
   "$bench" load few.db 1 >loaded || exit 1
   few=$(peak_of_report few.db 500)

@@ -24,7 +24,7 @@ enum { ROWS = 2000, PLACES = 100000, FIRST = 22066 /* 2030-06-01, in days from 1
 /* the statements */
 enum {
   BEGIN, COMMIT, META, PUT, BATCH, JOURNEY, STEP, TAKEN, MOVE, ENTRY, UNMARK, ANSWER,
-  READ_META, READ_JOURNEY, READ_OPTIONS, READ_STEPS, READ_MARKS, READ_NIGHTS, READ_BATCH, READ_ANSWER, UNFINISHED, STATEMENTS
+  READ_META, READ_JOURNEY, READ_OPTIONS, READ_NIGHTS, READ_BATCH, READ_ANSWER, UNFINISHED, STATEMENTS
 };
 static const char *const texts[STATEMENTS] = {
   [BEGIN] = "BEGIN",
@@ -45,9 +45,6 @@ static const char *const texts[STATEMENTS] = {
                    "WHERE id = ?1",
   [READ_OPTIONS] = "SELECT place, opt, save, taken, kind, supplier, product, night, nights, places "
                    "FROM step WHERE journey = ?1 AND place = ?2 ORDER BY place, opt",
-  [READ_STEPS] = "SELECT place, opt, save, taken, kind, supplier, product, night, nights, places "
-                 "FROM step WHERE journey = ?1 ORDER BY place, opt",
-  [READ_MARKS] = "SELECT pos FROM mark WHERE journey = ?1 ORDER BY pos",
   [READ_NIGHTS] = "SELECT night, allot, free FROM stock WHERE kind = ?1 AND supplier = ?2 AND product = ?3 "
                   "AND night BETWEEN ?4 AND ?5 ORDER BY night",
   [READ_BATCH] = "SELECT num, content FROM batch WHERE name = ?1",
@@ -134,15 +131,6 @@ static void read_step(long id, int place) {
   RUN(READ_OPTIONS, "ii", id, place);
 }
 
-/* and besides where the journey turns */
-static void read_plan(long id) {
-  if (!reads) return;
-  RUN(READ_META, "", 0);
-  RUN(READ_JOURNEY, "i", id);
-  RUN(READ_STEPS, "i", id);
-  RUN(READ_MARKS, "i", id);
-}
-
 /* Loads a batch: so many nights of each of these products. */
 static void load(const char *name, const struct want *wants, int products) {
   static char content[ROWS * 40];
@@ -205,13 +193,12 @@ static void take(struct want *want, long id) {
   move(id, 0, 1, 1, 1, 0, 0);
 }
 
-/* The second step does not fit: the journey turns back to its beginning. */
+/* The second step does not fit: the journey, which has no try left, turns back to its beginning. */
 static void turn(struct want *want, long id) {
   static const struct want none = {0, FIRST, 1, 0, "F", "NO", "NONE"};
   (void)want;
   read_step(id, 2);
   if (reads) read_nights(&none, FIRST, FIRST);
-  read_plan(id);
   RUN(BEGIN, "", 0);
   move(id, 2, 0, 1, 1, 1, 1);
 }

@@ -8,7 +8,7 @@ use Rattle.allotment.specs.Nights.{night_in}
 use Rattle.allotment.specs.Texts.{parts, slash, keep_if, cell_from, cell_of_parts, cell_in}
 use Rattle.allotment.specs.declared.kinds.Kind.{Kind}
 use Rattle.allotment.specs.declared.cells.Cell.{Cell}
-use Rattle.allotment.specs.declared.faults.Bad.{Bad}
+use Rattle.allotment.specs.declared.wants.Bad.{Bad}
 use Rattle.allotment.proofs.TestLemmas.{and_both, and_make, fails_too, keep_if_no, keep_if_none, keep_if_some, keep_if_yes}
 use Rattle.allotment.proofs.CutLemmas.{some_part}
 use Rattle.allotment.proofs.NightLemmas.{night_text-night_in}

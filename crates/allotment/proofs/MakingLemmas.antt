@@ -7,8 +7,8 @@ use Rattle.allotment.specs.Nights.{night_in}
 use Rattle.allotment.specs.Texts.{keep_if}
 use Rattle.allotment.specs.Want.{Wanted}
 use Rattle.allotment.specs.declared.kinds.Kind.{Kind}
-use Rattle.allotment.specs.declared.faults.Bad.{Bad}
-use Rattle.allotment.specs.declared.faults.Bad.TheVariants as bad
+use Rattle.allotment.specs.declared.wants.Bad.{Bad}
+use Rattle.allotment.specs.declared.wants.Bad.TheVariants as bad
 use Rattle.allotment.proofs.TestLemmas.{and_make, keep_if_some}
 
 -- What each reader of a part gave.

@@ -4,8 +4,8 @@ use Rattle.allotment.specs.Want.{Wanted, wanted}
 use Rattle.allotment.specs.Limits.{is_code, are_nights, is_count}
 use Rattle.allotment.specs.Nights.{night_in}
 use Rattle.allotment.specs.declared.kinds.Kind.{Kind}
-use Rattle.allotment.specs.declared.faults.Bad.{Bad}
-use Rattle.allotment.specs.declared.faults.Bad.TheVariants as bad
+use Rattle.allotment.specs.declared.wants.Bad.{Bad}
+use Rattle.allotment.specs.declared.wants.Bad.TheVariants as bad
 
 -- what is wrong, unless the test holds
 abbrev pub unless : {F : Type 0} → Bool → F → List F

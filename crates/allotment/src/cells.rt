@@ -1,9 +1,8 @@
 //! Cells, and rows of allotment files, with their texts.
-ghost use Rattle.std.specs.Prelude.{◌≡◌};
-ghost use Rattle.allotment.specs.Texts.{cell_in_four};
+ghost use Rattle.allotment.specs.Texts.{cell_in_four, IsCut, IsOnePart};
+ghost use Rattle.std.specs.Prelude.{◌≡◌, MatchOption};
 
 use crate::codes::Code;
-use crate::cuts::cut;
 use crate::kinds::Kind;
 use crate::nights::Night;
 use std::alloc::{AllocError, Global};
@@ -187,4 +186,11 @@ fn from_parts(kind: &str, supplier: &str, product: &str, night: &str) -> Option<
         product,
         night,
     })
+}
+
+/// The text before the first `/`, and the text after it. Returns `None` if there is no `/`.
+pub fn cut(text: &str) -> Option<(&str, &str)>
+    ensures { MatchOption result (IsOnePart text.now) (λ p. IsCut text.now p.0.now p.1.now) }
+{
+    text.split_once('/')
 }

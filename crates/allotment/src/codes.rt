@@ -1,8 +1,8 @@
-//! Names of suppliers and of products.
+//! Codes of suppliers and of products, and the short texts that they are.
+
 use crate::limits::LONGEST_CODE;
-use crate::shorts::Short;
-use std::fmt;
 use std::marker::Model;
+use std::{fmt, str};
 
 /// A supplier or a product: 1 to 8 of `A`-`Z` and `0`-`9`. To a contract it is its bytes.
 #[derive(Clone, Copy, Debug, PartialEq, Eq)]
@@ -58,5 +58,104 @@ impl fmt::Display for Code {
 
     fn fmt<W: fmt::Write>(&self, f: &mut fmt::Formatter<W>) -> fmt::Result {
         f.write_str(self.as_str())
+    }
+}
+
+/// A text of at most `N` bytes of ASCII. To a contract it is its bytes.
+#[derive(Clone, Copy)]
+pub struct Short<const N: usize> {
+    /// The text, padded with zeros.
+    bytes: [u8; N],
+    /// How many bytes the text has.
+    len: usize,
+}
+
+impl<const N: usize> Model for Short<N> {
+    ghost use Rattle.std.specs.Prelude.{ℕ, List, length, take};
+    ghost use Rattle.allotment.specs.Short.{padded, IsPadded, padded-take, length_of};
+
+    ghost Value = { List ℕ };
+
+    ghost view = { λ a. take a.len a.bytes };
+
+    ghost invariant = { λ a. IsPadded N a.len a.bytes };
+
+    ghost inverse = { λ text. record { bytes = padded N text; len = length text } };
+
+    ghost inverse_ok = { λ a h i. record {
+      bytes = padded-take N a.len a.bytes h i;
+      len = length_of N a.len a.bytes h i;
+    } };
+}
+
+impl<const N: usize> Short<N> {
+    ghost use Rattle.std.specs.Prelude.{◌≡◌, ◌↔◌, [], length, IsTrue};
+    ghost use Rattle.allotment.specs.Short.{is_short};
+    ghost use Rattle.allotment.specs.Texts.{keep_if};
+
+    /// Stores the text. Returns `None` if it has more than `N` bytes or a byte that is not ASCII.
+    pub fn new(text: &str) -> Option<Short<N>>
+        ensures { result ≡ keep_if (is_short N) text.now }
+    {
+        let given = text.as_bytes();
+        if given.len() > N || !given.is_ascii() {
+            return None;
+        }
+        let mut bytes = [0; N];
+        bytes[..given.len()].copy_from_slice(given);
+        Some(Short {
+            bytes,
+            len: given.len(),
+        })
+    }
+
+    /// The text.
+    pub fn as_str(&self) -> &str
+        ensures text { result.now ≡ self.now }
+        ensures limits { IsTrue (is_short N self.now) }
+    {
+        // the text is ASCII, as the invariant says, so it need not be checked again
+        unsafe { str::from_utf8_unchecked(&self.bytes[..self.len]) }
+    }
+
+    /// How many bytes the text has.
+    pub fn len(&self) -> usize
+        ensures { result ≡ length self.now }
+    {
+        self.len
+    }
+
+    /// Whether the text has no byte.
+    pub fn is_empty(&self) -> bool
+        ensures { IsTrue result ↔ self.now ≡ [] }
+    {
+        self.len == 0
+    }
+}
+
+impl<const N: usize> PartialEq for Short<N> {
+    ghost use Rattle.std.specs.Prelude.{bytes_eq};
+    ghost use Rattle.std.proofs.Common.{rules};
+    ghost use Rattle.std.specs.Cmp.Rules.{comparing};
+
+    ghost eq = { λ a b. bytes_eq a b };
+
+    ghost laws = { Prim.search (comparing, rules) };
+
+    fn eq(&self, other: &Short<N>) -> bool {
+        self.as_str() == other.as_str()
+    }
+}
+
+impl<const N: usize> Eq for Short<N> {
+    ghost use Rattle.std.proofs.Common.{rules};
+    ghost use Rattle.std.specs.Cmp.Rules.{comparing};
+
+    ghost laws = { Prim.search (comparing, rules) };
+}
+
+impl<const N: usize> fmt::Debug for Short<N> {
+    fn fmt<W: fmt::Write>(&self, f: &mut fmt::Formatter<W>) -> fmt::Result {
+        fmt::Debug::fmt(self.as_str(), f)
     }
 }

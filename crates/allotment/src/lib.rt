@@ -10,29 +10,22 @@
 
 mod cells;
 mod codes;
-mod cuts;
-mod faults;
 mod kinds;
 mod laws;
 mod limits;
 mod nights;
 mod places;
-mod shorts;
 mod sums;
 #[cfg(test)]
 mod tests;
-mod want_cells;
 mod wants;
 
 pub use cells::{Cell, Row};
-pub use codes::Code;
-pub use faults::Bad;
+pub use codes::{Code, Short};
 pub use kinds::Kind;
 pub use laws::{texts_of_a_room, values_have_one_text};
 pub use limits::MOST_PLACES;
 pub use nights::Night;
 pub use places::Held;
-pub use shorts::Short;
 pub use sums::{BelowHeld, fits, give, set, take};
-pub use want_cells::WantCells;
-pub use wants::Want;
+pub use wants::{Bad, Want, WantCells};

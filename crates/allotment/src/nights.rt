@@ -3,7 +3,7 @@ ghost use Rattle.std.specs.Prelude.{◌≡◌, MatchOption};
 ghost use Rattle.allotment.specs.Nights.{night_in};
 ghost use Rattle.allotment.specs.Dates.{IsNoPair, IsPair, IsNoDate, IsDateText};
 
-use crate::faults::Bad;
+use crate::wants::Bad;
 use jiff_core::civil::Date;
 use jiff_fmt::temporal::DateTimePrinter;
 use std::alloc::{AllocError, Global};

@@ -1,13 +1,12 @@
-//! Wants: so many places of a product for some consecutive nights.
-ghost use Rattle.std.specs.Prelude.{◌≡◌};
+//! Wants: so many places of a product for some consecutive nights; their cells, and what is wrong with a text of one.
 ghost use Rattle.allotment.specs.Limits.{are_nights as may_have_nights, is_count as may_be_count};
+ghost use Rattle.std.specs.Prelude.{◌≡◌};
 
+use crate::cells::Cell;
 use crate::codes::Code;
-use crate::faults::Bad;
 use crate::kinds::Kind;
 use crate::limits::MOST_COUNT;
 use crate::nights::Night;
-use crate::want_cells::WantCells;
 use std::alloc::{AllocError, Global};
 use std::fmt;
 use std::marker::Model;
@@ -33,9 +32,17 @@ impl Model for Want {
 
     ghost view = { λ a. wanted a.kind a.supplier a.product a.first a.nights a.count };
 
-    ghost invariant = { λ a. IsTrue (is_want (wanted a.kind a.supplier a.product a.first a.nights a.count)) };
+    ghost invariant = { λ a.
+        IsTrue (is_want (wanted a.kind a.supplier a.product a.first a.nights a.count)) };
 
-    ghost inverse = { λ w. record { kind = w.kind; supplier = w.supplier; product = w.product; first = w.first; nights = w.nights; count = w.count } };
+    ghost inverse = { λ w. record {
+      kind = w.kind;
+      supplier = w.supplier;
+      product = w.product;
+      first = w.first;
+      nights = w.nights;
+      count = w.count;
+    } };
 }
 
 impl Want {
@@ -169,4 +176,82 @@ fn is_count(count: u64) -> bool
     ensures { result ≡ may_be_count count }
 {
     1 <= count && count <= MOST_COUNT
+}
+
+/// The cells of a want that are yet to be returned, by rising night. To a contract it is their list.
+#[derive(Drop)]
+pub struct WantCells {
+    want: Want,
+    /// The day of the next night.
+    day: u32,
+    /// How many nights are left.
+    left: u8,
+}
+
+impl Model for WantCells {
+    ghost use Rattle.std.specs.Prelude.{List, map};
+    ghost use Rattle.allotment.specs.declared.cells.Cell.{Cell};
+
+    ghost Value = { List Cell };
+
+    ghost use Rattle.allotment.specs.Cells.{cell_at, numbers_from};
+    ghost use Rattle.allotment.specs.Nights.{AreNights};
+
+    ghost view = { λ a. map (cell_at a.want) (numbers_from a.day a.left) };
+
+    ghost invariant = { λ a. AreNights a.day a.left };
+}
+
+impl WantCells {
+    ghost use Rattle.std.specs.Prelude.{◌≡◌};
+    ghost use Rattle.allotment.specs.Cells.{cells_of};
+
+    /// An iterator over all cells of a want.
+    pub fn new(want: &Want) -> WantCells
+        ensures { result ≡ cells_of want.now }
+    {
+        WantCells {
+            want: *want,
+            day: want.first().day(),
+            left: want.nights(),
+        }
+    }
+}
+
+impl Iterator for WantCells {
+    ghost use Rattle.std.specs.Iterator.{YieldsFirst, item_count};
+
+    type Item = Cell;
+
+    ghost next_gives = { YieldsFirst (λ cells. cells) };
+
+    ghost remaining = { item_count (λ cells. cells) };
+
+    fn next(&mut self) -> Option<Cell> {
+        if self.left == 0 {
+            return None;
+        }
+        let night = Night::of_day(self.day);
+        self.day += 1;
+        self.left -= 1;
+        Some(Cell::new(
+            self.want.kind(),
+            self.want.supplier(),
+            self.want.product(),
+            night,
+        ))
+    }
+}
+
+/// The first thing that is wrong, in this order.
+#[derive(Clone, Copy, Debug, PartialEq, Eq)]
+pub enum Bad {
+    /// The supplier or the product is no code.
+    Code,
+    /// The first night is no night.
+    Night,
+    /// There are too few or too many nights for the kind, or the last of them is past 2099-12-31.
+    Nights,
+    /// The count is not from 1 to 50.
+    Count,
 }

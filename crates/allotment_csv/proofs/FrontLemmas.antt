@@ -10,8 +10,8 @@ use Rattle.std.proofs.lemmas.List.{append-nil}
 use Rattle.allotment.specs.Making.{unless, first_fault}
 use Rattle.allotment.specs.declared.cells.Row.{Row}
 use Rattle.commands.specs.Batches.{is_new_cell, is_good_row, repeat_behind, repeat_among}
-use Rattle.commands.specs.declared.refusals.CsvCause.{CsvCause}
-use Rattle.commands.specs.declared.refusals.CsvCause.TheVariants as cause
+use Rattle.commands.specs.declared.replies.CsvCause.{CsvCause}
+use Rattle.commands.specs.declared.replies.CsvCause.TheVariants as cause
 use Rattle.commands.specs.Limits.{most_rows}
 use Rattle.allotment_csv.specs.Rows.{record_causes, row_of_record}
 use Rattle.allotment_csv.specs.Files.{in_csv, rows_of, comes_again, causes_at, row_faults, faults_behind, rows_faults}

@@ -17,7 +17,7 @@ use Rattle.plan.proofs.ListFacts.{append_none, unless_none, first_fault_ok, some
 use Rattle.commands.specs.BatchData.{Batched}
 use Rattle.commands.specs.Batches.{is_new_cell, repeat_behind, is_good_row, is_batch}
 use Rattle.commands.specs.Names.{is_batch_name}
-use Rattle.commands.specs.declared.refusals.CsvCause.TheVariants as cause
+use Rattle.commands.specs.declared.replies.CsvCause.TheVariants as cause
 use Rattle.commands.proofs.RepeatLemmas.{distinct_if_none}
 use Rattle.commands.specs.Limits.{most_rows}
 use Rattle.allotment_csv.specs.Rows.{field_causes, record_causes, row_of_record}

@@ -13,8 +13,8 @@ use Rattle.allotment.specs.declared.cells.Row.{Row}
 use Rattle.commands.specs.Batches.{is_good_row}
 use Rattle.allotment.specs.declared.kinds.Kind.{Kind}
 use Rattle.allotment.proofs.TestLemmas.{and_both, and_make, keep_if_some, keep_if_none, keep_if_yes}
-use Rattle.commands.specs.declared.refusals.CsvCause.{CsvCause}
-use Rattle.commands.specs.declared.refusals.CsvCause.TheVariants as cause
+use Rattle.commands.specs.declared.replies.CsvCause.{CsvCause}
+use Rattle.commands.specs.declared.replies.CsvCause.TheVariants as cause
 use Rattle.allotment_csv.specs.Rows.{field_causes, record_causes, has_shape, row_from, row_of_record}
 use Rattle.allotment_csv.specs.Results.{IsFirst}
 

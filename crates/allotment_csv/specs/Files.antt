@@ -7,8 +7,8 @@ use Rattle.commands.specs.BatchData.{Batched}
 use Rattle.commands.specs.Batches.{is_new_cell}
 use Rattle.commands.specs.Limits.{most_bytes, most_rows}
 use Rattle.commands.specs.Names.{is_batch_name}
-use Rattle.commands.specs.declared.refusals.CsvCause.{CsvCause}
-use Rattle.commands.specs.declared.refusals.CsvCause.TheVariants as cause
+use Rattle.commands.specs.declared.replies.CsvCause.{CsvCause}
+use Rattle.commands.specs.declared.replies.CsvCause.TheVariants as cause
 use Rattle.allotment_csv.specs.Rows.{is_heading, record_causes, row_of_record}
 use Rattle.allotment_csv.specs.declared.faults.CsvFault.{CsvFault}
 use Rattle.allotment_csv.specs.declared.faults.CsvFault.TheVariants.{BadBody, BadCsv}

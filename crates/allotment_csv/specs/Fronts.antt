@@ -5,7 +5,7 @@ use Rattle.allotment.specs.declared.cells.Row.{Row}
 use Rattle.std.specs.List.{list_all}
 use Rattle.commands.specs.Batches.{are_distinct, is_good_row}
 use Rattle.commands.specs.Limits.{most_rows}
-use Rattle.commands.specs.declared.refusals.CsvCause.{CsvCause}
+use Rattle.commands.specs.declared.replies.CsvCause.{CsvCause}
 use Rattle.allotment_csv.specs.Rows.{record_causes, row_of_record}
 use Rattle.allotment_csv.specs.Files.{causes_at}
 use Rattle.allotment_csv.specs.Results.{IsFirst}

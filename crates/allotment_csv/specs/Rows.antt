@@ -9,8 +9,8 @@ use Rattle.allotment.specs.Rows.{allotted}
 use Rattle.allotment.specs.Texts.{kind_of_word, cell_from, places_in}
 use Rattle.allotment.specs.declared.cells.Cell.{Cell}
 use Rattle.allotment.specs.declared.cells.Row.{Row}
-use Rattle.commands.specs.declared.refusals.CsvCause.{CsvCause}
-use Rattle.commands.specs.declared.refusals.CsvCause.TheVariants as cause
+use Rattle.commands.specs.declared.replies.CsvCause.{CsvCause}
+use Rattle.commands.specs.declared.replies.CsvCause.TheVariants as cause
 
 -- the heading of a file
 abbrev pub heading : List (List ℕ)

@@ -3,7 +3,7 @@ use Rattle.std.specs.Prelude.{◌≡◌, ◌≢◌, ⊤, ℕ, List, [], ◌∷�
 use Rattle.std.specs.String.{string_bytes}
 use Rattle.std.specs.Io.KnownBytes.{Appends, IsAtEnd}
 use Rattle.commands.specs.Texts.{sentence}
-use Rattle.commands.specs.declared.refusals.Refusal.TheVariants as refusal
+use Rattle.commands.specs.declared.replies.Refusal.TheVariants as refusal
 use Rattle.migrate.specs.declared.faults.MigrateFault.{MigrateFault}
 use Rattle.migrate.specs.declared.faults.MigrateFault.TheVariants as migration
 use Rattle.protocols.specs.Scenes.{ended}
@@ -11,7 +11,7 @@ use Rattle.desk_lines.specs.Lines.{journey_in}
 use Rattle.desk_jobs.specs.Ends.{recovered_line, TellsAccepted}
 use Rattle.command_line.specs.declared.jobs.Job.{Job}
 use Rattle.command_line.specs.Version.{version_line}
-use Rattle.command_line.specs.declared.jobs.Job.TheVariants.{Run, Serve, Recover, Load, Stock, Unfinished, History, Migrate, Version}
+use Rattle.command_line.specs.declared.jobs.Job.TheVariants.{Run, Serve, Recover, Load, Stock, Calendar, Summary, Holders, Unfinished, Journeys, History, Why, Migrate, Version}
 use Rattle.program_ends.specs.declared.ends.End.{End}
 use Rattle.program_ends.specs.declared.ends.End.TheVariants as finish
 use Rattle.program_ends.specs.declared.faults.ProgramFault.TheVariants as fault
@@ -49,9 +49,14 @@ TellsOf (Run file) held holds = ⊤
 TellsOf (Serve file port connections house page log wide) held holds = TellsReady port held holds
 TellsOf (Recover file) held holds = TellsRecovered held holds
 TellsOf (Load file csv batch) held holds = TellsAccepted held holds
-TellsOf (Stock file format) held holds = ⊤
-TellsOf (Unfinished file format) held holds = ⊤
+TellsOf (Stock file filter format) held holds = ⊤
+TellsOf (Calendar file filter) held holds = ⊤
+TellsOf (Summary file filter format) held holds = ⊤
+TellsOf (Holders file cell format) held holds = ⊤
+TellsOf (Unfinished file filter format) held holds = ⊤
+TellsOf (Journeys file filter format) held holds = ⊤
 TellsOf (History file id format) held holds = ⊤
+TellsOf (Why file id format) held holds = ⊤
 TellsOf (Migrate file) held holds = TellsMigrated held holds
 TellsOf Version held holds = Appends held holds version_line
 

@@ -19,6 +19,7 @@ use command_line::{Job, version_line};
 use commands::Refusal;
 use desk_jobs::{recover_over, run_over};
 use program_ends::{End, Ended, ProgramFault};
+use reports::{Format, JourneyReport};
 use std::alloc::Global;
 use std::io::{Read, Write, sink};
 use streams::send;
@@ -117,16 +118,53 @@ fn carry_out<R: Read, O: Write, N: Write>(
             let (file, csv, batch) = (file.as_str(), csv.as_str(), batch.as_str());
             load_file(rt, alloc, file, csv, batch, reader, out, notes)
         }
-        Job::Stock { file, format } => {
-            let shown = Shown::Stock;
+        Job::Stock {
+            file,
+            filter,
+            format,
+        } => {
+            let shown = Shown::Stock(filter);
             report_file(rt, alloc, file.as_str(), Report { shown, format }, out)
         }
-        Job::Unfinished { file, format } => {
-            let shown = Shown::Unfinished;
+        Job::Summary {
+            file,
+            filter,
+            format,
+        } => {
+            let shown = Shown::Summary(filter);
+            report_file(rt, alloc, file.as_str(), Report { shown, format }, out)
+        }
+        Job::Calendar { file, filter } => {
+            let shown = Shown::Calendar(filter);
+            let format = Format::Text;
+            report_file(rt, alloc, file.as_str(), Report { shown, format }, out)
+        }
+        Job::Holders { file, cell, format } => {
+            let shown = Shown::Holders(cell);
+            report_file(rt, alloc, file.as_str(), Report { shown, format }, out)
+        }
+        Job::Unfinished {
+            file,
+            filter,
+            format,
+        } => {
+            let shown = Shown::Journeys(JourneyReport::Unfinished, filter);
+            report_file(rt, alloc, file.as_str(), Report { shown, format }, out)
+        }
+        Job::Journeys {
+            file,
+            filter,
+            format,
+        } => {
+            let shown = Shown::Journeys(JourneyReport::Journeys, filter);
             report_file(rt, alloc, file.as_str(), Report { shown, format }, out)
         }
         Job::History { file, id, format } => {
             history_file(rt, alloc, file.as_str(), id.as_str(), format, out)
+        }
+        Job::Why { file, id, format } => {
+            let shown = Shown::Why(id);
+            report_file(rt, alloc, file.as_str(), Report { shown, format }, out)
         }
         Job::Migrate { file } => migrate_file(rt, alloc, file.as_str(), out),
         Job::Version => Ended::from(tell_version(out)),

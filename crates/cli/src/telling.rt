@@ -6,24 +6,35 @@ ghost use Rattle.program_ends.specs.Ends.{EndsJob};
 
 use crate::desks::{FileConnection, close_after, connect_there};
 use crate::files::NewLog;
+use allotment::Cell;
 use commands::Refusal;
-use desk_jobs::{history_over, stock_over, unfinished_over};
+use desk_jobs::{history_over, holders_over, journeys_over, months_over, stock_over, why_over};
 use desk_lines::journey_in;
+use filters::{CellFilter, JourneyFilter};
+use month_reports::MonthReport;
 use program_ends::{End, Ended, ProgramFault};
-use reports::Format;
+use reports::{Format, JourneyReport};
 use sqlite::{Alter, Connection};
 use std::alloc::Global;
 use std::io::{BufWriter, Write};
 
-/// What a report of a desk that is not recovered shows.
+/// What a report of a desk that is not recovered shows. The calendar is a text, whatever the format.
 #[derive(Clone, Copy)]
 pub(crate) enum Shown {
-    /// The places of each cell.
-    Stock,
-    /// The unfinished journeys.
-    Unfinished,
+    /// The places of each cell that is asked for.
+    Stock(CellFilter),
+    /// The months of the cells that are asked for.
+    Summary(CellFilter),
+    /// The calendar of the cells that are asked for.
+    Calendar(CellFilter),
+    /// The journeys that hold places of this cell.
+    Holders(Cell),
+    /// The journeys that are asked for, under a name.
+    Journeys(JourneyReport, JourneyFilter),
     /// The history of the journey of this number.
     History(u64),
+    /// Why the journey of this number stands where it does.
+    Why(u64),
 }
 
 /// A report of a desk that is not recovered.
@@ -102,8 +113,19 @@ fn report_over<S: Alter + Drop, O: Write>(
     };
     let Report { shown, format } = report;
     match shown {
-        Shown::Stock => stock_over(alloc, conn, format, &mut buffered),
-        Shown::Unfinished => unfinished_over(alloc, conn, format, &mut buffered),
+        Shown::Stock(filter) => stock_over(alloc, conn, &filter, format, &mut buffered),
+        Shown::Summary(filter) => {
+            let report = MonthReport::Summary(format);
+            months_over(alloc, conn, report, &filter, &mut buffered)
+        }
+        Shown::Calendar(filter) => {
+            months_over(alloc, conn, MonthReport::Calendar, &filter, &mut buffered)
+        }
+        Shown::Holders(cell) => holders_over(alloc, conn, &cell, format, &mut buffered),
+        Shown::Journeys(name, filter) => {
+            journeys_over(alloc, conn, name, &filter, format, &mut buffered)
+        }
         Shown::History(id) => history_over(alloc, conn, format, id, &mut buffered),
+        Shown::Why(id) => why_over(alloc, conn, id, format, &mut buffered),
     }
 }

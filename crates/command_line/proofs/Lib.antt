@@ -1,2 +1,2 @@
 pub mod SubcommandLemmas
-pub mod NumberLemmas
+pub mod ValueLemmas

@@ -1,8 +1,8 @@
 -- A command to which the values of a subcommand were added reads them, and each parse has them all.
-use Rattle.std.proofs.Common.{◌≡◌, ◌∙◌, ◌<◌, ◌⊎◌, ℕ, Bor, Some, zero, suc, Bool, true, false, not, List, [], ◌∷◌, map, length, codes, sym, ap, refl, inl, inr, arith, subst, is_some}
+use Rattle.std.proofs.Common.{◌≡◌, ◌∙◌, ◌<◌, ◌⊎◌, ℕ, Bor, Some, zero, suc, Bool, true, false, not, List, [], ◌∷◌, map, length, codes, sym, ap, refl, inl, inr, arith, subst}
 use Rattle.std.specs.Prelude.{◌||◌, ◌&&◌, bytes_eq, if◌then◌else◌}
 use Rattle.std.specs.List.{All, list_all, list_any, slice_index_or}
-use Rattle.clap.specs.Words.{App, Rule, Text, first_of, matches_of, rows_of, AddsArg, AddsInTurn, IsPlainArg, app_of, args_of, groups_of, first_value, found_of, rule_of}
+use Rattle.clap.specs.Words.{App, Rule, Text, first_of, matches_of, rows_of, AddsArg, AddsInTurn, app_of, args_of, groups_of, first_value, found_of, rule_of}
 use Rattle.clap.specs.Built.{FitsChain, HasDistinctIds}
 use Rattle.clap.proofs.CallerLemmas.{required_in_chain}
 use Rattle.clap.proofs.OnLiterals.{clap_on_literals}
@@ -12,15 +12,9 @@ use Rattle.clap.specs.declared.builder.Command.{Command}
 use Rattle.clap.specs.declared.builder.command.Command.TheViews.{out-Command}
 use Rattle.clap.specs.declared.parser.ArgMatches.{ArgMatches}
 use Rattle.command_line.specs.Jobs.{value_in}
-use Rattle.command_line.specs.Subcommands.{bare_app, has_any, ids_in, needed, needed_in, rules_for, with_rules, IsFlag, IsValue, Requires}
+use Rattle.command_line.specs.Subcommands.{bare_app, has_any, ids_in, needed, needed_in, rules_for, with_rules, AddsRules, IsFlag, IsValue, IsWord, Requires}
 use Rattle.command_line.specs.declared.subcommands.Subcommand.{Subcommand}
-use Rattle.command_line.specs.declared.subcommands.Subcommand.TheVariants.{Run, Serve, Recover, Load, Stock, Unfinished, History, Migrate}
-
--- an argument is a value, or one that nothing requires
-pub record IsWord (arg : Arg) : Type 0 where
-  pub plain : IsPlainArg arg
-  pub global : arg.global ≡ false
-  pub needed : arg.required ≡ true → IsValue arg
+use Rattle.command_line.specs.declared.subcommands.Subcommand.TheVariants.{Run, Serve, Recover, Load, Stock, Summary, Holders, Unfinished, Journeys, History, Why, Migrate}
 
 -- the arguments after the first one are such too
 rest_values : (x : Arg) (xs : List Arg) → All IsWord (x ∷ xs) → All IsWord xs
@@ -172,22 +166,30 @@ ids_fit Serve = refl
 ids_fit Recover = refl
 ids_fit Load = refl
 ids_fit Stock = refl
+ids_fit Summary = refl
+ids_fit Holders = refl
 ids_fit Unfinished = refl
+ids_fit Journeys = refl
 ids_fit History = refl
+ids_fit Why = refl
 ids_fit Migrate = refl
 
 -- every other subcommand has only a file
 pub rules_for-others : (s : Subcommand) → (s ≡ Serve → ⊥) → (s ≡ Load → ⊥) → (s ≡ Stock → ⊥)
-    → (s ≡ Unfinished → ⊥) → (s ≡ History → ⊥)
-    → rules_for s ≡ needed (codes "FILE") ∷ []
-rules_for-others Run serve load stock unfinished history = refl
-rules_for-others Serve serve load stock unfinished history = absurd (serve refl)
-rules_for-others Recover serve load stock unfinished history = refl
-rules_for-others Load serve load stock unfinished history = absurd (load refl)
-rules_for-others Stock serve load stock unfinished history = absurd (stock refl)
-rules_for-others Unfinished serve load stock unfinished history = absurd (unfinished refl)
-rules_for-others History serve load stock unfinished history = absurd (history refl)
-rules_for-others Migrate serve load stock unfinished history = refl
+    → (s ≡ Summary → ⊥) → (s ≡ Holders → ⊥) → (s ≡ Unfinished → ⊥) → (s ≡ Journeys → ⊥) → (s ≡ History → ⊥)
+    → (s ≡ Why → ⊥) → rules_for s ≡ needed (codes "FILE") ∷ []
+rules_for-others Run serve load stock summary holders unfinished journeys history why = refl
+rules_for-others Serve serve load stock summary holders unfinished journeys history why = absurd (serve refl)
+rules_for-others Recover serve load stock summary holders unfinished journeys history why = refl
+rules_for-others Load serve load stock summary holders unfinished journeys history why = absurd (load refl)
+rules_for-others Stock serve load stock summary holders unfinished journeys history why = absurd (stock refl)
+rules_for-others Summary serve load stock summary holders unfinished journeys history why = absurd (summary refl)
+rules_for-others Holders serve load stock summary holders unfinished journeys history why = absurd (holders refl)
+rules_for-others Unfinished serve load stock summary holders unfinished journeys history why = absurd (unfinished refl)
+rules_for-others Journeys serve load stock summary holders unfinished journeys history why = absurd (journeys refl)
+rules_for-others History serve load stock summary holders unfinished journeys history why = absurd (history refl)
+rules_for-others Why serve load stock summary holders unfinished journeys history why = absurd (why refl)
+rules_for-others Migrate serve load stock summary holders unfinished journeys history why = refl
 
 -- one more argument, before the others
 and_word : (x : Arg) (xs : List Arg) → IsWord x → All IsWord xs → All IsWord (x ∷ xs)
@@ -214,6 +216,23 @@ and_flag x xs here rest =
 pub no_value : All IsWord []
 no_value = λ k d lt. absurd (omega arith)
 
+-- the same, where the first is a file and the others were added by their rules
+pub with_file : (name : Text) (start over cmd : Command) (file : Arg) (rules wanted : List Rule)
+    → AddsArg start file over → AddsRules over rules cmd
+    → app_of start ≡ bare_app name
+    → args_of start ≡ [] → groups_of start ≡ [] → (out-Command start).has_globals ≡ false → (out-Command start).subcommand_negates_reqs ≡ false
+    → IsValue file → rule_of file ∷ rules ≡ wanted → fit_together (ids_in wanted) ≡ true
+    → (app_of cmd ≡ with_rules (bare_app name) wanted) × All (Requires cmd) (needed_in wanted)
+with_file name start over cmd file rules wanted added later app args groups globals negates value listed good =
+    with_values name start cmd (file ∷ later.0) wanted (over, added, later.1) app args groups globals negates
+    (and_value file later.0 value later.2) (ap (λ rs. rule_of file ∷ rs) later.3 ∙ listed) good
+
+-- one more argument, before those that were added by their rules
+pub one_more : (start over cmd : Command) (x : Arg) (rule : Rule) (rules : List Rule) → AddsArg start x over
+    → IsFlag x → rule_of x ≡ rule → AddsRules over rules cmd → AddsRules start (rule ∷ rules) cmd
+one_more start over cmd x rule rules added is named later =
+    (x ∷ later.0, (over, added, later.1), and_flag x later.0 is later.2, ap (λ r. r ∷ map rule_of later.0) named ∙ ap (λ rs. rule ∷ rs) later.3)
+
 -- a value that follows an option is one as before
 pub long_value : (a b : Arg) (name : Bor Text) → b ≡ record a { long = Some name } → IsValue a → IsValue b
 long_value a b name e is =
@@ -232,8 +251,3 @@ long_rule a b name rule e is = ap rule_of e ∙ ap (λ (r : Rule). record r { lo
 pub value_in-matches : (app : App) (words : List Text) (m : ArgMatches) (id : Text) → rows_of (found_of m) ≡ matches_of app words
     → value_in app words id ≡ first_value (found_of m) id
 value_in-matches app words m id rows = ap (first_of id) (sym rows) ∙ sym (first_value-rows (found_of m) id)
-
--- so a value of the matches is the one that clap reads
-pub value_read : (app : App) (words : List Text) (m : ArgMatches) (id value : Text) → rows_of (found_of m) ≡ matches_of app words
-    → first_value (found_of m) id ≡ Some value → value_in app words id ≡ Some value
-value_read app words m id value rows is = value_in-matches app words m id rows ∙ is

@@ -5,9 +5,10 @@ use Rattle.std.specs.Option.{option_and_then, option_map_or}
 use Rattle.std.specs.String.{string_bytes}
 use Rattle.allotment.specs.Texts.{number_from}
 use Rattle.clap.specs.Words.{App, Text, first_of, matches_of}
+use Rattle.command_line.specs.Filters.{HasCells, HasJourneys, cell_asked, has_bad_cells, has_bad_journeys, journey_asked, phases_in, unfinished_in}
 use Rattle.command_line.specs.Subcommands.{app_for, is_refused_by, name_of, subcommand_in}
 use Rattle.command_line.specs.declared.jobs.Job.{Job}
-use Rattle.command_line.specs.declared.jobs.Job.TheVariants.{Run, Serve, Recover, Load, Stock, Unfinished, History, Migrate, Version}
+use Rattle.command_line.specs.declared.jobs.Job.TheVariants.{Run, Serve, Recover, Load, Stock, Calendar, Summary, Holders, Unfinished, Journeys, History, Why, Migrate, Version}
 use Rattle.command_line.specs.declared.jobs.JobFault.{JobFault}
 use Rattle.command_line.specs.declared.jobs.JobFault.TheVariants.{Usage, Memory}
 use Rattle.command_line.specs.declared.subcommands.Subcommand.{Subcommand}
@@ -15,15 +16,20 @@ use Rattle.command_line.specs.declared.subcommands.Subcommand.TheVariants as sub
 use Rattle.reports.specs.declared.formats.Format.{Format}
 use Rattle.reports.specs.declared.formats.Format.TheVariants as format
 
--- the subcommand of a job; the job that prints the version has none
+-- the subcommand of a job; the calendar is one of the stock, and the job that prints the version has none
 abbrev pub subcommand_of : Job → Option Subcommand
 subcommand_of (Run file) = Some sub.Run
 subcommand_of (Serve file port connections house page log wide) = Some sub.Serve
 subcommand_of (Recover file) = Some sub.Recover
 subcommand_of (Load file csv batch) = Some sub.Load
-subcommand_of (Stock file format) = Some sub.Stock
-subcommand_of (Unfinished file format) = Some sub.Unfinished
+subcommand_of (Stock file filter format) = Some sub.Stock
+subcommand_of (Calendar file filter) = Some sub.Stock
+subcommand_of (Summary file filter format) = Some sub.Summary
+subcommand_of (Holders file cell format) = Some sub.Holders
+subcommand_of (Unfinished file filter format) = Some sub.Unfinished
+subcommand_of (Journeys file filter format) = Some sub.Journeys
 subcommand_of (History file id format) = Some sub.History
+subcommand_of (Why file id format) = Some sub.Why
 subcommand_of (Migrate file) = Some sub.Migrate
 subcommand_of Version = None
 
@@ -91,6 +97,23 @@ format_of (Some word) = format_named word
 abbrev pub format_in : (Text → Option Text) → Option Format
 format_in value = format_of (value (codes "FORMAT"))
 
+-- whether the calendar of the stock is asked for, by its name
+abbrev pub calendar_in : (Text → Option Text) → Bool
+calendar_in value = is_set (value (codes "CALENDAR"))
+
+-- the format, if it is a text
+abbrev pub text_alone : Format → Option Format
+text_alone format.Text = Some format.Text
+text_alone _ = None
+
+-- the format of the stock: the calendar is a text alone
+abbrev pub stock_format_of : Bool → Option Format → Option Format
+stock_format_of true found = option_and_then text_alone found
+stock_format_of false found = found
+
+abbrev pub stock_format_in : (Text → Option Text) → Option Format
+stock_format_in value = stock_format_of (calendar_in value) (format_in value)
+
 -- the values of a job are those under their names
 abbrev pub HasValues : (Text → Option Text) → Job → Type 0
 HasValues value (Run file) = NamesFile value (string_bytes file)
@@ -105,10 +128,31 @@ HasValues value (Recover file) = NamesFile value (string_bytes file)
 HasValues value (Load file csv batch) = NamesFile value (string_bytes file)
     × (value (codes "CSV") ≡ Some (string_bytes csv))
     × (value (codes "NAME") ≡ Some (string_bytes batch))
-HasValues value (Stock file format) = NamesFile value (string_bytes file) × (format_in value ≡ Some format)
-HasValues value (Unfinished file format) = NamesFile value (string_bytes file) × (format_in value ≡ Some format)
+HasValues value (Stock file filter format) = NamesFile value (string_bytes file)
+    × HasCells value filter
+    × (calendar_in value ≡ false)
+    × (format_in value ≡ Some format)
+HasValues value (Calendar file filter) = NamesFile value (string_bytes file)
+    × HasCells value filter
+    × (calendar_in value ≡ true)
+    × (format_in value ≡ Some format.Text)
+HasValues value (Summary file filter format) = NamesFile value (string_bytes file)
+    × HasCells value filter
+    × (format_in value ≡ Some format)
+HasValues value (Holders file cell format) = NamesFile value (string_bytes file)
+    × (cell_asked value ≡ Some cell)
+    × (format_in value ≡ Some format)
+HasValues value (Unfinished file filter format) = NamesFile value (string_bytes file)
+    × HasJourneys unfinished_in value filter
+    × (format_in value ≡ Some format)
+HasValues value (Journeys file filter format) = NamesFile value (string_bytes file)
+    × HasJourneys phases_in value filter
+    × (format_in value ≡ Some format)
 HasValues value (History file id format) = NamesFile value (string_bytes file)
     × (value (codes "ID") ≡ Some (string_bytes id))
+    × (format_in value ≡ Some format)
+HasValues value (Why file id format) = NamesFile value (string_bytes file)
+    × (journey_asked value ≡ Some id)
     × (format_in value ≡ Some format)
 HasValues value (Migrate file) = NamesFile value (string_bytes file)
 HasValues value Version = ⊤
@@ -117,10 +161,14 @@ HasValues value Version = ⊤
 abbrev pub value_in : App → List Text → Text → Option Text
 value_in app words id = first_of id (matches_of app words)
 
--- the job is of this subcommand, with the values that are read from these words
-pub record IsJobOf (s : Subcommand) (words : List Text) (job : Job) : Type 0 where
+-- the job is of this subcommand, with these values
+pub record IsJobWith (s : Subcommand) (value : Text → Option Text) (job : Job) : Type 0 where
   pub subcommand : subcommand_of job ≡ Some s
-  pub values : HasValues (value_in (app_for s) words) job
+  pub values : HasValues value job
+
+-- the job is of this subcommand, with the values that are read from these words
+abbrev pub IsJobOf : Subcommand → List Text → Job → Type 0
+IsJobOf s words = IsJobWith s (value_in (app_for s) words)
 
 -- a word that asks for the version
 abbrev pub names_version : Text → Bool
@@ -142,15 +190,20 @@ abbrev pub IsJob : List Text → Job → Type 0
 IsJob [] job = ⊥
 IsJob (word ∷ others) job = IsVersionJob word job ⊎ IsSubcommandJob word others job
 
--- the subcommand reads a number that is malformed, or missing where it is required, or a format that is none
+-- the subcommand reads a number that is malformed, or missing where it is required, a format that is none or that the report
+-- has not, or a value that asks for no cell or journey
 abbrev pub has_bad_value : Subcommand → (Text → Option Text) → Bool
 has_bad_value sub.Serve value = is_none (port_in value) || is_malformed most_connections (value (codes "N"))
-has_bad_value sub.Stock value = is_none (format_in value)
-has_bad_value sub.Unfinished value = is_none (format_in value)
+has_bad_value sub.Stock value = has_bad_cells value || is_none (stock_format_in value)
+has_bad_value sub.Summary value = has_bad_cells value || is_none (format_in value)
+has_bad_value sub.Holders value = is_none (cell_asked value) || is_none (format_in value)
+has_bad_value sub.Unfinished value = has_bad_journeys unfinished_in value || is_none (format_in value)
+has_bad_value sub.Journeys value = has_bad_journeys phases_in value || is_none (format_in value)
 has_bad_value sub.History value = is_none (format_in value)
+has_bad_value sub.Why value = is_none (journey_asked value) || is_none (format_in value)
 has_bad_value _ value = false
 
--- the words after a subcommand are refused: by clap, or for a value that is no number or no format
+-- the words after a subcommand are refused: by clap, or for a value that spells nothing
 abbrev pub refuses : Subcommand → List Text → Bool
 refuses s words = is_refused_by (app_for s) words || has_bad_value s (value_in (app_for s) words)
 

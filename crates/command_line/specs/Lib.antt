@@ -1,4 +1,5 @@
 pub mod Explaining
 pub mod Subcommands
+pub mod Filters
 pub mod Jobs
 pub mod Version

@@ -1,6 +1,6 @@
 -- The subcommands: the word that names each, and how clap reads the words after it.
-use Rattle.std.specs.Prelude.{◌≡◌, ◌≤◌, Bool, true, false, List, [], ◌∷◌, map, codes, bytes_eq, if◌then◌else◌, Option, Some, None, is_some}
-use Rattle.clap.specs.Words.{App, Rule, Text, first_value, found_of, fault_of, new_app, new_rule, with_rule, IsParsedFrom, IsPlainArg}
+use Rattle.std.specs.Prelude.{◌≡◌, ◌≤◌, Bool, true, false, List, [], ◌∷◌, map, All, codes, bytes_eq, if◌then◌else◌, Option, Some, None, is_some}
+use Rattle.clap.specs.Words.{App, Rule, Text, first_value, found_of, fault_of, new_app, new_rule, with_rule, rule_of, AddsArg, AddsInTurn, IsParsedFrom, IsPlainArg}
 use Rattle.clap.specs.Facts.{least_values}
 use Rattle.clap.specs.Simple.{on_top}
 use Rattle.clap.specs.declared.builder.ArgAction.TheVariants.{Set, SetTrue}
@@ -9,7 +9,7 @@ use Rattle.clap.specs.declared.builder.Command.{Command}
 use Rattle.clap.specs.declared.builder.command.Command.TheViews.{out-Command}
 use Rattle.clap.specs.declared.parser.ArgMatches.{ArgMatches}
 use Rattle.command_line.specs.declared.subcommands.Subcommand.{Subcommand}
-use Rattle.command_line.specs.declared.subcommands.Subcommand.TheVariants.{Run, Serve, Recover, Load, Stock, Unfinished, History, Migrate}
+use Rattle.command_line.specs.declared.subcommands.Subcommand.TheVariants.{Run, Serve, Recover, Load, Stock, Summary, Holders, Unfinished, Journeys, History, Why, Migrate}
 
 -- the word that names a subcommand
 abbrev pub name_of : Subcommand → Text
@@ -18,8 +18,12 @@ name_of Serve = codes "serve"
 name_of Recover = codes "recover"
 name_of Load = codes "load"
 name_of Stock = codes "stock"
+name_of Summary = codes "summary"
+name_of Holders = codes "holders"
 name_of Unfinished = codes "unfinished"
+name_of Journeys = codes "journeys"
 name_of History = codes "history"
+name_of Why = codes "why"
 name_of Migrate = codes "migrate"
 
 -- the subcommand that a word names
@@ -30,8 +34,12 @@ subcommand_in word =
     else if bytes_eq word (codes "recover") then Some Recover
     else if bytes_eq word (codes "load") then Some Load
     else if bytes_eq word (codes "stock") then Some Stock
+    else if bytes_eq word (codes "summary") then Some Summary
+    else if bytes_eq word (codes "holders") then Some Holders
     else if bytes_eq word (codes "unfinished") then Some Unfinished
+    else if bytes_eq word (codes "journeys") then Some Journeys
     else if bytes_eq word (codes "history") then Some History
+    else if bytes_eq word (codes "why") then Some Why
     else if bytes_eq word (codes "migrate") then Some Migrate
     else None
 
@@ -73,9 +81,34 @@ log_flag = record (flagged (codes "LOG")) { long = Some (codes "log") }
 abbrev pub wide_flag : Rule
 wide_flag = record (flagged (codes "WIDE")) { long = Some (codes "wide") }
 
+-- the calendar of the stock is asked for by `--calendar`
+abbrev pub calendar_flag : Rule
+calendar_flag = record (flagged (codes "CALENDAR")) { long = Some (codes "calendar") }
+
 -- the format of a report follows `--format`
 abbrev pub report_format : Rule
 report_format = record (optional (codes "FORMAT")) { long = Some (codes "format") }
+
+-- a value follows an option of this name
+abbrev pub named_by : Text → Rule → Rule
+named_by name rule = record rule { long = Some name }
+
+-- the cells that are asked for: their kind, supplier, product, and their first and last night
+abbrev pub cell_rules : List Rule
+cell_rules =
+    named_by (codes "kind") (optional (codes "KIND")) ∷ named_by (codes "supplier") (optional (codes "SUPPLIER"))
+    ∷ named_by (codes "product") (optional (codes "PRODUCT")) ∷ named_by (codes "from") (optional (codes "FROM"))
+    ∷ named_by (codes "to") (optional (codes "TO")) ∷ report_format ∷ []
+
+-- the journeys that are asked for: their agent and state
+abbrev pub journey_rules : List Rule
+journey_rules =
+    named_by (codes "agent") (optional (codes "AGENT")) ∷ named_by (codes "state") (optional (codes "STATE"))
+    ∷ report_format ∷ []
+
+-- one required value, and a format
+abbrev pub one_rules : Text → List Rule
+one_rules id = needed id ∷ report_format ∷ []
 
 -- the values that a subcommand reads, in their order
 abbrev pub rules_for : Subcommand → List Rule
@@ -84,9 +117,13 @@ rules_for Serve =
     needed (codes "FILE") ∷ port_number ∷ connections_number ∷ house_path ∷ page_flag ∷ log_flag ∷ wide_flag ∷ []
 rules_for Recover = needed (codes "FILE") ∷ []
 rules_for Load = needed (codes "FILE") ∷ needed (codes "CSV") ∷ batch_name ∷ []
-rules_for Stock = needed (codes "FILE") ∷ report_format ∷ []
-rules_for Unfinished = needed (codes "FILE") ∷ report_format ∷ []
-rules_for History = needed (codes "FILE") ∷ needed (codes "ID") ∷ report_format ∷ []
+rules_for Stock = needed (codes "FILE") ∷ calendar_flag ∷ cell_rules
+rules_for Summary = needed (codes "FILE") ∷ cell_rules
+rules_for Holders = needed (codes "FILE") ∷ one_rules (codes "CELL")
+rules_for Unfinished = needed (codes "FILE") ∷ journey_rules
+rules_for Journeys = needed (codes "FILE") ∷ journey_rules
+rules_for History = needed (codes "FILE") ∷ one_rules (codes "ID")
+rules_for Why = needed (codes "FILE") ∷ one_rules (codes "ID")
 rules_for Migrate = needed (codes "FILE") ∷ []
 
 -- the names of these values
@@ -145,6 +182,17 @@ pub record IsFlag (arg : Arg) : Type 0 where
   pub plain : IsPlainArg arg
   pub global : arg.global ≡ false
   pub required : arg.required ≡ false
+
+-- an argument is a value, or one that nothing requires
+pub record IsWord (arg : Arg) : Type 0 where
+  pub plain : IsPlainArg arg
+  pub global : arg.global ≡ false
+  pub needed : arg.required ≡ true → IsValue arg
+
+-- arguments of these rules were added to a command, one after another
+abbrev pub AddsRules : Command → List Rule → Command → Type 0
+AddsRules start rules command =
+    (xs : List Arg) × AddsInTurn AddsArg start xs command × All IsWord xs × (map rule_of xs ≡ rules)
 
 -- each parse by the command has a value of this name
 abbrev pub Requires : Command → Text → Type 0

@@ -1,313 +1,10 @@
-//! The texts of help: what each subcommand reads and prints, its exit statuses, and an example.
-//!
-//! A line has at most 78 characters. In an example a line that begins with `  $ ` is a command, and the lines that
-//! follow are what it prints.
+//! The help of each subcommand, from its texts.
 use crate::subcommands::Subcommand;
-
-/// The text after the help of the whole program.
-pub(crate) const PROGRAM: &str = "\
-'desk COMMAND --help' says what a command reads and prints, with an example.
-
-Refusals:
-  A refusal is one line, 'refused N Name' and its particulars.
-  It changes nothing.
-
-Faults:
-  A fault is one line on standard error, 'fault N Name'. It ends the program.
-  17, 22 Memory  Out of memory
-  18 Store       The database failed
-  21 Store       FILE is not a database of the desk, is in use, or cannot be
-                 read or created
-  24 Read        The input could not be read
-  25 Write       The output could not be written
-  26 File        A file is absent or cannot be read
-  27 Net         The port or the path could not be listened on
-  With '--explain' before the command, or where standard error is a terminal,
-  a second line says why, if that is known, and what to do.
-
-Exit status:
-  0  Done
-  1  A refusal, on standard output, or a fault, on standard error
-  2  Wrong usage, or help, on standard error
-
-Example:
-  $ echo 'set june F/AL/A1/2030-06-01 9' | desk run trips.db
-  loaded june 1
-  $ desk stock trips.db
-  kind     supplier product  night       allot   held   free
-  flight   AL       A1       2030-06-01      9      0      9
-  cells 1";
-
-const RUN: &str = "\
-Execute commands from standard input, one per line
-
-Opens the database FILE, created if absent. Every journey under way is
-finished or undone first, as after a crash. Then each line of standard input
-is answered by one line on standard output, until the input ends. A refused
-line changes nothing, and the next line is answered.";
-
-const RUN_NOTES: &str = "\
-Lines:
-  set NAME CELL PLACES  Allot so many places of a cell, 0 to 100000, as the
-                        batch NAME
-  begin PLAN            Begin a journey of this plan
-  step ID               Do the journey's next step or compensation
-  abort ID P            Turn the journey back to position P, 0 to 99
-  save ID               Take a save-point where the journey is
-
-Words of a line, with one blank between them:
-  NAME    1 to 24 of a-z, 0-9 and '-'
-  CELL    KIND/SUPPLIER/PRODUCT/NIGHT, as in F/AL/A1/2030-06-01
-  KIND    F (flight), R (room), T (transfer) or C (cover)
-  PLAN    1 to 24 steps joined by ';', then '!' and one digit, the tries
-  step    1 to 8 options joined by '|', then '*' for a save-point after it
-  option  CELL/NIGHTS/COUNT
-  ID      The number of a journey
-
-Answers:
-  loaded NAME 1          To set
-  journey ID begun       To begin
-  journey ID ITEM STATE  To step, abort and save
-  refused N Name         To a line that is refused; particulars may follow
-
-Exit status:
-  0  The input was answered to its end, whether or not lines were refused
-  1  A refusal that ends the program, on standard output, or a fault, on
-     standard error
-  2  Wrong usage, or help, on standard error
-
-Example:
-  $ echo 'set june F/AL/A1/2030-06-01 9' >lines
-  $ echo 'begin F/AL/A1/2030-06-01/1/1!0' >>lines
-  $ echo 'step 1' >>lines
-  $ desk run trips.db <lines
-  loaded june 1
-  journey 1 begun
-  journey 1 T1.1 ended 1";
-
-const SERVE: &str = "\
-Serve HTTP requests from many clients at once
-
-Opens the database FILE, created if absent. Every journey under way is
-finished or undone first, as after a crash. Then it listens on 127.0.0.1,
-prints 'ready PORT', and serves up to 256 connections at once: N in all, or,
-without --connections, until it is stopped. Standard input is not read.
-
-With --page, a browser gets a page at http://127.0.0.1:PORT/, in which an
-agent works. A request to the port must then name 127.0.0.1, localhost or
-[::1] with the port as its host.
-
-With --log, standard error has a line for each request, one for each
-connection that ended, and one for what the opening recovered. Without it
-nothing but a fault is written there.
-
-With --wide, HTTP is read as libraries and proxies speak it: HTTP/1.0, a
-body in chunks, a POST without a body, HEAD, OPTIONS and 'Expect:
-100-continue' too. No cache keeps a page then.";
-
-const SERVE_NOTES: &str = "\
-Requests:
-  POST /batches/NAME         Load an allotment file as the batch NAME
-  POST /journeys             Begin a journey of a plan in JSON
-  POST /journeys/ID/step     Do the journey's next step or compensation
-  POST /journeys/ID/abort/P  Turn the journey back to position P
-  POST /journeys/ID/save     Take a save-point where the journey is
-  GET /journeys/ID           The journey with its items
-  GET /unfinished            The agent's journeys that have not ended
-  GET /mine                  The agent's journeys, ended ones too
-  GET /mine/AFTER            Those with a number above AFTER
-  GET /stock                 The places of each cell
-  GET /health                The numbers of events, journeys and unfinished
-                             journeys
-  GET /                      With --page, the page for browsers
-
-Fields:
-  Desk-Agent  Who asks, 1 to 16 of a-z and 0-9. Each request needs it, but
-              for GET /health and GET /
-  Desk-Key    1 to 32 letters, digits and '-'. Each POST needs it, and acts
-              once under it
-
-Exit status:
-  0  All N connections were served
-  1  A refusal that ends the program, on standard output, or a fault, on
-     standard error
-  2  Wrong usage, or help, on standard error
-
-Example:
-  $ desk serve trips.db --port 8080 --connections 1 &
-  ready 8080
-  $ curl -H 'Desk-Agent: ann' http://127.0.0.1:8080/unfinished
-  {\"unfinished\":[]}";
-
-const RECOVER: &str = "\
-Finish or undo every journey under way, as after a crash
-
-Opens the database FILE, created if absent. Every journey under way turns
-back to its last save-point, or to its start, and goes on from there to its
-end. Prints 'recovered K', with the number of commits. Standard input is not
-read.";
-
-const RECOVER_NOTES: &str = "\
-Exit status:
-  0  Every journey has ended or is undone
-  1  A refusal, on standard output, or a fault, on standard error
-  2  Wrong usage, or help, on standard error
-
-Example:
-  $ echo 'begin F/AL/A1/2030-06-01/1/1!0' | desk run trips.db
-  journey 1 begun
-  $ desk recover trips.db
-  recovered 1";
-
-const LOAD: &str = "\
-Load allotments from a CSV file, as one batch
-
-Opens the database FILE, created if absent. Every journey under way is
-finished or undone first, as after a crash. Then the allotment file CSV is
-loaded as the batch NAME, whole or not at all, and the reply is printed.
-Loading the same rows under the same name again changes nothing. CSV '-' is
-standard input, which is not read otherwise.";
-
-const LOAD_NOTES: &str = "\
-Allotment file, at most 262144 bytes and 2000 rows:
-  The first line is kind,supplier,product,night,places
-  Each other line is a row: the kind is flight, room, transfer or cover,
-  and there are 0 to 100000 places
-
-Exit status:
-  0  The batch is loaded, now or before
-  1  A refusal, on standard output, or a fault, on standard error
-  2  Wrong usage, or help, on standard error
-
-Example:
-  $ echo 'kind,supplier,product,night,places' >june.csv
-  $ echo 'flight,AL,A1,2030-06-01,9' >>june.csv
-  $ desk load trips.db june.csv --batch june
-  loaded june 1
-  $ sed 's/,9$/,12/' june.csv | desk load trips.db - --batch june-2
-  loaded june-2 1";
-
-const STOCK: &str = "\
-Print the allotted, held and free places of each cell
-
-Opens the database FILE without recovering it, and changes no row of it.
-Prints a heading, a line for each cell, by kind, supplier, product and night,
-and 'cells N'. Standard input is not read.";
-
-const STOCK_NOTES: &str = "\
-Formats:
-  text  A heading, a line for each cell, and 'cells N'
-  json  An object on a line for each cell: allot, free, held, kind, night,
-        product and supplier
-  csv   A heading and a record for each cell; lines end with CR LF
-
-Exit status:
-  0  The report is printed
-  1  A refusal, on standard output, or a fault, on standard error
-  2  Wrong usage, or help, on standard error
-
-Example:
-  $ echo 'set june F/AL/A1/2030-06-01 9' | desk run trips.db
-  loaded june 1
-  $ desk stock trips.db
-  kind     supplier product  night       allot   held   free
-  flight   AL       A1       2030-06-01      9      0      9
-  cells 1
-  $ desk stock trips.db --format csv | tr -d '\\r'
-  kind,supplier,product,night,allot,held,free
-  flight,AL,A1,2030-06-01,9,0,9";
-
-const UNFINISHED: &str = "\
-Print the journeys that have not ended
-
-Opens the database FILE without recovering it, and changes no row of it.
-Prints a line for each journey that has neither ended nor is undone, with its
-number, agent and state, and 'unfinished N'. Standard input is not read.";
-
-const UNFINISHED_NOTES: &str = "\
-Formats:
-  text  A line for each journey, and 'unfinished N'
-  json  An object on a line for each journey: agent, journey, pos, state,
-        and target if the journey goes back
-  csv   A heading and a record for each journey; lines end with CR LF
-
-Exit status:
-  0  The report is printed
-  1  A refusal, on standard output, or a fault, on standard error
-  2  Wrong usage, or help, on standard error
-
-Example:
-  $ echo 'begin F/AL/A1/2030-06-01/1/1!0' | desk run trips.db
-  journey 1 begun
-  $ desk unfinished trips.db
-             1 desk             run 0
-  unfinished 1
-  $ desk unfinished trips.db --format json
-  {\"agent\":\"desk\",\"journey\":1,\"pos\":0,\"state\":\"run\"}";
-
-const HISTORY: &str = "\
-Print what happened to a journey, oldest first
-
-Opens the database FILE without recovering it, and changes no row of it.
-Prints four lines: the journey's number and agent, its plan, its items, and
-its state. Standard input is not read.";
-
-const HISTORY_NOTES: &str = "\
-Formats:
-  text  Four lines, as above
-  json  An object on a line: first agent, journey and plan; then item and
-        journey for each item; last journey, pos, state, and target if the
-        journey goes back
-  csv   A heading and a record for each item; lines end with CR LF
-
-Items:
-  T1.2  Step 1 was taken by its option 2
-  C1.2  Step 1, taken by its option 2, was compensated
-  B0s   A turn back to position 0: by recovery (s), because a step was
-        refused (r), or as asked (a)
-  S1    A save-point was taken at position 1
-
-States:
-  run P        Runs, at position P
-  back P to Q  Goes back from position P to Q
-  ended N      Has done all of its N steps
-  undone 0     Has gone back to its start
-
-Exit status:
-  0  The report is printed
-  1  A refusal, on standard output, or a fault, on standard error
-  2  Wrong usage, or help, on standard error
-
-Example:
-  $ echo 'begin F/AL/A1/2030-06-01/1/1!0' | desk run trips.db
-  journey 1 begun
-  $ desk history trips.db 1
-  journey 1 agent desk
-  plan F/AL/A1/2030-06-01/1/1!0
-  items
-  state run 0
-  $ desk history trips.db 1 --format json
-  {\"agent\":\"desk\",\"journey\":1,\"plan\":\"F/AL/A1/2030-06-01/1/1!0\"}
-  {\"journey\":1,\"pos\":0,\"state\":\"run\"}";
-
-const MIGRATE: &str = "\
-Migrate a database from schema 1 to schema 2, in one commit
-
-Opens the database FILE without recovering it. Prints
-'migrated 1 to 2 events N', with the number of events in it. A file of
-schema 2 is refused and left as it is. Standard input is not read.";
-
-const MIGRATE_NOTES: &str = "\
-Exit status:
-  0  The database has schema 2 now
-  1  A refusal, on standard output, or a fault, on standard error
-  2  Wrong usage, or help, on standard error
-
-Example:
-  $ desk migrate old.db
-  migrated 1 to 2 events 7
-  $ desk migrate old.db
-  refused 23 AlreadyNew";
+use help_texts::{
+    HISTORY, HISTORY_NOTES, HOLDERS, HOLDERS_NOTES, JOURNEYS, JOURNEYS_NOTES, LOAD, LOAD_NOTES,
+    MIGRATE, MIGRATE_NOTES, RECOVER, RECOVER_NOTES, RUN, RUN_NOTES, SERVE, SERVE_NOTES, STOCK,
+    STOCK_NOTES, SUMMARY, SUMMARY_NOTES, UNFINISHED, UNFINISHED_NOTES, WHY, WHY_NOTES,
+};
 
 impl Subcommand {
     /// What the subcommand reads and prints. The first line is its summary.
@@ -318,8 +15,12 @@ impl Subcommand {
             Subcommand::Recover => RECOVER,
             Subcommand::Load => LOAD,
             Subcommand::Stock => STOCK,
+            Subcommand::Summary => SUMMARY,
+            Subcommand::Holders => HOLDERS,
             Subcommand::Unfinished => UNFINISHED,
+            Subcommand::Journeys => JOURNEYS,
             Subcommand::History => HISTORY,
+            Subcommand::Why => WHY,
             Subcommand::Migrate => MIGRATE,
         }
     }
@@ -332,8 +33,12 @@ impl Subcommand {
             Subcommand::Recover => RECOVER_NOTES,
             Subcommand::Load => LOAD_NOTES,
             Subcommand::Stock => STOCK_NOTES,
+            Subcommand::Summary => SUMMARY_NOTES,
+            Subcommand::Holders => HOLDERS_NOTES,
             Subcommand::Unfinished => UNFINISHED_NOTES,
+            Subcommand::Journeys => JOURNEYS_NOTES,
             Subcommand::History => HISTORY_NOTES,
+            Subcommand::Why => WHY_NOTES,
             Subcommand::Migrate => MIGRATE_NOTES,
         }
     }

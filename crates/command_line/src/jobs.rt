@@ -2,6 +2,8 @@
 ghost use Rattle.std.specs.Prelude.{◌≡◌};
 ghost use Rattle.command_line.specs.declared.jobs.JobFault.TheVariants.{Memory};
 
+use allotment::Cell;
+use filters::{CellFilter, JourneyFilter};
 use reports::Format;
 use std::alloc::AllocError;
 
@@ -38,20 +40,52 @@ pub enum Job {
         csv: String,
         batch: String,
     },
-    /// Print the stock of the desk over this file.
+    /// Print the stock of the desk over this file: the cells that are asked for.
     Stock {
         file: String,
+        filter: CellFilter,
         format: Format,
     },
-    /// Print the unfinished journeys of the desk over this file.
+    /// Print a month of nights for each product of the cells that are asked for, with how full each night is.
+    Calendar {
+        file: String,
+        filter: CellFilter,
+    },
+    /// Print how many nights and places the cells that are asked for have in each month.
+    Summary {
+        file: String,
+        filter: CellFilter,
+        format: Format,
+    },
+    /// Print the journeys of the desk over this file that hold places of a cell.
+    Holders {
+        file: String,
+        cell: Cell,
+        format: Format,
+    },
+    /// Print the unfinished journeys of the desk over this file that are asked for.
     Unfinished {
         file: String,
+        filter: JourneyFilter,
+        format: Format,
+    },
+    /// Print the journeys of the desk over this file that are asked for.
+    Journeys {
+        file: String,
+        filter: JourneyFilter,
         format: Format,
     },
     /// Print the history of a journey of the desk over this file.
     History {
         file: String,
         id: String,
+        format: Format,
+    },
+    /// Print why a journey of the desk over this file stands where it does.
+    Why {
+        file: String,
+        /// 1 to `MOST_EVENTS`.
+        id: u64,
         format: Format,
     },
     /// Migrate the database in this file from schema 1 to schema 2.

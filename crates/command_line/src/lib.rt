@@ -4,10 +4,13 @@
 //! of the program. `call_of` takes off the word that asks for an explanation of faults, which stands before those of the job.
 #![tactic(auto)]
 
+mod asked;
 mod explaining;
 mod help;
+mod job_values;
 mod jobs;
 mod subcommands;
+mod values;
 mod version;
 mod words;
 

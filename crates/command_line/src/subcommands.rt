@@ -1,7 +1,7 @@
 //! The subcommands of the program: their words, and the values that each of them reads.
 ghost use Rattle.std.specs.Prelude.{◌≡◌, [], false, All, IfOk, IfSome};
 ghost use Rattle.clap.specs.Words.{app_of, args_of, groups_of, rule_of};
-ghost use Rattle.command_line.specs.Subcommands.{app_for, bare_app, flagged, has_globals, name_of, needed, needed_for, negates_needs, optional, report_format, subcommand_in, IsFlag, IsValue, Requires};
+ghost use Rattle.command_line.specs.Subcommands.{app_for, bare_app, cell_rules, flagged, has_globals, name_of, named_by, needed, needed_for, negates_needs, one_rules, optional, report_format, subcommand_in, AddsRules, IsFlag, IsValue, Requires};
 
 use clap::{Arg, ArgAction, Command};
 use std::alloc::{AllocError, Global};
@@ -14,21 +14,29 @@ pub(crate) enum Subcommand {
     Recover,
     Load,
     Stock,
+    Summary,
+    Holders,
     Unfinished,
+    Journeys,
     History,
+    Why,
     Migrate,
 }
 
 impl Subcommand {
     /// All subcommands, in the order of the usage.
-    pub(crate) const ALL: [Subcommand; 8] = [
+    pub(crate) const ALL: [Subcommand; 12] = [
         Subcommand::Run,
         Subcommand::Serve,
         Subcommand::Recover,
         Subcommand::Load,
         Subcommand::Stock,
+        Subcommand::Summary,
+        Subcommand::Holders,
         Subcommand::Unfinished,
+        Subcommand::Journeys,
         Subcommand::History,
+        Subcommand::Why,
         Subcommand::Migrate,
     ];
 
@@ -43,8 +51,12 @@ impl Subcommand {
             "recover" => Some(Subcommand::Recover),
             "load" => Some(Subcommand::Load),
             "stock" => Some(Subcommand::Stock),
+            "summary" => Some(Subcommand::Summary),
+            "holders" => Some(Subcommand::Holders),
             "unfinished" => Some(Subcommand::Unfinished),
+            "journeys" => Some(Subcommand::Journeys),
             "history" => Some(Subcommand::History),
+            "why" => Some(Subcommand::Why),
             "migrate" => Some(Subcommand::Migrate),
             _ => None,
         }
@@ -60,8 +72,12 @@ impl Subcommand {
             Subcommand::Recover => "recover",
             Subcommand::Load => "load",
             Subcommand::Stock => "stock",
+            Subcommand::Summary => "summary",
+            Subcommand::Holders => "holders",
             Subcommand::Unfinished => "unfinished",
+            Subcommand::Journeys => "journeys",
             Subcommand::History => "history",
+            Subcommand::Why => "why",
             Subcommand::Migrate => "migrate",
         }
     }
@@ -74,8 +90,12 @@ impl Subcommand {
             Subcommand::Recover => "desk recover",
             Subcommand::Load => "desk load",
             Subcommand::Stock => "desk stock",
+            Subcommand::Summary => "desk summary",
+            Subcommand::Holders => "desk holders",
             Subcommand::Unfinished => "desk unfinished",
+            Subcommand::Journeys => "desk journeys",
             Subcommand::History => "desk history",
+            Subcommand::Why => "desk why",
             Subcommand::Migrate => "desk migrate",
         }
     }
@@ -88,8 +108,12 @@ impl Subcommand {
             Subcommand::Recover => "Finish or undo every journey under way, as after a crash",
             Subcommand::Load => "Load allotments from a CSV file, as one batch",
             Subcommand::Stock => "Print the allotted, held and free places of each cell",
+            Subcommand::Summary => "Print the nights and places of each product by month",
+            Subcommand::Holders => "Print which journeys hold places of a cell",
             Subcommand::Unfinished => "Print the journeys that have not ended",
+            Subcommand::Journeys => "Print all journeys, ended ones too",
             Subcommand::History => "Print what happened to a journey, oldest first",
+            Subcommand::Why => "Print why a journey stands where it does",
             Subcommand::Migrate => "Migrate a database from schema 1 to schema 2, in one commit",
         }
     }
@@ -101,8 +125,12 @@ impl Subcommand {
                 "The database file, created if absent"
             }
             Subcommand::Stock
+            | Subcommand::Summary
+            | Subcommand::Holders
             | Subcommand::Unfinished
+            | Subcommand::Journeys
             | Subcommand::History
+            | Subcommand::Why
             | Subcommand::Migrate => "The database file, which must exist",
         }
     }
@@ -156,12 +184,46 @@ impl Subcommand {
                 let name = value(alloc, "NAME", "The name of the batch").long("batch");
                 over_file.arg(csv)?.arg(name)
             }
-            Subcommand::Stock => over_file.arg(format(alloc)),
-            Subcommand::Unfinished => over_file.arg(format(alloc)),
-            Subcommand::History => {
-                let id = value(alloc, "ID", "The number of the journey");
-                over_file.arg(id)?.arg(format(alloc))
+            Subcommand::Stock => {
+                let calendar = flag(
+                    alloc,
+                    "CALENDAR",
+                    "Show a month of nights for each product, as text",
+                )
+                .long("calendar");
+                with_cells(alloc, over_file.arg(calendar)?)
             }
+            Subcommand::Summary => with_cells(alloc, over_file),
+            Subcommand::Holders => {
+                with_one(
+                    alloc,
+                    over_file,
+                    "CELL",
+                    "The cell, as R/INN/DBL/2030-06-01",
+                )
+            }
+            Subcommand::Unfinished => {
+                let agent = option(alloc, "AGENT", "agent", "Show those of an agent");
+                let state = option(
+                    alloc,
+                    "STATE",
+                    "state",
+                    "Show those in a state: run or back",
+                );
+                over_file.arg(agent)?.arg(state)?.arg(format(alloc))
+            }
+            Subcommand::Journeys => {
+                let agent = option(alloc, "AGENT", "agent", "Show those of an agent");
+                let state = option(
+                    alloc,
+                    "STATE",
+                    "state",
+                    "Show those in a state: run, back, ended or undone",
+                );
+                over_file.arg(agent)?.arg(state)?.arg(format(alloc))
+            }
+            Subcommand::History => with_one(alloc, over_file, "ID", "The number of the journey"),
+            Subcommand::Why => with_one(alloc, over_file, "ID", "The number of the journey"),
             _ => Ok(over_file),
         }
     }
@@ -192,6 +254,54 @@ fn flag<'a>(alloc: Global, id: &'a str, help: &'a str) -> Arg<'a>
     ensures flag { IsFlag result }
 {
     Arg::new(alloc, id).help(help).action(ArgAction::SetTrue)
+}
+
+/// A value that may be left out, and follows an option of this name.
+fn option<'a>(alloc: Global, id: &'a str, name: &'a str, help: &'a str) -> Arg<'a>
+    ensures rule { rule_of result ≡ named_by name.entry.now (optional id.entry.now) }
+    ensures value { IsValue result }
+{
+    extra(alloc, id, help).long(name)
+}
+
+/// The command with the values that ask for cells, and a format.
+fn with_cells<'a>(alloc: Global, command: Command<'a>) -> Result<Command<'a>, AllocError>
+    ensures asks { IfOk result (AddsRules command.entry cell_rules) }
+{
+    let kind = option(
+        alloc,
+        "KIND",
+        "kind",
+        "Show a kind: flight, room, transfer or cover",
+    );
+    let supplier = option(alloc, "SUPPLIER", "supplier", "Show a supplier");
+    let product = option(alloc, "PRODUCT", "product", "Show a product");
+    let from = option(
+        alloc,
+        "FROM",
+        "from",
+        "Show nights from a day on, as 2030-06-01",
+    );
+    let to = option(alloc, "TO", "to", "Show nights to a day");
+    command
+        .arg(kind)?
+        .arg(supplier)?
+        .arg(product)?
+        .arg(from)?
+        .arg(to)?
+        .arg(format(alloc))
+}
+
+/// The command with one required value of this name, and a format.
+fn with_one<'a>(
+    alloc: Global,
+    command: Command<'a>,
+    id: &'a str,
+    help: &'a str,
+) -> Result<Command<'a>, AllocError>
+    ensures asks { IfOk result (AddsRules command.entry (one_rules id.entry.now)) }
+{
+    command.arg(value(alloc, id, help))?.arg(format(alloc))
 }
 
 /// The format of a report.

@@ -11,7 +11,7 @@ use Rattle.std.specs.Cmp.Lexicographic.{slice_cmp, texts_ties, nat_list_eq_equiv
 use Rattle.allotment.specs.Cells.{is_cell, kind_number}
 use Rattle.allotment.specs.declared.cells.Cell.{Cell}
 use Rattle.commands.specs.CellKeys.{cell_key_cmp}
-use Rattle.commands.specs.declared.cell_keys.CellKey.{CellKey}
+use Rattle.commands.specs.declared.batches.CellKey.{CellKey}
 
 -- a cell as a key
 abbrev pub key_of : Cell → CellKey

@@ -13,7 +13,7 @@ use Rattle.allotment.specs.declared.cells.Cell.{Cell}
 use Rattle.allotment.specs.declared.cells.Row.{Row}
 use Rattle.commands.specs.Batches.{is_new_cell, are_distinct, repeat_behind, repeat_among}
 use Rattle.commands.specs.CellKeys.{cell_key_cmp, row_key, is_above, rises_above, rises}
-use Rattle.commands.specs.declared.cell_keys.CellKey.{CellKey}
+use Rattle.commands.specs.declared.batches.CellKey.{CellKey}
 use Rattle.commands.proofs.CellKeyLemmas.{key_of, cell_key_total, is_eq-cells, is_cell-swap}
 
 -- one of these rows is of this cell

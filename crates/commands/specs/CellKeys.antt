@@ -5,7 +5,7 @@ use Rattle.std.specs.Cmp.Lexicographic.{slice_cmp}
 use Rattle.std.specs.declared.cmp.Ordering.{Ordering}
 use Rattle.allotment.specs.Cells.{kind_number}
 use Rattle.allotment.specs.declared.cells.Row.{Row}
-use Rattle.commands.specs.declared.cell_keys.CellKey.{CellKey}
+use Rattle.commands.specs.declared.batches.CellKey.{CellKey}
 
 -- cells as keys are ordered by kind, supplier, product and night
 abbrev pub cell_key_cmp : CellKey → CellKey → Ordering

@@ -1,8 +1,8 @@
 -- What a command asks for.
 use Rattle.commands.specs.Request as request
 use Rattle.commands.specs.Request.{Request}
-use Rattle.commands.specs.declared.orders.Command.{Command}
-use Rattle.commands.specs.declared.orders.Command.TheVariants.{Load, Begin, Step, Abort, Stop, Save}
+use Rattle.commands.specs.declared.asks.Command.{Command}
+use Rattle.commands.specs.declared.asks.Command.TheVariants.{Load, Begin, Step, Abort, Stop, Save}
 
 -- the request that a command makes
 abbrev pub request_of : Command → Request

@@ -13,10 +13,10 @@ use Rattle.commands.specs.declared.items.Item.{Item}
 use Rattle.commands.specs.declared.items.Item.TheVariants.{Transaction, Compensation, Turn, Save}
 use Rattle.commands.specs.declared.items.Phase.{Phase}
 use Rattle.commands.specs.declared.items.Phase.TheVariants.{Run, Back, Ended, Undone}
-use Rattle.commands.specs.declared.refusals.CsvCause.{CsvCause}
-use Rattle.commands.specs.declared.refusals.CsvCause.TheVariants as csv
-use Rattle.commands.specs.declared.refusals.Refusal.{Refusal}
-use Rattle.commands.specs.declared.refusals.Refusal.TheVariants.{BadHead, NoAgent, NoKey, BadBody, BadPlan, BadCsv, UnknownPath, WrongMethod, NoJourney, Finished, NoSavePoint, BelowHeld, BatchDiffers, KeyReused, TooLarge, Limit, NoLength, UnknownSchema, AlreadyNew, NoSave}
+use Rattle.commands.specs.declared.replies.CsvCause.{CsvCause}
+use Rattle.commands.specs.declared.replies.CsvCause.TheVariants as csv
+use Rattle.commands.specs.declared.replies.Refusal.{Refusal}
+use Rattle.commands.specs.declared.replies.Refusal.TheVariants.{BadHead, NoAgent, NoKey, BadBody, BadPlan, BadCsv, UnknownPath, WrongMethod, NoJourney, Finished, NoSavePoint, BelowHeld, BatchDiffers, KeyReused, TooLarge, Limit, NoLength, UnknownSchema, AlreadyNew, NoSave}
 use Rattle.commands.specs.declared.replies.Reply.{Reply}
 use Rattle.commands.specs.declared.replies.Reply.TheVariants.{Loaded, Begun, Moved, Refused}
 

@@ -1,8 +1,9 @@
-//! Asks: who asks, under which key and with which text.
+//! Commands, and asks: who asks, under which key and with which text.
 ghost use Rattle.std.specs.Prelude.{◌≡◌};
 
-use crate::agents::Agent;
-use crate::keys::Key;
+use crate::batches::Batch;
+use crate::names::{Agent, Key};
+use plan::Plan;
 use std::marker::Model;
 
 /// Who asks, under which key, and with which text. To a contract it is the record of these.
@@ -51,4 +52,21 @@ impl Ask {
     {
         &self.text
     }
+}
+
+/// A command to the desk. Journeys are named by their numbers, from 1.
+#[derive(Drop)]
+pub enum Command {
+    /// Set the allotments of the cells of a batch.
+    Load(Batch),
+    /// Begin a journey.
+    Begin(Plan),
+    /// Do a journey's next step, or its next compensation.
+    Step(u64),
+    /// Turn a journey back to a position.
+    Abort(u64, usize),
+    /// Turn a running journey back to its last save-point, as recovery does.
+    Stop(u64),
+    /// Take a save-point where a journey is.
+    Save(u64),
 }

@@ -1,13 +1,15 @@
-//! Batches of allotments.
-ghost use Rattle.std.specs.Prelude.{IsTrue};
+//! Batches of allotments, and which of their rows comes twice.
+ghost use Rattle.commands.specs.Batches.{is_good_row, repeat_among};
+ghost use Rattle.commands.specs.CellKeys.{is_above, rises, row_key};
 ghost use Rattle.std.specs.List.{list_all};
-ghost use Rattle.commands.specs.Batches.{is_good_row};
+ghost use Rattle.std.specs.Prelude.{IsTrue, ◌≡◌, ◌<◌, length, IfOk, IfSome};
 
 use crate::limits::MOST_ROWS;
 use crate::names::Name;
-use crate::repeats::first_repeat;
-use allotment::Row;
+use allotment::{Cell, Row};
 use std::alloc::{AllocError, Global};
+use std::cmp::Ordering;
+use std::collections::BTreeSet;
 use std::marker::Model;
 
 /// Why rows make no batch.
@@ -119,4 +121,110 @@ fn know_limits(rows: &[Row])
     for row in rows {
         know_limit(row);
     }
+}
+
+/// A cell, ordered by kind, supplier, product and night.
+#[derive(Clone, Copy, PartialEq, Eq)]
+pub struct CellKey {
+    pub cell: Cell,
+}
+
+impl Ord for CellKey {
+    ghost use Rattle.std.proofs.Common.{rules};
+    ghost use Rattle.std.specs.Cmp.Rules.{comparing};
+    ghost use Rattle.std.specs.Cmp.Lexicographic.{slice_cmp};
+    ghost use Rattle.std.specs.Ordering.{nat_cmp, on, then_cmp};
+    ghost use Rattle.allotment.specs.Cells.{kind_number};
+
+    ghost cmp = { then_cmp (on (λ k. kind_number k.cell.kind) nat_cmp)
+        (then_cmp (on (λ k. k.cell.supplier) (slice_cmp nat_cmp))
+        (then_cmp (on (λ k. k.cell.product) (slice_cmp nat_cmp))
+        (on (λ k. k.cell.night) nat_cmp))) };
+
+    ghost total = { Prim.search (comparing, rules) };
+
+    ghost matches_partial_cmp = { Prim.search (comparing, rules) };
+
+    ghost matches_eq = { Prim.search (comparing, rules) };
+
+    fn cmp(&self, other: &CellKey) -> Ordering {
+        let one = self.cell;
+        let two = other.cell;
+        let kind = one.kind.number().cmp(&two.kind.number());
+        let supplier = one.supplier.as_str().cmp(two.supplier.as_str());
+        let product = one.product.as_str().cmp(two.product.as_str());
+        let night = one.night.day().cmp(&two.night.day());
+        kind.then(supplier.then(product.then(night)))
+    }
+}
+
+impl PartialOrd for CellKey {
+    ghost use Rattle.std.proofs.Common.{rules};
+    ghost use Rattle.std.specs.Cmp.{partial_order_from_own_ties};
+    ghost use Rattle.std.specs.Cmp.Rules.{comparing};
+    ghost use Rattle.std.specs.Cmp.Lexicographic.{slice_cmp};
+    ghost use Rattle.std.specs.Ordering.{nat_cmp, on, then_cmp, as_partial_cmp};
+    ghost use Rattle.allotment.specs.Cells.{kind_number};
+
+    ghost partial_cmp = { as_partial_cmp (then_cmp (on (λ k. kind_number k.cell.kind) nat_cmp)
+        (then_cmp (on (λ k. k.cell.supplier) (slice_cmp nat_cmp))
+        (then_cmp (on (λ k. k.cell.product) (slice_cmp nat_cmp))
+        (on (λ k. k.cell.night) nat_cmp)))) };
+
+    ghost laws = { partial_order_from_own_ties (Prim.search (comparing, rules) depth 9)
+        (Prim.search (comparing, rules)) };
+
+    fn partial_cmp(&self, other: &CellKey) -> Option<Ordering> {
+        Some(self.cmp(other))
+    }
+}
+
+/// The index, counted from 0, of the first row whose cell stands in an earlier row. The only fault is out of memory.
+///
+/// Rows in rising order of their cells are compared without allocating; otherwise the cells are put into a set.
+pub fn first_repeat(alloc: Global, rows: &[Row]) -> Result<Option<usize>, AllocError>
+    ensures repeat { IfOk result (λ place. place ≡ repeat_among rows.now) }
+    ensures within { IfOk result (λ place. IfSome place (λ i. i < length rows.now)) }
+{
+    if are_rising(rows) {
+        return Ok(None);
+    }
+    let mut seen = BTreeSet::new(alloc);
+    for (i, row) in rows.iter().enumerate() {
+        if !seen.insert(key_of(row))? {
+            return Ok(Some(i));
+        }
+    }
+    Ok(None)
+}
+
+/// Whether the cell of each row is above that of the row before it. Then no cell is repeated.
+fn are_rising(rows: &[Row]) -> bool
+    ensures rising { result ≡ rises rows.now }
+{
+    let mut last = None;
+    for row in rows {
+        if !is_above(last, key_of(row)) {
+            return false;
+        }
+        last = Some(key_of(row));
+    }
+    true
+}
+
+/// Whether the cell is above the last one, where there is one.
+fn is_above(last: Option<CellKey>, key: CellKey) -> bool
+    ensures above { result ≡ is_above last key }
+{
+    match last {
+        Some(before) => before < key,
+        None => true,
+    }
+}
+
+/// The cell of the row, as a key.
+fn key_of(row: &Row) -> CellKey
+    ensures key { result ≡ row_key row.now }
+{
+    CellKey { cell: row.cell() }
 }

@@ -13,7 +13,8 @@ pub fn replies_have_one_line()
 ///
 /// The proof applies the law to that reply. A law with one more premise, which the reply does not meet, is refused here.
 pub fn line_of_a_first_step()
-    ensures alone { (other : Reply) → IsTrue (is_accepted other) → reply_line other ≡ first_step_text
+    ensures alone { (other : Reply) → IsTrue (is_accepted other)
+        → reply_line other ≡ first_step_text
         → other ≡ first_step_done }
 {
     replies_have_one_line();

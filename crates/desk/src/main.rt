@@ -1,11 +1,13 @@
 //! The program `desk`. `command_line` reads its words, `cli` does the job, and `program_ends` prints how it ended.
 //!
-//! Faults are explained where the first word asks for it, or where standard error is a terminal.
+//! Faults are explained where the first word asks for it, or where standard error is a terminal. There, too, `progress` shows
+//! how far a long input was read.
 #![tactic(auto)]
 
 use cli::{perform, perform_explained};
 use command_line::{Job, call_of, job};
 use program_ends::{End, ProgramFault, end_of_arguments};
+use progress::Watched;
 use std::alloc::Global;
 use std::env;
 use std::io::IsTerminal;
@@ -26,9 +28,22 @@ fn words(rt: &HostRuntime) -> Result<Vec<String>, End> {
     Ok(words)
 }
 
+/// Whether who waits at a terminal is shown how many lines of standard input were read: where these are not typed, and where
+/// the answers do not show it.
+fn is_watched(rt: &HostRuntime, job: &Job) -> bool {
+    let is_silent = match job {
+        Job::Run { .. } => !rt.stdout().is_terminal(),
+        Job::Load { .. } => true,
+        _ => false,
+    };
+    is_silent && rt.stderr().is_terminal() && !rt.stdin().is_terminal()
+}
+
 /// Does a job over the standard streams, and returns the exit status.
 fn carry_out(rt: &HostRuntime, alloc: Global, job: Job, explains: bool) -> u8 {
-    let (mut input, mut out, mut err) = (rt.stdin(), rt.stdout(), rt.stderr());
+    let terminal = is_watched(rt, &job).then(|| rt.stderr());
+    let mut input = Watched::new(rt, rt.stdin(), terminal);
+    let (mut out, mut err) = (rt.stdout(), rt.stderr());
     if explains {
         perform_explained(rt, alloc, job, &mut input, &mut out, &mut err)
     } else {

@@ -6,17 +6,17 @@ use Rattle.std.proofs.lemmas.Slice.Eq.{bytes_eq-Decides}
 use Rattle.allotment.proofs.TestLemmas.{bytes_eq_self}
 use Rattle.commands.specs.Asks.{Asked}
 use Rattle.commands.specs.Request.{Request}
-use Rattle.commands.specs.declared.refusals.Refusal.{Refusal}
+use Rattle.commands.specs.declared.replies.Refusal.{Refusal}
 use Rattle.commands.specs.declared.replies.Reply.{Reply}
 use Rattle.commands.specs.declared.replies.Reply.TheVariants as reply
-use Rattle.commands.specs.declared.refusals.Refusal.TheVariants.{KeyReused}
+use Rattle.commands.specs.declared.replies.Refusal.TheVariants.{KeyReused}
 use Rattle.ledger.specs.Answer.{State, Kept, KeptReply, answer, asker, keep, kept_for, outcome, outcome_for, state_with}
 use Rattle.ledger.specs.Ledger.{Event}
 use Rattle.ledger.specs.World.{Moment, Done, Cut, Reopened, after}
 use Rattle.http_messages.specs.Heads.{is_method, parts_of}
 use Rattle.http_messages.specs.Messages.{Message, NoHead, Asks}
 use Rattle.http_pages.specs.Pages.{page_text, reply_page}
-use Rattle.http_pages.specs.declared.admitting.Denied.{Denied}
+use Rattle.http_pages.specs.declared.routes.Denied.{Denied}
 use Rattle.desk_http.specs.Demands.{Demand, Carry, SeeJourney, SeePlan, SeeUnfinished, SeeMine, SeeStock, SeeHealth, SeePage, Stop, demand_of}
 use Rattle.desk_http.specs.declared.doors.Door.{Door}
 use Rattle.desk_http.specs.Hosts.{refusal_at}

@@ -8,10 +8,10 @@ use Rattle.http_messages.specs.Messages as sent
 use Rattle.http_messages.specs.declared.requests.Message.{Message}
 use Rattle.http_messages.specs.declared.requests.Message.TheVariants as taken
 use Rattle.http_messages.specs.declared.requests.Request.{Request}
-use Rattle.commands.specs.declared.refusals.Refusal.{Refusal}
-use Rattle.commands.specs.declared.refusals.Refusal.TheVariants.{BadHead}
+use Rattle.commands.specs.declared.replies.Refusal.{Refusal}
+use Rattle.commands.specs.declared.replies.Refusal.TheVariants.{BadHead}
 use Rattle.http_pages.specs.Pages.{Paged, denied_page, page_said, page_text, refused_page}
-use Rattle.http_pages.specs.declared.admitting.Denied.{Denied}
+use Rattle.http_pages.specs.declared.routes.Denied.{Denied}
 use Rattle.http_pages.specs.declared.answers.Page as shown
 use Rattle.desk_http.specs.Answering.{Answers, Tells}
 use Rattle.desk_http.specs.Demands.{asks_to_stop, demand_of}

@@ -2,7 +2,7 @@
 use Rattle.std.proofs.Common.{◌≡◌, ap}
 use Rattle.std.specs.Prelude.{Result, Ok, Err}
 use Rattle.commands.specs.Request.{Request}
-use Rattle.commands.specs.declared.refusals.Refusal.{Refusal}
+use Rattle.commands.specs.declared.replies.Refusal.{Refusal}
 use Rattle.http_pages.specs.Admitting.{plain}
 use Rattle.desk_http.specs.Demands.{Sender, carried, denied_by}
 use Rattle.desk_http.specs.DemandValues.{AsksFor, Demands}

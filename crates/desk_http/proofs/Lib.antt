@@ -4,4 +4,5 @@ pub mod DemandLemmas
 pub mod AnswerLemmas
 pub mod ServeLemmas
 pub mod AgainLemmas
+pub mod AskLemmas
 pub mod WorldLemmas

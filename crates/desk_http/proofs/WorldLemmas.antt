@@ -9,8 +9,8 @@ use Rattle.plan.proofs.JsonKeptLemmas.{json_keeps_limits}
 use Rattle.commands.specs.BatchData.{Batched}
 use Rattle.commands.specs.Request as asks
 use Rattle.commands.specs.Request.{Request}
-use Rattle.commands.specs.declared.refusals.Refusal.{Refusal}
-use Rattle.commands.specs.declared.refusals.Refusal.TheVariants.{WrongMethod}
+use Rattle.commands.specs.declared.replies.Refusal.{Refusal}
+use Rattle.commands.specs.declared.replies.Refusal.TheVariants.{WrongMethod}
 use Rattle.allotment_csv.specs.Files.{batch_of}
 use Rattle.allotment_csv.specs.declared.faults.CsvFault.{CsvFault}
 use Rattle.allotment_csv.specs.declared.faults.CsvFault.TheVariants as csv
@@ -20,9 +20,9 @@ use Rattle.ledger.specs.World.{Moment, after}
 use Rattle.http_messages.specs.Heads.{Parts, agent_of, is_method, is_unnamed, parts_of}
 use Rattle.http_messages.specs.Messages as sent
 use Rattle.http_messages.specs.Messages.{Message, NoHead, BeginsWithAll}
-use Rattle.http_pages.specs.declared.admitting.Denied.{Denied}
+use Rattle.http_pages.specs.declared.routes.Denied.{Denied}
 use Rattle.http_pages.specs.declared.answers.HtmlPage.{HtmlPage}
-use Rattle.http_pages.specs.declared.verbs.Verb.TheVariants.{Get}
+use Rattle.http_pages.specs.declared.routes.Verb.TheVariants.{Get}
 use Rattle.http_pages.specs.declared.routes.Route.{Route}
 use Rattle.http_pages.specs.declared.routes.Route.TheVariants.{LoadBatch, Begin, Step, Abort, Save, ShowJourney, ShowPlan, ShowUnfinished, ShowStock, ShowMine, ShowHealth}
 use Rattle.saga_core.specs.Runs as runs
@@ -40,7 +40,6 @@ use Rattle.protocols.specs.Scenes.{Scene}
 use Rattle.desk_http.specs.Serving.{Answered, Leaves, ServesAll, ServesSome}
 use Rattle.desk_http.specs.Worlds.{asks_by, asks_in, EndsAmongMessages, EndsWithMessages, GoesOnAmongMessages, GoesOnWithMessages}
 use Rattle.protocols.specs.declared.faults.ServeFault.{ServeFault}
-use Rattle.desk_http.specs.declared.serving.Served.{Served}
 use Rattle.protocols.specs.declared.faults.ServeFault.TheVariants.{Memory, Read, Store, Write}
 use Rattle.desk_http.proofs.AgainLemmas.{carry_of}
 use Rattle.desk_http.proofs.ServeLemmas.{after_more}
@@ -298,23 +297,23 @@ ends_by x w input rest Store ms pages settled here answered stays left = record 
 -- The result of serving, as an execution.
 
 -- at Ok the execution continues with all messages, up to and including the first that closes
-pub messages_go_on : {stood : State → Type 0} (x : Scene) (known : Option (List ℕ)) (r : Result Served ServeFault)
+pub messages_go_on : {Served : Type 0} {stood : State → Type 0} (pages : Served → ℕ) (x : Scene) (known : Option (List ℕ)) (r : Result Served ServeFault)
     → ((u : State) → x.stands u → x.leaves u u)
-    → ((s : State) → stood s → IfSome known (λ input. IfOk r (λ served. ServesAll x s input served.pages)))
-    → IfSome known (λ input. IfOk r (λ served. GoesOnWithMessages stood x input served.pages))
-messages_go_on x None r settled each = tt
-messages_go_on x (Some input) (Ok served) settled each =
-    λ w here. all_go_on x w input served.pages settled here (each (after start w) here.stands_there)
-messages_go_on x (Some input) (Err fault) settled each = tt
+    → ((s : State) → stood s → IfSome known (λ input. IfOk r (λ served. ServesAll x s input (pages served))))
+    → IfSome known (λ input. IfOk r (λ served. GoesOnWithMessages stood x input (pages served)))
+messages_go_on pages x None r settled each = tt
+messages_go_on pages x (Some input) (Ok served) settled each =
+    λ w here. all_go_on x w input (pages served) settled here (each (after start w) here.stands_there)
+messages_go_on pages x (Some input) (Err fault) settled each = tt
 
 -- at a fault it continues with a prefix of them
-pub messages_stop : {stood : State → Type 0} (x : Scene) (known : Option (List ℕ)) (r : Result Served ServeFault)
+pub messages_stop : {Served : Type 0} {stood : State → Type 0} (pages : Served → ℕ) (x : Scene) (known : Option (List ℕ)) (r : Result Served ServeFault)
     → ((u : State) → x.stands u → x.leaves u u)
     → ((s : State) → stood s → IfSome known (λ input. IfErr r (ServesSome x s input)))
     → IfSome known (λ input. IfErr r (GoesOnAmongMessages stood x input))
-messages_stop x None r settled each = tt
-messages_stop x (Some input) (Ok served) settled each = tt
-messages_stop x (Some input) (Err fault) settled each =
+messages_stop pages x None r settled each = tt
+messages_stop pages x (Some input) (Ok served) settled each = tt
+messages_stop pages x (Some input) (Err fault) settled each =
     λ w here.
     let some = each (after start w) here.stands_there in
     ends_by x w input some.rest fault some.messages some.pages settled here some.answered some.stays some.leaves

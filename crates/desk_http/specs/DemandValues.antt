@@ -5,9 +5,9 @@ use Rattle.serde_json.specs.View.{view}
 use Rattle.serde_json.specs.declared.value.Value.{Value}
 use Rattle.commands.specs.Orders.{request_of}
 use Rattle.commands.specs.Request.{Request}
-use Rattle.commands.specs.declared.orders.Command.{Command}
-use Rattle.commands.specs.declared.refusals.Refusal.{Refusal}
-use Rattle.http_pages.specs.declared.admitting.Denied.{Denied}
+use Rattle.commands.specs.declared.asks.Command.{Command}
+use Rattle.commands.specs.declared.replies.Refusal.{Refusal}
+use Rattle.http_pages.specs.declared.routes.Denied.{Denied}
 use Rattle.desk_http.specs.Demands as sent
 pub use Rattle.desk_http.specs.Demands.{denied_by}
 use Rattle.desk_http.specs.declared.demands.Demand.{Demand}

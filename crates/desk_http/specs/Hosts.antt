@@ -1,7 +1,7 @@
 -- The hosts under which the page for browsers is served.
 use Rattle.std.specs.Prelude.{ℕ, ◌||◌, Bool, List, ◌++◌, bytes_eq, codes, decimal, if◌then◌else◌, Option, Some}
-use Rattle.commands.specs.declared.refusals.Refusal.{Refusal}
-use Rattle.commands.specs.declared.refusals.Refusal.TheVariants.{BadHead}
+use Rattle.commands.specs.declared.replies.Refusal.{Refusal}
+use Rattle.commands.specs.declared.replies.Refusal.TheVariants.{BadHead}
 use Rattle.http_messages.specs.Heads.{Parts, complaint_of, host_of}
 use Rattle.desk_http.specs.declared.doors.Door.{Door}
 use Rattle.desk_http.specs.declared.doors.Door.TheVariants.{Port, House, Page}

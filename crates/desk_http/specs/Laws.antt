@@ -1,10 +1,12 @@
--- Idempotence of a message that made an event.
-use Rattle.std.specs.Prelude.{◌≡◌, ℕ, List, Some, is_some, IsTrue}
+-- Idempotence of a message that made an event, and how long the text of an ask is.
+use Rattle.std.specs.Prelude.{◌≡◌, ◌≤◌, ◌+◌, ℕ, List, length, Some, is_some, IsTrue}
 use Rattle.commands.specs.Asks.{Asked}
+use Rattle.commands.specs.Limits.{most_bytes}
 use Rattle.commands.specs.Request.{Request}
 use Rattle.ledger.specs.Answer.{State, outcome}
 use Rattle.ledger.specs.World.{Moment, after}
-use Rattle.http_messages.specs.Messages.{Message}
+use Rattle.http_messages.specs.Heads.{most_head_bytes}
+use Rattle.http_messages.specs.Messages.{Message, BeginsWith}
 use Rattle.desk_http.specs.Pages.{IsPage, command_in, state_after}
 use Rattle.desk_http.specs.declared.doors.Door.{Door}
 
@@ -30,3 +32,13 @@ abbrev pub ActOnce : Type 0
 ActOnce =
     (door : Door) (s : State) (m : Message) (between : List Moment) → MakesEvent door s m
     → AnswersAgain door s m between
+
+-- the text of the message's ask, if it makes a command of an agent, has no more bytes than a head and a body may have
+abbrev pub HasShortAsk : Door → Message → Type 0
+HasShortAsk door m =
+    (asked : Request) (ask : Asked) → command_in door m ≡ Some (asked, Some ask)
+    → length ask.text ≤ most_head_bytes + most_bytes
+
+-- so it is of each message of a stream, at each door
+abbrev pub AsksAreShort : Type 0
+AsksAreShort = (door : Door) (stream rest : List ℕ) (m : Message) → BeginsWith stream m rest → HasShortAsk door m

@@ -5,8 +5,8 @@ use Rattle.allotment.specs.declared.places.Held.{Held}
 use Rattle.commands.specs.Asks.{Asked}
 use Rattle.commands.specs.Names.{house}
 use Rattle.commands.specs.Request.{Request}
-use Rattle.commands.specs.declared.refusals.Refusal.{Refusal}
-use Rattle.commands.specs.declared.refusals.Refusal.TheVariants.{BadHead, NoJourney}
+use Rattle.commands.specs.declared.replies.Refusal.{Refusal}
+use Rattle.commands.specs.declared.replies.Refusal.TheVariants.{BadHead, NoJourney}
 use Rattle.ledger.specs.Answer.{State, outcome}
 use Rattle.ledger.specs.Ledger.{Event, history, numbers}
 use Rattle.saga_core.specs.Views.{IsStock, brief_of, counts_of, is_owned_above, record_of, unfinished_of}
@@ -19,7 +19,7 @@ use Rattle.http_pages.specs.declared.bodies.Owners.TheVariants.{Hidden, Shown}
 use Rattle.serde_json.specs.Data.{Data}
 use Rattle.plan.specs.PlanData.{plan_data}
 use Rattle.http_pages.specs.Pages.{Paged, browsed_page, denied_page, page_text, refused_page, reply_page, report_page, value_page}
-use Rattle.http_pages.specs.declared.admitting.Denied.{Denied}
+use Rattle.http_pages.specs.declared.routes.Denied.{Denied}
 use Rattle.reports.specs.Layouts.{stock_report}
 use Rattle.desk_http.specs.Demands.{Demand, Carry, SeeJourney, SeePlan, SeeUnfinished, SeeMine, SeeStock, SeeHealth, SeePage, Stop, asks_to_stop, demand_of}
 use Rattle.desk_http.specs.Hosts.{refusal_at}

@@ -2,19 +2,12 @@
 use Rattle.std.specs.Prelude.{◌≡◌, ◌⊎◌, ℕ, true, List, [], ◌∷◌, ◌++◌, length, take}
 use Rattle.std.specs.List.{concat}
 use Rattle.ledger.specs.Answer.{State}
-use Rattle.http_messages.specs.declared.faults.ReadFault.{ReadFault}
-use Rattle.http_messages.specs.declared.faults.ReadFault.TheVariants as reading
 use Rattle.http_messages.specs.Messages.{Message, BeginsWith, BeginsWithAll, HasNoMessage}
 use Rattle.desk_http.specs.Pages.{ArePages, IsPage, closes, state_after, state_after_all, stays_open}
 use Rattle.desk_http.specs.declared.doors.Door.TheVariants.{Port}
 use Rattle.protocols.specs.Scenes.{Scene, Wrote}
 use Rattle.protocols.specs.declared.faults.ServeFault.{ServeFault}
 use Rattle.protocols.specs.declared.faults.ServeFault.TheVariants.{Memory, Store, Read, Write}
-
--- the fault of reading a message
-abbrev pub fault_of_reading : ReadFault → ServeFault
-fault_of_reading reading.Memory = Memory
-fault_of_reading reading.Read = Read
 
 -- the messages are a prefix of the input, before the rest; their pages are these
 pub record Answered (s : State) (input : List ℕ) (messages : List Message) (rest : List ℕ) (pages : List (List ℕ))

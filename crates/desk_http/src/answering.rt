@@ -13,8 +13,7 @@ ghost use Rattle.desk_http.specs.Hosts.{refusal_at};
 ghost use Rattle.desk_http.specs.Pages.{closes, stops};
 
 use crate::demands::{Demand, Unmet, asks_to_stop, demand_in};
-use crate::doors::Door;
-use crate::hosts::refusal_at;
+use crate::doors::{Door, refusal_at};
 use crate::mine::see_mine;
 use crate::showing::{see_health, see_journey, see_plan, see_stock, see_unfinished};
 use commands::Refusal;

@@ -7,9 +7,9 @@ ghost use Rattle.desk_http.specs.Demands.{admitted_of_house, agents_demand, aske
 ghost use Rattle.desk_http.specs.DemandValues.{Demands, denied_by, sender_said};
 ghost use Rattle.desk_http.specs.declared.demands.Unmet.TheVariants.{Memory, Refused};
 
-use crate::bodies::{bare, begin, load};
 use crate::doors::{Asker, Door, Site};
 use crate::senders::Sender;
+use crate::showing::{bare, begin, load};
 use commands::{Ask, Command, Refusal};
 use http_messages::Request;
 use http_pages::{Denied, HtmlPage, Paths, Route, Verb, admit};

@@ -1,8 +1,13 @@
-//! Idempotence of a message that made an event.
-ghost use Rattle.desk_http.specs.Laws.{ActOnce};
+//! Idempotence of a message that made an event, and how long the text of an ask is.
+ghost use Rattle.desk_http.specs.Laws.{ActOnce, AsksAreShort};
 
 /// A request that made an event is idempotent under its key: when the same request is retried, it gets the same page
 /// and makes no second event, whatever came between.
 pub fn again()
     ensures law { ActOnce }
+{}
+
+/// The text of an ask that a message of a stream makes has at most 270,336 bytes: as many as a head and a body may have.
+pub fn asks_are_short()
+    ensures law { AsksAreShort }
 {}

@@ -1,7 +1,6 @@
-//! The desk over HTTP: the answers to the messages of a connection.
+//! The desk over HTTP: the answer to a message.
 //!
-//! `serve` reads messages from a reader, executes their demands over a book, and writes the page of each message before
-//! it reads the next.
+//! `answer_to` executes the demand of a message over a book, and returns the page that reports its outcome.
 //!
 //! A request comes in at a *door*: the port, with a page for browsers or without, or the house's own, where one that names
 //! no agent is the house's.
@@ -11,22 +10,16 @@
 #![tactic(auto)]
 
 mod answering;
-mod bodies;
 mod demands;
 mod doors;
-mod faults;
-mod hosts;
 mod law_examples;
 mod laws;
 mod mine;
 mod senders;
-mod serving;
 mod showing;
 
 pub use answering::{Answer, answer_to};
 pub use doors::{Door, Site};
-pub use faults::reading_fault;
-pub use law_examples::step_is_retried;
-pub use laws::again;
+pub use law_examples::{step_has_a_short_ask, step_is_retried};
+pub use laws::{again, asks_are_short};
 pub use protocols::ServeFault;
-pub use serving::{Served, serve};

@@ -1,25 +1,34 @@
-//! Views of a book for agents and the house. A view changes nothing.
-ghost use Rattle.std.specs.Prelude.{◌≡◌, IfOk, IsErrOf, IsTrue};
-ghost use Rattle.ledger.specs.Answer.{State};
-ghost use Rattle.saga_core.specs.Books.{LeavesNoMore};
+//! Views of a book for agents and the house, and their bodies. A view changes nothing.
+ghost use Rattle.allotment_csv.specs.Files.{batch_of};
+ghost use Rattle.commands.specs.Orders.{request_of};
+ghost use Rattle.desk_http.specs.Answering.{Shows};
+ghost use Rattle.desk_http.specs.DemandValues.{AsksFor, ReadsAs};
+ghost use Rattle.desk_http.specs.Demands.{bare, begin_by, load_of, value_in};
+ghost use Rattle.desk_http.specs.Pages.{journey_page, plan_page, own_journey, own_unfinished, unfinished_shown, ShowsStock};
 ghost use Rattle.http_pages.specs.Bodies.{health_data};
 ghost use Rattle.http_pages.specs.Pages.{page_said, value_page};
+ghost use Rattle.ledger.specs.Answer.{State};
+ghost use Rattle.saga_core.specs.Books.{LeavesNoMore};
 ghost use Rattle.saga_core.specs.Views.{counts_of};
-ghost use Rattle.std.specs.String.{string_bytes};
 ghost use Rattle.serde_json.specs.Written.{compact_text};
-ghost use Rattle.desk_http.specs.Pages.{journey_page, plan_page, own_journey, own_unfinished, unfinished_shown, ShowsStock};
-ghost use Rattle.desk_http.specs.Answering.{Shows};
+ghost use Rattle.std.specs.Prelude.{◌≡◌, IfOk, IsErrOf, IsTrue};
+ghost use Rattle.std.specs.String.{string_bytes};
 
+use crate::demands::Unmet;
 use crate::doors::Asker;
-use commands::Refusal;
+use allotment_csv::{CsvFault, read_batch};
+use commands::{Command, Name, Refusal};
 use http_pages::{
     Body, Owners, Page, health_body, journey_body, plan_body, refused_page, shown_page,
     unfinished_body,
 };
+use plan::{Plan, PlanFault};
 use protocols::ServeFault;
 use reports::{Format, stock_text};
 use saga_core::{Book, Brief, Listed, Record};
+use serde_json::Value;
 use std::alloc::{AllocError, Global};
+use std::str;
 
 /// The page of a journey that who asks sees. A journey of another agent gets the page of one that does not exist.
 pub(crate) fn see_journey<B: Book>(
@@ -194,4 +203,54 @@ pub(crate) fn see_health<B: Book>(alloc: Global, book: &mut B) -> Result<Page, S
     let counts = book.counts()?;
     let body = health_body(alloc, counts)?;
     Ok(shown_page(Body::Json(body)))
+}
+
+/// The load of a batch of this name, whose rows are a body.
+pub(crate) fn load(alloc: Global, name: Name, body: &[u8]) -> Result<Command, Unmet>
+    ensures load { AsksFor (load_of (batch_of name body.now)) result }
+{
+    match read_batch(alloc, name.as_str(), body) {
+        Ok(batch) => Ok(Command::Load(batch)),
+        Err(CsvFault::BadBody) => Err(Unmet::from(Refusal::BadBody)),
+        Err(CsvFault::BadCsv { row, cause }) => Err(Unmet::from(Refusal::BadCsv { row, cause })),
+        Err(CsvFault::Memory) => Err(Unmet::Memory),
+    }
+}
+
+/// The begin of a journey, whose plan is the JSON of a body.
+pub(crate) fn begin(alloc: Global, body: &[u8]) -> Result<Command, Unmet>
+    ensures begin { AsksFor (begin_by (value_in body.now)) result }
+{
+    let Some(value) = value_of(alloc, body)? else {
+        return Err(Unmet::from(Refusal::BadBody));
+    };
+    match Plan::from_json(alloc, &value) {
+        Ok(plan) => Ok(Command::Begin(plan)),
+        Err(PlanFault::Bad(bad)) => Err(Unmet::from(Refusal::BadPlan(bad))),
+        Err(PlanFault::Memory) => Err(Unmet::Memory),
+    }
+}
+
+/// The JSON value of a body. Returns `None` if the body is not UTF-8 or not JSON.
+fn value_of(alloc: Global, body: &[u8]) -> Result<Option<Value>, AllocError>
+    ensures value { IfOk result (ReadsAs (value_in body.now)) }
+{
+    let Ok(text) = str::from_utf8(body) else {
+        return Ok(None);
+    };
+    match Value::from_str(alloc, text) {
+        Ok(value) => Ok(Some(value)),
+        Err(error) if error.is_memory() => Err(AllocError),
+        Err(_) => Ok(None),
+    }
+}
+
+/// The command, if the body is empty.
+pub(crate) fn bare(body: &[u8], command: Command) -> Result<Command, Unmet>
+    ensures bare { AsksFor (bare body.now (request_of command)) result }
+{
+    if !body.is_empty() {
+        return Err(Unmet::from(Refusal::BadBody));
+    }
+    Ok(command)
 }

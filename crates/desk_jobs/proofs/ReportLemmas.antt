@@ -61,7 +61,7 @@ done_if_ok : {T : Type 0} (P : Type 0) (r : Result T ProgramFault) → OnOk r P 
 done_if_ok P (Ok done) holds = holds
 done_if_ok P (Err f) holds = tt
 
-not_refused : {T : Type 0} (r : Result T ProgramFault) → IsNotRefused (end_of_result r)
+pub not_refused : {T : Type 0} (r : Result T ProgramFault) → IsNotRefused (end_of_result r)
 not_refused (Ok done) = tt
 not_refused (Err f) = tt
 

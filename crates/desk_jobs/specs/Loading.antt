@@ -5,8 +5,8 @@ use Rattle.commands.specs.BatchData.{Batched}
 use Rattle.commands.specs.Request.{Request}
 use Rattle.commands.specs.Request as request
 use Rattle.commands.specs.Texts.{reply_line}
-use Rattle.commands.specs.declared.refusals.Refusal.{Refusal}
-use Rattle.commands.specs.declared.refusals.Refusal.TheVariants as refusal
+use Rattle.commands.specs.declared.replies.Refusal.{Refusal}
+use Rattle.commands.specs.declared.replies.Refusal.TheVariants as refusal
 use Rattle.commands.specs.declared.replies.Reply.{Reply}
 use Rattle.commands.specs.declared.replies.Reply.TheVariants as reply
 use Rattle.allotment_csv.specs.declared.faults.CsvFault.{CsvFault}

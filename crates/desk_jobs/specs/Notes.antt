@@ -2,9 +2,9 @@
 use Rattle.std.specs.Prelude.{◌⊎◌, ℕ, List, [], ◌∷◌, ◌++◌, ◌&&◌, Bool, true, false, codes, decimal, map, take, nat_le, if◌then◌else◌, Option, Some, None, option_map, option_and_then}
 use Rattle.std.specs.Io.KnownBytes.{Keeps}
 use Rattle.commands.specs.Texts.{sentence}
-use Rattle.commands.specs.declared.refusals.CsvCause.{CsvCause}
-use Rattle.commands.specs.declared.refusals.CsvCause.TheVariants as csv
-use Rattle.commands.specs.declared.refusals.Refusal.TheVariants as refusal
+use Rattle.commands.specs.declared.replies.CsvCause.{CsvCause}
+use Rattle.commands.specs.declared.replies.CsvCause.TheVariants as csv
+use Rattle.commands.specs.declared.replies.Refusal.TheVariants as refusal
 use Rattle.allotment_csv.specs.WrongFields.{FieldText, column_name, wrong_field_in}
 use Rattle.streams.specs.Written.{WroteFront}
 use Rattle.protocols.specs.Scenes.{ended}

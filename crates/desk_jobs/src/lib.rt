@@ -7,18 +7,26 @@
 //! a new desk.
 #![tactic(auto)]
 
+mod asked_reports;
 mod field_notes;
+mod holding;
 mod loading;
+mod month_reporting;
 mod notes;
 mod opening;
+mod plain_reports;
 mod recovering;
 mod reporting;
 mod running;
+mod whys;
 
 pub use field_notes::note_wrong_field;
+pub use holding::holders_over;
 pub use loading::load_over;
+pub use month_reporting::months_over;
 pub use notes::note_recovered;
 pub use opening::ready_over;
 pub use recovering::{Recovered, recover_over};
-pub use reporting::{history_over, stock_over, unfinished_over};
+pub use reporting::{history_over, journeys_over, stock_over};
 pub use running::run_over;
+pub use whys::why_over;

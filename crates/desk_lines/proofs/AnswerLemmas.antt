@@ -2,8 +2,8 @@
 use Rattle.std.proofs.Common.{inl, Global}
 use Rattle.std.specs.Prelude.{None, Err, Ok}
 use Rattle.commands.specs.Request.{Request}
-use Rattle.commands.specs.declared.faults.Fault.{Fault}
-use Rattle.commands.specs.declared.faults.Fault.TheVariants.{Memory, Store}
+use Rattle.commands.specs.declared.replies.Fault.{Fault}
+use Rattle.commands.specs.declared.replies.Fault.TheVariants.{Memory, Store}
 use Rattle.commands.specs.declared.replies.Reply.{Reply}
 use Rattle.ledger.specs.Answer.{State}
 use Rattle.saga_core.specs.Books.{KeepsAtMemory, LeavesAtStore}

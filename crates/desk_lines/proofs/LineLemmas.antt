@@ -12,7 +12,7 @@ use Rattle.allotment.specs.Texts.{line_feed}
 use Rattle.desk_lines.specs.Lines.{lines, with_first}
 use Rattle.desk_lines.specs.Reading.{is_line_feed, HasNoLineFeed, Keeps, KeepsMore, LineOf, TakesLine, TakesPiece, Unanswered, to_come}
 use Rattle.streams.proofs.ByteLemmas.{consumes_more}
-use Rattle.desk_lines.specs.declared.lines.Line.{Line}
+use Rattle.desk_lines.specs.declared.runs.Line.{Line}
 
 -- neither of two tests that are false together is true
 both_false : (a b : Bool) → (a || b) ≡ false → (a ≡ false) × (b ≡ false)

@@ -5,10 +5,10 @@ use Rattle.std.specs.Str.{IsUtf8, is_utf8}
 use Rattle.std.proofs.lemmas.Str.{IsUtf8-from_is_utf8, is_utf8-from_IsUtf8}
 use Rattle.std.specs.Borrow.{Bor}
 use Rattle.commands.specs.Readings.{texts_of}
-use Rattle.commands.specs.declared.refusals.Refusal.TheVariants.{BadBody}
+use Rattle.commands.specs.declared.replies.Refusal.TheVariants.{BadBody}
 use Rattle.desk_lines.specs.Lines.{Meaning, is_readable, longest_line, meaning_in, request_of_words, text_meaning}
 use Rattle.desk_lines.specs.Reading.{Keeps, KeepsWhere}
-use Rattle.desk_lines.specs.declared.lines.Line.{Line}
+use Rattle.desk_lines.specs.declared.runs.Line.{Line}
 
 -- Lines.
 

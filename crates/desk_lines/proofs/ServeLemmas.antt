@@ -14,7 +14,7 @@ use Rattle.protocols.specs.Scenes.{Scene, scene}
 use Rattle.desk_lines.specs.Serving.{AnswersAll, AnswersSome, Leaves, WroteAll}
 use Rattle.protocols.specs.declared.faults.ServeFault.{ServeFault}
 use Rattle.protocols.specs.declared.faults.ServeFault.TheVariants.{Memory, Read, Store, Write}
-use Rattle.desk_lines.specs.declared.lines.Line.{Line}
+use Rattle.desk_lines.specs.declared.runs.Line.{Line}
 use Rattle.streams.proofs.ByteLemmas.{appends_more, appends_none, keeps_same}
 
 -- Lists of lines and of their answers, with one appended.

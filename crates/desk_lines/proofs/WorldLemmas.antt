@@ -2,7 +2,7 @@
 use Rattle.std.proofs.Common.{◌≡◌, ◌≤◌, ◌∙◌, ap, sym, subst, refl, inl, inr, arith, List, [], ◌∷◌, ◌++◌, ℕ, Bool, true, false, length, append_assoc, IsTrue}
 use Rattle.std.specs.Prelude.{Option, Some, None, Result, Ok, Err, IfOk, IfErr, IfSome, OnOk, if◌then◌else◌}
 use Rattle.commands.specs.Request.{Request, Load, Begin, Step, Abort, Stop, Save}
-use Rattle.commands.specs.declared.refusals.Refusal.TheVariants.{BadBody}
+use Rattle.commands.specs.declared.replies.Refusal.TheVariants.{BadBody}
 use Rattle.ledger.specs.Answer.{State, start, is_request}
 use Rattle.ledger.specs.World.{Moment, after}
 use Rattle.saga_core.specs.Runs.{Asks, state_after}

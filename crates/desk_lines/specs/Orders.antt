@@ -2,7 +2,7 @@
 use Rattle.std.specs.Prelude.{Ok, Err, Option, option_map}
 use Rattle.commands.specs.Orders.{request_of}
 use Rattle.commands.specs.Request.{Request}
-use Rattle.commands.specs.declared.orders.Command.{Command}
+use Rattle.commands.specs.declared.asks.Command.{Command}
 use Rattle.desk_lines.specs.Lines.{Meaning}
 use Rattle.desk_lines.specs.declared.orders.Order.{Order}
 use Rattle.desk_lines.specs.declared.orders.Order.TheVariants.{Do, Refuse}

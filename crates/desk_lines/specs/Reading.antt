@@ -3,7 +3,7 @@ use Rattle.std.specs.Prelude.{◌≡◌, ⊤, ℕ, ◌==◌, Bool, true, false, 
 use Rattle.std.specs.List.{list_any}
 use Rattle.allotment.specs.Texts.{line_feed}
 use Rattle.desk_lines.specs.Lines.{lines, longest_line}
-use Rattle.desk_lines.specs.declared.lines.Line.{Line}
+use Rattle.desk_lines.specs.declared.runs.Line.{Line}
 
 -- the bytes that were read and are buffered, and how many more bytes may be read
 pub record Unanswered : Type 0 where

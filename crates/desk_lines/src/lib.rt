@@ -6,9 +6,7 @@
 //! Words: an *order* is what a line is read as: a command, or a refusal.
 #![tactic(auto)]
 
-mod answers;
 mod laws;
-mod lines;
 mod orders;
 mod runs;
 mod unread;

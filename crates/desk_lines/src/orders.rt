@@ -11,7 +11,7 @@ ghost use Rattle.desk_lines.specs.Lines.{request_of_two, request_of_three, reque
 ghost use Rattle.desk_lines.specs.Orders.{meaning_of, request_if_any};
 ghost use Rattle.desk_lines.specs.Reading.{Keeps};
 
-use crate::lines::Line;
+use crate::runs::Line;
 use allotment::{Cell, MOST_PLACES, Row};
 use commands::{
     BadBatch, Batch, Command, MOST_EVENTS, MOST_NAMED_POSITION, Name, Refusal, number_between,

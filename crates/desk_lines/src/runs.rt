@@ -1,21 +1,23 @@
 //! Runs over the lines of a reader, answered by a recovered desk.
-ghost use Rattle.std.specs.Prelude.{◌≡◌, IfOk, IfErr, IfSome, IsErrOf, IsTrue, OnOk};
-ghost use Rattle.std.specs.Io.KnownBytes.{IsAtEnd};
-ghost use Rattle.ledger.specs.Answer.{State};
-ghost use Rattle.saga_core.specs.Books.{LeavesNoMore};
-ghost use Rattle.protocols.specs.Scenes.{scene};
-ghost use Rattle.desk_lines.specs.Serving.{AnswersAll, AnswersSome};
-ghost use Rattle.saga_core.specs.Worlds.{GoesOnWith};
+ghost use Rattle.desk_lines.specs.Answering.{AnswersLine, AnswersOrder};
 ghost use Rattle.desk_lines.specs.Lines.{lines};
+ghost use Rattle.desk_lines.specs.Orders.{meaning_of};
+ghost use Rattle.desk_lines.specs.Reading.{Keeps, KeepsMore, SaysIfAny};
+ghost use Rattle.desk_lines.specs.Serving.{AnswersAll, AnswersSome};
 ghost use Rattle.desk_lines.specs.Worlds.{GoesOnAmongLines, asks_in};
+ghost use Rattle.ledger.specs.Answer.{State};
+ghost use Rattle.protocols.specs.Scenes.{scene};
+ghost use Rattle.saga_core.specs.Books.{LeavesNoMore};
+ghost use Rattle.saga_core.specs.Worlds.{GoesOnWith};
+ghost use Rattle.std.specs.Io.KnownBytes.{IsAtEnd};
+ghost use Rattle.std.specs.Prelude.{◌≡◌, IfOk, IfErr, IfSome, IsErrOf, IsTrue, OnOk, List, ℕ, []};
 
-use crate::answers::answer;
-use crate::lines::Line;
+use crate::orders::{Order, order_of};
 use crate::unread::Unread;
 use protocols::ServeFault;
 use recovery::Ready;
 use saga_core::Book;
-use std::alloc::Global;
+use std::alloc::{AllocError, Global};
 use std::io::{Read, Write};
 use streams::send;
 
@@ -91,4 +93,94 @@ fn answer_input<R: Read, W: Write, B: Book>(
         send(writer, text.as_bytes())?;
     }
     Err(ServeFault::Read)
+}
+
+/// Answers a line of the house. Returns the text of the answer, with a line feed at its end.
+pub(crate) fn answer<B: Book>(
+    alloc: Global,
+    line: &Line,
+    book: &mut B,
+) -> Result<String, ServeFault>
+    ensures answer { B.is_sound book.new → (s : State) → B.stands book.old s →
+        (text : List ℕ) → Keeps line.now text →
+        AnswersLine (B.stands book.new) (B.leaves book.new) s text result }
+
+    ensures failed { IsErrOf result ServeFault.Store → IsTrue (B.has_failed book.new) }
+    ensures stays_failed { IsTrue (B.has_failed book.old) → IsTrue (B.has_failed book.new) }
+    ensures stays_left { IsTrue (B.has_failed book.old) →
+        LeavesNoMore (B.leaves book.old) (B.leaves book.new) }
+
+    ensures sound { B.is_sound book.new → B.is_sound book.old }
+{
+    let order = order_of(alloc, line)?;
+    carry_out(alloc, &order, book)
+}
+
+/// Executes an order. Returns the text of the answer, with a line feed at its end.
+fn carry_out<B: Book>(alloc: Global, order: &Order, book: &mut B) -> Result<String, ServeFault>
+    ensures answer { B.is_sound book.new → (s : State) → B.stands book.old s →
+        AnswersOrder (B.stands book.new) (B.leaves book.new) s (meaning_of order.now) result }
+
+    ensures failed { IsErrOf result ServeFault.Store → IsTrue (B.has_failed book.new) }
+    ensures stays_failed { IsTrue (B.has_failed book.old) → IsTrue (B.has_failed book.new) }
+    ensures stays_left { IsTrue (B.has_failed book.old) →
+        LeavesNoMore (B.leaves book.old) (B.leaves book.new) }
+
+    ensures sound { B.is_sound book.new → B.is_sound book.old }
+{
+    let mut text = match order {
+        Order::Do(command) => book.act(command, None)?.line(alloc)?,
+        Order::Refuse(refusal) => refusal.line(alloc)?,
+    };
+    text.push('\n')?;
+    Ok(text)
+}
+
+/// The most bytes that a line may have, without its line feed.
+pub(crate) const LONGEST_LINE: usize = 8192;
+
+/// One line, without its line feed: its bytes, or only that it is too long.
+#[derive(Drop)]
+pub(crate) struct Line {
+    /// The bytes of a line that is not too long.
+    pub(crate) kept: Vec<u8>,
+    pub(crate) is_long: bool,
+}
+
+impl Line {
+    /// An empty line.
+    pub(crate) fn new(alloc: Global) -> Line
+        ensures { Keeps result [] }
+    {
+        Line {
+            kept: Vec::new(alloc),
+            is_long: false,
+        }
+    }
+
+    /// Empties the line, for the next one.
+    pub(crate) fn clear(&mut self)
+        ensures { Keeps self.new [] }
+    {
+        self.kept.clear();
+        self.is_long = false;
+    }
+
+    /// Whether the line has a byte.
+    pub(crate) fn has_bytes(&self) -> bool
+        ensures { SaysIfAny self.now result }
+    {
+        self.is_long || !self.kept.is_empty()
+    }
+
+    /// Appends a piece. A line that becomes too long keeps only that it is. The only fault is out of memory.
+    pub(crate) fn add(&mut self, piece: &[u8]) -> Result<(), AllocError>
+        ensures { OnOk result (KeepsMore self.old self.new piece.now) }
+    {
+        if self.is_long || piece.len() > LONGEST_LINE.saturating_sub(self.kept.len()) {
+            self.is_long = true;
+            return Ok(());
+        }
+        self.kept.extend_from_slice(piece)
+    }
 }

@@ -4,7 +4,7 @@ ghost use Rattle.std.specs.Io.KnownBytes.{Consumes, IsAtEnd};
 ghost use Rattle.desk_lines.specs.Reading.{is_line_feed, TakesLine, TakesPiece, to_come};
 ghost use Rattle.protocols.specs.Faults.{IsOfReading};
 
-use crate::lines::Line;
+use crate::runs::Line;
 use protocols::ServeFault;
 use std::alloc::{AllocError, Global};
 use std::io::Read;

@@ -7,10 +7,6 @@ pub mod Causing
 pub mod Creating
 pub mod Finding
 pub mod Framing
-pub mod HandedReasons
-pub mod HandedRows
-pub mod HandedCells
-pub mod HandedJourneys
 pub mod InsertReasons
 pub mod Inserting
 pub mod Keyed
@@ -45,4 +41,3 @@ pub mod Updating
 pub mod Upserting
 pub mod Writing
 pub mod NewRow
-pub mod NextItems

@@ -93,10 +93,6 @@ pub find_items_means : MeansQuery Texts.find_items_text Meanings.find_items_quer
 unfolding understood everything
 find_items_means = record { is = refl; plain = (refl, refl); unlisted = refl; selects = refl }
 
-pub find_old_items_means : MeansIn One Texts.find_old_items_text (Meanings.find_items_in One) Meanings.find_items_names
-unfolding understood everything
-find_old_items_means = record { is = refl; plain = (refl, refl); unlisted = refl; selects = refl }
-
 pub find_marks_means : MeansQuery Texts.find_marks_text Meanings.find_marks_query Meanings.find_marks_names
 unfolding understood everything
 find_marks_means = record { is = refl; plain = (refl, refl); unlisted = refl; selects = refl }

@@ -51,11 +51,6 @@ pub find_items_takes : (journey after : ℕ)
 unfolding understood everything
 find_items_takes journey after = record { whole = refl; typed = refl }
 
-pub find_old_items_takes : (journey after : ℕ)
-    → Takes One Texts.find_old_items_text (Meanings.find_items_in One) (whole journey ∷ whole after ∷ [])
-unfolding understood everything
-find_old_items_takes journey after = record { whole = refl; typed = refl }
-
 pub find_marks_takes : (journey : ℕ) → Takes Two Texts.find_marks_text Meanings.find_marks_query (whole journey ∷ [])
 unfolding understood everything
 find_marks_takes journey = record { whole = refl; typed = refl }

@@ -1,5 +1,5 @@
 -- The rows of a query that remain to be returned.
-use Rattle.std.specs.Prelude.{◌≡◌, ◌⊎◌, ℕ, List, [], ◌∷◌, ◌++◌, map, filter, ◌≤◌, Option, Some, None}
+use Rattle.std.specs.Prelude.{◌≡◌, ◌⊎◌, ℕ, List, [], ◌∷◌, ◌++◌, filter, ◌≤◌, Option, Some, None}
 use Rattle.sqlite.specs.Order.{Row}
 use Rattle.sqlite.specs.Query.{Query, IsAnswer}
 use Rattle.sqlite.specs.Program.{overlay}
@@ -15,8 +15,6 @@ use Rattle.desk_sql.specs.Rows.{whole, Tables, StockRow, JourneyRow}
 use Rattle.desk_sql.specs.Calls.{MaySeeIn}
 use Rattle.desk_sql.specs.FoundRows.{is_unfinished_after}
 use Rattle.desk_sql.specs.Stock.{IsByCell}
-use Rattle.desk_sql.specs.Texts.{find_stock_text, first_unfinished_text}
-use Rattle.desk_sql.specs.Meanings.{find_stock_query, first_unfinished_query}
 
 -- the first of these was returned, and the later ones remain; or there was none
 abbrev pub HandsFirst : {X : Type 0} → (List X → Type 0) → Option X → List X → Type 0
@@ -67,13 +65,6 @@ module _ {S : Type 0} (g : Ghosts S) where
   -- these rows of the query remain; none remains if the query has ended
   abbrev pub Rests : List ℕ → Query → Held S → List Row → Type 0
   Rests text q h later = ((params : Row) × RunsOn text q params h later) ⊎ (IsEnded h × (later ≡ []))
-
-  -- these cells, or these journeys, remain
-  abbrev pub CellsRest : Held S → List StockRow → Type 0
-  CellsRest h later = Rests find_stock_text find_stock_query h (map stock_shown later)
-
-  abbrev pub JourneysRest : Held S → List JourneyRow → Type 0
-  JourneysRest h later = Rests first_unfinished_text first_unfinished_query h (map journey_shown later)
 
   module _ (old new : Held S) where
     -- of the tables as they are, these values remain to be returned

@@ -97,9 +97,6 @@ find_options_text = codes "SELECT place, opt, save, taken, kind, supplier, produ
 abbrev pub find_items_text : List ℕ
 find_items_text = codes "SELECT num, item, a, b FROM entry2 WHERE journey = ?1 AND num > ?2 ORDER BY num"
 
-abbrev pub find_old_items_text : List ℕ
-find_old_items_text = codes "SELECT num, item, a, b FROM entry WHERE journey = ?1 AND num > ?2 ORDER BY num"
-
 abbrev pub find_marks_text : List ℕ
 find_marks_text = codes "SELECT pos FROM mark WHERE journey = ?1 ORDER BY pos"
 

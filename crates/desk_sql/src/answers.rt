@@ -25,7 +25,8 @@ pub struct KeptAnswer {
 fn answer_of(row: &Row) -> Result<KeptAnswer, Error>
     ensures shown { IfOk result (λ k. shows_answer k ≡ two_of row.now) }
 
-    ensures reason { (x : AnswerRow) → row.now ≡ answer_shown x → IsReplyText x → IfErr result IsMemory }
+    ensures reason { (x : AnswerRow) → row.now ≡ answer_shown x → IsReplyText x
+        → IfErr result IsMemory }
 {
     let ask = row.get(0)?;
     let reply = row.get(1)?;

@@ -28,7 +28,8 @@ pub struct ItemFound {
     pub b: u64,
 }
 
-pub(crate) fn read_item(row: &Row) -> Result<ItemFound, Error>
+/// The item of a row with its event, its kind, and its two numbers, in this order.
+pub fn read_item(row: &Row) -> Result<ItemFound, Error>
     ensures shown { IfOk result (λ i. shows_item i ≡ four_of row.now) }
 
     ensures reason { (x : EntryRow) → row.now ≡ item_shown x → IfErr result IsMemory }
@@ -43,7 +44,8 @@ pub(crate) fn read_item(row: &Row) -> Result<ItemFound, Error>
 fn read_items(alloc: Global, rows: &[Row]) -> Result<Vec<ItemFound>, Error>
     ensures shown { IfOk result (λ items. map shows_item items.items ≡ map four_of rows.now) }
 
-    ensures reason { AllByRecursion (ShowsOne item_shown (λ _. ⊤)) rows.now → IfErr result IsMemory }
+    ensures reason { AllByRecursion (ShowsOne item_shown (λ _. ⊤)) rows.now
+        → IfErr result IsMemory }
 {
     let mut items = Vec::new(alloc);
     for row in rows {

@@ -59,10 +59,12 @@ fn read_cursor(row: &Row) -> Result<Cursor, Error>
     })
 }
 
-pub(crate) fn read_journey(row: &Row) -> Result<JourneyFound, Error>
+/// The journey of a row with its columns in the order of the table.
+pub fn read_journey(row: &Row) -> Result<JourneyFound, Error>
     ensures shown { IfOk result (λ j. shows_journey j ≡ nine_of row.now) }
 
-    ensures reason { (x : JourneyRow) → row.now ≡ journey_shown x → IsAgentText x → IfErr result IsMemory }
+    ensures reason { (x : JourneyRow) → row.now ≡ journey_shown x → IsAgentText x
+        → IfErr result IsMemory }
 {
     let id = row.get(0)?;
     let num = row.get(1)?;

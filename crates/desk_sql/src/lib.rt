@@ -9,13 +9,10 @@
 mod answers;
 mod batches;
 mod founding;
-mod handing;
-mod item_by_item;
 mod items;
 mod journeys;
 mod marks;
 mod meta;
-mod old_items;
 mod queries;
 mod steps;
 mod stock;
@@ -24,18 +21,17 @@ mod versions;
 pub use answers::{KeptAnswer, find_answer, insert_answer};
 pub use batches::{BatchFound, find_batch, insert_batch};
 pub use founding::{has_no_tables, make_tables};
-pub use handing::{hand_stock, hand_unfinished, next_cell, next_unfinished};
-pub use item_by_item::next_item;
-pub use items::{ItemFound, find_items, insert_item};
+pub use items::{ItemFound, find_items, insert_item, read_item};
 pub use journeys::{
-    Cursor, JourneyFound, find_journey, first_owned, first_unfinished, insert_journey, move_journey,
+    Cursor, JourneyFound, find_journey, first_owned, first_unfinished, insert_journey,
+    move_journey, read_journey,
 };
 pub use marks::{delete_mark, find_marks, insert_mark};
 pub use meta::{Meta, read_meta, update_meta};
-pub use old_items::next_old_item;
+pub use queries::first_row;
 pub use steps::{StepFound, StepOption, find_options, find_steps, insert_step, mark_step};
 pub use stock::{
     CellFound, CellPlaces, NightFound, NightRange, find_nights, find_stock, give_nights, put_cell,
-    take_nights,
+    read_cell, take_nights,
 };
 pub use versions::Version;

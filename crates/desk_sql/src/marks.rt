@@ -19,7 +19,8 @@ use std::alloc::Global;
 fn read_marks(alloc: Global, rows: &[Row]) -> Result<Vec<u64>, Error>
     ensures shown { IfOk result (λ marks. map whole marks.items ≡ map (λ r. column r 0) rows.now) }
 
-    ensures reason { AllByRecursion (ShowsOne mark_shown (λ _. ⊤)) rows.now → IfErr result IsMemory }
+    ensures reason { AllByRecursion (ShowsOne mark_shown (λ _. ⊤)) rows.now
+        → IfErr result IsMemory }
 {
     let mut marks = Vec::new(alloc);
     for row in rows {

@@ -11,7 +11,7 @@ use sqlite::types::ValueRef;
 use sqlite::{Alter, Connection, Error, Row};
 
 /// Returns the first row of a SELECT, if there is one.
-pub(crate) fn first_row<S: Alter>(
+pub fn first_row<S: Alter>(
     conn: &mut Connection<S>,
     text: &str,
     params: &[ValueRef<'_>],
@@ -19,10 +19,12 @@ pub(crate) fn first_row<S: Alter>(
     requires { IsSelect text.now }
 
     ensures row { HasCleanDisk (state S.Store conn.new) → IfOk result (λ found.
-        GivesRow text.now (bound params.now) (state S.Store conn.old) (state S.Store conn.new) found) }
+        GivesRow text.now (bound params.now) (state S.Store conn.old)
+        (state S.Store conn.new) found) }
     ensures quiet { ChangesNothing S.Store conn.old conn.new }
     ensures reason { HasCleanDisk (state S.Store conn.new) → IfErr result (λ e.
-        FailsToQuery text.now (bound params.now) (state S.Store conn.old) (state S.Store conn.new) e) }
+        FailsToQuery text.now (bound params.now) (state S.Store conn.old)
+        (state S.Store conn.new) e) }
     ensures mode { conn.old.in_transaction ≡ false → conn.new.in_transaction ≡ false }
     ensures survives { LeavesNoMore S.Store conn.old conn.new }
 {
@@ -44,10 +46,12 @@ pub(crate) fn all_rows<S: Alter>(
     requires { IsSelect text.now }
 
     ensures rows { HasCleanDisk (state S.Store conn.new) → IfOk result (λ rows.
-        GivesRows text.now (bound params.now) (state S.Store conn.old) (state S.Store conn.new) rows.items) }
+        GivesRows text.now (bound params.now) (state S.Store conn.old)
+        (state S.Store conn.new) rows.items) }
     ensures quiet { ChangesNothing S.Store conn.old conn.new }
     ensures reason { HasCleanDisk (state S.Store conn.new) → IfErr result (λ e.
-        FailsToQuery text.now (bound params.now) (state S.Store conn.old) (state S.Store conn.new) e) }
+        FailsToQuery text.now (bound params.now) (state S.Store conn.old)
+        (state S.Store conn.new) e) }
     ensures mode { conn.old.in_transaction ≡ false → conn.new.in_transaction ≡ false }
     ensures survives { LeavesNoMore S.Store conn.old conn.new }
 {

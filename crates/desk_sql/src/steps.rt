@@ -95,7 +95,8 @@ pub struct StepFound {
 fn read_step(row: &Row) -> Result<StepFound, Error>
     ensures shown { IfOk result (λ s. shows_step s ≡ ten_of row.now) }
 
-    ensures reason { (x : StepRow) → row.now ≡ step_shown x → AreWantTexts x → IfErr result IsMemory }
+    ensures reason { (x : StepRow) → row.now ≡ step_shown x → AreWantTexts x
+        → IfErr result IsMemory }
 {
     let place = row.get(0)?;
     let opt = row.get(1)?;
@@ -124,7 +125,8 @@ fn read_step(row: &Row) -> Result<StepFound, Error>
 fn read_steps(alloc: Global, rows: &[Row]) -> Result<Vec<StepFound>, Error>
     ensures shown { IfOk result (λ steps. map shows_step steps.items ≡ map ten_of rows.now) }
 
-    ensures reason { AllByRecursion (ShowsOne step_shown AreWantTexts) rows.now → IfErr result IsMemory }
+    ensures reason { AllByRecursion (ShowsOne step_shown AreWantTexts) rows.now
+        → IfErr result IsMemory }
 {
     let mut steps = Vec::new(alloc);
     for row in rows {

@@ -50,7 +50,8 @@ fn read_night(row: &Row) -> Result<NightFound, Error>
 fn read_nights(alloc: Global, rows: &[Row]) -> Result<Vec<NightFound>, Error>
     ensures shown { IfOk result (λ nights. map shows_night nights.items ≡ map three_of rows.now) }
 
-    ensures reason { AllByRecursion (ShowsOne night_shown (λ _. ⊤)) rows.now → IfErr result IsMemory }
+    ensures reason { AllByRecursion (ShowsOne night_shown (λ _. ⊤)) rows.now
+        → IfErr result IsMemory }
 {
     let mut nights = Vec::new(alloc);
     for row in rows {
@@ -103,10 +104,12 @@ pub struct CellFound {
     pub free: u64,
 }
 
-pub(crate) fn read_cell(row: &Row) -> Result<CellFound, Error>
+/// The cell of a row with its kind, supplier, product, night, and allotted and free places, in this order.
+pub fn read_cell(row: &Row) -> Result<CellFound, Error>
     ensures shown { IfOk result (λ c. shows_cell c ≡ six_of row.now) }
 
-    ensures reason { (x : StockRow) → row.now ≡ stock_shown x → AreCellTexts x → IfErr result IsMemory }
+    ensures reason { (x : StockRow) → row.now ≡ stock_shown x → AreCellTexts x
+        → IfErr result IsMemory }
 {
     let kind = row.get(0)?;
     let supplier = row.get(1)?;
@@ -127,7 +130,8 @@ pub(crate) fn read_cell(row: &Row) -> Result<CellFound, Error>
 fn read_cells(alloc: Global, rows: &[Row]) -> Result<Vec<CellFound>, Error>
     ensures shown { IfOk result (λ cells. map shows_cell cells.items ≡ map six_of rows.now) }
 
-    ensures reason { AllByRecursion (ShowsOne stock_shown AreCellTexts) rows.now → IfErr result IsMemory }
+    ensures reason { AllByRecursion (ShowsOne stock_shown AreCellTexts) rows.now
+        → IfErr result IsMemory }
 {
     let mut cells = Vec::new(alloc);
     for row in rows {
@@ -172,7 +176,8 @@ pub fn take_nights<S: Alter>(
         (takes_nights range.entry count) }
     ensures reason { FailsToChange S.Store tx.old.conn.now tx.new.conn.now result
         (MayTakeNights range.entry count) }
-    ensures rowids { KeepsRowids S.Store tx.old.conn.now tx.new.conn.now result (HaveFree range.entry count) }
+    ensures rowids { KeepsRowids S.Store tx.old.conn.now tx.new.conn.now result
+        (HaveFree range.entry count) }
     ensures inside { StaysInside S.Store tx.old.conn.now tx.new.conn.now result }
     ensures live { WasOpen S.Store tx.old.conn.now tx.new.conn.now result }
     ensures commit { CommitsNothing S.Store tx.old.conn.now tx.new.conn.now }
@@ -215,7 +220,8 @@ pub fn give_nights<S: Alter>(
         (gives_nights range.entry count) }
     ensures reason { FailsToChange S.Store tx.old.conn.now tx.new.conn.now result
         (MayGiveNights range.entry count) }
-    ensures rowids { KeepsRowids S.Store tx.old.conn.now tx.new.conn.now result (HaveRoom range.entry count) }
+    ensures rowids { KeepsRowids S.Store tx.old.conn.now tx.new.conn.now result
+        (HaveRoom range.entry count) }
     ensures inside { StaysInside S.Store tx.old.conn.now tx.new.conn.now result }
     ensures live { WasOpen S.Store tx.old.conn.now tx.new.conn.now result }
     ensures commit { CommitsNothing S.Store tx.old.conn.now tx.new.conn.now }

@@ -1,8 +1,8 @@
 -- Where the answer to one message leads the book. For Talk::answer.
-use Rattle.std.proofs.Common.{◌≡◌, ℕ, Bool, true, false, List, [], ◌∷◌, take, Some, None, Err, refl, sym, ap, ◌∙◌, append-nil, ◌⊎◌, inl, inr}
+use Rattle.std.proofs.Common.{◌≡◌, ℕ, Bool, true, false, List, [], ◌∷◌, take, Option, Some, None, Err, refl, sym, ap, ◌∙◌, append-nil, ◌⊎◌, inl, inr}
 use Rattle.ledger.specs.Answer.{State}
 use Rattle.desk_http.specs.Pages.{state_after}
-use Rattle.http_ways.specs.Pages.{AnswersBy, IsPageBy}
+use Rattle.http_ways.specs.Pages.{AnswersAt, IsPageBy}
 use Rattle.http_ways.specs.Ways.{Said, Says}
 use Rattle.protocols.specs.declared.faults.ServeFault.{ServeFault}
 use Rattle.protocols.specs.declared.faults.ServeFault.TheVariants.{Memory, Read, Store, Write}
@@ -63,10 +63,10 @@ module _ (sound : Type 0) (stood stands : State → Type 0) (leaves : State → 
     }
 
     -- a fault came
-    pub failed : (fault : ServeFault) → k ≡ after_loss h count
-        → (sound → (s : State) → stood s → AnswersBy stands leaves s h.door m (Err fault))
+    pub failed : (second : Option ℕ) (fault : ServeFault) → k ≡ after_loss h count
+        → (sound → (s : State) → stood s → AnswersAt stands leaves s h.door second m (Err fault))
         → GoesOn sound stood stands leaves (has_broken {T = Bool} (Err (fault_by fault))) h.exchanges k.exchanges
-    failed Memory same came = lost same came
-    failed Store same came = broke same came
-    failed Read same came = lost same (λ is_sound s was. absurd (came is_sound s was))
-    failed Write same came = lost same (λ is_sound s was. absurd (came is_sound s was))
+    failed second Memory same came = lost same came
+    failed second Store same came = broke same came
+    failed second Read same came = lost same (λ is_sound s was. absurd (came is_sound s was))
+    failed second Write same came = lost same (λ is_sound s was. absurd (came is_sound s was))

@@ -1,2 +1,4 @@
 pub mod Steps
 pub mod AnswerSteps
+mod ServeLemmas
+mod NextLemmas

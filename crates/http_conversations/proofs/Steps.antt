@@ -5,7 +5,7 @@ use Rattle.std.proofs.lemmas.List.{take-append-drop}
 use Rattle.std.proofs.Math.Seq.{drop-append_seam, drop-length}
 use Rattle.std.proofs.lemmas.List.Elements.{All-append, All-nil}
 use Rattle.std.proofs.lemmas.Grind.{flat_map-append, common_steps}
-use Rattle.commands.specs.declared.faults.Fault.{Fault}
+use Rattle.commands.specs.declared.replies.Fault.{Fault}
 use Rattle.desk_http.specs.Pages.{closes, stops}
 use Rattle.desk_http.specs.declared.doors.Door.{Door}
 use Rattle.http_wide_pages.specs.Pages.{go_on}
@@ -13,8 +13,8 @@ use Rattle.http_ways.specs.Reading.{IsDueBy}
 use Rattle.http_ways.specs.Ways.{Said, Says}
 use Rattle.http_ways.specs.declared.ways.Way.{Way}
 use Rattle.http_ways.specs.declared.ways.Way.TheVariants.{Profile, Wide}
-use Rattle.http_conversations.specs.declared.stages.Stage.{Stage}
-use Rattle.http_conversations.specs.declared.stages.Stage.TheVariants.{Open, Closing, Failed}
+use Rattle.http_conversations.specs.declared.conversation.Stage.{Stage}
+use Rattle.http_conversations.specs.declared.conversation.Stage.TheVariants.{Open, Closing, Failed}
 use Rattle.http_conversations.specs.Exchanges.{Exchange, AreAnswered, EndWithStop, IsAnswered, IsAt, IsBy, IsNoStop, StopAtLast, answer_of, bytes_of, go_on_if, pages_of, since}
 use Rattle.http_conversations.specs.History.{AnswersOne, GivesGoOn, HasNoGoOn, History, IsServed, Passes, TakesFirst, after_answer, after_failure, after_go_on, after_loss, after_received, after_sent, exchange, kept, new_history, stops_by}
 

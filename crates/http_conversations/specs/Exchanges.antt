@@ -6,8 +6,8 @@ use Rattle.desk_http.specs.declared.doors.Door.{Door}
 use Rattle.http_wide_pages.specs.Pages.{go_on}
 use Rattle.http_ways.specs.Ways.{Said, Says}
 use Rattle.http_ways.specs.declared.ways.Way.{Way}
-use Rattle.http_conversations.specs.declared.stages.Stage.{Stage}
-use Rattle.http_conversations.specs.declared.stages.Stage.TheVariants.{Open, Closing, Failed}
+use Rattle.http_conversations.specs.declared.conversation.Stage.{Stage}
+use Rattle.http_conversations.specs.declared.conversation.Stage.TheVariants.{Open, Closing, Failed}
 
 -- the door at which a message came in, the way by which it was read, its bytes, whether 100 Continue was given for it, and
 -- the bytes of its page, unless the page was lost

@@ -1,6 +1,6 @@
 -- What a conversation has done, and what is true of it.
 use Rattle.std.specs.Prelude.{◌≡◌, ◌≢◌, ◌≤◌, ◌<◌, ◌⊎◌, ℕ, Bool, true, false, List, [], ◌∷◌, ◌++◌, All, length, take, drop, Option, Some, None, Result, Ok, Err, if◌then◌else◌}
-use Rattle.commands.specs.declared.faults.Fault.{Fault}
+use Rattle.commands.specs.declared.replies.Fault.{Fault}
 use Rattle.desk_http.specs.Pages.{closes, stops}
 use Rattle.desk_http.specs.declared.doors.Door.{Door}
 use Rattle.http_wide_pages.specs.Pages.{go_on}
@@ -8,9 +8,9 @@ use Rattle.http_ways.specs.Reading.{IsDueBy}
 use Rattle.http_ways.specs.Ways.{Said, Says, SaysNothing}
 use Rattle.http_ways.specs.declared.ways.Way.{Way}
 use Rattle.http_conversations.specs.Exchanges.{Exchange, AreAnswered, EndWithStop, IsAt, IsBy, bytes_of, go_on_if, pages_of}
-use Rattle.http_conversations.specs.declared.stages.Stage.{Stage}
-use Rattle.http_conversations.specs.declared.stages.Stage.TheVariants.{Open, Closing, Failed}
-use Rattle.http_conversations.specs.declared.limits.TheConstants.{MOST_PENDING, MOST_WAITING}
+use Rattle.http_conversations.specs.declared.conversation.Stage.{Stage}
+use Rattle.http_conversations.specs.declared.conversation.Stage.TheVariants.{Open, Closing, Failed}
+use Rattle.http_conversations.specs.declared.conversation.TheConstants.{MOST_PENDING, MOST_WAITING}
 
 pub record History : Type 0 where
   -- the door at which the messages come in

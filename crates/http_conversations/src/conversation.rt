@@ -1,24 +1,43 @@
 //! A conversation, with no socket of its own.
-ghost use Rattle.std.specs.Prelude.{◌≡◌, ◌≢◌, ◌+◌, ◌<◌, ◌≤◌, ◌↔◌, ℕ, [], List, length, take, Ok, true, false, IfOk, OnErr, IsErrOf, IsTrue};
-ghost use Rattle.std.specs.Io.KnownBytes.{Appends, Consumes, IsAtEnd, Keeps};
-ghost use Rattle.saga_core.specs.Books.{LeavesNoMore};
 ghost use Rattle.http_conversations.specs.Exchanges.{StopAtLast, since};
-ghost use Rattle.http_conversations.specs.History.{AnswersOne, GivesGoOn, HasNoGoOn, HasNoTurn, IsServed, Passes, WantsRead, after_received, after_sent, new_history, stops_by};
+ghost use Rattle.http_conversations.specs.History.{AnswersOne, GivesGoOn, HasNoGoOn, HasNoTurn, IsServed, Passes, TakesFirst, WantsRead, after_received, after_sent, new_history, stops_by};
 ghost use Rattle.http_conversations.specs.Leading.{GoesOn, has_broken};
 ghost use Rattle.http_conversations.specs.Talks.{history_of};
-ghost use Rattle.http_conversations.specs.declared.limits.TheConstants.{MOST_READ, MOST_WAITING};
+ghost use Rattle.http_conversations.specs.declared.conversation.TheConstants.{MOST_READ, MOST_WAITING};
+ghost use Rattle.saga_core.specs.Books.{LeavesNoMore};
+ghost use Rattle.std.specs.Io.KnownBytes.{Appends, Consumes, IsAtEnd, Keeps};
+ghost use Rattle.std.specs.Prelude.{◌≡◌, ◌≢◌, ◌+◌, ◌<◌, ◌≤◌, ◌↔◌, ℕ, [], List, length, take, Ok, true, false, IfOk, OnErr, IsErrOf, IsTrue};
 
-use crate::limits::{MOST_PENDING, MOST_READ, MOST_WAITING};
-use crate::stages::Stage;
 use crate::talk::Talk;
-use commands::Fault;
+use commands::{Fault, MOST_BYTES};
 use desk_http::Door;
+use http_messages::LONGEST_HEAD;
 use http_pages::Paths;
 use http_ways::Way;
 use protocols::ServeFault;
 use saga_core::Book;
 use std::alloc::{AllocError, Global};
 use std::io::{self, Read, Write};
+
+/// How many bytes of pages may wait while more is read: 256 KiB.
+pub const MOST_PENDING: usize = 262_144;
+
+/// How many bytes one read may give.
+pub const MOST_READ: usize = 8_192;
+
+/// As many bytes as a message may have. Where so many wait, nothing is read.
+pub const MOST_WAITING: usize = LONGEST_HEAD + MOST_BYTES;
+
+/// Whether a conversation answers.
+#[derive(Clone, Copy, Debug, PartialEq, Eq)]
+pub enum Stage {
+    /// Messages are answered.
+    Open,
+    /// A closing page was given. Nothing behind it is answered, and what comes is forgotten.
+    Closing,
+    /// Out of memory, or the store failed. Nothing more is answered, and the last page may be lost.
+    Failed,
+}
 
 /// Messages come in, and each is answered once the page before it went out whole.
 ///
@@ -31,7 +50,7 @@ pub struct Conversation {
 }
 
 impl Conversation {
-    ghost use Rattle.http_conversations.specs.Conversations.{history};
+    ghost use Rattle.http_conversations.specs.Conversations.{history, second_of};
 
     /// Nothing was received at this door, where messages are read by this way. It allocates nothing.
     pub fn new(alloc: Global, door: Door, way: Way) -> Conversation
@@ -66,6 +85,7 @@ impl Conversation {
     pub fn answer<B: Book>(&mut self, paths: &Paths, book: &mut B) -> Result<bool, Fault>
         ensures goes_on { GoesOn (B.is_sound book.new) (B.stands book.old) (B.stands book.new) (B.leaves book.new)
             (has_broken result) (history self.old).exchanges (history self.new).exchanges }
+        ensures takes { TakesFirst result (history self.old) (history self.new) }
         ensures passes { Passes (history self.old) (history self.new) }
         ensures door { (history self.new).door ≡ (history self.old).door }
         ensures way { (history self.new).way ≡ (history self.old).way }
@@ -85,6 +105,14 @@ impl Conversation {
         ensures sound { B.is_sound book.new → B.is_sound book.old }
     {
         self.talk.answer(paths, book)
+    }
+
+    /// The clock shows this second since 1970, or was not read: pages by the wide way have its date from now on, or none.
+    pub fn set_second(&mut self, second: Option<u64>)
+        ensures second { second_of self.new ≡ second }
+        ensures same { history self.new ≡ history self.old }
+    {
+        self.talk.second = second;
     }
 
     /// Gives `100 Continue` where it is due, and reports whether it was: no page waits, the head of the next message asks for
@@ -166,7 +194,8 @@ impl Conversation {
 
     /// True of every conversation, after any calls: what was received begins with the messages of its exchanges, and what
     /// was handed out, and then what is pending, is their pages, up to and with the first that closes, each after its
-    /// `100 Continue`, where one was given. All came in at its door and were read by its way; where it says that the desk is to stop, the last one is a request of the house for that.
+    /// `100 Continue`, where one was given. All came in at its door and were read by its way; where it says that the desk is
+    /// to stop, the last one is a request of the house for that.
     pub fn always_served(&self)
         ensures served { ∥ IsServed (history self.now) ∥₁ }
     {}

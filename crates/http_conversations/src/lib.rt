@@ -9,10 +9,8 @@
 #![tactic(auto)]
 
 mod conversation;
-mod limits;
-mod stages;
+mod serving;
 mod talk;
 
-pub use conversation::Conversation;
-pub use limits::{MOST_PENDING, MOST_READ, MOST_WAITING};
-pub use stages::Stage;
+pub use conversation::{Conversation, MOST_PENDING, MOST_READ, MOST_WAITING, Stage};
+pub use serving::{Served, serve};

@@ -7,7 +7,7 @@ ghost use Rattle.http_conversations.specs.Leading.{GoesOn, fault_by, has_broken}
 ghost use Rattle.http_conversations.specs.History.{GivesGoOn, HasNoGoOn, HasNoTurn, TakesFirst, after_answer, after_failure, after_loss, after_received, after_sent, kept, moved_on, new_history};
 ghost use Rattle.http_conversations.specs.Talks.{history_of};
 
-use crate::stages::Stage;
+use crate::conversation::Stage;
 use commands::Fault;
 use desk_http::{Answer, Door};
 use http_pages::Paths;
@@ -36,6 +36,8 @@ pub struct Talk {
     pub(crate) alloc: Global,
     pub(crate) door: Door,
     pub(crate) way: Way,
+    /// What the clock showed last, in seconds since 1970, if it was read.
+    pub(crate) second: Option<u64>,
     pub(crate) stage: Stage,
     /// The message that was answered last asked the desk to stop.
     pub(crate) stops: bool,
@@ -60,6 +62,7 @@ impl Talk {
             alloc,
             door,
             way,
+            second: None,
             stage: Stage::Open,
             stops: false,
             went_on: false,
@@ -156,7 +159,7 @@ impl Talk {
 
         ensures sound { B.is_sound book.new → B.is_sound book.old }
     {
-        match answer_by(self.alloc, paths, self.door, arrived, book) {
+        match answer_by(self.alloc, paths, self.door, self.second, arrived, book) {
             Ok(answer) => {
                 self.keep(count, answer);
                 Ok(true)

@@ -1,8 +1,13 @@
 //! Which lines of the log are written, and when.
+ghost use Rattle.std.specs.Prelude.{IfSome, IsTrue};
+ghost use Rattle.std.specs.List.{list_all};
+ghost use Rattle.std.specs.String.{string_bytes};
+ghost use Rattle.http_log.specs.Shown.{is_printable};
+
 use crate::known::Known;
-use crate::texts::{ask_of, asked_by, is_closing};
+use crate::texts::{ask_of, asked_by};
 use http_live::Standing;
-use http_log::{Recent, Why, ended_line, opened_line, request_line};
+use http_log::{Peer, Recent, Why, opened_line, request_line};
 use http_messages::Message;
 use http_ways::{Way, first_by};
 use log::info;
@@ -15,7 +20,7 @@ pub fn log_opening(rt: &HostRuntime, alloc: Global, recovered: u64) {
     }
 }
 
-/// The log.
+/// The log. What it cannot write is left out.
 #[derive(Drop)]
 pub struct Journal<'a> {
     rt: &'a HostRuntime,
@@ -23,11 +28,11 @@ pub struct Journal<'a> {
     /// How many connections came.
     came: u64,
     recent: Recent,
-    seats: Vec<Known>,
+    pub(crate) seats: Vec<Known>,
 }
 
 impl<'a> Journal<'a> {
-    /// The log of so many seats.
+    /// The log of so many seats, at which nobody is.
     pub fn new(
         rt: &'a HostRuntime,
         alloc: Global,
@@ -46,65 +51,96 @@ impl<'a> Journal<'a> {
         })
     }
 
-    /// A connection takes a seat. Which was there before is displaced.
-    pub fn comes(&mut self, at: usize, is_house: bool) {
-        self.ends(at, Why::Displaced);
+    /// A connection takes a seat by a door, and is read by this way. Which was there before is displaced. Out of memory, the
+    /// line of that is left out.
+    pub fn comes(&mut self, at: usize, is_house: bool, way: Way) -> Result<(), AllocError> {
+        let displaced = self.ends(at, Why::Displaced);
         self.came = self.came.saturating_add(1);
-        if let Some(known) = self.seats.get_mut(at) {
-            *known = Known::new();
-            known.is_here = true;
-            known.peer.number = self.came;
-            known.peer.is_house = is_house;
+        let peer = Peer {
+            number: self.came,
+            is_house,
+        };
+        if at < self.seats.len() {
+            self.seats[at] = Known::of(peer, way);
         }
+        displaced
     }
 
-    /// What was received at a seat may be answered now, and is read by this way.
-    pub fn sees_received(&mut self, at: usize, way: Way, received: &[u8]) {
+    /// What was received at a seat may be answered now. Nothing is written.
+    pub fn sees_received(&mut self, at: usize, received: &[u8]) {
         let Some(known) = self.seats.get_mut(at) else {
             return;
         };
         known.has_part = !received.is_empty();
-        known.message = match first_by(self.alloc, way, received) {
-            Ok(Some((arrived, _))) => Some(arrived.message),
+        known.message = match first_by(self.alloc, known.way, received) {
+            Ok(Some((arrived, _))) => Some(arrived),
             _ => None,
         };
     }
 
-    /// A turn of a seat ended so, with this left of its page; a connection that is over has none.
-    pub fn sees_page(&mut self, at: usize, standing: Standing, page: &[u8]) {
-        if standing == Standing::Over {
-            let is_lost = self.answers(at, b"lost");
-            self.ends_itself(at, is_lost);
-            return;
-        }
-        let is_answered = matches!(standing, Standing::Answered | Standing::Stopped);
-        if is_answered {
-            self.answers(at, page.get(9..12).unwrap_or(b"?"));
-        }
-        if let Some(known) = self.seats.get_mut(at) {
-            known.is_unsent = !page.is_empty();
-            if is_answered {
-                known.closes = is_closing(page);
+    /// A turn of a seat ended so, with this left of its page, after which the connection ends, or does not; a connection that
+    /// is over has none. Out of memory, lines are left out.
+    pub fn sees_page(
+        &mut self,
+        at: usize,
+        standing: Standing,
+        page: &[u8],
+        closes: bool,
+    ) -> Result<(), AllocError> {
+        match standing {
+            Standing::Over => self.sees_end(at),
+            Standing::Answered | Standing::Stopped => {
+                self.keep_page(at, page, closes);
+                let _ = self.answers(at, page.get(9..12).unwrap_or(b"?"))?;
+                Ok(())
+            }
+            _ => {
+                self.keep_rest(at, page);
+                Ok(())
             }
         }
     }
 
-    /// A message was answered with this status, or lost its page. Returns whether there was one.
-    fn answers(&mut self, at: usize, status: &[u8]) -> bool {
-        let Some(known) = self.seats.get_mut(at) else {
-            return false;
+    /// The connection of a seat ended in its turn: its peer ended it, or memory ran out for a page.
+    fn sees_end(&mut self, at: usize) -> Result<(), AllocError> {
+        let is_lost = self.answers(at, b"lost");
+        let why = match self.seats.get(at) {
+            None => return Ok(()),
+            Some(known) => known.why(is_lost.unwrap_or(true)),
         };
-        let Some(message) = known.message.take() else {
-            return false;
+        self.ends(at, why)
+    }
+
+    /// This is left of the page of a seat.
+    fn keep_rest(&mut self, at: usize, page: &[u8]) {
+        if let Some(known) = self.seats.get_mut(at) {
+            known.is_unsent = !page.is_empty();
+        }
+    }
+
+    /// This is the page of a seat, after which the connection ends, or does not.
+    fn keep_page(&mut self, at: usize, page: &[u8], closes: bool) {
+        if let Some(known) = self.seats.get_mut(at) {
+            known.is_unsent = !page.is_empty();
+            known.closes = closes;
+        }
+    }
+
+    /// A message was answered with this status, or lost its page. Returns whether there was one.
+    fn answers(&mut self, at: usize, status: &[u8]) -> Result<bool, AllocError> {
+        let Some(known) = self.seats.get_mut(at) else {
+            return Ok(false);
+        };
+        let Some(arrived) = known.message.take() else {
+            return Ok(false);
         };
         known.requests = known.requests.saturating_add(1);
         let peer = known.peer;
-        let again = self.is_again(&message, status);
-        let asked = asked_by(&message, status, again);
-        if let Ok(line) = request_line(self.alloc, peer, &asked) {
-            info!(self.rt; target: "desk", "{line}");
-        }
-        true
+        let again = self.is_again(&arrived.message, status);
+        let asked = asked_by(&arrived, status, again);
+        let line = request_line(self.alloc, peer, &asked)?;
+        self.write(Some(line));
+        Ok(true)
     }
 
     /// Whether the page of a message with this status was a kept one: an accepted request under a key, which was answered
@@ -116,37 +152,29 @@ impl<'a> Journal<'a> {
         status == b"200".as_slice() && self.recent.put(agent, key).unwrap_or(false)
     }
 
-    /// The connection of a seat ended in its turn: its peer ended it, or memory ran out for a page.
-    fn ends_itself(&mut self, at: usize, is_lost: bool) {
-        let why = match self.seats.get(at) {
-            None => return,
-            Some(_) if is_lost => Why::Memory,
-            Some(known) if known.is_unsent => Why::NotTaken,
-            Some(known) if known.closes => Why::Closed,
-            Some(known) if known.has_part => Why::CutOff,
-            Some(_) => Why::Left,
-        };
-        self.ends(at, why);
-    }
-
-    /// The connection of a seat ended, if one was here.
-    pub fn ends(&mut self, at: usize, why: Why) {
-        let Some(known) = self.seats.get_mut(at) else {
-            return;
-        };
-        if !known.is_here {
-            return;
+    /// The connection of a seat ended, if one was here. Out of memory, its line is left out.
+    pub fn ends(&mut self, at: usize, why: Why) -> Result<(), AllocError> {
+        if at >= self.seats.len() {
+            return Ok(());
         }
-        known.is_here = false;
-        if let Ok(line) = ended_line(self.alloc, known.peer, known.requests, why) {
-            info!(self.rt; target: "desk", "{line}");
-        }
+        let line = self.seats[at].end(self.alloc, why)?;
+        self.write(line);
+        Ok(())
     }
 
     /// All connections end.
     pub fn ends_all(&mut self) {
         for at in 0..self.seats.len() {
-            self.ends(at, Why::Stopped);
+            let _ = self.ends(at, Why::Stopped);
+        }
+    }
+
+    /// Writes a line, if there is one. It has printable bytes of ASCII alone, so that one line is one record.
+    fn write(&self, line: Option<String>)
+        requires printable { IfSome line (λ text. IsTrue (list_all is_printable (string_bytes text))) }
+    {
+        if let Some(line) = line {
+            info!(self.rt; target: "desk", "{line}");
         }
     }
 }

@@ -1,17 +1,25 @@
 //! What the log knows of a seat.
-use http_log::Peer;
-use http_messages::Message;
+ghost use Rattle.std.specs.Prelude.{◌≡◌, IfOk, IfSome, IsTrue, false, option_map, true};
+ghost use Rattle.std.specs.List.{list_all};
+ghost use Rattle.std.specs.String.{string_bytes};
+ghost use Rattle.http_log.specs.Shown.{is_printable};
+
+use http_log::{Peer, Why, ended_line};
+use http_ways::{Arrived, Way};
+use std::alloc::{AllocError, Global};
 
 /// What the log knows of a seat.
 #[derive(Drop)]
-pub(crate) struct Known {
+pub struct Known {
     /// Whether a connection is here.
     pub(crate) is_here: bool,
     pub(crate) peer: Peer,
+    /// By which way it is read.
+    pub(crate) way: Way,
     /// How many requests were answered, or lost their pages.
     pub(crate) requests: u64,
     /// The message that may be answered in this turn.
-    pub(crate) message: Option<Message>,
+    pub(crate) message: Option<Arrived>,
     /// Whether part of a message was received.
     pub(crate) has_part: bool,
     /// Whether something was left of its page after its last turn.
@@ -21,19 +29,69 @@ pub(crate) struct Known {
 }
 
 impl Known {
+    ghost use Rattle.http_journal.specs.Ends.{end_line, why_of};
+
     /// Nobody is here.
-    pub(crate) fn new() -> Known {
+    pub(crate) fn new() -> Known
+        ensures nobody { result.is_here ≡ false }
+    {
+        let peer = Peer {
+            number: 0,
+            is_house: false,
+        };
+        let mut known = Known::of(peer, Way::Profile);
+        known.is_here = false;
+        known
+    }
+
+    /// A connection came by a door, and is read by this way. Nothing was received of it.
+    pub(crate) fn of(peer: Peer, way: Way) -> Known
+        ensures here { result.is_here ≡ true }
+        ensures peer { result.peer ≡ peer }
+        ensures way { result.way ≡ way }
+        ensures none { result.requests ≡ 0 }
+    {
         Known {
-            is_here: false,
-            peer: Peer {
-                number: 0,
-                is_house: false,
-            },
+            is_here: true,
+            peer,
+            way,
             requests: 0,
             message: None,
             has_part: false,
             is_unsent: false,
             closes: false,
+        }
+    }
+
+    /// The connection ended so. Returns its line, if one was here. The only fault is out of memory.
+    pub(crate) fn end(&mut self, alloc: Global, why: Why) -> Result<Option<String>, AllocError>
+        ensures line { IfOk result (λ line. option_map string_bytes line ≡ end_line self.old why) }
+        ensures printable { IfOk result (λ line. IfSome line (λ text.
+            IsTrue (list_all is_printable (string_bytes text)))) }
+        ensures gone { self.new.is_here ≡ false }
+    {
+        if !self.is_here {
+            return Ok(None);
+        }
+        self.is_here = false;
+        let line = ended_line(alloc, self.peer, self.requests, why)?;
+        Ok(Some(line))
+    }
+
+    /// Why the connection ended in its turn, in which a page was lost, or was not.
+    pub(crate) fn why(&self, is_lost: bool) -> Why
+        ensures why { result ≡ why_of is_lost self.now }
+    {
+        if is_lost {
+            Why::Memory
+        } else if self.is_unsent {
+            Why::NotTaken
+        } else if self.closes {
+            Why::Closed
+        } else if self.has_part {
+            Why::CutOff
+        } else {
+            Why::Left
         }
     }
 }

@@ -1,32 +1,50 @@
 //! What the line of a request says, from its message and its page.
+ghost use Rattle.std.specs.Prelude.{◌≡◌, [], unwrap_or};
+ghost use Rattle.http_journal.specs.Requests.{ask_of, both, method_by, method_of, text_of};
+
 use commands::{Agent, Key};
 use http_log::Asked;
 use http_messages::{Message, Request};
-
-/// Whether a page closes: the last field of its head says so.
-pub(crate) fn is_closing(page: &[u8]) -> bool {
-    for at in 0..page.len() {
-        let (head, rest) = page.split_at(at);
-        if rest.starts_with(b"\r\n\r\n") {
-            return head.ends_with(b"\r\nConnection: close");
-        }
-    }
-    false
-}
+use http_ways::{Arrived, Layout};
+use http_wide::AskedKind;
 
 /// Under which agent and key a message asks for something to be carried out, if it does.
-pub(crate) fn ask_of(message: &Message) -> Option<(Agent, Key)> {
+pub(crate) fn ask_of(message: &Message) -> Option<(Agent, Key)>
+    ensures ask { result ≡ ask_of message.now }
+{
     match message {
-        Message::Asks(request) if request.method.as_slice() == b"POST".as_slice() => {
-            Some((request.agent?, request.key?))
+        Message::NoHead => None,
+        Message::Asks(request) => {
+            if request.method.as_slice() == b"POST".as_slice() {
+                both(request.agent, request.key)
+            } else {
+                None
+            }
         }
-        _ => None,
+    }
+}
+
+/// An agent and a key, where there are both.
+fn both(agent: Option<Agent>, key: Option<Key>) -> Option<(Agent, Key)>
+    ensures both { result ≡ both agent key }
+{
+    match (agent, key) {
+        (Some(agent), Some(key)) => Some((agent, key)),
+        (Some(_), None) => None,
+        (None, _) => None,
     }
 }
 
 /// What the line of a message says of it.
-pub(crate) fn asked_by<'m>(message: &'m Message, status: &'m [u8], again: bool) -> Asked<'m> {
-    match message {
+pub(crate) fn asked_by<'m>(arrived: &'m Arrived, status: &'m [u8], again: bool) -> Asked<'m>
+    ensures agent { result.agent.now ≡ text_of (λ r. unwrap_or r.agent []) arrived.now.message }
+    ensures method { result.method.now ≡ text_of (method_by arrived.now.layout) arrived.now.message }
+    ensures target { result.target.now ≡ text_of (λ r. r.target.items) arrived.now.message }
+    ensures status { result.status.now ≡ status.now }
+    ensures key { result.key.now ≡ text_of (λ r. unwrap_or r.key []) arrived.now.message }
+    ensures again { result.again ≡ again }
+{
+    match &arrived.message {
         Message::NoHead => Asked {
             agent: b"",
             method: b"",
@@ -37,7 +55,7 @@ pub(crate) fn asked_by<'m>(message: &'m Message, status: &'m [u8], again: bool) 
         },
         Message::Asks(request) => Asked {
             agent: agent_text(request),
-            method: request.method.as_slice(),
+            method: method_by(arrived.layout, request),
             target: request.target.as_slice(),
             status,
             key: key_text(request),
@@ -46,8 +64,30 @@ pub(crate) fn asked_by<'m>(message: &'m Message, status: &'m [u8], again: bool) 
     }
 }
 
+/// The method of a request in this layout, as it was sent.
+fn method_by(layout: Layout, request: &Request) -> &[u8]
+    ensures method { result.now ≡ method_by layout request.now }
+{
+    match layout {
+        Layout::Wide(kind) => method_of(kind, request),
+        Layout::Profile | Layout::Denied(_) | Layout::Nothing => &request.method,
+    }
+}
+
+/// The method of a request that asks for this, as it was sent.
+fn method_of(kind: AskedKind, request: &Request) -> &[u8]
+    ensures method { result.now ≡ method_of kind request.now }
+{
+    match kind {
+        AskedKind::Head => b"HEAD",
+        AskedKind::Get | AskedKind::Post | AskedKind::Options | AskedKind::Other => &request.method,
+    }
+}
+
 /// The agent of a request, or nothing.
-fn agent_text(request: &Request) -> &[u8] {
+fn agent_text(request: &Request) -> &[u8]
+    ensures agent { result.now ≡ unwrap_or request.now.agent [] }
+{
     match &request.agent {
         Some(agent) => agent.as_str().as_bytes(),
         None => b"",
@@ -55,7 +95,9 @@ fn agent_text(request: &Request) -> &[u8] {
 }
 
 /// The key of a request, or nothing.
-fn key_text(request: &Request) -> &[u8] {
+fn key_text(request: &Request) -> &[u8]
+    ensures key { result.now ≡ unwrap_or request.now.key [] }
+{
     match &request.key {
         Some(key) => key.as_str().as_bytes(),
         None => b"",

@@ -1,12 +1,13 @@
--- Each connection is at its door, since it came so. For serve_many.
-use Rattle.std.proofs.Common.{◌≡◌, ◌∙◌, ℕ, ◌<◌, Bool, true, false, List, [], ◌∷◌, ◌++◌, All, length, map, refl, sym, ap, subst, slice_index_or, slice_set}
+-- Each connection is at its door and is read by its way, since it came so. For serve_many.
+use Rattle.std.proofs.Common.{◌≡◌, ℕ, ◌<◌, Bool, true, false, List, [], ◌∷◌, ◌++◌, All, length, map, refl, sym, ap, ap₂, subst, slice_index_or, slice_set}
 use Rattle.std.proofs.Math.Logic.{∥∥₁_map}
 use Rattle.std.proofs.lemmas.List.Elements.{All-append, All-cons, All-get_or, All-head, All-map, All-nil, All-set, All-tail, All-weaker}
 use Rattle.std.specs.declared.io.traits.Read as Read
 use Rattle.std.specs.declared.io.traits.Write as Write
 use Rattle.desk_http.specs.declared.doors.Door.{Door}
+use Rattle.http_ways.specs.declared.ways.Way.{Way}
 use Rattle.http_conversations.specs.History.{GivesGoOn, History}
-use Rattle.http_live.specs.Arrivals.{AreAtTheirDoors, Arrival, IsAtItsDoor, arrival, arrival_of, arrivals_at}
+use Rattle.http_live.specs.Arrivals.{AreAtTheirDoors, AreReadByTheirWays, Arrival, IsAtItsDoor, IsReadByItsWay, arrival, arrival_of, arrivals_at}
 use Rattle.http_live.specs.Seats.{connections_at}
 use Rattle.http_live.specs.declared.connection.Connection.{Connection}
 use Rattle.http_live.specs.declared.seats.Seat.{Seat}
@@ -17,68 +18,122 @@ All-unmap P f [] all = All-nil _
 All-unmap P f (y ∷ ys) all =
     All-cons (λ z. P (f z)) y ys (All-head P (f y) (map f ys) all) (All-unmap P f ys (All-tail P (f y) (map f ys) all))
 
--- somebody came by the door of the reader
-record CameByItsDoor {R W : Type 0} (is_at : R → Door → Type 0) (a : Arrival R W) : Type 0 where
+-- somebody came with a reader of which this is so
+record CameAs {R W : Type 0} (is : R → Arrival R W → Type 0) (a : Arrival R W) : Type 0 where
   reader : R
   writer : W
   came : a.ends ≡ (reader, writer) ∷ []
-  door : is_at reader a.door
+  so : is reader a
 
-module _ {R W : Type 0} {r : Read.Ghosts R} {w : Write.Ghosts W} (is_at : R → Door → Type 0) where
-  came : (c : Connection R W r w) → IsAtItsDoor is_at c → CameByItsDoor is_at (arrival_of c)
-  came c x = record { reader = x.reader; writer = x.writer; came = x.came; door = x.door }
+-- by the door of the reader
+abbrev AtDoor : {R W : Type 0} → (R → Door → Type 0) → Arrival R W → Type 0
+AtDoor is_at = CameAs (λ reader a. is_at reader a.door)
 
-  -- the messages of every connection came in at its door
-  is_there : (c : Connection R W r w) → CameByItsDoor is_at (arrival_of c) → IsAtItsDoor is_at c
-  is_there c x = record {
-    reader = x.reader;
-    writer = x.writer;
-    came = x.came;
-    door = x.door;
-    messages = ∥∥₁_map c.conversation.served (λ served. served.at_door);
-  }
+-- by the way of the reader
+abbrev ByWay : {R W : Type 0} → (R → Way → Type 0) → Arrival R W → Type 0
+ByWay is_by = CameAs (λ reader a. is_by reader a.way)
 
-  all_came : (s : Seat R W r w) → All (IsAtItsDoor is_at) (connections_at s) → All (CameByItsDoor is_at) (arrivals_at s)
-  all_came s all =
-      All-map (CameByItsDoor is_at) arrival_of (connections_at s) (All-weaker (IsAtItsDoor is_at) _ came (connections_at s) all)
+module _ {R W : Type 0} {r : Read.Ghosts R} {w : Write.Ghosts W} where
+  -- what is so of connections as they came
+  module _ (Came : Arrival R W → Type 0) (Is : Connection R W r w → Type 0)
+      (came : (c : Connection R W r w) → Is c → Came (arrival_of c)) (is_so : (c : Connection R W r w) → Came (arrival_of c) → Is c) where
+    all_came : (s : Seat R W r w) → All Is (connections_at s) → All Came (arrivals_at s)
+    all_came s all = All-map Came arrival_of (connections_at s) (All-weaker Is _ came (connections_at s) all)
 
-  all_there : (s : Seat R W r w) → All (CameByItsDoor is_at) (arrivals_at s) → All (IsAtItsDoor is_at) (connections_at s)
-  all_there s all =
-      All-weaker _ (IsAtItsDoor is_at) is_there (connections_at s)
-      (All-unmap (CameByItsDoor is_at) arrival_of (connections_at s) all)
+    all_so : (s : Seat R W r w) → All Came (arrivals_at s) → All Is (connections_at s)
+    all_so s all = All-weaker _ Is is_so (connections_at s) (All-unmap Came arrival_of (connections_at s) all)
 
-  -- nobody came to one seat
-  pub kept_at : (seats : List (Seat R W r w)) (i : ℕ) (d new : Seat R W r w) → i < length seats
-      → arrivals_at new ≡ arrivals_at (slice_index_or seats i d)
-      → AreAtTheirDoors is_at seats → AreAtTheirDoors is_at (slice_set seats i new)
-  kept_at seats i d new within same all =
-      let old = slice_index_or seats i d in
-      All-set (λ seat. All (IsAtItsDoor is_at) (connections_at seat)) seats i new
-      (all_there new (subst (All (CameByItsDoor is_at)) (sym same)
-      (all_came old (All-get_or (λ seat. All (IsAtItsDoor is_at) (connections_at seat)) seats i d within all)))) all
+    -- nobody came to one seat
+    kept_as : (seats : List (Seat R W r w)) (i : ℕ) (d new : Seat R W r w) → i < length seats
+        → arrivals_at new ≡ arrivals_at (slice_index_or seats i d)
+        → All (λ seat. All Is (connections_at seat)) seats → All (λ seat. All Is (connections_at seat)) (slice_set seats i new)
+    kept_as seats i d new within same all =
+        let old = slice_index_or seats i d in
+        All-set (λ seat. All Is (connections_at seat)) seats i new
+        (all_so new (subst (All Came) (sym same) (all_came old (All-get_or (λ seat. All Is (connections_at seat)) seats i d within all)))) all
 
-  -- somebody came to one seat
-  pub came_to : (seats : List (Seat R W r w)) (i : ℕ) (d new : Seat R W r w) (reader : R) (writer : W) (door : Door)
-      → i < length seats → arrivals_at new ≡ arrivals_at (slice_index_or seats i d) ++ arrival reader writer door ∷ []
-      → is_at reader door → AreAtTheirDoors is_at seats → AreAtTheirDoors is_at (slice_set seats i new)
-  came_to seats i d new reader writer door within more by all =
-      let old = slice_index_or seats i d in
-      let one : CameByItsDoor is_at (arrival reader writer door) =
-      record { reader = reader; writer = writer; came = refl; door = by } in
-      All-set (λ seat. All (IsAtItsDoor is_at) (connections_at seat)) seats i new
-      (all_there new (subst (All (CameByItsDoor is_at)) (sym more)
-      (All-append (CameByItsDoor is_at) (arrivals_at old) (arrival reader writer door ∷ [])
-      (all_came old (All-get_or (λ seat. All (IsAtItsDoor is_at) (connections_at seat)) seats i d within all))
-      (All-cons (CameByItsDoor is_at) (arrival reader writer door) [] one (All-nil _))))) all
+    -- somebody came to one seat
+    came_as : (seats : List (Seat R W r w)) (i : ℕ) (d new : Seat R W r w) (a : Arrival R W) → i < length seats
+        → arrivals_at new ≡ arrivals_at (slice_index_or seats i d) ++ a ∷ [] → Came a
+        → All (λ seat. All Is (connections_at seat)) seats → All (λ seat. All Is (connections_at seat)) (slice_set seats i new)
+    came_as seats i d new a within more one all =
+        let old = slice_index_or seats i d in
+        All-set (λ seat. All Is (connections_at seat)) seats i new
+        (all_so new (subst (All Came) (sym more)
+        (All-append Came (arrivals_at old) (a ∷ [])
+        (all_came old (All-get_or (λ seat. All Is (connections_at seat)) seats i d within all))
+        (All-cons Came a [] one (All-nil _))))) all
 
--- 100 Continue was given at the same door, or was not
-pub goes_on_at : (given : Bool) (h k : History) → (given ≡ true → GivesGoOn h k) → (given ≡ false → k ≡ h) → k.door ≡ h.door
-goes_on_at true h k gives none = ap (λ (j : History). j.door) (gives refl).is
-goes_on_at false h k gives none = ap (λ (j : History). j.door) (none refl)
+  -- Doors.
 
-abbrev with_ends : {R W : Type 0} → List (R × W) → Door → Arrival R W
-with_ends ends door = record { ends = ends; door = door }
+  module _ (is_at : R → Door → Type 0) where
+    came_at : (c : Connection R W r w) → IsAtItsDoor is_at c → AtDoor is_at (arrival_of c)
+    came_at c x = record { reader = x.reader; writer = x.writer; came = x.came; so = x.door }
 
--- with the same ends, by the same door
-pub same_arrival : {R W : Type 0} (ends : List (R × W)) (d e : Door) → e ≡ d → with_ends ends e ≡ with_ends ends d
-same_arrival ends d e same = ap (λ t. with_ends ends t) same
+    -- the messages of every connection came in at its door
+    is_there : (c : Connection R W r w) → AtDoor is_at (arrival_of c) → IsAtItsDoor is_at c
+    is_there c x = record {
+      reader = x.reader;
+      writer = x.writer;
+      came = x.came;
+      door = x.so;
+      messages = ∥∥₁_map c.conversation.served (λ served. served.at_door);
+    }
+
+    -- nobody came to one seat
+    pub kept_at : (seats : List (Seat R W r w)) (i : ℕ) (d new : Seat R W r w) → i < length seats
+        → arrivals_at new ≡ arrivals_at (slice_index_or seats i d)
+        → AreAtTheirDoors is_at seats → AreAtTheirDoors is_at (slice_set seats i new)
+    kept_at seats i d new within same all = kept_as (AtDoor is_at) (IsAtItsDoor is_at) came_at is_there seats i d new within same all
+
+    -- somebody came to one seat
+    pub came_to : (seats : List (Seat R W r w)) (i : ℕ) (d new : Seat R W r w) (reader : R) (writer : W) (door : Door) (way : Way)
+        → i < length seats → arrivals_at new ≡ arrivals_at (slice_index_or seats i d) ++ arrival reader writer door way ∷ []
+        → is_at reader door → AreAtTheirDoors is_at seats → AreAtTheirDoors is_at (slice_set seats i new)
+    came_to seats i d new reader writer door way within more by all =
+        came_as (AtDoor is_at) (IsAtItsDoor is_at) came_at is_there seats i d new (arrival reader writer door way) within more
+        (record { reader = reader; writer = writer; came = refl; so = by }) all
+
+  -- Ways.
+
+  module _ (is_by : R → Way → Type 0) where
+    came_by : (c : Connection R W r w) → IsReadByItsWay is_by c → ByWay is_by (arrival_of c)
+    came_by c x = record { reader = x.reader; writer = x.writer; came = x.came; so = x.way }
+
+    -- the messages of every connection were read by its way
+    is_read : (c : Connection R W r w) → ByWay is_by (arrival_of c) → IsReadByItsWay is_by c
+    is_read c x = record {
+      reader = x.reader;
+      writer = x.writer;
+      came = x.came;
+      way = x.so;
+      messages = ∥∥₁_map c.conversation.served (λ served. served.by_way);
+    }
+
+    -- nobody came to one seat
+    pub kept_by : (seats : List (Seat R W r w)) (i : ℕ) (d new : Seat R W r w) → i < length seats
+        → arrivals_at new ≡ arrivals_at (slice_index_or seats i d)
+        → AreReadByTheirWays is_by seats → AreReadByTheirWays is_by (slice_set seats i new)
+    kept_by seats i d new within same all = kept_as (ByWay is_by) (IsReadByItsWay is_by) came_by is_read seats i d new within same all
+
+    -- somebody came to one seat
+    pub came_with : (seats : List (Seat R W r w)) (i : ℕ) (d new : Seat R W r w) (reader : R) (writer : W) (door : Door) (way : Way)
+        → i < length seats → arrivals_at new ≡ arrivals_at (slice_index_or seats i d) ++ arrival reader writer door way ∷ []
+        → is_by reader way → AreReadByTheirWays is_by seats → AreReadByTheirWays is_by (slice_set seats i new)
+    came_with seats i d new reader writer door way within more by all =
+        came_as (ByWay is_by) (IsReadByItsWay is_by) came_by is_read seats i d new (arrival reader writer door way) within more
+        (record { reader = reader; writer = writer; came = refl; so = by }) all
+
+-- 100 Continue was given at the same door and by the same way, or was not
+pub goes_on_at : (given : Bool) (h k : History) → (given ≡ true → GivesGoOn h k) → (given ≡ false → k ≡ h)
+    → (k.door ≡ h.door) × (k.way ≡ h.way)
+goes_on_at true h k gives none = (ap (λ (j : History). j.door) (gives refl).is, ap (λ (j : History). j.way) (gives refl).is)
+goes_on_at false h k gives none = (ap (λ (j : History). j.door) (none refl), ap (λ (j : History). j.way) (none refl))
+
+abbrev with_ends : {R W : Type 0} → List (R × W) → Door → Way → Arrival R W
+with_ends ends door way = record { ends = ends; door = door; way = way }
+
+-- with the same ends, by the same door and way
+pub same_arrival : {R W : Type 0} (ends : List (R × W)) (h k : History) → (k.door ≡ h.door) × (k.way ≡ h.way)
+    → with_ends ends k.door k.way ≡ with_ends ends h.door h.way
+same_arrival ends h k same = ap₂ (λ d w. with_ends ends d w) same.0 same.1

@@ -1,6 +1,7 @@
--- By which door a peer comes.
+-- By which door a peer comes, and by which way it is read.
 use Rattle.std.specs.Prelude.{⊤}
 use Rattle.desk_http.specs.declared.doors.Door.{Door}
+use Rattle.http_ways.specs.declared.ways.Way.{Way}
 use Rattle.http_live.specs.declared.turns.Turn.{Turn}
 use Rattle.http_live.specs.declared.turns.Turn.TheVariants.{Comes, Ready, Leaves, End}
 
@@ -10,3 +11,10 @@ ComesByItsDoor is_at (Comes at door way reader writer) = is_at reader door
 ComesByItsDoor is_at (Ready at) = ⊤
 ComesByItsDoor is_at (Leaves at) = ⊤
 ComesByItsDoor is_at End = ⊤
+
+-- a peer that comes in this turn is read by the way of its reader
+abbrev pub ComesByItsWay : {R W : Type 0} → (R → Way → Type 0) → Turn R W → Type 0
+ComesByItsWay is_by (Comes at door way reader writer) = is_by reader way
+ComesByItsWay is_by (Ready at) = ⊤
+ComesByItsWay is_by (Leaves at) = ⊤
+ComesByItsWay is_by End = ⊤

@@ -1,10 +1,10 @@
 -- How serving ends.
 use Rattle.std.specs.Prelude.{Bool, true, false, Option, Some, None, Result, Ok, Err}
-use Rattle.commands.specs.declared.faults.Fault.{Fault}
-use Rattle.http_live.specs.declared.endings.Ending.{Ending}
-use Rattle.http_live.specs.declared.endings.Ending.TheVariants as ending
-use Rattle.http_live.specs.declared.standing.Standing.{Standing}
-use Rattle.http_live.specs.declared.standing.Standing.TheVariants.{Stopped}
+use Rattle.commands.specs.declared.replies.Fault.{Fault}
+use Rattle.http_live.specs.declared.turns.Ending.{Ending}
+use Rattle.http_live.specs.declared.turns.Ending.TheVariants as ending
+use Rattle.http_live.specs.declared.seats.Standing.{Standing}
+use Rattle.http_live.specs.declared.seats.Standing.TheVariants.{Stopped}
 
 -- serving ends where the house asked the desk to stop
 abbrev pub ending_after : Standing → Option Ending

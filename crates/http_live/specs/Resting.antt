@@ -2,9 +2,9 @@
 use Rattle.std.specs.Prelude.{◌≡◌, ◌≢◌, ◌⊎◌, [], true, false, ⊤}
 use Rattle.http_ways.specs.Ways.{SaysNothing}
 use Rattle.http_conversations.specs.History.{History}
-use Rattle.http_conversations.specs.declared.stages.Stage.TheVariants.{Open, Closing}
-use Rattle.http_live.specs.declared.standing.Standing.{Standing}
-use Rattle.http_live.specs.declared.standing.Standing.TheVariants.{Between, Amid, Unsent, Lingering, Answered, Stopped, Busy, Over}
+use Rattle.http_conversations.specs.declared.conversation.Stage.TheVariants.{Open, Closing}
+use Rattle.http_live.specs.declared.seats.Standing.{Standing}
+use Rattle.http_live.specs.declared.seats.Standing.TheVariants.{Between, Amid, Unsent, Lingering, Answered, Stopped, Busy, Over}
 
 -- each page was handed out, and no whole message waits for an answer
 pub record IsUsedUp (h : History) : Type 0 where

@@ -8,7 +8,7 @@ ghost use Rattle.http_conversations.specs.Exchanges.{StopAtLast, since};
 ghost use Rattle.http_live.specs.Endings.{is_stop, turn_stops};
 ghost use Rattle.http_live.specs.Faithful.{Faithful};
 
-use crate::standing::Standing;
+use crate::seats::Standing;
 use commands::Fault;
 use desk_http::Door;
 use http_conversations::{Conversation, MOST_READ, Stage};
@@ -40,7 +40,7 @@ impl<R: Read + Drop, W: Write + Drop> Connection<R, W> {
     pub(crate) fn new(alloc: Global, door: Door, way: Way, reader: R, writer: W) -> Connection<R, W>
         ensures none { exchanges_with result ≡ [] }
         ensures door { (history result.conversation).door ≡ door }
-        ensures arrival { arrival_of result ≡ arrival reader writer door }
+        ensures arrival { arrival_of result ≡ arrival reader writer door way }
         ensures way { (history result.conversation).way ≡ way }
     {
         let came = Log::new().and(&reader, &writer);
@@ -81,10 +81,17 @@ impl<R: Read + Drop, W: Write + Drop> Connection<R, W> {
         self.conversation.pending()
     }
 
-    /// A turn: what waits is handed out, or else one message is answered, or else more is read.
+    /// Whether it ends after the page that it was given last.
+    pub(crate) fn closes(&self) -> bool {
+        self.conversation.stage() == Stage::Closing
+    }
+
+    /// A turn: what waits is handed out, or else one message is answered, or else more is read. The clock shows this second,
+    /// if it was read.
     pub(crate) fn serve<B: Book>(
         &mut self,
         paths: &Paths,
+        second: Option<u64>,
         buffer: &mut [u8],
         book: &mut B,
     ) -> Result<Standing, Fault>
@@ -109,7 +116,7 @@ impl<R: Read + Drop, W: Write + Drop> Connection<R, W> {
         if self.conversation.wants_write() {
             return Ok(self.push(buffer));
         }
-        match self.answer(paths, book) {
+        match self.answer(paths, second, book) {
             Ok(true) => Ok(self.answered()),
             Ok(false) => Ok(self.go_on(buffer)),
             Err(Fault::Memory) => Ok(Standing::Over),
@@ -159,7 +166,12 @@ impl<R: Read + Drop, W: Write + Drop> Connection<R, W> {
     }
 
     /// Answers the first message that waits, if it is its turn.
-    fn answer<B: Book>(&mut self, paths: &Paths, book: &mut B) -> Result<bool, Fault>
+    fn answer<B: Book>(
+        &mut self,
+        paths: &Paths,
+        second: Option<u64>,
+        book: &mut B,
+    ) -> Result<bool, Fault>
         ensures goes_on { GoesOn (B.is_sound book.new) (B.stands book.old) (B.stands book.new) (B.leaves book.new)
             (has_broken result) (exchanges_with self.old) (exchanges_with self.new) }
         ensures at_most_one { length (exchanges_with self.new) ≤ length (exchanges_with self.old) + 1 }
@@ -176,6 +188,7 @@ impl<R: Read + Drop, W: Write + Drop> Connection<R, W> {
 
         ensures sound { B.is_sound book.new → B.is_sound book.old }
     {
+        self.conversation.set_second(second);
         self.conversation.answer(paths, book)
     }
 

@@ -9,17 +9,11 @@
 #![tactic(auto)]
 
 mod connection;
-mod endings;
-mod finishing;
 mod seats;
 mod serving;
-mod standing;
 mod turns;
 
 pub use connection::Connection;
-pub use endings::Ending;
-pub use finishing::finish_many;
-pub use seats::{SEATS, Seat, empty_seats};
-pub use serving::serve_many;
-pub use standing::Standing;
-pub use turns::{Turn, Turns};
+pub use seats::{SEATS, Seat, Standing, empty_seats};
+pub use serving::{finish_many, serve_many};
+pub use turns::{Ending, Turn, Turns};

@@ -1,16 +1,15 @@
-//! Places for one connection after another.
-ghost use Rattle.std.specs.Prelude.{◌≡◌, ◌∷◌, ◌++◌, ◌+◌, ◌≤◌, [], All, length, map, Ok, IfErr, IfOk, IfSome, IsErrOf, IsTrue};
-ghost use Rattle.saga_core.specs.Books.{LeavesNoMore};
+//! Places for one connection after another, and what each waits for.
 ghost use Rattle.http_conversations.specs.Conversations.{history};
-ghost use Rattle.http_conversations.specs.Leading.{GoesOn, has_broken};
 ghost use Rattle.http_conversations.specs.Exchanges.{StopAtLast, since};
+ghost use Rattle.http_conversations.specs.Leading.{GoesOn, has_broken};
 ghost use Rattle.http_live.specs.Arrivals.{arrival, arrivals_at};
 ghost use Rattle.http_live.specs.Endings.{turn_stops};
 ghost use Rattle.http_live.specs.Resting.{Rests};
 ghost use Rattle.http_live.specs.Seats.{HasDoor, HasStopAt, connections_at, exchanges_at};
+ghost use Rattle.saga_core.specs.Books.{LeavesNoMore};
+ghost use Rattle.std.specs.Prelude.{◌≡◌, ◌∷◌, ◌++◌, ◌+◌, ◌≤◌, [], All, length, map, Ok, IfErr, IfOk, IfSome, IsErrOf, IsTrue};
 
 use crate::connection::Connection;
-use crate::standing::Standing;
 use commands::Fault;
 use desk_http::Door;
 use http_conversations::MOST_READ;
@@ -48,7 +47,7 @@ impl<R: Read + Drop, W: Write + Drop> Seat<R, W> {
     pub(crate) fn take(&mut self, alloc: Global, door: Door, way: Way, reader: R, writer: W)
         ensures kept { exchanges_at self.new ≡ exchanges_at self.old }
         ensures door { HasDoor door way self.new.connection }
-        ensures arrivals { arrivals_at self.new ≡ arrivals_at self.old ++ arrival reader writer door ∷ [] }
+        ensures arrivals { arrivals_at self.new ≡ arrivals_at self.old ++ arrival reader writer door way ∷ [] }
     {
         self.clear();
         self.connection = Some(Connection::new(alloc, door, way, reader, writer));
@@ -81,6 +80,14 @@ impl<R: Read + Drop, W: Write + Drop> Seat<R, W> {
         }
     }
 
+    /// Whether the connection ends after the page that it was given last.
+    pub(crate) fn closes(&self) -> bool {
+        match &self.connection {
+            Some(connection) => connection.closes(),
+            None => false,
+        }
+    }
+
     /// Hands out what waits for the connection, if there is one. One that is over ends.
     pub(crate) fn hand_out(&mut self) -> Standing
         ensures kept { exchanges_at self.new ≡ exchanges_at self.old }
@@ -96,10 +103,11 @@ impl<R: Read + Drop, W: Write + Drop> Seat<R, W> {
         standing
     }
 
-    /// A turn of the connection, if there is one. One that is over ends.
+    /// A turn of the connection, if there is one, where the clock shows this second. One that is over ends.
     pub(crate) fn serve<B: Book>(
         &mut self,
         paths: &Paths,
+        second: Option<u64>,
         buffer: &mut [u8],
         book: &mut B,
     ) -> Result<Standing, Fault>
@@ -125,7 +133,7 @@ impl<R: Read + Drop, W: Write + Drop> Seat<R, W> {
         let Some(connection) = &mut self.connection else {
             return Ok(Standing::Over);
         };
-        let standing = connection.serve(paths, buffer, book)?;
+        let standing = connection.serve(paths, second, buffer, book)?;
         if standing == Standing::Over {
             self.clear();
         }
@@ -146,4 +154,25 @@ pub fn empty_seats<R: Read + Drop, W: Write + Drop>(
         seats.push(Seat::new())?;
     }
     Ok(seats)
+}
+
+/// What a connection waits for after its turn.
+#[derive(Clone, Copy, Debug, PartialEq, Eq)]
+pub enum Standing {
+    /// For a message: its peer owes nothing, and nothing is owed to it.
+    Between,
+    /// For the rest of a message.
+    Amid,
+    /// For its peer to take a page.
+    Unsent,
+    /// For its peer to end: the closing page was handed out. The end that is written to may be shut down.
+    Lingering,
+    /// For nothing: a message was answered, and its page is to be handed out at once.
+    Answered,
+    /// For its peer to take the page that says that the desk stops, for which the house asked.
+    Stopped,
+    /// For nothing: there may be more to do at once.
+    Busy,
+    /// It is over.
+    Over,
 }

@@ -1,17 +1,15 @@
-//! Serving the connections of all seats.
-ghost use Rattle.std.specs.Prelude.{◌≡◌, ◌<◌, ◌≤◌, [], length, map, false, Ok, Some, IfErr, IsErrOf, IsTrue};
-ghost use Rattle.saga_core.specs.Books.{LeavesNoMore};
+//! Serving the connections of all seats, and ending those that are left.
 ghost use Rattle.http_conversations.specs.Leading.{has_broken};
-ghost use Rattle.http_live.specs.Arrivals.{AreAtTheirDoors};
+ghost use Rattle.http_live.specs.Arrivals.{AreAtTheirDoors, AreReadByTheirWays, arrivals_at};
 ghost use Rattle.http_live.specs.Endings.{ends_stopped, has_stopped};
 ghost use Rattle.http_live.specs.Merging.{Merges};
 ghost use Rattle.http_live.specs.Seats.{HasStopAmong, IsTaken, exchanges_at};
 ghost use Rattle.http_live.specs.Worlds.{WorldsGoOn};
+ghost use Rattle.saga_core.specs.Books.{LeavesNoMore};
+ghost use Rattle.std.specs.Prelude.{◌≡◌, ◌<◌, ◌≤◌, [], length, map, false, Ok, Some, IfErr, IsErrOf, IsTrue};
 
-use crate::endings::{Ending, ending_after};
-use crate::seats::Seat;
-use crate::standing::Standing;
-use crate::turns::{Turn, Turns};
+use crate::seats::{Seat, Standing};
+use crate::turns::{Ending, Turn, Turns, ending_after};
 use commands::Fault;
 use desk_http::Door;
 use http_conversations::MOST_READ;
@@ -38,6 +36,7 @@ pub fn serve_many<T: Turns, B: Book>(
         (has_broken result) (has_stopped result) (map exchanges_at seats.old) (map exchanges_at seats.new) }
     ensures stopped { result ≡ Ok Ending.Stopped → HasStopAmong seats.new }
     ensures doors { AreAtTheirDoors T.is_at seats.old → AreAtTheirDoors T.is_at seats.new }
+    ensures ways { AreReadByTheirWays T.is_by seats.old → AreReadByTheirWays T.is_by seats.new }
 
     ensures failed { IsErrOf result Fault.Store → IsTrue (B.has_failed book.new) }
     ensures stays_failed { IsTrue (B.has_failed book.old) → IsTrue (B.has_failed book.new) }
@@ -70,6 +69,7 @@ fn serve_turns<T: Turns, B: Book>(
         (has_broken result) (has_stopped result) (map exchanges_at seats.old) (map exchanges_at seats.new) }
     ensures stopped { result ≡ Ok Ending.Stopped → HasStopAmong seats.new }
     ensures doors { AreAtTheirDoors T.is_at seats.old → AreAtTheirDoors T.is_at seats.new }
+    ensures ways { AreReadByTheirWays T.is_by seats.old → AreReadByTheirWays T.is_by seats.new }
 
     ensures failed { IsErrOf result Fault.Store → IsTrue (B.has_failed book.new) }
     ensures stays_failed { IsTrue (B.has_failed book.old) → IsTrue (B.has_failed book.new) }
@@ -103,6 +103,7 @@ fn take_turn<T: Turns, B: Book>(
         (has_broken result) (ends_stopped result) (map exchanges_at seats.old) (map exchanges_at seats.new) }
     ensures stopped { result ≡ Ok (Some Ending.Stopped) → HasStopAmong seats.new }
     ensures doors { AreAtTheirDoors T.is_at seats.old → AreAtTheirDoors T.is_at seats.new }
+    ensures ways { AreReadByTheirWays T.is_by seats.old → AreReadByTheirWays T.is_by seats.new }
 
     ensures failed { IsErrOf result Fault.Store → IsTrue (B.has_failed book.new) }
     ensures stays_failed { IsTrue (B.has_failed book.old) → IsTrue (B.has_failed book.new) }
@@ -119,7 +120,7 @@ fn take_turn<T: Turns, B: Book>(
         Turn::Ready(at) => {
             if at < seats.len() {
                 show_received(seats, turns, at);
-                let standing = seats[at].serve(paths, buffer, book)?;
+                let standing = seats[at].serve(paths, turns.second(), buffer, book)?;
                 show_page(seats, turns, at, standing);
                 turns.hear(at, standing);
                 return Ok(ending_after(standing));
@@ -151,7 +152,7 @@ fn show_page<T: Turns>(
     standing: Standing,
 ) {
     if let Some(seat) = seats.get(at) {
-        turns.see_page(at, standing, seat.unsent());
+        turns.see_page(at, standing, seat.unsent(), seat.closes());
     }
 }
 
@@ -166,13 +167,70 @@ fn welcome<T: Turns>(
     writer: T::Writer,
 )
     requires door { T.is_at reader door }
+    requires way { T.is_by reader way }
 
     ensures kept { map exchanges_at seats.new ≡ map exchanges_at seats.old }
     ensures taken { at < length seats.old → IsTaken at door way seats.old seats.new }
     ensures doors { AreAtTheirDoors T.is_at seats.old → AreAtTheirDoors T.is_at seats.new }
+    ensures ways { AreReadByTheirWays T.is_by seats.old → AreReadByTheirWays T.is_by seats.new }
 {
     if at >= seats.len() {
         return;
     }
     seats[at].take(alloc, door, way, reader, writer);
+}
+
+/// Hands out the pages that wait, turn by turn, until no turn comes. Nothing is read, and no message is answered; a
+/// connection for which nothing waits is over, and a peer that comes is let go.
+pub fn finish_many<T: Turns>(seats: &mut [Seat<T::Reader, T::Writer>], turns: &mut T)
+    ensures kept { map exchanges_at seats.new ≡ map exchanges_at seats.old }
+    ensures arrivals { map arrivals_at seats.new ≡ map arrivals_at seats.old }
+{
+    for _ in 0..u64::MAX {
+        if !finish_turn(seats, turns) {
+            return;
+        }
+    }
+}
+
+/// Takes the next turn, and reports whether there was one.
+fn finish_turn<T: Turns>(seats: &mut [Seat<T::Reader, T::Writer>], turns: &mut T) -> bool
+    ensures kept { map exchanges_at seats.new ≡ map exchanges_at seats.old }
+    ensures arrivals { map arrivals_at seats.new ≡ map arrivals_at seats.old }
+{
+    match turns.next_turn() {
+        Turn::Comes(_, _, _, _, _) => true,
+        Turn::Ready(at) => {
+            hand_out_at(seats, turns, at);
+            true
+        }
+        Turn::Leaves(at) => {
+            clear_at(seats, at);
+            true
+        }
+        Turn::End => false,
+    }
+}
+
+/// Hands out what waits at a seat.
+fn hand_out_at<T: Turns>(seats: &mut [Seat<T::Reader, T::Writer>], turns: &mut T, at: usize)
+    ensures kept { map exchanges_at seats.new ≡ map exchanges_at seats.old }
+    ensures arrivals { map arrivals_at seats.new ≡ map arrivals_at seats.old }
+{
+    if at >= seats.len() {
+        return;
+    }
+    let standing = seats[at].hand_out();
+    turns.hear(at, standing);
+}
+
+/// The connection of a seat ends.
+fn clear_at<R: Read + Drop, W: Write + Drop>(seats: &mut [Seat<R, W>], at: usize)
+    ensures kept { map exchanges_at seats.new ≡ map exchanges_at seats.old }
+    ensures arrivals { map arrivals_at seats.new ≡ map arrivals_at seats.old }
+{
+    if at >= seats.len() {
+        return;
+    }
+    seats[at].clear();
 }

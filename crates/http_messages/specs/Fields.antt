@@ -7,8 +7,8 @@ use Rattle.httparse.specs.Spans.{IsRequestWithin, IsWithin, header_bytes, span_b
 use Rattle.http_messages.specs.Heads.{IsHead, Named, Parts, are_lengths, is_length, length_in, parts_of}
 use Rattle.http_messages.specs.declared.fields.Found.{Found}
 use Rattle.http_messages.specs.declared.fields.Found.TheVariants.{Absent, Once, Again}
-use Rattle.http_messages.specs.declared.lengths.Length.{Length}
-use Rattle.http_messages.specs.declared.lengths.Length.TheVariants.{Untold, Bytes, Bad}
+use Rattle.http_messages.specs.declared.requests.Length.{Length}
+use Rattle.http_messages.specs.declared.requests.Length.TheVariants.{Untold, Bytes, Bad}
 use Rattle.http_messages.specs.declared.heads.Head.{Head}
 
 -- the names and values at these places

@@ -10,8 +10,8 @@ use Rattle.allotment.specs.Making.{unless}
 use Rattle.allotment.specs.Texts.{keep_if}
 use Rattle.commands.specs.Limits.{most_bytes}
 use Rattle.commands.specs.Names.{is_agent, is_key}
-use Rattle.commands.specs.declared.refusals.Refusal.{Refusal}
-use Rattle.commands.specs.declared.refusals.Refusal.TheVariants as refusal
+use Rattle.commands.specs.declared.replies.Refusal.{Refusal}
+use Rattle.commands.specs.declared.replies.Refusal.TheVariants as refusal
 
 -- how many bytes a head may have
 abbrev pub most_head_bytes : ℕ

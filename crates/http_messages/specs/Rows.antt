@@ -1,7 +1,7 @@
 -- Worked rows of prefixes and heads, computed.
 use Rattle.std.specs.Prelude.{◌≡◌, ℕ, ◌∷◌, [], List, codes, Some, None, refl}
 use Rattle.httparse.specs.Grammar.{Field, crlf, trim_ows}
-use Rattle.commands.specs.declared.refusals.Refusal.TheVariants.{BadHead, TooLarge, NoLength}
+use Rattle.commands.specs.declared.replies.Refusal.TheVariants.{BadHead, TooLarge, NoLength}
 use Rattle.http_messages.specs.Heads.{Parts, agent_of, body_length, head_refusals, host_of, key_of, parts_of}
 use Rattle.http_messages.specs.Messages.{first_told}
 

@@ -1,10 +1,13 @@
 //! The fields of a head by name, as places in its bytes.
-ghost use Rattle.std.specs.Prelude.{◌≡◌, length, All};
-ghost use Rattle.std.specs.List.{list_any};
-ghost use Rattle.httparse.specs.Spans.{IsHeaderWithin, IsWithin, span_bytes};
-ghost use Rattle.http_messages.specs.Heads.{is_alike, values_named};
+ghost use Rattle.allotment.specs.Texts.{keep_if};
+ghost use Rattle.commands.specs.Names.{is_agent, is_key};
 ghost use Rattle.http_messages.specs.Fields.{IsFound, found_and, named_in};
+ghost use Rattle.http_messages.specs.Heads.{is_alike, values_named};
+ghost use Rattle.httparse.specs.Spans.{IsHeaderWithin, IsWithin, span_bytes};
+ghost use Rattle.std.specs.List.{list_any};
+ghost use Rattle.std.specs.Prelude.{◌≡◌, length, All};
 
+use commands::{Agent, Key};
 use httparse::spans::{HeaderSpan, Span};
 
 /// How often a field occurs.
@@ -63,4 +66,18 @@ fn with_value(found: Found, value: Span) -> Found
         Found::Absent => Found::Once(value),
         Found::Once(_) | Found::Again => Found::Again,
     }
+}
+
+/// The agent that these bytes spell, if they spell one.
+pub fn agent_in(bytes: &[u8]) -> Option<Agent>
+    ensures form { result ≡ keep_if is_agent bytes.now }
+{
+    Agent::parse(std::str::from_utf8(bytes).ok()?)
+}
+
+/// The key that these bytes spell, if they spell one.
+pub fn key_in(bytes: &[u8]) -> Option<Key>
+    ensures form { result ≡ keep_if is_key bytes.now }
+{
+    Key::parse(std::str::from_utf8(bytes).ok()?)
 }

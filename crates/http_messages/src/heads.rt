@@ -1,8 +1,6 @@
 //! The head of a request, as places in its bytes.
-use crate::fields::{Found, find, says};
-use crate::lengths::{Length, length_in};
-use crate::requests::Request;
-use crate::words::{agent_in, key_in};
+use crate::fields::{Found, agent_in, find, key_in, says};
+use crate::requests::{Length, Request, length_in};
 use commands::{Agent, Key, MOST_BYTES, Refusal};
 use httparse::Status;
 use httparse::spans::{EMPTY_HEADER_SPAN, HeaderSpan, RequestSpans, parse_request};

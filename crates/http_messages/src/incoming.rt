@@ -4,10 +4,9 @@ ghost use Rattle.std.specs.Io.KnownBytes.{IsAtEnd, Keeps};
 ghost use Rattle.http_messages.specs.Messages.{first_told};
 ghost use Rattle.http_messages.specs.Reading.{FindsTold, HasCount, HasMessage, IsNext, ReadsOn, to_come};
 
-use crate::faults::ReadFault;
 use crate::heads::Head;
 use crate::places::Search;
-use crate::requests::Message;
+use crate::requests::{Message, ReadFault};
 use std::alloc::{AllocError, Global};
 use std::io::Read;
 use std::marker::Model;

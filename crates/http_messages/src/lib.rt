@@ -8,24 +8,17 @@
 //! as many bytes as a head may have: there it is known whether it is a head.
 #![tactic(auto)]
 
-mod decided;
-mod faults;
 mod fields;
 mod first;
 mod heads;
 mod incoming;
 mod laws;
-mod lengths;
 mod places;
 mod requests;
-mod words;
 
-pub use decided::decided_front;
-pub use faults::ReadFault;
-pub use fields::{Found, find};
-pub use first::first_message;
+pub use fields::{Found, agent_in, find, key_in};
+pub use first::{decided_front, first_message};
 pub use incoming::Incoming;
 pub use laws::{heads_are_told, messages_stay, one_reading, page_is_asked_twice, pages_come_first};
 pub use places::LONGEST_HEAD;
-pub use requests::{Message, Request};
-pub use words::{agent_in, key_in};
+pub use requests::{Message, ReadFault, Request};

@@ -1,5 +1,13 @@
-//! What a message asks, as the desk takes it.
+//! What a message asks, as the desk takes it; how long its body is, and why a reader gives none.
+ghost use Rattle.allotment.specs.Texts.{keep_if};
+ghost use Rattle.http_messages.specs.Fields.{length_of};
+ghost use Rattle.http_messages.specs.declared.requests.ReadFault.TheVariants.{Memory, Read};
+ghost use Rattle.std.specs.Prelude.{◌≡◌};
+ghost use Rattle.std.specs.Str.Parse.{digits_value};
+
 use commands::{Agent, Key, Refusal};
+use std::alloc::AllocError;
+use streams::ReadFailed;
 
 /// A request: what its head says, and its body.
 #[derive(Debug, Drop)]
@@ -33,4 +41,57 @@ pub enum Message {
     NoHead,
     /// A request, whole.
     Asks(Request),
+}
+
+/// Why the next message is not returned.
+#[derive(Clone, Copy, Debug, PartialEq, Eq)]
+pub enum ReadFault {
+    /// Out of memory.
+    Memory,
+    /// A read failed, or the input has more bytes than can be counted.
+    Read,
+}
+
+impl From<AllocError> for ReadFault {
+    ghost from_gives = { λ _ fault. fault ≡ Memory };
+
+    fn from(_error: AllocError) -> ReadFault {
+        ReadFault::Memory
+    }
+}
+
+impl From<ReadFailed> for ReadFault {
+    ghost from_gives = { λ _ fault. fault ≡ Read };
+
+    fn from(_error: ReadFailed) -> ReadFault {
+        ReadFault::Read
+    }
+}
+
+/// The length of a body, as a head gives it.
+#[derive(Clone, Copy)]
+pub(crate) enum Length {
+    /// No length is given.
+    Untold,
+    /// The body has so many bytes.
+    Bytes(usize),
+    /// Two lengths are given, or a malformed one.
+    Bad,
+}
+
+/// The length that one to nine digits spell.
+pub(crate) fn length_in(text: &[u8]) -> Option<usize>
+    ensures digits { result ≡ length_of text.now }
+{
+    if text.is_empty() || text.len() > 9 {
+        return None;
+    }
+    let mut length = 0;
+    for byte in text {
+        if !byte.is_ascii_digit() {
+            return None;
+        }
+        length = 10 * length + usize::from(*byte - b'0');
+    }
+    Some(length)
 }

@@ -7,12 +7,12 @@ use Rattle.plan.specs.declared.causes.PlanCause.TheVariants as cause
 use Rattle.commands.specs.declared.items.Cause.TheVariants as turn
 use Rattle.commands.specs.declared.items.Item.TheVariants.{Transaction, Turn, Save}
 use Rattle.commands.specs.declared.items.Phase.TheVariants.{Run, Back, Ended}
-use Rattle.commands.specs.declared.refusals.Refusal.TheVariants as refusal
+use Rattle.commands.specs.declared.replies.Refusal.TheVariants as refusal
 use Rattle.commands.specs.declared.replies.Reply.TheVariants.{Loaded, Begun, Moved, Refused}
 use Rattle.http_pages.specs.Bodies.{refusal_data, reply_data, journey_data, unfinished_data}
 use Rattle.http_pages.specs.declared.bodies.Owners.TheVariants.{Hidden, Shown}
 use Rattle.http_pages.specs.Pages.{line, page_text, denied_page, refused_page, reply_page, value_page}
-use Rattle.http_pages.specs.declared.verbs.Verb.TheVariants.{Get}
+use Rattle.http_pages.specs.declared.routes.Verb.TheVariants.{Get}
 
 -- Bodies.
 

@@ -3,7 +3,7 @@ use Rattle.std.specs.Prelude.{ℕ, Bool, true, false, List, [], ◌∷◌, ◌++
 use Rattle.std.specs.String.{string_bytes}
 use Rattle.serde_json.specs.Data.{Data}
 use Rattle.serde_json.specs.Written.{compact_text}
-use Rattle.commands.specs.declared.refusals.Refusal.{Refusal}
+use Rattle.commands.specs.declared.replies.Refusal.{Refusal}
 use Rattle.commands.specs.declared.replies.Reply.{Reply}
 use Rattle.commands.specs.declared.replies.Reply.TheVariants.{Loaded, Begun, Moved, Refused}
 use Rattle.http_pages.specs.Bodies.{refusal_data, reply_data}
@@ -12,9 +12,9 @@ use Rattle.http_pages.specs.Verbs.{verb_text}
 use Rattle.http_pages.specs.declared.answers.Body.{Body}
 use Rattle.http_pages.specs.declared.answers.Body.TheVariants.{Json, Text, Html}
 use Rattle.http_pages.specs.declared.answers.Page.{Page}
-use Rattle.http_pages.specs.declared.statuses.Status.{Status}
-use Rattle.http_pages.specs.declared.statuses.Status.TheVariants.{Fine}
-use Rattle.http_pages.specs.declared.verbs.Verb.{Verb}
+use Rattle.http_pages.specs.declared.heads.Status.{Status}
+use Rattle.http_pages.specs.declared.heads.Status.TheVariants.{Fine}
+use Rattle.http_pages.specs.declared.routes.Verb.{Verb}
 
 -- What a page says.
 

@@ -4,12 +4,12 @@ use Rattle.std.specs.Fmt.{digits}
 use Rattle.std.specs.Str.{is_utf8, chars}
 use lib.Utf8.{encode}
 use Rattle.matchit.proofs.OnLiterals.{matchit_on_literals}
-use Rattle.commands.specs.declared.refusals.Refusal.TheVariants as refusal
+use Rattle.commands.specs.declared.replies.Refusal.TheVariants as refusal
 use Rattle.http_pages.specs.Admitting.{admitted, plain}
 use Rattle.http_pages.specs.Routes.{routes, route_of}
 use Rattle.http_pages.specs.declared.routes.Route.TheVariants.{LoadBatch, Step, Abort, Save, ShowJourney, ShowPlan, ShowStock}
 use Rattle.http_pages.specs.declared.routes.Unrouted.TheVariants.{UnknownPath, WrongMethod, BadPart}
-use Rattle.http_pages.specs.declared.verbs.Verb.TheVariants.{Get}
+use Rattle.http_pages.specs.declared.routes.Verb.TheVariants.{Get}
 
 -- Targets with a route.
 

@@ -18,7 +18,7 @@ use Rattle.http_pages.specs.declared.routes.Route.{Route}
 use Rattle.http_pages.specs.declared.routes.Route.TheVariants.{LoadBatch, Begin, Step, Abort, Save, ShowJourney, ShowPlan, ShowUnfinished, ShowStock, ShowMine, ShowHealth}
 use Rattle.http_pages.specs.declared.routes.Unrouted.{Unrouted}
 use Rattle.http_pages.specs.declared.routes.Unrouted.TheVariants.{UnknownPath, WrongMethod, BadPart}
-use Rattle.http_pages.specs.declared.verbs.Verb.TheVariants.{Get, Post}
+use Rattle.http_pages.specs.declared.routes.Verb.TheVariants.{Get, Post}
 
 -- The table.
 

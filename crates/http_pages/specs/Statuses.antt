@@ -1,9 +1,9 @@
 -- The statuses of pages, with their codes and phrases, and the status of each refusal.
 use Rattle.std.specs.Prelude.{ℕ, List, codes}
-use Rattle.commands.specs.declared.refusals.Refusal.{Refusal}
-use Rattle.commands.specs.declared.refusals.Refusal.TheVariants as refusal
-use Rattle.http_pages.specs.declared.statuses.Status.{Status}
-use Rattle.http_pages.specs.declared.statuses.Status.TheVariants.{Fine, BadRequest, NotFound, NotAllowed, Conflict, LengthRequired, TooLarge}
+use Rattle.commands.specs.declared.replies.Refusal.{Refusal}
+use Rattle.commands.specs.declared.replies.Refusal.TheVariants as refusal
+use Rattle.http_pages.specs.declared.heads.Status.{Status}
+use Rattle.http_pages.specs.declared.heads.Status.TheVariants.{Fine, BadRequest, NotFound, NotAllowed, Conflict, LengthRequired, TooLarge}
 
 -- the code of a status
 abbrev pub status_code : Status → ℕ

@@ -3,10 +3,9 @@ ghost use Rattle.std.specs.Prelude.{◌≡◌, IfOk};
 ghost use Rattle.http_pages.specs.Pages.{page_said, shown_page, reply_page};
 ghost use Rattle.http_pages.specs.Pages.{denied_page, refused_page, body_bytes, media_of, media_type};
 
-use crate::admitting::Denied;
 use crate::bodies::{refusal_body, reply_body};
-use crate::statuses::Status;
-use crate::verbs::Verb;
+use crate::heads::Status;
+use crate::routes::{Denied, Verb};
 use commands::{Refusal, Reply};
 use std::alloc::{AllocError, Global};
 

@@ -1,10 +1,13 @@
-//! The bytes of a page (RFC 9112, sections 4 and 5).
+//! Statuses, and the bytes of a page (RFC 9112, sections 4 and 5).
+ghost use Rattle.http_pages.specs.Pages.{page_said, page_text, head_with, further_fields, media_of, policy_line, allow_line, close_line};
+ghost use Rattle.http_pages.specs.Statuses.{status_of, status_code, phrase};
 ghost use Rattle.std.specs.Prelude.{◌≡◌, IfOk};
 ghost use Rattle.std.specs.String.{string_bytes};
-ghost use Rattle.http_pages.specs.Pages.{page_said, page_text, head_with, further_fields, media_of, policy_line, allow_line, close_line};
 
 use crate::answers::{Body, Page, bytes_of, media_type_of};
-use crate::verbs::Verb;
+use crate::routes::Verb;
+use commands::Refusal;
+use http::StatusCode;
 use std::alloc::{AllocError, Global};
 
 /// The bytes of a page as it is sent: status line, fields, an empty line, and the body, which HEAD does not get. After
@@ -83,4 +86,74 @@ fn close_line(closes: bool) -> &'static str
     ensures line { result.now ≡ close_line closes }
 {
     if closes { "Connection: close\r\n" } else { "" }
+}
+
+/// The status of a page.
+#[derive(Clone, Copy, Debug, PartialEq, Eq)]
+pub enum Status {
+    /// What was asked for is done or shown.
+    Fine,
+    /// The request has not the right form.
+    BadRequest,
+    /// There is no such path or journey.
+    NotFound,
+    /// The path has another method.
+    NotAllowed,
+    /// The state of the desk forbids it.
+    Conflict,
+    /// The request does not give the length of its body.
+    LengthRequired,
+    /// The body is too large.
+    TooLarge,
+}
+
+impl Status {
+    /// The status of a refusal's page. The two refusals of files, 20 and 23, answer no request;
+    /// they count as conflicts.
+    pub fn of(refusal: &Refusal) -> Status
+        ensures status { result ≡ status_of refusal.now }
+    {
+        match refusal {
+            Refusal::BadHead | Refusal::NoAgent | Refusal::NoKey => Status::BadRequest,
+            Refusal::BadBody | Refusal::BadPlan(_) | Refusal::BadCsv { .. } => Status::BadRequest,
+            Refusal::UnknownPath | Refusal::NoJourney => Status::NotFound,
+            Refusal::WrongMethod => Status::NotAllowed,
+            Refusal::Finished | Refusal::NoSavePoint | Refusal::NoSave => Status::Conflict,
+            Refusal::BelowHeld { .. } | Refusal::BatchDiffers => Status::Conflict,
+            Refusal::KeyReused | Refusal::Limit => Status::Conflict,
+            Refusal::UnknownSchema { .. } | Refusal::AlreadyNew => Status::Conflict,
+            Refusal::TooLarge => Status::TooLarge,
+            Refusal::NoLength => Status::LengthRequired,
+        }
+    }
+
+    /// The status code (RFC 9110, section 15).
+    pub fn code(&self) -> StatusCode
+        ensures code { result ≡ status_code self.now }
+    {
+        match self {
+            Status::Fine => StatusCode::OK,
+            Status::BadRequest => StatusCode::BAD_REQUEST,
+            Status::NotFound => StatusCode::NOT_FOUND,
+            Status::NotAllowed => StatusCode::METHOD_NOT_ALLOWED,
+            Status::Conflict => StatusCode::CONFLICT,
+            Status::LengthRequired => StatusCode::LENGTH_REQUIRED,
+            Status::TooLarge => StatusCode::PAYLOAD_TOO_LARGE,
+        }
+    }
+
+    /// The phrase after the code (RFC 9110, section 15).
+    pub fn phrase(&self) -> &'static str
+        ensures phrase { result.now ≡ phrase self.now }
+    {
+        match self {
+            Status::Fine => "OK",
+            Status::BadRequest => "Bad Request",
+            Status::NotFound => "Not Found",
+            Status::NotAllowed => "Method Not Allowed",
+            Status::Conflict => "Conflict",
+            Status::LengthRequired => "Length Required",
+            Status::TooLarge => "Content Too Large",
+        }
+    }
 }

@@ -8,28 +8,20 @@
 //! Words: a *verb* is a method that some path has, a *place* what stands at a path.
 #![tactic(auto)]
 
-mod admitting;
 mod answers;
 mod bodies;
-mod finding;
 mod heads;
 mod places;
 mod plans;
 mod routes;
-mod statuses;
 #[cfg(test)]
 mod tests;
 mod values;
-mod verbs;
 
-pub use admitting::{Denied, admit};
 pub use answers::{Body, HtmlPage, Page, denied_page, refused_page, reply_page, shown_page};
 pub use bodies::{
     Owners, health_body, journey_body, mine_body, plan_body, refusal_body, reply_body,
     stopping_body, unfinished_body,
 };
-pub use finding::Paths;
-pub use heads::page_bytes;
-pub use routes::{Route, Unrouted};
-pub use statuses::Status;
-pub use verbs::Verb;
+pub use heads::{Status, page_bytes};
+pub use routes::{Denied, Paths, Route, Unrouted, Verb, admit};

@@ -2,8 +2,7 @@
 ghost use Rattle.std.specs.Prelude.{◌≡◌, option_map};
 ghost use Rattle.http_pages.specs.Routes.{piece, name_at, journey_at, after_at, position_at, asked};
 
-use crate::routes::Route;
-use crate::verbs::Verb;
+use crate::routes::{Route, Verb};
 use commands::{MOST_EVENTS, MOST_NAMED_POSITION, Name, number_between};
 
 /// The piece of a target that holds a batch's name, a journey's number or one above which journeys are asked for.

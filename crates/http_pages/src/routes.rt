@@ -1,6 +1,15 @@
-//! What a method and a target ask for.
-use crate::verbs::Verb;
-use commands::Name;
+//! What a method and a target ask for, and whether it may be asked.
+ghost use Rattle.http_pages.specs.Admitting.{admitted, is_of_method, needs_agent, plain};
+ghost use Rattle.http_pages.specs.Routes.{routes, with_line, found_route, asked_by, route_of};
+ghost use Rattle.http_pages.specs.Verbs.{verb_text};
+ghost use Rattle.matchit.specs.Seek.{first};
+ghost use Rattle.std.specs.Prelude.{◌≡◌, IfOk, OnOk, is_some, IfErr};
+
+use crate::places::{Entry, Place};
+use commands::{Name, Refusal};
+use matchit::Router;
+use std::alloc::{AllocError, Global};
+use std::str;
 
 /// What is asked for. Journeys are named by their numbers, from 1.
 #[derive(Clone, Copy, Debug, PartialEq, Eq)]
@@ -38,4 +47,154 @@ pub enum Unrouted {
     WrongMethod(Verb),
     /// A part of the path is malformed: no batch's name, no number or no position.
     BadPart,
+}
+
+/// A method that some path of the desk has.
+#[derive(Clone, Copy, Debug, PartialEq, Eq)]
+pub enum Verb {
+    /// Reads something, and changes nothing.
+    Get,
+    /// Executes a command.
+    Post,
+}
+
+impl Verb {
+    /// The method, as a request line and the field `Allow` spell it.
+    pub fn text(&self) -> &'static str
+        ensures text { result.now ≡ verb_text self.now }
+    {
+        match self {
+            Verb::Get => "GET",
+            Verb::Post => "POST",
+        }
+    }
+}
+
+/// The paths of the desk, in which a target is looked up.
+#[derive(Drop)]
+pub struct Paths {
+    router: Router<Entry>,
+    ghost whole: { router ≡ routes },
+}
+
+/// Adds a path. No two paths of the desk conflict, so the only fault is out of memory.
+fn add(router: &mut Router<Entry>, path: &str, verb: Verb, place: Place) -> Result<(), AllocError>
+    ensures added { OnOk result
+        (router.new ≡ with_line (path.now, record { verb = verb; place = place }) router.old) }
+{
+    match router.insert(path, Entry { verb, place }) {
+        Ok(()) => Ok(()),
+        Err(_) => Err(AllocError),
+    }
+}
+
+impl Paths {
+    /// All paths of the desk. The only fault is out of memory.
+    pub fn new(alloc: Global) -> Result<Paths, AllocError> {
+        let mut router = Router::new(alloc);
+        add(&mut router, "/batches/{name}", Verb::Post, Place::Batch)?;
+        add(&mut router, "/journeys", Verb::Post, Place::Journeys)?;
+        add(&mut router, "/journeys/{id}/step", Verb::Post, Place::Step)?;
+        add(
+            &mut router,
+            "/journeys/{id}/abort/{p}",
+            Verb::Post,
+            Place::Abort,
+        )?;
+        add(&mut router, "/journeys/{id}/save", Verb::Post, Place::Save)?;
+        add(&mut router, "/journeys/{id}", Verb::Get, Place::Journey)?;
+        add(&mut router, "/journeys/{id}/plan", Verb::Get, Place::Plan)?;
+        add(&mut router, "/unfinished", Verb::Get, Place::Unfinished)?;
+        add(&mut router, "/stock", Verb::Get, Place::Stock)?;
+        add(&mut router, "/mine", Verb::Get, Place::Mine)?;
+        add(&mut router, "/mine/{after}", Verb::Get, Place::MineAfter)?;
+        add(&mut router, "/health", Verb::Get, Place::Health)?;
+        Ok(Paths { router })
+    }
+
+    /// Looks up what a method and a target ask for. The target is compared as it was sent, query and all (RFC 9112,
+    /// section 3.2.1). Reports an unknown path first, then another method, then a malformed part.
+    pub fn route(&self, method: &[u8], target: &[u8]) -> Result<Route, Unrouted>
+        ensures route { result ≡ route_of method.now target.now }
+    {
+        match str::from_utf8(target) {
+            Ok(target) => self.route_of_text(method, target),
+            Err(_) => Err(Unrouted::UnknownPath),
+        }
+    }
+
+    /// Looks up what they ask for, if the target is UTF-8.
+    fn route_of_text(&self, method: &[u8], target: &str) -> Result<Route, Unrouted>
+        ensures route { result ≡ found_route method.now target.now (first routes target.now) }
+    {
+        match self.router.at(target) {
+            Ok(found) => asked_by(method, target, *found.value),
+            Err(_) => Err(Unrouted::UnknownPath),
+        }
+    }
+}
+
+/// What a method asks for at a path that was found, or that the path has another method, or that a part is malformed.
+fn asked_by(method: &[u8], target: &str, entry: Entry) -> Result<Route, Unrouted>
+    ensures route { result ≡ asked_by method.now target.now entry }
+{
+    if method != entry.verb.text().as_bytes() {
+        return Err(Unrouted::WrongMethod(entry.verb));
+    }
+    match entry.place.asked(target) {
+        Some(route) => Ok(route),
+        None => Err(Unrouted::BadPart),
+    }
+}
+
+/// A refusal, and for a wrong method the one that the path has.
+#[derive(Clone, Copy, Debug, PartialEq, Eq)]
+pub struct Denied {
+    pub refusal: Refusal,
+    /// The method for the field `Allow`.
+    pub allow: Option<Verb>,
+}
+
+/// A refusal without a method for `Allow`.
+impl From<Refusal> for Denied {
+    ghost from_gives = { λ refusal denied. denied ≡ plain refusal };
+
+    fn from(refusal: Refusal) -> Denied {
+        Denied {
+            refusal,
+            allow: None,
+        }
+    }
+}
+
+/// Whether who asks must be an agent. Anybody may ask how many events and journeys there are.
+fn needs_agent(found: &Result<Route, Unrouted>) -> bool
+    ensures needs { result ≡ needs_agent found.now }
+{
+    !matches!(found, Ok(Route::ShowHealth))
+}
+
+/// Returns what is asked for, or the first thing that is wrong: the path, its method, the agent, the key of a POST, the
+/// parts of the path. A request for how many events and journeys there are needs no agent.
+pub fn admit(
+    found: Result<Route, Unrouted>,
+    has_agent: bool,
+    has_key: bool,
+    is_post: bool,
+) -> Result<Route, Denied>
+    ensures admitted { result ≡ admitted found has_agent has_key is_post }
+    ensures allow { IfErr result (λ denied. is_some denied.allow ≡ is_of_method denied.refusal) }
+{
+    let needs_agent = needs_agent(&found);
+    match found {
+        Err(Unrouted::UnknownPath) => Err(Denied::from(Refusal::UnknownPath)),
+        Err(Unrouted::WrongMethod(verb)) => Err(Denied {
+            refusal: Refusal::WrongMethod,
+            allow: Some(verb),
+        }),
+        _ if needs_agent && !has_agent => Err(Denied::from(Refusal::NoAgent)),
+        _ if is_post && !has_key => Err(Denied::from(Refusal::NoKey)),
+        Err(Unrouted::BadPart) => Err(Denied::from(Refusal::BadBody)),
+        Ok(route) => Ok(route),
+    }
 }

@@ -4,7 +4,8 @@ use Rattle.std.proofs.lemmas.List.Elements.{All-map, All-nil, All-weaker}
 use Rattle.std.specs.declared.io.traits.Read as Read
 use Rattle.std.specs.declared.io.traits.Write as Write
 use Rattle.desk_http.specs.declared.doors.Door.{Door}
-use Rattle.http_live.specs.Arrivals.{AreAtTheirDoors, IsAtItsDoor}
+use Rattle.http_ways.specs.declared.ways.Way.{Way}
+use Rattle.http_live.specs.Arrivals.{AreAtTheirDoors, AreReadByTheirWays, IsAtItsDoor, IsReadByItsWay}
 use Rattle.http_live.specs.Seats.{connections_at, exchanges_at}
 use Rattle.http_live.specs.declared.seats.Seat.{Seat}
 
@@ -14,6 +15,12 @@ module _ {R W : Type 0} {r : Read.Ghosts R} {w : Write.Ghosts W} (seats : List (
   at_doors is_at empty =
       All-weaker (λ seat. connections_at seat ≡ []) (λ seat. All (IsAtItsDoor is_at) (connections_at seat))
       (λ seat none. subst (All (IsAtItsDoor is_at)) (sym none) (All-nil (IsAtItsDoor is_at))) seats empty
+
+  -- or is read by another way
+  pub by_ways : (is_by : R → Way → Type 0) → All (λ seat. connections_at seat ≡ []) seats → AreReadByTheirWays is_by seats
+  by_ways is_by empty =
+      All-weaker (λ seat. connections_at seat ≡ []) (λ seat. All (IsReadByItsWay is_by) (connections_at seat))
+      (λ seat none. subst (All (IsReadByItsWay is_by)) (sym none) (All-nil (IsReadByItsWay is_by))) seats empty
 
   -- nothing was exchanged
   pub no_exchanges : All (λ seat. exchanges_at seat ≡ []) seats → All (λ exchanges. exchanges ≡ []) (map exchanges_at seats)

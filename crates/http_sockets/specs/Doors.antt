@@ -1,8 +1,11 @@
--- By which door the messages of a socket come in.
-use Rattle.std.specs.Prelude.{◌≡◌, ◌≢◌, Option}
+-- By which door the messages of a socket come in, and by which way they are read.
+use Rattle.std.specs.Prelude.{◌≡◌, ◌≢◌, ⊤, Option}
 use Rattle.desk_http.specs.declared.doors.Door.{Door}
 use Rattle.desk_http.specs.declared.doors.Door.TheVariants.{House}
 use Rattle.desk_http.specs.declared.doors.Site.{Site}
+use Rattle.http_ways.specs.declared.ways.Way.{Way}
+use Rattle.http_live.specs.declared.turns.Turn.{Turn}
+use Rattle.http_live.specs.declared.turns.Turn.TheVariants.{Comes, Ready, Leaves, End}
 use Rattle.http_sockets.specs.declared.ends.ReadEnd.{ReadEnd}
 use Rattle.http_sockets.specs.declared.ends.Socket.{Socket}
 use Rattle.http_sockets.specs.declared.ends.Socket.TheVariants.{Port, Path}
@@ -20,3 +23,18 @@ IsAt end door = IsDoorOf end.0.value door
 -- the page that who comes to the port is served too
 abbrev pub page_at_port : Sockets → Option Site
 page_at_port sockets = sockets.page
+
+-- what the end of a socket gives is read by its way
+abbrev pub IsReadBy : ReadEnd → Way → Type 0
+IsReadBy end way = end.1 ≡ way
+
+-- the way by which who comes from now on is read
+abbrev pub way_to_come : Sockets → Way
+way_to_come sockets = sockets.way
+
+-- who comes in this turn, if anybody does, is read by this way
+abbrev pub ComesBy : {R W : Type 0} → Way → Turn R W → Type 0
+ComesBy by (Comes at door way reader writer) = way ≡ by
+ComesBy by (Ready at) = ⊤
+ComesBy by (Leaves at) = ⊤
+ComesBy by End = ⊤

@@ -6,12 +6,12 @@ use Rattle.ledger.specs.Answer.{State}
 use Rattle.ledger.specs.World.{Moment}
 use Rattle.saga_core.specs.Worlds.{StandsAtEnd}
 use Rattle.http_conversations.specs.Exchanges.{Exchange}
-use Rattle.http_live.specs.Arrivals.{AreAtTheirDoors}
+use Rattle.http_live.specs.Arrivals.{AreAtTheirDoors, AreReadByTheirWays}
 use Rattle.http_live.specs.Merging.{IsMerged, Seated, exchange_of}
 use Rattle.http_live.specs.Seats.{exchanges_at}
 use Rattle.http_live.specs.Worlds.{GoesOnBy}
 use Rattle.http_live.specs.declared.seats.Seat.{Seat}
-use Rattle.http_sockets.specs.Doors.{IsAt}
+use Rattle.http_sockets.specs.Doors.{IsAt, IsReadBy}
 use Rattle.http_sockets.specs.declared.ends.ReadEnd.{ReadEnd}
 use Rattle.http_sockets.specs.declared.ends.WriteEnd.{WriteEnd}
 
@@ -22,11 +22,12 @@ GoOnBySome sound stood stands leaves store_failed =
     → GoesOnBy store_failed stands leaves w exchanges)
 
 -- The same, by the exchanges of seats that had none before, merged: each connection of the seats came over a socket, and
--- its messages came in at the door of that socket.
+-- its messages came in at the door of that socket and were read by the way with which it came.
 pub record GoOnBySockets (r : Read.Ghosts ReadEnd) (w : Write.Ghosts WriteEnd) (sound : Type 0) (stood stands : State → Type 0)
     (leaves : State → State → Type 0) (store_failed : Bool) : Type 0 where
   pub seats : List (Seat ReadEnd WriteEnd r w)
   pub doors : AreAtTheirDoors IsAt seats
+  pub ways : AreReadByTheirWays IsReadBy seats
   pub before : List (List Exchange)
   pub none : All (λ exchanges. exchanges ≡ []) before
   pub merged : List Seated

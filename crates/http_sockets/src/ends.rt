@@ -2,6 +2,7 @@
 ghost use Rattle.std.specs.Prelude.{◌≡◌, IfOk};
 
 use desk_http::{Door, Site};
+use http_ways::Way;
 use mio::net::{TcpStream, UnixStream};
 use mio::{Interest, Registry, Token};
 use std::alloc::{AllocError, Global};
@@ -16,9 +17,9 @@ pub(crate) enum Socket {
     Path(UnixStream),
 }
 
-/// The end that is read.
+/// The end that is read, and the way by which that is read.
 #[derive(Drop)]
-pub struct ReadEnd(Rc<Socket>);
+pub struct ReadEnd(Rc<Socket>, Way);
 
 /// The end that is written to.
 #[derive(Drop)]
@@ -56,11 +57,12 @@ impl Socket {
     }
 }
 
-/// The two ends of a socket.
-pub(crate) fn ends_of(socket: &Rc<Socket>) -> Result<(ReadEnd, WriteEnd), AllocError>
+/// The two ends of a socket, whose messages are read by this way.
+pub(crate) fn ends_of(socket: &Rc<Socket>, way: Way) -> Result<(ReadEnd, WriteEnd), AllocError>
     ensures read { IfOk result (λ ends. ends.0.0.value ≡ socket.now.value) }
+    ensures way { IfOk result (λ ends. ends.0.1 ≡ way) }
 {
-    Ok((ReadEnd(socket.clone()?), WriteEnd(socket.clone()?)))
+    Ok((ReadEnd(socket.clone()?, way), WriteEnd(socket.clone()?)))
 }
 
 impl Read for ReadEnd {

@@ -9,13 +9,11 @@
 
 mod ends;
 mod files;
-mod limits;
 mod listeners;
 mod places;
 mod serving;
 mod sockets;
 
 pub use http_journal::log_opening;
-pub use limits::{Limits, PATIENCE};
-pub use serving::serve_sockets;
+pub use serving::{Limits, PATIENCE, serve_sockets};
 pub use sockets::Sockets;

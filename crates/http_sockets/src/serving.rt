@@ -1,8 +1,8 @@
-//! Serving sockets over a book.
-ghost use Rattle.std.specs.Prelude.{◌≡◌, IsErrOf, IsTrue};
-ghost use Rattle.saga_core.specs.Books.{LeavesNoMore};
+//! Serving sockets over a book, within limits.
 ghost use Rattle.http_conversations.specs.Leading.{has_broken};
 ghost use Rattle.http_sockets.specs.Going.{GoOnBySockets, GoOnBySome};
+ghost use Rattle.saga_core.specs.Books.{LeavesNoMore};
+ghost use Rattle.std.specs.Prelude.{◌≡◌, IsErrOf, IsTrue};
 
 use crate::ends::{ReadEnd, WriteEnd};
 use crate::sockets::Sockets;
@@ -12,6 +12,18 @@ use recovery::Ready;
 use saga_core::Book;
 use std::alloc::Global;
 use std::io::{Read, Write};
+
+/// For how many ticks a message may be not whole, or a page not taken: 30 seconds.
+pub const PATIENCE: u64 = 300;
+
+/// How many connections there are in all, and how long a peer may owe something.
+#[derive(Clone, Copy, Debug, PartialEq, Eq)]
+pub struct Limits {
+    /// How many connections there are in all, if that is limited.
+    pub connections: Option<u16>,
+    /// For how many ticks a message may be not whole, or a page not taken.
+    pub patience: u64,
+}
 
 /// Serves the sockets until their limits end it, the house asks the desk to stop, or the store fails. Where the house asks,
 /// the pages that wait go out, for at most five seconds. Out of memory, nobody was served.

@@ -1,12 +1,12 @@
 //! Turns from the system: what epoll reports, and who comes and goes.
 ghost use Rattle.std.specs.Prelude.{◌≡◌, None, IfOk, IfSome, IsSome, OnErr, OnOk};
-ghost use Rattle.http_live.specs.Doors.{ComesByItsDoor};
-ghost use Rattle.http_sockets.specs.Doors.{IsAt};
+ghost use Rattle.http_live.specs.Doors.{ComesByItsDoor, ComesByItsWay};
+ghost use Rattle.http_sockets.specs.Doors.{IsAt, IsReadBy};
 
 use crate::ends::{ReadEnd, Socket, WriteEnd, ends_of};
-use crate::limits::Limits;
 use crate::listeners::{Accepted, FIRST, Listeners};
 use crate::places::Places;
+use crate::serving::Limits;
 use desk_http::{Door, Site};
 use http_journal::Journal;
 use http_live::{SEATS, Standing, Turn, Turns};
@@ -19,7 +19,7 @@ use std::collections::VecDeque;
 use std::io::{self, ErrorKind};
 use std::mem;
 use std::rc::Rc;
-use std::time::{Duration, Instant};
+use std::time::{Duration, Instant, SystemTime, UNIX_EPOCH};
 
 /// How long a tick is, in milliseconds. A wait lasts no longer.
 const TICK: u64 = 100;
@@ -71,7 +71,7 @@ pub struct Sockets<'a> {
 }
 
 impl<'a> Sockets<'a> {
-    ghost use Rattle.http_sockets.specs.Doors.{page_at_port};
+    ghost use Rattle.http_sockets.specs.Doors.{ComesBy, page_at_port, way_to_come};
 
     /// Listens on a port of 127.0.0.1, and on a path if there is one, which its owner alone may open.
     pub fn bind(
@@ -82,6 +82,7 @@ impl<'a> Sockets<'a> {
         limits: Limits,
     ) -> io::Result<Sockets<'a>>
         ensures no_page { IfOk result (λ sockets. page_at_port sockets ≡ None) }
+        ensures way { IfOk result (λ sockets. way_to_come sockets ≡ Way.Profile) }
     {
         let poll = Poll::new(rt)?;
         let events = Events::with_capacity(alloc, EVENTS)?;
@@ -123,7 +124,7 @@ impl<'a> Sockets<'a> {
     /// Notes in the log, if one is written, why the connection of a seat ended.
     fn note_end(&mut self, at: usize, why: Why) {
         if let Some(journal) = &mut self.journal {
-            journal.ends(at, why);
+            let _ = journal.ends(at, why);
         }
     }
 
@@ -136,6 +137,7 @@ impl<'a> Sockets<'a> {
     pub fn show(&mut self, page: HtmlPage) -> io::Result<()>
         ensures shown { OnOk result (IfSome (page_at_port self.new) (λ site. site.page ≡ page)) }
         ensures some { OnOk result (IsSome (page_at_port self.new)) }
+        ensures way { way_to_come self.new ≡ way_to_come self.old }
 
         ensures err { OnErr result (page_at_port self.new ≡ page_at_port self.old) }
     {
@@ -145,7 +147,10 @@ impl<'a> Sockets<'a> {
     }
 
     /// Who comes from now on may speak HTTP as libraries, proxies and pools do.
-    pub fn widen(&mut self) {
+    pub fn widen(&mut self)
+        ensures way { way_to_come self.new ≡ Way.Wide }
+        ensures page { page_at_port self.new ≡ page_at_port self.old }
+    {
         self.way = Way::Wide;
     }
 
@@ -184,6 +189,7 @@ impl<'a> Sockets<'a> {
     /// The next turn of this round.
     fn turn_of_round(&mut self) -> Option<Turn<ReadEnd, WriteEnd>>
         ensures door { IfSome result (ComesByItsDoor IsAt) }
+        ensures way { IfSome result (ComesByItsWay IsReadBy) }
     {
         if let Some(at) = self.leaving.pop_front() {
             let why = self.places.why_overdue(at);
@@ -207,6 +213,7 @@ impl<'a> Sockets<'a> {
     /// The next peer takes a seat, if one waits.
     fn welcome(&mut self) -> Option<Turn<ReadEnd, WriteEnd>>
         ensures door { IfSome result (ComesByItsDoor IsAt) }
+        ensures way { IfSome result (ComesByItsWay IsReadBy) }
     {
         for _ in 0..WELCOMES {
             if !self.welcomes() {
@@ -234,18 +241,20 @@ impl<'a> Sockets<'a> {
         self.to_come = self.to_come.map(|count| count.saturating_sub(1));
     }
 
-    /// A peer takes a seat, by the door of its socket.
+    /// A peer takes a seat, by the door of its socket, and is read by the way that is now.
     fn seated(&mut self, socket: Socket, at: usize) -> io::Result<Turn<ReadEnd, WriteEnd>>
         ensures door { IfOk result (ComesByItsDoor IsAt) }
+        ensures way { IfOk result (ComesByItsWay IsReadBy) }
+        ensures now { IfOk result (ComesBy (way_to_come self.old)) }
     {
         let mut socket = socket;
         socket.register(self.poll.registry(), Token(at.saturating_add(FIRST)))?;
         let socket = Rc::new(self.alloc, socket)?;
         let door = socket.door(self.page);
-        let (reader, writer) = ends_of(&socket)?;
+        let (reader, writer) = ends_of(&socket, self.way)?;
         self.places.take(at, socket, self.tick);
         if let Some(journal) = &mut self.journal {
-            journal.comes(at, matches!(door, Door::House));
+            let _ = journal.comes(at, matches!(door, Door::House), self.way);
         }
         Ok(Turn::Comes(at, door, self.way, reader, writer))
     }
@@ -311,6 +320,8 @@ impl Turns for Sockets<'_> {
 
     ghost is_at = { IsAt };
 
+    ghost is_by = { IsReadBy };
+
     fn next_turn(&mut self) -> Turn<ReadEnd, WriteEnd> {
         for _ in 0..u64::MAX {
             if let Some(turn) = self.turn_of_round() {
@@ -327,15 +338,22 @@ impl Turns for Sockets<'_> {
         Turn::End
     }
 
-    fn see_received(&mut self, at: usize, received: &[u8]) {
-        if let Some(journal) = &mut self.journal {
-            journal.sees_received(at, self.way, received);
+    fn second(&mut self) -> Option<u64> {
+        match self.way {
+            Way::Profile => None,
+            Way::Wide => second_now(self.rt),
         }
     }
 
-    fn see_page(&mut self, at: usize, standing: Standing, page: &[u8]) {
+    fn see_received(&mut self, at: usize, received: &[u8]) {
         if let Some(journal) = &mut self.journal {
-            journal.sees_page(at, standing, page);
+            journal.sees_received(at, received);
+        }
+    }
+
+    fn see_page(&mut self, at: usize, standing: Standing, page: &[u8], closes: bool) {
+        if let Some(journal) = &mut self.journal {
+            let _ = journal.sees_page(at, standing, page, closes);
         }
     }
 
@@ -355,4 +373,11 @@ impl Turns for Sockets<'_> {
             _ => {}
         }
     }
+}
+
+/// What the clock of the system shows, in seconds since 1970, if it can be read.
+fn second_now(rt: &HostRuntime) -> Option<u64> {
+    let now = SystemTime::now(rt).ok()?;
+    let since = now.duration_since(UNIX_EPOCH).ok()?;
+    Some(since.as_secs())
 }

@@ -2,3 +2,4 @@ pub mod HeadLemmas
 pub mod TextLemmas
 pub mod PageLemmas
 pub mod SaidLemmas
+pub mod AskLemmas

@@ -1,22 +1,24 @@
 -- The page of what is said by a way.
-use Rattle.std.specs.Prelude.{◌≡◌, ◌⊎◌, ℕ, Bool, true, false, List, [], bytes_eq, codes, if◌then◌else◌, Option, Some, None, Result, Ok, Err}
+use Rattle.std.specs.Prelude.{◌≡◌, ℕ, Bool, true, false, List, [], bytes_eq, codes, if◌then◌else◌, Option, Some, None, is_some, Result, Ok, Err}
 use Rattle.ledger.specs.Answer.{State}
 use Rattle.http_messages.specs.Heads.{parts_of}
 use Rattle.http_messages.specs.Messages as sent
 use Rattle.http_pages.specs.Routes.{route_of}
+use Rattle.http_pages.specs.Verbs.{verb_text}
 use Rattle.http_pages.specs.declared.routes.Route.{Route}
 use Rattle.http_pages.specs.declared.routes.Unrouted.{Unrouted}
 use Rattle.http_pages.specs.declared.routes.Unrouted.TheVariants.{UnknownPath, WrongMethod, BadPart}
-use Rattle.http_pages.specs.declared.verbs.Verb.{Verb}
-use Rattle.http_pages.specs.declared.verbs.Verb.TheVariants as verb
+use Rattle.http_pages.specs.declared.routes.Verb.{Verb}
+use Rattle.http_pages.specs.declared.routes.Verb.TheVariants as verb
 use Rattle.desk_http.specs.Answering.{Comes}
+use Rattle.desk_http.specs.Hosts.{refusal_at}
 use Rattle.desk_http.specs.Pages.{IsPage, closes, state_after}
 use Rattle.desk_http.specs.declared.answering.Answer.{Answer}
 use Rattle.desk_http.specs.declared.doors.Door.{Door}
 use Rattle.desk_http.specs.declared.doors.Door.TheVariants as doors
 use Rattle.http_wide.specs.declared.asked.AskedKind.{AskedKind}
 use Rattle.http_wide.specs.declared.asked.AskedKind.TheVariants.{Get, Head, Post, Options, Other}
-use Rattle.http_wide_pages.specs.Pages.{denial_text, not_allowed_text, options_text, wide_text}
+use Rattle.http_wide_pages.specs.Pages.{IsDateLine, denial_text, not_allowed_text, options_text, wide_text}
 use Rattle.protocols.specs.declared.faults.ServeFault.{ServeFault}
 use Rattle.http_ways.specs.Ways.{Said}
 use Rattle.http_ways.specs.declared.showing.Shown.{Shown}
@@ -37,13 +39,33 @@ other_verb (Err BadPart) = None
 abbrev pub verb_of_path : List ℕ → List ℕ → Option Verb
 verb_of_path method target = other_verb (route_of method target)
 
+-- this method, where another was asked for
+abbrev pub unless_asked : Verb → List ℕ → Option Verb
+unless_asked verb method = if bytes_eq method (verb_text verb) then None else Some verb
+
 -- the same at a door: the house's has `/stop`, and that with a page has `/`
 abbrev pub verb_at : Door → List ℕ → List ℕ → Option Verb
 verb_at doors.Port method target = verb_of_path method target
 verb_at doors.House method target =
-    if bytes_eq target (codes "/stop") then Some verb.Post else verb_of_path method target
+    if bytes_eq target (codes "/stop") then unless_asked verb.Post method else verb_of_path method target
 verb_at (doors.Page site) method target =
-    if bytes_eq target (codes "/") then Some verb.Get else verb_of_path method target
+    if bytes_eq target (codes "/") then unless_asked verb.Get method else verb_of_path method target
+
+-- the page of the profile; for HEAD without its body
+abbrev pub page_for : AskedKind → Shown
+page_for Get = shown.Page
+page_for Head = shown.PageOfHead
+page_for Post = shown.Page
+page_for Options = shown.Page
+page_for Other = shown.Page
+
+-- it is HEAD
+abbrev pub is_head : AskedKind → Bool
+is_head Get = false
+is_head Head = true
+is_head Post = false
+is_head Options = false
+is_head Other = false
 
 -- a path that is known shows what it allows
 abbrev pub options_of : Option Verb → Shown
@@ -51,53 +73,61 @@ options_of (Some verb) = shown.Options (Some verb)
 options_of None = shown.Page
 
 -- a path that is known does not allow other methods
-abbrev pub not_allowed_of : Option Verb → Shown
-not_allowed_of (Some verb) = shown.NotAllowed verb
-not_allowed_of None = shown.Page
+abbrev pub not_allowed_of : AskedKind → Option Verb → Shown
+not_allowed_of kind (Some verb) = shown.NotAllowed verb (is_head kind)
+not_allowed_of kind None = page_for kind
 
 -- what is shown at a door for a request that asks for this
 abbrev pub shown_at : Door → AskedKind → List ℕ → List ℕ → Shown
-shown_at door Get method target = shown.Page
-shown_at door Head method target = shown.PageOfHead
-shown_at door Post method target = shown.Page
+shown_at door Get method target = not_allowed_of Get (verb_at door method target)
+shown_at door Head method target = not_allowed_of Head (verb_at door method target)
+shown_at door Post method target = not_allowed_of Post (verb_at door method target)
 shown_at door Options method target =
     if bytes_eq target (codes "*") then shown.Options None else options_of (verb_at door method target)
-shown_at door Other method target = not_allowed_of (verb_at door method target)
+shown_at door Other method target = not_allowed_of Other (verb_at door method target)
 
--- the same for the message that is meant
+-- the same for the message that is meant; a head that is refused at the door, as one with another host, gets its refusal
 abbrev pub shown_for : Door → AskedKind → sent.Message → Shown
 shown_for door kind sent.NoHead = shown.Page
-shown_for door kind (sent.Asks h body) = shown_at door kind h.method h.target
+shown_for door kind (sent.Asks h body) =
+    if is_some (refusal_at door (parts_of h)) then page_for kind else shown_at door kind h.method h.target
 
--- the bytes of what is shown, where the profile has this page
-abbrev pub shown_text : Shown → Bool → List ℕ → List ℕ
-shown_text shown.Page closing page = wide_text false [] page
-shown_text shown.PageOfHead closing page = wide_text true [] page
-shown_text (shown.Options verb) closing page = options_text verb closing []
-shown_text (shown.NotAllowed verb) closing page = not_allowed_text verb closing []
+-- the bytes of what is shown, with this date line, where the profile has this page
+abbrev pub shown_text : Shown → Bool → (date page : List ℕ) → List ℕ
+shown_text shown.Page closing date page = wide_text false date page
+shown_text shown.PageOfHead closing date page = wide_text true date page
+shown_text (shown.Options verb) closing date page = options_text verb closing date
+shown_text (shown.NotAllowed verb is_head) closing date page = not_allowed_text verb is_head closing date
 
 -- Pages.
 
--- the page of what is said at a door, where the profile has this page
-abbrev pub laid_out : Layout → Door → sent.Message → Bool → List ℕ → List ℕ
-laid_out layout.Profile door m closing page = page
-laid_out (layout.Wide kind) door m closing page = shown_text (shown_for door kind m) closing page
-laid_out (layout.Denied why) door m closing page = denial_text why []
-laid_out layout.Nothing door m closing page = []
+-- the page of what is said at a door, with this date line, where the profile has this page
+abbrev pub laid_out : Layout → Door → sent.Message → Bool → (date page : List ℕ) → List ℕ
+laid_out layout.Profile door m closing date page = page
+laid_out (layout.Wide kind) door m closing date page = shown_text (shown_for door kind m) closing date page
+laid_out (layout.Denied why) door m closing date page = denial_text why date
+laid_out layout.Nothing door m closing date page = []
 
--- these bytes are a page of the profile, laid out
-abbrev pub LaysOut : Door → Said → Bool → List ℕ → List ℕ → Type 0
-LaysOut door x closing page bytes = bytes ≡ laid_out x.layout door x.meant closing page
+-- these bytes are a page of the profile, laid out, where the clock shows this second
+pub record LaysOut (door : Door) (second : Option ℕ) (x : Said) (closing : Bool) (page bytes : List ℕ) : Type 0 where
+  pub date : List ℕ
+  pub is_date : IsDateLine second date
+  pub laid : bytes ≡ laid_out x.layout door x.meant closing date page
 
--- these are the bytes of the page of what was said at a door: those of the profile's page, laid out
-pub record IsPageBy (door : Door) (s : State) (x : Said) (bytes : List ℕ) : Type 0 where
+-- these are the bytes of the page of what was said at a door, where the clock shows this second: those of the profile's
+-- page, laid out
+pub record IsPageAt (door : Door) (second : Option ℕ) (s : State) (x : Said) (bytes : List ℕ) : Type 0 where
   pub page : List ℕ
   pub is_page : IsPage door s x.meant page
-  pub laid : LaysOut door x (closes door x.meant) page bytes
+  pub laid : LaysOut door second x (closes door x.meant) page bytes
+
+-- the same, whatever the clock showed
+abbrev pub IsPageBy : Door → State → Said → List ℕ → Type 0
+IsPageBy door s x bytes = (second : Option ℕ) × IsPageAt door second s x bytes
 
 module _ (stands : State → Type 0) (leaves : State → State → Type 0) (s : State) where
-  -- these are the bytes of the page of what was said at a door
-  abbrev pub AnswersBy : Door → Said → Result Answer ServeFault → Type 0
-  AnswersBy door x result =
+  -- these are the bytes of the page of what was said at a door, where the clock shows this second
+  abbrev pub AnswersAt : Door → Option ℕ → Said → Result Answer ServeFault → Type 0
+  AnswersAt door second x result =
       Comes stands leaves s (state_after door s x.meant)
-      (λ answer. IsPageBy door s x answer.bytes.items × (answer.closes ≡ closes door x.meant)) result
+      (λ answer. IsPageAt door second s x answer.bytes.items × (answer.closes ≡ closes door x.meant)) result

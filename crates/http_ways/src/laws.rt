@@ -1,9 +1,14 @@
-//! The law of what is said by the wide way. A call does nothing at run time.
+//! The laws of what is said by a way: which message is the first, and how long the text of an ask is. A call does nothing at
+//! run time.
 ghost use Rattle.std.specs.Prelude.{◌≡◌, ◌++◌, ◌∷◌, [], ℕ, List};
 ghost use Rattle.http_messages.specs.Examples.{get_bytes};
 ghost use Rattle.http_wide.specs.Examples.{post_bytes, post_page, text_of_get};
 ghost use Rattle.http_wide.specs.Wide.{Asks, Wide, WideMessages};
-ghost use Rattle.http_ways.specs.Laws.{SaidIsFirst};
+ghost use Rattle.desk_http.specs.Laws.{HasShortAsk};
+ghost use Rattle.desk_http.specs.declared.doors.Door.TheVariants.{Port};
+ghost use Rattle.http_ways.specs.Laws.{AsksAreShort, SaidIsFirst};
+ghost use Rattle.http_ways.specs.Ways.{Said, Says};
+ghost use Rattle.http_ways.specs.declared.ways.Way.TheVariants as way;
 
 use http_wide::request_in_a_body;
 
@@ -13,7 +18,12 @@ pub fn said_is_first()
     ensures law { SaidIsFirst }
 {}
 
-/// The law used on a POST whose one chunk is a whole request: it is the first message, and the next one is looked for after
+/// The text of an ask that a message makes by either way has at most 270,336 bytes: as many as a head and a body may have.
+pub fn asks_are_short()
+    ensures law { AsksAreShort }
+{}
+
+/// The law of first messages, used on a POST whose one chunk is a whole request: it is the first message, and the next one is looked for after
 /// it.
 ///
 /// The proof applies the law to this request. A law with one more premise, which it does not meet, is refused here.
@@ -25,4 +35,13 @@ pub fn post_is_first()
 {
     request_in_a_body();
     said_is_first();
+}
+
+/// The law of the text of an ask, used on the same POST, read by the wide way at the port.
+///
+/// The proof applies the law to these bytes. A law with one more premise, which they do not meet, is refused here.
+pub fn post_has_a_short_ask()
+    ensures short { (x : Said) → Says way.Wide (post_bytes ++ text_of_get) x → HasShortAsk Port x.meant }
+{
+    asks_are_short();
 }

@@ -10,14 +10,12 @@
 #![tactic(auto)]
 
 mod answering;
-mod going_on;
 mod laws;
 mod reading;
 mod showing;
 mod ways;
 
 pub use answering::answer_by;
-pub use going_on::{go_on_by, go_on_text};
-pub use laws::{post_is_first, said_is_first};
+pub use laws::{asks_are_short, post_has_a_short_ask, post_is_first, said_is_first};
 pub use reading::{MOST_TEXT, first_by};
-pub use ways::{Arrived, Layout, Way};
+pub use ways::{Arrived, Layout, Way, go_on_by, go_on_text};

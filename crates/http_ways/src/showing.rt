@@ -1,13 +1,16 @@
 //! What is shown for a message that is read by the wide way.
-ghost use Rattle.std.specs.Prelude.{◌≡◌, Some, bytes_eq, if◌then◌else◌};
+ghost use Rattle.std.specs.Prelude.{◌≡◌, IfOk, bytes_eq, if◌then◌else◌, is_some};
 ghost use Rattle.http_messages.specs.Messages as sent;
 ghost use Rattle.http_messages.specs.Requests.{IsTaken};
-ghost use Rattle.http_ways.specs.Pages.{other_verb, shown_at, shown_for, verb_at, verb_of_path};
+ghost use Rattle.http_ways.specs.Pages.{is_head, not_allowed_of, other_verb, page_for, shown_at, shown_for};
+ghost use Rattle.http_ways.specs.Pages.{unless_asked, verb_at, verb_of_path};
 
+use commands::Refusal;
 use desk_http::Door;
 use http_messages::{Message, Request};
 use http_pages::{Paths, Route, Unrouted, Verb};
 use http_wide::AskedKind;
+use std::alloc::{AllocError, Global};
 
 /// What is shown for a message.
 #[derive(Clone, Copy, Debug, PartialEq, Eq)]
@@ -18,17 +21,45 @@ pub enum Shown {
     PageOfHead,
     /// What a path with this method allows, or the desk.
     Options(Option<Verb>),
-    /// That the path has another method, this one.
-    NotAllowed(Verb),
+    /// That the path has another method, this one; for HEAD without a body.
+    NotAllowed(Verb, bool),
 }
 
-/// What is shown at a door for a message that asks for this.
-pub(crate) fn shown_for(paths: &Paths, door: Door, kind: AskedKind, message: &Message) -> Shown
-    ensures shown { (m : sent.Message) → IsTaken message.now m → result ≡ shown_for door kind m }
+/// What is shown at a door for a message that asks for this. The only fault is out of memory.
+pub(crate) fn shown_for(
+    alloc: Global,
+    paths: &Paths,
+    door: Door,
+    kind: AskedKind,
+    message: &Message,
+) -> Result<Shown, AllocError>
+    ensures shown { IfOk result (λ shown. (m : sent.Message) → IsTaken message.now m →
+        shown ≡ shown_for door kind m) }
 {
     match message {
-        Message::NoHead => Shown::Page,
-        Message::Asks(request) => shown_of(paths, door, kind, request),
+        Message::NoHead => Ok(Shown::Page),
+        Message::Asks(request) => {
+            let refusal = door.refusal_of(alloc, request)?;
+            Ok(shown_unless(paths, door, kind, refusal, request))
+        }
+    }
+}
+
+/// What is shown at a door for a request that asks for this, whose head is refused there, or is not.
+fn shown_unless(
+    paths: &Paths,
+    door: Door,
+    kind: AskedKind,
+    refusal: Option<Refusal>,
+    request: &Request,
+) -> Shown
+    ensures shown { result ≡ (if is_some refusal then page_for kind
+        else shown_at door kind request.now.method.items request.now.target.items) }
+{
+    if refusal.is_some() {
+        page_for(kind)
+    } else {
+        shown_of(paths, door, kind, request)
     }
 }
 
@@ -37,17 +68,44 @@ fn shown_of(paths: &Paths, door: Door, kind: AskedKind, request: &Request) -> Sh
     ensures shown { result ≡ shown_at door kind request.now.method.items request.now.target.items }
 {
     match kind {
-        AskedKind::Get | AskedKind::Post => Shown::Page,
-        AskedKind::Head => Shown::PageOfHead,
         AskedKind::Options if request.target.as_slice() == b"*".as_slice() => Shown::Options(None),
         AskedKind::Options => match verb_at(paths, door, request) {
             Some(verb) => Shown::Options(Some(verb)),
             None => Shown::Page,
         },
-        AskedKind::Other => match verb_at(paths, door, request) {
-            Some(verb) => Shown::NotAllowed(verb),
-            None => Shown::Page,
-        },
+        AskedKind::Get | AskedKind::Head | AskedKind::Post | AskedKind::Other => {
+            not_allowed_of(kind, verb_at(paths, door, request))
+        }
+    }
+}
+
+/// What is shown for a request that asks for this, whose path has another method, this one, or has none.
+fn not_allowed_of(kind: AskedKind, verb: Option<Verb>) -> Shown
+    ensures shown { result ≡ not_allowed_of kind verb }
+{
+    match verb {
+        Some(verb) => Shown::NotAllowed(verb, is_head(kind)),
+        None => page_for(kind),
+    }
+}
+
+/// The page of the profile; for HEAD without its body.
+fn page_for(kind: AskedKind) -> Shown
+    ensures page { result ≡ page_for kind }
+{
+    match kind {
+        AskedKind::Head => Shown::PageOfHead,
+        AskedKind::Get | AskedKind::Post | AskedKind::Options | AskedKind::Other => Shown::Page,
+    }
+}
+
+/// Whether it is HEAD.
+fn is_head(kind: AskedKind) -> bool
+    ensures head { result ≡ is_head kind }
+{
+    match kind {
+        AskedKind::Head => true,
+        AskedKind::Get | AskedKind::Post | AskedKind::Options | AskedKind::Other => false,
     }
 }
 
@@ -62,15 +120,27 @@ fn verb_at(paths: &Paths, door: Door, request: &Request) -> Option<Verb>
     }
 }
 
-/// This method, where the target of a request is this one; or else that of its path.
+/// This method, where the target of a request is this one; or else that of its path. None where the request has it.
 fn verb_or(paths: &Paths, request: &Request, own: &[u8], verb: Verb) -> Option<Verb>
-    ensures verb { result ≡ (if bytes_eq request.now.target.items own.now then Some verb
+    ensures verb { result ≡ (if bytes_eq request.now.target.items own.now
+        then unless_asked verb request.now.method.items
         else verb_of_path request.now.method.items request.now.target.items) }
 {
     if request.target.as_slice() == own {
-        Some(verb)
+        unless_asked(verb, &request.method)
     } else {
         verb_of_path(paths, request)
+    }
+}
+
+/// This method, where another was asked for.
+fn unless_asked(verb: Verb, method: &[u8]) -> Option<Verb>
+    ensures verb { result ≡ unless_asked verb method.now }
+{
+    if method == verb.text().as_bytes() {
+        None
+    } else {
+        Some(verb)
     }
 }
 

@@ -16,7 +16,7 @@ use Rattle.allotment.specs.Making.{unless}
 use Rattle.allotment.specs.Texts.{keep_if}
 use Rattle.commands.specs.Limits.{most_bytes}
 use Rattle.commands.specs.Names.{is_agent, is_key}
-use Rattle.commands.specs.declared.refusals.Refusal.TheVariants as refusal
+use Rattle.commands.specs.declared.replies.Refusal.TheVariants as refusal
 use Rattle.http_messages.specs.Heads.{Named, Parts, are_lengths, asks_to_close, complaint_of, first_of, host_of, is_alike, is_length, is_method, is_plain, length_in, lengths, tells_length, the_one, the_text, values_named}
 use Rattle.http_messages.specs.Requests.{IsRequest}
 use Rattle.http_messages.specs.declared.requests.Request.{Request}

@@ -41,14 +41,14 @@ unfolding digits
 status_405 = refl
 
 -- the page that answers another method
-pub not_allowed_lines : (date body allow close : List ℕ)
+pub not_allowed_lines : (date body shown allow close : List ℕ)
     → codes "HTTP/1.1 405 Method Not Allowed\r\n" ++ (cache_lines ++ (date ++ (codes "Content-Length: " ++ (decimal (length body)
-    ++ (codes "\r\nContent-Type: application/json\r\n" ++ (allow ++ (close ++ (codes "\r\n" ++ body))))))))
-    ≡ status 405 (codes "Method Not Allowed") ++ cache_lines ++ date ++ json_lines body ++ allow ++ close ++ line [] ++ body
-not_allowed_lines date body allow close =
+    ++ (codes "\r\nContent-Type: application/json\r\n" ++ (allow ++ (close ++ (codes "\r\n" ++ shown))))))))
+    ≡ status 405 (codes "Method Not Allowed") ++ cache_lines ++ date ++ json_lines body ++ allow ++ close ++ line [] ++ shown
+not_allowed_lines date body shown allow close =
     page_pieces (codes "HTTP/1.1 405 Method Not Allowed\r\n") cache_lines date (codes "Content-Length: ")
-    (decimal (length body)) (codes "Content-Type: application/json") allow close body (13 ∷ 10 ∷ [])
-    ∙ ap (λ z. z ++ cache_lines ++ date ++ json_lines body ++ allow ++ close ++ line [] ++ body) (sym status_405)
+    (decimal (length body)) (codes "Content-Type: application/json") allow close shown (13 ∷ 10 ∷ [])
+    ∙ ap (λ z. z ++ cache_lines ++ date ++ json_lines body ++ allow ++ close ++ line [] ++ shown) (sym status_405)
 
 status_204 : status 204 (codes "No Content") ≡ codes "HTTP/1.1 204 No Content\r\n"
 unfolding digits

@@ -2,7 +2,7 @@
 use Rattle.std.specs.Prelude.{◌≡◌, codes, true, false, [], ◌++◌, Some, refl}
 use Rattle.std.specs.Fmt.{digits}
 use Rattle.serde_json.proofs.OnLiterals.{serde_json_on_literals}
-use Rattle.http_pages.specs.declared.verbs.Verb.TheVariants.{Get}
+use Rattle.http_pages.specs.declared.routes.Verb.TheVariants.{Get}
 use Rattle.http_wide.specs.declared.denials.Denial.TheVariants.{LongHead}
 use Rattle.http_wide_pages.specs.Pages.{denial_text, options_text, wide_text}
 

@@ -1,14 +1,16 @@
 -- Pages as they are sent to libraries, proxies and pools (RFC 9110; RFC 9111).
-use Rattle.std.specs.Prelude.{ℕ, ◌+◌, ◌==◌, Bool, true, List, [], ◌++◌, length, take, drop, codes, decimal, if◌then◌else◌, Option, Some, None, unwrap_or}
+use Rattle.std.specs.Prelude.{◌≡◌, ℕ, ◌+◌, ◌≤◌, ◌⊎◌, ◌==◌, Bool, true, List, [], ◌++◌, length, take, drop, codes, decimal, if◌then◌else◌, Option, Some, None, unwrap_or}
 use Rattle.std.specs.List.{position}
+use Rattle.httpdate.specs.Date.{date_text, unix_secs}
+use Rattle.httpdate.specs.declared.date.HttpDate.{HttpDate}
 use Rattle.serde_json.specs.Written.{compact_text}
-use Rattle.commands.specs.declared.refusals.Refusal.{Refusal}
-use Rattle.commands.specs.declared.refusals.Refusal.TheVariants as refusal
+use Rattle.commands.specs.declared.replies.Refusal.{Refusal}
+use Rattle.commands.specs.declared.replies.Refusal.TheVariants as refusal
 use Rattle.http_messages.specs.Messages.{first_told}
 use Rattle.http_pages.specs.Bodies.{refusal_data}
 use Rattle.http_pages.specs.Pages.{close_line, line}
-use Rattle.http_pages.specs.declared.verbs.Verb.{Verb}
-use Rattle.http_pages.specs.declared.verbs.Verb.TheVariants.{Get, Post}
+use Rattle.http_pages.specs.declared.routes.Verb.{Verb}
+use Rattle.http_pages.specs.declared.routes.Verb.TheVariants.{Get, Post}
 use Rattle.http_wide.specs.Framing.{code_of}
 use Rattle.http_wide.specs.declared.denials.Denial.{Denial}
 use Rattle.http_wide.specs.declared.denials.Denial.TheVariants as denial
@@ -41,6 +43,17 @@ abbrev pub wide_text : Bool → List ℕ → List ℕ → List ℕ
 wide_text is_head date page =
     let shown = if is_head then head_of page else page in
     ((take (status_end shown) shown ++ cache_lines) ++ date) ++ drop (status_end shown) shown
+
+-- Dates (RFC 9110, sections 5.6.7 and 6.6.1).
+
+-- the field of a second since 1970: `Date: Sun, 06 Nov 1994 08:49:37 GMT`
+abbrev pub IsDateOf : ℕ → List ℕ → Type 0
+IsDateOf second text = (d : HttpDate) × (unix_secs d ≡ second) × (text ≡ line (codes "Date: " ++ date_text d))
+
+-- the date line of a second; none where the clock was not read, or from the year 10000 on
+abbrev pub IsDateLine : Option ℕ → List ℕ → Type 0
+IsDateLine None text = text ≡ []
+IsDateLine (Some second) text = IsDateOf second text ⊎ ((253_402_300_800 ≤ second) × (text ≡ []))
 
 -- Pages of the reader.
 
@@ -93,9 +106,13 @@ abbrev pub options_text : Option Verb → Bool → List ℕ → List ℕ
 options_text verb closes date =
     status 204 (codes "No Content") ++ cache_lines ++ date ++ allow_line verb ++ close_line closes ++ line []
 
--- the page that answers another method
-abbrev pub not_allowed_text : Verb → Bool → List ℕ → List ℕ
-not_allowed_text verb closes date =
+-- a body, which HEAD does not get
+abbrev pub body_unless : Bool → List ℕ → List ℕ
+body_unless is_head body = if is_head then [] else body
+
+-- the page that answers another method; for HEAD without its body
+abbrev pub not_allowed_text : Verb → (is_head closes : Bool) → List ℕ → List ℕ
+not_allowed_text verb is_head closes date =
     let body = text_of refusal.WrongMethod in
     status 405 (codes "Method Not Allowed") ++ cache_lines ++ date ++ json_lines body
-    ++ allow_line (Some verb) ++ close_line closes ++ line [] ++ body
+    ++ allow_line (Some verb) ++ close_line closes ++ line [] ++ body_unless is_head body

@@ -1,7 +1,7 @@
 //! Pages that say which methods are allowed.
 ghost use Rattle.std.specs.Prelude.{◌≡◌, IfOk};
 ghost use Rattle.std.specs.String.{string_bytes};
-ghost use Rattle.http_wide_pages.specs.Pages.{allow_line, not_allowed_text, options_text};
+ghost use Rattle.http_wide_pages.specs.Pages.{allow_line, body_unless, not_allowed_text, options_text};
 ghost use Rattle.http_pages.specs.Pages.{close_line};
 
 use crate::lines::cache_lines;
@@ -26,28 +26,36 @@ pub fn options_page(
     format!(in alloc; "HTTP/1.1 204 No Content\r\n{lines}{date}{allow}{close}\r\n")
 }
 
-/// The page that answers another method than those of a path. The only fault is out of memory.
+/// The page that answers another method than those of a path; for HEAD without its body. The only fault is out of memory.
 pub fn not_allowed_page(
     alloc: Global,
     verb: Verb,
+    is_head: bool,
     closes: bool,
     date: &str,
 ) -> Result<String, AllocError>
     ensures bytes { IfOk result
-        (λ page. string_bytes page ≡ not_allowed_text verb closes date.now) }
+        (λ page. string_bytes page ≡ not_allowed_text verb is_head closes date.now) }
 {
     let lines = cache_lines();
     let allow = allow_line(Some(verb));
     let close = close_line(closes);
     let body = refusal_body(alloc, &Refusal::WrongMethod)?;
     let length = body.as_str().len();
-    let text = body.as_str();
+    let text = body_unless(is_head, body.as_str());
     format!(in alloc;
         "HTTP/1.1 405 Method Not Allowed\r\n\
         {lines}{date}Content-Length: {length}\r\n\
         Content-Type: application/json\r\n\
         {allow}{close}\r\n{text}"
     )
+}
+
+/// A body, which HEAD does not get.
+fn body_unless(is_head: bool, body: &str) -> &str
+    ensures body { result.now ≡ body_unless is_head body.now }
+{
+    if is_head { "" } else { body }
 }
 
 /// The line that reports which methods are allowed.

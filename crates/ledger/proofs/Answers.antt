@@ -6,8 +6,8 @@ use Rattle.allotment.specs.declared.cells.Row.{Row}
 use Rattle.plan.specs.PlanModel.{Planned}
 use Rattle.commands.specs.Request.{Request, Load, Begin, Step, Abort, Stop, Save}
 use Rattle.commands.specs.declared.items.Item.{Item}
-use Rattle.commands.specs.declared.refusals.Refusal.{Refusal}
-use Rattle.commands.specs.declared.refusals.Refusal.TheVariants.{Finished, NoSavePoint, NoSave, BatchDiffers, Limit}
+use Rattle.commands.specs.declared.replies.Refusal.{Refusal}
+use Rattle.commands.specs.declared.replies.Refusal.TheVariants.{Finished, NoSavePoint, NoSave, BatchDiffers, Limit}
 use Rattle.ledger.specs.History as h
 use Rattle.ledger.specs.Ledger.{Event, Journey, journey_at, history, batches_named, is_not_below_held, may_do, is_batch, is_allowed}
 use Rattle.ledger.specs.Answer.{refused, are_same_rows, loaded, step_choices, abort_choices, stop_choices, save_choices, answer_new, answer_load, sees, seen_journey, moved, answer_move, answer_within, answer, most_events, is_request}

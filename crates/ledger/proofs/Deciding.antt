@@ -8,7 +8,7 @@ use Rattle.commands.specs.declared.items.Item.{Item}
 use Rattle.commands.specs.declared.items.Item.TheVariants.{Transaction, Compensation, Turn, Save}
 use Rattle.commands.specs.declared.items.Phase.{Phase}
 use Rattle.commands.specs.declared.items.Phase.TheVariants.{Run, Back, Ended, Undone}
-use Rattle.commands.specs.declared.refusals.Refusal.TheVariants.{NoSavePoint, Finished}
+use Rattle.commands.specs.declared.replies.Refusal.TheVariants.{NoSavePoint, Finished}
 use Rattle.ledger.specs.Answer.{refused, compensation, step_choices, moved, answer_move}
 use Rattle.ledger.specs.History.{net, position_of, refused_target, next_option, next_want, phase, is_running, is_going_back, is_open, is_finished, may_come, may_turn, last_of}
 use Rattle.ledger.specs.Laws.{HasOneStep, EachOpenJourneyHasOneStep, NoFinishedJourneyGoesOn}

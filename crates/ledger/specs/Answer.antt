@@ -4,7 +4,7 @@ use Rattle.plan.specs.PlanModel.{is_plan}
 use Rattle.commands.specs.Asks.{Asked}
 pub use Rattle.commands.specs.Limits.{most_events}
 use Rattle.commands.specs.Request.{Request, Load, Begin, Step, Abort, Stop, Save}
-use Rattle.commands.specs.declared.refusals.Refusal.TheVariants.{NoSavePoint, KeyReused, Limit, NoSave}
+use Rattle.commands.specs.declared.replies.Refusal.TheVariants.{NoSavePoint, KeyReused, Limit, NoSave}
 use Rattle.commands.specs.declared.replies.Reply.{Reply}
 use Rattle.commands.specs.declared.replies.Reply.TheVariants as reply
 use Rattle.ledger.specs.Ledger.{Event, batches_named, is_batch}

@@ -8,7 +8,7 @@ use Rattle.commands.specs.declared.items.Cause.TheVariants as cause
 use Rattle.commands.specs.declared.items.Item.TheVariants as item
 use Rattle.commands.specs.declared.items.Item.TheVariants.{Transaction, Turn}
 use Rattle.commands.specs.declared.items.Phase.TheVariants.{Run, Back, Ended, Undone}
-use Rattle.commands.specs.declared.refusals.Refusal.TheVariants.{NoJourney, Finished, NoSavePoint, BelowHeld, BatchDiffers, NoSave}
+use Rattle.commands.specs.declared.replies.Refusal.TheVariants.{NoJourney, Finished, NoSavePoint, BelowHeld, BatchDiffers, NoSave}
 use Rattle.commands.specs.declared.replies.Reply.TheVariants.{Loaded, Begun, Moved, Refused}
 use Rattle.ledger.specs.Answer.{State, start}
 use Rattle.ledger.specs.Examples.{nights_of, want, row_after, row, step, marked, untried, flight, six_flights, load, steps, done, undone, after_all, replies_to}

@@ -4,7 +4,7 @@ use Rattle.allotment.specs.declared.kinds.Kind.TheVariants.{Flight}
 use Rattle.commands.specs.Asks.{Asked}
 use Rattle.commands.specs.Request.{Request, Begin, Step}
 use Rattle.commands.specs.declared.items.Phase.TheVariants.{Ended}
-use Rattle.commands.specs.declared.refusals.Refusal.TheVariants.{NoJourney, KeyReused}
+use Rattle.commands.specs.declared.replies.Refusal.TheVariants.{NoJourney, KeyReused}
 use Rattle.commands.specs.declared.replies.Reply.TheVariants.{Loaded, Begun, Moved, Refused}
 use Rattle.ledger.specs.Answer.{State, Outcome, start, outcome}
 use Rattle.ledger.specs.Examples.{row, step, untried, flight, load, done, after_all}

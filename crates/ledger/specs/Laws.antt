@@ -6,7 +6,7 @@ use Rattle.allotment.specs.declared.cells.Cell.{Cell}
 use Rattle.plan.specs.PlanModel.{Planned, step_count, is_marked_at}
 use Rattle.commands.specs.declared.items.Item.{Item}
 use Rattle.commands.specs.declared.items.Phase.TheVariants.{Ended, Undone}
-use Rattle.commands.specs.declared.refusals.Refusal.TheVariants.{NoSavePoint}
+use Rattle.commands.specs.declared.replies.Refusal.TheVariants.{NoSavePoint}
 use Rattle.ledger.specs.Answer.{step_choices, answer_move, start}
 use Rattle.ledger.specs.History.{is_save, net, phase, is_open, is_finished}
 use Rattle.ledger.specs.Ledger.{Event, Did, Journey, journey_at, history, allotment, held, is_item_allowed, is_in, IsLegal}

@@ -8,8 +8,8 @@ use Rattle.commands.specs.Names.{house}
 use Rattle.commands.specs.declared.items.Cause.TheVariants as cause
 use Rattle.commands.specs.declared.items.Item.{Item}
 use Rattle.commands.specs.declared.items.Item.TheVariants as item
-use Rattle.commands.specs.declared.refusals.Refusal.{Refusal}
-use Rattle.commands.specs.declared.refusals.Refusal.TheVariants.{NoJourney, Finished, BelowHeld, BatchDiffers}
+use Rattle.commands.specs.declared.replies.Refusal.{Refusal}
+use Rattle.commands.specs.declared.replies.Refusal.TheVariants.{NoJourney, Finished, BelowHeld, BatchDiffers}
 use Rattle.commands.specs.declared.replies.Reply.{Reply}
 use Rattle.commands.specs.declared.replies.Reply.TheVariants as reply
 use Rattle.ledger.specs.History as h

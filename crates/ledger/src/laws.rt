@@ -56,7 +56,8 @@ pub fn worlds()
 /// Here as in the next three, the proof hands the laws an example and what they ask of it. So a premise more in a law,
 /// which the example does not meet, is refused here.
 pub fn words_of_journeys_that_turn_back()
-    ensures places { held one_aborted.ledger seat ≤ unwrap_or (allotment one_aborted.ledger seat) 0 }
+    ensures places { held one_aborted.ledger seat
+        ≤ unwrap_or (allotment one_aborted.ledger seat) 0 }
     ensures words { GoesToEnd saved_after_1_and_3 (history stopped_twice.ledger 1) }
     ensures holds { map (λ t. t.0) (net (history stopped_twice.ledger 1)) ≡ numbers_from 1 6 }
     ensures plain { (top : ℕ) × (top < step_count flight_and_transfer)

@@ -12,7 +12,7 @@ use Rattle.commands.specs.declared.items.Item.{Item}
 use Rattle.commands.specs.declared.items.Item.TheVariants.{Transaction, Compensation, Turn, Save}
 use Rattle.commands.specs.declared.items.Phase.{Phase}
 use Rattle.commands.specs.declared.items.Phase.TheVariants.{Run, Back, Ended, Undone}
-use Rattle.commands.specs.declared.refusals.Refusal.TheVariants.{NoSavePoint, NoSave}
+use Rattle.commands.specs.declared.replies.Refusal.TheVariants.{NoSavePoint, NoSave}
 use Rattle.ledger.specs.History.{net, position_of, is_taken, is_save_point, last_save, refused_target, next_option, next_want, phase, is_running, is_going_back, is_finished, may_turn, last_of}
 use Rattle.ledger.specs.Ledger.{Event, Journey, journey_at, history, fits, IsLegal}
 use Rattle.ledger.specs.Replies.{refused, compensation, step_choices, abort_choices, stop_choices, save_choices, answer_move}

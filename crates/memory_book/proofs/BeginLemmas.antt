@@ -8,7 +8,7 @@ use Rattle.commands.specs.Asks.{Asked}
 use Rattle.commands.specs.Names.{house}
 use Rattle.commands.specs.Request as request
 use Rattle.commands.specs.declared.items.Item.{Item}
-use Rattle.commands.specs.declared.refusals.Refusal.TheVariants.{Limit}
+use Rattle.commands.specs.declared.replies.Refusal.TheVariants.{Limit}
 use Rattle.commands.specs.declared.replies.Reply.{Reply}
 use Rattle.commands.specs.declared.replies.Reply.TheVariants as reply
 use Rattle.ledger.specs.Answer.{State, Answer, answer, asker, kept_after, most_events, state_with}

@@ -11,7 +11,7 @@ use Rattle.commands.specs.Asks.{Asked}
 use Rattle.commands.specs.BatchData.{Batched}
 use Rattle.commands.specs.declared.replies.Reply.{Reply}
 use Rattle.commands.specs.Request as request
-use Rattle.commands.specs.declared.refusals.Refusal.TheVariants.{BelowHeld, BatchDiffers, Limit}
+use Rattle.commands.specs.declared.replies.Refusal.TheVariants.{BelowHeld, BatchDiffers, Limit}
 use Rattle.commands.specs.declared.replies.Reply.TheVariants as reply
 use Rattle.ledger.specs.Answer.{State, answer, asker, kept_after, limited, most_events, state_with}
 use Rattle.ledger.specs.Replies.{Answer, answer_known, answer_load, answer_new, are_same_rows, loaded, refused}

@@ -23,7 +23,7 @@ use Rattle.ledger.specs.Ledger.{Event}
 use Rattle.ledger.specs.Replies.{are_same_rows}
 use Rattle.saga_core.specs.Views.{Places, places_said, places_of, places_at, places_shown, at_night, night_said, cell_cmp, are_in_order, IsStock}
 use Rattle.memory_book.specs.MemoryStock.{cell_key_cmp, stock_at, set_to, last_row}
-use Rattle.commands.specs.declared.cell_keys.CellKey.{CellKey}
+use Rattle.commands.specs.declared.batches.CellKey.{CellKey}
 use Rattle.memory_book.specs.declared.stock.Stock.{Stock}
 use Rattle.memory_book.proofs.CellLemmas.{key_of, is_eq-cells}
 

@@ -17,8 +17,8 @@ use Rattle.commands.specs.declared.items.Item.{Item}
 use Rattle.commands.specs.declared.items.Item.TheVariants as item
 use Rattle.commands.specs.declared.items.Phase.{Phase}
 use Rattle.commands.specs.declared.items.Phase.TheVariants.{Run, Back, Ended, Undone}
-use Rattle.commands.specs.declared.refusals.Refusal.{Refusal}
-use Rattle.commands.specs.declared.refusals.Refusal.TheVariants.{Finished, NoSavePoint, NoSave}
+use Rattle.commands.specs.declared.replies.Refusal.{Refusal}
+use Rattle.commands.specs.declared.replies.Refusal.TheVariants.{Finished, NoSavePoint, NoSave}
 use Rattle.ledger.specs.Answer.{State}
 use Rattle.ledger.specs.Replies.{Answer, refused, answer_move, seen_journey, step_choices, abort_choices, stop_choices, save_choices}
 use Rattle.ledger.specs.Ledger as l

@@ -7,7 +7,7 @@ use Rattle.commands.specs.BatchData.{Batched}
 use Rattle.commands.specs.declared.items.Item.{Item}
 use Rattle.commands.specs.Asks.{Asked}
 use Rattle.commands.specs.Request.{Request}
-use Rattle.commands.specs.declared.refusals.Refusal.{Refusal}
+use Rattle.commands.specs.declared.replies.Refusal.{Refusal}
 use Rattle.commands.specs.declared.replies.Reply.{Reply}
 use Rattle.ledger.specs.Answer.{State, answer, asker, carried_out, limited}
 use Rattle.ledger.specs.Replies.{Answer, answer_new, refused, sees, seen_journey}

@@ -9,8 +9,8 @@ use Rattle.commands.specs.declared.items.Cause.TheVariants as cause
 use Rattle.commands.specs.declared.items.Cursor.{Cursor}
 use Rattle.commands.specs.declared.items.Item.{Item}
 use Rattle.commands.specs.declared.items.Item.TheVariants as item
-use Rattle.commands.specs.declared.refusals.Refusal.{Refusal}
-use Rattle.commands.specs.declared.refusals.Refusal.TheVariants.{Finished}
+use Rattle.commands.specs.declared.replies.Refusal.{Refusal}
+use Rattle.commands.specs.declared.replies.Refusal.TheVariants.{Finished}
 use Rattle.ledger.specs.History.{is_going_back, is_finished}
 pub use Rattle.saga_core.specs.Rulings.{turn_said, save_said}
 

@@ -8,7 +8,7 @@ use Rattle.allotment.specs.Making.{unless, first_fault, want_made}
 use Rattle.allotment.specs.Nights.{night_in}
 use Rattle.allotment.specs.Texts.{kind_of_word}
 use Rattle.allotment.specs.declared.kinds.Kind.{Kind}
-use Rattle.allotment.specs.declared.faults.Bad.{Bad}
+use Rattle.allotment.specs.declared.wants.Bad.{Bad}
 use Rattle.plan.specs.declared.causes.PlanCause.TheVariants as cause
 use Rattle.plan.specs.declared.faults.BadPlan.{BadPlan}
 use Rattle.plan.specs.Drafts.{OptionDraft, at, number_or_none, want_of}

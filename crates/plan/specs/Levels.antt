@@ -5,8 +5,8 @@ use Rattle.allotment.specs.Want.{Wanted}
 use Rattle.allotment.specs.Limits.{is_between}
 use Rattle.allotment.specs.Making.{unless, first_fault}
 use Rattle.allotment.specs.Texts.{parts, bar, semicolon}
-use Rattle.allotment.specs.declared.faults.Bad.{Bad}
-use Rattle.allotment.specs.declared.faults.Bad.TheVariants as bad
+use Rattle.allotment.specs.declared.wants.Bad.{Bad}
+use Rattle.allotment.specs.declared.wants.Bad.TheVariants as bad
 use Rattle.plan.specs.Limits.{most_options}
 use Rattle.plan.specs.PlanModel.{Planned, StepPlan, step_said, plan_said}
 use Rattle.plan.specs.declared.steps.PlanStep.{PlanStep}

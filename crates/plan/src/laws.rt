@@ -21,7 +21,8 @@ pub fn json_is_read_back()
 /// The proof applies the laws to that plan. A law with one more premise, which the plan does not meet, is refused here.
 pub fn texts_of_a_plan()
     ensures line { ReadsAs flight_and_room_text (Ok flight_and_room) }
-    ensures alone { (text : List ℕ) → ReadsAs text (Ok flight_and_room) → text ≡ flight_and_room_text }
+    ensures alone { (text : List ℕ) → ReadsAs text (Ok flight_and_room)
+        → text ≡ flight_and_room_text }
     ensures json { JsonReadsAs (plan_data flight_and_room) (Ok flight_and_room) }
 {
     one_spelling();

@@ -2,9 +2,9 @@
 use Rattle.std.specs.Prelude.{◌==◌, if◌then◌else◌, ℕ, List, codes, Option, None, Some}
 use Rattle.std.specs.Io.KnownBytes.{Keeps}
 use Rattle.streams.specs.Written.{WroteFront}
-use Rattle.commands.specs.declared.refusals.CsvCause.{CsvCause}
-use Rattle.commands.specs.declared.refusals.CsvCause.TheVariants as csv
-use Rattle.commands.specs.declared.refusals.Refusal.TheVariants as refusal
+use Rattle.commands.specs.declared.replies.CsvCause.{CsvCause}
+use Rattle.commands.specs.declared.replies.CsvCause.TheVariants as csv
+use Rattle.commands.specs.declared.replies.Refusal.TheVariants as refusal
 use Rattle.program_ends.specs.Ends.{TellsError}
 use Rattle.program_ends.specs.declared.ends.End.{End}
 use Rattle.program_ends.specs.declared.ends.End.TheVariants as finish

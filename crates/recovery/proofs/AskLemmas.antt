@@ -3,11 +3,11 @@ use Rattle.std.proofs.Common.{◌≡◌, ℕ, ◌+◌, ◌<◌, ◌≤◌, List,
 use Rattle.std.proofs.lemmas.Bool.{leb-true, leb-false}
 use Rattle.std.specs.Prelude.{Bool, true, false, nat_le, Option, Some, None, is_some, option_map, Result, Err, IsTrue, if◌then◌else◌, ◌&&◌}
 use Rattle.commands.specs.Request.{Request, Stop, Step}
-use Rattle.commands.specs.declared.faults.Fault.{Fault}
-use Rattle.commands.specs.declared.faults.Fault.TheVariants.{Memory, Store}
+use Rattle.commands.specs.declared.replies.Fault.{Fault}
+use Rattle.commands.specs.declared.replies.Fault.TheVariants.{Memory, Store}
 use Rattle.commands.specs.declared.items.Item.{Item}
 use Rattle.commands.specs.declared.items.Phase.{Phase}
-use Rattle.commands.specs.declared.refusals.Refusal.TheVariants.{Limit}
+use Rattle.commands.specs.declared.replies.Refusal.TheVariants.{Limit}
 use Rattle.commands.specs.declared.replies.Reply.{Reply}
 use Rattle.ledger.specs.Answer.{State, Outcome, Answer, outcome, carried_out, refused, moved, answer_within, most_events}
 use Rattle.ledger.specs.History.{phase}

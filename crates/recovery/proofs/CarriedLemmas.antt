@@ -4,7 +4,7 @@ use Rattle.std.proofs.lemmas.Bool.{false_from_ne_true, not_from_false, ltb-true,
 use Rattle.std.specs.Prelude.{Bool, true, false, not, nat_lt, Option, Some, None, IsTrue}
 use Rattle.std.specs.List.{list_any}
 use Rattle.allotment.specs.Cells.{numbers_from}
-use Rattle.commands.specs.declared.faults.Fault.{Fault}
+use Rattle.commands.specs.declared.replies.Fault.{Fault}
 use Rattle.ledger.specs.Answer.{State, most_events}
 use Rattle.ledger.specs.History.{is_open}
 use Rattle.ledger.specs.Ledger.{Event, journeys, is_in}

@@ -1,6 +1,6 @@
 -- One pass after another, until all are complete, the ledger is full, or a fault comes. For `recover_all`.
 use Rattle.std.proofs.Common.{◌≡◌, ℕ, ◌+◌, ◌≤◌, List, ◌++◌, ap, append_assoc, sym, ◌∙◌, subst, refl}
-use Rattle.commands.specs.declared.faults.Fault.{Fault}
+use Rattle.commands.specs.declared.replies.Fault.{Fault}
 use Rattle.ledger.specs.Recovery.{IsRecovered}
 use Rattle.ledger.specs.Answer.{State}
 use Rattle.ledger.specs.Ledger.{Event, IsLegal}

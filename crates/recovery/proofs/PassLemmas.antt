@@ -2,8 +2,8 @@
 use Rattle.std.proofs.Common.{◌≡◌, ℕ, ◌+◌, ◌-◌, ◌^◌, ◌<◌, ◌≤◌, List, [], ◌∷◌, suc, ◌++◌, length, ap, ◌∙◌, arith, append_assoc, append-nil, length-append, sym, subst}
 use Rattle.std.specs.Prelude.{Option, Some, None, Err}
 use Rattle.std.specs.List.{cons_option}
-use Rattle.commands.specs.declared.faults.Fault.{Fault}
-use Rattle.commands.specs.declared.faults.Fault.TheVariants.{Memory, Store}
+use Rattle.commands.specs.declared.replies.Fault.{Fault}
+use Rattle.commands.specs.declared.replies.Fault.TheVariants.{Memory, Store}
 use Rattle.ledger.specs.Answer.{State}
 use Rattle.ledger.specs.Ledger.{Event, Journey, journeys, begun_by}
 use Rattle.saga_core.specs.Books.{Keeps, LeavesNoMore}

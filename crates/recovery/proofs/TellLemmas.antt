@@ -8,7 +8,7 @@ use Rattle.commands.specs.declared.items.Item.{Item}
 use Rattle.commands.specs.declared.items.Item.TheVariants.{Turn}
 use Rattle.commands.specs.declared.items.Phase.{Phase}
 use Rattle.commands.specs.declared.items.Phase.TheVariants.{Run, Back, Ended, Undone}
-use Rattle.commands.specs.declared.refusals.Refusal.TheVariants.{Finished, NoSavePoint}
+use Rattle.commands.specs.declared.replies.Refusal.TheVariants.{Finished, NoSavePoint}
 use Rattle.ledger.specs.Answer.{answer_within, refused, moved, step_choices, stop_choices, answer_choices, answer_move}
 use Rattle.ledger.specs.History.{phase, is_running, is_finished, is_open, last_save}
 use Rattle.ledger.specs.Ledger.{Event, Did, Journey, journey_at, history, is_in, may_do, IsLegal}

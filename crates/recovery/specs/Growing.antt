@@ -1,7 +1,7 @@
 -- How recovery extends a ledger: events are appended, and the kept replies stay the same.
 use Rattle.std.specs.Prelude.{◌≡◌, ℕ, ◌-◌, ◌+◌, ◌≤◌, List, ◌++◌, length}
-use Rattle.commands.specs.declared.faults.Fault.{Fault}
-use Rattle.commands.specs.declared.faults.Fault.TheVariants.{Memory, Store}
+use Rattle.commands.specs.declared.replies.Fault.{Fault}
+use Rattle.commands.specs.declared.replies.Fault.TheVariants.{Memory, Store}
 use Rattle.ledger.specs.Answer.{State, most_events}
 use Rattle.ledger.specs.Ledger.{Event}
 

@@ -1,7 +1,7 @@
 -- What each pass of recovery does to a book.
 use Rattle.std.specs.Prelude.{◌≡◌, ℕ, ◌==◌, Bool, false, List, ◌++◌, IsTrue}
 use Rattle.std.specs.List.{list_all}
-use Rattle.commands.specs.declared.faults.Fault.{Fault}
+use Rattle.commands.specs.declared.replies.Fault.{Fault}
 use Rattle.commands.specs.declared.items.Item.{Item}
 use Rattle.commands.specs.declared.items.Phase.{Phase}
 use Rattle.ledger.specs.Answer.{State}

@@ -1,6 +1,6 @@
 -- What recovery does to a book.
 use Rattle.std.specs.Prelude.{◌≡◌, ℕ, ◌≤◌, List, ◌++◌, length, take, IsTrue}
-use Rattle.commands.specs.declared.faults.Fault.{Fault}
+use Rattle.commands.specs.declared.replies.Fault.{Fault}
 use Rattle.ledger.specs.Answer.{State, most_events}
 use Rattle.ledger.specs.History.{is_open}
 use Rattle.ledger.specs.Ledger.{Event}

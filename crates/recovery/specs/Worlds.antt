@@ -3,7 +3,7 @@
 use Rattle.std.specs.Prelude.{◌≡◌, ℕ, ◌≤◌, List, ◌++◌, map, length, Option, None}
 use Rattle.commands.specs.Asks.{Asked}
 use Rattle.commands.specs.Request.{Request, Step, Stop}
-use Rattle.commands.specs.declared.faults.Fault.{Fault}
+use Rattle.commands.specs.declared.replies.Fault.{Fault}
 use Rattle.commands.specs.declared.items.Cause.TheVariants as cause
 use Rattle.commands.specs.declared.items.Item.TheVariants.{Turn}
 use Rattle.ledger.specs.Answer.{State, start}

@@ -1,5 +1,9 @@
 //! What no clause says: texts with values from outside, and what is written before a source or a writer fails.
+mod calendars;
 mod fakes;
+mod holders;
+mod months;
+mod whys;
 
 use allotment::{Cell, Held};
 use commands::{Agent, Cause, Cursor, Fault, Item, Phase};

@@ -10,6 +10,8 @@ use Rattle.reports.specs.Layouts.{count_line, stock_heading, stock_line, journey
 use Rattle.reports.specs.Objects.{json_line, cell_data, journey_data, begin_data, item_data, state_data}
 use Rattle.reports.specs.Records.{csv_line, cell_names, cell_fields, journey_names, journey_fields, item_names, item_fields}
 use Rattle.reports.specs.declared.formats.Format.{Format}
+use Rattle.reports.specs.declared.formats.JourneyReport.{JourneyReport}
+use Rattle.reports.specs.declared.formats.JourneyReport.TheVariants.{Unfinished, Journeys}
 use Rattle.reports.specs.declared.formats.Format.TheVariants.{Text, Json, Csv}
 
 -- the last line: a text says how many rows there are, a JSON or CSV report has no such line
@@ -52,6 +54,17 @@ abbrev pub unfinished_in : Format → List Brief → List ℕ
 unfinished_in format rows =
     unfinished_head format ++ flat_map (unfinished_row format) rows
     ++ last_line format (codes "unfinished") (length rows)
+
+-- the word of the last line of a report of journeys
+abbrev pub name_word : JourneyReport → List ℕ
+name_word Unfinished = codes "unfinished"
+name_word Journeys = codes "journeys"
+
+-- the report of journeys of this name: the same lines, whether the journeys have ended or not
+abbrev pub journeys_in : JourneyReport → Format → List Brief → List ℕ
+journeys_in name format rows =
+    unfinished_head format ++ flat_map (unfinished_row format) rows
+    ++ last_line format (name_word name) (length rows)
 
 -- the history of a journey: in JSON a line with its agent and plan, a line for each item, and a line with where it is;
 -- in CSV a record for each item

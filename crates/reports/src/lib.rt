@@ -1,4 +1,4 @@
-//! The reports: places by cell, unfinished journeys, and the history of a journey.
+//! The reports: places by cell, journeys, and the history of a journey.
 //!
 //! A report is the layout of the rows that a source returns, one at a time, in a format: as a text, as JSON lines or as
 //! CSV. Each line is made in memory and written at once, so a report needs no more memory for more rows. After a fault,
@@ -14,10 +14,12 @@ mod formats;
 mod lines;
 mod objects;
 mod outputs;
+mod parts;
 mod records;
 mod reports;
 mod rows;
 
 pub use faults::ReportFault;
-pub use formats::Format;
-pub use reports::{history_text, stock_text, unfinished_text};
+pub use formats::{Format, JourneyReport};
+pub use parts::{begin_stock, end_stock, stock_lines};
+pub use reports::{history_text, journeys_text, stock_text, unfinished_text};

@@ -1,4 +1,4 @@
-//! The three reports.
+//! The reports.
 ghost use Rattle.std.specs.Prelude.{◌≡◌, ◌+◌, ◌++◌, ℕ, List, [], length, IfOk, OnErr, OnOk};
 ghost use Rattle.std.specs.List.{flat_map};
 ghost use Rattle.std.specs.Io.KnownBytes.{Appends};
@@ -6,7 +6,7 @@ ghost use Rattle.allotment.specs.declared.cells.Cell.{Cell};
 ghost use Rattle.allotment.specs.declared.places.Held.{Held};
 ghost use Rattle.commands.specs.declared.items.Item.{Item};
 ghost use Rattle.saga_core.specs.declared.records.Brief.{Brief};
-ghost use Rattle.reports.specs.Formats.{stock_in, unfinished_in, history_in};
+ghost use Rattle.reports.specs.Formats.{stock_in, unfinished_in, journeys_in, history_in};
 ghost use Rattle.reports.specs.Layouts.{history_report};
 ghost use Rattle.reports.specs.Parts.{whole_report};
 ghost use Rattle.reports.specs.Records.{csv_line, item_names, item_fields};
@@ -15,7 +15,7 @@ ghost use Rattle.streams.specs.Written.{WroteFront};
 
 use crate::endings::Ending;
 use crate::faults::ReportFault;
-use crate::formats::Format;
+use crate::formats::{Format, JourneyReport};
 use crate::lines::{history_head, history_tail, stock_head, unfinished_head};
 use crate::objects::{begin_object, state_object};
 use crate::outputs::send_text;
@@ -81,6 +81,34 @@ pub fn unfinished_text<R: RowSource<Brief>, W: Write>(
     ensures sound { R.is_sound rows.new → R.is_sound rows.old }
 {
     let ending = Ending::of_list(format, "unfinished");
+    send_report(alloc, unfinished_head(format), &format, rows, &ending, out)
+}
+
+/// Writes the report of journeys of this name, and returns how many there are.
+///
+/// Each journey has a line as in the report of unfinished journeys. The last line of a text is the name and their number.
+pub fn journeys_text<R: RowSource<Brief>, W: Write>(
+    alloc: Global,
+    name: JourneyReport,
+    format: Format,
+    rows: &mut R,
+    out: &mut W,
+) -> Result<u64, ReportFault>
+    ensures written { R.is_sound rows.new → (all : List Brief) → R.rests rows.old all →
+        OnOk result (Appends (W.contents out.old) (W.contents out.new) (journeys_in name format all)) }
+    ensures number { R.is_sound rows.new → (all : List Brief) → R.rests rows.old all →
+        IfOk result (λ count. count ≡ length all) }
+    ensures rest { R.is_sound rows.new → (all : List Brief) → R.rests rows.old all →
+        OnOk result (R.rests rows.new []) }
+    ensures given { IfOk result (λ count. R.given rows.new ≡ count + R.given rows.old) }
+
+    ensures front { R.is_sound rows.new → (all : List Brief) → R.rests rows.old all →
+        WroteFront (W.contents out.old) (W.contents out.new) (journeys_in name format all) }
+
+    ensures kept { R.becomes rows.old rows.new }
+    ensures sound { R.is_sound rows.new → R.is_sound rows.old }
+{
+    let ending = Ending::of_list(format, name.word());
     send_report(alloc, unfinished_head(format), &format, rows, &ending, out)
 }
 

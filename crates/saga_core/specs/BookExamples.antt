@@ -3,8 +3,8 @@
 use Rattle.std.specs.Prelude.{◌≡◌, ℕ, List, [], ◌∷◌, Option, Some, None, Ok, Err, refl}
 use Rattle.allotment.specs.declared.kinds.Kind.TheVariants.{Flight}
 use Rattle.commands.specs.Request.{Request}
-use Rattle.commands.specs.declared.faults.Fault.{Fault}
-use Rattle.commands.specs.declared.faults.Fault.TheVariants.{Memory, Store}
+use Rattle.commands.specs.declared.replies.Fault.{Fault}
+use Rattle.commands.specs.declared.replies.Fault.TheVariants.{Memory, Store}
 use Rattle.commands.specs.declared.replies.Reply.{Reply}
 use Rattle.commands.specs.declared.replies.Reply.TheVariants.{Loaded, Begun}
 use Rattle.ledger.specs.Answer.{State, start, outcome}

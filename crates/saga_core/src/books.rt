@@ -36,13 +36,15 @@ pub trait Book {
         ensures reply { is_sound self.new →
             Replies (stands self.old) (option_copied ask.entry) (request_of command.now) result }
         ensures after { is_sound self.new →
-            MovesOn (stands self.old) (stands self.new) (option_copied ask.entry) (request_of command.now) result }
+            MovesOn (stands self.old) (stands self.new) (option_copied ask.entry)
+            (request_of command.now) result }
 
         ensures memory { is_sound self.new →
             KeepsAtMemory (stands self.old) (stands self.new) result }
 
         ensures store { is_sound self.new →
-            LeavesAtStore (stands self.old) (leaves self.new) (option_copied ask.entry) (request_of command.now) result }
+            LeavesAtStore (stands self.old) (leaves self.new) (option_copied ask.entry)
+            (request_of command.now) result }
         ensures fails { IsErrOf result Fault.Store ↔ IsTrue (has_failed self.new) }
         ensures stays_failed { IsTrue (has_failed self.old) → IsTrue (has_failed self.new) }
         ensures stays_left { IsTrue (has_failed self.old) →
@@ -92,7 +94,8 @@ pub trait Book {
     /// Returns the journey of this agent with the least number above `after`, a finished one too.
     fn first_owned(&mut self, agent: &Agent, after: u64) -> Result<Option<Brief>, Fault>
         ensures first { is_sound self.new →
-            Shows (stands self.old) (λ s found. found ≡ first_owned s.ledger agent.now after) result }
+            Shows (stands self.old) (λ s found.
+            found ≡ first_owned s.ledger agent.now after) result }
         ensures same { is_sound self.new → Keeps (stands self.old) (stands self.new) result }
         ensures stop { is_sound self.new →
             LeavesNoMore (leaves self.old) (leaves self.new) }

@@ -32,18 +32,22 @@ pub fn run<B: Book>(
     commands: &[(Command, Option<Ask>)],
 ) -> Result<Vec<Reply>, (Vec<Reply>, Fault)>
     ensures replies { B.is_sound book.new →
-        IfOk result (λ replies. AreReplies (B.stands book.old) (asks_of commands.now) replies.items) }
+        IfOk result (λ replies. AreReplies (B.stands book.old) (asks_of commands.now)
+        replies.items) }
     ensures after { B.is_sound book.new →
         OnOk result (MovesOnBy (B.stands book.old) (B.stands book.new) (asks_of commands.now)) }
 
     ensures fault { B.is_sound book.new → IfErr result (λ e. Stops
-        (B.stands book.old) (B.stands book.new) (B.leaves book.new) (asks_of commands.now) e.0.items e.1) }
+        (B.stands book.old) (B.stands book.new) (B.leaves book.new) (asks_of commands.now)
+        e.0.items e.1) }
     ensures failed { IfErr result (λ e. e.1 ≡ Fault.Store → IsTrue (B.has_failed book.new)) }
 
     ensures world { B.is_sound book.new → OnOk result
-        (GoesOnWith (B.stands book.old) (B.stands book.new) (B.leaves book.new) (asks_of commands.now)) }
+        (GoesOnWith (B.stands book.old) (B.stands book.new) (B.leaves book.new)
+        (asks_of commands.now)) }
     ensures world_at_fault { B.is_sound book.new → IfErr result (λ e. GoesOnAmong
-        (B.stands book.old) (B.stands book.new) (B.leaves book.new) (asks_of commands.now) e.0.items e.1) }
+        (B.stands book.old) (B.stands book.new) (B.leaves book.new) (asks_of commands.now)
+        e.0.items e.1) }
 
     ensures stays_failed { IsTrue (B.has_failed book.old) → IsTrue (B.has_failed book.new) }
     ensures stays_left { IsTrue (B.has_failed book.old) →

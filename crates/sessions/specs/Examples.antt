@@ -2,7 +2,7 @@
 -- there, and is then opened again.
 use Rattle.std.specs.Prelude.{◌≡◌, List, [], ◌∷◌, None, refl}
 use Rattle.commands.specs.Request.{Step}
-use Rattle.commands.specs.declared.refusals.Refusal.TheVariants.{NoJourney}
+use Rattle.commands.specs.declared.replies.Refusal.TheVariants.{NoJourney}
 use Rattle.commands.specs.declared.replies.Reply.TheVariants.{Refused}
 use Rattle.ledger.specs.Answer.{start}
 use Rattle.ledger.specs.World.{Moment, Done, Reopened, after}

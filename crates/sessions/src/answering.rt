@@ -13,8 +13,8 @@ ghost use Rattle.sessions.specs.Openings.{Connections, Lines, Messages};
 ghost use Rattle.sessions.specs.Stages.{Answering, LeavesAnswering, Stood};
 
 use crate::power::Power;
-use desk_http::serve;
 use desk_lines::run_lines;
+use http_conversations::serve;
 use http_live::{Seat, Turns, serve_many};
 use recovery::Ready;
 use saga_core::Book;

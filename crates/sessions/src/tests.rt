@@ -1,5 +1,6 @@
 //! What no clause says: that sessions succeed where nothing fails, and that after each stop a session finds what was answered.
 ghost use Rattle.std.specs.Prelude.{◌≡◌};
+ghost use Rattle.http_ways.specs.declared.ways.Way.TheVariants.{Profile};
 ghost use Rattle.desk_http.specs.declared.doors.Door.TheVariants.{Port};
 
 use crate::{Power, Session, Steady, run_sessions};
@@ -63,6 +64,8 @@ impl<'a> Turns for Peer<'a> {
     type Writer = Sink<'a>;
 
     ghost is_at = { λ reader door. door ≡ Port };
+
+    ghost is_by = { λ reader way. way ≡ Profile };
 
     fn next_turn(&mut self) -> Turn<&'static [u8], Sink<'a>> {
         if !self.has_come {

@@ -3,7 +3,7 @@ use Rattle.std.specs.Prelude.{not, is_some, IfOk, IsUtf8, Ok, Err, Result}
 use Rattle.std.proofs.Common.{◌≡◌, ◌+◌, ◌<◌, ℕ, List, length, Option, Some, None, IsTrue, sym, ap, subst, ◌∙◌}
 use Rattle.commands.specs.Asks.{Asked}
 use Rattle.commands.specs.Request as request
-use Rattle.commands.specs.declared.faults.Fault.{Fault}
+use Rattle.commands.specs.declared.replies.Fault.{Fault}
 use Rattle.commands.specs.declared.replies.Reply.{Reply}
 use Rattle.commands.specs.declared.replies.Reply.TheVariants.{Begun as Begins}
 use Rattle.desk_sql.specs.Rows.{Tables}

@@ -1,8 +1,16 @@
 -- What the rows of a step imply for the answer of the rules. For `step_outcome`.
 use Rattle.std.proofs.Common.{◌≡◌, ℕ, ◌+◌, ◌<◌, ◌≤◌, List, Option, Some, None, true, false, Bool, refl, sym, ap, subst, ◌∙◌, arith}
-use Rattle.std.specs.Prelude.{option_map, Ok, Err}
+use Rattle.std.specs.Prelude.{option_map, if◌then◌else◌, nat_lt, Result, Ok, Err}
+use Rattle.std.specs.FinSet as set
+use Rattle.std.specs.Ordering.{nat_cmp}
 use Rattle.plan.specs.PlanModel.{Planned, step_count, want_at}
+use Rattle.savepoints.specs.Marks.{is_taken_in}
 use Rattle.savepoints.specs.Rules as rules
+use Rattle.std.proofs.lemmas.Bool.Decides.{nat_tests}
+use Rattle.savepoints.specs.declared.turns.Turn.TheVariants as turn
+use Rattle.commands.specs.declared.items.Cause.{Cause}
+use Rattle.commands.specs.declared.items.Cause.TheVariants as causes
+use Rattle.saga_core.specs.Rulings.{turn_said}
 use Rattle.commands.specs.declared.items.Cursor.{Cursor}
 use Rattle.commands.specs.declared.items.Item.{Item}
 use Rattle.commands.specs.declared.items.Item.TheVariants as item
@@ -13,32 +21,34 @@ use Rattle.commands.specs.Asks.{Asked}
 use Rattle.commands.specs.Request as request
 use Rattle.desk_sql.specs.declared.meta.Meta.{Meta}
 use Rattle.sql_commands.specs.Answering.{Counts}
+use Rattle.sql_commands.specs.declared.moves.Motion.{Motion}
 use Rattle.sql_commands.specs.declared.moves.Motion.TheVariants as motion
-use Rattle.commands.specs.declared.refusals.Refusal.TheVariants.{Finished, NoSavePoint}
+use Rattle.commands.specs.declared.replies.Refusal.{Refusal}
+use Rattle.commands.specs.declared.replies.Refusal.TheVariants.{Finished, NoSavePoint}
 use Rattle.ledger.specs.History.{is_finished, is_open, position_of}
 use Rattle.ledger.specs.Ledger.{Journey, fits, history}
-use Rattle.ledger.specs.Replies.{Answer, sees, seen_journey, answer_move, step_choices}
+use Rattle.ledger.specs.Replies.{Answer, sees, seen_journey, answer_move, abort_choices, step_choices}
 use Rattle.ledger_transitions.proofs.Histories.{follows}
 use Rattle.ledger_transitions.proofs.Positions.{last_standing}
 use Rattle.ledger_transitions.specs.JourneyChanges.{cursor_after}
-use Rattle.ledger_transitions.specs.Cursors.{cursor_of}
-use Rattle.saga_core.specs.Views.{record_of}
+use Rattle.ledger_transitions.specs.Cursors.{cursor_of, marks_of}
+use Rattle.saga_core.specs.Views.{record_of, record_of_journey}
 use Rattle.saga_core.specs.Deciding.{NamesStep}
 use Rattle.saga_core.specs.declared.deciding.Move.{Move}
 use Rattle.saga_core.specs.declared.deciding.Move.TheVariants as move
 use Rattle.saga_core.specs.declared.records.Record.{Record}
-use Rattle.saga_core.proofs.DecidingLemmas.{one-take, one-undo}
+use Rattle.saga_core.proofs.DecidingLemmas.{one-take, one-turn, one-undo}
 use Rattle.sql_model.specs.Standing.{IsDesk}
-use Rattle.sql_reads.specs.Reading.{stand_of}
+use Rattle.sql_reads.specs.Reading.{stand_of, HasStand, IsRecordOf}
 use Rattle.sql_reads.specs.declared.reads.Stand.{Stand}
 use Rattle.sql_writes.specs.declared.events.Event.TheVariants as event
 use Rattle.sql_commands.specs.OptionChoice.{IsNextChoice, IsLastChoice}
-use Rattle.sql_commands.specs.Moving.{IsStepUp, IsStepDown, FitsIn, IsNextMade, IsMade, ComesFor, IsLastOption, FitsNext, IsEventOf, IsUnfit}
-use Rattle.sql_commands.specs.Placing.{begun_as, IsSeen, Fits, SeesStand}
+use Rattle.sql_commands.specs.Moving.{IsStepUp, IsStepDown, IsTurnedToStart, LeadsToStart, FitsIn, IsNextMade, IsMade, ComesFor, IsLastOption, FitsNext, IsEventOf, IsUnfit, IsNext, IsDue, IsRead, Runs, asked_for}
+use Rattle.sql_commands.specs.Placing.{begun_as, IsSeen, Fits, SeesStand, StandsAt, turned_to_start}
 use Rattle.sql_commands.specs.declared.step_outcome.Coming.TheVariants as coming
 use Rattle.sql_commands.specs.declared.moves.Made.{Made}
 use Rattle.sql_commands.specs.declared.options.Choice.{Choice}
-use Rattle.sql_commands.proofs.NextLemmas.{record_seen, record_unseen, none_seen}
+use Rattle.sql_commands.proofs.NextLemmas.{abort_next, record_seen, record_unseen, none_seen}
 use Rattle.sql_commands.proofs.StepLemmas.{IsSaid, step_next}
 
 -- The cursor of a journey.
@@ -138,6 +148,41 @@ module _ (s : State) (desk : IsDesk s) (who : Option (List ℕ)) (id : ℕ) (r :
         cursor = down.cursor ∙ ap (cursor_after r.plan r.cursor) (sym down.item_is);
       }
 
+  -- no try is left, so a refused step leads to the start
+  refused_at : r.cursor.phase ≡ Run → FitsNext r s false → r.plan.tries ≤ r.cursor.used
+      → Fits id r.plan r.cursor answered (Ok (item.Turn 0 causes.Refused))
+  refused_at run unfit none =
+      let target : 0 ≡ rules.refused_target r.plan (is_taken_in r.marks) r.cursor.pos r.cursor.used =
+      sym (ap (λ b. if b then rules.last_save r.plan (is_taken_in r.marks) r.cursor.pos else 0) (none_left none)) in
+      decided false unfit (move.Turn 0) (one-turn r.plan r.marks r.cursor false 0 run refl target)
+      (ap is_finished run) (λ e. cc) (item.Turn 0 causes.Refused) refl
+    where
+      none_left : r.plan.tries ≤ r.cursor.used → nat_lt r.cursor.used r.plan.tries ≡ false
+      none_left more = grind (arith, nat_tests)
+
+  -- a journey that runs may be turned to its start
+  asked_at : r.cursor.phase ≡ Run
+      → Fits id r.plan r.cursor (answer_move s.ledger id (abort_choices 0) NoSavePoint (seen_journey s.ledger who id)) (Ok (item.Turn 0 causes.Asked))
+  asked_at run =
+      abort_next s desk.legal who id r is 0 (Ok (item.Turn 0 causes.Asked))
+      (ap (λ p. turn_said r.plan (record { pos = r.cursor.pos; phase = p; used = r.cursor.used }) r.marks (turn.Asked 0) causes.Asked) (sym run))
+
+  -- what leads to the start is the answer of the rules
+  pub start_at : (why : Motion) (cause : Cause) → LeadsToStart (stand_of r) why cause → IsUnfit id why s → Runs id why s
+      → Fits id r.plan r.cursor (answer_within s.ledger who (asked_for id why)) (Ok (item.Turn 0 cause))
+  start_at motion.Refused cause leads unfit runs =
+      subst (λ k. Fits id r.plan r.cursor answered (Ok (item.Turn 0 k))) (sym leads.1)
+      (refused_at (runs who r is) (unfit who r is) leads.0)
+  start_at (motion.Abort p) cause leads unfit runs =
+      subst
+      (λ q. Fits id r.plan r.cursor (answer_move s.ledger id (abort_choices q) NoSavePoint (seen_journey s.ledger who id)) (Ok (item.Turn 0 cause)))
+      (sym leads.0)
+      (subst
+      (λ k. Fits id r.plan r.cursor (answer_move s.ledger id (abort_choices 0) NoSavePoint (seen_journey s.ledger who id)) (Ok (item.Turn 0 k)))
+      (sym leads.2) (asked_at leads.1))
+  start_at motion.Stop cause leads unfit runs = absurd leads
+  start_at motion.Save cause leads unfit runs = absurd leads
+
   -- the next step, if its want fits
   pub up_comes : (stand : Stand) → stand_of r ≡ stand → (choice : Choice) → stand.cursor.phase ≡ Run
       → stand.cursor.pos < stand.steps → IsNextChoice id (stand.cursor.pos + 1) stand.cursor.used s choice
@@ -216,3 +261,99 @@ unfit_seen s who id r is unfit other b seen run =
     unfit (ap (λ (c : Cursor). c.phase) (sym cursor) ∙ run)
     ∙ ap (λ p. fits s.ledger (rules.next_want p r.cursor.pos r.cursor.used)) (sym plan)
     ∙ ap (λ (c : Cursor). fits s.ledger (rules.next_want b.plan c.pos c.used)) (sym cursor)
+
+-- and so it runs for all of them
+pub runs_seen : (s : State) (who : Option (List ℕ)) (id : ℕ) (r : Record) → IsSeen s who id r → r.cursor.phase ≡ Run
+    → Runs id motion.Refused s
+runs_seen s who id r is run other b seen =
+    let one : Some (begun_as b) ≡ Some (begun_as r) = sym seen.at ∙ is.at in
+    let same : begun_as b ≡ begun_as r = cc in
+    let cursor : b.cursor ≡ r.cursor =
+    seen.cursor ∙ ap (λ (a : Journey). cursor_of a.plan (history s.ledger id)) same ∙ sym is.cursor in
+    ap (λ (c : Cursor). c.phase) cursor ∙ run
+
+-- the journey that a caller sees is there
+pub stand_there : (s : State) (who : Option (List ℕ)) (id : ℕ) (stand : Stand) → SeesStand who id s (Some stand) → StandsAt id stand s
+stand_there s who id stand here = record {
+  journey = begun_as here.0;
+  at = here.1.at;
+  steps = sym (ap (λ (x : Stand). x.steps) here.2);
+  cursor = sym (ap (λ (x : Stand). x.cursor) here.2) ∙ here.1.cursor;
+}
+
+-- The record of a journey that was found.
+
+-- the record that the caller sees is the one in the ledger
+pub record_there : (s : State) (who : Option (List ℕ)) (id : ℕ) (r : Record) → IsSeen s who id r → record_of s.ledger id ≡ Some r
+record_there s who id r is =
+    ap (option_map (record_of_journey (history s.ledger id))) is.at
+    ∙ ap (λ c. Some (made c (marks_of (history s.ledger id)))) (sym is.cursor)
+    ∙ ap (λ ms. Some (made r.cursor ms)) (sym is.marks)
+  where
+    made : Cursor → set.FinSet nat_cmp → Record
+    made cursor marks = record { agent = r.agent; plan = r.plan; cursor = cursor; marks = marks }
+
+-- the journey that a caller sees has this agent, these steps and tries, and this cursor
+pub has_stand : (s : State) (who : Option (List ℕ)) (id : ℕ) (stand : Stand) → SeesStand who id s (Some stand) → HasStand id stand s
+has_stand s who id stand here =
+    sym (ap (option_map stand_of) (record_there s who id here.0 here.1) ∙ ap Some here.2)
+
+-- the record that is read of it is the one that the caller sees
+pub read_seen : (s : State) (who : Option (List ℕ)) (id : ℕ) (stand : Stand) (r : Record) → SeesStand who id s (Some stand)
+    → IsRecordOf id stand s r → IsSeen s who id r
+read_seen s who id stand r here is =
+    let both : Some here.0 ≡ Some r = sym (record_there s who id here.0 here.1) ∙ sym (is (has_stand s who id stand here)) in
+    let same : here.0 ≡ r = cc in
+    subst (IsSeen s who id) same here.1
+
+-- what the rules answer a move, of which all was read, is due
+pub due_read : (s : State) (ask : Option Asked) (counts : Meta) (id : ℕ) (stand : Stand) (why : Motion) (r : Record)
+    (next : Result Item Refusal) → IsRead s ask counts id stand why → IsRecordOf id stand s r
+    → ((j : ℕ) (t : State) → IsDesk t → IsNext j r why t next) → IsDue s ask (asked_for id why) counts id r next
+due_read s ask counts id stand why r next read is answers =
+    let here = read_seen s (asker ask) id stand r read.here is in
+    record {
+      desk = read.desk;
+      new = read.new;
+      counted = read.counted;
+      here = here;
+      answered = answers id s read.desk (asker ask) here read.unfit;
+    }
+
+-- what a step has read, whose want does not fit, is read for its turn
+pub refused_read : (s : State) (ask : Option Asked) (counts : Meta) (id : ℕ) (stand : Stand) → IsDesk s → kept_for s ask ≡ None
+    → Counts s counts → (here : SeesStand (asker ask) id s (Some stand)) → FitsNext here.0 s false → stand.cursor.phase ≡ Run
+    → IsRead s ask counts id stand motion.Refused
+refused_read s ask counts id stand desk new counted here unfit run = record {
+  desk = desk;
+  new = new;
+  counted = counted;
+  here = here;
+  unfit = unfit_seen s (asker ask) id here.0 here.1 unfit;
+  runs = runs_seen s (asker ask) id here.0 here.1 (ap (λ (x : Stand). x.cursor.phase) here.2 ∙ run);
+}
+
+-- the turn to the start is made
+pub start_made : (s : State) (ask : Option Asked) (counts : Meta) (id : ℕ) (stand : Stand) (why : Motion) (cause : Cause) (m : Made)
+    → IsRead s ask counts id stand why → LeadsToStart stand why cause → IsTurnedToStart id stand cause m → IsMade s ask counts why m
+start_made s ask counts id stand why cause m read leads turned =
+    let r = read.here.0 in
+    let is = read.here.1 in
+    let same = read.here.2 in
+    let there : m.cursor ≡ cursor_after r.plan r.cursor m.item =
+    turned.cursor ∙ ap (λ (x : Stand). turned_to_start cause x.cursor) (sym same) ∙ ap (cursor_after r.plan r.cursor) (sym turned.item_is) in
+    let answer = start_at s read.desk (asker ask) id r is why cause (subst (λ x. LeadsToStart x why cause) (sym same) leads) read.unfit read.runs in
+    let says : IsEventOf id r.plan r.cursor (item.Turn 0 cause) m.event =
+    turned.event ∙ ap (λ c. event.Turn (record { journey = id; target = 0; cause = cause; cursor = c }))
+    (turned.cursor ∙ ap (λ (x : Stand). turned_to_start cause x.cursor) (sym same)) in
+    subst
+    (λ n. IsSeen s (asker ask) n r → Fits n r.plan r.cursor (answer_within s.ledger (asker ask) (asked_for n why)) (Ok m.item)
+    → IsEventOf n r.plan r.cursor m.item m.event → IsMade s ask counts why m) turned.same
+    (λ seen fit tells. record {
+      journey = r;
+      due = record { desk = read.desk; new = read.new; counted = read.counted; here = seen; answered = fit };
+      says = tells;
+      cursor = there;
+    }) is
+    (subst (λ x. Fits id r.plan r.cursor (answer_within s.ledger (asker ask) (asked_for id why)) (Ok x)) (sym turned.item_is) answer)
+    (subst (λ x. IsEventOf id r.plan r.cursor x m.event) (sym turned.item_is) says)

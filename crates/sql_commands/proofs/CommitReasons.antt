@@ -1,5 +1,5 @@
 -- Why an event is not committed with its reply. For the functions of `committing`.
-use Rattle.std.proofs.Common.{◌≡◌, ◌⊎◌, ◌+◌, ◌≤◌, ℕ, inl, inr, Some, true, sym, subst, arith}
+use Rattle.std.proofs.Common.{◌≡◌, ◌⊎◌, ◌+◌, ℕ, inl, inr, Some, true, subst, arith}
 use Rattle.sqlite.specs.Store.{Ghosts}
 use Rattle.sqlite.specs.Held.{Held, state}
 use Rattle.commands.specs.Asks.{Asked}
@@ -7,7 +7,7 @@ use Rattle.commands.specs.declared.replies.Reply.{Reply}
 use Rattle.desk_sql.specs.Calls.{Makes}
 use Rattle.desk_sql.specs.Causes.{HasFaulted}
 use Rattle.desk_sql.specs.Changes.{adds_answer}
-use Rattle.desk_sql.specs.Rows.{Tables, AnswerRow}
+use Rattle.desk_sql.specs.Rows.{AnswerRow}
 use Rattle.desk_sql.specs.Writable.{HasRowids}
 use Rattle.desk_sql.proofs.Rowids.{rowids_fewer}
 use Rattle.ledger.specs.Answer.{State}

@@ -4,8 +4,8 @@ use Rattle.std.specs.Prelude.{Ok, Err}
 use Rattle.commands.specs.Asks.{Asked}
 use Rattle.commands.specs.declared.items.Cursor.{Cursor}
 use Rattle.commands.specs.declared.items.Item.{Item}
-use Rattle.commands.specs.declared.refusals.Refusal.{Refusal}
-use Rattle.commands.specs.declared.refusals.Refusal.TheVariants.{NoJourney, NoSavePoint, NoSave, Limit}
+use Rattle.commands.specs.declared.replies.Refusal.{Refusal}
+use Rattle.commands.specs.declared.replies.Refusal.TheVariants.{NoJourney, NoSavePoint, NoSave, Limit}
 use Rattle.commands.specs.declared.replies.Reply.TheVariants as reply
 use Rattle.ledger.specs.Answer.{State, Outcome, asker, answer_within, is_request, most_events, kept_for, carried_out, state_with, outcome}
 use Rattle.ledger.specs.Replies.{Answer, refused, seen_journey, answer_move, step_choices, abort_choices, stop_choices, save_choices}

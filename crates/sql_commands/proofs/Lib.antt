@@ -3,6 +3,9 @@ pub mod ChoiceLemmas
 pub mod ComingLemmas
 pub mod CommitReasons
 pub mod DueLemmas
+pub mod DuePermitted
+pub mod EventCommits
+pub mod ItemsPermitted
 pub mod LeadLemmas
 pub mod LineTexts
 pub mod LoadComes
@@ -10,6 +13,12 @@ pub mod LoadRows
 pub mod NextLemmas
 pub mod OkLemmas
 pub mod OptionReasons
+pub mod Possible
 pub mod Reasons
+pub mod RequestRowids
+pub mod RowLimits
 pub mod SmallLemmas
 pub mod StepLemmas
+pub mod StoreReasons
+pub mod TextLengths
+pub mod WritesPermitted

@@ -12,8 +12,8 @@ use Rattle.commands.specs.Asks.{Asked}
 use Rattle.commands.specs.Names.{is_batch_name}
 use Rattle.commands.specs.Batches.{is_batch, is_good_row, are_distinct}
 use Rattle.commands.specs.Request.{Request, Load}
-use Rattle.commands.specs.declared.refusals.Refusal.{Refusal}
-use Rattle.commands.specs.declared.refusals.Refusal.TheVariants.{BelowHeld, BatchDiffers, Limit}
+use Rattle.commands.specs.declared.replies.Refusal.{Refusal}
+use Rattle.commands.specs.declared.replies.Refusal.TheVariants.{BelowHeld, BatchDiffers, Limit}
 use Rattle.commands.specs.declared.replies.Reply.{Reply}
 use Rattle.commands.specs.declared.replies.Reply.TheVariants as reply
 use Rattle.ledger.specs.Answer.{State, Answer, Outcome, asker, answer_within, most_events, kept_for, carried_out, state_with, outcome}

@@ -1,7 +1,7 @@
 -- What is read of the rows of a batch, in order. For `content_of`, `cells_of` and LoadComes.
-use Rattle.std.proofs.Common.{◌≡◌, ℕ, zero, suc, ◌+◌, ◌<◌, List, [], ◌∷◌, ◌++◌, length, map, take, get_or, cond, Bool, true, false, Some, None, refl, sym, ap, ap₂, ◌∙◌, arith, append_assoc, append-nil}
-use Rattle.std.specs.Prelude.{position, not, nat_lt, Result, Ok, Err, IsOk, IsErrOf}
-use Rattle.std.specs.List.{AllByRecursion, list_all, position_or_len}
+use Rattle.std.proofs.Common.{◌≡◌, ◌==◌, ◌≤◌, ℕ, zero, suc, ◌+◌, ◌<◌, List, [], ◌∷◌, ◌++◌, length, map, find, take, get_or, cond, Bool, true, false, Option, Some, None, inl, inr, refl, sym, ap, ap₂, subst, ◌∙◌, arith, eqb-true, eq-eqb, append_assoc, append-nil}
+use Rattle.std.specs.Prelude.{position, not, nat_lt, option_map, unwrap_or, Result, Ok, Err, IsOk, IsErrOf}
+use Rattle.std.specs.List.{list_all, position_or_len}
 use Rattle.std.proofs.lemmas.Bool.{and_parts, and_from, lt-ltb}
 use Rattle.std.proofs.lemmas.Bool.Decides.{nat_tests}
 use Rattle.std.proofs.lemmas.List.{map-append}
@@ -10,32 +10,98 @@ use Rattle.std.proofs.lemmas.List.Folds.{list_all-append}
 use Rattle.sqlite.specs.Store.{Ghosts}
 use Rattle.sqlite.specs.State.{HasCleanDisk}
 use Rattle.sqlite.specs.Held.{Held, state}
-use Rattle.allotment.specs.Cells.{kind_number}
+use Rattle.sqlite_rules.specs.Lists.{Has}
+use Rattle.sqlite_rules.proofs.ListLemmas.{has_found}
+use Rattle.sqlite_rules.proofs.ProbeLemmas.{has_mapped, mapped_has}
+use Rattle.allotment.specs.Cells.{kind_number, the_cell, cell_at}
+use Rattle.allotment.specs.Places.{held_of}
+use Rattle.allotment.specs.Want.{Wanted}
+use Rattle.allotment.specs.declared.kinds.Kind.{Kind}
 use Rattle.allotment.specs.Texts.{row_text, line_feed}
 use Rattle.allotment.specs.declared.cells.Cell.{Cell}
 use Rattle.allotment.specs.declared.cells.Row.{Row}
 use Rattle.allotment.specs.declared.places.Held.{Held as HeldPlaces}
 use Rattle.ledger.specs.Answer.{State}
-use Rattle.ledger.specs.Ledger.{held, is_not_below_held}
+use Rattle.ledger.specs.Ledger.{Event, IsLegal, held, is_not_below_held}
+use Rattle.ledger.proofs.Cells.{kind_of, kind_of-number}
+use Rattle.saga_core.specs.Views.{Places, night_said, places_of, places_said, places_shown}
 use Rattle.desk_sql.specs.Rows.{StockRow}
-use Rattle.commands.specs.declared.faults.Fault.{Fault}
-use Rattle.commands.specs.declared.faults.Fault.TheVariants.{Store}
+use Rattle.commands.specs.declared.replies.Fault.{Fault}
+use Rattle.commands.specs.declared.replies.Fault.TheVariants.{Store}
 use Rattle.desk_sql.specs.Stock.{put}
-use Rattle.desk_sql.specs.declared.stock.NightFound.{NightFound}
 use Rattle.sql_model.specs.ExpectedRows.{batch_text}
-use Rattle.sql_model.specs.Reading.{night_seen, stock_row_of}
-use Rattle.sql_reads.specs.GoodRows.{IsGoodNight}
+use Rattle.sql_model.specs.Reading.{stock_row_of}
 use Rattle.sql_model.specs.Standing.{IsDesk}
+use Rattle.sql_model.proofs.StockRows.{has_shown, shown_has}
 use Rattle.sql_transitions.specs.Loading.{put_rows}
+use Rattle.sql_transitions.proofs.Fitting.{held_told, held_untold}
 use Rattle.sql_writes.specs.Loads.{put_each}
 use Rattle.sql_writes.proofs.LoadLemmas.{take-more}
-use Rattle.desk_sql.specs.declared.versions.Version.TheVariants.{Two}
 use Rattle.sql_model.specs.Keeping.{Keeps}
-use Rattle.sql_commands.specs.Loading.{HaveNoMoreFree, GetsPlaces, HavePlaces, HasLooked, row_loaded}
+use Rattle.sql_commands.specs.Loading.{GetsPlaces, HavePlaces, HasLooked, row_loaded}
+use Rattle.sql_model.specs.Staying.{sees_alone}
+use Rattle.sql_reads.specs.NightsRead.{AreRead, IsAmong, IsLater, held_at, nights_from}
 use Rattle.sql_reads.specs.Reading.{OnlyReads}
+use Rattle.sql_reads.specs.declared.nights_read.NightsRead.{NightsRead}
 use Rattle.sql_reads.proofs.ReadLemmas.{reads_then}
 
 -- Places.
+
+-- what passes the test is found
+unfound : {X : Type 0} (p : X → Bool) (xs : List X) (x : X) → find p xs ≡ None → Has xs x → p x ≡ true → ⊥
+unfound p [] x e h passes = absurd h
+unfound p (y ∷ xs) x e h passes = go (p y) refl e h (unfound p xs x)
+  where
+    go : (b : Bool) → p y ≡ b → cond b (Some y) (find p xs) ≡ None → Has (y ∷ xs) x
+        → (find p xs ≡ None → Has xs x → p x ≡ true → ⊥) → ⊥
+    go true is e h later = cc
+    go false is e (inl same) later = let bad : true ≡ false = sym passes ∙ ap p same ∙ is in cc
+    go false is e (inr there) later = later e there passes
+
+module _ (l : List Event) (legal : IsLegal l) (w : Wanted) where
+  -- the places of a want's nights tell how many of each night are held
+  held_listed : (nights : List (ℕ × HeldPlaces)) → map night_said nights ≡ places_shown l w → (n : ℕ) → w.first ≤ n
+      → n < w.first + w.nights → held_at n nights ≡ held l (cell_at w n)
+  held_listed nights shows n low high = go (find (λ (x : ℕ × HeldPlaces). x.0 == n) nights) refl
+    where
+      none : find (λ (x : ℕ × HeldPlaces). x.0 == n) nights ≡ None → (o : Option Places)
+          → places_of l (cell_at w n) ≡ o → 0 ≡ held l (cell_at w n)
+      none e None f = sym (held_untold l legal (cell_at w n) f)
+      none e (Some p) f =
+          let shown = has_shown l w w.first w.nights (n, p) low high f in
+          let from = has_mapped night_said nights (n, p) (subst (λ ps. Has ps (n, p)) (sym shows) shown) in
+          let night : n ≡ from.0.0 = ap (λ (q : ℕ × Places). q.0) from.2 in
+          absurd (unfound (λ (x : ℕ × HeldPlaces). x.0 == n) nights from.0 e from.1 (eq-eqb from.0.0 n (sym night)))
+
+      go : (o : Option (ℕ × HeldPlaces)) → find (λ (x : ℕ × HeldPlaces). x.0 == n) nights ≡ o
+          → unwrap_or (option_map (λ (x : ℕ × HeldPlaces). held_of x.1) o) 0 ≡ held l (cell_at w n)
+      go None e = none e (places_of l (cell_at w n)) refl
+      go (Some x) e =
+          let found = has_found (λ (y : ℕ × HeldPlaces). y.0 == n) nights x e in
+          let there = subst (λ ps. Has ps (night_said x)) shows (mapped_has night_said nights x found.0) in
+          let shown = shown_has l w w.first w.nights (night_said x) there in
+          let night : x.0 ≡ n = eqb-true x.0 n found.1 in
+          held_told l legal (cell_at w n) (places_said x.1) (ap (λ m. places_of l (cell_at w m)) (sym night) ∙ shown.2)
+
+-- a cell among nights is the cell of their product at its night
+cell_later : (first : Cell) (nights : ℕ) (x : Cell) → IsLater first nights x
+    → the_cell first.kind first.supplier first.product x.night ≡ x
+cell_later first nights x later =
+    let kind : first.kind ≡ x.kind =
+    sym (kind_of-number first.kind) ∙ ap kind_of (sym later.kind) ∙ kind_of-number x.kind in
+    ap (λ (k : Kind). the_cell k first.supplier first.product x.night) kind
+    ∙ ap (λ s. the_cell x.kind s first.product x.night) (sym later.supplier)
+    ∙ ap (λ p. the_cell x.kind x.supplier p x.night) (sym later.product)
+
+-- the nights that were read tell how many places of a cell among them are held
+pub held_read : (s : State) → IsDesk s → (read : NightsRead) (x : Cell) → AreRead s read → IsAmong read x
+    → held_at x.night read.places.items ≡ held s.ledger x
+held_read s desk read x are among =
+    let later = among.1 in
+    let night = later.night in
+    let before = among.2 in
+    held_listed s.ledger desk.legal (nights_from read.first read.count) read.places.items are x.night (omega arith) (omega arith)
+    ∙ ap (held s.ledger) (cell_later read.first among.0 x later)
 
 -- the places that a row's cell gets are those of its row of stock
 places_told : (r : Row) (s : State) (p : HeldPlaces) → GetsPlaces r s (Some p)
@@ -118,7 +184,7 @@ module _ {S : Type 0} (g : Ghosts S) where
   -- at first no row was examined
   pub none_looked : (h : Held S) → HasLooked g h h [] []
   none_looked h = record {
-    reads = record { keeps = λ v s keeps. keeps; stop = λ clean db may. may; less = λ clean. clean };
+    reads = record { keeps = λ v s keeps. keeps; stop = λ clean db may. may; less = λ clean. clean; sees = sees_alone g h };
     shown = λ clean s desk keeps. record { above = refl; told = refl };
   }
 
@@ -126,12 +192,12 @@ module _ {S : Type 0} (g : Ghosts S) where
       (reads : OnlyReads g mid new) (r : Row) where
     -- one more row has its places
     pub looked_more : (p : HeldPlaces)
-        → (HasCleanDisk (state g new) → (s : State) → IsDesk s → Keeps (state g mid) s → GetsPlaces r s (Some p))
+        → (HasCleanDisk (state g new) → (s : State) → IsDesk s → Keeps (state g old) s → GetsPlaces r s (Some p))
         → HasLooked g old new (rows ++ r ∷ []) (cells ++ (r.cell, p) ∷ [])
     looked_more p gets = record {
       reads = reads_then g old mid new has.reads reads;
       shown = λ clean s desk keeps.
-          have_more rows s cells r p (has.shown (reads.less clean) s desk keeps) (gets clean s desk (has.reads.keeps Two s keeps));
+          have_more rows s cells r p (has.shown (reads.less clean) s desk keeps) (gets clean s desk keeps);
     }
 
 -- Texts.
@@ -147,11 +213,6 @@ text_more rows i r text within is e =
     ∙ ap batch_text (sym (take-more rows i r within is))
 
 -- Store only for a reason.
-
--- of each good night no more places are free than allotted
-pub no_more_free : (found : List NightFound) → AllByRecursion (λ (n : NightFound). IsGoodNight (night_seen n)) found → HaveNoMoreFree found
-no_more_free [] all = tt
-no_more_free (n ∷ found) all = (all.0.places.free, no_more_free found all.1)
 
 -- what succeeded did not fail
 pub not_failed : {V : Type 0} (r : Result V Fault) → IsOk r → ¬ IsErrOf r Store

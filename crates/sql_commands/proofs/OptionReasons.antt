@@ -1,13 +1,12 @@
 -- An option of a step of a journey can be chosen by the rows of the step. For `options`.
-use Rattle.std.proofs.Common.{◌≡◌, ℕ, zero, suc, ◌≤◌, ◌==◌, List, [], ◌∷◌, length, Bool, true, false, if◌then◌else◌, Option, Some, inl, inr, refl, sym, ap, subst, ◌∙◌, arith, eqb-true, eq-eqb, nat_le, leb-true}
-use Rattle.std.specs.Prelude.{find, slice_get, ◌&&◌}
+use Rattle.std.proofs.Common.{◌≡◌, ℕ, zero, suc, ◌==◌, List, [], ◌∷◌, Bool, true, false, if◌then◌else◌, Some, inl, inr, refl, sym, ap, subst, ◌∙◌, arith, eqb-true, eq-eqb, nat_le, leb-true}
+use Rattle.std.specs.Prelude.{find, slice_get}
 use Rattle.std.specs.List.{list_all}
 use Rattle.std.proofs.lemmas.Bool.{and_parts}
 use Rattle.sqlite_rules.specs.Lists.{Has}
 use Rattle.sqlite_rules.proofs.ListLemmas.{all_from, has_filtered, has_found, has_kept, has_right, test_has}
 use Rattle.sqlite_rules.proofs.ProbeLemmas.{has_mapped, mapped_has}
 use Rattle.allotment.specs.Want.{Wanted}
-use Rattle.plan.specs.Limits.{most_options}
 use Rattle.plan.specs.PlanModel.{is_step, is_marked_at, numbered, option_count}
 use Rattle.plan.proofs.LimitLemmas.{few_options, limited, step_limited}
 use Rattle.ledger.specs.Answer.{State}
@@ -25,7 +24,7 @@ use Rattle.sql_model.proofs.OptionRows.{option_row_at}
 use Rattle.sql_model.proofs.Readings.{options_read, options_there}
 use Rattle.sql_model.proofs.RecordRows.{plan_good}
 use Rattle.sql_transitions.proofs.Plans.{want_good}
-use Rattle.sql_transitions.proofs.Taken.{IsRowOf, last_wanted, row_told, taken_row, taken_row_there}
+use Rattle.sql_transitions.proofs.Taken.{last_wanted, row_told, taken_row, taken_row_there}
 use Rattle.sql_reads.specs.PlanRows.{TellsWant}
 use Rattle.sql_reads.proofs.GoodTexts.{want_texts}
 use Rattle.sql_commands.specs.OptionChoice.{AreOfStep, HasStep, HasTaken, IsOfOption, TakesLast, is_taken_row}

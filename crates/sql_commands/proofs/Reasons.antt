@@ -1,6 +1,6 @@
 -- The rows of a desk never are a fault of the store: a journey is where one may be, and each number is in range. For the
 -- functions that read.
-use Rattle.std.proofs.Common.{◌≡◌, ◌==◌, ℕ, ◌+◌, ◌<◌, ◌≤◌, ◌^◌, List, [], ◌∷◌, length, Option, Some, None, true, false, Bool, IsTrue, if◌then◌else◌, refl, sym, ap, subst, ◌∙◌, arith}
+use Rattle.std.proofs.Common.{◌≡◌, ◌==◌, ℕ, ◌+◌, ◌<◌, ◌≤◌, List, [], ◌∷◌, length, Some, None, true, false, Bool, IsTrue, if◌then◌else◌, refl, sym, ap, subst, ◌∙◌, arith}
 use Rattle.std.specs.Prelude.{option_map}
 use Rattle.std.specs.List.{cons_option}
 use Rattle.std.proofs.lemmas.List.Sums.{count_by-le-length}
@@ -26,10 +26,7 @@ use Rattle.sql_reads.specs.declared.reads.Stand.{Stand}
 use Rattle.sql_reads.proofs.ReadReasons.{few_journeys}
 use Rattle.sql_commands.specs.OptionChoice.{HasStep, TakesLast}
 use Rattle.sql_commands.specs.Placing.{IsPlaced, IsPlacedIn, StandsAt}
-use Rattle.saga_core.specs.declared.records.Record.{Record}
-use Rattle.sql_commands.specs.Placing.{begun_as}
 use Rattle.sql_commands.proofs.ComingLemmas.{stand_seen}
-use Rattle.sql_commands.proofs.NextLemmas.{record_seen}
 
 -- a journey has at most as many items as there are events
 few_items : (l : List Event) (j : ℕ) → length (history l j) ≤ length l
@@ -115,16 +112,3 @@ takes_last s desk id stand has above =
     let pos : stand.cursor.pos ≡ position_of h = ap (λ (c : Cursor). c.pos) has.cursor in
     let last = last_standing a.plan h f (omega (arith, above, pos)) in
     record { journey = a; at = has.at; option = last.0; last = last.1 ∙ ap (λ n. Some (n, last.0)) (sym pos) }
-
--- where the journey of a record is
-pub record IsRecordInPlace (id : ℕ) (r : Record) : Type 0 where
-  pub low : id ≤ most_events
-  pub placed : IsPlaced r.plan r.cursor
-
-pub record_placed : (s : State) → IsDesk s → IsSpelled s.ledger → (id : ℕ) (r : Record) → Some r ≡ record_of s.ledger id → IsRecordInPlace id r
-record_placed s desk spelled id r found =
-    let seen = record_seen s None id r found refl in
-    record {
-      low = low_number s.ledger spelled.few id (begun_as r) seen.at;
-      placed = subst (IsPlaced r.plan) (sym seen.cursor) (placed s.ledger desk.legal spelled.few id (begun_as r) seen.at);
-    }

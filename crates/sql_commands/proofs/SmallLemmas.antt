@@ -3,6 +3,7 @@ use Rattle.std.proofs.Common.{◌≡◌, ℕ, ◌+◌, ◌-◌, ◌<◌, ◌≤�
 use Rattle.std.specs.Prelude.{◌==◌, nat_lt}
 use Rattle.plan.specs.Limits.{most_steps}
 use Rattle.plan.specs.PlanModel.{Planned, step_count, is_plan}
+use Rattle.commands.specs.declared.items.Cause.{Cause}
 use Rattle.commands.specs.declared.items.Cause.TheVariants.{Stop, Refused, Asked}
 use Rattle.commands.specs.declared.items.Cursor.{Cursor}
 use Rattle.commands.specs.declared.items.Item.{Item}
@@ -16,11 +17,11 @@ use Rattle.sql_transitions.specs.Moving.{cursor_written}
 use Rattle.sql_writes.specs.Kinds.{IsSmall}
 use Rattle.sql_writes.specs.declared.events.Event.{Event}
 use Rattle.sql_commands.specs.Moving.{IsEventOf}
-use Rattle.sql_commands.specs.Placing.{IsPlaced, IsPlacedIn, MayBeMade, stepped_up, stepped_down}
+use Rattle.sql_commands.specs.Placing.{IsPlaced, IsPlacedIn, MayBeMade, stepped_up, stepped_down, turned_to_start}
 use Rattle.plan.proofs.LimitLemmas.{few_options, few_steps}
 
 -- small numbers are stored as small numbers
-numbers_small : (pos used : ℕ) (p : Phase) → pos ≤ 25 → target_of p ≤ 25 → used ≤ 2 ^ 62
+numbers_small : (pos used : ℕ) (p : Phase) → pos ≤ 2 ^ 62 → target_of p ≤ 2 ^ 62 → used ≤ 2 ^ 62
     → IsSmallCursor (cursor_written (record { pos = pos; phase = p; used = used }))
 numbers_small pos used Run a b d = (omega arith, (omega arith, (omega arith, (omega arith, tt))))
 numbers_small pos used (Back p) a b d = (omega arith, (omega arith, (omega arith, (omega arith, tt))))
@@ -28,25 +29,25 @@ numbers_small pos used Ended a b d = (omega arith, (omega arith, (omega arith, (
 numbers_small pos used Undone a b d = (omega arith, (omega arith, (omega arith, (omega arith, tt))))
 
 -- after a step the target is small
-up_small : (n pos : ℕ) → target_of (phase_up n pos) ≤ 25
+up_small : (n pos : ℕ) → target_of (phase_up n pos) ≤ 2 ^ 62
 up_small n pos = go (pos == n)
   where
-    go : (b : Bool) → target_of (if b then Ended else Run) ≤ 25
+    go : (b : Bool) → target_of (if b then Ended else Run) ≤ 2 ^ 62
     go true = omega arith
     go false = omega arith
 
 -- after a turn back the target is small
-down_small : (p pos : ℕ) → p ≤ 25 → target_of (phase_down p pos) ≤ 25
+down_small : (p pos : ℕ) → p ≤ 2 ^ 62 → target_of (phase_down p pos) ≤ 2 ^ 62
 down_small p pos low = go (nat_lt p pos) (p == 0)
   where
-    go : (a b : Bool) → target_of (if a then Back p else if b then Undone else Run) ≤ 25
+    go : (a b : Bool) → target_of (if a then Back p else if b then Undone else Run) ≤ 2 ^ 62
     go true b = low
     go false true = omega arith
     go false false = omega arith
 
 -- the target of a journey is small, since it is below the position
 phase_small : (c : Cursor) (p : Phase) → c.phase ≡ p → ((q : ℕ) → c.phase ≡ Back q → q < c.pos) → c.pos ≤ most_steps
-    → target_of p ≤ 25
+    → target_of p ≤ 2 ^ 62
 phase_small c Run e above low = omega arith
 phase_small c (Back q) e above low = let below = above q e in omega arith
 phase_small c Ended e above low = omega arith
@@ -54,7 +55,7 @@ phase_small c Undone e above low = omega arith
 
 -- the target of a journey after a compensation is small
 back_small : (c : Cursor) (p : Phase) (pos : ℕ) → c.phase ≡ p → ((q : ℕ) → c.phase ≡ Back q → q < c.pos) → c.pos ≤ most_steps
-    → target_of (phase_back p pos) ≤ 25
+    → target_of (phase_back p pos) ≤ 2 ^ 62
 back_small c Run pos e above low = omega arith
 back_small c (Back q) pos e above low = let below = above q e in down_small q pos (omega arith)
 back_small c Ended pos e above low = omega arith
@@ -149,3 +150,19 @@ stepped_down_small steps c few placed =
     let counted = placed.counted in
     numbers_small (c.pos - 1) c.used (phase_back c.phase (c.pos - 1)) (omega arith)
     (back_small c c.phase (c.pos - 1) refl placed.above (omega arith)) (omega arith)
+
+-- and so has the cursor after a turn to the start
+pub turned_to_start_small : (steps : ℕ) (c : Cursor) (cause : Cause) → steps ≤ most_steps → IsPlacedIn steps c
+    → IsSmallCursor (cursor_written (turned_to_start cause c))
+turned_to_start_small steps c Stop few placed =
+    let within = placed.within in
+    let counted = placed.counted in
+    numbers_small c.pos c.used (phase_down 0 c.pos) (omega arith) (down_small 0 c.pos (omega arith)) (omega arith)
+turned_to_start_small steps c Asked few placed =
+    let within = placed.within in
+    let counted = placed.counted in
+    numbers_small c.pos c.used (phase_down 0 c.pos) (omega arith) (down_small 0 c.pos (omega arith)) (omega arith)
+turned_to_start_small steps c Refused few placed =
+    let within = placed.within in
+    let counted = placed.counted in
+    numbers_small c.pos (c.used + 1) (phase_down 0 c.pos) (omega arith) (down_small 0 c.pos (omega arith)) (omega arith)

@@ -10,8 +10,8 @@ use Rattle.commands.specs.declared.items.Item.{Item}
 use Rattle.commands.specs.declared.items.Item.TheVariants.{Transaction, Compensation, Turn, Save}
 use Rattle.commands.specs.declared.items.Phase.{Phase}
 use Rattle.commands.specs.declared.items.Phase.TheVariants.{Run, Back, Ended, Undone}
-use Rattle.commands.specs.declared.refusals.Refusal.{Refusal}
-use Rattle.commands.specs.declared.refusals.Refusal.TheVariants.{Finished, NoSavePoint}
+use Rattle.commands.specs.declared.replies.Refusal.{Refusal}
+use Rattle.commands.specs.declared.replies.Refusal.TheVariants.{Finished, NoSavePoint}
 use Rattle.ledger.specs.Answer.{State}
 use Rattle.ledger.specs.History.{next_want, phase, is_running, is_finished, is_open, may_come}
 use Rattle.ledger.specs.Ledger.{Journey, journey_at, history, fits, IsLegal}

@@ -1,17 +1,20 @@
 -- Why an event is not committed with its reply, and what it leaves of the rowids that the store may choose.
-use Rattle.std.specs.Prelude.{◌⊎◌, ◌+◌, ℕ, suc, Option, Some, None, Result, IsErrOf, IsTrue}
+use Rattle.std.specs.Prelude.{◌≡◌, ◌⊎◌, ◌+◌, ◌*◌, ◌^◌, ◌≤◌, ⊤, ℕ, suc, false, length, Option, Some, None, Result, IsErrOf, IsTrue}
+use Rattle.std.specs.List.{AllByRecursion}
 use Rattle.sqlite.specs.Store.{Ghosts}
 use Rattle.sqlite.specs.Held.{Held, state}
 use Rattle.sqlite.specs.State.{HasCleanDisk}
 use Rattle.commands.specs.Asks.{Asked}
-use Rattle.commands.specs.declared.faults.Fault.{Fault}
-use Rattle.commands.specs.declared.faults.Fault.TheVariants.{Store}
+use Rattle.commands.specs.Texts.{reply_line}
+use Rattle.commands.specs.declared.replies.Fault.{Fault}
+use Rattle.commands.specs.declared.replies.Fault.TheVariants.{Store}
 use Rattle.commands.specs.declared.replies.Reply.{Reply}
 use Rattle.desk_sql.specs.Causes.{IsUp, HasFaulted}
-use Rattle.desk_sql.specs.Rows.{Tables}
-use Rattle.desk_sql.specs.Writable.{HasRowids, MayKeep}
+use Rattle.desk_sql.specs.FoundRows.{is_for}
+use Rattle.desk_sql.specs.Rows.{Tables, AnswerRow}
+use Rattle.desk_sql.specs.Writable.{HasRowids}
 use Rattle.ledger.specs.Answer.{State}
-use Rattle.sql_model.specs.Beginning.{answer_row_of, with_answer}
+use Rattle.sql_model.specs.Beginning.{with_answer}
 use Rattle.sql_model.specs.Keeping.{Keeps}
 use Rattle.sql_model.specs.Standing.{StandsFor}
 use Rattle.sql_writes.specs.Commits.{RanOut}
@@ -20,10 +23,20 @@ use Rattle.sql_writes.specs.Permits.{Permits, rowids_of}
 use Rattle.sql_writes.specs.declared.events.Numbers.{Numbers}
 use Rattle.sql_writes.specs.declared.events.Event.{Event}
 
+-- the text of an ask, if there is one, has at most ten million bytes
+abbrev pub HasShortText : Option Asked → Type 0
+HasShortText None = ⊤
+HasShortText (Some ask) = length ask.text ≤ 10 ^ 7
+
+-- no reply is kept for the ask, and its text and the line of its reply fit a row
+pub record MayAnswer (ask : Asked) (reply : Reply) (t : Tables) : Type 0 where
+  pub unkept : AllByRecursion (λ (k : AnswerRow). is_for ask.agent ask.key k ≡ false) t.answer
+  pub short : length ask.text + length (reply_line reply) ≤ 2 * 10 ^ 7
+
 -- the rows permit an event, and its reply if there is an ask
 abbrev pub PermitsAnswer : Numbers → Event → Option Asked → Reply → Tables → Type 0
 PermitsAnswer n e None reply t = Permits n e t
-PermitsAnswer n e (Some ask) reply t = Permits n e t × MayKeep (answer_row_of ask reply) t
+PermitsAnswer n e (Some ask) reply t = Permits n e t × MayAnswer ask reply t
 
 -- how many rowids the store chooses for them
 abbrev pub answer_rowids : Numbers → Event → Option Asked → ℕ

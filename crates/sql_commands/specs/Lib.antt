@@ -1,5 +1,6 @@
 pub mod Answering
 pub mod Committing
+pub mod Failing
 pub mod Loading
 pub mod Moving
 pub mod OptionChoice

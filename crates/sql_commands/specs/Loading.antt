@@ -1,6 +1,6 @@
 -- What a load of a batch finds, its outcome, and what it leaves.
-use Rattle.std.specs.Prelude.{◌≡◌, ◌≤◌, ℕ, ◌+◌, ◌-◌, not, true, false, List, [], ◌∷◌, map, position, nat_le, Option, Some, None, Result, IfOk, OnOk, IsTrue}
-use Rattle.std.specs.List.{AllByRecursion, list_all}
+use Rattle.std.specs.Prelude.{◌≡◌, ℕ, ◌+◌, ◌-◌, not, true, false, List, [], ◌∷◌, map, position, nat_le, Option, Some, None, Result, IfOk, OnOk, IsTrue}
+use Rattle.std.specs.List.{list_all}
 use Rattle.sqlite.specs.Store.{Ghosts}
 use Rattle.sqlite.specs.Held.{Held, state}
 use Rattle.sqlite.specs.State.{HasCleanDisk}
@@ -11,9 +11,9 @@ use Rattle.commands.specs.Asks.{Asked}
 use Rattle.commands.specs.BatchData.{Batched}
 use Rattle.commands.specs.Batches.{is_good_row}
 use Rattle.commands.specs.Request.{Request}
-use Rattle.commands.specs.declared.faults.Fault.{Fault}
-use Rattle.commands.specs.declared.refusals.Refusal.{Refusal}
-use Rattle.commands.specs.declared.refusals.Refusal.TheVariants.{BelowHeld}
+use Rattle.commands.specs.declared.replies.Fault.{Fault}
+use Rattle.commands.specs.declared.replies.Refusal.{Refusal}
+use Rattle.commands.specs.declared.replies.Refusal.TheVariants.{BelowHeld}
 use Rattle.commands.specs.declared.replies.Reply.{Reply}
 use Rattle.ledger.specs.Answer.{State, kept_for, outcome}
 use Rattle.ledger.specs.Ledger.{batches_named, held, is_not_below_held}
@@ -21,7 +21,6 @@ use Rattle.ledger.specs.Replies as rules
 use Rattle.desk_sql.specs.Rows.{StockRow}
 use Rattle.desk_sql.specs.declared.batches.BatchFound.{BatchFound}
 use Rattle.desk_sql.specs.declared.meta.Meta.{Meta}
-use Rattle.desk_sql.specs.declared.stock.NightFound.{NightFound}
 use Rattle.sql_model.specs.ExpectedRows.{batch_text}
 use Rattle.sql_model.specs.Reading.{stock_row_of}
 use Rattle.sql_model.specs.Standing.{IsDesk}
@@ -50,14 +49,6 @@ AnswersKnown b content r =
     → r ≡ (rules.answer_known b.name b.rows known).reply
 
 -- New batches.
-
--- of each night no more places are free than allotted
-abbrev pub HaveNoMoreFree : List NightFound → Type 0
-HaveNoMoreFree nights = AllByRecursion (λ (n : NightFound). n.free ≤ n.allot) nights
-
--- how many places of a cell journeys hold
-abbrev pub IsHeldOf : Cell → State → ℕ → Type 0
-IsHeldOf x s n = n ≡ held s.ledger x
 
 -- the places of a row's cell, of which so many are held: those that are not held are free; none if the
 -- row has fewer

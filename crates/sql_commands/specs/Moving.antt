@@ -9,13 +9,15 @@ use Rattle.plan.specs.PlanModel.{Planned, want_at}
 use Rattle.commands.specs.Asks.{Asked}
 use Rattle.commands.specs.Request as request
 use Rattle.commands.specs.Request.{Request}
-use Rattle.commands.specs.declared.faults.Fault.{Fault}
+use Rattle.commands.specs.declared.replies.Fault.{Fault}
+use Rattle.commands.specs.declared.items.Cause.{Cause}
+use Rattle.commands.specs.declared.items.Cause.TheVariants as causes
 use Rattle.commands.specs.declared.items.Cursor.{Cursor}
 use Rattle.commands.specs.declared.items.Item.{Item}
 use Rattle.commands.specs.declared.items.Item.TheVariants as item
 use Rattle.commands.specs.declared.items.Phase.TheVariants.{Run}
-use Rattle.commands.specs.declared.refusals.Refusal.{Refusal}
-use Rattle.commands.specs.declared.refusals.Refusal.TheVariants.{Finished}
+use Rattle.commands.specs.declared.replies.Refusal.{Refusal}
+use Rattle.commands.specs.declared.replies.Refusal.TheVariants.{Finished}
 use Rattle.commands.specs.declared.replies.Reply.{Reply}
 use Rattle.ledger.specs.Answer.{State, asker, answer_within, kept_for, outcome}
 use Rattle.ledger.specs.History.{net, last_of}
@@ -35,7 +37,7 @@ use Rattle.sql_writes.specs.declared.events.Event.{Event}
 use Rattle.sql_writes.specs.declared.events.Event.TheVariants.{Transaction, Compensation, Turn, Save}
 use Rattle.sql_commands.specs.Answering.{Counts}
 use Rattle.sql_model.specs.Keeping.{Keeps, MayLeave}
-use Rattle.sql_commands.specs.Placing.{IsSeen, Fits, stepped_up, stepped_down}
+use Rattle.sql_commands.specs.Placing.{IsSeen, SeesStand, Fits, stepped_up, stepped_down, turned_to_start}
 use Rattle.sql_reads.specs.Reading.{stand_of}
 use Rattle.sql_reads.specs.declared.reads.Stand.{Stand}
 use Rattle.sql_commands.specs.declared.options.Choice.{Choice}
@@ -126,6 +128,25 @@ pub record IsStepDown (id : ℕ) (stand : Stand) (choice : Choice) (m : Made) : 
   })
   pub cursor : m.cursor ≡ stepped_down stand.cursor
 
+-- a move of a journey at this cursor turns it back to its start for this cause, whatever its plan
+abbrev pub LeadsToStart : Stand → Motion → Cause → Type 0
+LeadsToStart stand motion.Refused cause = (stand.tries ≤ stand.cursor.used) × (cause ≡ causes.Refused)
+LeadsToStart stand (motion.Abort p) cause = (p ≡ 0) × (stand.cursor.phase ≡ Run) × (cause ≡ causes.Asked)
+LeadsToStart stand motion.Stop cause = ⊥
+LeadsToStart stand motion.Save cause = ⊥
+
+-- the turn of a journey at this cursor to its start, for this cause
+pub record IsTurnedToStart (id : ℕ) (stand : Stand) (cause : Cause) (m : Made) : Type 0 where
+  pub same : m.id ≡ id
+  pub item_is : m.item ≡ item.Turn 0 cause
+  pub event : m.event ≡ Turn (record {
+    journey = id;
+    target = 0;
+    cause = cause;
+    cursor = m.cursor;
+  })
+  pub cursor : m.cursor ≡ turned_to_start cause stand.cursor
+
 -- `fitting` says whether the want fits
 abbrev pub FitsIn : Wanted → State → Bool → Type 0
 FitsIn want s fitting = fitting ≡ fits s.ledger (Some want)
@@ -146,11 +167,11 @@ Comes id stand s c =
     (who : Option (List ℕ)) (r : Record) → IsSeen s who id r → stand_of r ≡ stand
     → ComesFor id stand s r (answer_within s.ledger who (request.Step id)) c
 
--- the step or the compensation exists, and its option has a small number
+-- the step or the compensation exists, and its option has a small number; a journey whose step is refused runs
 abbrev pub MayCome : Stand → Coming → Type 0
 MayCome stand (coming.Up choice) = (stand.cursor.pos < stand.steps) × (choice.option ≤ most_options)
 MayCome stand (coming.Down choice) = (1 ≤ stand.cursor.pos) × (choice.option ≤ most_options)
-MayCome stand coming.Refused = ⊤
+MayCome stand coming.Refused = stand.cursor.phase ≡ Run
 MayCome stand coming.Nothing = ⊤
 
 -- with the rows of an event, and of its reply if there is an ask, tables that represent the old state
@@ -221,22 +242,59 @@ module _ {S : Type 0} (g : Ghosts S) (old new : Held S) (ask : Option Asked) (co
       → IsDue s ask (asked_for id why) counts id r next
       → MayLeave (state g new) s (outcome s ask (asked_for id why)).state
 
+-- if the move is that of a refused step, the journey runs
+abbrev pub Runs : ℕ → Motion → State → Type 0
+Runs id motion.Refused s = (who : Option (List ℕ)) (r : Record) → IsSeen s who id r → r.cursor.phase ≡ Run
+Runs id (motion.Abort p) s = ⊤
+Runs id motion.Stop s = ⊤
+Runs id motion.Save s = ⊤
+
+-- What was read for a move for which no reply is kept: the numbers of `meta` are those of the ledger, and the caller sees a journey
+-- with these steps, tries and cursor. If the move is that of a refused step, the journey runs, and its next want does not fit.
+pub record IsRead (s : State) (ask : Option Asked) (counts : Meta) (id : ℕ) (stand : Stand) (why : Motion) : Type 0 where
+  pub desk : IsDesk s
+  pub new : kept_for s ask ≡ None
+  pub counted : Counts s counts
+  pub here : SeesStand (asker ask) id s (Some stand)
+  pub unfit : IsUnfit id why s
+  pub runs : Runs id why s
+
+module _ {S : Type 0} (g : Ghosts S) (old new : Held S) (ask : Option Asked) (counts : Meta) (id : ℕ)
+    (stand : Stand) (why : Motion) where
+  -- the reply is that of the outcome
+  abbrev pub AnswersRead : Result Reply Fault → Type 0
+  AnswersRead result =
+      HasCleanDisk (state g new) → (s : State) → Keeps (state g old) s → IsRead s ask counts id stand why
+      → IfOk result (λ reply. reply ≡ (outcome s ask (asked_for id why)).reply)
+
+  -- after a success the connection keeps the state of the outcome
+  abbrev pub KeepsRead : Result Reply Fault → Type 0
+  KeepsRead result =
+      (s : State) → Keeps (state g old) s → IsRead s ask counts id stand why
+      → OnOk result (Keeps (state g new) (outcome s ask (asked_for id why)).state)
+
+  -- in every case a crash leaves the old state, or the state of the outcome
+  abbrev pub LeavesRead : Type 0
+  LeavesRead =
+      (s : State) → Keeps (state g old) s → IsRead s ask counts id stand why
+      → MayLeave (state g new) s (outcome s ask (asked_for id why)).state
+
 module _ {S : Type 0} (g : Ghosts S) (old new : Held S) (ask : Option Asked) (id : ℕ) (why : Motion) where
   -- if no reply is kept for the ask, the reply is that of the outcome
   abbrev pub AnswersMove : Result Reply Fault → Type 0
   AnswersMove result =
       HasCleanDisk (state g new) → (s : State) → IsDesk s → Keeps (state g old) s
-      → kept_for s ask ≡ None → IsUnfit id why s
+      → kept_for s ask ≡ None → IsUnfit id why s → Runs id why s
       → IfOk result (λ reply. reply ≡ (outcome s ask (asked_for id why)).reply)
 
   -- after a success the connection keeps the state of the outcome
   abbrev pub KeepsMove : Result Reply Fault → Type 0
   KeepsMove result =
-      (s : State) → IsDesk s → Keeps (state g old) s → kept_for s ask ≡ None → IsUnfit id why s
+      (s : State) → IsDesk s → Keeps (state g old) s → kept_for s ask ≡ None → IsUnfit id why s → Runs id why s
       → OnOk result (Keeps (state g new) (outcome s ask (asked_for id why)).state)
 
   -- in every case a crash leaves the old state, or the state of the outcome
   abbrev pub LeavesMove : Type 0
   LeavesMove =
-      (s : State) → IsDesk s → Keeps (state g old) s → kept_for s ask ≡ None → IsUnfit id why s
+      (s : State) → IsDesk s → Keeps (state g old) s → kept_for s ask ≡ None → IsUnfit id why s → Runs id why s
       → MayLeave (state g new) s (outcome s ask (asked_for id why)).state

@@ -1,18 +1,19 @@
 -- The cursor of a journey by its record, and the item that may come next.
 use Rattle.std.specs.Prelude.{◌≡◌, ℕ, ◌+◌, ◌-◌, ◌<◌, ◌≤◌, ◌^◌, List, IsTrue, Option, Some, None, Result, MatchResult}
 use Rattle.plan.specs.PlanModel.{Planned, step_count, option_count}
+use Rattle.commands.specs.declared.items.Cause.{Cause}
 use Rattle.commands.specs.declared.items.Cursor.{Cursor}
 use Rattle.commands.specs.declared.items.Item.{Item}
 use Rattle.commands.specs.declared.items.Item.TheVariants.{Transaction, Compensation, Turn, Save}
 use Rattle.commands.specs.declared.items.Phase.TheVariants.{Back}
-use Rattle.commands.specs.declared.refusals.Refusal.{Refusal}
+use Rattle.commands.specs.declared.replies.Refusal.{Refusal}
 use Rattle.ledger.specs.History.{is_open}
 use Rattle.ledger.specs.Ledger as l
 use Rattle.ledger.specs.Ledger.{journey_at, history}
 use Rattle.ledger.specs.Answer.{State}
 use Rattle.ledger.specs.Replies.{Answer, refused, seen_journey}
 use Rattle.ledger_transitions.specs.Answers.{moves}
-use Rattle.ledger_transitions.specs.JourneyChanges.{phase_up, phase_back}
+use Rattle.ledger_transitions.specs.JourneyChanges.{phase_up, phase_down, phase_back, used_after}
 use Rattle.ledger_transitions.specs.Cursors.{cursor_of, marks_of}
 use Rattle.saga_core.specs.declared.records.Record.{Record}
 use Rattle.sql_reads.specs.Reading.{stand_of}
@@ -37,6 +38,10 @@ stepped_up steps c = record { pos = c.pos + 1; phase = phase_up steps (c.pos + 1
 -- the cursor of a journey after the compensation of its last standing step
 abbrev pub stepped_down : Cursor → Cursor
 stepped_down c = record { pos = c.pos - 1; phase = phase_back c.phase (c.pos - 1); used = c.used }
+
+-- the cursor of a journey after a turn to its start for this cause
+abbrev pub turned_to_start : Cause → Cursor → Cursor
+turned_to_start cause c = record { pos = c.pos; phase = phase_down 0 c.pos; used = used_after cause c.used }
 
 -- the plan has this option of this step
 pub record HasOption (plan : Planned) (step option : ℕ) : Type 0 where
@@ -63,12 +68,7 @@ pub record IsSeen (s : State) (who : Option (List ℕ)) (id : ℕ) (r : Record) 
   pub cursor : r.cursor ≡ cursor_of r.plan (history s.ledger id)
   pub marks : r.marks ≡ marks_of (history s.ledger id)
 
--- what the caller sees of the journey of this number: its record, or that there is none for this caller
-abbrev pub Sees : Option (List ℕ) → ℕ → State → Option Record → Type 0
-Sees who id s None = seen_journey s.ledger who id ≡ None
-Sees who id s (Some r) = IsSeen s who id r
-
--- the agent, steps and cursor that the caller sees of the journey of this number, or that there is none
+-- the agent, steps, tries and cursor that the caller sees of the journey of this number, or that there is none
 abbrev pub SeesStand : Option (List ℕ) → ℕ → State → Option Stand → Type 0
 SeesStand who id s None = seen_journey s.ledger who id ≡ None
 SeesStand who id s (Some stand) = (r : Record) × IsSeen s who id r × (stand_of r ≡ stand)

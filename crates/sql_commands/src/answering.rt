@@ -5,7 +5,9 @@ ghost use Rattle.commands.specs.Orders.{request_of};
 ghost use Rattle.ledger.specs.Answer.{is_request};
 ghost use Rattle.sql_commands.specs.Answering.{AnswersAgain, IsKeptLine, AnswersFirst, Finds, KeepsOn, KeepsAtMemory, TellsNew};
 ghost use Rattle.sql_commands.specs.Answering.{Answers, KeepsNext, LeavesOld, AnswersNew, KeepsNew, LeavesNew};
-ghost use Rattle.sql_model.specs.Staying.{StaysUp};
+ghost use Rattle.sql_commands.specs.Failing.{FailsFor, LeavesRowidsFor, UsesForNew, UsesStore};
+ghost use Rattle.sql_model.specs.Standing.{IsDesk};
+ghost use Rattle.sql_model.specs.Staying.{SeesAsBefore, StaysUp};
 ghost use Rattle.sql_reads.specs.Causes.{FailsForReason};
 ghost use Rattle.sql_reads.specs.GoodRows.{IsMemory};
 ghost use Rattle.sql_reads.specs.Reading.{LeavesAsBefore, ShowsKept, WasClean};
@@ -61,6 +63,7 @@ fn find_reply<S: Alter>(
 
     ensures store { FailsForReason S.Store conn.old conn.new result }
     ensures up { StaysUp S.Store conn.old conn.new }
+    ensures sees { SeesAsBefore S.Store conn.old conn.new }
 {
     match find_answer(conn, ask.agent().as_str(), ask.key().as_str()) {
         Ok(None) => Ok(None),
@@ -89,6 +92,8 @@ fn answer_new<S: Alter>(
     ensures memory { KeepsAtMemory S.Store conn.old conn.new result }
     ensures left { LeavesNew S.Store conn.old conn.new (asker ask.entry) (request_of command.now) }
     ensures sound { WasClean S.Store conn.old conn.new }
+
+    ensures store { UsesForNew S.Store conn.old conn.new (asker ask.entry) (request_of command.now) result }
 {
     match command {
         Command::Load(batch) => answer_load(alloc, conn, batch, ask),
@@ -120,6 +125,8 @@ fn answer_first<S: Alter>(
     ensures memory { KeepsAtMemory S.Store conn.old conn.new result }
     ensures left { LeavesNew S.Store conn.old conn.new (asker ask.entry) (request_of command.now) }
     ensures sound { WasClean S.Store conn.old conn.new }
+
+    ensures store { UsesForNew S.Store conn.old conn.new (asker ask.entry) (request_of command.now) result }
 {
     match answer_new(alloc, conn, command, ask) {
         Ok(reply) => Ok(Answered {
@@ -148,6 +155,8 @@ fn answer_for<S: Alter>(
     ensures memory { KeepsAtMemory S.Store conn.old conn.new result }
     ensures left { LeavesOld S.Store conn.old conn.new (Some ask.now) (request_of command.now) }
     ensures sound { WasClean S.Store conn.old conn.new }
+
+    ensures store { UsesStore S.Store conn.old conn.new (Some ask.now) (request_of command.now) IsDesk result }
 {
     match find_reply(alloc, conn, ask) {
         Ok(Some(reply)) => Ok(Answered {
@@ -177,6 +186,10 @@ pub fn answer<S: Alter>(
     ensures memory { KeepsAtMemory S.Store conn.old conn.new result }
     ensures left { LeavesOld S.Store conn.old conn.new (asker ask.entry) (request_of command.now) }
     ensures sound { WasClean S.Store conn.old conn.new }
+
+    ensures store { FailsFor S.Store conn.old conn.new (asker ask.entry) (request_of command.now) IsDesk result }
+    ensures rowids { LeavesRowidsFor S.Store conn.old conn.new (asker ask.entry) (request_of command.now) IsDesk }
+    ensures up { StaysUp S.Store conn.old conn.new }
 {
     match ask {
         None => answer_first(alloc, conn, command, None),

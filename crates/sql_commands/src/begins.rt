@@ -5,10 +5,10 @@ ghost use Rattle.commands.specs.Names.{house};
 ghost use Rattle.commands.specs.Request.{Begin};
 ghost use Rattle.ledger.specs.Answer.{asker};
 ghost use Rattle.sql_commands.specs.Answering.{AnswersNew, KeepsNew, LeavesNew, KeepsAtMemory};
+ghost use Rattle.sql_commands.specs.Failing.{UsesForNew};
 ghost use Rattle.sql_reads.specs.Reading.{WasClean};
 
-use crate::committing::commit_answered;
-use crate::counts::read_counts;
+use crate::committing::{commit_answered, read_counts};
 use commands::{Agent, Ask, Fault, MOST_EVENTS, Refusal, Reply};
 use plan::Plan;
 use sql_writes::{Event, JourneyBegun, Numbers};
@@ -40,6 +40,8 @@ pub(crate) fn answer_begin<S: Alter>(
     ensures memory { KeepsAtMemory S.Store conn.old conn.new result }
     ensures left { LeavesNew S.Store conn.old conn.new (asked_by ask.entry) (Begin plan.now) }
     ensures sound { WasClean S.Store conn.old conn.new }
+
+    ensures store { UsesForNew S.Store conn.old conn.new (asked_by ask.entry) (Begin plan.now) result }
 {
     let _steps = plan.steps();
     let counts = read_counts(conn)?;

@@ -11,12 +11,10 @@
 mod answering;
 mod begins;
 mod committing;
-mod counts;
 mod loading;
 mod moves;
-mod next;
 mod options;
 mod step_outcome;
 
 pub use answering::{Answered, answer, know_limits};
-pub use counts::read_counts;
+pub use committing::read_counts;

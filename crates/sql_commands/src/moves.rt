@@ -1,9 +1,9 @@
 //! The reply to a move of a journey for whose ask no reply is kept.
 //!
-//! All reads come first: the numbers of `meta`, and the journey by its rows. Then the item that the rules name is
-//! written in one commit, with its reply if there is an ask. `step_outcome` executes a step, and comes here if its want
-//! does not fit.
-ghost use Rattle.std.specs.Prelude.{◌≡◌, ◌<◌, ◌^◌, ℕ, false, Ok, IfOk, IfSome};
+//! All reads come first, and none comes twice: the numbers of `meta`, the row of the journey, and then the rows of its
+//! plan and its save-points. Then the item that the rules name is written in one commit, with its reply if there is an
+//! ask. `step_outcome` executes a step, and comes here if its want does not fit, with what it has read.
+ghost use Rattle.std.specs.Prelude.{◌≡◌, ◌≤◌, ◌<◌, ◌^◌, ℕ, false, Ok, IfOk, IfSome, IsOk};
 ghost use Rattle.std.specs.Option.{option_copied as asked_by};
 ghost use Rattle.ledger.specs.Answer.{asker};
 ghost use Rattle.ledger.specs.Replies.{sees};
@@ -12,23 +12,26 @@ ghost use Rattle.ledger.specs.Answer.{State};
 ghost use Rattle.sql_model.specs.Standing.{IsDesk};
 ghost use Rattle.sql_commands.specs.Answering.{KeepsAtMemory, IsCounted};
 ghost use Rattle.sql_commands.specs.declared.moves.Motion.TheVariants as motion;
+ghost use Rattle.plan.specs.Limits.{most_steps};
 ghost use Rattle.plan.specs.PlanModel.{Planned};
 ghost use Rattle.sql_commands.specs.Moving.{AnswersDue, KeepsDue, LeavesDue, IsEventOf, IsNext, asked_for};
 ghost use Rattle.sql_commands.specs.Moving.{AnswersMade, KeepsMade, LeavesMade, AnswersMove, KeepsMove, LeavesMove};
-ghost use Rattle.sql_commands.specs.Placing.{IsPlaced, MayBeMade, Sees};
-ghost use Rattle.sql_model.specs.Staying.{StaysUp};
+ghost use Rattle.sql_commands.specs.Moving.{AnswersRead, KeepsRead, LeavesRead, IsTurnedToStart, LeadsToStart};
+ghost use Rattle.sql_commands.specs.Placing.{IsPlaced, IsPlacedIn, MayBeMade, SeesStand};
+ghost use Rattle.sql_commands.specs.Failing.{UsesForDue, UsesForMade, UsesForMove, UsesForRead};
+ghost use Rattle.commands.specs.declared.items.Phase.TheVariants.{Run};
+ghost use Rattle.sql_model.specs.Staying.{SeesAsBefore, StaysUp};
 ghost use Rattle.sql_reads.specs.Causes.{FailsForReason};
 ghost use Rattle.sql_reads.specs.Reading.{KeepsOn, LeavesAsBefore, ShowsKept, WasClean};
 
-use crate::committing::commit_answered;
-use crate::counts::read_counts;
-use crate::next::{cursor_after, is_placed, may_be_made};
-use commands::{Agent, Ask, Cause, Cursor, Fault, Item, MOST_EVENTS, Refusal, Reply};
-use desk_sql::{Meta, Version};
-use plan::Plan;
+use crate::committing::{commit_answered, read_counts};
+use crate::options::{cursor_after, cursor_to_start, is_placed, may_be_made};
+use commands::{Agent, Ask, Cause, Cursor, Fault, Item, MOST_EVENTS, Phase, Refusal, Reply};
+use desk_sql::Meta;
+use plan::{MOST_STEPS, Plan};
 use saga_core::{Move, Record, decide, saved, turned};
 use savepoints::Turn;
-use sql_reads::{LARGEST, read_journey};
+use sql_reads::{LARGEST, Stand, read_record, read_stand};
 use sql_writes::{Event, Numbers, SaveMade, StepMade, TurnMade};
 use sqlite::{Alter, Connection};
 use std::alloc::Global;
@@ -53,34 +56,36 @@ pub(crate) fn is_seen_by(agent: Agent, ask: Option<&Ask>) -> bool
     }
 }
 
-/// Reads the journey of that number, if the caller sees it. An impossible cursor in its rows is a fault of the store.
-fn find_seen<S: Alter>(
-    alloc: Global,
+/// Reads the agent, the number of steps, the tries and the cursor of the journey of that number, if the caller sees it. An
+/// impossible cursor is a fault of the store.
+pub(crate) fn find_stand<S: Alter>(
     conn: &mut Connection<S>,
     id: u64,
     ask: Option<&Ask>,
-) -> Result<Option<Record>, Fault>
+) -> Result<Option<Stand>, Fault>
     requires outside { conn.old.in_transaction ≡ false }
 
     ensures outside { conn.new.in_transaction ≡ false }
-    ensures seen { ShowsKept S.Store conn.old conn.new result (Sees (asker (asked_by ask.entry)) id) }
-    ensures placed { IfOk result (λ found. IfSome found (λ r. IsPlaced r.plan r.cursor)) }
-    ensures small { IfOk result (λ found. IfSome found (λ r. id < 2 ^ 63)) }
+    ensures seen { ShowsKept S.Store conn.old conn.new result (SeesStand (asker (asked_by ask.entry)) id) }
+    ensures placed { IfOk result (λ found. IfSome found (λ it. IsPlacedIn it.steps it.cursor)) }
+    ensures few { IfOk result (λ found. IfSome found (λ it. it.steps ≤ most_steps)) }
+    ensures small { IfOk result (λ found. IfSome found (λ it. id < 2 ^ 63)) }
     ensures same { KeepsOn S.Store conn.old conn.new }
     ensures stop { LeavesAsBefore S.Store conn.old conn.new }
     ensures less { WasClean S.Store conn.old conn.new }
 
     ensures store { FailsForReason S.Store conn.old conn.new result }
     ensures up { StaysUp S.Store conn.old conn.new }
+    ensures sees { SeesAsBefore S.Store conn.old conn.new }
 {
-    match read_journey(alloc, conn, Version::Two, id) {
+    match read_stand(conn, id) {
         Ok(None) => Ok(None),
-        Ok(Some(journey)) => {
-            if !is_seen_by(journey.agent, ask) {
+        Ok(Some(stand)) => {
+            if !is_seen_by(stand.agent, ask) {
                 return Ok(None);
             }
-            if id <= LARGEST && is_placed(journey.plan.steps(), journey.cursor) {
-                Ok(Some(journey))
+            if id <= LARGEST && stand.steps <= MOST_STEPS && is_placed(stand.steps, stand.cursor) {
+                Ok(Some(stand))
             } else {
                 Err(Fault::Store)
             }
@@ -146,6 +151,8 @@ pub(crate) fn make_event<S: Alter>(
     ensures memory { KeepsAtMemory S.Store conn.old conn.new result }
     ensures left { LeavesMade S.Store conn.old conn.new (asked_by ask.entry) counts made.now }
     ensures sound { WasClean S.Store conn.old conn.new }
+
+    ensures store { UsesForMade S.Store conn.old conn.new (asked_by ask.entry) counts made.now result }
 {
     if counts.events >= MOST_EVENTS {
         return Ok(Reply::Refused(Refusal::Limit));
@@ -189,6 +196,9 @@ fn make<S: Alter>(
     ensures left { LeavesDue S.Store conn.old conn.new (asked_by ask.entry) counts id journey.now
         (Ok item) }
     ensures sound { WasClean S.Store conn.old conn.new }
+
+    ensures store { UsesForDue S.Store conn.old conn.new (asked_by ask.entry) counts id journey.now
+        (Ok item) result }
 {
     if !may_be_made(&journey.plan, journey.cursor, item) {
         return Err(Fault::Store);
@@ -226,6 +236,9 @@ fn carry_out<S: Alter>(
     ensures left { LeavesDue S.Store conn.old conn.new (asked_by ask.entry) counts id journey.now
         next }
     ensures sound { WasClean S.Store conn.old conn.new }
+
+    ensures store { UsesForDue S.Store conn.old conn.new (asked_by ask.entry) counts id journey.now
+        next result }
 {
     match next {
         Err(refusal) => Ok(Reply::Refused(refusal)),
@@ -253,6 +266,7 @@ fn refused(journey: &Record) -> Result<Result<Item, Refusal>, Fault>
 
     ensures next { IfOk result (λ next. (id : ℕ) (s : State) → IsDesk s
         → IsNext id journey.now motion.Refused s next) }
+    ensures there { journey.now.cursor.phase ≡ Run → IsOk result }
 {
     match decide(&journey.plan, &journey.marks, &journey.cursor, false) {
         Move::Turn(target) => Ok(Ok(Item::Turn {
@@ -269,6 +283,7 @@ fn next_of(journey: &Record, why: Motion) -> Result<Result<Item, Refusal>, Fault
 
     ensures next { IfOk result (λ next. (id : ℕ) (s : State) → IsDesk s
         → IsNext id journey.now why s next) }
+    ensures there { (why ≡ motion.Refused → journey.now.cursor.phase ≡ Run) → IsOk result }
 {
     let plan = &journey.plan;
     let marks = &journey.marks;
@@ -281,6 +296,76 @@ fn next_of(journey: &Record, why: Motion) -> Result<Result<Item, Refusal>, Fault
         Motion::Stop => Ok(turned(plan, marks, journey.cursor, Turn::Stop, Cause::Stop)),
         Motion::Save => Ok(saved(plan, marks, journey.cursor)),
     }
+}
+
+/// Why a move of a journey turns it back to its start, if it does so whatever the plan: its next want does not fit and no
+/// try is left, or it runs and is asked to.
+fn start_cause(stand: &Stand, why: Motion) -> Option<Cause>
+    ensures start { IfSome result (LeadsToStart stand.now why) }
+{
+    match why {
+        Motion::Refused if stand.cursor.used as u64 >= stand.tries => Some(Cause::Refused),
+        Motion::Abort(0) if stand.cursor.phase == Phase::Run => Some(Cause::Asked),
+        _ => None,
+    }
+}
+
+/// The turn of a journey at this cursor back to its start, for this cause.
+fn turn_to_start<'x>(id: u64, stand: &Stand, cause: Cause) -> Made<'x>
+    requires id { id < 2 ^ 63 }
+    requires placed { IsPlacedIn stand.now.steps stand.now.cursor }
+    requires few { stand.now.steps ≤ most_steps }
+
+    ensures start { IsTurnedToStart id stand.now cause result }
+    ensures small { IsSmall result.event }
+{
+    let cursor = cursor_to_start(stand.cursor, cause);
+    Made {
+        id,
+        item: Item::Turn { target: 0, cause },
+        event: Event::Turn(TurnMade {
+            journey: id,
+            target: 0,
+            cause,
+            cursor,
+        }),
+        cursor,
+    }
+}
+
+/// Executes a move of a journey for whose ask no reply is kept, after the numbers of `meta` and the row of the journey were
+/// read.
+pub(crate) fn answer_motion<S: Alter>(
+    alloc: Global,
+    conn: &mut Connection<S>,
+    counts: Meta,
+    id: u64,
+    stand: &Stand,
+    why: Motion,
+    ask: Option<&Ask>,
+) -> Result<Reply, Fault>
+    requires outside { conn.old.in_transaction ≡ false }
+    requires counted { IsCounted counts }
+    requires id { id < 2 ^ 63 }
+    requires placed { IsPlacedIn stand.now.steps stand.now.cursor }
+    requires few { stand.now.steps ≤ most_steps }
+
+    ensures outside { conn.new.in_transaction ≡ false }
+    ensures reply { AnswersRead S.Store conn.old conn.new (asked_by ask.entry) counts id stand.now why result }
+    ensures after { KeepsRead S.Store conn.old conn.new (asked_by ask.entry) counts id stand.now why result }
+    ensures memory { KeepsAtMemory S.Store conn.old conn.new result }
+    ensures left { LeavesRead S.Store conn.old conn.new (asked_by ask.entry) counts id stand.now why }
+    ensures sound { WasClean S.Store conn.old conn.new }
+
+    ensures store { UsesForRead S.Store conn.old conn.new (asked_by ask.entry) counts id stand.now why result }
+{
+    if let Some(cause) = start_cause(stand, why) {
+        let made = turn_to_start(id, stand, cause);
+        return make_event(alloc, conn, counts, &made, ask);
+    }
+    let journey = read_record(alloc, conn, id, stand)?;
+    let next = next_of(&journey, why)?;
+    carry_out(alloc, conn, counts, id, &journey, next, ask)
 }
 
 /// Executes a move of a journey for whose ask no reply is kept.
@@ -299,14 +384,13 @@ pub(crate) fn answer_move<S: Alter>(
     ensures memory { KeepsAtMemory S.Store conn.old conn.new result }
     ensures left { LeavesMove S.Store conn.old conn.new (asked_by ask.entry) id why }
     ensures sound { WasClean S.Store conn.old conn.new }
+
+    ensures store { UsesForMove S.Store conn.old conn.new (asked_by ask.entry) id why result }
 {
     let counts = read_counts(conn)?;
-    match find_seen(alloc, conn, id, ask) {
+    match find_stand(conn, id, ask) {
         Ok(None) => Ok(Reply::Refused(Refusal::NoJourney)),
-        Ok(Some(journey)) => {
-            let next = next_of(&journey, why)?;
-            carry_out(alloc, conn, counts, id, &journey, next, ask)
-        }
+        Ok(Some(stand)) => answer_motion(alloc, conn, counts, id, &stand, why, ask),
         Err(fault) => Err(fault),
     }
 }

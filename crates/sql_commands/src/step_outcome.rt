@@ -1,29 +1,27 @@
 //! The outcome of a step of a journey, by the rows of that step alone.
 //!
 //! A want that fits is taken, and a step is compensated, without the other rows of the plan. If the want does not fit,
-//! the journey turns, and the whole plan is read.
+//! the journey turns, and more of the plan is read only if a try is left.
 ghost use Rattle.std.specs.Prelude.{◌≡◌, ◌≤◌, ◌<◌, ◌^◌, false, true, IfOk, IfSome};
 ghost use Rattle.std.specs.Option.{option_copied as asked_by};
 ghost use Rattle.plan.specs.Limits.{most_options, most_steps};
-ghost use Rattle.ledger.specs.Answer.{asker};
 ghost use Rattle.desk_sql.specs.declared.versions.Version.TheVariants.{Two};
-ghost use Rattle.sql_model.specs.Staying.{StaysUp};
+ghost use Rattle.sql_model.specs.Staying.{SeesAsBefore, StaysUp};
 ghost use Rattle.sql_reads.specs.Causes.{FailsForReason, FailsWhere};
 ghost use Rattle.sql_reads.specs.Reading.{KeepsOn, LeavesAsBefore, ShowsKept, WasClean};
 ghost use Rattle.sql_commands.specs.Answering.{AnswersNew, KeepsNew, LeavesNew, KeepsAtMemory};
+ghost use Rattle.sql_commands.specs.Failing.{UsesForNew};
 ghost use Rattle.sql_commands.specs.Moving.{Comes, FitsIn, MayCome, IsStepUp, IsStepDown};
-ghost use Rattle.sql_commands.specs.Placing.{IsPlacedIn, SeesStand, StandsAt};
+ghost use Rattle.sql_commands.specs.Placing.{IsPlacedIn, StandsAt};
 ghost use Rattle.commands.specs.Request.{Step};
 ghost use Rattle.sql_writes.specs.Kinds.{IsSmall};
 
-use crate::counts::read_counts;
-use crate::moves::{Made, Motion, answer_move, is_seen_by, make_event};
-use crate::next::{cursor_down, cursor_up, is_placed};
-use crate::options::{Choice, last_choice, next_choice};
+use crate::committing::read_counts;
+use crate::moves::{Made, Motion, answer_motion, find_stand, make_event};
+use crate::options::{Choice, cursor_down, cursor_up, last_choice, next_choice};
 use allotment::{Want, fits};
 use commands::{Ask, Fault, Item, Phase, Refusal, Reply};
-use plan::MOST_STEPS;
-use sql_reads::{LARGEST, Stand, read_cells, read_stand};
+use sql_reads::{Stand, read_cells};
 use sql_writes::{Event, StepMade};
 use sqlite::{Alter, Connection};
 use std::alloc::Global;
@@ -39,43 +37,6 @@ pub(crate) enum Coming {
     Refused,
     /// Nothing: the journey has finished.
     Nothing,
-}
-
-/// Reads the agent, the number of steps and the cursor of the journey of that number, if the caller sees it. An
-/// impossible cursor is a fault of the store.
-fn find_stand<S: Alter>(
-    conn: &mut Connection<S>,
-    id: u64,
-    ask: Option<&Ask>,
-) -> Result<Option<Stand>, Fault>
-    requires outside { conn.old.in_transaction ≡ false }
-
-    ensures outside { conn.new.in_transaction ≡ false }
-    ensures seen { ShowsKept S.Store conn.old conn.new result (SeesStand (asker (asked_by ask.entry)) id) }
-    ensures placed { IfOk result (λ found. IfSome found (λ it. IsPlacedIn it.steps it.cursor)) }
-    ensures few { IfOk result (λ found. IfSome found (λ it. it.steps ≤ most_steps)) }
-    ensures small { IfOk result (λ found. IfSome found (λ it. id < 2 ^ 63)) }
-    ensures same { KeepsOn S.Store conn.old conn.new }
-    ensures stop { LeavesAsBefore S.Store conn.old conn.new }
-    ensures less { WasClean S.Store conn.old conn.new }
-
-    ensures store { FailsForReason S.Store conn.old conn.new result }
-    ensures up { StaysUp S.Store conn.old conn.new }
-{
-    match read_stand(conn, id) {
-        Ok(None) => Ok(None),
-        Ok(Some(stand)) => {
-            if !is_seen_by(stand.agent, ask) {
-                return Ok(None);
-            }
-            if id <= LARGEST && stand.steps <= MOST_STEPS && is_placed(stand.steps, stand.cursor) {
-                Ok(Some(stand))
-            } else {
-                Err(Fault::Store)
-            }
-        }
-        Err(fault) => Err(fault),
-    }
 }
 
 /// The next step of a journey at this cursor, with this option.
@@ -152,6 +113,7 @@ fn fits_nights<S: Alter>(
 
     ensures store { FailsForReason S.Store conn.old conn.new result }
     ensures up { StaysUp S.Store conn.old conn.new }
+    ensures sees { SeesAsBefore S.Store conn.old conn.new }
 {
     match read_cells(alloc, conn, want) {
         Ok(cells) => Ok(fits(cells.as_slice(), want)),
@@ -180,6 +142,7 @@ fn find_coming<S: Alter>(
 
     ensures store { FailsWhere S.Store conn.old conn.new Two result (StandsAt id stand.now) }
     ensures up { StaysUp S.Store conn.old conn.new }
+    ensures sees { SeesAsBefore S.Store conn.old conn.new }
 {
     match stand.cursor.phase {
         Phase::Run => {
@@ -214,6 +177,8 @@ pub(crate) fn answer_step<S: Alter>(
     ensures memory { KeepsAtMemory S.Store conn.old conn.new result }
     ensures left { LeavesNew S.Store conn.old conn.new (asked_by ask.entry) (Step id) }
     ensures sound { WasClean S.Store conn.old conn.new }
+
+    ensures store { UsesForNew S.Store conn.old conn.new (asked_by ask.entry) (Step id) result }
 {
     let counts = read_counts(conn)?;
     match find_stand(conn, id, ask) {
@@ -227,7 +192,9 @@ pub(crate) fn answer_step<S: Alter>(
                 let made = step_down(id, &stand, &choice);
                 make_event(alloc, conn, counts, &made, ask)
             }
-            Coming::Refused => answer_move(alloc, conn, id, Motion::Refused, ask),
+            Coming::Refused => {
+                answer_motion(alloc, conn, counts, id, &stand, Motion::Refused, ask)
+            }
             Coming::Nothing => Ok(Reply::Refused(Refusal::Finished)),
         },
         Err(fault) => Err(fault),

@@ -5,7 +5,7 @@ use Rattle.std.proofs.lemmas.Bool.{and_parts, and_from, le-leb}
 use Rattle.std.proofs.lemmas.Slice.Eq.{bytes_eq-Decides}
 use Rattle.commands.specs.Asks.{Asked}
 use Rattle.commands.specs.Request.{Request, Begin}
-use Rattle.commands.specs.declared.refusals.Refusal.TheVariants.{Limit}
+use Rattle.commands.specs.declared.replies.Refusal.TheVariants.{Limit}
 use Rattle.commands.specs.Texts.{is_accepted}
 use Rattle.plan.specs.PlanModel.{Planned}
 use Rattle.ledger.specs.Answer.{Kept, KeptReply, State, refused, answer_begin, most_events, asker, text_of, kept_for, answered_again, outcome_for, carried_out, outcome}

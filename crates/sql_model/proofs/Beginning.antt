@@ -16,7 +16,7 @@ use Rattle.commands.specs.Request.{Begin}
 use Rattle.commands.specs.Texts.{is_accepted}
 use Rattle.commands.specs.declared.items.Phase.{Phase}
 use Rattle.commands.specs.declared.items.Phase.TheVariants.{Run}
-use Rattle.commands.specs.declared.refusals.Refusal.TheVariants.{Limit}
+use Rattle.commands.specs.declared.replies.Refusal.TheVariants.{Limit}
 use Rattle.commands.specs.declared.replies.Reply.TheVariants.{Begun as Begins}
 use Rattle.ledger.specs.History.{phase_at, is_taken}
 use Rattle.ledger.specs.Ledger.{Event, Loaded, Began, Did, Journey, journeys, journey_at, history, held, allotment, IsLegal}

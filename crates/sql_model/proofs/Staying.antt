@@ -1,19 +1,24 @@
--- A store that stays up, and the fault that a failed call is. For the functions of `sql_reads`, `sql_writes` and above.
-use Rattle.std.proofs.Common.{◌≡◌, ◌≤◌, ℕ, inl, inr, sym, ◌∙◌, arith}
+-- A store that stays up and sees what it saw, and the fault that a failed call is. For the functions of `sql_reads`,
+-- `sql_writes` and above.
+use Rattle.std.proofs.Common.{◌≡◌, ◌≤◌, ◌⊎◌, ℕ, inl, inr, sym, subst, IsTrue, ◌∙◌, arith}
 use Rattle.std.specs.Prelude.{◌↔◌, min, ◌^◌, ◌+◌, ◌-◌}
 use Rattle.sqlite.specs.Store.{Ghosts}
-use Rattle.sqlite.specs.State.{State as Connected, HasCleanDisk, Survives}
+use Rattle.sqlite.specs.State.{State as Connected, HasCleanDisk, IsRolledBack, IsUnchanged, KeepsCommit, Survives}
+use Rattle.sqlite.specs.Effect.{Database}
 use Rattle.sqlite.specs.Held.{Held, state}
 use Rattle.sqlite.specs.declared.error.Error.{Error}
 use Rattle.sqlite.specs.declared.error.Error.TheVariants.{SqliteFailure}
 use Rattle.sqlite.specs.declared.error.ErrorCode.TheVariants.{OutOfMemory}
 use Rattle.sqlite.specs.Tree.{Trees}
-use Rattle.commands.specs.declared.faults.Fault.{Fault}
-use Rattle.commands.specs.declared.faults.Fault.TheVariants.{Memory, Store}
-use Rattle.desk_sql.specs.Calls.{LeavesNoMore}
+use Rattle.commands.specs.declared.replies.Fault.{Fault}
+use Rattle.commands.specs.declared.replies.Fault.TheVariants.{Memory, Store}
+use Rattle.desk_sql.specs.Calls.{ChangesNothing, LeavesNoMore}
 use Rattle.desk_sql.specs.Causes.{IsUp, HasFaulted, HasReason}
-use Rattle.sql_model.specs.Keeping.{WasClean}
-use Rattle.sql_model.specs.Staying.{StaysUp}
+use Rattle.desk_sql.specs.Writable.{HasRowids}
+use Rattle.desk_sql.specs.declared.versions.Version.{Version}
+use Rattle.ledger.specs.Answer.{State}
+use Rattle.sql_model.specs.Keeping.{KeepsIn, WasClean}
+use Rattle.sql_model.specs.Staying.{SeesAsBefore, StaysUp}
 
 -- a fault that an error of the store was turned into
 pub of_error : (old new : Connected) (e : Error) (f : Fault)
@@ -68,3 +73,31 @@ module _ {S : Type 0} (g : Ghosts S) (a b c : Held S) where
     | inr faulted ↦ earlier _ _ _ faulted two.counts
     | inl mid ↦ later _ _ _ one.counts (fails mid)
   ]
+
+-- What a store sees after a read.
+
+-- a statement that changes nothing, or whose transaction is rolled back, commits nothing
+quiet_commit : (a b : Connected) → IsUnchanged a b ⊎ IsRolledBack a b → KeepsCommit a b
+quiet_commit a b (inl same) = record { was_open = λ _. same.0.was_open; committed = λ _. same.0.committed_is }
+quiet_commit a b (inr back) = record { was_open = back.was_open; committed = λ live. (back.undone live).1 }
+
+-- and sees what it saw, where all of that was committed
+quiet_sees : (a b : Connected) → IsUnchanged a b ⊎ IsRolledBack a b → IsTrue b.is_open → a.now ≡ a.committed → b.now ≡ a.now
+quiet_sees a b (inl same) live settled = same.0.now_is
+quiet_sees a b (inr back) live settled = (back.undone live).0 ∙ sym settled
+
+module _ {S : Type 0} (g : Ghosts S) (old new : Held S) where
+  -- a read of rows sees what it saw
+  pub sees_again : ChangesNothing g old new → SeesAsBefore g old new
+  sees_again quiet = record {
+    kept = λ clean. quiet_commit (state g old) (state g new) (quiet clean);
+    sees = λ clean live settled. quiet_sees (state g old) (state g new) (quiet clean) live settled;
+  }
+
+  -- so as many rowids are left as before, on a state that is kept
+  pub rowids_stay : {v : Version} → SeesAsBefore g old new → WasClean g old new → (s : State) → KeepsIn v (state g old) s
+      → HasCleanDisk (state g new) → IsTrue (state g new).is_open
+      → (n : ℕ) → HasRowids n (state g old).now.trees → HasRowids n (state g new).now.trees
+  rowids_stay again less s keeps clean live n has =
+      let saw = (keeps (less clean)).sees ((again.kept clean).was_open live) in
+      subst (λ (d : Database). HasRowids n d.trees) (sym (again.sees clean live saw.committed)) has

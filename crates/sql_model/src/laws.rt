@@ -49,7 +49,8 @@ pub fn new_desk_is_found<S: Alter>(conn: &Connection<S>)
     requires opened { HasCleanDisk (state S.Store conn.now)
         → Opens (state S.Store conn.now) × IsLive (state S.Store conn.now) }
     requires only { LeavesOnly (state S.Store conn.now) }
-    requires empty { HasCleanDisk (state S.Store conn.now) → (state S.Store conn.now).now.trees ≡ no_trees }
+    requires empty { HasCleanDisk (state S.Store conn.now)
+        → (state S.Store conn.now).now.trees ≡ no_trees }
 
     ensures found { StoodFor Two (state S.Store conn.now) start }
 {

@@ -12,6 +12,7 @@ use Rattle.sql_model.specs.Keeping.{KeepsIn}
 use Rattle.desk_sql.specs.RemainingRows.{HandsFirst as HandsFirstRow, Hands as HandsRows, StaysAsItIs}
 use Rattle.saga_core.specs.RowSources.{HandsFirst}
 use Rattle.sql_model.proofs.KeepLemmas.{seen_by, quiet_keeps}
+use Rattle.sql_model.proofs.Staying.{sees_again}
 use Rattle.sql_reads.specs.RemainingRows.{IsLeftAsItWas}
 use Rattle.sql_reads.proofs.ReadLemmas.{was_clean, as_before}
 
@@ -23,6 +24,7 @@ left_by g old new same survives outside = record {
     keeps = λ v s keeps clean. quiet_keeps (state g old) (state g new) s (keeps (was_clean g old new survives clean)) (same clean) survives clean;
     stop = as_before g old new survives;
     less = was_clean g old new survives;
+    sees = sees_again g old new same;
   };
   outside = outside;
 }

@@ -134,7 +134,7 @@ record_shown l id r plan marks b told planned marked tells =
     ∙ record_told l (journey_of r) a b (ap (journey_at l) number ∙ there.at) there.is tells.agent
     (tells.same_plan ∙ planned a there.at there.is.tries) (ap cursor_row same_cursor ∙ sym there.is.cursor) (tells.same_marks ∙ marked ∙ ap (λ n. marks_of (history l n)) (sym number)))
 
--- the agent, steps and cursor in a row are those of the record
+-- the agent, steps, tries and cursor in a row are those of the record
 pub stand_shown : (l : List Event) (id : ℕ) (r : JourneyFound) (b : Stand)
     → Tells (λ (x : JourneyRow) a. (x.id ≡ id) × IsJourneyOf l x a) (Some (journey_of r)) (journey_at l id)
     → TellsStand r b → Some b ≡ option_map stand_of (record_of l id)
@@ -145,12 +145,44 @@ stand_shown l id r b told tells =
     let same_cursor : b.cursor ≡ cursor_of a.plan (history l id) =
     (let here : b.cursor ≡ cursor_of a.plan (history l r.id) = cc in here ∙ ap (λ n. cursor_of a.plan (history l n)) there.same) in
     ap Some
-    (ap (λ x. made x b.steps b.cursor) (tells.agent ∙ there.is.agent) ∙ ap (λ n. made a.agent n b.cursor) (tells.steps ∙ there.is.steps)
-    ∙ ap (made a.agent (step_count a.plan)) same_cursor)
+    (ap (λ x. made x b.steps b.tries b.cursor) (tells.agent ∙ there.is.agent) ∙ ap (λ n. made a.agent n b.tries b.cursor) (tells.steps ∙ there.is.steps)
+    ∙ ap (λ n. made a.agent (step_count a.plan) n b.cursor) (tells.tries ∙ there.is.tries)
+    ∙ ap (made a.agent (step_count a.plan) a.plan.tries) same_cursor)
     ∙ sym (ap (λ o. option_map stand_of (option_map (record_of_journey (history l id)) o)) there.at)
   where
-    made : List ℕ → ℕ → Cursor → Stand
-    made agent steps cursor = record { agent = agent; steps = steps; cursor = cursor }
+    made : List ℕ → ℕ → ℕ → Cursor → Stand
+    made agent steps tries cursor = record { agent = agent; steps = steps; tries = tries; cursor = cursor }
+
+-- the journey of a stand is there, with its tries and its steps
+pub record HasRow (l : List Event) (id : ℕ) (stand : Stand) : Type 0 where
+  pub journey : Journey
+  pub at : journey_at l id ≡ Some journey
+  pub is : stand ≡ stand_of (record_of_journey (history l id) journey)
+
+pub has_row : (l : List Event) (id : ℕ) (stand : Stand) → Some stand ≡ option_map stand_of (record_of l id) → HasRow l id stand
+has_row l id stand = go (journey_at l id) refl
+  where
+    go : (o : Option Journey) → journey_at l id ≡ o → Some stand ≡ option_map stand_of (option_map (record_of_journey (history l id)) o) → HasRow l id stand
+    go None e t = cc
+    go (Some a) e t = record { journey = a; at = e; is = cc }
+
+-- the record built of a stand, a plan and save-points is the one in the ledger
+pub stand_record : (l : List Event) (id : ℕ) (stand : Stand) (plan : Planned) (marks : set.FinSet nat_cmp)
+    → Some stand ≡ option_map stand_of (record_of l id)
+    → ((a : Journey) → journey_at l id ≡ Some a → stand.tries ≡ a.plan.tries → plan ≡ a.plan) → marks ≡ marks_of (history l id)
+    → Some (record { agent = stand.agent; plan = plan; cursor = stand.cursor; marks = marks }) ≡ record_of l id
+stand_record l id stand plan marks has planned marked =
+    let row = has_row l id stand has in
+    let a = row.journey in
+    let same : plan ≡ a.plan = planned a row.at (ap (λ (x : Stand). x.tries) row.is) in
+    ap Some
+    (ap (λ x. made x plan stand.cursor marks) (ap (λ (x : Stand). x.agent) row.is) ∙ ap (λ x. made a.agent x stand.cursor marks) same
+    ∙ ap (λ x. made a.agent a.plan x marks) (ap (λ (x : Stand). x.cursor) row.is)
+    ∙ ap (made a.agent a.plan (cursor_of a.plan (history l id))) marked)
+    ∙ sym (ap (λ o. option_map (record_of_journey (history l id)) o) row.at)
+  where
+    made : List ℕ → Planned → Cursor → set.FinSet nat_cmp → Record
+    made agent plan cursor marks = record { agent = agent; plan = plan; cursor = cursor; marks = marks }
 
 -- if no row is found, there is no agent, steps or cursor
 pub stand_none : (l : List Event) (id : ℕ) → Tells (λ (r : JourneyRow) a. (r.id ≡ id) × IsJourneyOf l r a) None (journey_at l id)

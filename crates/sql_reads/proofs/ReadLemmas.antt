@@ -12,7 +12,9 @@ use Rattle.ledger.specs.Answer.{State}
 use Rattle.sql_model.specs.Standing.{StandsIn}
 use Rattle.sql_model.specs.Keeping.{KeepsIn}
 use Rattle.sql_reads.specs.Reading.{KeepsOn, KeepsEach, LeavesAsBefore, WasClean, OnlyReads}
+use Rattle.sql_model.specs.Staying.{sees_twice}
 use Rattle.sql_model.proofs.KeepLemmas.{seen_by, left_before, quiet_keeps}
+use Rattle.sql_model.proofs.Staying.{sees_again}
 
 module _ {S : Type 0} (g : Ghosts S) (old new : Held S) where
   -- a store that returns what was written after the read did so before
@@ -34,7 +36,7 @@ module _ {S : Type 0} (g : Ghosts S) (old new : Held S) where
   -- all that a read leaves as it was
   pub only_reads : ChangesNothing g old new → LeavesNoMore g old new → OnlyReads g old new
   only_reads quiet survives =
-      record { keeps = keeps_each quiet survives; stop = as_before survives; less = was_clean survives }
+      record { keeps = keeps_each quiet survives; stop = as_before survives; less = was_clean survives; sees = sees_again g old new quiet }
 
   -- what was found in tables of this version that represent the state
   pub record HasFound (v : Version) {V : Type 0} (s : State) (Finds : Tables → V → Type 0) (it : V) : Type 0 where
@@ -61,6 +63,7 @@ module _ {S : Type 0} (g : Ghosts S) (old mid new : Held S) where
     keeps = λ v s keeps. two.keeps v s (one.keeps v s keeps);
     stop = λ clean db may. one.stop (two.less clean) db (two.stop clean db may);
     less = λ clean. one.less (two.less clean);
+    sees = sees_twice g old mid new one.sees two.sees two.less;
   }
 
 -- the postcondition of a success may be replaced by a weaker one

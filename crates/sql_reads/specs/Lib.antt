@@ -3,6 +3,7 @@ pub mod Following
 pub mod GoodRows
 pub mod RemainingRows
 pub mod Lending
+pub mod NightsRead
 pub mod PlanRows
 pub mod Reading
 pub mod ItemSearch

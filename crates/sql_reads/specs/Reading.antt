@@ -10,7 +10,7 @@ use Rattle.sqlite.specs.Tree.{Trees}
 use Rattle.sqlite.specs.Store.{Ghosts}
 use Rattle.sqlite.specs.Held.{Held, state}
 use Rattle.sqlite.specs.State.{HasCleanDisk}
-use Rattle.commands.specs.declared.faults.Fault.{Fault}
+use Rattle.commands.specs.declared.replies.Fault.{Fault}
 use Rattle.commands.specs.declared.items.Item.{Item}
 use Rattle.commands.specs.declared.items.Cursor.{Cursor}
 use Rattle.desk_sql.specs.Rows.{CursorRow}
@@ -33,6 +33,7 @@ use Rattle.desk_sql.specs.declared.versions.Version.{Version}
 use Rattle.desk_sql.specs.declared.versions.Version.TheVariants.{Two}
 use Rattle.sql_model.specs.Keeping.{Keeps, KeepsIn}
 pub use Rattle.sql_model.specs.Keeping.{WasClean}
+use Rattle.sql_model.specs.Staying.{SeesAsBefore}
 
 module _ {S : Type 0} (g : Ghosts S) (old new : Held S) where
   -- while the store returns what was written, the result is true of each desk that the connection kept
@@ -69,6 +70,7 @@ module _ {S : Type 0} (g : Ghosts S) (old new : Held S) where
     pub keeps : KeepsEach
     pub stop : LeavesAsBefore
     pub less : WasClean g old new
+    pub sees : SeesAsBefore g old new
 
 -- a cursor that was found, as a row
 abbrev pub row_of : CursorFound → CursorRow
@@ -84,10 +86,11 @@ pub record TellsBrief (r : JourneyFound) (b : Brief) : Type 0 where
   pub agent : b.agent ≡ (journey_of r).agent
   pub cursor : TellsCursor r.cursor b.cursor
 
--- the row is that of this journey's agent, steps and cursor
+-- the row is that of this journey's agent, steps, tries and cursor
 pub record TellsStand (r : JourneyFound) (b : Stand) : Type 0 where
   pub agent : b.agent ≡ (journey_of r).agent
   pub steps : b.steps ≡ r.steps
+  pub tries : b.tries ≡ r.tries
   pub cursor : TellsCursor r.cursor b.cursor
 
 -- the row, with a plan and save-points, is that of this record
@@ -135,13 +138,21 @@ HasNone id s _ = journey_at s.ledger id ≡ None
 abbrev pub IsRecordAt : ℕ → State → Option Record → Type 0
 IsRecordAt id s found = found ≡ record_of s.ledger id
 
--- the agent, the number of steps and the cursor of a record
+-- the agent, the number of steps, the tries and the cursor of a record
 abbrev pub stand_of : Record → Stand
-stand_of r = record { agent = r.agent; steps = step_count r.plan; cursor = r.cursor }
+stand_of r = record { agent = r.agent; steps = step_count r.plan; tries = r.plan.tries; cursor = r.cursor }
 
--- the agent, the number of steps and the cursor of the journey of this number, if there is one
+-- the agent, the number of steps, the tries and the cursor of the journey of this number, if there is one
 abbrev pub IsStandAt : ℕ → State → Option Stand → Type 0
 IsStandAt id s found = found ≡ option_map stand_of (record_of s.ledger id)
+
+-- these are the agent, the number of steps, the tries and the cursor of the journey of this number
+abbrev pub HasStand : ℕ → Stand → State → Type 0
+HasStand id stand s = IsStandAt id s (Some stand)
+
+-- if the journey of this number has them, this is its record
+abbrev pub IsRecordOf : ℕ → Stand → State → Record → Type 0
+IsRecordOf id stand s r = HasStand id stand s → IsRecordAt id s (Some r)
 
 -- no save-point was taken
 pub record IsNone (marks : set.FinSet nat_cmp) : Type 0 where

@@ -16,13 +16,15 @@ use Rattle.sqlite.specs.Store.{Ghosts}
 use Rattle.sqlite.specs.Held.{Held, state}
 use Rattle.sqlite.specs.declared.rows.stream.Rows.{Rows}
 use Rattle.sqlite.specs.State.{HasCleanDisk}
-use Rattle.desk_sql.specs.RemainingRows.{CellsRest, JourneysRest}
 use Rattle.desk_sql.specs.Rows.{JourneyRow, CursorRow}
+use Rattle.sql_lists.specs.CellLists.{CellsRest}
+use Rattle.sql_lists.specs.JourneyLists.{JourneysRest}
 use Rattle.sql_model.specs.ExpectedRows.{cursor_row}
 use Rattle.desk_sql.specs.declared.versions.Version.{Version}
 use Rattle.sql_model.specs.Keeping.{KeepsIn}
 use Rattle.sql_model.specs.Reading.{stock_row_of}
 use Rattle.sql_model.specs.Standing.{IsDesk}
+use Rattle.sql_model.specs.Staying.{sees_alone, sees_twice}
 use Rattle.sql_reads.specs.Reading.{OnlyReads}
 use Rattle.sql_reads.specs.ItemSearch.{HasSteps}
 use Rattle.sql_reads.specs.declared.history_rows.ItemCursor.{ItemCursor}
@@ -113,7 +115,7 @@ pub record RowsStay {S : Type 0} (g : Ghosts S) (a b : MutBor (Rows S g)) : Type
 -- a connection is left as it was if no call is made, and by two calls if by each of them
 pub left_alone : {S : Type 0} (g : Ghosts S) (h : Held S) → IsLeftAsItWas g h h
 left_alone g h = record {
-  reads = record { keeps = λ v s keeps. keeps; stop = λ clean db may. may; less = λ clean. clean };
+  reads = record { keeps = λ v s keeps. keeps; stop = λ clean db may. may; less = λ clean. clean; sees = sees_alone g h };
   outside = λ outside. outside;
 }
 
@@ -125,6 +127,7 @@ left_twice g a b c one two = record {
     stop = λ clean db may.
         one.reads.stop (two.reads.less clean) db (two.reads.stop clean db may);
     less = λ clean. one.reads.less (two.reads.less clean);
+    sees = sees_twice g a b c one.reads.sees two.reads.sees two.reads.less;
   };
   outside = λ outside. two.outside (one.outside outside);
 }

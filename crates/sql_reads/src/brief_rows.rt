@@ -16,8 +16,8 @@ ghost use Rattle.sql_reads.specs.RemainingRows.{AreGoodBriefsRest, RowsStay};
 use crate::progress::Progress;
 use crate::telling::brief_of;
 use commands::Fault;
-use desk_sql::{hand_unfinished, next_unfinished};
 use saga_core::{Brief, RowSource};
+use sql_lists::{hand_unfinished, next_journey};
 use sql_model::fault_of;
 use sqlite::{Alter, Connection, Error, Rows};
 
@@ -47,7 +47,8 @@ impl<S: Alter> RowSource<Brief> for UnfinishedRows<'_, '_, S> {
 
     ghost is_sound = { λ s. HasCleanDisk (state S.Store s.rows.now.conn.now) };
 
-    ghost rests = { λ s briefs. (s.progress.failed ≡ false) × BriefsRest S.Store s.rows.now.conn.now briefs };
+    ghost rests = { λ s briefs. (s.progress.failed ≡ false)
+        × BriefsRest S.Store s.rows.now.conn.now briefs };
 
     ghost given = { λ s. s.progress.given };
 
@@ -59,19 +60,25 @@ impl<S: Alter> RowSource<Brief> for UnfinishedRows<'_, '_, S> {
 
     fn next_row(&mut self) -> Result<Option<Brief>, Fault>
         ensures next { HasCleanDisk (state S.Store self.new.rows.now.conn.now) → IfOk result (Hands
-            (λ rows. (self.old.progress.failed ≡ false) × BriefsRest S.Store self.old.rows.now.conn.now rows)
-            (λ rows. (self.new.progress.failed ≡ false) × BriefsRest S.Store self.new.rows.now.conn.now rows)) }
-        ensures counted { IfOk result (λ found. self.new.progress.given ≡ count_of found + self.old.progress.given) }
+            (λ rows. (self.old.progress.failed ≡ false)
+            × BriefsRest S.Store self.old.rows.now.conn.now rows)
+            (λ rows. (self.new.progress.failed ≡ false)
+            × BriefsRest S.Store self.new.rows.now.conn.now rows)) }
+        ensures counted { IfOk result (λ found.
+            self.new.progress.given ≡ count_of found + self.old.progress.given) }
         ensures few { self.new.progress.given < 2 ^ 64 }
 
         ensures kept { RowsStay S.Store self.old.rows self.new.rows }
         ensures sound { HasCleanDisk (state S.Store self.new.rows.now.conn.now)
             → HasCleanDisk (state S.Store self.old.rows.now.conn.now) }
 
-        ensures store { HasCleanDisk (state S.Store self.new.rows.now.conn.now) → self.old.progress.failed ≡ false
-            → AreGoodBriefsRest S.Store self.old.rows.now.conn.now → self.old.progress.given < 2 ^ 64 - 1
+        ensures store { HasCleanDisk (state S.Store self.new.rows.now.conn.now)
+            → self.old.progress.failed ≡ false
+            → AreGoodBriefsRest S.Store self.old.rows.now.conn.now
+            → self.old.progress.given < 2 ^ 64 - 1
             → IsUp (state S.Store self.old.rows.now.conn.now) → IsErrOf result Fault.Store
-            → HasFaulted (state S.Store self.old.rows.now.conn.now) (state S.Store self.new.rows.now.conn.now) }
+            → HasFaulted (state S.Store self.old.rows.now.conn.now)
+            (state S.Store self.new.rows.now.conn.now) }
         ensures up { StaysUp S.Store self.old.rows.now.conn.now self.new.rows.now.conn.now }
     {
         let given = self.progress.given;
@@ -79,7 +86,7 @@ impl<S: Alter> RowSource<Brief> for UnfinishedRows<'_, '_, S> {
             return Err(Fault::Store);
         }
         self.progress.failed = true;
-        match next_unfinished(self.rows) {
+        match next_journey(self.rows) {
             Ok(Some(found)) => {
                 if given == u64::MAX {
                     return Err(Fault::Store);

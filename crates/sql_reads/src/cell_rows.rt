@@ -17,8 +17,8 @@ use crate::progress::Progress;
 use crate::telling::cell_told;
 use allotment::{Cell, Held};
 use commands::Fault;
-use desk_sql::{hand_stock, next_cell};
 use saga_core::RowSource;
+use sql_lists::{hand_stock, next_cell};
 use sql_model::fault_of;
 use sqlite::{Alter, Connection, Error, Rows};
 
@@ -48,7 +48,8 @@ impl<S: Alter> RowSource<(Cell, Held)> for StockRows<'_, '_, S> {
 
     ghost is_sound = { λ s. HasCleanDisk (state S.Store s.rows.now.conn.now) };
 
-    ghost rests = { λ s rows. (s.progress.failed ≡ false) × StockRests S.Store s.rows.now.conn.now rows };
+    ghost rests = { λ s rows. (s.progress.failed ≡ false)
+        × StockRests S.Store s.rows.now.conn.now rows };
 
     ghost given = { λ s. s.progress.given };
 
@@ -60,19 +61,25 @@ impl<S: Alter> RowSource<(Cell, Held)> for StockRows<'_, '_, S> {
 
     fn next_row(&mut self) -> Result<Option<(Cell, Held)>, Fault>
         ensures next { HasCleanDisk (state S.Store self.new.rows.now.conn.now) → IfOk result (Hands
-            (λ rows. (self.old.progress.failed ≡ false) × StockRests S.Store self.old.rows.now.conn.now rows)
-            (λ rows. (self.new.progress.failed ≡ false) × StockRests S.Store self.new.rows.now.conn.now rows)) }
-        ensures counted { IfOk result (λ found. self.new.progress.given ≡ count_of found + self.old.progress.given) }
+            (λ rows. (self.old.progress.failed ≡ false)
+            × StockRests S.Store self.old.rows.now.conn.now rows)
+            (λ rows. (self.new.progress.failed ≡ false)
+            × StockRests S.Store self.new.rows.now.conn.now rows)) }
+        ensures counted { IfOk result (λ found.
+            self.new.progress.given ≡ count_of found + self.old.progress.given) }
         ensures few { self.new.progress.given < 2 ^ 64 }
 
         ensures kept { RowsStay S.Store self.old.rows self.new.rows }
         ensures sound { HasCleanDisk (state S.Store self.new.rows.now.conn.now)
             → HasCleanDisk (state S.Store self.old.rows.now.conn.now) }
 
-        ensures store { HasCleanDisk (state S.Store self.new.rows.now.conn.now) → self.old.progress.failed ≡ false
-            → AreGoodCellsRest S.Store self.old.rows.now.conn.now → self.old.progress.given < 2 ^ 64 - 1
+        ensures store { HasCleanDisk (state S.Store self.new.rows.now.conn.now)
+            → self.old.progress.failed ≡ false
+            → AreGoodCellsRest S.Store self.old.rows.now.conn.now
+            → self.old.progress.given < 2 ^ 64 - 1
             → IsUp (state S.Store self.old.rows.now.conn.now) → IsErrOf result Fault.Store
-            → HasFaulted (state S.Store self.old.rows.now.conn.now) (state S.Store self.new.rows.now.conn.now) }
+            → HasFaulted (state S.Store self.old.rows.now.conn.now)
+            (state S.Store self.new.rows.now.conn.now) }
         ensures up { StaysUp S.Store self.old.rows.now.conn.now self.new.rows.now.conn.now }
     {
         let given = self.progress.given;

@@ -80,7 +80,8 @@ impl ItemCursor {
         ensures kept { IsLeftAsItWas S.Store conn.old conn.new }
 
         ensures low { IsLow self.old.sought → IsLow self.new.sought }
-        ensures store { IsLow self.old.sought → self.old.failed ≡ false → self.old.given < 2 ^ 64 - 1
+        ensures store { IsLow self.old.sought → self.old.failed ≡ false
+            → self.old.given < 2 ^ 64 - 1
             → FailsForReasonIn S.Store conn.old conn.new self.old.version result }
         ensures up { StaysUp S.Store conn.old conn.new }
     {

@@ -11,6 +11,7 @@ mod cell_rows;
 mod following;
 mod history_rows;
 mod item_search;
+mod nights_read;
 mod owned_journeys;
 mod plan_rows;
 mod progress;
@@ -20,10 +21,11 @@ mod telling;
 pub use brief_rows::{UnfinishedRows, start_unfinished};
 pub use cell_rows::{StockRows, start_stock};
 pub use history_rows::{ItemCursor, item_cursor};
+pub use nights_read::{NightsRead, nights_with};
 pub use owned_journeys::read_first_owned;
 pub use plan_rows::want_told;
 pub use progress::Progress;
 pub use reads::{
-    LARGEST, Stand, read_cells, read_first_unfinished, read_history, read_journey, read_stand,
-    read_stock,
+    LARGEST, Stand, read_cells, read_first_unfinished, read_history, read_journey, read_record,
+    read_stand, read_stock,
 };

@@ -1,7 +1,7 @@
 //! The journeys of one agent.
 ghost use Rattle.std.specs.Prelude.{◌≡◌, false};
 ghost use Rattle.sql_reads.specs.Reading.{IsFirstOwned, KeepsOn, LeavesAsBefore, ShowsKept, WasClean};
-ghost use Rattle.sql_model.specs.Staying.{StaysUp};
+ghost use Rattle.sql_model.specs.Staying.{SeesAsBefore, StaysUp};
 ghost use Rattle.sql_reads.specs.Causes.{FailsForReason};
 
 use crate::reads::LARGEST;
@@ -29,6 +29,7 @@ pub fn read_first_owned<S: Alter>(
 
     ensures store { FailsForReason S.Store conn.old conn.new result }
     ensures up { StaysUp S.Store conn.old conn.new }
+    ensures sees { SeesAsBefore S.Store conn.old conn.new }
 {
     match first_owned(conn, agent.as_str(), after.min(LARGEST)) {
         Ok(None) => Ok(None),

@@ -3,9 +3,11 @@ ghost use Rattle.std.specs.Prelude.{◌≡◌, ◌<◌, ◌≤◌, ◌^◌, fals
 ghost use Rattle.ledger.specs.Ledger.{history};
 ghost use Rattle.saga_core.specs.Views.{ShowsCells, IsStock};
 ghost use Rattle.sql_reads.specs.Reading.{ShowsKept, ShowsKeptIn, ShowsEach, KeepsOn, KeepsEach, LeavesAsBefore, WasClean};
-ghost use Rattle.sql_reads.specs.Reading.{IsFirstAbove, HasNone, IsRecordAt, IsStandAt, AreMarksAt, IsNone, IsPlanOf, HasTries};
-ghost use Rattle.sql_reads.specs.Causes.{FailsForReason, FailsForReasonEach, FailsForReasonIn, FailsWhereEach, ShowsSpelled};
-ghost use Rattle.sql_model.specs.Staying.{StaysUp};
+ghost use Rattle.sql_reads.specs.Reading.{IsFirstAbove, HasNone, IsRecordAt, IsRecordOf, IsStandAt, HasStand, AreMarksAt, IsNone, IsPlanOf, HasTries};
+ghost use Rattle.sql_reads.specs.Causes.{FailsForReason, FailsForReasonEach, FailsForReasonIn, FailsWhere, FailsWhereEach, ShowsSpelled};
+ghost use Rattle.desk_sql.specs.declared.versions.Version.TheVariants.{Two};
+ghost use Rattle.plan.specs.PlanModel.{step_count};
+ghost use Rattle.sql_model.specs.Staying.{SeesAsBefore, StaysUp};
 ghost use Rattle.ledger.specs.Answer.{most_events};
 ghost use Rattle.desk_sql.specs.Causes.{FailsForReasonIn as SqlFailsIn};
 ghost use Rattle.desk_sql.specs.Readable.{Any};
@@ -22,11 +24,12 @@ use allotment::{Cell, Held, Night, Want};
 use commands::{Agent, Cursor, Fault, Item};
 use desk_sql::{
     ItemFound, NightRange, Version, find_items, find_journey, find_marks, find_nights, find_steps,
-    find_stock, first_unfinished, next_item, next_old_item, read_meta,
+    find_stock, first_unfinished, read_meta,
 };
 use plan::Plan;
 use saga_core::{Brief, Record};
 use savepoints::Marks;
+use sql_lists::{next_item, next_old_item};
 use sql_model::fault_of;
 use sqlite::{Alter, Connection, Error};
 use std::alloc::Global;
@@ -49,6 +52,7 @@ pub fn read_first_unfinished<S: Alter>(
 
     ensures store { FailsForReason S.Store conn.old conn.new result }
     ensures up { StaysUp S.Store conn.old conn.new }
+    ensures sees { SeesAsBefore S.Store conn.old conn.new }
 {
     match first_unfinished(conn, after.min(LARGEST)) {
         Ok(None) => Ok(None),
@@ -77,6 +81,7 @@ pub(crate) fn check_absent<S: Alter>(conn: &mut Connection<S>, id: u64) -> Resul
 
     ensures store { 2 ^ 63 ≤ id → FailsForReasonEach S.Store conn.old conn.new result }
     ensures up { StaysUp S.Store conn.old conn.new }
+    ensures sees { SeesAsBefore S.Store conn.old conn.new }
 {
     match read_meta(conn) {
         Ok(meta) if meta.journeys < id => Ok(()),
@@ -99,6 +104,7 @@ pub(crate) fn find_sought<S: Alter>(conn: &mut Connection<S>, id: u64) -> Result
 
     ensures store { FailsForReasonEach S.Store conn.old conn.new result }
     ensures up { StaysUp S.Store conn.old conn.new }
+    ensures sees { SeesAsBefore S.Store conn.old conn.new }
 {
     if id > LARGEST {
         check_absent(conn, id)?;
@@ -154,6 +160,7 @@ pub(crate) fn find_next<S: Alter>(
 
     ensures store { IsLow sought.now → FailsForReasonIn S.Store conn.old conn.new version result }
     ensures up { StaysUp S.Store conn.old conn.new }
+    ensures sees { SeesAsBefore S.Store conn.old conn.new }
 {
     if sought.journey > LARGEST || sought.after > LARGEST {
         return Err(Fault::Store);
@@ -181,6 +188,7 @@ pub fn read_history<S: Alter>(
 
     ensures store { FailsForReason S.Store conn.old conn.new result }
     ensures up { StaysUp S.Store conn.old conn.new }
+    ensures sees { SeesAsBefore S.Store conn.old conn.new }
 {
     let sought = find_sought(conn, id)?;
     match find_items(alloc, conn, sought.journey, sought.after) {
@@ -207,6 +215,7 @@ fn read_plan<S: Alter>(
 
     ensures store { FailsWhereEach S.Store conn.old conn.new result (HasTries id tries) }
     ensures up { StaysUp S.Store conn.old conn.new }
+    ensures sees { SeesAsBefore S.Store conn.old conn.new }
 {
     match find_steps(alloc, conn, id) {
         Ok(found) => plan_told(alloc, found.as_slice(), tries),
@@ -227,6 +236,7 @@ fn read_marks<S: Alter>(alloc: Global, conn: &mut Connection<S>, id: u64) -> Res
 
     ensures store { FailsForReason S.Store conn.old conn.new result }
     ensures up { StaysUp S.Store conn.old conn.new }
+    ensures sees { SeesAsBefore S.Store conn.old conn.new }
 {
     match find_marks(alloc, conn, id) {
         Ok(found) => match marks_told(found.as_slice()) {
@@ -257,6 +267,7 @@ fn read_taken<S: Alter>(
 
     ensures store { FailsForReasonIn S.Store conn.old conn.new version result }
     ensures up { StaysUp S.Store conn.old conn.new }
+    ensures sees { SeesAsBefore S.Store conn.old conn.new }
 {
     match version {
         Version::One => {
@@ -268,18 +279,20 @@ fn read_taken<S: Alter>(
     }
 }
 
-/// The agent and the cursor of a journey, without its plan.
+/// The agent, the tries and the cursor of a journey, without its plan.
 #[derive(Clone, Copy, Debug, PartialEq, Eq)]
 pub struct Stand {
     /// The agent who began it.
     pub agent: Agent,
     /// The number of steps in its plan.
     pub steps: usize,
+    /// How many of its steps may be refused before a refusal leads to its start.
+    pub tries: u64,
     /// The cursor of the journey.
     pub cursor: Cursor,
 }
 
-/// Returns the agent, the number of steps and the cursor of the journey of that number, if there is one.
+/// Returns the agent, the number of steps, the tries and the cursor of the journey of that number, if there is one.
 pub fn read_stand<S: Alter>(conn: &mut Connection<S>, id: u64) -> Result<Option<Stand>, Fault>
     requires { conn.old.in_transaction ≡ false }
 
@@ -291,6 +304,7 @@ pub fn read_stand<S: Alter>(conn: &mut Connection<S>, id: u64) -> Result<Option<
 
     ensures store { FailsForReason S.Store conn.old conn.new result }
     ensures up { StaysUp S.Store conn.old conn.new }
+    ensures sees { SeesAsBefore S.Store conn.old conn.new }
 {
     if id > LARGEST {
         check_absent(conn, id)?;
@@ -304,6 +318,41 @@ pub fn read_stand<S: Alter>(conn: &mut Connection<S>, id: u64) -> Result<Option<
         },
         Err(error) => Err(fault_of(&error)),
     }
+}
+
+/// Returns the journey of that number, whose own row was read before, by the rows of its plan and of its save-points.
+pub fn read_record<S: Alter>(
+    alloc: Global,
+    conn: &mut Connection<S>,
+    id: u64,
+    stand: &Stand,
+) -> Result<Record, Fault>
+    requires outside { conn.old.in_transaction ≡ false }
+    requires small { id < 2 ^ 63 }
+
+    ensures outside { conn.new.in_transaction ≡ false }
+    ensures journey { ShowsKept S.Store conn.old conn.new result (IsRecordOf id stand.now) }
+    ensures steps { IfOk result (λ r. step_count r.plan ≡ stand.now.steps) }
+    ensures cursor { IfOk result (λ r. r.cursor ≡ stand.now.cursor) }
+    ensures same { KeepsOn S.Store conn.old conn.new }
+    ensures stop { LeavesAsBefore S.Store conn.old conn.new }
+    ensures less { WasClean S.Store conn.old conn.new }
+
+    ensures store { FailsWhere S.Store conn.old conn.new Two result (HasStand id stand.now) }
+    ensures up { StaysUp S.Store conn.old conn.new }
+    ensures sees { SeesAsBefore S.Store conn.old conn.new }
+{
+    let plan = read_plan(alloc, conn, id, stand.tries)?;
+    let marks = read_marks(alloc, conn, id)?;
+    if plan.steps() != stand.steps {
+        return Err(Fault::Store);
+    }
+    Ok(Record {
+        agent: stand.agent,
+        plan,
+        cursor: stand.cursor,
+        marks,
+    })
 }
 
 /// Returns the journey of that number in tables of this version, if there is one.
@@ -323,6 +372,7 @@ pub fn read_journey<S: Alter>(
 
     ensures store { FailsForReasonIn S.Store conn.old conn.new version result }
     ensures up { StaysUp S.Store conn.old conn.new }
+    ensures sees { SeesAsBefore S.Store conn.old conn.new }
 {
     if id > LARGEST {
         check_absent(conn, id)?;
@@ -359,6 +409,7 @@ pub fn read_cells<S: Alter>(
 
     ensures store { FailsForReason S.Store conn.old conn.new result }
     ensures up { StaysUp S.Store conn.old conn.new }
+    ensures sees { SeesAsBefore S.Store conn.old conn.new }
 {
     let supplier = want.supplier();
     let product = want.product();
@@ -392,6 +443,7 @@ pub fn read_stock<S: Alter>(
 
     ensures store { FailsForReason S.Store conn.old conn.new result }
     ensures up { StaysUp S.Store conn.old conn.new }
+    ensures sees { SeesAsBefore S.Store conn.old conn.new }
 {
     match find_stock(alloc, conn) {
         Ok(found) => cells_told(alloc, found.as_slice()),

@@ -62,7 +62,7 @@ pub(crate) fn brief_of(found: &JourneyFound) -> Option<Brief>
     })
 }
 
-/// The agent, the number of steps and the cursor of a journey.
+/// The agent, the number of steps, the tries and the cursor of a journey.
 pub(crate) fn stand_of(found: &JourneyFound) -> Option<Stand>
     ensures told { IfSome result (TellsStand found.now) }
     ensures there { IsTrue (is_agent (string_bytes found.now.agent))
@@ -73,6 +73,7 @@ pub(crate) fn stand_of(found: &JourneyFound) -> Option<Stand>
     Some(Stand {
         agent,
         steps: found.steps as usize,
+        tries: found.tries,
         cursor,
     })
 }

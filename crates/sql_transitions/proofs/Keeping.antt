@@ -12,7 +12,7 @@ use Rattle.commands.specs.Names.{is_batch_name}
 use Rattle.commands.specs.Request.{Request}
 use Rattle.commands.specs.Texts.{is_accepted}
 use Rattle.commands.specs.declared.items.Item.{Item}
-use Rattle.commands.specs.declared.refusals.Refusal.TheVariants.{Limit}
+use Rattle.commands.specs.declared.replies.Refusal.TheVariants.{Limit}
 use Rattle.commands.specs.declared.replies.Reply.{Reply}
 use Rattle.ledger.specs.Answer.{State, Answer, Outcome, answer, is_request, refused, loaded, moved, asker, answer_within, most_events, kept_for, carried_out, outcome_for, outcome, state_with}
 use Rattle.ledger.specs.Ledger.{Event, Loaded, Did, Journey, journey_at, history, is_allowed, is_batch, is_good_row, are_distinct, is_not_below_held, batches_named}

@@ -6,4 +6,8 @@ pub mod OptionLemmas
 pub mod CommitLemmas
 pub mod CommitReasons
 pub mod LoadLemmas
+pub mod RunRows
+pub mod RunPuts
+pub mod RunWrites
+pub mod RunLemmas
 pub mod Batches

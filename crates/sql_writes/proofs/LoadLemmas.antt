@@ -1,24 +1,24 @@
 -- Cells get their places in order. For the functions of `loads`.
-use Rattle.std.proofs.Common.{◌≡◌, ℕ, zero, suc, ◌+◌, ◌-◌, ◌<◌, ◌≤◌, List, [], ◌∷◌, ◌++◌, length, take, get_or, IsTrue, refl, sym, ap, subst, ◌∙◌, arith, add-one, length-append}
+use Rattle.std.proofs.Common.{◌≡◌, ℕ, zero, suc, ◌+◌, ◌-◌, ◌<◌, List, [], ◌∷◌, ◌++◌, length, take, get_or, IsTrue, refl, sym, ap, subst, ◌∙◌, arith, add-one, length-append}
 use Rattle.std.specs.Prelude.{⊤}
 use Rattle.std.specs.List.{AllByRecursion}
 use Rattle.sqlite.proofs.StateLemmas.{survives_then}
 use Rattle.sqlite.specs.Store.{Ghosts}
 use Rattle.sqlite.specs.Held.{Held as Connection, state}
-use Rattle.sqlite.specs.State.{State, HasCleanDisk, KeepsCommit, Survives}
+use Rattle.sqlite.specs.State.{HasCleanDisk, KeepsCommit, Survives}
 use Rattle.allotment.specs.Cells.{kind_number}
 use Rattle.allotment.specs.declared.cells.Cell.{Cell}
-use Rattle.allotment.specs.declared.cells.Row.{Row}
 use Rattle.allotment.specs.declared.places.Held.{Held}
 use Rattle.desk_sql.specs.Calls.{MayRun, Makes}
 use Rattle.desk_sql.specs.Rows.{Tables, StockRow}
-use Rattle.desk_sql.specs.Writable.{HasRowids, IsShort}
+use Rattle.desk_sql.specs.Writable.{HasRowids}
 use Rattle.desk_sql.specs.Stock.{AreApart as AreCellsApart, put, puts_cell}
 use Rattle.sql_model.specs.Reading.{stock_row_of}
 use Rattle.sql_model.specs.Standing.{AreApart, is_same_stock}
 use Rattle.sql_transitions.specs.Loading.{loaded_row}
 use Rattle.sql_transitions.proofs.Puts.{cells_apart, once-rows}
 use Rattle.sql_writes.specs.Loads.{HasPut, put_each, puts_each}
+use Rattle.sql_writes.specs.Runs.{HasShortTexts}
 use Rattle.sql_writes.proofs.Chaining.{makes_then, keeps_then, runs_after}
 use Rattle.sql_writes.proofs.Permitting.{short_put}
 use Rattle.sql_writes.specs.Permits.{HaveShortCells}
@@ -44,7 +44,7 @@ apart-put c rows once =
     (once-rows (λ _. c.1.allot - c.1.free) (record { cell = c.0; places = c.1.allot } ∷ []) rows once)
 
 -- no two rows are of one cell after all cells got their places
-apart-each : (cells : List (Cell × Held)) (rows : List StockRow) → AreApart is_same_stock rows
+pub apart-each : (cells : List (Cell × Held)) (rows : List StockRow) → AreApart is_same_stock rows
     → AreApart is_same_stock (put_each cells rows)
 apart-each [] rows once = once
 apart-each (c ∷ cells) rows once = apart-each cells (put (stock_row_of c) rows) (apart-put c rows once)
@@ -82,10 +82,6 @@ HasPut-more g old mid new cells c has survives commit inside made rowids =
           rowids clean (puts_each cells t) (runs_after (state g old) (state g mid) (puts_each cells t) first) first.is_open tt n
           (has.rowids (early clean) t may live apart (1 + n) (subst (λ k. HasRowids k (state g old).now.trees) sum enough)));
     }
-
--- the texts of the cell fit
-abbrev pub HasShortTexts : Cell × Held → Type 0
-HasShortTexts c = IsShort (length c.0.supplier + length c.0.product)
 
 -- the texts of the cells fit after all cells got their places
 pub short_each : (cells : List (Cell × Held)) (t : Tables) → AllByRecursion HasShortTexts cells → HaveShortCells t

@@ -6,3 +6,4 @@ pub mod Loads
 pub mod Permits
 pub mod Reasons
 pub mod Commits
+pub mod Runs

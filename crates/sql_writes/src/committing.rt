@@ -1,17 +1,24 @@
 //! The transaction of one event, with one commit.
-ghost use Rattle.std.specs.Prelude.{◌≡◌, false, Err, OnOk};
-ghost use Rattle.sqlite.specs.Held.{state};
+ghost use Rattle.desk_sql.specs.Calls.{StaysInside, WasOpen, CommitsNothing, LeavesNoMore};
 ghost use Rattle.ledger.specs.Answer.{State};
 ghost use Rattle.sql_model.specs.Keeping.{Keeps, MayLeave, WasClean};
 ghost use Rattle.sql_model.specs.Staying.{StaysUp};
 ghost use Rattle.sql_writes.specs.Commits.{FailsToCommitFor, LeavesRowids};
-ghost use Rattle.sql_writes.specs.Kinds.{IsSmall, LeadsTo};
+ghost use Rattle.sql_writes.specs.Kinds.{IsSmall, LeadsTo, Fits, rows_after, with_kept, event_rows};
+ghost use Rattle.sql_writes.specs.Permits.{Permits, PermitsEvent, event_rowids, rowids_of};
+ghost use Rattle.sql_writes.specs.Reasons.{FailsOn, TakesRowids};
+ghost use Rattle.sql_writes.specs.Writing.{WritesRows};
+ghost use Rattle.sqlite.specs.Held.{state};
+ghost use Rattle.std.specs.Prelude.{◌≡◌, false, Err, OnOk, suc, Some};
 
+use crate::begins::write_begin;
 use crate::events::{Event, Keeping, Numbers};
-use crate::writes::write_event;
+use crate::journeys::{write_compensation, write_save, write_transaction, write_turn};
+use crate::loads::write_load;
 use commands::Fault;
+use desk_sql::insert_answer;
 use sql_model::fault_of;
-use sqlite::{Alter, Connection};
+use sqlite::{Alter, Connection, Error, Transaction};
 
 /// Writes an event, and the reply that is kept with it, in one transaction, whose commit is the last call of the store.
 pub fn commit_event<S: Alter>(
@@ -43,5 +50,89 @@ pub fn commit_event<S: Alter>(
     match tx.commit() {
         Ok(()) => Ok(()),
         Err(_) => Err(Fault::Store),
+    }
+}
+
+/// Writes the rows of an event, without a reply.
+fn write_rows<S: Alter>(
+    tx: &mut Transaction<'_, S>,
+    numbers: Numbers,
+    event: &Event<'_>,
+) -> Result<(), Error>
+    requires { IsSmall event.now }
+
+    ensures same_reference { tx.new.conn.ghost_name ≡ tx.old.conn.ghost_name }
+    ensures made { WritesRows S.Store tx.old.conn.now tx.new.conn.now (Fits numbers event.now) result
+        (rows_after numbers event.now) }
+    ensures reason { FailsOn S.Store tx.old.conn.now tx.new.conn.now result
+        (rowids_of numbers event.now) (Permits numbers event.now) }
+    ensures rowids { TakesRowids S.Store tx.old.conn.now tx.new.conn.now result
+        (rowids_of numbers event.now) (Fits numbers event.now) }
+    ensures live { WasOpen S.Store tx.old.conn.now tx.new.conn.now result }
+    ensures inside { StaysInside S.Store tx.old.conn.now tx.new.conn.now result }
+    ensures commit { CommitsNothing S.Store tx.old.conn.now tx.new.conn.now }
+    ensures survives { LeavesNoMore S.Store tx.old.conn.now tx.new.conn.now }
+{
+    match *event {
+        Event::Begin(begun) => write_begin(tx, numbers, begun),
+        Event::Transaction(made) => write_transaction(tx, numbers, made),
+        Event::Compensation(made) => write_compensation(tx, numbers, made),
+        Event::Turn(made) => write_turn(tx, numbers, made),
+        Event::Save(made) => write_save(tx, numbers, made),
+        Event::Load(batch) => write_load(tx, numbers, batch),
+    }
+}
+
+/// Writes the rows of an event, and the row of the reply that is kept with it.
+fn write_kept<S: Alter>(
+    tx: &mut Transaction<'_, S>,
+    numbers: Numbers,
+    event: &Event<'_>,
+    keeping: Keeping<'_>,
+) -> Result<(), Error>
+    requires { IsSmall event.now }
+
+    ensures same_reference { tx.new.conn.ghost_name ≡ tx.old.conn.ghost_name }
+    ensures made { WritesRows S.Store tx.old.conn.now tx.new.conn.now (Fits numbers event.now) result
+        (with_kept numbers event.now keeping.entry) }
+    ensures reason { FailsOn S.Store tx.old.conn.now tx.new.conn.now result
+        (suc (rowids_of numbers event.now)) (PermitsEvent numbers event.now (Some keeping.entry)) }
+    ensures rowids { TakesRowids S.Store tx.old.conn.now tx.new.conn.now result
+        (suc (rowids_of numbers event.now)) (Fits numbers event.now) }
+    ensures live { WasOpen S.Store tx.old.conn.now tx.new.conn.now result }
+    ensures inside { StaysInside S.Store tx.old.conn.now tx.new.conn.now result }
+    ensures commit { CommitsNothing S.Store tx.old.conn.now tx.new.conn.now }
+    ensures survives { LeavesNoMore S.Store tx.old.conn.now tx.new.conn.now }
+{
+    write_rows(tx, numbers, event)?;
+    insert_answer(tx, keeping.agent, keeping.key, keeping.text, keeping.line)?;
+    Ok(())
+}
+
+/// Writes the rows of an event, and the row of its reply if one is kept.
+pub fn write_event<S: Alter>(
+    tx: &mut Transaction<'_, S>,
+    numbers: Numbers,
+    event: &Event<'_>,
+    keeping: Option<Keeping<'_>>,
+) -> Result<(), Error>
+    requires { IsSmall event.now }
+
+    ensures same_reference { tx.new.conn.ghost_name ≡ tx.old.conn.ghost_name }
+    ensures made { WritesRows S.Store tx.old.conn.now tx.new.conn.now (Fits numbers event.now) result
+        (event_rows numbers event.now keeping.entry) }
+    ensures reason { FailsOn S.Store tx.old.conn.now tx.new.conn.now result
+        (event_rowids numbers event.now keeping.entry)
+        (PermitsEvent numbers event.now keeping.entry) }
+    ensures rowids { TakesRowids S.Store tx.old.conn.now tx.new.conn.now result
+        (event_rowids numbers event.now keeping.entry) (Fits numbers event.now) }
+    ensures live { WasOpen S.Store tx.old.conn.now tx.new.conn.now result }
+    ensures inside { StaysInside S.Store tx.old.conn.now tx.new.conn.now result }
+    ensures commit { CommitsNothing S.Store tx.old.conn.now tx.new.conn.now }
+    ensures survives { LeavesNoMore S.Store tx.old.conn.now tx.new.conn.now }
+{
+    match keeping {
+        None => write_rows(tx, numbers, event),
+        Some(keeping) => write_kept(tx, numbers, event, keeping),
     }
 }

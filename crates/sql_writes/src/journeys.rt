@@ -10,8 +10,7 @@ ghost use Rattle.sql_writes.specs.Permits.{MayDo, MayMoveOn, MaySave, MayUndo};
 ghost use Rattle.sql_writes.specs.Reasons.{FailsOn, TakesRowids};
 
 use crate::events::{Numbers, SaveMade, StepMade, TurnMade};
-use crate::items::{write_item, write_move};
-use crate::wants::{give_want, take_want};
+use crate::items::{give_want, take_want, write_item, write_move};
 use commands::Item;
 use desk_sql::{delete_mark, insert_mark, mark_step};
 use sqlite::{Alter, Error, Transaction};

@@ -13,14 +13,12 @@ mod events;
 mod items;
 mod journeys;
 mod loads;
-mod wants;
-mod writes;
+mod runs;
 
 pub use begins::write_begin;
-pub use committing::commit_event;
+pub use committing::{commit_event, write_event};
 pub use events::{
     BatchLoaded, Event, JourneyBegun, Keeping, Numbers, SaveMade, StepMade, TurnMade,
 };
 pub use journeys::{write_compensation, write_save, write_transaction, write_turn};
 pub use loads::write_load;
-pub use writes::write_event;

@@ -10,6 +10,7 @@ ghost use Rattle.sql_writes.specs.Permits.{HaveShortCells, MayLoadBatch, MayPutA
 ghost use Rattle.sql_writes.specs.Reasons.{FailsOn, TakesRowids};
 
 use crate::events::{BatchLoaded, Numbers};
+use crate::runs::put_runs;
 use allotment::{Cell, Held};
 use desk_sql::{CellPlaces, insert_batch, put_cell, update_meta};
 use sqlite::{Alter, Error, Transaction};
@@ -41,8 +42,11 @@ fn put_places<S: Alter>(tx: &mut Transaction<'_, S>, cell: Cell, held: Held) -> 
     Ok(())
 }
 
-/// Writes the places of the cells of a batch, in order.
-fn put_all<S: Alter>(tx: &mut Transaction<'_, S>, cells: &[(Cell, Held)]) -> Result<(), Error>
+/// Writes the places of cells, one after another.
+pub(crate) fn put_all<S: Alter>(
+    tx: &mut Transaction<'_, S>,
+    cells: &[(Cell, Held)],
+) -> Result<(), Error>
     ensures same_reference { tx.new.conn.ghost_name ≡ tx.old.conn.ghost_name }
     ensures made { WritesCells S.Store tx.old.conn.now tx.new.conn.now result cells.now }
     ensures reason { FailsOn S.Store tx.old.conn.now tx.new.conn.now result
@@ -78,7 +82,7 @@ pub fn write_load<S: Alter>(
     ensures survives { LeavesNoMore S.Store tx.old.conn.now tx.new.conn.now }
 {
     insert_batch(tx, batch.name, numbers.num, batch.content.as_bytes())?;
-    put_all(tx, batch.cells)?;
+    put_runs(tx, batch.cells)?;
     update_meta(tx, 2, numbers.num, numbers.journeys)?;
     Ok(())
 }

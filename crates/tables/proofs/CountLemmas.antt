@@ -6,8 +6,8 @@ use Rattle.commands.specs.Asks.{Asked}
 use Rattle.commands.specs.Names.{house}
 use Rattle.commands.specs.Request.{Request, Load, Begin, Step, Abort, Stop, Save}
 use Rattle.commands.specs.declared.items.Item.{Item}
-use Rattle.commands.specs.declared.refusals.Refusal.{Refusal}
-use Rattle.commands.specs.declared.refusals.Refusal.TheVariants.{BatchDiffers, Finished, Limit, NoSavePoint, NoSave}
+use Rattle.commands.specs.declared.replies.Refusal.{Refusal}
+use Rattle.commands.specs.declared.replies.Refusal.TheVariants.{BatchDiffers, Finished, Limit, NoSavePoint, NoSave}
 use Rattle.commands.specs.declared.replies.Reply.{Reply}
 use Rattle.plan.specs.PlanModel.{Planned}
 use Rattle.ledger.specs.History.{phase, is_finished}

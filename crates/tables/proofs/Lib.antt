@@ -5,3 +5,6 @@ pub mod OpenKept
 pub mod NumberLemmas
 pub mod CountLemmas
 pub mod WalkLemmas
+pub mod SpelledLemmas
+pub mod NewDesks
+pub mod ActingLemmas

@@ -18,8 +18,8 @@ use Rattle.desk_sql.specs.FoundRows.{IsMeta, meta_of}
 use Rattle.desk_sql.specs.Rows.{Tables, MetaRow, Shows, ShowsIn}
 use Rattle.desk_sql.specs.Schema.{no_schema, schema_of}
 use Rattle.desk_sql.specs.declared.meta.Meta.{Meta}
-use Rattle.commands.specs.declared.faults.Fault.{Fault}
-use Rattle.commands.specs.declared.faults.Fault.TheVariants as fault
+use Rattle.commands.specs.declared.replies.Fault.{Fault}
+use Rattle.commands.specs.declared.replies.Fault.TheVariants as fault
 use Rattle.ledger.specs.Answer.{State, start}
 use Rattle.sql_model.specs.ExpectedRows.{meta_in}
 use Rattle.sql_model.specs.Keeping.{Sees as SeesFound, SeesNew}

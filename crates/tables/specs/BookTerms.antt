@@ -1,5 +1,5 @@
 -- What a call of a book over tables returns, keeps and leaves: the terms of every book, at the fields of this one.
-use Rattle.std.specs.Prelude.{◌≡◌, ℕ, Option, Result, IsErrOf}
+use Rattle.std.specs.Prelude.{◌≡◌, ◌⊎◌, ◌+◌, ℕ, Option, Result, IsErrOf}
 use Rattle.std.specs.Borrow.{Bor}
 use Rattle.std.specs.Option.{option_copied}
 use Rattle.sqlite.specs.Store.{Ghosts}
@@ -7,14 +7,17 @@ use Rattle.sqlite.specs.Held.{state}
 use Rattle.sqlite.specs.State.{HasCleanDisk}
 use Rattle.commands.specs.Asks.{Asked}
 use Rattle.commands.specs.Request.{Request}
-use Rattle.commands.specs.declared.faults.Fault.{Fault}
-use Rattle.commands.specs.declared.faults.Fault.TheVariants.{Store}
+use Rattle.commands.specs.declared.replies.Fault.{Fault}
+use Rattle.commands.specs.declared.replies.Fault.TheVariants.{Store}
 use Rattle.commands.specs.declared.replies.Reply.{Reply}
 use Rattle.desk_sql.specs.Causes.{HasFaulted, IsUp}
+use Rattle.desk_sql.specs.Writable.{HasRowids}
 use Rattle.ledger.specs.Answer.{State}
 use Rattle.saga_core.specs.Books as books
 use Rattle.saga_core.specs.Views.{first_unfinished}
 use Rattle.saga_core.specs.declared.records.Brief.{Brief}
+use Rattle.sql_commands.specs.Committing.{HasShortText}
+use Rattle.sql_commands.specs.Failing.{HasReason, asked_rowids}
 use Rattle.sql_model.specs.Spelling.{IsSpelled}
 use Rattle.tables.specs.Keeping.{Stands, MayLeave}
 use Rattle.tables.specs.declared.books.TableBook.{TableBook}
@@ -46,6 +49,24 @@ module _ {S : Type 0} (g : Ghosts S) where
         HasCleanDisk (state g new.conn) → (s : State) → StandsBook old s → IsSpelled s.ledger
         → IsUp (state g old.conn) → IsErrOf result Store
         → HasFaulted (state g old.conn) (state g new.conn)
+
+    -- where the book stood for a desk, its store was up, the text of the ask is short and enough rowids are left: a fault of
+    -- the store says that its disk failed or refused, or that the commit of the outcome's rows ran out of memory
+    abbrev pub FailsToAct : Option (Bor Asked) → Request → {V : Type 0} → Result V Fault → Type 0
+    FailsToAct ask asked result =
+        HasCleanDisk (state g new.conn) → (s : State) → StandsBook old s → IsSpelled s.ledger
+        → HasShortText (option_copied ask)
+        → HasRowids (asked_rowids (option_copied ask) asked) (state g old.conn).now.trees
+        → IsUp (state g old.conn) → IsErrOf result Store
+        → HasReason g old.conn new.conn (option_copied ask) asked s
+
+    -- unless the disk fails or refuses, a command takes at most the rowids of its rows
+    abbrev pub LeavesRowids : Option (Bor Asked) → Request → Type 0
+    LeavesRowids ask asked =
+        HasCleanDisk (state g new.conn) → (s : State) → StandsBook old s → (m : ℕ)
+        → HasRowids (asked_rowids (option_copied ask) asked + m) (state g old.conn).now.trees
+        → IsUp (state g old.conn)
+        → HasRowids m (state g new.conn).now.trees ⊎ HasFaulted (state g old.conn) (state g new.conn)
 
     -- what is shown is so of each state that the book stood for
     abbrev pub ShowsKept : {V : Type 0} → (State → V → Type 0) → Result V Fault → Type 0

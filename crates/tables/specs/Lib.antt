@@ -1,3 +1,5 @@
+pub mod Acting
+pub mod Asking
 pub mod BookTerms
 pub mod FinishedJourneys
 pub mod Keeping

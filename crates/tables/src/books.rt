@@ -1,6 +1,8 @@
 //! The book over tables.
 ghost use Rattle.std.specs.Prelude.{◌≡◌, ◌↔◌, false, None, IfOk, IfErr, IsOk, IsErrAnd, IsErrOf, IsTrue};
+ghost use Rattle.std.specs.Option.{option_copied};
 ghost use Rattle.commands.specs.Orders.{request_of};
+ghost use Rattle.tables.specs.Asking.{HasAgent};
 
 use crate::counting::{count_unfinished, counted_after};
 use crate::faults::OpenFault;
@@ -27,6 +29,16 @@ pub struct TableBook<S: Alter> {
     /// How many journeys are unfinished, once they were counted.
     unfinished: Option<u64>,
     ghost outside: { conn.in_transaction ≡ false },
+}
+
+/// The agent of an ask has its form, as each value of its type does. A call does nothing at run time.
+fn know_agent(ask: Option<&Ask>)
+    ensures form { HasAgent (option_copied ask.entry) }
+{
+    if let Some(ask) = ask {
+        let agent = ask.agent();
+        let _text = agent.as_str();
+    }
 }
 
 impl<S: Alter> TableBook<S> {
@@ -62,10 +74,12 @@ impl<S: Alter> TableBook<S> {
     ghost use Rattle.sql_reads.specs.Reading.{WasClean};
     ghost use Rattle.tables.specs.BookTerms.{Answers, MovesOn, KeepsAtMemory, LeavesAtStore, LeavesNoMore};
     ghost use Rattle.tables.specs.BookTerms.{ShowsFirst, ShowsKept, KeepsKnowing};
+    ghost use Rattle.tables.specs.BookTerms.{FailsToAct, LeavesRowids};
+    ghost use Rattle.tables.specs.Acting.{ActsOn};
     ghost use Rattle.std.specs.Prelude.{length};
     ghost use Rattle.saga_core.specs.Views.{counts_of, unfinished_of};
     ghost use Rattle.sql_reads.specs.Reading.{LeavesAsBefore};
-    ghost use Rattle.sql_model.specs.Staying.{StaysUp};
+    ghost use Rattle.sql_model.specs.Staying.{SeesAsBefore, StaysUp};
     ghost use Rattle.tables.specs.BookTerms.{FailsForReason};
 
     /// Returns the first unfinished journey. The book remembers that the journeys before it have finished.
@@ -78,6 +92,7 @@ impl<S: Alter> TableBook<S> {
 
         ensures store { FailsForReason S.Store self.old self.new result }
         ensures up { StaysUp S.Store self.old.conn self.new.conn }
+        ensures sees { SeesAsBefore S.Store self.old.conn self.new.conn }
     {
         let found = read_first_unfinished(&mut self.conn, self.finished)?;
         self.finished = match &found {
@@ -98,6 +113,7 @@ impl<S: Alter> TableBook<S> {
 
         ensures store { FailsForReason S.Store self.old self.new result }
         ensures up { StaysUp S.Store self.old.conn self.new.conn }
+        ensures sees { SeesAsBefore S.Store self.old.conn self.new.conn }
     {
         if after <= self.finished {
             self.look_on()
@@ -116,6 +132,7 @@ impl<S: Alter> TableBook<S> {
 
         ensures store { FailsForReason S.Store self.old self.new result }
         ensures up { StaysUp S.Store self.old.conn self.new.conn }
+        ensures sees { SeesAsBefore S.Store self.old.conn self.new.conn }
     {
         if let Some(count) = self.unfinished {
             return Ok(count);
@@ -135,6 +152,7 @@ impl<S: Alter> TableBook<S> {
 
         ensures store { FailsForReason S.Store self.old self.new result }
         ensures up { StaysUp S.Store self.old.conn self.new.conn }
+        ensures sees { SeesAsBefore S.Store self.old.conn self.new.conn }
     {
         let unfinished = self.count()?;
         let meta = read_counts(&mut self.conn)?;
@@ -156,11 +174,17 @@ impl<S: Alter> TableBook<S> {
         ensures stays_failed { IsTrue self.old.failed → IsTrue self.new.failed }
         ensures stays_left { IsTrue self.old.failed → LeavesNoMore S.Store self.old self.new }
         ensures sound { WasClean S.Store self.old.conn self.new.conn }
+
+        ensures reason { FailsToAct S.Store self.old self.new ask.entry (request_of command.now) result }
+        ensures rowids { LeavesRowids S.Store self.old self.new ask.entry (request_of command.now) }
+        ensures up { StaysUp S.Store self.old.conn self.new.conn }
+        ensures acts { ActsOn S.Store self.old self.new ask.entry (request_of command.now) result }
     {
         if self.failed {
             return Err(Fault::Store);
         }
         know_limits(command);
+        know_agent(ask);
         match answer(self.alloc, &mut self.conn, command, ask) {
             Ok(answered) => {
                 self.unfinished = counted_after(self.unfinished, &answered);
@@ -218,8 +242,12 @@ impl<S: Alter> Opened<S> {
 impl<S: Alter> Book for TableBook<S> {
     ghost use Rattle.ledger.specs.Ledger.{history};
     ghost use Rattle.saga_core.specs.Views.{ShowsCells, IsStock, counts_of, first_owned, first_unfinished, record_of};
+    ghost use Rattle.sql_model.specs.Staying.{SeesAsBefore};
     ghost use Rattle.sql_reads.specs.Reading.{WasClean};
+    ghost use Rattle.tables.specs.Acting.{ActsOn};
     ghost use Rattle.tables.specs.BookTerms.{FailsForReason, KeepsKnowing, LeavesNoMore, ShowsKept};
+    ghost use Rattle.tables.specs.BookTerms.{Answers, FailsToAct, KeepsAtMemory, LeavesAtStore, LeavesRowids, MovesOn};
+    ghost use Rattle.sql_model.specs.Staying.{StaysUp};
     ghost use Rattle.sqlite.specs.State.{HasCleanDisk};
     ghost use Rattle.sqlite.specs.Held.{state};
     ghost use Rattle.tables.specs.Keeping.{MayLeave, Stands, settles};
@@ -236,7 +264,22 @@ impl<S: Alter> Book for TableBook<S> {
 
     ghost settled = { λ b s h. settles h };
 
-    fn act(&mut self, command: &Command, ask: Option<&Ask>) -> Result<Reply, Fault> {
+    fn act(&mut self, command: &Command, ask: Option<&Ask>) -> Result<Reply, Fault>
+        ensures reply { Answers S.Store self.old self.new ask.entry (request_of command.now) result }
+        ensures after { MovesOn S.Store self.old self.new ask.entry (request_of command.now) result }
+        ensures memory { KeepsAtMemory S.Store self.old self.new result }
+        ensures store { LeavesAtStore S.Store self.old self.new ask.entry (request_of command.now)
+            result }
+        ensures fails { IsErrOf result Fault.Store ↔ IsTrue self.new.failed }
+        ensures stays_failed { IsTrue self.old.failed → IsTrue self.new.failed }
+        ensures stays_left { IsTrue self.old.failed → LeavesNoMore S.Store self.old self.new }
+        ensures sound { WasClean S.Store self.old.conn self.new.conn }
+
+        ensures reason { FailsToAct S.Store self.old self.new ask.entry (request_of command.now) result }
+        ensures rowids { LeavesRowids S.Store self.old self.new ask.entry (request_of command.now) }
+        ensures up { StaysUp S.Store self.old.conn self.new.conn }
+        ensures acts { ActsOn S.Store self.old self.new ask.entry (request_of command.now) result }
+    {
         match self.carry_out(command, ask) {
             Ok(reply) => Ok(reply),
             Err(Fault::Memory) => Err(Fault::Memory),
@@ -254,6 +297,7 @@ impl<S: Alter> Book for TableBook<S> {
         ensures sound { WasClean S.Store self.old.conn self.new.conn }
 
         ensures store { FailsForReason S.Store self.old self.new result }
+        ensures sees { SeesAsBefore S.Store self.old.conn self.new.conn }
     {
         if self.failed {
             return Err(Fault::Store);
@@ -278,6 +322,7 @@ impl<S: Alter> Book for TableBook<S> {
         ensures sound { WasClean S.Store self.old.conn self.new.conn }
 
         ensures store { FailsForReason S.Store self.old self.new result }
+        ensures sees { SeesAsBefore S.Store self.old.conn self.new.conn }
     {
         if self.failed {
             return Err(Fault::Store);
@@ -303,6 +348,7 @@ impl<S: Alter> Book for TableBook<S> {
         ensures sound { WasClean S.Store self.old.conn self.new.conn }
 
         ensures store { FailsForReason S.Store self.old self.new result }
+        ensures sees { SeesAsBefore S.Store self.old.conn self.new.conn }
     {
         if self.failed {
             return Err(Fault::Store);
@@ -328,6 +374,7 @@ impl<S: Alter> Book for TableBook<S> {
         ensures sound { WasClean S.Store self.old.conn self.new.conn }
 
         ensures store { FailsForReason S.Store self.old self.new result }
+        ensures sees { SeesAsBefore S.Store self.old.conn self.new.conn }
     {
         if self.failed {
             return Err(Fault::Store);
@@ -352,6 +399,7 @@ impl<S: Alter> Book for TableBook<S> {
         ensures sound { WasClean S.Store self.old.conn self.new.conn }
 
         ensures store { FailsForReason S.Store self.old self.new result }
+        ensures sees { SeesAsBefore S.Store self.old.conn self.new.conn }
     {
         if self.failed {
             return Err(Fault::Store);
@@ -376,6 +424,7 @@ impl<S: Alter> Book for TableBook<S> {
         ensures sound { WasClean S.Store self.old.conn self.new.conn }
 
         ensures store { FailsForReason S.Store self.old self.new result }
+        ensures sees { SeesAsBefore S.Store self.old.conn self.new.conn }
     {
         if self.failed {
             return Err(Fault::Store);
@@ -400,6 +449,7 @@ impl<S: Alter> Book for TableBook<S> {
         ensures sound { WasClean S.Store self.old.conn self.new.conn }
 
         ensures store { FailsForReason S.Store self.old self.new result }
+        ensures sees { SeesAsBefore S.Store self.old.conn self.new.conn }
     {
         if self.failed {
             return Err(Fault::Store);

@@ -1,6 +1,6 @@
 //! How many journeys are unfinished: counted once, and from then on by what each new reply tells.
 ghost use Rattle.std.specs.Prelude.{◌≡◌, false, IfSome};
-ghost use Rattle.sql_model.specs.Staying.{StaysUp};
+ghost use Rattle.sql_model.specs.Staying.{SeesAsBefore, StaysUp};
 ghost use Rattle.sql_reads.specs.Causes.{FailsForReason};
 ghost use Rattle.sql_reads.specs.Reading.{KeepsOn, LeavesAsBefore, ShowsKept, WasClean};
 ghost use Rattle.tables.specs.UnfinishedCount.{CountsOn, FollowsCount, unfinished_above};
@@ -57,6 +57,7 @@ pub(crate) fn count_unfinished<S: Alter>(conn: &mut Connection<S>, after: u64) -
 
     ensures store { FailsForReason S.Store conn.old conn.new result }
     ensures up { StaysUp S.Store conn.old conn.new }
+    ensures sees { SeesAsBefore S.Store conn.old conn.new }
 {
     let mut last = after;
     for count in 0..MOST_EVENTS + 1 {

@@ -14,6 +14,7 @@ ghost use Rattle.desk_sql.specs.Versions.{number_of, SawVersion};
 ghost use Rattle.desk_sql.specs.declared.versions.Version.{Version};
 ghost use Rattle.ledger.specs.Answer.{State};
 ghost use Rattle.tables.specs.Opening.{FailsToOpen, KeepsIt, StandsOn, Tells};
+ghost use Rattle.sql_model.specs.Staying.{StaysUp};
 ghost use Rattle.sql_reads.specs.Reading.{WasClean};
 
 use crate::faults::OpenFault;
@@ -75,7 +76,7 @@ impl<S: Alter> Opened<S> {
 
 impl<S: Alter> Opened<S> {
     ghost use Rattle.std.specs.Borrow.{sem};
-    ghost use Rattle.sql_model.specs.Staying.{StaysUp};
+    ghost use Rattle.sql_model.specs.Staying.{SeesAsBefore, StaysUp};
     ghost use Rattle.sql_reads.specs.Causes.{FailsForReasonIn};
     ghost use Rattle.sql_reads.specs.Reading.{IsRecordAt, KeepsEach, LeavesAsBefore, ShowsKeptIn};
     ghost use Rattle.tables.specs.Lending.{LendsConnection};
@@ -94,6 +95,7 @@ impl<S: Alter> Opened<S> {
         ensures store { self.old.conn.in_transaction ≡ false
             → FailsForReasonIn S.Store self.old.conn self.new.conn self.old.version result }
         ensures up { StaysUp S.Store self.old.conn self.new.conn }
+        ensures sees { SeesAsBefore S.Store self.old.conn self.new.conn }
     {
         if !self.is_outside() {
             return Err(Fault::Store);
@@ -133,6 +135,7 @@ fn found_tables<S: Alter>(conn: &mut Connection<S>) -> Result<(), OpenFault>
     ensures finds { OnOk result (KeepsIt S.Store conn.old conn.new Version.Two) }
     ensures stands { OnErr result (StandsOn S.Store conn.old conn.new) }
     ensures version { OnOk result (SawVersion S.Store conn.old conn.new 2) }
+    ensures up { OnOk result (StaysUp S.Store conn.old conn.new) }
     ensures told { IfErr result (Tells S.Store conn.old conn.new) }
 {
     let mut tx = conn.transaction();
@@ -157,6 +160,7 @@ fn read_version<S: Alter>(conn: &mut Connection<S>) -> Result<Version, OpenFault
     ensures finds { IfOk result (KeepsIt S.Store conn.old conn.new) }
     ensures stands { OnErr result (StandsOn S.Store conn.old conn.new) }
     ensures version { IfOk result (λ v. SawVersion S.Store conn.old conn.new (number_of v)) }
+    ensures up { OnOk result (StaysUp S.Store conn.old conn.new) }
     ensures told { IfErr result (Tells S.Store conn.old conn.new) }
     ensures store { IfErr result (FailsToOpen S.Store conn.old conn.new) }
 {
@@ -180,6 +184,7 @@ pub fn open_from<S: Alter>(mut conn: Connection<S>) -> Result<Opened<S>, (Connec
     ensures ready { IfOk result (λ o. o.conn.in_transaction ≡ false) }
     ensures unlimited { IfOk result (λ o. o.conn.step_limit ≡ None) }
     ensures sound { IfOk result (λ o. WasClean S.Store conn o.conn) }
+    ensures up { IfOk result (λ o. StaysUp S.Store conn o.conn) }
     ensures outside { IfErr result (λ e. e.0.in_transaction ≡ false) }
     ensures stands { IfErr result (λ e. StandsOn S.Store conn e.0) }
     ensures told { IfErr result (λ e. Tells S.Store conn e.0 e.1) }

@@ -5,8 +5,9 @@ use crate::tests::orders::{
     begin, begun, load,
 };
 use crate::tests::talks::{ALL, Asked, Page, Talk, goes_on, is_answered};
-use desk_http::{ServeFault, serve};
+use desk_http::ServeFault;
 use failing_streams::{Pieces, Sink};
+use http_conversations::serve;
 use memory_book::MemBook;
 use recovery::Ready;
 use std::alloc::Global;

@@ -2,7 +2,7 @@
 use crate::tests::desks::{holds, new_desk, reads};
 use crate::tests::orders::{GET, NOTHING_UNFINISHED};
 use crate::tests::talks::Talk;
-use desk_http::serve;
+use http_conversations::serve;
 use std::io::{Read, Write};
 use std::net::{Shutdown, TcpListener, TcpStream};
 use std::test::Fail;

@@ -1,7 +1,7 @@
 //! The bytes that are sent over a connection, the pages that are expected, and the checks of a desk on them.
 use crate::tests::desks::{holds, is_as_new, new_desk, reads};
-use desk_http::serve;
 use failing_streams::{Pieces, Sink};
+use http_conversations::serve;
 use memory_book::MemBook;
 use recovery::Ready;
 use std::alloc::Global;

@@ -1,6 +1,7 @@
 //! The jobs of the words of the command line.
 use crate::tests::desks::{holds, reads};
 use command_line::{Job, JobFault, job};
+use filters::{CellFilter, JourneyFilter, JourneyState, Phases};
 use reports::Format;
 use std::alloc::{AllocError, Global};
 use std::test::Fail;
@@ -46,6 +47,54 @@ fn shown(format: Format) -> &'static str {
     }
 }
 
+/// The text in the table of a stock report: each value that is asked for follows.
+fn stock_asked(
+    alloc: Global,
+    name: &str,
+    file: &str,
+    filter: CellFilter,
+    format: Format,
+) -> Result<String, AllocError> {
+    let mut text = format!(in alloc; "{name}|{file}{}", shown(format))?;
+    if let Some(kind) = filter.kind {
+        write!(text, "|kind {}", kind.word())?;
+    }
+    if let Some(supplier) = filter.supplier {
+        write!(text, "|supplier {supplier}")?;
+    }
+    if let Some(product) = filter.product {
+        write!(text, "|product {product}")?;
+    }
+    if let Some(from) = filter.from {
+        write!(text, "|from {from}")?;
+    }
+    if let Some(to) = filter.to {
+        write!(text, "|to {to}")?;
+    }
+    Ok(text)
+}
+
+/// The text in the table of a report of journeys: the agent follows if one is asked for, and the phases if they are not
+/// those of every journey of the report.
+fn journeys_asked(
+    alloc: Global,
+    name: &str,
+    file: &str,
+    filter: JourneyFilter,
+    format: Format,
+) -> Result<String, AllocError> {
+    let agent = filter.agent.as_ref().map_or("-", |agent| agent.as_str());
+    let phases = match filter.phases {
+        Phases::All => "all",
+        Phases::Unfinished => "unfinished",
+        Phases::Only(JourneyState::Run) => "run",
+        Phases::Only(JourneyState::Back) => "back",
+        Phases::Only(JourneyState::Ended) => "ended",
+        Phases::Only(JourneyState::Undone) => "undone",
+    };
+    format!(in alloc; "{name}|{file}{}|{agent} {phases}", shown(format))
+}
+
 /// The job of words as a text in the table: the job with its values, or only the usage.
 fn asked(alloc: Global, words: Vec<String>) -> Result<String, AllocError> {
     match job(alloc, words) {
@@ -72,15 +121,46 @@ fn asked(alloc: Global, words: Vec<String>) -> Result<String, AllocError> {
         ),
         Ok(Job::Recover { file }) => format!(in alloc; "recover|{file}"),
         Ok(Job::Load { file, csv, batch }) => format!(in alloc; "load|{file}|{csv}|{batch}"),
-        Ok(Job::Stock { file, format }) => format!(in alloc; "stock|{file}{}", shown(format)),
-        Ok(Job::Unfinished { file, format }) => format!(in alloc;
-            "unfinished|{file}{}",
+        Ok(
+            Job::Stock {
+                file,
+                filter,
+                format,
+            },
+        ) => stock_asked(alloc, "stock", file.as_str(), filter, format),
+        Ok(
+            Job::Summary {
+                file,
+                filter,
+                format,
+            },
+        ) => stock_asked(alloc, "summary", file.as_str(), filter, format),
+        Ok(Job::Calendar { file, filter }) => {
+            stock_asked(alloc, "calendar", file.as_str(), filter, Format::Text)
+        }
+        Ok(Job::Holders { file, cell, format }) => format!(in alloc;
+            "holders|{file}|{cell}{}",
             shown(format)
         ),
+        Ok(
+            Job::Unfinished {
+                file,
+                filter,
+                format,
+            },
+        ) => journeys_asked(alloc, "unfinished", file.as_str(), filter, format),
+        Ok(
+            Job::Journeys {
+                file,
+                filter,
+                format,
+            },
+        ) => journeys_asked(alloc, "journeys", file.as_str(), filter, format),
         Ok(Job::History { file, id, format }) => format!(in alloc;
             "history|{file}|{id}{}",
             shown(format)
         ),
+        Ok(Job::Why { file, id, format }) => format!(in alloc; "why|{file}|{id}{}", shown(format)),
         Ok(Job::Migrate { file }) => format!(in alloc; "migrate|{file}"),
         Ok(Job::Version) => String::from_str(alloc, "version"),
         Err(JobFault::Usage(usage)) => Ok(usage),
@@ -90,7 +170,7 @@ fn asked(alloc: Global, words: Vec<String>) -> Result<String, AllocError> {
 
 // the words, separated by bars, and the job with its values; a bad number of a journey is no usage
 #[rattlefmt::skip]
-const JOBS: [(&str, &str); 50] = [
+const JOBS: [(&str, &str); 74] = [
     ("run|x.db",                    "run|x.db"),
     ("run|a b/x.db",                "run|a b/x.db"),
     ("run|--|-x.db",                "run|-x.db"),
@@ -119,10 +199,10 @@ const JOBS: [(&str, &str); 50] = [
     ("stock|a b/x.db",              "stock|a b/x.db"),
     ("stock|--|-x.db",              "stock|-x.db"),
     ("stock|-",                     "stock|-"),
-    ("unfinished|x.db",             "unfinished|x.db"),
-    ("unfinished|a b/x.db",         "unfinished|a b/x.db"),
-    ("unfinished|--|-x.db",         "unfinished|-x.db"),
-    ("unfinished|-",                "unfinished|-"),
+    ("unfinished|x.db",             "unfinished|x.db|- unfinished"),
+    ("unfinished|a b/x.db",         "unfinished|a b/x.db|- unfinished"),
+    ("unfinished|--|-x.db",         "unfinished|-x.db|- unfinished"),
+    ("unfinished|-",                "unfinished|-|- unfinished"),
     ("load|x.db|a.csv|--batch|b1",  "load|x.db|a.csv|b1"),
     ("load|--batch|b1|x.db|a.csv",  "load|x.db|a.csv|b1"),
     ("load|x.db|--batch=b-1|a.csv", "load|x.db|a.csv|b-1"),
@@ -133,11 +213,36 @@ const JOBS: [(&str, &str); 50] = [
     ("stock|x.db|--format|text",    "stock|x.db"),
     ("stock|x.db|--format|json",    "stock|x.db|json"),
     ("stock|--format=csv|x.db",     "stock|x.db|csv"),
-    ("unfinished|x.db|--format|csv", "unfinished|x.db|csv"),
-    ("unfinished|--format|json|--|-x.db", "unfinished|-x.db|json"),
+    ("unfinished|x.db|--format|csv", "unfinished|x.db|csv|- unfinished"),
+    ("unfinished|--format|json|--|-x.db", "unfinished|-x.db|json|- unfinished"),
     ("history|x.db|12|--format|csv", "history|x.db|12|csv"),
     ("history|--format=json|x.db|one", "history|x.db|one|json"),
     ("migrate|x.db",                "migrate|x.db"),
+    ("stock|x.db|--kind|room",      "stock|x.db|kind room"),
+    ("stock|--supplier|AL|x.db",    "stock|x.db|supplier AL"),
+    ("stock|x.db|--product=12345678", "stock|x.db|product 12345678"),
+    ("stock|x.db|--to|2099-12-31|--from|2000-01-01", "stock|x.db|from 2000-01-01|to 2099-12-31"),
+    ("stock|x.db|--kind|cover|--supplier|INN|--product|DBL|--from|2030-06-01|--to|2030-06-30|--format|csv",
+        "stock|x.db|csv|kind cover|supplier INN|product DBL|from 2030-06-01|to 2030-06-30"),
+    ("summary|x.db",                "summary|x.db"),
+    ("summary|--|-x.db",            "summary|-x.db"),
+    ("summary|x.db|--kind|flight|--to|2030-06-30|--format|json", "summary|x.db|json|kind flight|to 2030-06-30"),
+    ("stock|x.db|--calendar",       "calendar|x.db"),
+    ("stock|--calendar|--|-x.db",   "calendar|-x.db"),
+    ("stock|x.db|--calendar|--format|text", "calendar|x.db"),
+    ("stock|x.db|--kind|room|--calendar|--from|2030-06-01", "calendar|x.db|kind room|from 2030-06-01"),
+    ("holders|x.db|R/INN/DBL/2030-06-01", "holders|x.db|R/INN/DBL/2030-06-01"),
+    ("holders|--format|json|x.db|F/AL/A1/2099-12-31", "holders|x.db|F/AL/A1/2099-12-31|json"),
+    ("holders|--|-x.db|C/Z/Z/2000-01-01", "holders|-x.db|C/Z/Z/2000-01-01"),
+    ("why|x.db|1",                  "why|x.db|1"),
+    ("why|x.db|999999999999|--format|csv", "why|x.db|999999999999|csv"),
+    ("why|--|-x.db|12",             "why|-x.db|12"),
+    ("unfinished|x.db|--agent|ann|--state|back", "unfinished|x.db|ann back"),
+    ("unfinished|x.db|--state|run", "unfinished|x.db|- run"),
+    ("journeys|x.db",               "journeys|x.db|- all"),
+    ("journeys|x.db|--state|undone|--format|json", "journeys|x.db|json|- undone"),
+    ("journeys|--agent|a234567890123456|x.db|--state|ended", "journeys|x.db|a234567890123456 ended"),
+    ("journeys|--|-x.db",           "journeys|-x.db|- all"),
     ("--version",                   "version"),
     ("-V",                          "version"),
     ("--version|run|x.db",          "version"),
@@ -236,6 +341,60 @@ const REFUSED_OF_SERVE: [(&str, &str, &str); 30] = [
     ("serve, in short",          "serve|-h", "Serve HTTP requests from many clients at once\n\nUsage: desk serve [OPTIONS] --port <PORT> <FILE>\n"),
 ];
 
+// the same, of the words of the calendar, and of those that ask for one cell or one journey
+#[rattlefmt::skip]
+const REFUSED_OF_ONE: [(&str, &str, &str); 25] = [
+    ("a calendar as objects",    "stock|x|--calendar|--format|json", "error: invalid value 'json' for '--format <FORMAT>': not text, which the calendar is\n\nFor more information, try '--help'.\n"),
+    ("a calendar as records",    "stock|x|--format|csv|--calendar", "error: invalid value 'csv' for '--format <FORMAT>': not text, which the calendar is\n"),
+    ("a calendar in an unknown format", "stock|x|--calendar|--format|xml", "error: invalid value 'xml' for '--format <FORMAT>': not text, json or csv\n"),
+    ("a calendar of an unknown kind", "stock|x|--calendar|--format|json|--kind|F", "error: invalid value 'F' for '--kind <KIND>'"),
+    ("a calendar with a value",  "stock|x|--calendar=yes", "error: unexpected value 'yes' for '--calendar' found; no more were expected\n"),
+    ("two calendars",            "stock|x|--calendar|--calendar", "error: the argument '--calendar' cannot be used multiple times\n"),
+    ("a calendar of a summary",  "summary|x|--calendar", "error: unexpected argument '--calendar' found\n"),
+    ("no cell",                  "holders|x.db", "error: the following required arguments were not provided:\n  <CELL>\n\nUsage: desk holders <FILE> <CELL>\n"),
+    ("two cells",                "holders|x|R/INN/DBL/2030-06-01|R/INN/DBL/2030-06-02", "error: unexpected argument 'R/INN/DBL/2030-06-02' found\n\nUsage: desk holders [OPTIONS] <FILE> <CELL>\n"),
+    ("a cell without a night",   "holders|x|R/INN/DBL", "error: invalid value 'R/INN/DBL' for '<CELL>': not a cell, as R/INN/DBL/2030-06-01\n\nFor more information, try '--help'.\n"),
+    ("a kind in a word",         "holders|x|room/INN/DBL/2030-06-01", "error: invalid value 'room/INN/DBL/2030-06-01' for '<CELL>': not a cell"),
+    ("a supplier of 9 letters",  "holders|x|R/ABCDEFGHI/DBL/2030-06-01", "error: invalid value 'R/ABCDEFGHI/DBL/2030-06-01' for '<CELL>': not a cell"),
+    ("a night that is none",     "holders|x|R/INN/DBL/2030-02-30", "error: invalid value 'R/INN/DBL/2030-02-30' for '<CELL>': not a cell"),
+    ("a want",                   "holders|x|R/INN/DBL/2030-06-01/1/1", "error: invalid value 'R/INN/DBL/2030-06-01/1/1' for '<CELL>': not a cell"),
+    ("a bad cell before a bad format", "holders|x|R|--format|xml", "error: invalid value 'R' for '<CELL>'"),
+    ("holders in an unknown format", "holders|x|R/INN/DBL/2030-06-01|--format|xml", "error: invalid value 'xml' for '--format <FORMAT>': not text, json or csv\n"),
+    ("help of holders",          "holders|--help", "Print which journeys hold places of a cell\n\nOpens the database FILE without recovering it"),
+    ("journey 0",                "why|x|0", "error: invalid value '0' for '<ID>': not a number from 1 to 999999999999\n\nFor more information, try '--help'.\n"),
+    ("a journey past all",       "why|x|1000000000000", "error: invalid value '1000000000000' for '<ID>': not a number from 1 to 999999999999\n"),
+    ("a journey with a zero",    "why|x|01", "error: invalid value '01' for '<ID>'"),
+    ("a journey by a word",      "why|x|one", "error: invalid value 'one' for '<ID>'"),
+    ("an empty journey",         "why|x|", "error: invalid value '' for '<ID>'"),
+    ("no journey",               "why|x.db", "error: the following required arguments were not provided:\n  <ID>\n\nUsage: desk why <FILE> <ID>\n"),
+    ("a reason in an unknown format", "why|x|1|--format|XML", "error: invalid value 'XML' for '--format <FORMAT>': not text, json or csv\n"),
+    ("help of why",              "why|--help", "Print why a journey stands where it does\n\nOpens the database FILE without recovering it"),
+];
+
+// the same, of the words that ask for cells and journeys
+#[rattlefmt::skip]
+const REFUSED_OF_FILTERS: [(&str, &str, &str); 19] = [
+    ("an unknown kind",          "stock|x|--kind|F", "error: invalid value 'F' for '--kind <KIND>': not flight, room, transfer or cover\n"),
+    ("a supplier of 9",          "stock|x|--supplier|ABCDEFGHI", "error: invalid value 'ABCDEFGHI' for '--supplier <SUPPLIER>': not 1 to 8 of A-Z and 0-9\n"),
+    ("a product in small",       "stock|x|--product|a1", "error: invalid value 'a1' for '--product <PRODUCT>': not 1 to 8 of A-Z and 0-9\n"),
+    ("a day that is none",       "stock|x|--from|2030-02-30", "error: invalid value '2030-02-30' for '--from <FROM>': not a day from 2000-01-01 to 2099-12-31\n"),
+    ("a day past all nights",    "stock|x|--to|2100-01-01", "error: invalid value '2100-01-01' for '--to <TO>': not a day from 2000-01-01 to 2099-12-31\n"),
+    ("a bad kind before a bad format", "stock|x|--format|xml|--kind|F", "error: invalid value 'F' for '--kind <KIND>'"),
+    ("two suppliers",            "stock|x|--supplier|A|--supplier|B", "error: the argument '--supplier <SUPPLIER>' cannot be used multiple times\n"),
+    ("an unknown kind of a summary", "summary|x|--kind|F", "error: invalid value 'F' for '--kind <KIND>': not flight, room, transfer or cover\n"),
+    ("a summary in an unknown format", "summary|x|--format|xml", "error: invalid value 'xml' for '--format <FORMAT>': not text, json or csv\n"),
+    ("no file for a summary",    "summary", "error: the following required arguments were not provided:\n  <FILE>\n\nUsage: desk summary <FILE>\n"),
+    ("an agent of a summary",    "summary|x|--agent|ann", "error: unexpected argument '--agent' found\n"),
+    ("a supplier of journeys",   "journeys|x|--supplier|A", "error: unexpected argument '--supplier' found\n"),
+    ("an agent in capitals",     "journeys|x|--agent|Ann", "error: invalid value 'Ann' for '--agent <AGENT>': not 1 to 16 of a-z and 0-9\n"),
+    ("an agent of 17",           "unfinished|x|--agent|a2345678901234567", "error: invalid value 'a2345678901234567' for '--agent <AGENT>'"),
+    ("an unknown state",         "journeys|x|--state|done", "error: invalid value 'done' for '--state <STATE>': not run, back, ended or undone\n"),
+    ("ended ones, unfinished",   "unfinished|x|--state|ended", "error: invalid value 'ended' for '--state <STATE>': not run or back\n"),
+    ("no file for journeys",     "journeys", "error: the following required arguments were not provided:\n  <FILE>\n\nUsage: desk journeys <FILE>\n"),
+    ("two files for journeys",   "journeys|x|y", "error: unexpected argument 'y' found\n\nUsage: desk journeys [OPTIONS] <FILE>\n"),
+    ("help of journeys",         "journeys|--help", "Print all journeys, ended ones too\n\nOpens the database FILE without recovering it"),
+];
+
 #[test]
 fn other_words_get_the_usage(rt: HostRuntime) -> Result<(), Fail> {
     for &(case, words, expected) in &REFUSED {
@@ -248,6 +407,24 @@ fn other_words_get_the_usage(rt: HostRuntime) -> Result<(), Fail> {
 #[test]
 fn other_words_of_serve_get_the_usage(rt: HostRuntime) -> Result<(), Fail> {
     for &(case, words, expected) in &REFUSED_OF_SERVE {
+        let found = asked(rt.alloc(), words_of(rt.alloc(), words)?)?;
+        holds(&rt, case, found.as_str().starts_with(expected));
+    }
+    Ok(())
+}
+
+#[test]
+fn other_words_of_filters_get_the_usage(rt: HostRuntime) -> Result<(), Fail> {
+    for &(case, words, expected) in &REFUSED_OF_FILTERS {
+        let found = asked(rt.alloc(), words_of(rt.alloc(), words)?)?;
+        holds(&rt, case, found.as_str().starts_with(expected));
+    }
+    Ok(())
+}
+
+#[test]
+fn other_words_of_one_cell_or_journey_get_the_usage(rt: HostRuntime) -> Result<(), Fail> {
+    for &(case, words, expected) in &REFUSED_OF_ONE {
         let found = asked(rt.alloc(), words_of(rt.alloc(), words)?)?;
         holds(&rt, case, found.as_str().starts_with(expected));
     }

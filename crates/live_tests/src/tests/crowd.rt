@@ -1,7 +1,8 @@
 //! A source of turns over few seats: peers come at any time, some in place of others, go on in a random order, and some
 //! are cut off.
 ghost use Rattle.std.specs.Prelude.{◌≡◌, IfSome};
-ghost use Rattle.http_live.specs.Doors.{ComesByItsDoor};
+ghost use Rattle.http_ways.specs.declared.ways.Way.TheVariants.{Profile};
+ghost use Rattle.http_live.specs.Doors.{ComesByItsDoor, ComesByItsWay};
 
 use crate::tests::dice::Dice;
 use crate::tests::ends::{Notes, Pieces, Sink};
@@ -56,6 +57,7 @@ impl<'a> Crowd<'a> {
     /// The next peer comes, if there is one more.
     fn comes(&mut self, seat: usize) -> Option<Turn<Pieces<'a>, Sink<'a>>>
         ensures door { IfSome result (ComesByItsDoor (λ reader door. reader.door ≡ door)) }
+        ensures way { IfSome result (ComesByItsWay (λ reader way. way ≡ Profile)) }
     {
         let at = self.came;
         let peer = self.peers.get(at)?;
@@ -88,6 +90,8 @@ impl<'a> Turns for Crowd<'a> {
     type Writer = Sink<'a>;
 
     ghost is_at = { λ reader door. reader.door ≡ door };
+
+    ghost is_by = { λ reader way. way ≡ Profile };
 
     fn next_turn(&mut self) -> Turn<Pieces<'a>, Sink<'a>> {
         if self.left == 0 {

@@ -1,7 +1,7 @@
 //! Readers and writers that fail: each ends its own connection, and every other peer gets all its pages.
 use crate::tests::peers::{Peer, ROOM};
 use crate::tests::plain::{new_desk, served};
-use desk_http::serve;
+use http_conversations::serve;
 use std::alloc::Global;
 use std::process::Abort;
 

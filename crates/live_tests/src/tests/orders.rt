@@ -4,7 +4,7 @@ use crate::tests::dice::Dice;
 use crate::tests::ends::Notes;
 use crate::tests::peers::{FLIGHT, Peer, ROOM, TWO_SEATS};
 use crate::tests::plain::{Run, new_desk, plainly, serve_all};
-use desk_http::serve;
+use http_conversations::serve;
 use memory_book::MemBook;
 use recovery::Ready;
 use std::alloc::Global;

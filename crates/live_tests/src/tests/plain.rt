@@ -3,7 +3,7 @@ use crate::tests::dice::Dice;
 use crate::tests::ends::Notes;
 use crate::tests::peers::{FLIGHT, Peer, TWO_SEATS};
 use crate::tests::schedule::Schedule;
-use desk_http::serve;
+use http_conversations::serve;
 use http_live::{Ending, Turns, empty_seats, finish_many, serve_many};
 use memory_book::MemBook;
 use recovery::{Ready, recover};

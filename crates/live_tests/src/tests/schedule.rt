@@ -1,5 +1,6 @@
 //! A source of turns: every peer comes, and then one after another may go on, in a random order or in turn.
 ghost use Rattle.std.specs.Prelude.{◌≡◌};
+ghost use Rattle.http_ways.specs.declared.ways.Way.TheVariants.{Profile};
 
 use crate::tests::dice::Dice;
 use crate::tests::ends::{Notes, Pieces, Sink};
@@ -28,6 +29,8 @@ impl<'a> Turns for Schedule<'a> {
     type Writer = Sink<'a>;
 
     ghost is_at = { λ reader door. reader.door ≡ door };
+
+    ghost is_by = { λ reader way. way ≡ Profile };
 
     fn next_turn(&mut self) -> Turn<Pieces<'a>, Sink<'a>> {
         let seat = self.came;

@@ -307,6 +307,65 @@ fn a_batch_is_loaded_whole_or_not(rt: HostRuntime) -> Result<(), Fail> {
     leads_to(&rt, rt.alloc(), &BATCHES, &BATCHES_LEFT)
 }
 
+// a run of which some nights have a row; then one that ends at a held place, and one at other places
+#[rattlefmt::skip]
+static RUNS: [(Asked, &str); 5] = [
+    (Asked::Load("a", &[("R/INN/DBL/2030-06-01", 5), ("R/INN/DBL/2030-06-03", 5)]), "loaded a 2"),
+    (Asked::Load("b", &[
+        ("R/INN/DBL/2030-06-01", 8), ("R/INN/DBL/2030-06-02", 8), ("R/INN/DBL/2030-06-03", 8), ("R/INN/DBL/2030-06-04", 8),
+    ]), "loaded b 4"),
+    (Asked::Begin("R/INN/DBL/2030-06-02/1/1!0"), "journey 1 begun"),
+    (Asked::Step(1), "journey 1 T1.1 ended 1"),
+    (Asked::Load("c", &[
+        ("R/INN/DBL/2030-06-01", 9), ("R/INN/DBL/2030-06-02", 9), ("R/INN/DBL/2030-06-03", 9), ("R/INN/DBL/2030-06-04", 7),
+        ("R/INN/DBL/2030-06-05", 9),
+    ]), "loaded c 5"),
+];
+
+#[rattlefmt::skip]
+static RUNS_LEFT: [(&str, i64); 4] = [
+    ("SELECT count(*) FROM stock", 5),
+    ("SELECT count(*) FROM stock WHERE night = 22067 AND allot = 9 AND free = 8", 1),
+    ("SELECT count(*) FROM stock WHERE night = 22069 AND allot = 7 AND free = 7", 1),
+    ("SELECT count(*) FROM stock WHERE allot = 9 AND free = 9", 3),
+];
+
+#[test]
+fn a_batch_is_loaded_run_by_run(rt: HostRuntime) -> Result<(), Fail> {
+    leads_to(&rt, rt.alloc(), &RUNS, &RUNS_LEFT)
+}
+
+// nights that are read together: one held among others, in another order, of two products in turn, and too late for one look-up
+#[rattlefmt::skip]
+static LOOK_UPS: [(Asked, &str); 10] = [
+    (Asked::Load("a", &[("R/INN/DBL/2030-06-02", 5), ("R/INN/DBL/2030-08-10", 5), ("R/INN/SGL/2030-06-02", 5)]), "loaded a 3"),
+    (Asked::Begin("R/INN/DBL/2030-06-02/1/2!0"), "journey 1 begun"),
+    (Asked::Step(1), "journey 1 T1.1 ended 1"),
+    (Asked::Begin("R/INN/DBL/2030-08-10/1/3!0"), "journey 2 begun"),
+    (Asked::Step(2), "journey 2 T1.1 ended 1"),
+    (Asked::Load("b", &[("R/INN/DBL/2030-06-01", 0), ("R/INN/DBL/2030-06-02", 1), ("R/INN/DBL/2030-06-03", 0)]), "refused 12 BelowHeld 2"),
+    (Asked::Load("b", &[("R/INN/DBL/2030-06-03", 0), ("R/INN/DBL/2030-06-02", 1)]), "refused 12 BelowHeld 2"),
+    (Asked::Load("b", &[("R/INN/DBL/2030-06-01", 0), ("R/INN/SGL/2030-06-01", 0), ("R/INN/DBL/2030-06-02", 1)]), "refused 12 BelowHeld 3"),
+    (Asked::Load("b", &[("R/INN/DBL/2030-06-01", 0), ("R/INN/DBL/2030-08-10", 2)]), "refused 12 BelowHeld 2"),
+    (Asked::Load("b", &[
+        ("R/INN/DBL/2030-06-01", 7), ("R/INN/DBL/2030-06-02", 7), ("R/INN/DBL/2030-06-04", 7), ("R/INN/SGL/2030-06-02", 7),
+        ("R/INN/DBL/2030-08-10", 7),
+    ]), "loaded b 5"),
+];
+
+#[rattlefmt::skip]
+static LOOK_UPS_LEFT: [(&str, i64); 4] = [
+    ("SELECT count(*) FROM stock", 5),
+    ("SELECT count(*) FROM stock WHERE product = 'DBL' AND night = 22067 AND allot = 7 AND free = 5", 1),
+    ("SELECT count(*) FROM stock WHERE product = 'DBL' AND night = 22136 AND allot = 7 AND free = 4", 1),
+    ("SELECT count(*) FROM stock WHERE allot = 7 AND free = 7", 3),
+];
+
+#[test]
+fn held_places_are_read_for_consecutive_nights(rt: HostRuntime) -> Result<(), Fail> {
+    leads_to(&rt, rt.alloc(), &LOOK_UPS, &LOOK_UPS_LEFT)
+}
+
 // journey 2 gives the room back before journey 1 takes it
 #[rattlefmt::skip]
 static ONE_ROOM: [(Asked, &str); 9] = [

@@ -2,7 +2,7 @@ use Rattle.std.proofs.Common.{◌∙◌, sym, ap}
 use Rattle.std.specs.Result.{result_ok}
 use Rattle.allotment.specs.Nights.{night_in}
 use Rattle.allotment.specs.Texts.{cell_from, kind_of_letter}
-use Rattle.allotment.specs.declared.faults.Bad.TheVariants as bad
+use Rattle.allotment.specs.declared.wants.Bad.TheVariants as bad
 use Rattle.allotment.proofs.CellLemmas.{cell_from-no_supplier, cell_from-no_product, cell_from-no_night, cell_from-whole, night_unread, night_is_read}
 use Rattle.allotment.proofs.cells.from_parts.Goals as goal
 

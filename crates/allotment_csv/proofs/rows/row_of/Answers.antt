@@ -1,7 +1,7 @@
 use Rattle.std.proofs.Common.{sym, ◌∙◌}
 use Rattle.allotment_csv.proofs.RowLemmas.{no_kind, no_supplier, no_product, no_night, no_places, found_nothing, found_value}
 use Rattle.allotment.specs.Nights.{night_in}
-use Rattle.allotment.specs.declared.faults.Bad.TheVariants as bad
+use Rattle.allotment.specs.declared.wants.Bad.TheVariants as bad
 use Rattle.allotment_csv.proofs.rows.row_of.Goals as goal
 
 -- the first text is no kind

@@ -8,7 +8,7 @@ use Rattle.clap.specs.declared.error.kind.ErrorKind.{ErrorKind}
 use Rattle.clap.specs.declared.error.kind.ErrorKind.TheVariants.{OutOfMemory}
 use Rattle.command_line.specs.Subcommands.{app_for, has_any}
 use Rattle.command_line.specs.declared.subcommands.Subcommand.{Subcommand}
-use Rattle.command_line.specs.declared.subcommands.Subcommand.TheVariants.{Run, Serve, Recover, Load, Stock, Unfinished, History, Migrate}
+use Rattle.command_line.specs.declared.subcommands.Subcommand.TheVariants.{Run, Serve, Recover, Load, Stock, Summary, Holders, Unfinished, Journeys, History, Why, Migrate}
 use Rattle.command_line.proofs.words.matches_in.Goals as goal
 
 is_exact : (s : Subcommand) → is_simple (app_for s) ≡ true
@@ -18,8 +18,12 @@ is_exact Serve = refl
 is_exact Recover = refl
 is_exact Load = refl
 is_exact Stock = refl
+is_exact Summary = refl
+is_exact Holders = refl
 is_exact Unfinished = refl
+is_exact Journeys = refl
 is_exact History = refl
+is_exact Why = refl
 is_exact Migrate = refl
 
 is_free : (s : Subcommand) → is_simple_and_free (app_for s) ≡ true
@@ -29,8 +33,12 @@ is_free Serve = refl
 is_free Recover = refl
 is_free Load = refl
 is_free Stock = refl
+is_free Summary = refl
+is_free Holders = refl
 is_free Unfinished = refl
+is_free Journeys = refl
 is_free History = refl
+is_free Why = refl
 is_free Migrate = refl
 
 -- a list that has a kind is not empty

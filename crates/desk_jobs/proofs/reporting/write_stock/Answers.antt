@@ -1,18 +1,22 @@
--- The rows that are written are those of the state that is kept.
-use Rattle.std.proofs.Common.{rules}
-use Rattle.sqlite.specs.Held.{state}
-use Rattle.sqlite.specs.State.{HasCleanDisk}
-use Rattle.reports.proofs.FrontLemmas.{front_none}
-use Rattle.desk_jobs.proofs.ReportLemmas.{wrote_front}
+-- The whole stock where each cell is asked for, and else the cells that are asked for, kind after kind.
+use Rattle.std.proofs.Common.{◌≡◌, ap, rules, sym, subst, true}
+use Rattle.reports.specs.Formats.{stock_in}
+use Rattle.allotment.specs.declared.cells.Cell.{Cell}
+use Rattle.filters.specs.CellFilters.{is_cell_asked}
+use Rattle.desk_jobs.specs.Reporting.{WritesText}
+use Rattle.desk_jobs.proofs.StockLemmas.{asked_all}
 use Rattle.desk_jobs.proofs.reporting.write_stock.Goals as goal
 
-pub returns-clause-told : goal.returns-clause-told
-returns-clause-told g c clean v s desk keeps rows stock =
-    let stayed = c.write_cells.ensures.kept in
-    -- the connection is the one that the rows give back when they are let go
-    let read : HasCleanDisk (state g.S.Store c.write_cells.new.rows.conn.now) = search rules in
-    c.write_cells.ensures.told read rows (c.in-Ok.ensures.rows v (stayed.left.reads.less read) s desk keeps rows stock)
+pub returns-then-names_nothing-clause-told : goal.returns-then-names_nothing-clause-told
+returns-then-names_nothing-clause-told g c clean v s desk keeps rows stock =
+    let f = c.args.filter.now in
+    let each : (cell : Cell) → is_cell_asked f cell ≡ true = c.names_nothing.ensures.each (search rules) in
+    subst (λ cells. WritesText (g.O.Write.contents c.args.out.now) (g.O.Write.contents c.write_whole_stock.new.out) (stock_in c.args.format cells) c.write_whole_stock.result)
+    (sym (asked_all f rows each))
+    (c.write_whole_stock.ensures.told clean v s desk keeps rows stock)
 
--- nothing was written
-pub returns-in-Err-clause-told : goal.returns-in-Err-clause-told
-returns-in-Err-clause-told g c clean v s desk keeps rows stock = wrote_front _ _ _ _ (front_none _ _)
+pub returns-clause-told : goal.returns-clause-told
+returns-clause-told g c clean v s desk keeps rows stock = record {
+  whole = c.write_kinds.ensures.whole clean v s desk keeps rows stock;
+  front = c.write_kinds.ensures.front clean v s desk keeps rows stock;
+}

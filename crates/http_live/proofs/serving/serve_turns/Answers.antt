@@ -2,7 +2,7 @@
 use Rattle.std.proofs.Common.{Ok, Err, Option, ap, false, refl}
 use Rattle.std.proofs.lemmas.Result.{err_from_is_err_and}
 use Rattle.http_conversations.specs.Leading.{has_broken}
-use Rattle.http_live.specs.declared.endings.Ending.{Ending}
+use Rattle.http_live.specs.declared.turns.Ending.{Ending}
 use Rattle.http_live.specs.Endings.{ends_stopped, is_stopped}
 use Rattle.http_live.proofs.Merged.{merges_as, merges_none, merges_then}
 use Rattle.http_live.proofs.serving.serve_turns.Goals as goal
@@ -16,6 +16,7 @@ loop-init g c =
       stays_failed = λ failed. failed;
       stays_left = λ failed s t left. left;
       doors = λ doors. doors;
+      ways = λ ways. ways;
       sound = λ sound. sound;
     }
 
@@ -34,6 +35,7 @@ loop-preserved g c =
       stays_failed = λ failed. turn.stays_failed (at.invariant.stays_failed failed);
       stays_left = λ failed s t left. turn.stays_left (at.invariant.stays_failed failed) s t (at.invariant.stays_left failed s t left);
       doors = λ doors. turn.doors (at.invariant.doors doors);
+      ways = λ ways. turn.ways (at.invariant.ways ways);
       sound = λ sound. at.invariant.sound (turn.sound sound);
     }
 
@@ -73,3 +75,10 @@ returns-in_err-ending-clause-doors g c = λ doors. c.in_err-ending.ensures.doors
 
 pub returns-in-Some-clause-doors : goal.returns-in-Some-clause-doors
 returns-in-Some-clause-doors g c = λ doors. c.in_ok-ending.ensures.doors (c.loop.invariant.doors doors)
+
+-- and is read by its way
+pub returns-in_err-ending-clause-ways : goal.returns-in_err-ending-clause-ways
+returns-in_err-ending-clause-ways g c = λ ways. c.in_err-ending.ensures.ways (c.loop.invariant.ways ways)
+
+pub returns-in-Some-clause-ways : goal.returns-in-Some-clause-ways
+returns-in-Some-clause-ways g c = λ ways. c.in_ok-ending.ensures.ways (c.loop.invariant.ways ways)

@@ -1,7 +1,7 @@
 use Rattle.std.proofs.Common.{map, false}
 use Rattle.std.specs.Prelude.{IsTrue}
 use Rattle.saga_core.specs.Books.{LeavesNoMore}
-use Rattle.http_live.specs.Arrivals.{AreAtTheirDoors}
+use Rattle.http_live.specs.Arrivals.{AreAtTheirDoors, AreReadByTheirWays}
 use Rattle.http_live.specs.Merging.{Merges}
 use Rattle.http_live.specs.Seats.{exchanges_at}
 use Rattle.http_live.proofs.serving.serve_turns.Given as goal
@@ -14,5 +14,6 @@ invariant-loop g l =
       stays_failed : IsTrue (book.has_failed l.fn.book) → IsTrue (book.has_failed l.book);
       stays_left : IsTrue (book.has_failed l.fn.book) → LeavesNoMore (book.leaves l.fn.book) (book.leaves l.book);
       doors : AreAtTheirDoors g.T.Turns.is_at l.fn.seats → AreAtTheirDoors g.T.Turns.is_at l.seats;
+      ways : AreReadByTheirWays g.T.Turns.is_by l.fn.seats → AreReadByTheirWays g.T.Turns.is_by l.seats;
       sound : book.is_sound l.book → book.is_sound l.fn.book;
     }

@@ -3,13 +3,13 @@ use Rattle.std.proofs.Common.{◌≡◌, ◌∙◌, Ok, Err, Option, Some, ap, f
 use Rattle.std.proofs.lemmas.List.Quantifiers.{any-set}
 use Rattle.std.proofs.lemmas.Result.{err_from_is_err_and}
 use Rattle.http_conversations.specs.Leading.{has_broken}
-use Rattle.http_live.specs.declared.endings.Ending.{Ending}
-use Rattle.http_live.specs.declared.endings.Ending.TheVariants as ends
+use Rattle.http_live.specs.declared.turns.Ending.{Ending}
+use Rattle.http_live.specs.declared.turns.Ending.TheVariants as ends
 use Rattle.http_live.specs.Endings.{ending_after, ends_stopped, is_stop}
 use Rattle.http_live.specs.Seats.{HasStopAt, exchanges_at}
 use Rattle.http_conversations.proofs.Steps.{no_stop}
 use Rattle.http_live.proofs.RestLemmas.{asked_to_stop, stop_as, stops_in_turn}
-use Rattle.http_live.proofs.DoorLemmas.{kept_at}
+use Rattle.http_live.proofs.DoorLemmas.{kept_at, kept_by}
 use Rattle.http_live.proofs.LeadLemmas.{goes_on_none}
 use Rattle.http_live.proofs.Merged.{merges_none, merges_set}
 use Rattle.http_live.proofs.serving.take_turn.Goals as goal
@@ -101,4 +101,20 @@ returns-then-at-seats-clause-doors g c =
 pub returns-then-at-seats-2-clause-doors : goal.returns-then-at-seats-2-clause-doors
 returns-then-at-seats-2-clause-doors g c =
     kept_at g.T.Turns.is_at c.args.seats.now c.in-Leaves.at c.index-seats-at-then-at-seats-2.result _ c.if-at-seats-2.true
+    c.clear.ensures.arrivals
+
+-- the same of the ways
+pub returns-in_err-standing-in-Ready-clause-ways : goal.returns-in_err-standing-in-Ready-clause-ways
+returns-in_err-standing-in-Ready-clause-ways g c =
+    kept_by g.T.Turns.is_by c.args.seats.now c.in-Ready.at c.index-seats-at.result _ c.if-at-seats.true
+    c.in_err-standing-in-Ready.ensures.arrivals
+
+pub returns-then-at-seats-clause-ways : goal.returns-then-at-seats-clause-ways
+returns-then-at-seats-clause-ways g c =
+    kept_by g.T.Turns.is_by c.args.seats.now c.in-Ready.at c.index-seats-at.result _ c.if-at-seats.true
+    c.in_ok-standing-in-Ready.ensures.arrivals
+
+pub returns-then-at-seats-2-clause-ways : goal.returns-then-at-seats-2-clause-ways
+returns-then-at-seats-2-clause-ways g c =
+    kept_by g.T.Turns.is_by c.args.seats.now c.in-Leaves.at c.index-seats-at-then-at-seats-2.result _ c.if-at-seats-2.true
     c.clear.ensures.arrivals

@@ -6,8 +6,8 @@ use Rattle.http_live.specs.Merging.{exchange_of}
 use Rattle.http_live.specs.Seats.{connections_at, exchanges_at}
 use Rattle.http_live.proofs.Merged.{merges_none}
 use Rattle.http_live.proofs.WorldLemmas.{worlds_go_on}
-use Rattle.http_sockets.specs.Doors.{IsAt}
-use Rattle.http_sockets.proofs.SeatLemmas.{at_doors, no_exchanges}
+use Rattle.http_sockets.specs.Doors.{IsAt, IsReadBy}
+use Rattle.http_sockets.proofs.SeatLemmas.{at_doors, by_ways, no_exchanges}
 use Rattle.http_sockets.proofs.serving.serve_sockets.Goals as goal
 
 -- out of memory, nobody was served
@@ -39,6 +39,7 @@ returns-in_default-clause-doors g c =
     (merges_none (book.is_sound b) (book.stands b) (book.leaves b) [] [] refl) in record {
       seats = [];
       doors = All-nil _;
+      ways = All-nil _;
       before = [];
       none = All-nil _;
       merged = m.merged;
@@ -56,6 +57,7 @@ returns-in_err-ending-clause-doors g c =
     rw (failed.1, failed.2) (record {
       seats = c.serve_many.new.seats;
       doors = c.in_err-ending.ensures.doors (at_doors seats IsAt (subst (All (λ seat. connections_at seat ≡ [])) same c.in-Ok.ensures.empty));
+      ways = c.in_err-ending.ensures.ways (by_ways seats IsReadBy (subst (All (λ seat. connections_at seat ≡ [])) same c.in-Ok.ensures.empty));
       before = map exchanges_at seats;
       none = no_exchanges seats (subst (All (λ seat. exchanges_at seat ≡ [])) same c.in-Ok.ensures.none);
       merged = m.merged;
@@ -71,6 +73,7 @@ returns-clause-doors g c =
     let same = sym c.as_mut_slice.ensures.value in record {
       seats = c.serve_many.new.seats;
       doors = c.in_ok-ending.ensures.doors (at_doors seats IsAt (subst (All (λ seat. connections_at seat ≡ [])) same c.in-Ok.ensures.empty));
+      ways = c.in_ok-ending.ensures.ways (by_ways seats IsReadBy (subst (All (λ seat. connections_at seat ≡ [])) same c.in-Ok.ensures.empty));
       before = map exchanges_at seats;
       none = no_exchanges seats (subst (All (λ seat. exchanges_at seat ≡ [])) same c.in-Ok.ensures.none);
       merged = m.merged;

@@ -7,7 +7,7 @@ pub returns-in-Ok-clause-answer : goal.returns-in-Ok-clause-answer
 returns-in-Ok-clause-answer g c = λ sound s stood x is.
     let book = g.B.Book in
     let new = c.answer_to.new.book in
-    laid_by (book.stands new) (book.leaves new) s c.args.door x c.in-Ok.answer c.lay_out.result
+    laid_by (book.stands new) (book.leaves new) s c.args.door c.args.second x c.in-Ok.answer c.lay_out.result
     (c.in-Ok.ensures.answer sound s stood x.meant is.message) c.lay_out.ensures.closes (c.lay_out.ensures.bytes x is) c.lay_out.ensures.memory
 
 pub returns-in-Ok-clause-closes : goal.returns-in-Ok-clause-closes
@@ -24,4 +24,4 @@ pub returns-in-Err-clause-answer : goal.returns-in-Err-clause-answer
 returns-in-Err-clause-answer g c = λ sound s stood x is.
     let book = g.B.Book in
     let new = c.answer_to.new.book in
-    faults_by (book.stands new) (book.leaves new) s c.args.door x c.in-Err.fault (c.in-Err.ensures.answer sound s stood x.meant is.message)
+    faults_by (book.stands new) (book.leaves new) s c.args.door c.args.second x c.in-Err.fault (c.in-Err.ensures.answer sound s stood x.meant is.message)

@@ -9,9 +9,11 @@ returns-in-NoHead c = record {
   shown = λ m is. shown_unread c.args.door c.args.kind m (subst (λ z. IsTaken z m) c.in-NoHead.is is);
 }
 
-pub returns-in-Asks : goal.returns-in-Asks
-returns-in-Asks c = record {
+pub returns-in_ok-refusal-in-Asks : goal.returns-in_ok-refusal-in-Asks
+returns-in_ok-refusal-in-Asks c = record {
   shown = λ m is.
-      c.shown_of.ensures.shown
-      ∙ shown_taken c.args.door c.args.kind c.in-Asks.request m (subst (λ z. IsTaken z m) c.in-Asks.is is);
+      c.shown_unless.ensures.shown
+      ∙ shown_taken c.args.door c.args.kind c.in-Asks.request m c.in_ok-refusal-in-Asks.refusal
+      c.in_ok-refusal-in-Asks.ensures.refusal
+      (subst (λ z. IsTaken z m) c.in-Asks.is is);
 }

@@ -2,16 +2,17 @@
 use Rattle.std.proofs.Common.{◌∙◌}
 use Rattle.std.specs.Prelude.{Some}
 use Rattle.std.proofs.lemmas.Result.{IfOk-weaker}
-use Rattle.commands.specs.declared.refusals.Refusal.TheVariants as refusal
+use Rattle.commands.specs.declared.replies.Refusal.TheVariants as refusal
 use Rattle.http_pages.specs.Pages.{close_line}
-use Rattle.http_wide_pages.specs.Pages.{allow_line, text_of}
+use Rattle.http_wide_pages.specs.Pages.{allow_line, body_unless, text_of}
 use Rattle.http_wide_pages.proofs.PageLemmas.{not_allowed_lines}
 use Rattle.http_wide_pages.proofs.allowed.not_allowed_page.Goals as goal
 
 pub returns : goal.returns
 returns c =
-    let whole = not_allowed_lines c.args.date.now (text_of refusal.WrongMethod) (allow_line (Some c.args.verb)) (close_line c.args.closes) in
+    let whole = not_allowed_lines c.args.date.now (text_of refusal.WrongMethod)
+    (body_unless c.args.is_head (text_of refusal.WrongMethod)) (allow_line (Some c.args.verb)) (close_line c.args.closes) in
     record {
       bytes = IfOk-weaker c.format.result _ _ (λ page printed. printed
-          ∙ rw (c.cache_lines-lines.ensures.lines, c.allow_line-allow.ensures.line, c.close_line-close.ensures.line, c.as_str.ensures.value, c.as_str-text.ensures.value, c.in_ok-body.ensures.body) whole) c.format.ensures.ok;
+          ∙ rw (c.cache_lines-lines.ensures.lines, c.allow_line-allow.ensures.line, c.close_line-close.ensures.line, c.body_unless-text.ensures.body, c.as_str.ensures.value, c.as_str-2.ensures.value, c.in_ok-body.ensures.body) whole) c.format.ensures.ok;
     }

@@ -7,6 +7,12 @@ use Rattle.ledger.specs.Answer.{kept_for, outcome}
 use Rattle.sql_model.specs.Keeping.{IsKept}
 use Rattle.sql_commands.proofs.AnswerLemmas.{is_new_if_first}
 use Rattle.sql_commands.proofs.OkLemmas.{on_ok_given}
+use Rattle.std.proofs.Common.{◌≡◌, rules}
+use Rattle.std.specs.Prelude.{Err}
+use Rattle.commands.specs.declared.replies.Fault.TheVariants.{Store}
+use Rattle.sql_model.specs.Standing.{IsDesk}
+use Rattle.sql_commands.specs.Failing.{IsNewTo}
+use Rattle.sql_commands.proofs.StoreReasons.{ReadsStore, after_reads, read_alone}
 use Rattle.sql_commands.proofs.answering.answer_for.Goals as goal
 
 -- the key is new: the reply is that of the request's outcome
@@ -56,3 +62,41 @@ returns-in-Ok-None-clause-new g c clean s desk keeps =
 pub returns-in-Ok-Some-clause-new : goal.returns-in-Ok-Some-clause-new
 returns-in-Ok-Some-clause-new g c clean s desk keeps =
     sym (ap not ((rw c.in-Ok-Some.field-0-is at c.in-Ok-Some.ensures.found) clean s desk keeps).0)
+
+-- Store only for a reason.
+
+pub returns-in-Ok-Some-clause-store : goal.returns-in-Ok-Some-clause-store
+returns-in-Ok-Some-clause-store g c =
+    let found : ReadsStore g.S.Store c.args.conn.now c.find_reply.new.conn = record {
+      up = c.find_reply.ensures.up;
+      sees = c.find_reply.ensures.sees;
+      less = c.find_reply.ensures.sound;
+    } in
+    read_alone g.S.Store (Some c.args.ask.now) (request_of c.args.command.now) IsDesk _ c.args.conn.now c.find_reply.new.conn found
+    (λ clean s spelled keeps desk up failed. cc)
+
+pub returns-in-Err-clause-store : goal.returns-in-Err-clause-store
+returns-in-Err-clause-store g c =
+    let found : ReadsStore g.S.Store c.args.conn.now c.find_reply.new.conn = record {
+      up = c.find_reply.ensures.up;
+      sees = c.find_reply.ensures.sees;
+      less = c.find_reply.ensures.sound;
+    } in
+    read_alone g.S.Store (Some c.args.ask.now) (request_of c.args.command.now) IsDesk _ c.args.conn.now c.find_reply.new.conn found
+    (λ clean s spelled keeps desk up failed. (
+    let too : c.find_reply.result ≡ Err Store = search rules in c.find_reply.ensures.store clean s desk spelled keeps up too))
+
+pub returns-in-Ok-None-clause-store : goal.returns-in-Ok-None-clause-store
+returns-in-Ok-None-clause-store g c =
+    let found : ReadsStore g.S.Store c.args.conn.now c.find_reply.new.conn = record {
+      up = c.find_reply.ensures.up;
+      sees = c.find_reply.ensures.sees;
+      less = c.find_reply.ensures.sound;
+    } in
+    after_reads g.S.Store (Some c.args.ask.now) (request_of c.args.command.now) IsDesk _ c.args.conn.now c.find_reply.new.conn c.answer_first.new.conn found
+    (λ s keeps. c.in-Ok-None.ensures.same s keeps) c.answer_first.ensures.sound (IsNewTo (Some c.args.ask.now))
+    (λ clean s keeps desk. record {
+      desk = desk;
+      new = (rw c.in-Ok-None.field-0-is at c.in-Ok-None.ensures.found) (c.answer_first.ensures.sound clean) s desk keeps;
+    })
+    c.answer_first.ensures.store

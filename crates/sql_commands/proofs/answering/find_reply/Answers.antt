@@ -3,8 +3,8 @@ use Rattle.std.specs.Prelude.{Err}
 use Rattle.sqlite.specs.State.{HasCleanDisk}
 use Rattle.sqlite.specs.Held.{state}
 use Rattle.sql_model.proofs.KeepLemmas.{seen_by, unchanged_keeps}
-use Rattle.commands.specs.declared.faults.Fault.TheVariants.{Store}
-use Rattle.sql_model.proofs.Staying.{of_error, stays_up}
+use Rattle.commands.specs.declared.replies.Fault.TheVariants.{Store}
+use Rattle.sql_model.proofs.Staying.{of_error, sees_again, stays_up}
 use Rattle.sql_reads.proofs.ReadReasons.{not_store, sql_reason}
 use Rattle.sql_commands.proofs.AnswerLemmas.{kept_line, known_reply, new_key, reply_texts}
 use Rattle.sql_commands.proofs.answering.find_reply.Goals as goal
@@ -88,3 +88,17 @@ returns-in-Ok-Some-clause-up g c = stays_up g.S.Store c.args.conn.now c.find_ans
 
 pub returns-clause-up : goal.returns-clause-up
 returns-clause-up g c = stays_up g.S.Store c.args.conn.now c.find_answer.new.conn c.find_answer.ensures.survives
+
+-- The store sees what it saw.
+
+pub returns-in-Ok-None-clause-sees : goal.returns-in-Ok-None-clause-sees
+returns-in-Ok-None-clause-sees g c = sees_again g.S.Store c.args.conn.now c.find_answer.new.conn c.find_answer.ensures.quiet
+
+pub returns-in-Ok-clause-sees : goal.returns-in-Ok-clause-sees
+returns-in-Ok-clause-sees g c = sees_again g.S.Store c.args.conn.now c.find_answer.new.conn c.find_answer.ensures.quiet
+
+pub returns-in-Ok-Some-clause-sees : goal.returns-in-Ok-Some-clause-sees
+returns-in-Ok-Some-clause-sees g c = sees_again g.S.Store c.args.conn.now c.find_answer.new.conn c.find_answer.ensures.quiet
+
+pub returns-clause-sees : goal.returns-clause-sees
+returns-clause-sees g c = sees_again g.S.Store c.args.conn.now c.find_answer.new.conn c.find_answer.ensures.quiet

@@ -1,4 +1,4 @@
-use Rattle.std.proofs.Common.{None, subst, sym}
+use Rattle.std.proofs.Common.{subst, sym}
 use Rattle.std.specs.Option.{option_copied}
 use Rattle.sql_commands.specs.Committing.{FailsToCommit, LeavesRowids}
 use Rattle.sql_commands.specs.Moving.{LeadsTo}

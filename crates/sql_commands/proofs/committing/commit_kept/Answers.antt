@@ -1,8 +1,10 @@
-use Rattle.std.proofs.Common.{◌∙◌, sym, subst}
+use Rattle.std.proofs.Common.{◌∙◌, IsTrue, sym, subst}
+use Rattle.commands.specs.Names.{is_agent, is_key}
 use Rattle.desk_sql.specs.Rows.{AnswerRow}
 use Rattle.desk_sql.specs.Writable.{MayKeep}
 use Rattle.sql_commands.proofs.LeadLemmas.{IsKeeping, kept_leads, kept_row}
 use Rattle.sql_commands.proofs.CommitReasons.{as_left, ran_out, stays_alone}
+use Rattle.sql_commands.proofs.WritesPermitted.{may_keep}
 use Rattle.sql_commands.proofs.committing.commit_kept.Goals as goal
 
 -- the row of the reply is written with those of the event
@@ -32,9 +34,14 @@ pub returns-clause-store : goal.returns-clause-store
 returns-clause-store g c clean s keeps permits has up store =
     let row = kept_row _ _ _ _ c.args.ask.now c.args.reply.now (c.as_str.ensures.text ∙ c.agent-agent.ensures.agent)
     (c.as_str-2.ensures.text ∙ c.key-key.ensures.key) c.text.ensures.text (c.as_str-3.ensures.value ∙ c.in-Ok.ensures.line) in
+    let agent = subst (λ name. IsTrue (is_agent name)) c.agent-agent.ensures.agent c.as_str.ensures.form in
+    let key = subst (λ name. IsTrue (is_key name)) c.key-key.ensures.key c.as_str-2.ensures.form in
     ran_out g.S.Store c.args.conn.now c.commit_event.new.conn s c.args.numbers c.args.event.now c.args.ask.now c.args.reply.now _ row
     (c.commit_event.ensures.store clean s keeps
-    (λ t st. ((permits t st).0, subst (λ (r : AnswerRow). MayKeep r t) (sym row) (permits t st).1)) has up store)
+    (λ t st. (
+      (permits t st).0,
+      subst (λ (r : AnswerRow). MayKeep r t) (sym row) (may_keep c.args.ask.now c.args.reply.now t agent key (permits t st).1),
+    )) has up store)
 
 -- nothing was written
 pub returns-in-Err-clause-up : goal.returns-in-Err-clause-up

@@ -14,6 +14,7 @@ returns-then-eq c = record {
       c.loaded.ensures.loaded
       ∙ known_answer b.name b.rows known c.args.content.now true c.rows.ensures.limits good kept
       (sym c.if-eq.true ∙ c.eq.ensures ∙ ap (λ t. bytes_eq t c.args.content.now) text));
+  memory = tt;
 }
 
 -- another text
@@ -24,4 +25,5 @@ returns c = record {
       c.as_bytes.ensures.value ∙ c.in-Ok.ensures.text ∙ ap batch_text c.rows.ensures.rows in
       known_answer b.name b.rows known c.args.content.now false c.rows.ensures.limits good kept
       (sym c.if-eq.false ∙ c.eq.ensures ∙ ap (λ t. bytes_eq t c.args.content.now) text));
+  memory = tt;
 }

@@ -3,10 +3,10 @@ use Rattle.desk_sql.specs.FoundRows.{FindsBatch}
 use Rattle.sql_commands.proofs.LoadComes.{name_told}
 use Rattle.sql_reads.proofs.ReadLemmas.{keeps_on, has_found}
 use Rattle.std.proofs.Common.{◌≡◌}
-use Rattle.commands.specs.declared.faults.Fault.TheVariants.{Store}
+use Rattle.commands.specs.declared.replies.Fault.TheVariants.{Store}
 use Rattle.sqlite.specs.Held.{state}
 use Rattle.desk_sql.specs.Readable.{Any}
-use Rattle.sql_model.proofs.Staying.{of_error, stays_up}
+use Rattle.sql_model.proofs.Staying.{of_error, sees_again, stays_up}
 use Rattle.sql_reads.proofs.ReadReasons.{sql_reason}
 use Rattle.sql_commands.proofs.loading.find_known.Goals as goal
 
@@ -32,3 +32,11 @@ returns-in-Ok-clause-up g c = stays_up g.S.Store c.args.conn.now c.find_batch.ne
 
 pub returns-in-Err-clause-up : goal.returns-in-Err-clause-up
 returns-in-Err-clause-up g c = stays_up g.S.Store c.args.conn.now c.find_batch.new.conn c.find_batch.ensures.survives
+
+-- The store sees what it saw.
+
+pub returns-in-Ok-clause-sees : goal.returns-in-Ok-clause-sees
+returns-in-Ok-clause-sees g c = sees_again g.S.Store c.args.conn.now c.find_batch.new.conn c.find_batch.ensures.quiet
+
+pub returns-in-Err-clause-sees : goal.returns-in-Err-clause-sees
+returns-in-Err-clause-sees g c = sees_again g.S.Store c.args.conn.now c.find_batch.new.conn c.find_batch.ensures.quiet

@@ -6,9 +6,12 @@ use Rattle.sqlite.specs.State.{HasCleanDisk}
 use Rattle.commands.specs.Request.{Load}
 use Rattle.ledger.specs.Answer.{outcome}
 use Rattle.sql_model.specs.Keeping.{IsKept}
-use Rattle.sql_commands.specs.Loading.{IsLoadDue, HavePlaces, TellsBelow}
+use Rattle.sql_commands.specs.Loading.{IsLoadDue, IsNewName, HavePlaces, TellsBelow}
 use Rattle.sql_commands.proofs.LoadComes.{below_comes, where_clean}
 use Rattle.desk_sql.specs.declared.versions.Version.TheVariants.{Two}
+use Rattle.std.specs.Prelude.{Err}
+use Rattle.commands.specs.declared.replies.Fault.TheVariants.{Store}
+use Rattle.sql_commands.proofs.StoreReasons.{ReadsStore, after_reads, read_alone}
 use Rattle.sql_commands.proofs.loading.load_new.Goals as goal
 
 -- a row is below what is held
@@ -68,3 +71,50 @@ returns-in-Ok-Ok-clause-left g c s keeps is clean =
       places = subst (λ rows. HavePlaces rows s cells) c.rows.ensures.rows (subst (HavePlaces c.rows.result.now s) (sym same) have);
     } in
     c.load_cells.ensures.left s (c.cells_of.ensures.same Two s keeps) due clean
+
+-- Store only for a reason.
+
+pub returns-in-Ok-Err-clause-store : goal.returns-in-Ok-Err-clause-store
+returns-in-Ok-Err-clause-store g c =
+    let ask = option_copied c.args.ask in
+    let b = c.args.batch.now in
+    let looked : ReadsStore g.S.Store c.args.conn.now c.cells_of.new.conn = record {
+      up = c.cells_of.ensures.up;
+      sees = c.cells_of.ensures.sees;
+      less = c.cells_of.ensures.less;
+    } in
+    read_alone g.S.Store ask (Load b.name b.rows) (IsNewName ask c.args.counts b.name) _ c.args.conn.now c.cells_of.new.conn looked (λ clean s spelled keeps is up failed. cc)
+
+pub returns-in-Err-clause-store : goal.returns-in-Err-clause-store
+returns-in-Err-clause-store g c =
+    let ask = option_copied c.args.ask in
+    let b = c.args.batch.now in
+    let looked : ReadsStore g.S.Store c.args.conn.now c.cells_of.new.conn = record {
+      up = c.cells_of.ensures.up;
+      sees = c.cells_of.ensures.sees;
+      less = c.cells_of.ensures.less;
+    } in
+    read_alone g.S.Store ask (Load b.name b.rows) (IsNewName ask c.args.counts b.name) _ c.args.conn.now c.cells_of.new.conn looked
+    (λ clean s spelled keeps is up failed. (
+    let too : c.cells_of.result ≡ Err Store = search rules in c.cells_of.ensures.store clean s is.desk spelled keeps up too))
+
+pub returns-in-Ok-Ok-clause-store : goal.returns-in-Ok-Ok-clause-store
+returns-in-Ok-Ok-clause-store g c =
+    let ask = option_copied c.args.ask in
+    let b = c.args.batch.now in
+    let cells = c.deref.result.now in
+    let same : cells ≡ c.in-Ok-Ok.cells.items = search rules in
+    let looked : ReadsStore g.S.Store c.args.conn.now c.cells_of.new.conn = record {
+      up = c.cells_of.ensures.up;
+      sees = c.cells_of.ensures.sees;
+      less = c.cells_of.ensures.less;
+    } in
+    after_reads g.S.Store ask (Load b.name b.rows) (IsNewName ask c.args.counts b.name) _ c.args.conn.now c.cells_of.new.conn c.load_cells.new.conn looked
+    (λ s keeps. c.cells_of.ensures.same Two s keeps) c.load_cells.ensures.sound (IsLoadDue ask c.args.counts b.name b.rows cells)
+    (λ clean s keeps is. (
+    let have = (rw c.in-Ok-Ok.field-0-is at c.in-Ok-Ok.ensures.cells) (c.load_cells.ensures.sound clean) s is.desk keeps in
+    record {
+      new_name = is;
+      places = subst (λ rows. HavePlaces rows s cells) c.rows.ensures.rows (subst (HavePlaces c.rows.result.now s) (sym same) have);
+    }))
+    c.load_cells.ensures.store

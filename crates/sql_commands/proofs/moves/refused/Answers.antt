@@ -13,4 +13,5 @@ returns-in-Turn c =
           step_next s desk.legal who id c.args.journey.now is false (unfit who c.args.journey.now is) c.decide.result
           c.decide.ensures.one c.decide.ensures.nothing _
           (subst (λ d. IsSaid s id d (Ok (Turn c.in-Turn.target Refused))) (sym c.in-Turn.is) refl);
+      there = λ runs. refl;
     }

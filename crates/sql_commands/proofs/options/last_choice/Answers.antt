@@ -4,10 +4,10 @@ use Rattle.desk_sql.specs.FoundRows.{FindsOptions}
 use Rattle.sql_reads.proofs.ReadLemmas.{keeps_on, has_found, also_ok}
 use Rattle.sql_commands.specs.OptionChoice.{IsTakenChosen, IsLastChoice}
 use Rattle.sql_commands.proofs.ChoiceLemmas.{last_told}
-use Rattle.commands.specs.declared.faults.Fault.TheVariants.{Store}
+use Rattle.commands.specs.declared.replies.Fault.TheVariants.{Store}
 use Rattle.sqlite.specs.Held.{state}
 use Rattle.desk_sql.specs.Readable.{HaveOptionTexts}
-use Rattle.sql_model.proofs.Staying.{of_error, stays_up}
+use Rattle.sql_model.proofs.Staying.{of_error, sees_again, stays_up}
 use Rattle.sql_reads.proofs.ReadReasons.{not_store, sql_reason}
 use Rattle.sql_commands.specs.OptionChoice.{HasTaken}
 use Rattle.sql_commands.proofs.OptionReasons.{has_taken, option_texts}
@@ -51,3 +51,11 @@ returns-in-Ok-clause-up g c = stays_up g.S.Store c.args.conn.now c.find_options.
 
 pub returns-in-Err-clause-up : goal.returns-in-Err-clause-up
 returns-in-Err-clause-up g c = stays_up g.S.Store c.args.conn.now c.find_options.new.conn c.find_options.ensures.survives
+
+-- The store sees what it saw.
+
+pub returns-in-Ok-clause-sees : goal.returns-in-Ok-clause-sees
+returns-in-Ok-clause-sees g c = sees_again g.S.Store c.args.conn.now c.find_options.new.conn c.find_options.ensures.quiet
+
+pub returns-in-Err-clause-sees : goal.returns-in-Err-clause-sees
+returns-in-Err-clause-sees g c = sees_again g.S.Store c.args.conn.now c.find_options.new.conn c.find_options.ensures.quiet

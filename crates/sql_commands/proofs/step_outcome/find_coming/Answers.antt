@@ -1,7 +1,8 @@
 -- The outcome that the rows of a step give is the answer of the rules.
 use Rattle.std.proofs.Common.{◌≡◌, rules, arith}
 use Rattle.std.specs.Prelude.{Err}
-use Rattle.commands.specs.declared.faults.Fault.TheVariants.{Store}
+use Rattle.commands.specs.declared.replies.Fault.TheVariants.{Store}
+use Rattle.sql_model.specs.Staying.{sees_twice}
 use Rattle.sql_model.proofs.Staying.{fails_twice, stays_twice}
 use Rattle.sql_commands.proofs.ComingLemmas.{up_comes, down_comes, refused_comes}
 use Rattle.sql_commands.proofs.Reasons.{has_step, takes_last}
@@ -65,3 +66,17 @@ returns-then-fitting-clause-up g c =
 pub returns-else-fitting-clause-up : goal.returns-else-fitting-clause-up
 returns-else-fitting-clause-up g c =
     stays_twice g.S.Store c.args.conn.now c.next_choice.new.conn c.fits_nights.new.conn c.next_choice.ensures.up c.fits_nights.ensures.up c.fits_nights.ensures.less
+
+-- The store sees what it saw.
+
+pub returns-in_err-fitting-in-Run-clause-sees : goal.returns-in_err-fitting-in-Run-clause-sees
+returns-in_err-fitting-in-Run-clause-sees g c =
+    sees_twice g.S.Store c.args.conn.now c.next_choice.new.conn c.fits_nights.new.conn c.next_choice.ensures.sees c.fits_nights.ensures.sees c.fits_nights.ensures.less
+
+pub returns-then-fitting-clause-sees : goal.returns-then-fitting-clause-sees
+returns-then-fitting-clause-sees g c =
+    sees_twice g.S.Store c.args.conn.now c.next_choice.new.conn c.fits_nights.new.conn c.next_choice.ensures.sees c.fits_nights.ensures.sees c.fits_nights.ensures.less
+
+pub returns-else-fitting-clause-sees : goal.returns-else-fitting-clause-sees
+returns-else-fitting-clause-sees g c =
+    sees_twice g.S.Store c.args.conn.now c.next_choice.new.conn c.fits_nights.new.conn c.next_choice.ensures.sees c.fits_nights.ensures.sees c.fits_nights.ensures.less

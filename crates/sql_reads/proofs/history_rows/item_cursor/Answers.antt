@@ -26,7 +26,7 @@ pub returns-in-Ok-clause-kept : goal.returns-in-Ok-clause-kept
 returns-in-Ok-clause-kept g c =
     let told = c.in-Ok.ensures in
     record {
-      reads = record { keeps = told.same; stop = told.stop; less = told.less };
+      reads = record { keeps = told.same; stop = told.stop; less = told.less; sees = told.sees };
       outside = λ _. told.outside;
     }
 
@@ -34,6 +34,6 @@ pub returns-in-Err-clause-kept : goal.returns-in-Err-clause-kept
 returns-in-Err-clause-kept g c =
     let told = c.in-Err.ensures in
     record {
-      reads = record { keeps = told.same; stop = told.stop; less = told.less };
+      reads = record { keeps = told.same; stop = told.stop; less = told.less; sees = told.sees };
       outside = λ _. told.outside;
     }

@@ -4,7 +4,7 @@ use Rattle.std.specs.Prelude.{string_bytes, Some}
 use Rattle.allotment.specs.Limits.{is_night}
 use Rattle.allotment.specs.Texts.{kind_of_number}
 use Rattle.allotment.specs.Want.{Wanted}
-use Rattle.allotment.specs.declared.faults.Bad.{Bad}
+use Rattle.allotment.specs.declared.wants.Bad.{Bad}
 use Rattle.allotment.proofs.LawLemmas.{number_read}
 use Rattle.sql_reads.specs.PlanRows.{TellsWant}
 use Rattle.sql_reads.proofs.GoodPlans.{want_good, kept_is, not_both}

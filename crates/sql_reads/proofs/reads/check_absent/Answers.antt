@@ -5,10 +5,10 @@ use Rattle.ledger.specs.Ledger.{journeys}
 use Rattle.sql_model.proofs.Readings.{meta_read}
 use Rattle.sql_reads.proofs.ReadLemmas.{keeps_each, has_found}
 use Rattle.sql_reads.proofs.ReadJourneys.{journey_past}
-use Rattle.commands.specs.declared.faults.Fault.TheVariants.{Store}
+use Rattle.commands.specs.declared.replies.Fault.TheVariants.{Store}
 use Rattle.sqlite.specs.Held.{state}
 use Rattle.desk_sql.specs.Readable.{HasMeta}
-use Rattle.sql_model.proofs.Staying.{of_error, stays_up}
+use Rattle.sql_model.proofs.Staying.{of_error, sees_again, stays_up}
 use Rattle.sql_reads.proofs.ReadReasons.{few_journeys, meta_there, sql_reason}
 use Rattle.sql_reads.proofs.reads.check_absent.Goals as goal
 
@@ -51,3 +51,14 @@ returns-in-Ok-2-clause-up g c = stays_up g.S.Store c.args.conn.now c.read_meta.n
 
 pub returns-in-Err-clause-up : goal.returns-in-Err-clause-up
 returns-in-Err-clause-up g c = stays_up g.S.Store c.args.conn.now c.read_meta.new.conn c.read_meta.ensures.survives
+
+-- The store sees what it saw.
+
+pub returns-in-Ok-clause-sees : goal.returns-in-Ok-clause-sees
+returns-in-Ok-clause-sees g c = sees_again g.S.Store c.args.conn.now c.read_meta.new.conn c.read_meta.ensures.quiet
+
+pub returns-in-Ok-2-clause-sees : goal.returns-in-Ok-2-clause-sees
+returns-in-Ok-2-clause-sees g c = sees_again g.S.Store c.args.conn.now c.read_meta.new.conn c.read_meta.ensures.quiet
+
+pub returns-in-Err-clause-sees : goal.returns-in-Err-clause-sees
+returns-in-Err-clause-sees g c = sees_again g.S.Store c.args.conn.now c.read_meta.new.conn c.read_meta.ensures.quiet

@@ -3,10 +3,10 @@ use Rattle.std.proofs.Common.{◌≡◌}
 use Rattle.desk_sql.specs.FoundRows.{FindsNextItem}
 use Rattle.sql_reads.proofs.ReadLemmas.{keeps_each, has_found}
 use Rattle.sql_reads.proofs.ReadSought.{next_sought}
-use Rattle.commands.specs.declared.faults.Fault.TheVariants.{Store}
+use Rattle.commands.specs.declared.replies.Fault.TheVariants.{Store}
 use Rattle.sqlite.specs.Held.{state}
 use Rattle.desk_sql.specs.Readable.{Any}
-use Rattle.sql_model.proofs.Staying.{of_error, stays_up}
+use Rattle.sql_model.proofs.Staying.{of_error, sees_again, stays_up}
 use Rattle.sql_reads.proofs.ReadReasons.{item_early, sql_reason}
 use Rattle.sql_reads.proofs.reads.find_next.Goals as goal
 
@@ -40,3 +40,11 @@ returns-in-Ok-clause-early g c clean s desk spelled keeps =
     let w = c.args.sought.now in
     let found = has_found g.S.Store c.args.conn.now c.next_in.new.conn c.in-Ok.found (FindsNextItem w.journey w.after) c.in-Ok.ensures.found c.next_in.ensures.survives clean s keeps in
     item_early found.tables s found.stands spelled w.journey w.after c.in-Ok.found found.found
+
+-- The store sees what it saw.
+
+pub returns-in-Ok-clause-sees : goal.returns-in-Ok-clause-sees
+returns-in-Ok-clause-sees g c = sees_again g.S.Store c.args.conn.now c.next_in.new.conn c.next_in.ensures.quiet
+
+pub returns-in-Err-clause-sees : goal.returns-in-Err-clause-sees
+returns-in-Err-clause-sees g c = sees_again g.S.Store c.args.conn.now c.next_in.new.conn c.next_in.ensures.quiet

@@ -3,10 +3,10 @@ use Rattle.std.proofs.Common.{◌≡◌, refl, subst, arith}
 use Rattle.desk_sql.specs.FoundRows.{FindsJourney}
 use Rattle.sql_reads.proofs.ReadLemmas.{keeps_each, has_found}
 use Rattle.sql_reads.proofs.ReadSought.{sought_nowhere, absent_read, sought_there}
-use Rattle.commands.specs.declared.faults.Fault.TheVariants.{Store}
+use Rattle.commands.specs.declared.replies.Fault.TheVariants.{Store}
 use Rattle.sqlite.specs.Held.{state}
 use Rattle.desk_sql.specs.Readable.{HasAgentText}
-use Rattle.sql_model.proofs.Staying.{of_error, stays_up}
+use Rattle.sql_model.proofs.Staying.{of_error, sees_again, stays_up}
 use Rattle.sql_reads.proofs.ReadReasons.{has_text, row_number, sql_reason}
 use Rattle.sql_reads.proofs.reads.find_sought.Goals as goal
 
@@ -67,3 +67,17 @@ returns-in-Ok-None-clause-up g c = stays_up g.S.Store c.args.conn.now c.find_jou
 
 pub returns-in-Err-clause-up : goal.returns-in-Err-clause-up
 returns-in-Err-clause-up g c = stays_up g.S.Store c.args.conn.now c.find_journey.new.conn c.find_journey.ensures.survives
+
+-- The store sees what it saw.
+
+pub returns-in-Ok-Some-clause-sees : goal.returns-in-Ok-Some-clause-sees
+returns-in-Ok-Some-clause-sees g c = sees_again g.S.Store c.args.conn.now c.find_journey.new.conn c.find_journey.ensures.quiet
+
+pub returns-in-Ok-Some-2-clause-sees : goal.returns-in-Ok-Some-2-clause-sees
+returns-in-Ok-Some-2-clause-sees g c = sees_again g.S.Store c.args.conn.now c.find_journey.new.conn c.find_journey.ensures.quiet
+
+pub returns-in-Ok-None-clause-sees : goal.returns-in-Ok-None-clause-sees
+returns-in-Ok-None-clause-sees g c = sees_again g.S.Store c.args.conn.now c.find_journey.new.conn c.find_journey.ensures.quiet
+
+pub returns-in-Err-clause-sees : goal.returns-in-Err-clause-sees
+returns-in-Err-clause-sees g c = sees_again g.S.Store c.args.conn.now c.find_journey.new.conn c.find_journey.ensures.quiet

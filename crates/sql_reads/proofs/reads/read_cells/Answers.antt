@@ -8,10 +8,10 @@ use Rattle.sql_model.proofs.Readings.{nights_read}
 use Rattle.sql_reads.specs.Reading.{TellNights}
 use Rattle.sql_reads.proofs.ReadLemmas.{keeps_on, has_found, also_ok}
 use Rattle.sql_reads.proofs.ReadStock.{some_night}
-use Rattle.commands.specs.declared.faults.Fault.TheVariants.{Store}
+use Rattle.commands.specs.declared.replies.Fault.TheVariants.{Store}
 use Rattle.sqlite.specs.Held.{state}
 use Rattle.desk_sql.specs.Readable.{Any}
-use Rattle.sql_model.proofs.Staying.{of_error, stays_up}
+use Rattle.sql_model.proofs.Staying.{of_error, sees_again, stays_up}
 use Rattle.sql_reads.proofs.ReadReasons.{not_store, sql_reason}
 use Rattle.sql_reads.proofs.GoodStock.{good_nights}
 use Rattle.sql_reads.proofs.reads.read_cells.Goals as goal
@@ -78,3 +78,11 @@ returns-in-Ok-clause-up g c = stays_up g.S.Store c.args.conn.now c.find_nights.n
 
 pub returns-in-Err-clause-up : goal.returns-in-Err-clause-up
 returns-in-Err-clause-up g c = stays_up g.S.Store c.args.conn.now c.find_nights.new.conn c.find_nights.ensures.survives
+
+-- The store sees what it saw.
+
+pub returns-in-Ok-clause-sees : goal.returns-in-Ok-clause-sees
+returns-in-Ok-clause-sees g c = sees_again g.S.Store c.args.conn.now c.find_nights.new.conn c.find_nights.ensures.quiet
+
+pub returns-in-Err-clause-sees : goal.returns-in-Err-clause-sees
+returns-in-Err-clause-sees g c = sees_again g.S.Store c.args.conn.now c.find_nights.new.conn c.find_nights.ensures.quiet

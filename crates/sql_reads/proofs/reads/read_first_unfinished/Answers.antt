@@ -7,10 +7,10 @@ use Rattle.sql_model.specs.Reading.{Tells, IsBriefOf}
 use Rattle.sql_model.proofs.Readings.{unfinished_read}
 use Rattle.sql_reads.proofs.ReadLemmas.{keeps_on, has_found}
 use Rattle.sql_reads.proofs.ReadJourneys.{brief_told, none_told, none_above}
-use Rattle.commands.specs.declared.faults.Fault.TheVariants.{Store}
+use Rattle.commands.specs.declared.replies.Fault.TheVariants.{Store}
 use Rattle.sqlite.specs.Held.{state}
 use Rattle.desk_sql.specs.Readable.{HaveAgentTexts}
-use Rattle.sql_model.proofs.Staying.{of_error, stays_up}
+use Rattle.sql_model.proofs.Staying.{of_error, sees_again, stays_up}
 use Rattle.sql_reads.proofs.ReadReasons.{unfinished_there, unfinished_above, have_texts, row_agent, row_cursor, row_low, sql_reason}
 use Rattle.sql_reads.proofs.reads.read_first_unfinished.Goals as goal
 
@@ -85,3 +85,20 @@ returns-then-after-gt-LARGEST-clause-store g c clean s desk spelled keeps up sto
 
 pub returns-then-after-gt-LARGEST-clause-up : goal.returns-then-after-gt-LARGEST-clause-up
 returns-then-after-gt-LARGEST-clause-up g c = stays_up g.S.Store c.args.conn.now c.first_unfinished.new.conn c.first_unfinished.ensures.survives
+
+-- The store sees what it saw.
+
+pub returns-in-Ok-None-clause-sees : goal.returns-in-Ok-None-clause-sees
+returns-in-Ok-None-clause-sees g c = sees_again g.S.Store c.args.conn.now c.first_unfinished.new.conn c.first_unfinished.ensures.quiet
+
+pub returns-in-Some-clause-sees : goal.returns-in-Some-clause-sees
+returns-in-Some-clause-sees g c = sees_again g.S.Store c.args.conn.now c.first_unfinished.new.conn c.first_unfinished.ensures.quiet
+
+pub returns-in-Ok-Some-clause-sees : goal.returns-in-Ok-Some-clause-sees
+returns-in-Ok-Some-clause-sees g c = sees_again g.S.Store c.args.conn.now c.first_unfinished.new.conn c.first_unfinished.ensures.quiet
+
+pub returns-clause-sees : goal.returns-clause-sees
+returns-clause-sees g c = sees_again g.S.Store c.args.conn.now c.first_unfinished.new.conn c.first_unfinished.ensures.quiet
+
+pub returns-then-after-gt-LARGEST-clause-sees : goal.returns-then-after-gt-LARGEST-clause-sees
+returns-then-after-gt-LARGEST-clause-sees g c = sees_again g.S.Store c.args.conn.now c.first_unfinished.new.conn c.first_unfinished.ensures.quiet

@@ -9,11 +9,12 @@ use Rattle.sql_model.proofs.Readings.{items_read}
 use Rattle.sql_reads.specs.Reading.{TellItems}
 use Rattle.sql_reads.proofs.ReadLemmas.{was_clean, keeps_on, has_found, also_ok}
 use Rattle.sql_reads.proofs.ReadJourneys.{some_one}
-use Rattle.commands.specs.declared.faults.Fault.TheVariants.{Store}
+use Rattle.commands.specs.declared.replies.Fault.TheVariants.{Store}
 use Rattle.sqlite.specs.Held.{state}
 use Rattle.desk_sql.specs.Readable.{Any}
 use Rattle.sql_reads.specs.GoodRows.{IsMemory}
-use Rattle.sql_model.proofs.Staying.{of_error, stays_up, stays_twice, fails_twice}
+use Rattle.sql_model.specs.Staying.{sees_twice}
+use Rattle.sql_model.proofs.Staying.{fails_twice, of_error, sees_again, stays_twice, stays_up}
 use Rattle.sql_reads.proofs.ReadReasons.{all_some, not_store, sql_reason}
 use Rattle.sql_reads.proofs.reads.read_history.Goals as goal
 
@@ -72,4 +73,18 @@ pub returns-in-Err-clause-up : goal.returns-in-Err-clause-up
 returns-in-Err-clause-up g c =
     stays_twice g.S.Store c.args.conn.now c.find_sought.new.conn c.find_items.new.conn c.in_ok-sought.ensures.up
     (stays_up g.S.Store c.find_sought.new.conn c.find_items.new.conn c.find_items.ensures.survives)
+    (was_clean g.S.Store c.find_sought.new.conn c.find_items.new.conn c.find_items.ensures.survives)
+
+-- The store sees what it saw.
+
+pub returns-in-Ok-clause-sees : goal.returns-in-Ok-clause-sees
+returns-in-Ok-clause-sees g c =
+    sees_twice g.S.Store c.args.conn.now c.find_sought.new.conn c.find_items.new.conn c.in_ok-sought.ensures.sees
+    (sees_again g.S.Store c.find_sought.new.conn c.find_items.new.conn c.find_items.ensures.quiet)
+    (was_clean g.S.Store c.find_sought.new.conn c.find_items.new.conn c.find_items.ensures.survives)
+
+pub returns-in-Err-clause-sees : goal.returns-in-Err-clause-sees
+returns-in-Err-clause-sees g c =
+    sees_twice g.S.Store c.args.conn.now c.find_sought.new.conn c.find_items.new.conn c.in_ok-sought.ensures.sees
+    (sees_again g.S.Store c.find_sought.new.conn c.find_items.new.conn c.find_items.ensures.quiet)
     (was_clean g.S.Store c.find_sought.new.conn c.find_items.new.conn c.find_items.ensures.survives)

@@ -10,10 +10,11 @@ use Rattle.sql_model.specs.Keeping.{KeepsIn}
 use Rattle.sql_model.proofs.Readings.{journey_read}
 use Rattle.sql_reads.proofs.ReadLemmas.{keeps_each, has_found}
 use Rattle.sql_reads.proofs.ReadJourneys.{record_none, record_shown, marks_either}
-use Rattle.commands.specs.declared.faults.Fault.TheVariants.{Store}
+use Rattle.commands.specs.declared.replies.Fault.TheVariants.{Store}
 use Rattle.desk_sql.specs.Readable.{HasAgentText}
 use Rattle.sql_reads.proofs.ReadJourneys.{journey_there}
-use Rattle.sql_model.proofs.Staying.{of_error, stays_up, stays_twice, fails_twice}
+use Rattle.sql_model.specs.Staying.{sees_twice}
+use Rattle.sql_model.proofs.Staying.{fails_twice, of_error, sees_again, stays_twice, stays_up}
 use Rattle.sql_reads.proofs.ReadReasons.{found_there, has_text, row_agent, row_cursor, sql_reason}
 use Rattle.sql_reads.proofs.reads.read_journey.Goals as goal
 
@@ -144,3 +145,34 @@ returns-in-Ok-Some-clause-up g c =
     stays_twice g.S.Store c.args.conn.now c.read_plan.new.conn c.read_taken.new.conn
     (stays_twice g.S.Store c.args.conn.now c.find_journey.new.conn c.read_plan.new.conn (stays_up g.S.Store c.args.conn.now c.find_journey.new.conn c.find_journey.ensures.survives) c.read_plan.ensures.up c.read_plan.ensures.less)
     c.read_taken.ensures.up c.read_taken.ensures.less
+
+-- The store sees what it saw.
+
+pub returns-in-Ok-None-clause-sees : goal.returns-in-Ok-None-clause-sees
+returns-in-Ok-None-clause-sees g c = sees_again g.S.Store c.args.conn.now c.find_journey.new.conn c.find_journey.ensures.quiet
+
+pub returns-clause-sees : goal.returns-clause-sees
+returns-clause-sees g c = sees_again g.S.Store c.args.conn.now c.find_journey.new.conn c.find_journey.ensures.quiet
+
+pub returns-in_err-plan-in-Ok-Some-clause-sees : goal.returns-in_err-plan-in-Ok-Some-clause-sees
+returns-in_err-plan-in-Ok-Some-clause-sees g c =
+    sees_twice g.S.Store c.args.conn.now c.find_journey.new.conn c.read_plan.new.conn
+    (sees_again g.S.Store c.args.conn.now c.find_journey.new.conn c.find_journey.ensures.quiet) c.read_plan.ensures.sees c.read_plan.ensures.less
+
+pub returns-in_err-marks-in-Ok-Some-clause-sees : goal.returns-in_err-marks-in-Ok-Some-clause-sees
+returns-in_err-marks-in-Ok-Some-clause-sees g c =
+    sees_twice g.S.Store c.args.conn.now c.read_plan.new.conn c.read_taken.new.conn
+    (sees_twice g.S.Store c.args.conn.now c.find_journey.new.conn c.read_plan.new.conn (sees_again g.S.Store c.args.conn.now c.find_journey.new.conn c.find_journey.ensures.quiet) c.read_plan.ensures.sees c.read_plan.ensures.less)
+    c.read_taken.ensures.sees c.read_taken.ensures.less
+
+pub returns-in-Some-clause-sees : goal.returns-in-Some-clause-sees
+returns-in-Some-clause-sees g c =
+    sees_twice g.S.Store c.args.conn.now c.read_plan.new.conn c.read_taken.new.conn
+    (sees_twice g.S.Store c.args.conn.now c.find_journey.new.conn c.read_plan.new.conn (sees_again g.S.Store c.args.conn.now c.find_journey.new.conn c.find_journey.ensures.quiet) c.read_plan.ensures.sees c.read_plan.ensures.less)
+    c.read_taken.ensures.sees c.read_taken.ensures.less
+
+pub returns-in-Ok-Some-clause-sees : goal.returns-in-Ok-Some-clause-sees
+returns-in-Ok-Some-clause-sees g c =
+    sees_twice g.S.Store c.args.conn.now c.read_plan.new.conn c.read_taken.new.conn
+    (sees_twice g.S.Store c.args.conn.now c.find_journey.new.conn c.read_plan.new.conn (sees_again g.S.Store c.args.conn.now c.find_journey.new.conn c.find_journey.ensures.quiet) c.read_plan.ensures.sees c.read_plan.ensures.less)
+    c.read_taken.ensures.sees c.read_taken.ensures.less

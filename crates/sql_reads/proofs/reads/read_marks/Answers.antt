@@ -6,10 +6,10 @@ use Rattle.desk_sql.specs.FoundRows.{FindsMarks}
 use Rattle.sql_model.proofs.Readings.{marks_read}
 use Rattle.sql_model.proofs.RecordRows.{marks_told}
 use Rattle.sql_reads.proofs.ReadLemmas.{keeps_each, has_found}
-use Rattle.commands.specs.declared.faults.Fault.TheVariants.{Store}
+use Rattle.commands.specs.declared.replies.Fault.TheVariants.{Store}
 use Rattle.sqlite.specs.Held.{state}
 use Rattle.desk_sql.specs.Readable.{Any}
-use Rattle.sql_model.proofs.Staying.{of_error, stays_up}
+use Rattle.sql_model.proofs.Staying.{of_error, sees_again, stays_up}
 use Rattle.sql_reads.proofs.ReadReasons.{sql_reason}
 use Rattle.sql_reads.proofs.GoodMarks.{good_marks}
 use Rattle.sql_reads.proofs.reads.read_marks.Goals as goal
@@ -58,3 +58,14 @@ returns-in-Ok-clause-up g c = stays_up g.S.Store c.args.conn.now c.find_marks.ne
 
 pub returns-clause-up : goal.returns-clause-up
 returns-clause-up g c = stays_up g.S.Store c.args.conn.now c.find_marks.new.conn c.find_marks.ensures.survives
+
+-- The store sees what it saw.
+
+pub returns-in-Some-clause-sees : goal.returns-in-Some-clause-sees
+returns-in-Some-clause-sees g c = sees_again g.S.Store c.args.conn.now c.find_marks.new.conn c.find_marks.ensures.quiet
+
+pub returns-in-Ok-clause-sees : goal.returns-in-Ok-clause-sees
+returns-in-Ok-clause-sees g c = sees_again g.S.Store c.args.conn.now c.find_marks.new.conn c.find_marks.ensures.quiet
+
+pub returns-clause-sees : goal.returns-clause-sees
+returns-clause-sees g c = sees_again g.S.Store c.args.conn.now c.find_marks.new.conn c.find_marks.ensures.quiet

@@ -6,10 +6,10 @@ use Rattle.sql_model.proofs.Readings.{plan_read}
 use Rattle.sql_reads.specs.Reading.{IsPlanOf}
 use Rattle.sql_reads.specs.PlanRows.{TellPlan}
 use Rattle.sql_reads.proofs.ReadLemmas.{keeps_each, has_found, both_ok}
-use Rattle.commands.specs.declared.faults.Fault.TheVariants.{Store}
+use Rattle.commands.specs.declared.replies.Fault.TheVariants.{Store}
 use Rattle.sqlite.specs.Held.{state}
 use Rattle.desk_sql.specs.Readable.{HaveWantTexts}
-use Rattle.sql_model.proofs.Staying.{of_error, stays_up}
+use Rattle.sql_model.proofs.Staying.{of_error, sees_again, stays_up}
 use Rattle.sql_reads.proofs.ReadReasons.{not_store, sql_reason}
 use Rattle.sql_reads.proofs.GoodTexts.{plan_rows, want_texts}
 use Rattle.sql_reads.proofs.reads.read_plan.Goals as goal
@@ -53,3 +53,11 @@ returns-in-Ok-clause-up g c = stays_up g.S.Store c.args.conn.now c.find_steps.ne
 
 pub returns-in-Err-clause-up : goal.returns-in-Err-clause-up
 returns-in-Err-clause-up g c = stays_up g.S.Store c.args.conn.now c.find_steps.new.conn c.find_steps.ensures.survives
+
+-- The store sees what it saw.
+
+pub returns-in-Ok-clause-sees : goal.returns-in-Ok-clause-sees
+returns-in-Ok-clause-sees g c = sees_again g.S.Store c.args.conn.now c.find_steps.new.conn c.find_steps.ensures.quiet
+
+pub returns-in-Err-clause-sees : goal.returns-in-Err-clause-sees
+returns-in-Err-clause-sees g c = sees_again g.S.Store c.args.conn.now c.find_steps.new.conn c.find_steps.ensures.quiet

@@ -9,10 +9,10 @@ use Rattle.sql_model.specs.Reading.{Tells, IsJourneyOf}
 use Rattle.sql_model.proofs.Readings.{journey_read}
 use Rattle.sql_reads.proofs.ReadLemmas.{keeps_on, has_found}
 use Rattle.sql_reads.proofs.ReadJourneys.{stand_shown, stand_none}
-use Rattle.commands.specs.declared.faults.Fault.TheVariants.{Store}
+use Rattle.commands.specs.declared.replies.Fault.TheVariants.{Store}
 use Rattle.sqlite.specs.Held.{state}
 use Rattle.desk_sql.specs.Readable.{HasAgentText}
-use Rattle.sql_model.proofs.Staying.{of_error, stays_up}
+use Rattle.sql_model.proofs.Staying.{of_error, sees_again, stays_up}
 use Rattle.sql_reads.proofs.ReadReasons.{found_there, has_text, row_agent, row_cursor, sql_reason}
 use Rattle.sql_reads.proofs.reads.read_stand.Goals as goal
 
@@ -73,3 +73,17 @@ returns-in-Ok-Some-clause-up g c = stays_up g.S.Store c.args.conn.now c.find_jou
 
 pub returns-clause-up : goal.returns-clause-up
 returns-clause-up g c = stays_up g.S.Store c.args.conn.now c.find_journey.new.conn c.find_journey.ensures.survives
+
+-- The store sees what it saw.
+
+pub returns-in-Ok-None-clause-sees : goal.returns-in-Ok-None-clause-sees
+returns-in-Ok-None-clause-sees g c = sees_again g.S.Store c.args.conn.now c.find_journey.new.conn c.find_journey.ensures.quiet
+
+pub returns-in-Some-clause-sees : goal.returns-in-Some-clause-sees
+returns-in-Some-clause-sees g c = sees_again g.S.Store c.args.conn.now c.find_journey.new.conn c.find_journey.ensures.quiet
+
+pub returns-in-Ok-Some-clause-sees : goal.returns-in-Ok-Some-clause-sees
+returns-in-Ok-Some-clause-sees g c = sees_again g.S.Store c.args.conn.now c.find_journey.new.conn c.find_journey.ensures.quiet
+
+pub returns-clause-sees : goal.returns-clause-sees
+returns-clause-sees g c = sees_again g.S.Store c.args.conn.now c.find_journey.new.conn c.find_journey.ensures.quiet

@@ -5,10 +5,10 @@ use Rattle.desk_sql.specs.Stock.{FindsStock}
 use Rattle.sql_model.proofs.Readings.{stock_read}
 use Rattle.sql_reads.specs.Reading.{TellCells}
 use Rattle.sql_reads.proofs.ReadLemmas.{keeps_on, has_found, also_ok}
-use Rattle.commands.specs.declared.faults.Fault.TheVariants.{Store}
+use Rattle.commands.specs.declared.replies.Fault.TheVariants.{Store}
 use Rattle.sqlite.specs.Held.{state}
 use Rattle.desk_sql.specs.Readable.{HaveCellTexts}
-use Rattle.sql_model.proofs.Staying.{of_error, stays_up}
+use Rattle.sql_model.proofs.Staying.{of_error, sees_again, stays_up}
 use Rattle.sql_reads.proofs.ReadReasons.{not_store, sql_reason}
 use Rattle.sql_reads.proofs.GoodStock.{good_cells, cell_texts}
 use Rattle.sql_reads.proofs.reads.read_stock.Goals as goal
@@ -45,3 +45,11 @@ returns-in-Ok-clause-up g c = stays_up g.S.Store c.args.conn.now c.find_stock.ne
 
 pub returns-in-Err-clause-up : goal.returns-in-Err-clause-up
 returns-in-Err-clause-up g c = stays_up g.S.Store c.args.conn.now c.find_stock.new.conn c.find_stock.ensures.survives
+
+-- The store sees what it saw.
+
+pub returns-in-Ok-clause-sees : goal.returns-in-Ok-clause-sees
+returns-in-Ok-clause-sees g c = sees_again g.S.Store c.args.conn.now c.find_stock.new.conn c.find_stock.ensures.quiet
+
+pub returns-in-Err-clause-sees : goal.returns-in-Err-clause-sees
+returns-in-Err-clause-sees g c = sees_again g.S.Store c.args.conn.now c.find_stock.new.conn c.find_stock.ensures.quiet

@@ -1,6 +1,7 @@
 use Rattle.std.proofs.Common.{◌≡◌, ◌+◌, ◌<◌, ◌≤◌, ◌∙◌, sym, subst, take, length, arith, rules}
 use Rattle.sql_writes.specs.Loads.{HasPut}
-use Rattle.sql_writes.proofs.LoadLemmas.{HasPut-more, HasShortTexts, short_each, take-more}
+use Rattle.sql_writes.specs.Runs.{HasShortTexts}
+use Rattle.sql_writes.proofs.LoadLemmas.{HasPut-more, short_each, take-more}
 use Rattle.std.proofs.lemmas.List.{length-take-le}
 use Rattle.sqlite.specs.Held.{state}
 use Rattle.sqlite.specs.State.{HasCleanDisk}

@@ -2,7 +2,7 @@
 use Rattle.std.proofs.Common.{◌≡◌, take}
 use Rattle.std.specs.List.{AllByRecursion}
 use Rattle.sql_writes.specs.Loads.{HasPut}
-use Rattle.sql_writes.proofs.LoadLemmas.{HasShortTexts}
+use Rattle.sql_writes.specs.Runs.{HasShortTexts}
 use Rattle.sql_writes.proofs.loads.put_all.Given as goal
 
 abbrev pub invariant-loop-cell : goal.invariant-loop-cell

@@ -1,4 +1,4 @@
-use Rattle.std.proofs.Common.{◌≡◌, ◌+◌, ℕ, suc, List, length, sym, subst, arith, rules}
+use Rattle.std.proofs.Common.{◌≡◌, ◌+◌, suc, length, sym, subst, arith, rules}
 use Rattle.sqlite.specs.State.{HasCleanDisk}
 use Rattle.sqlite.specs.Held.{state}
 use Rattle.desk_sql.specs.Calls.{Makes}
@@ -17,10 +17,10 @@ pub returns-clause-made : goal.returns-clause-made
 returns-clause-made g c clean t may apart =
     let old = state g.S.Store c.args.tx.now.conn.now in
     let one = state g.S.Store c.insert_batch.new.tx.conn.now in
-    let two = state g.S.Store c.put_all.new.tx.conn.now in
+    let two = state g.S.Store c.put_runs.new.tx.conn.now in
     let last = state g.S.Store c.update_meta.new.tx.conn.now in
     let at_two : HasCleanDisk two = omega (arith, c.update_meta.ensures.survives.clean) in
-    let at_one : HasCleanDisk one = omega (arith, c.put_all.ensures.survives.clean) in
+    let at_one : HasCleanDisk one = omega (arith, c.put_runs.ensures.survives.clean) in
     let n = c.args.numbers in
     let b = c.args.batch in
     let row : Tables → Tables = adds_batch (record { name = b.name.now; num = n.num; content = b.content.now }) in
@@ -31,7 +31,7 @@ returns-clause-made g c clean t may apart =
     (c.in_ok-insert_batch.ensures.made at_one t may tt) in
     makes_then old two last t (λ (u : Tables). cells (row u)) (counts (meta_row_at n.num n.journeys))
     (makes_then old one two t row cells batch
-    (λ m. c.in_ok-put_all.ensures.made at_two (row t) m batch.is_open apart))
+    (λ m. c.in_ok-put_runs.ensures.made at_two (row t) m batch.is_open apart))
     (λ m. c.in_ok-update_meta.ensures.made clean (cells (row t)) m tt)
 
 -- each of the three fails for a reason
@@ -48,19 +48,19 @@ returns-in_err-insert_batch-clause-reason g c clean t may permits has up =
     (rowids_fewer 1 (suc (length b.cells.now)) old.now.trees (omega arith) has) clean t may fits up in
     search rules
 
-pub returns-in_err-put_all-clause-reason : goal.returns-in_err-put_all-clause-reason
-returns-in_err-put_all-clause-reason g c clean t may permits has up =
+pub returns-in_err-put_runs-clause-reason : goal.returns-in_err-put_runs-clause-reason
+returns-in_err-put_runs-clause-reason g c clean t may permits has up =
     let old = state g.S.Store c.args.tx.now.conn.now in
     let one = state g.S.Store c.insert_batch.new.tx.conn.now in
-    let two = state g.S.Store c.put_all.new.tx.conn.now in
-    let at_one : HasCleanDisk one = omega (arith, c.put_all.ensures.survives.clean) in
+    let two = state g.S.Store c.put_runs.new.tx.conn.now in
+    let at_one : HasCleanDisk one = omega (arith, c.put_runs.ensures.survives.clean) in
     let n = c.args.numbers in
     let b = c.args.batch in
     let rows : Tables = adds_batch (record { name = b.name.now; num = n.num; content = c.as_bytes.result.now }) t in
     let made : Makes old one rows = c.in_ok-insert_batch.ensures.made at_one t may tt in
     let left = c.in_ok-insert_batch.ensures.rowids at_one t may tt (length b.cells.now) has in
-    let reason : HasReason old two c.in_err-put_all.field-0.0 = reason_later old one two c.in_err-put_all.field-0.0 c.insert_batch.ensures.survives
-    (c.in_err-put_all.ensures.reason clean rows (runs_after old one rows made) (record { apart = permits.apart; cells = permits.cells }) left
+    let reason : HasReason old two c.in_err-put_runs.field-0.0 = reason_later old one two c.in_err-put_runs.field-0.0 c.insert_batch.ensures.survives
+    (c.in_err-put_runs.ensures.reason clean rows (runs_after old one rows made) (record { apart = permits.apart; cells = permits.cells }) left
     (up_after old one rows c.insert_batch.ensures.survives made up)) in
     search rules
 
@@ -68,19 +68,19 @@ pub returns-in_err-update_meta-clause-reason : goal.returns-in_err-update_meta-c
 returns-in_err-update_meta-clause-reason g c clean t may permits has up =
     let old = state g.S.Store c.args.tx.now.conn.now in
     let one = state g.S.Store c.insert_batch.new.tx.conn.now in
-    let two = state g.S.Store c.put_all.new.tx.conn.now in
+    let two = state g.S.Store c.put_runs.new.tx.conn.now in
     let last = state g.S.Store c.update_meta.new.tx.conn.now in
     let at_two : HasCleanDisk two = omega (arith, c.update_meta.ensures.survives.clean) in
-    let at_one : HasCleanDisk one = omega (arith, c.put_all.ensures.survives.clean) in
+    let at_one : HasCleanDisk one = omega (arith, c.put_runs.ensures.survives.clean) in
     let n = c.args.numbers in
     let b = c.args.batch in
     let first : Tables = adds_batch (record { name = b.name.now; num = n.num; content = c.as_bytes.result.now }) t in
     let made : Makes old one first = c.in_ok-insert_batch.ensures.made at_one t may tt in
     let rows : Tables = puts_each b.cells.now first in
-    let put : Makes one two rows = c.in_ok-put_all.ensures.made at_two first (runs_after old one first made) made.is_open permits.apart in
-    let still = up_after one two rows c.put_all.ensures.survives put (up_after old one first c.insert_batch.ensures.survives made up) in
+    let put : Makes one two rows = c.in_ok-put_runs.ensures.made at_two first (runs_after old one first made) made.is_open permits.apart in
+    let still = up_after one two rows c.put_runs.ensures.survives put (up_after old one first c.insert_batch.ensures.survives made up) in
     let reason : HasReason old last c.in_err-update_meta.field-0.0 = reason_later old two last c.in_err-update_meta.field-0.0
-    (less_then old one two c.insert_batch.ensures.survives c.put_all.ensures.survives)
+    (less_then old one two c.insert_batch.ensures.survives c.put_runs.ensures.survives)
     (c.in_err-update_meta.ensures.reason clean rows (runs_after one two rows put) tt still) in
     search rules
 
@@ -89,16 +89,16 @@ pub returns-clause-rowids : goal.returns-clause-rowids
 returns-clause-rowids g c clean t may live apart m has =
     let old = state g.S.Store c.args.tx.now.conn.now in
     let one = state g.S.Store c.insert_batch.new.tx.conn.now in
-    let two = state g.S.Store c.put_all.new.tx.conn.now in
+    let two = state g.S.Store c.put_runs.new.tx.conn.now in
     let at_two : HasCleanDisk two = omega (arith, c.update_meta.ensures.survives.clean) in
-    let at_one : HasCleanDisk one = omega (arith, c.put_all.ensures.survives.clean) in
+    let at_one : HasCleanDisk one = omega (arith, c.put_runs.ensures.survives.clean) in
     let n = c.args.numbers in
     let b = c.args.batch in
     let first : Tables = adds_batch (record { name = b.name.now; num = n.num; content = c.as_bytes.result.now }) t in
     let made : Makes old one first = c.in_ok-insert_batch.ensures.made at_one t may tt in
     let rows : Tables = puts_each b.cells.now first in
-    let put : Makes one two rows = c.in_ok-put_all.ensures.made at_two first (runs_after old one first made) made.is_open apart in
+    let put : Makes one two rows = c.in_ok-put_runs.ensures.made at_two first (runs_after old one first made) made.is_open apart in
     c.in_ok-update_meta.ensures.rowids clean rows (runs_after one two rows put) tt m
-    (c.in_ok-put_all.ensures.rowids at_two first (runs_after old one first made) made.is_open apart m
+    (c.in_ok-put_runs.ensures.rowids at_two first (runs_after old one first made) made.is_open apart m
     (c.in_ok-insert_batch.ensures.rowids at_one t may tt (length b.cells.now + m)
     (rowids_fewer (suc (length b.cells.now + m)) (suc (length b.cells.now) + m) old.now.trees (omega arith) has)))

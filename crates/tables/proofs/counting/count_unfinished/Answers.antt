@@ -1,9 +1,10 @@
 -- One more journey is counted, or none is left.
 use Rattle.std.proofs.Common.{◌≡◌, ◌+◌, ◌∙◌, sym, ap, suc, arith, rules}
 use Rattle.std.specs.Prelude.{Some, None, Err}
-use Rattle.commands.specs.declared.faults.Fault.TheVariants.{Store}
+use Rattle.commands.specs.declared.replies.Fault.TheVariants.{Store}
 use Rattle.saga_core.specs.Views.{first_unfinished}
 use Rattle.tables.specs.UnfinishedCount.{unfinished_above}
+use Rattle.sql_model.specs.Staying.{sees_alone, sees_twice}
 use Rattle.sql_model.proofs.Staying.{fails_twice, stays_twice}
 use Rattle.tables.proofs.LookLemmas.{stays_alone}
 use Rattle.tables.proofs.WalkLemmas.{few_unfinished, none_left, one_counted}
@@ -17,6 +18,7 @@ loop-count-init g c = record {
   stop = λ clean db may. may;
   less = λ clean. clean;
   up = stays_alone g.S.Store c.args.conn.now;
+  sees = sees_alone g.S.Store c.args.conn.now;
   so_far = λ clean s desk keeps. omega arith;
 }
 
@@ -41,6 +43,7 @@ loop-count-preserved g c =
       stop = λ clean db may. at.stop (read.less clean) db (read.stop clean db may);
       less = λ clean. at.less (read.less clean);
       up = stays_twice g.S.Store c.args.conn.now c.loop-count.conn c.read_first_unfinished.new.conn at.up read.up read.less;
+      sees = sees_twice g.S.Store c.args.conn.now c.loop-count.conn c.read_first_unfinished.new.conn at.sees read.sees read.less;
       so_far = λ clean s desk keeps.
           let so_far = at.so_far (read.less clean) s desk keeps in
           let next : Some c.in-Some.brief ≡ first_unfinished s.ledger c.loop-count.last =

@@ -1,11 +1,13 @@
 -- The tables of a new desk are committed at once; until the commit, a crash leaves nothing new.
 use Rattle.std.proofs.Common.{◌≡◌, ◌⊎◌, inl, inr, true, IsTrue, refl, sym, subst, arith, rules}
-use Rattle.sqlite.specs.State.{HasCleanDisk, IsRolledBack, KeepsCommit}
-use Rattle.sqlite.specs.Held.{state}
+use Rattle.sqlite.specs.State.{HasCleanDisk, IsRolledBack, KeepsCommit, Survives}
+use Rattle.sqlite.specs.Held.{Held, state}
 use Rattle.sqlite.proofs.StateLemmas.{survives_then}
 use Rattle.sqlite.proofs.Callers.{survives_begin}
 use Rattle.desk_sql.specs.Calls.{LeavesNoMore}
 use Rattle.ledger.specs.Answer.{State}
+use Rattle.sql_model.proofs.Staying.{stays_committing, stays_twice, stays_up}
+use Rattle.sql_writes.proofs.CommitReasons.{stays_begun}
 use Rattle.tables.specs.Keeping.{IsKept, IsFound}
 use Rattle.tables.proofs.OpenKept.{HasGoneBack, gone_back, rolled_back, still_bare, was_new, has_founded, keeps_founded, either_means, tells_fault}
 use Rattle.tables.proofs.opening.found_tables.Goals as goal
@@ -94,3 +96,15 @@ returns-in-Err-commit-clause-stands g c v s stood clean =
       ] in
           either_means g.S.Store old late v s found new has.1 db came);
     })
+
+-- the store stays up, from the beginning of the transaction to its commit
+pub returns-in-Ok-clause-up : goal.returns-in-Ok-clause-up
+returns-in-Ok-clause-up g c =
+    let old = c.args.conn.now in
+    let start = record old { in_transaction = true } in
+    let late = c.make_tables.new.tx.conn.now in
+    let end = c.commit.new.self.0 in
+    let same : end ≡ c.conn-2-1.given.0 = search rules in
+    let less = subst (λ (h : Held g.row.S.Denot). Survives (state g.S.Store h) (state g.S.Store late) (λ _. ⊥)) c.transaction-tx.ensures.begun c.make_tables.ensures.survives in
+    rw (← same) (stays_begun g.S.Store old end (stays_twice g.S.Store start late end (stays_up g.S.Store start late less)
+    (stays_committing g.S.Store late end _ c.commit.ensures.survives) (λ clean. omega (arith, c.commit.ensures.survives.clean))))

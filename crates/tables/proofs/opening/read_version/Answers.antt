@@ -6,9 +6,9 @@ use Rattle.sqlite.specs.Held.{state}
 use Rattle.desk_sql.specs.declared.versions.Version.{Version}
 use Rattle.desk_sql.specs.Versions.{number_of, AreOfVersion}
 use Rattle.tables.proofs.OpenKept.{has_version, has_number, keeps_named, still_found}
-use Rattle.commands.specs.declared.faults.Fault.TheVariants.{Store as FaultStore}
+use Rattle.commands.specs.declared.replies.Fault.TheVariants.{Store as FaultStore}
 use Rattle.desk_sql.specs.Readable.{HasMeta}
-use Rattle.sql_model.proofs.Staying.{of_error}
+use Rattle.sql_model.proofs.Staying.{of_error, stays_up}
 use Rattle.sql_reads.proofs.ReadReasons.{meta_there, sql_reason}
 use Rattle.tables.proofs.opening.read_version.Goals as goal
 
@@ -72,3 +72,7 @@ returns-in-Err-clause-store g c clean v s keeps up store =
     (λ t st. meta_there t s st) up in
     let is : c.fault_of.result ≡ FaultStore = c.opening_fault.ensures.store.0 store in
     of_error (state g.S.Store old) (state g.S.Store new) c.in-Err.error c.fault_of.result c.fault_of.ensures.memory reason is
+
+-- a read leaves the store up
+pub returns-in-Some-clause-up : goal.returns-in-Some-clause-up
+returns-in-Some-clause-up g c = stays_up g.S.Store c.args.conn.now c.read_meta.new.conn c.read_meta.ensures.survives

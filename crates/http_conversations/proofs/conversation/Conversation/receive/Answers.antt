@@ -2,7 +2,7 @@
 use Rattle.std.proofs.Common.{length}
 use Rattle.std.proofs.Math.Logic.{∥∥₁_map}
 use Rattle.http_conversations.specs.Talks.{history_of}
-use Rattle.http_conversations.specs.declared.limits.TheConstants.{MOST_READ, MOST_WAITING}
+use Rattle.http_conversations.specs.declared.conversation.TheConstants.{MOST_READ, MOST_WAITING}
 use Rattle.http_conversations.proofs.Steps.{receives_if, receives_some, receives_within}
 use Rattle.http_conversations.proofs.conversation.Conversation.receive.Goals as goal
 

@@ -13,7 +13,7 @@ returns-in-Ok-clause-goes_on g c =
     got (book.is_sound new) (book.stands c.args.book.now) (book.stands new) (book.leaves new)
     (history_of c.args.self.now) (history_of c.keep.new.self) c.args.count first.said first.says
     c.in-Ok.answer.bytes.items c.in-Ok.answer.closes c.in-Ok.answer.stops c.keep.ensures.answered
-    (λ sound s stood. let came = c.in-Ok.ensures.answer sound s stood first.said first.is_read in (came.0.0, came.1))
+    (λ sound s stood. let came = c.in-Ok.ensures.answer sound s stood first.said first.is_read in ((c.args.self.now.second, came.0.0), came.1))
 
 pub returns-in-Err-clause-goes_on : goal.returns-in-Err-clause-goes_on
 returns-in-Err-clause-goes_on g c =
@@ -26,5 +26,5 @@ returns-in-Err-clause-goes_on g c =
     (has_broken {T = Bool} (Err fault)) h.exchanges k.exchanges)
     (sym c.fault_of.ensures.fault)
     (failed (book.is_sound new) (book.stands c.args.book.now) (book.stands new) (book.leaves new)
-    h k c.args.count first.said first.says c.in-Err.fault c.lose.ensures.lost
+    h k c.args.count first.said first.says c.args.self.now.second c.in-Err.fault c.lose.ensures.lost
     (λ sound s stood. c.in-Err.ensures.answer sound s stood first.said first.is_read))

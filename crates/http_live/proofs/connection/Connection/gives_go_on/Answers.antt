@@ -13,10 +13,10 @@ invariant_of-self g c =
           (passes g.R.Read.remaining g.W.Write.contents s.came.items s.reader s.writer (history s.conversation) (history c.go_on.new.self) c.go_on.ensures.passes);
     }
 
--- it was given or not, at the same door
+-- it was given or not, at the same door and by the same way
 pub returns-in-Ok-clause-arrival : goal.returns-in-Ok-clause-arrival
 returns-in-Ok-clause-arrival g c =
     let h = history c.args.self.now.conversation in
     let k = history c.go_on.new.self in
-    same_arrival c.args.self.now.came.items h.door k.door
+    same_arrival c.args.self.now.came.items h k
     (goes_on_at c.in-Ok.given h k (λ is. c.in-Ok.ensures.given (ap Ok is)) (λ is. (c.in-Ok.ensures.none (ap Ok is)).1))

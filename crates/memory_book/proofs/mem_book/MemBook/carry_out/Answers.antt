@@ -1,7 +1,7 @@
 use Rattle.std.proofs.Common.{◌≡◌, ◌<◌, ◌≤◌, true, refl, length, ap, sym, subst, ◌∙◌, arith}
 use Rattle.std.specs.Prelude.{suc, is_some, IfOk, MatchResult}
 use Rattle.std.specs.Option.{option_copied}
-use Rattle.commands.specs.declared.refusals.Refusal.TheVariants.{Limit}
+use Rattle.commands.specs.declared.replies.Refusal.TheVariants.{Limit}
 use Rattle.ledger.specs.Answer.{asker, answer, answer_within, limited, most_events}
 use Rattle.ledger.specs.Replies.{Answer, refused}
 use Rattle.ledger.proofs.Answers.{IsAllowedEvent, answer-allowed}

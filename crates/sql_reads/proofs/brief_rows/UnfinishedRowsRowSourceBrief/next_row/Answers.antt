@@ -2,11 +2,12 @@
 use Rattle.std.proofs.Common.{subst, ◌≡◌, true, false}
 use Rattle.std.specs.Prelude.{option_map}
 use Rattle.desk_sql.specs.FoundRows.{journey_of}
-use Rattle.desk_sql.specs.RemainingRows.{Hands, JourneysRest}
+use Rattle.desk_sql.specs.RemainingRows.{Hands}
+use Rattle.sql_lists.specs.JourneyLists.{JourneysRest}
 use Rattle.sql_reads.specs.RemainingRows.{short_of, short_told}
 use Rattle.sql_reads.proofs.HandedTold.{told_first, told_none}
 use Rattle.sql_reads.proofs.HandedBriefs.{brief_same}
-use Rattle.commands.specs.declared.faults.Fault.TheVariants.{Store}
+use Rattle.commands.specs.declared.replies.Fault.TheVariants.{Store}
 use Rattle.sqlite.specs.Held.{state}
 use Rattle.sql_reads.proofs.HandedGood.{brief_good, briefs_text}
 use Rattle.sql_model.proofs.Staying.{of_error, stays_up}
@@ -15,7 +16,7 @@ use Rattle.sql_reads.proofs.brief_rows.UnfinishedRowsRowSourceBrief.next_row.Goa
 pub returns-in-Some-clause-next : goal.returns-in-Some-clause-next
 returns-in-Some-clause-next g c clean =
     let before = JourneysRest g.S.Store c.args.self.now.rows.now.conn.now in
-    let after = JourneysRest g.S.Store c.next_unfinished.new.rows.conn.now in
+    let after = JourneysRest g.S.Store c.next_journey.new.rows.conn.now in
     told_first short_of short_told before after (journey_of c.in-Ok-Some.found) c.in-Some.brief
     (subst (λ o. Hands before after (option_map journey_of o)) c.in-Ok-Some.field-0-is (c.in-Ok-Some.ensures.next clean))
     (λ z e. brief_same c.in-Ok-Some.found c.in-Some.brief z c.in-Some.ensures.told e) c.args.self.now.progress.failed
@@ -23,7 +24,7 @@ returns-in-Some-clause-next g c clean =
 pub returns-in-Ok-None-clause-next : goal.returns-in-Ok-None-clause-next
 returns-in-Ok-None-clause-next g c clean =
     let before = JourneysRest g.S.Store c.args.self.now.rows.now.conn.now in
-    let after = JourneysRest g.S.Store c.next_unfinished.new.rows.conn.now in
+    let after = JourneysRest g.S.Store c.next_journey.new.rows.conn.now in
     told_none short_of short_told before after
     (subst (λ o. Hands before after (option_map journey_of o)) c.in-Ok-None.field-0-is (c.in-Ok-None.ensures.next clean)) c.args.self.now.progress.failed
 
@@ -31,7 +32,7 @@ returns-in-Ok-None-clause-next g c clean =
 pub returns-in-Ok-Some-clause-store : goal.returns-in-Ok-Some-clause-store
 returns-in-Ok-Some-clause-store g c clean going rests few up store =
     let before = JourneysRest g.S.Store c.args.self.now.rows.now.conn.now in
-    let after = JourneysRest g.S.Store c.next_unfinished.new.rows.conn.now in
+    let after = JourneysRest g.S.Store c.next_journey.new.rows.conn.now in
     let all = brief_good before after (journey_of c.in-Ok-Some.found)
     (subst (λ o. Hands before after (option_map journey_of o)) c.in-Ok-Some.field-0-is (c.in-Ok-Some.ensures.next clean))
     rests.1.0 rests.0 rests.1.1 rests.1.2 rests.2 in
@@ -42,19 +43,19 @@ returns-in-Ok-Some-clause-store g c clean going rests few up store =
 pub returns-clause-store : goal.returns-clause-store
 returns-clause-store g c clean going rests few up store =
     let old = c.args.self.now.rows.now.conn.now in
-    let new = c.next_unfinished.new.rows.conn.now in
+    let new = c.next_journey.new.rows.conn.now in
     let reason = c.in-Err.ensures.reason clean rests.1.0 rests.1.1 (briefs_text rests.1.0 rests.0 rests.1.2 rests.2) up in
     let is : c.fault_of.result ≡ Store = cc in
     of_error (state g.S.Store old) (state g.S.Store new) c.in-Err.error c.fault_of.result c.fault_of.ensures.memory reason is
 
 pub returns-in-Ok-Some-clause-up : goal.returns-in-Ok-Some-clause-up
-returns-in-Ok-Some-clause-up g c = stays_up g.S.Store c.args.self.now.rows.now.conn.now c.next_unfinished.new.rows.conn.now c.next_unfinished.ensures.survives
+returns-in-Ok-Some-clause-up g c = stays_up g.S.Store c.args.self.now.rows.now.conn.now c.next_journey.new.rows.conn.now c.next_journey.ensures.survives
 
 pub returns-in-Some-clause-up : goal.returns-in-Some-clause-up
-returns-in-Some-clause-up g c = stays_up g.S.Store c.args.self.now.rows.now.conn.now c.next_unfinished.new.rows.conn.now c.next_unfinished.ensures.survives
+returns-in-Some-clause-up g c = stays_up g.S.Store c.args.self.now.rows.now.conn.now c.next_journey.new.rows.conn.now c.next_journey.ensures.survives
 
 pub returns-in-Ok-None-clause-up : goal.returns-in-Ok-None-clause-up
-returns-in-Ok-None-clause-up g c = stays_up g.S.Store c.args.self.now.rows.now.conn.now c.next_unfinished.new.rows.conn.now c.next_unfinished.ensures.survives
+returns-in-Ok-None-clause-up g c = stays_up g.S.Store c.args.self.now.rows.now.conn.now c.next_journey.new.rows.conn.now c.next_journey.ensures.survives
 
 pub returns-clause-up : goal.returns-clause-up
-returns-clause-up g c = stays_up g.S.Store c.args.self.now.rows.now.conn.now c.next_unfinished.new.rows.conn.now c.next_unfinished.ensures.survives
+returns-clause-up g c = stays_up g.S.Store c.args.self.now.rows.now.conn.now c.next_journey.new.rows.conn.now c.next_journey.ensures.survives

@@ -2,10 +2,11 @@
 use Rattle.std.proofs.Common.{refl, subst, ◌≡◌, true, false, map}
 use Rattle.std.specs.Prelude.{option_map}
 use Rattle.desk_sql.specs.Stock.{stock_of}
-use Rattle.desk_sql.specs.RemainingRows.{Hands, CellsRest}
+use Rattle.desk_sql.specs.RemainingRows.{Hands}
+use Rattle.sql_lists.specs.CellLists.{CellsRest}
 use Rattle.sql_reads.proofs.HandedTold.{left_by}
 use Rattle.sql_reads.proofs.HandedStock.{cell_first, cell_none}
-use Rattle.commands.specs.declared.faults.Fault.TheVariants.{Store}
+use Rattle.commands.specs.declared.replies.Fault.TheVariants.{Store}
 use Rattle.sqlite.specs.Held.{state}
 use Rattle.sql_model.specs.Reading.{stock_row_of}
 use Rattle.sql_reads.proofs.HandedGood.{cell_good, cells_text}

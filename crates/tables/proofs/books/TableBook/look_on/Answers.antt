@@ -6,8 +6,8 @@ use Rattle.sql_model.specs.Keeping.{Keeps}
 use Rattle.tables.specs.FinishedJourneys.{AreFinishedTo}
 use Rattle.tables.proofs.FinishedLemmas.{finished-found, finished-all}
 use Rattle.tables.proofs.LookLemmas.{still_stands, uncounted}
-use Rattle.commands.specs.declared.faults.Fault.TheVariants.{Store}
-use Rattle.sql_model.specs.Staying.{StaysUp}
+use Rattle.commands.specs.declared.replies.Fault.TheVariants.{Store}
+use Rattle.sql_model.specs.Staying.{SeesAsBefore, StaysUp, sees_twice}
 use Rattle.sql_model.proofs.Staying.{fails_twice, stays_twice}
 use Rattle.tables.proofs.books.TableBook.look_on.Goals as goal
 use Rattle.tables.proofs.books.TableBook.look_on.Goals.{in-Some, in-None+in_ok-self-in-None}
@@ -100,4 +100,23 @@ returns-clause-up g c = elim c.match-found.branch [
       subst (λ h. StaysUp g.S.Store c.args.self.now.conn h) (sym there)
       (stays_twice g.S.Store c.args.self.now.conn c.read_first_unfinished.new.conn w.read_counts.new.conn
       c.read_first_unfinished.ensures.up w.read_counts.ensures.up w.read_counts.ensures.sound)
+]
+
+-- The store sees what it saw.
+
+pub returns-in_err-self-in-None-clause-sees : goal.returns-in_err-self-in-None-clause-sees
+returns-in_err-self-in-None-clause-sees g c =
+    sees_twice g.S.Store c.args.self.now.conn c.read_first_unfinished.new.conn c.read_counts.new.conn
+    c.read_first_unfinished.ensures.sees c.read_counts.ensures.sees c.read_counts.ensures.sound
+
+pub returns-clause-sees : goal.returns-clause-sees
+returns-clause-sees g c = elim c.match-found.branch [
+  | in-Some w ↦
+      let there = ap (λ p. p.1.0) w.self-is in
+      subst (λ h. SeesAsBefore g.S.Store c.args.self.now.conn h) (sym there) c.read_first_unfinished.ensures.sees
+  | in-None+in_ok-self-in-None w ↦
+      let there = ap (λ p. p.1.0) w.self-is in
+      subst (λ h. SeesAsBefore g.S.Store c.args.self.now.conn h) (sym there)
+      (sees_twice g.S.Store c.args.self.now.conn c.read_first_unfinished.new.conn w.read_counts.new.conn
+      c.read_first_unfinished.ensures.sees w.read_counts.ensures.sees w.read_counts.ensures.sound)
 ]

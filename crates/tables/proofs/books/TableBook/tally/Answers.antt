@@ -5,7 +5,8 @@ use Rattle.sqlite.specs.Held.{state}
 use Rattle.sqlite.specs.State.{HasCleanDisk}
 use Rattle.tables.specs.BookTerms.{StandsBook}
 use Rattle.tables.proofs.LookLemmas.{untold}
-use Rattle.commands.specs.declared.faults.Fault.TheVariants.{Store}
+use Rattle.commands.specs.declared.replies.Fault.TheVariants.{Store}
+use Rattle.sql_model.specs.Staying.{sees_twice}
 use Rattle.sql_model.proofs.Staying.{fails_twice, stays_twice}
 use Rattle.tables.proofs.books.TableBook.tally.Goals as goal
 
@@ -40,3 +41,15 @@ pub returns-clause-up : goal.returns-clause-up
 returns-clause-up g c =
     stays_twice g.S.Store c.args.self.now.conn c.count.new.self.conn c.read_counts.new.conn
     c.count.ensures.up c.read_counts.ensures.up c.read_counts.ensures.sound
+
+-- The store sees what it saw.
+
+pub returns-in_err-meta-clause-sees : goal.returns-in_err-meta-clause-sees
+returns-in_err-meta-clause-sees g c =
+    sees_twice g.S.Store c.args.self.now.conn c.count.new.self.conn c.read_counts.new.conn
+    c.count.ensures.sees c.read_counts.ensures.sees c.read_counts.ensures.sound
+
+pub returns-clause-sees : goal.returns-clause-sees
+returns-clause-sees g c =
+    sees_twice g.S.Store c.args.self.now.conn c.count.new.self.conn c.read_counts.new.conn
+    c.count.ensures.sees c.read_counts.ensures.sees c.read_counts.ensures.sound

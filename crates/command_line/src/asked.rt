@@ -1,0 +1,231 @@
+//! The values that ask for cells and journeys: for those of a filter, or for one.
+ghost use Rattle.std.specs.Prelude.{◌≡◌, None, false, true, IfOk, IsOk, Some, codes, is_some};
+ghost use Rattle.allotment.specs.Nights.{night_in};
+ghost use Rattle.allotment.specs.Texts.{kind_of_word};
+ghost use Rattle.clap.specs.Words.{first_value, found_of};
+ghost use Rattle.filters.specs.JourneyFilters.{state_named};
+ghost use Rattle.command_line.specs.Filters.{agent_named, cell_asked, code_named, has_bad_cells, has_bad_journeys, journey_asked, phases_in, spelled, unfinished_in, unfinished_named, unfinished_state, HasCells, HasJourneys};
+ghost use Rattle.command_line.specs.Jobs.{IsUsage};
+
+use crate::jobs::JobFault;
+use allotment::{Cell, Code, Kind, Night};
+use clap::ArgMatches;
+use commands::{Agent, MOST_EVENTS, number_between};
+use filters::{CellFilter, JourneyFilter, JourneyState, Phases};
+use std::alloc::Global;
+
+/// The cells that are asked for.
+pub(crate) fn cells_in(alloc: Global, matches: &ArgMatches) -> Result<CellFilter, JobFault>
+    ensures cells { IfOk result (HasCells (first_value (found_of matches.now))) }
+    ensures taken { IsOk result → has_bad_cells (first_value (found_of matches.now)) ≡ false }
+    ensures usage { IsUsage result → has_bad_cells (first_value (found_of matches.now)) ≡ true }
+{
+    let kind = kind_in(alloc, matches)?;
+    let supplier = code_in(alloc, matches, "SUPPLIER", "--supplier")?;
+    let product = code_in(alloc, matches, "PRODUCT", "--product")?;
+    let from = night_in(alloc, matches, "FROM", "--from")?;
+    let to = night_in(alloc, matches, "TO", "--to")?;
+    Ok(CellFilter {
+        kind,
+        supplier,
+        product,
+        from,
+        to,
+    })
+}
+
+/// The journeys that are asked for, ended ones too.
+pub(crate) fn journeys_in(alloc: Global, matches: &ArgMatches) -> Result<JourneyFilter, JobFault>
+    ensures journeys { IfOk result (HasJourneys phases_in (first_value (found_of matches.now))) }
+    ensures taken { IsOk result → has_bad_journeys phases_in (first_value (found_of matches.now)) ≡ false }
+    ensures usage { IsUsage result → has_bad_journeys phases_in (first_value (found_of matches.now)) ≡ true }
+{
+    let agent = agent_in(alloc, matches)?;
+    let phases = phases_in(alloc, matches)?;
+    Ok(JourneyFilter { agent, phases })
+}
+
+/// The unfinished journeys that are asked for.
+pub(crate) fn unfinished_in(alloc: Global, matches: &ArgMatches) -> Result<JourneyFilter, JobFault>
+    ensures journeys { IfOk result (HasJourneys unfinished_in (first_value (found_of matches.now))) }
+    ensures taken { IsOk result → has_bad_journeys unfinished_in (first_value (found_of matches.now)) ≡ false }
+    ensures usage { IsUsage result → has_bad_journeys unfinished_in (first_value (found_of matches.now)) ≡ true }
+{
+    let agent = agent_in(alloc, matches)?;
+    let phases = unfinished_phases_in(alloc, matches)?;
+    Ok(JourneyFilter { agent, phases })
+}
+
+/// The one cell that is asked for. The precondition says that there is a value.
+pub(crate) fn cell_in(alloc: Global, matches: &ArgMatches) -> Result<Cell, JobFault>
+    requires { is_some (first_value (found_of matches.now) (codes "CELL")) ≡ true }
+    ensures cell { IfOk result (λ cell. cell_asked (first_value (found_of matches.now)) ≡ Some cell) }
+    ensures usage { IsUsage result → cell_asked (first_value (found_of matches.now)) ≡ None }
+{
+    let word = matches.get_str("CELL").unwrap();
+    match Cell::parse(word) {
+        Some(cell) => Ok(cell),
+        None => Err(no_value(alloc, word, "<CELL>", "a cell, as R/INN/DBL/2030-06-01")),
+    }
+}
+
+/// The number of the one journey that is asked for. The precondition says that there is a value.
+pub(crate) fn journey_in(alloc: Global, matches: &ArgMatches) -> Result<u64, JobFault>
+    requires { is_some (first_value (found_of matches.now) (codes "ID")) ≡ true }
+    ensures journey { IfOk result (λ id. journey_asked (first_value (found_of matches.now)) ≡ Some id) }
+    ensures usage { IsUsage result → journey_asked (first_value (found_of matches.now)) ≡ None }
+{
+    let word = matches.get_str("ID").unwrap();
+    match number_between(word, 1, MOST_EVENTS as usize) {
+        Some(id) => Ok(id as u64),
+        None => Err(no_value(alloc, word, "<ID>", "a number from 1 to 999999999999")),
+    }
+}
+
+/// The kind that is asked for, if one is.
+fn kind_in(alloc: Global, matches: &ArgMatches) -> Result<Option<Kind>, JobFault>
+    ensures kind { IfOk result (λ kind.
+        spelled kind_of_word (first_value (found_of matches.now) (codes "KIND")) ≡ Some kind) }
+    ensures usage { IsUsage result →
+        spelled kind_of_word (first_value (found_of matches.now) (codes "KIND")) ≡ None }
+{
+    let Some(word) = matches.get_str("KIND") else {
+        return Ok(None);
+    };
+    match Kind::from_word(word) {
+        Some(kind) => Ok(Some(kind)),
+        None => Err(no_value(
+            alloc,
+            word,
+            "--kind <KIND>",
+            "flight, room, transfer or cover",
+        )),
+    }
+}
+
+/// The supplier or product under this name, if one is asked for.
+fn code_in(
+    alloc: Global,
+    matches: &ArgMatches,
+    id: &str,
+    option: &str,
+) -> Result<Option<Code>, JobFault>
+    ensures code { IfOk result (λ code. spelled code_named (first_value (found_of matches.now) id.now) ≡ Some code) }
+    ensures usage { IsUsage result → spelled code_named (first_value (found_of matches.now) id.now) ≡ None }
+{
+    let Some(word) = matches.get_str(id) else {
+        return Ok(None);
+    };
+    match Code::parse(word) {
+        Some(code) => Ok(Some(code)),
+        None => Err(no_value_of(alloc, word, option, id, "1 to 8 of A-Z and 0-9")),
+    }
+}
+
+/// The night under this name, if one is asked for.
+fn night_in(
+    alloc: Global,
+    matches: &ArgMatches,
+    id: &str,
+    option: &str,
+) -> Result<Option<Night>, JobFault>
+    ensures night { IfOk result (λ night. spelled night_in (first_value (found_of matches.now) id.now) ≡ Some night) }
+    ensures usage { IsUsage result → spelled night_in (first_value (found_of matches.now) id.now) ≡ None }
+{
+    let Some(word) = matches.get_str(id) else {
+        return Ok(None);
+    };
+    match Night::parse(word) {
+        Ok(night) => Ok(Some(night)),
+        Err(_) => Err(no_value_of(
+            alloc,
+            word,
+            option,
+            id,
+            "a day from 2000-01-01 to 2099-12-31",
+        )),
+    }
+}
+
+/// The agent who is asked for, if one is.
+fn agent_in(alloc: Global, matches: &ArgMatches) -> Result<Option<Agent>, JobFault>
+    ensures agent { IfOk result (λ agent.
+        spelled agent_named (first_value (found_of matches.now) (codes "AGENT")) ≡ Some agent) }
+    ensures usage { IsUsage result →
+        spelled agent_named (first_value (found_of matches.now) (codes "AGENT")) ≡ None }
+{
+    let Some(word) = matches.get_str("AGENT") else {
+        return Ok(None);
+    };
+    match Agent::parse(word) {
+        Some(agent) => Ok(Some(agent)),
+        None => Err(no_value(alloc, word, "--agent <AGENT>", "1 to 16 of a-z and 0-9")),
+    }
+}
+
+/// The phases of the state that is asked for; all phases if none is.
+fn phases_in(alloc: Global, matches: &ArgMatches) -> Result<Phases, JobFault>
+    ensures phases { IfOk result (λ phases. phases_in (first_value (found_of matches.now) (codes "STATE")) ≡ Some phases) }
+    ensures usage { IsUsage result → phases_in (first_value (found_of matches.now) (codes "STATE")) ≡ None }
+{
+    let Some(word) = matches.get_str("STATE") else {
+        return Ok(Phases::All);
+    };
+    match JourneyState::from_word(word) {
+        Some(state) => Ok(Phases::Only(state)),
+        None => Err(no_value(alloc, word, "--state <STATE>", "run, back, ended or undone")),
+    }
+}
+
+/// The same of unfinished journeys.
+fn unfinished_phases_in(alloc: Global, matches: &ArgMatches) -> Result<Phases, JobFault>
+    ensures phases { IfOk result (λ phases. unfinished_in (first_value (found_of matches.now) (codes "STATE")) ≡ Some phases) }
+    ensures usage { IsUsage result → unfinished_in (first_value (found_of matches.now) (codes "STATE")) ≡ None }
+{
+    let Some(word) = matches.get_str("STATE") else {
+        return Ok(Phases::Unfinished);
+    };
+    match unfinished_named(word) {
+        Some(phases) => Ok(phases),
+        None => Err(no_value(alloc, word, "--state <STATE>", "run or back")),
+    }
+}
+
+/// The phases of a state of unfinished journeys, by its word.
+fn unfinished_named(word: &str) -> Option<Phases>
+    ensures phases { result ≡ unfinished_named (state_named word.now) }
+{
+    let state = JourneyState::from_word(word)?;
+    unfinished_state(state)
+}
+
+/// The phases of a state, if it is one of unfinished journeys.
+fn unfinished_state(state: JourneyState) -> Option<Phases>
+    ensures phases { result ≡ unfinished_state state }
+{
+    match state {
+        JourneyState::Run => Some(Phases::Only(JourneyState::Run)),
+        JourneyState::Back => Some(Phases::Only(JourneyState::Back)),
+        JourneyState::Ended => None,
+        JourneyState::Undone => None,
+    }
+}
+
+/// The error of a value that is not what is allowed. It names the option with its value.
+fn no_value(alloc: Global, word: &str, option: &str, allowed: &str) -> JobFault {
+    let text = format!(in alloc;
+        "error: invalid value '{word}' for '{option}': not {allowed}\n\nFor more information, try '--help'.\n"
+    );
+    match text {
+        Ok(text) => JobFault::Usage(text),
+        Err(_) => JobFault::Memory,
+    }
+}
+
+/// The same for an option and the name of its value.
+fn no_value_of(alloc: Global, word: &str, option: &str, id: &str, allowed: &str) -> JobFault {
+    match format!(in alloc; "{option} <{id}>") {
+        Ok(option) => no_value(alloc, word, option.as_str(), allowed),
+        Err(_) => JobFault::Memory,
+    }
+}

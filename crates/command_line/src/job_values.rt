@@ -1,0 +1,195 @@
+//! The job of each subcommand, with its values among the matches of `clap`.
+ghost use Rattle.std.specs.Prelude.{◌≡◌, false, true, All, IfOk, IsOk, codes, is_some};
+ghost use Rattle.std.specs.String.{string_bytes};
+ghost use Rattle.clap.specs.Words.{first_value, found_of};
+ghost use Rattle.command_line.specs.Jobs.{has_bad_value, IsJobWith, IsUsage, NamesFile};
+ghost use Rattle.command_line.specs.Subcommands.{needed_for};
+ghost use Rattle.command_line.specs.declared.subcommands.Subcommand.TheVariants as sub;
+
+use crate::asked::{cell_in, cells_in, journey_in, journeys_in, unfinished_in};
+use crate::jobs::{Job, JobFault};
+use crate::subcommands::Subcommand;
+use crate::values::{
+    format_in, is_given, number_if_given, number_of, text_in, value_if_given, value_of,
+};
+use clap::ArgMatches;
+use std::alloc::Global;
+
+/// The highest port.
+const MOST_PORT: u16 = 65_535;
+
+/// The most connections that are served in all, where a number is given.
+const MOST_CONNECTIONS: u16 = 1000;
+
+/// The job of a subcommand, with its values.
+pub(crate) fn job_in(
+    alloc: Global,
+    subcommand: Subcommand,
+    matches: &ArgMatches,
+) -> Result<Job, JobFault>
+    requires { All (λ id. is_some (first_value (found_of matches.now) id) ≡ true) (needed_for subcommand) }
+
+    ensures job { IfOk result (IsJobWith subcommand (first_value (found_of matches.now))) }
+    ensures taken { IsOk result → has_bad_value subcommand (first_value (found_of matches.now)) ≡ false }
+    ensures usage { IsUsage result → has_bad_value subcommand (first_value (found_of matches.now)) ≡ true }
+{
+    let file = value_of(alloc, matches, "FILE")?;
+    match subcommand {
+        Subcommand::Run => Ok(Job::Run { file }),
+        Subcommand::Serve => serve_in(alloc, file, matches),
+        Subcommand::Recover => Ok(Job::Recover { file }),
+        Subcommand::Load => {
+            let csv = value_of(alloc, matches, "CSV")?;
+            let batch = value_of(alloc, matches, "NAME")?;
+            Ok(Job::Load { file, csv, batch })
+        }
+        Subcommand::Stock => stock_in(alloc, file, matches),
+        Subcommand::Summary => summary_in(alloc, file, matches),
+        Subcommand::Holders => holders_in(alloc, file, matches),
+        Subcommand::Unfinished => unfinished_of(alloc, file, matches),
+        Subcommand::Journeys => journeys_of(alloc, file, matches),
+        Subcommand::History => history_in(alloc, file, matches),
+        Subcommand::Why => why_in(alloc, file, matches),
+        Subcommand::Migrate => Ok(Job::Migrate { file }),
+    }
+}
+
+/// Serving requests at a port.
+fn serve_in(alloc: Global, file: String, matches: &ArgMatches) -> Result<Job, JobFault>
+    requires file { NamesFile (first_value (found_of matches.now)) (string_bytes file) }
+    requires port { is_some (first_value (found_of matches.now) (codes "PORT")) ≡ true }
+
+    ensures job { IfOk result (IsJobWith sub.Serve (first_value (found_of matches.now))) }
+    ensures taken { IsOk result → has_bad_value sub.Serve (first_value (found_of matches.now)) ≡ false }
+    ensures usage { IsUsage result → has_bad_value sub.Serve (first_value (found_of matches.now)) ≡ true }
+{
+    let port = number_of(alloc, matches, "PORT", "--port", MOST_PORT)?;
+    let connections = number_if_given(alloc, matches, "N", "--connections", MOST_CONNECTIONS)?;
+    let house = value_if_given(alloc, matches, "PATH")?;
+    let page = is_given(matches, "PAGE");
+    let log = is_given(matches, "LOG");
+    let wide = is_given(matches, "WIDE");
+    Ok(Job::Serve {
+        file,
+        port,
+        connections,
+        house,
+        page,
+        log,
+        wide,
+    })
+}
+
+/// The stock, or its calendar, which is a text alone.
+fn stock_in(alloc: Global, file: String, matches: &ArgMatches) -> Result<Job, JobFault>
+    requires file { NamesFile (first_value (found_of matches.now)) (string_bytes file) }
+
+    ensures job { IfOk result (IsJobWith sub.Stock (first_value (found_of matches.now))) }
+    ensures taken { IsOk result → has_bad_value sub.Stock (first_value (found_of matches.now)) ≡ false }
+    ensures usage { IsUsage result → has_bad_value sub.Stock (first_value (found_of matches.now)) ≡ true }
+{
+    let filter = cells_in(alloc, matches)?;
+    if is_given(matches, "CALENDAR") {
+        text_in(alloc, matches)?;
+        return Ok(Job::Calendar { file, filter });
+    }
+    let format = format_in(alloc, matches)?;
+    Ok(Job::Stock {
+        file,
+        filter,
+        format,
+    })
+}
+
+/// The months of cells.
+fn summary_in(alloc: Global, file: String, matches: &ArgMatches) -> Result<Job, JobFault>
+    requires file { NamesFile (first_value (found_of matches.now)) (string_bytes file) }
+
+    ensures job { IfOk result (IsJobWith sub.Summary (first_value (found_of matches.now))) }
+    ensures taken { IsOk result → has_bad_value sub.Summary (first_value (found_of matches.now)) ≡ false }
+    ensures usage { IsUsage result → has_bad_value sub.Summary (first_value (found_of matches.now)) ≡ true }
+{
+    let filter = cells_in(alloc, matches)?;
+    let format = format_in(alloc, matches)?;
+    Ok(Job::Summary {
+        file,
+        filter,
+        format,
+    })
+}
+
+/// The journeys that hold places of a cell.
+fn holders_in(alloc: Global, file: String, matches: &ArgMatches) -> Result<Job, JobFault>
+    requires file { NamesFile (first_value (found_of matches.now)) (string_bytes file) }
+    requires cell { is_some (first_value (found_of matches.now) (codes "CELL")) ≡ true }
+
+    ensures job { IfOk result (IsJobWith sub.Holders (first_value (found_of matches.now))) }
+    ensures taken { IsOk result → has_bad_value sub.Holders (first_value (found_of matches.now)) ≡ false }
+    ensures usage { IsUsage result → has_bad_value sub.Holders (first_value (found_of matches.now)) ≡ true }
+{
+    let cell = cell_in(alloc, matches)?;
+    let format = format_in(alloc, matches)?;
+    Ok(Job::Holders { file, cell, format })
+}
+
+/// Unfinished journeys.
+fn unfinished_of(alloc: Global, file: String, matches: &ArgMatches) -> Result<Job, JobFault>
+    requires file { NamesFile (first_value (found_of matches.now)) (string_bytes file) }
+
+    ensures job { IfOk result (IsJobWith sub.Unfinished (first_value (found_of matches.now))) }
+    ensures taken { IsOk result → has_bad_value sub.Unfinished (first_value (found_of matches.now)) ≡ false }
+    ensures usage { IsUsage result → has_bad_value sub.Unfinished (first_value (found_of matches.now)) ≡ true }
+{
+    let filter = unfinished_in(alloc, matches)?;
+    let format = format_in(alloc, matches)?;
+    Ok(Job::Unfinished {
+        file,
+        filter,
+        format,
+    })
+}
+
+/// Journeys, ended ones too.
+fn journeys_of(alloc: Global, file: String, matches: &ArgMatches) -> Result<Job, JobFault>
+    requires file { NamesFile (first_value (found_of matches.now)) (string_bytes file) }
+
+    ensures job { IfOk result (IsJobWith sub.Journeys (first_value (found_of matches.now))) }
+    ensures taken { IsOk result → has_bad_value sub.Journeys (first_value (found_of matches.now)) ≡ false }
+    ensures usage { IsUsage result → has_bad_value sub.Journeys (first_value (found_of matches.now)) ≡ true }
+{
+    let filter = journeys_in(alloc, matches)?;
+    let format = format_in(alloc, matches)?;
+    Ok(Job::Journeys {
+        file,
+        filter,
+        format,
+    })
+}
+
+/// The history of a journey.
+fn history_in(alloc: Global, file: String, matches: &ArgMatches) -> Result<Job, JobFault>
+    requires file { NamesFile (first_value (found_of matches.now)) (string_bytes file) }
+    requires id { is_some (first_value (found_of matches.now) (codes "ID")) ≡ true }
+
+    ensures job { IfOk result (IsJobWith sub.History (first_value (found_of matches.now))) }
+    ensures taken { IsOk result → has_bad_value sub.History (first_value (found_of matches.now)) ≡ false }
+    ensures usage { IsUsage result → has_bad_value sub.History (first_value (found_of matches.now)) ≡ true }
+{
+    let id = value_of(alloc, matches, "ID")?;
+    let format = format_in(alloc, matches)?;
+    Ok(Job::History { file, id, format })
+}
+
+/// Why a journey stands where it does.
+fn why_in(alloc: Global, file: String, matches: &ArgMatches) -> Result<Job, JobFault>
+    requires file { NamesFile (first_value (found_of matches.now)) (string_bytes file) }
+    requires id { is_some (first_value (found_of matches.now) (codes "ID")) ≡ true }
+
+    ensures job { IfOk result (IsJobWith sub.Why (first_value (found_of matches.now))) }
+    ensures taken { IsOk result → has_bad_value sub.Why (first_value (found_of matches.now)) ≡ false }
+    ensures usage { IsUsage result → has_bad_value sub.Why (first_value (found_of matches.now)) ≡ true }
+{
+    let id = journey_in(alloc, matches)?;
+    let format = format_in(alloc, matches)?;
+    Ok(Job::Why { file, id, format })
+}

@@ -1,0 +1,173 @@
+//! Single values among the matches of `clap`: words, flags, numbers and formats.
+ghost use Rattle.std.specs.Prelude.{◌≡◌, ◌≤◌, None, false, true, option_map, IfOk, IsOk, Some, codes, is_some};
+ghost use Rattle.std.specs.Option.{option_and_then};
+ghost use Rattle.std.specs.String.{string_bytes};
+ghost use Rattle.allotment.specs.Texts.{number_from};
+ghost use Rattle.clap.specs.Words.{first_value, found_of};
+ghost use Rattle.command_line.specs.Jobs.{format_named, format_of, is_malformed, is_set, number_named, text_alone, IsUsage};
+
+use crate::jobs::JobFault;
+use clap::ArgMatches;
+use commands::number_between;
+use reports::Format;
+use std::alloc::{AllocError, Global};
+
+/// The value of this name. The precondition says that there is one.
+pub(crate) fn value_of(alloc: Global, matches: &ArgMatches, id: &str) -> Result<String, AllocError>
+    requires { is_some (first_value (found_of matches.now) id.now) ≡ true }
+    ensures value { IfOk result (λ value.
+        first_value (found_of matches.now) id.now ≡ Some (string_bytes value)) }
+{
+    String::from_str(alloc, matches.get_str(id).unwrap())
+}
+
+/// The value of this name, if there is one.
+pub(crate) fn value_if_given(
+    alloc: Global,
+    matches: &ArgMatches,
+    id: &str,
+) -> Result<Option<String>, AllocError>
+    ensures value { IfOk result (λ value.
+        first_value (found_of matches.now) id.now ≡ option_map string_bytes value) }
+{
+    match matches.get_str(id) {
+        Some(word) => Ok(Some(String::from_str(alloc, word)?)),
+        None => Ok(None),
+    }
+}
+
+/// Whether the flag of this name is given. `clap` reads `true` for one that is.
+pub(crate) fn is_given(matches: &ArgMatches, id: &str) -> bool
+    ensures given { result ≡ is_set (first_value (found_of matches.now) id.now) }
+{
+    match matches.get_str(id) {
+        Some(word) => word == "true",
+        None => false,
+    }
+}
+
+/// The number under this name, from 1 to `most`. An error names its option.
+pub(crate) fn number_of(
+    alloc: Global,
+    matches: &ArgMatches,
+    id: &str,
+    option: &str,
+    most: u16,
+) -> Result<u16, JobFault>
+    requires { is_some (first_value (found_of matches.now) id.now) ≡ true }
+    ensures number { IfOk result (λ number.
+        number_named most (first_value (found_of matches.now) id.now) ≡ Some number) }
+    ensures usage { IsUsage result →
+        number_named most (first_value (found_of matches.now) id.now) ≡ None }
+{
+    let word = matches.get_str(id).unwrap();
+    number_in(alloc, word, id, option, most)
+}
+
+/// The same, if there is a value of this name.
+pub(crate) fn number_if_given(
+    alloc: Global,
+    matches: &ArgMatches,
+    id: &str,
+    option: &str,
+    most: u16,
+) -> Result<Option<u16>, JobFault>
+    ensures number { IfOk result (λ number.
+        number_named most (first_value (found_of matches.now) id.now) ≡ number) }
+    ensures taken { IsOk result →
+        is_malformed most (first_value (found_of matches.now) id.now) ≡ false }
+    ensures usage { IsUsage result →
+        is_malformed most (first_value (found_of matches.now) id.now) ≡ true }
+{
+    let Some(word) = matches.get_str(id) else {
+        return Ok(None);
+    };
+    match number_in(alloc, word, id, option, most) {
+        Ok(number) => Ok(Some(number)),
+        Err(fault) => Err(fault),
+    }
+}
+
+/// The number that a word spells, from 1 to `most`. An error names its option.
+fn number_in(alloc: Global, word: &str, id: &str, option: &str, most: u16) -> Result<u16, JobFault>
+    ensures number { IfOk result (λ number. number_from 1 most word.now ≡ Some number) }
+    ensures usage { IsUsage result → number_from 1 most word.now ≡ None }
+{
+    match number_between(word, 1, usize::from(most)) {
+        Some(number) => Ok(number as u16),
+        None => Err(no_number(alloc, word, id, option, most)),
+    }
+}
+
+/// The error of a value that is no number from 1 to `most`.
+fn no_number(alloc: Global, word: &str, id: &str, option: &str, most: u16) -> JobFault {
+    let text = format!(in alloc;
+        "error: invalid value '{word}' for '{option} <{id}>': not a number from 1 to {most}\n\nFor more information, try '--help'.\n"
+    );
+    match text {
+        Ok(text) => JobFault::Usage(text),
+        Err(_) => JobFault::Memory,
+    }
+}
+
+/// The format of a report: a text if none is given.
+pub(crate) fn format_in(alloc: Global, matches: &ArgMatches) -> Result<Format, JobFault>
+    ensures format { IfOk result (λ format.
+        format_of (first_value (found_of matches.now) (codes "FORMAT")) ≡ Some format) }
+    ensures usage { IsUsage result →
+        format_of (first_value (found_of matches.now) (codes "FORMAT")) ≡ None }
+{
+    match matches.get_str("FORMAT") {
+        None => Ok(Format::Text),
+        Some(word) => format_named(alloc, word),
+    }
+}
+
+/// Refuses a format of the calendar that is not a text.
+pub(crate) fn text_in(alloc: Global, matches: &ArgMatches) -> Result<(), JobFault>
+    ensures format { IsOk result → option_and_then text_alone (format_of (first_value (found_of matches.now) (codes "FORMAT")))
+        ≡ Some Format.Text }
+    ensures usage { IsUsage result → option_and_then text_alone (format_of (first_value (found_of matches.now) (codes "FORMAT")))
+        ≡ None }
+{
+    match format_in(alloc, matches)? {
+        Format::Text => Ok(()),
+        Format::Json => Err(no_calendar(alloc, "json")),
+        Format::Csv => Err(no_calendar(alloc, "csv")),
+    }
+}
+
+/// The format that a word names.
+fn format_named(alloc: Global, word: &str) -> Result<Format, JobFault>
+    ensures format { IfOk result (λ format. format_named word.now ≡ Some format) }
+    ensures usage { IsUsage result → format_named word.now ≡ None }
+{
+    match word {
+        "text" => Ok(Format::Text),
+        "json" => Ok(Format::Json),
+        "csv" => Ok(Format::Csv),
+        _ => Err(no_format(alloc, word)),
+    }
+}
+
+/// The error of a format that the calendar has not.
+fn no_calendar(alloc: Global, word: &str) -> JobFault {
+    let text = format!(in alloc;
+        "error: invalid value '{word}' for '--format <FORMAT>': not text, which the calendar is\n\nFor more information, try '--help'.\n"
+    );
+    match text {
+        Ok(text) => JobFault::Usage(text),
+        Err(_) => JobFault::Memory,
+    }
+}
+
+/// The error of a word that names no format.
+fn no_format(alloc: Global, word: &str) -> JobFault {
+    let text = format!(in alloc;
+        "error: invalid value '{word}' for '--format <FORMAT>': not text, json or csv\n\nFor more information, try '--help'.\n"
+    );
+    match text {
+        Ok(text) => JobFault::Usage(text),
+        Err(_) => JobFault::Memory,
+    }
+}

@@ -1,0 +1,3 @@
+pub mod CellFilters
+pub mod JourneyFilters
+pub mod Examples

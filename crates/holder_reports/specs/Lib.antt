@@ -1,0 +1,3 @@
+pub mod Holders
+pub mod Layouts
+pub mod Examples

@@ -1,0 +1,260 @@
+-- Serving answers one message after another, until a closing page, the end of the input or a fault. For serve.
+use Rattle.std.proofs.Common.{◌≡◌, ◌≢◌, ◌∙◌, ap, sym, subst, refl, inl, inr, ◌+◌, List, [], ◌∷◌, ◌++◌, ℕ, Bool, true, false, if◌then◌else◌, length, take, drop, append-nil, length-append, Option}
+use Rattle.std.specs.Prelude.{Some, IfSome, IsTrue, option_map}
+use Rattle.std.specs.List.{concat}
+use Rattle.std.specs.Io.KnownBytes.{Appends, Keeps}
+use Rattle.std.proofs.Math.Seq.{take-add}
+use Rattle.std.proofs.lemmas.List.{drop-drop, take-append-drop}
+use Rattle.ledger.specs.Answer.{State}
+use Rattle.http_messages.specs.Messages.{Message}
+use Rattle.streams.proofs.ByteLemmas.{appends_before, appends_more, appends_none, keeps_same}
+use Rattle.protocols.specs.Faults.{IsOfReading}
+use Rattle.protocols.specs.Scenes.{Scene, Wrote, scene}
+use Rattle.protocols.specs.declared.faults.ServeFault.{ServeFault}
+use Rattle.protocols.specs.declared.faults.ServeFault.TheVariants.{Memory, Read, Store, Write}
+use Rattle.desk_http.specs.Pages.{IsPage, closes, state_after, state_after_all, stays_open}
+use Rattle.desk_http.specs.Serving.{Answered, Leaves, ServesAll, ServesSome}
+use Rattle.desk_http.specs.declared.doors.Door.TheVariants.{Port}
+use Rattle.desk_http.proofs.ServeLemmas.{after_more, begins_more, concat_more, open_more, pages_more}
+use Rattle.http_conversations.specs.History.{History, after_sent}
+use Rattle.http_conversations.specs.Serving.{FailsAt, FindsNone, GetsNext, HandsOut, HandsOutAll, to_come}
+use Rattle.http_conversations.specs.declared.conversation.Stage.{Stage}
+use Rattle.http_conversations.specs.declared.conversation.Stage.TheVariants.{Open, Closing}
+
+-- so many messages were answered, of which none closes, and the others are in the rest of the input
+pub record SoFar (x : Scene) (s : State) (input : List ℕ) (left : Option (List ℕ)) (count : ℕ) : Type 0 where
+  pub messages : List Message
+  pub rest : List ℕ
+  pub pages : List (List ℕ)
+  pub left_is : left ≡ Some rest
+  pub answered : Answered s input messages rest pages
+  pub stays : stays_open messages ≡ true
+  pub sent : Wrote x (concat pages)
+  pub stands : x.stands (state_after_all s messages)
+  pub counted : count ≡ length pages
+
+-- at first, no message was answered
+pub starts : (held : Option (List ℕ)) (stands : State → Type 0) (leaves : State → State → Type 0)
+    (s : State) (input : List ℕ) (h : History) (known : Option (List ℕ)) → h.waiting ≡ [] → known ≡ Some input
+    → stands s → SoFar (scene held held stands leaves) s input (to_come h known) 0
+starts held stands leaves s input h known nothing is stood = record {
+  messages = [];
+  rest = input;
+  pages = [];
+  left_is = rw (is, nothing) refl;
+  answered = record { begins = refl; are = refl };
+  stays = refl;
+  sent = appends_none held held (keeps_same held);
+  stands = stood;
+  counted = refl;
+}
+
+-- a fault came between two messages
+pub stops : (x : Scene) (s : State) (input : List ℕ) (left : Option (List ℕ)) (count : ℕ) (fault : ServeFault)
+    → SoFar x s input left count → IsOfReading fault → ServesSome x s input fault
+stops x s input left count Read so_far reads = record {
+  messages = so_far.messages;
+  rest = so_far.rest;
+  pages = so_far.pages;
+  answered = so_far.answered;
+  stays = so_far.stays;
+  leaves = (so_far.sent, so_far.stands);
+}
+stops x s input left count Memory so_far reads = record {
+  messages = so_far.messages;
+  rest = so_far.rest;
+  pages = so_far.pages;
+  answered = so_far.answered;
+  stays = so_far.stays;
+  leaves = (so_far.sent, inl so_far.stands);
+}
+stops x s input left count Store so_far none = absurd none
+stops x s input left count Write so_far none = absurd none
+
+-- what is said of the stream is true of the rest of the input
+pub rest_is : (held holds : Option (List ℕ)) (stands : State → Type 0) (leaves : State → State → Type 0) (s : State) (input : List ℕ)
+    (left : Option (List ℕ)) (count : ℕ) (so_far : SoFar (scene held holds stands leaves) s input left count)
+    (So : List ℕ → Type 0) → IfSome left So → So so_far.rest
+rest_is held holds stands leaves s input left count so_far So said = subst (λ known. IfSome known So) so_far.left_is said
+
+module _ (held holds : Option (List ℕ)) (stands0 stands1 : State → Type 0) (leaves0 leaves1 : State → State → Type 0)
+    (sound : Type 0) (s : State) (input : List ℕ) (left : Option (List ℕ)) (count : ℕ)
+    (so_far : SoFar (scene held holds stands0 leaves0) s input left count) (is_sound : sound) where
+  -- where there is no further message, all messages were answered
+  pub all_answered : FindsNone sound stands0 stands1 leaves1 so_far.rest
+      → ServesAll (scene held holds stands1 leaves1) s input count
+  all_answered found = record {
+    messages = so_far.messages;
+    rest = so_far.rest;
+    pages = so_far.pages;
+    answered = so_far.answered;
+    ends = inr (so_far.stays, found.none);
+    sent = so_far.sent;
+    counted = so_far.counted;
+    left = found.kept is_sound (state_after_all s so_far.messages) so_far.stands;
+  }
+
+  -- a fault came at the next message
+  pub answer_fails : (fault : ServeFault)
+      → (sound → (t : State) → stands0 t → FailsAt sound stands0 stands1 leaves1 so_far.rest t fault)
+      → ServesSome (scene held holds stands1 leaves1) s input fault
+  answer_fails fault fails = record {
+    messages = so_far.messages;
+    rest = so_far.rest;
+    pages = so_far.pages;
+    answered = so_far.answered;
+    stays = so_far.stays;
+    leaves = go fault (fails is_sound (state_after_all s so_far.messages) so_far.stands);
+  }
+    where
+      go : (fault : ServeFault) → FailsAt sound stands0 stands1 leaves1 so_far.rest (state_after_all s so_far.messages) fault
+          → Leaves fault (scene held holds stands1 leaves1) (state_after_all s so_far.messages) so_far.pages so_far.rest
+      go Read here = (so_far.sent, here)
+      go Memory here = (so_far.sent, here)
+      go Store here = (so_far.sent, here)
+      go Write none = absurd none
+
+  module _ (remaining : Option (List ℕ)) (h : History) (next : GetsNext sound stands0 stands1 leaves1 so_far.rest remaining h) where
+    -- the page of the next message, and the state after it
+    next_page : IsPage Port (state_after_all s so_far.messages) next.message h.pending
+        × stands1 (state_after Port (state_after_all s so_far.messages) next.message)
+    next_page = next.page is_sound (state_after_all s so_far.messages) so_far.stands
+
+    -- the page was written in part
+    pub write_fails : (now : Option (List ℕ)) (k : History) → HandsOut holds now h k
+        → ServesSome (scene held now stands1 leaves1) s input Write
+    write_fails now k cut = record {
+      messages = so_far.messages;
+      rest = so_far.rest;
+      pages = so_far.pages;
+      answered = so_far.answered;
+      stays = so_far.stays;
+      leaves = (
+        next.message,
+        next.rest,
+        next.begins,
+        (
+          h.pending,
+          cut.part,
+          next_page.0,
+          appends_more held holds now (concat so_far.pages) (take cut.part h.pending) so_far.sent cut.wrote,
+          next_page.1,
+        ),
+      );
+    }
+
+    -- one more message was answered
+    more_answered : Answered s input (so_far.messages ++ next.message ∷ []) next.rest (so_far.pages ++ h.pending ∷ [])
+    more_answered = record {
+      begins = begins_more input so_far.rest next.rest so_far.messages next.message so_far.answered.begins next.begins;
+      are = pages_more s so_far.messages next.message so_far.pages h.pending so_far.answered.are next_page.0;
+    }
+
+    module _ (now : Option (List ℕ)) (k : History) (all : HandsOutAll holds now h k) where
+      -- and its page was written
+      more_sent : Appends held now (concat (so_far.pages ++ h.pending ∷ []))
+      more_sent = subst (Appends held now) (sym (concat_more so_far.pages h.pending))
+          (appends_more held holds now (concat so_far.pages) h.pending so_far.sent all.wrote)
+
+      more_stands : stands1 (state_after_all s (so_far.messages ++ next.message ∷ []))
+      more_stands = subst stands1 (sym (after_more s so_far.messages next.message)) next_page.1
+
+      more_counted : count + 1 ≡ length (so_far.pages ++ h.pending ∷ [])
+      more_counted = ap (λ n. n + 1) so_far.counted ∙ sym (length-append so_far.pages (h.pending ∷ []))
+
+      -- the page closes, and was the last
+      pub closes_all : closes Port next.message ≡ true → ServesAll (scene held now stands1 leaves1) s input (count + 1)
+      closes_all last = record {
+        messages = so_far.messages ++ next.message ∷ [];
+        rest = next.rest;
+        pages = so_far.pages ++ h.pending ∷ [];
+        answered = more_answered;
+        ends = inl (so_far.messages, next.message, refl, so_far.stays, last);
+        sent = more_sent;
+        counted = more_counted;
+        left = more_stands;
+      }
+
+      -- the page does not close, and more messages may follow
+      pub stays_on : closes Port next.message ≡ false → h.stage ≡ Open
+          → SoFar (scene held now stands1 leaves1) s input (to_come k remaining) (count + 1)
+      stays_on other is_open = record {
+        messages = so_far.messages ++ next.message ∷ [];
+        rest = next.rest;
+        pages = so_far.pages ++ h.pending ∷ [];
+        left_is = subst (λ waiting. option_map (λ bytes. waiting ++ bytes) remaining ≡ Some next.rest) (sym all.waiting) (next.left is_open);
+        answered = more_answered;
+        stays = open_more so_far.messages next.message so_far.stays other;
+        sent = more_sent;
+        stands = more_stands;
+        counted = more_counted;
+      }
+
+-- Whether a conversation is open says whether the page closes.
+
+pub closing_of : (c : Bool) (stage : Stage) → stage ≡ (if c then Closing else Open) → ¬ (stage ≡ Open) → c ≡ true
+closing_of true stage is other = refl
+closing_of false stage is other = absurd (other is)
+
+pub open_of : (c : Bool) (stage : Stage) → stage ≡ (if c then Closing else Open) → stage ≡ Open → c ≡ false
+open_of true stage is same = let e : Closing ≡ Open = sym is ∙ same in cc
+open_of false stage is same = refl
+
+-- Writing a page.
+
+pub hands_none : (held : Option (List ℕ)) (h : History) → HandsOut held held h h
+hands_none held h = record {
+  part = 0;
+  wrote = appends_none held held (keeps_same held);
+  pending = refl;
+  door = refl;
+  way = refl;
+  stage = refl;
+  waiting = refl;
+}
+
+-- once more
+pub hands_then : (a b c : Option (List ℕ)) (h k j : History) → HandsOut a b h k → HandsOut b c k j → HandsOut a c h j
+hands_then a b c h k j x y = record {
+  part = x.part + y.part;
+  wrote = subst (Appends a c)
+      (ap (λ rest. take x.part h.pending ++ take y.part rest) x.pending ∙ sym (take-add x.part y.part h.pending))
+      (appends_more a b c (take x.part h.pending) (take y.part k.pending) x.wrote y.wrote);
+  pending = y.pending ∙ ap (λ rest. drop y.part rest) x.pending ∙ drop-drop y.part x.part h.pending;
+  door = y.door ∙ x.door;
+  way = y.way ∙ x.way;
+  stage = y.stage ∙ x.stage;
+  waiting = y.waiting ∙ x.waiting;
+}
+
+-- by one call
+pub hands_more : (a b c : Option (List ℕ)) (h k j : History) (count : ℕ) → HandsOut a b h k
+    → (j ≡ after_sent k count) × Appends b c (take count k.pending) → HandsOut a c h j
+hands_more a b c h k j count x sent = hands_then a b c h k j x (record {
+  part = count;
+  wrote = sent.1;
+  pending = ap (λ (i : History). i.pending) sent.0;
+  door = ap (λ (i : History). i.door) sent.0;
+  way = ap (λ (i : History). i.way) sent.0;
+  stage = ap (λ (i : History). i.stage) sent.0;
+  waiting = ap (λ (i : History). i.waiting) sent.0;
+})
+
+-- no byte waits, where none is to be written
+pub nothing_pending : (bytes : List ℕ) (wants : Bool) → (bytes ≢ [] → IsTrue wants) → wants ≡ false → bytes ≡ []
+nothing_pending [] wants some is = refl
+nothing_pending (byte ∷ bytes) wants some is = let is_true = some (λ e. cc) in cc
+
+pub hands_all : (a b c : Option (List ℕ)) (h k : History) → HandsOut a b h k → k.pending ≡ [] → Keeps b c → HandsOutAll a c h k
+hands_all a b c h k x none kept =
+    let rest : drop x.part h.pending ≡ [] = sym x.pending ∙ none in
+    let whole : take x.part h.pending ≡ h.pending =
+    sym (append-nil (take x.part h.pending)) ∙ ap (λ t. take x.part h.pending ++ t) (sym rest)
+    ∙ take-append-drop x.part h.pending in record {
+      wrote = appends_before a b c h.pending (subst (Appends a b) whole x.wrote) kept;
+      pending = none;
+      door = x.door;
+      way = x.way;
+      stage = x.stage;
+      waiting = x.waiting;
+    }

@@ -1,0 +1,29 @@
+use Rattle.std.proofs.Common.{◌≡◌, List, [], ℕ}
+use Rattle.std.specs.Prelude.{IsTrue, Some}
+use Rattle.ledger.specs.Answer.{State}
+use Rattle.saga_core.specs.Books.{LeavesNoMore}
+use Rattle.desk_http.specs.declared.doors.Door.TheVariants.{Port}
+use Rattle.http_ways.specs.declared.ways.Way.TheVariants.{Profile}
+use Rattle.http_conversations.specs.Conversations.{history}
+use Rattle.http_conversations.specs.Serving.{to_come}
+use Rattle.http_conversations.specs.declared.conversation.Stage.TheVariants.{Open}
+use Rattle.http_conversations.proofs.serving.answer_next.Given as goal
+
+-- nothing was answered, and what is to come is what was to come
+abbrev pub invariant-loop : goal.invariant-loop
+invariant-loop g l =
+    let book = g.B.Book in
+    let left = g.R.Read.remaining in
+    let h = history l.conversation in
+    record {
+      is_open : h.stage ≡ Open;
+      free : h.pending ≡ [];
+      door : h.door ≡ Port;
+      way : h.way ≡ Profile;
+      stream : (stream : List ℕ) → to_come (history l.fn.conversation) (left l.fn.reader) ≡ Some stream
+          → to_come h (left l.reader) ≡ Some stream;
+      stands : book.is_sound l.book → (s : State) → book.stands l.fn.book s → book.stands l.book s;
+      sound : book.is_sound l.book → book.is_sound l.fn.book;
+      stays_failed : IsTrue (book.has_failed l.fn.book) → IsTrue (book.has_failed l.book);
+      stays_left : IsTrue (book.has_failed l.fn.book) → LeavesNoMore (book.leaves l.fn.book) (book.leaves l.book);
+    }

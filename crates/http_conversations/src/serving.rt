@@ -1,0 +1,260 @@
+//! A conversation at the port with one reader and one writer, by the profile, until it is over.
+ghost use Rattle.std.specs.Prelude.{◌≡◌, ◌<◌, ◌≤◌, ◌↔◌, [], ℕ, List, length, true, Ok, IfOk, IfErr, IfSome, OnOk, IsErrOf, IsTrue};
+ghost use Rattle.std.specs.Io.KnownBytes.{Consumes, IsAtEnd};
+ghost use Rattle.ledger.specs.Answer.{State};
+ghost use Rattle.saga_core.specs.Books.{LeavesNoMore};
+ghost use Rattle.protocols.specs.Faults.{IsOfReading};
+ghost use Rattle.protocols.specs.Scenes.{scene};
+ghost use Rattle.desk_http.specs.Serving.{ServesAll, ServesSome};
+ghost use Rattle.desk_http.specs.Worlds.{GoesOnWithMessages, GoesOnAmongMessages};
+ghost use Rattle.http_conversations.specs.Conversations.{history};
+ghost use Rattle.http_conversations.specs.History.{after_received};
+ghost use Rattle.http_conversations.specs.Serving.{FindsNext, HandsOut, HandsOutAll, to_come};
+
+use crate::conversation::{Conversation, MOST_READ, Stage};
+use desk_http::Door;
+use http_pages::Paths;
+use http_ways::Way;
+use protocols::ServeFault;
+use recovery::Ready;
+use saga_core::Book;
+use std::alloc::Global;
+use std::io::{ErrorKind, Read, Write};
+
+/// The result of serving a connection.
+#[derive(Clone, Copy, Debug, PartialEq, Eq)]
+pub struct Served {
+    /// How many pages were written.
+    pub pages: u64,
+}
+
+/// Answers the messages of a connection at the port, each by its page, up to and including the first closing one. They are
+/// read by the profile.
+///
+/// Each page is written and flushed before the next message is read, and nothing is read while a whole message is
+/// buffered. A message that the end of the input cuts off gets no page.
+pub fn serve<R: Read, W: Write, B: Book>(
+    alloc: Global,
+    reader: &mut R,
+    writer: &mut W,
+    book: &mut Ready<B>,
+) -> Result<Served, ServeFault>
+    ensures all { B.is_sound book.new → (s : State) → B.stands book.old s →
+        IfSome (R.remaining reader.old) (λ input. IfOk result (λ served. ServesAll
+        (scene (W.contents writer.old) (W.contents writer.new)
+        (B.stands book.new) (B.leaves book.new)) s input served.pages)) }
+
+    ensures some { B.is_sound book.new → (s : State) → B.stands book.old s →
+        IfSome (R.remaining reader.old) (λ input. IfErr result (ServesSome
+        (scene (W.contents writer.old) (W.contents writer.new)
+        (B.stands book.new) (B.leaves book.new)) s input)) }
+
+    ensures world { B.is_sound book.new → IfSome (R.remaining reader.old) (λ input.
+        IfOk result (λ served. GoesOnWithMessages (B.stands book.old)
+        (scene (W.contents writer.old) (W.contents writer.new)
+        (B.stands book.new) (B.leaves book.new)) input served.pages)) }
+    ensures world_at_fault { B.is_sound book.new → IfSome (R.remaining reader.old) (λ input.
+        IfErr result (GoesOnAmongMessages (B.stands book.old)
+        (scene (W.contents writer.old) (W.contents writer.new)
+        (B.stands book.new) (B.leaves book.new)) input)) }
+    ensures failed { IsErrOf result ServeFault.Store → IsTrue (B.has_failed book.new) }
+    ensures stays_failed { IsTrue (B.has_failed book.old) → IsTrue (B.has_failed book.new) }
+    ensures stays_left { IsTrue (B.has_failed book.old) →
+        LeavesNoMore (B.leaves book.old) (B.leaves book.new) }
+
+    ensures sound { B.is_sound book.new → B.is_sound book.old }
+{
+    serve_book(alloc, reader, writer, book)
+}
+
+/// Does the same over any book.
+fn serve_book<R: Read, W: Write, B: Book>(
+    alloc: Global,
+    reader: &mut R,
+    writer: &mut W,
+    book: &mut B,
+) -> Result<Served, ServeFault>
+    ensures all { B.is_sound book.new → (s : State) → B.stands book.old s →
+        IfSome (R.remaining reader.old) (λ input. IfOk result (λ served. ServesAll
+        (scene (W.contents writer.old) (W.contents writer.new)
+        (B.stands book.new) (B.leaves book.new)) s input served.pages)) }
+
+    ensures some { B.is_sound book.new → (s : State) → B.stands book.old s →
+        IfSome (R.remaining reader.old) (λ input. IfErr result (ServesSome
+        (scene (W.contents writer.old) (W.contents writer.new)
+        (B.stands book.new) (B.leaves book.new)) s input)) }
+    ensures failed { IsErrOf result ServeFault.Store → IsTrue (B.has_failed book.new) }
+    ensures stays_failed { IsTrue (B.has_failed book.old) → IsTrue (B.has_failed book.new) }
+    ensures stays_left { IsTrue (B.has_failed book.old) →
+        LeavesNoMore (B.leaves book.old) (B.leaves book.new) }
+
+    ensures sound { B.is_sound book.new → B.is_sound book.old }
+{
+    let paths = Paths::new(alloc)?;
+    let mut buffer = vec![in alloc; 0u8; MOST_READ]?;
+    serve_messages(alloc, &paths, buffer.as_mut_slice(), reader, writer, book)
+}
+
+/// Does the same by way of a buffer.
+fn serve_messages<R: Read, W: Write, B: Book>(
+    alloc: Global,
+    paths: &Paths,
+    buffer: &mut [u8],
+    reader: &mut R,
+    writer: &mut W,
+    book: &mut B,
+) -> Result<Served, ServeFault>
+    requires small { length buffer.old ≤ MOST_READ }
+    requires some { 0 < length buffer.old }
+
+    ensures all { B.is_sound book.new → (s : State) → B.stands book.old s →
+        IfSome (R.remaining reader.old) (λ input. IfOk result (λ served. ServesAll
+        (scene (W.contents writer.old) (W.contents writer.new)
+        (B.stands book.new) (B.leaves book.new)) s input served.pages)) }
+
+    ensures some { B.is_sound book.new → (s : State) → B.stands book.old s →
+        IfSome (R.remaining reader.old) (λ input. IfErr result (ServesSome
+        (scene (W.contents writer.old) (W.contents writer.new)
+        (B.stands book.new) (B.leaves book.new)) s input)) }
+    ensures failed { IsErrOf result ServeFault.Store → IsTrue (B.has_failed book.new) }
+    ensures stays_failed { IsTrue (B.has_failed book.old) → IsTrue (B.has_failed book.new) }
+    ensures stays_left { IsTrue (B.has_failed book.old) →
+        LeavesNoMore (B.leaves book.old) (B.leaves book.new) }
+
+    ensures sound { B.is_sound book.new → B.is_sound book.old }
+{
+    let mut conversation = Conversation::new(alloc, Door::Port, Way::Profile);
+    for pages in 0..u64::MAX {
+        let found = answer_next(paths, &mut conversation, buffer, reader, book)?;
+        if !found {
+            return Ok(Served { pages });
+        }
+        send_page(&mut conversation, writer)?;
+        if !is_open(&conversation) {
+            return Ok(Served { pages: pages + 1 });
+        }
+    }
+    Err(ServeFault::Read)
+}
+
+/// Whether more messages are answered.
+fn is_open(conversation: &Conversation) -> bool
+    ensures is_open { (result ≡ true) ↔ ((history conversation.now).stage ≡ Stage.Open) }
+{
+    matches!(conversation.stage(), Stage::Open)
+}
+
+/// Answers the next message, for which it reads as often as is needed. Returns `false` if the input has ended.
+fn answer_next<R: Read, B: Book>(
+    paths: &Paths,
+    conversation: &mut Conversation,
+    buffer: &mut [u8],
+    reader: &mut R,
+    book: &mut B,
+) -> Result<bool, ServeFault>
+    requires small { length buffer.old ≤ MOST_READ }
+    requires some { 0 < length buffer.old }
+    requires is_open { (history conversation.old).stage ≡ Stage.Open }
+    requires free { (history conversation.old).pending ≡ [] }
+    requires door { (history conversation.old).door ≡ Door.Port }
+    requires way { (history conversation.old).way ≡ Way.Profile }
+
+    ensures next { IfSome (to_come (history conversation.old) (R.remaining reader.old)) (λ stream.
+        FindsNext (B.is_sound book.new) (B.stands book.old) (B.stands book.new) (B.leaves book.new)
+        stream (R.remaining reader.new) (history conversation.new) result) }
+    ensures door { (history conversation.new).door ≡ Door.Port }
+    ensures way { (history conversation.new).way ≡ Way.Profile }
+
+    ensures failed { IsErrOf result ServeFault.Store → IsTrue (B.has_failed book.new) }
+    ensures stays_failed { IsTrue (B.has_failed book.old) → IsTrue (B.has_failed book.new) }
+    ensures stays_left { IsTrue (B.has_failed book.old) →
+        LeavesNoMore (B.leaves book.old) (B.leaves book.new) }
+
+    ensures sound { B.is_sound book.new → B.is_sound book.old }
+{
+    for _ in 0..u64::MAX {
+        match conversation.answer(paths, book) {
+            Ok(true) => return Ok(true),
+            Ok(false) => {
+                let count = read_more(conversation, buffer, reader)?;
+                if count == 0 {
+                    return Ok(false);
+                }
+            }
+            Err(fault) => return Err(ServeFault::from(fault)),
+        }
+    }
+    Err(ServeFault::Read)
+}
+
+/// Reads more, and retries an interrupted read. Returns 0 if the input has ended.
+fn read_more<R: Read>(
+    conversation: &mut Conversation,
+    buffer: &mut [u8],
+    reader: &mut R,
+) -> Result<usize, ServeFault>
+    requires small { length buffer.old ≤ MOST_READ }
+    requires some { 0 < length buffer.old }
+
+    ensures more { IfOk result (λ count. (more : List ℕ) × (length more ≡ count)
+        × Consumes (R.remaining reader.old) (R.remaining reader.new) more
+        × (history conversation.new ≡ after_received (history conversation.old) more)) }
+    ensures end { result ≡ Ok 0 → IsAtEnd (R.remaining reader.new) }
+
+    ensures fault { IfErr result IsOfReading }
+    ensures door { (history conversation.new).door ≡ (history conversation.old).door }
+    ensures way { (history conversation.new).way ≡ (history conversation.old).way }
+{
+    if !conversation.wants_read() {
+        return Err(ServeFault::Read);
+    }
+    for _ in 0..u64::MAX {
+        match conversation.receive(buffer, reader) {
+            Ok(count) => return Ok(count),
+            Err(error) => match error.kind() {
+                ErrorKind::Interrupted => {}
+                ErrorKind::OutOfMemory => return Err(ServeFault::Memory),
+                _ => return Err(ServeFault::Read),
+            },
+        }
+    }
+    Err(ServeFault::Read)
+}
+
+/// Writes the page that waits, and flushes the writer.
+fn send_page<W: Write>(conversation: &mut Conversation, writer: &mut W) -> Result<(), ServeFault>
+    ensures all { OnOk result (HandsOutAll (W.contents writer.old) (W.contents writer.new)
+        (history conversation.old) (history conversation.new)) }
+
+    ensures some { HandsOut (W.contents writer.old) (W.contents writer.new)
+        (history conversation.old) (history conversation.new) }
+    ensures fault { IfErr result (λ fault. fault ≡ ServeFault.Write) }
+{
+    for _ in 0..u64::MAX {
+        if !conversation.wants_write() {
+            return match writer.flush() {
+                Ok(()) => Ok(()),
+                Err(_) => Err(ServeFault::Write),
+            };
+        }
+        send_some(conversation, writer)?;
+    }
+    Err(ServeFault::Write)
+}
+
+/// Writes by one call a part of the page that waits, and retries an interrupted write.
+fn send_some<W: Write>(conversation: &mut Conversation, writer: &mut W) -> Result<(), ServeFault>
+    ensures some { HandsOut (W.contents writer.old) (W.contents writer.new)
+        (history conversation.old) (history conversation.new) }
+    ensures fault { IfErr result (λ fault. fault ≡ ServeFault.Write) }
+{
+    for _ in 0..u64::MAX {
+        match conversation.send(writer) {
+            Ok(0) => return Err(ServeFault::Write),
+            Ok(_) => return Ok(()),
+            Err(error) if error.kind() == ErrorKind::Interrupted => {}
+            Err(_) => return Err(ServeFault::Write),
+        }
+    }
+    Err(ServeFault::Write)
+}

@@ -1,0 +1,93 @@
+-- Cells are read while each goes on with the month of the one before it.
+use Rattle.std.proofs.Common.{◌≡◌, ◌∙◌, ◌+◌, ◌-◌, ◌≤◌, ◌++◌, ◌∷◌, [], List, ap, arith, false, length, length-append, rules, subst, sym, true}
+use Rattle.allotment.specs.Limits.{first_night}
+use Rattle.allotment.specs.Nights.{days_before, months, year_of}
+use Rattle.saga_core.specs.RowSources.{Hands}
+use Rattle.month_reports.specs.Months.{AskedRest, date_of, goes_on, Places}
+use Rattle.month_reports.proofs.DayLemmas.{day_from_one}
+use Rattle.month_reports.proofs.MonthLemmas.{at_most, Begins, begins_more, begins_one, hands_last, hands_month, later_day, Reading, reads_more, reads_one}
+use Rattle.month_reports.proofs.months.read_month.Goals as goal
+
+-- the first cell was read
+pub loop-cells-init : goal.loop-cells-init
+loop-cells-init g c =
+    let source = g.R.RowSource in
+    let first = c.args.first.now in
+    let all = AskedRest c.args.filter.now (source.rests c.args.rows.now) in
+    let is : c.add.new.cells.items ≡ first ∷ [] =
+    c.in_ok-add.ensures.added ∙ ap (λ (cells : List Places). cells ++ first ∷ []) c.new-cells.ensures.items in
+    let k = first.0.night - first_night in
+    let one : length c.add.new.cells.items ≡ 1 = ap length is in
+    record {
+      begun = subst (λ cells. Begins cells first.0) (sym is) (begins_one first);
+      reading = λ sound. subst (Reading all all first) (sym is) (reads_one all first);
+      few = omega (arith, one);
+      days = subst (λ n. n ≤ (date_of first.0.night).1.1) (sym one) (day_from_one 1 (months (year_of k)) (k - days_before (year_of k)));
+      given = omega arith;
+      kept = search rules;
+      sound = λ sound. sound;
+    }
+
+-- one more cell goes on with the month
+pub loop-cells-preserved : goal.loop-cells-preserved
+loop-cells-preserved g c =
+    let source = g.R.RowSource in
+    let at = c.loop-cells in
+    let cells = at.cells.items in
+    let row = c.in-Some.row in
+    let all = AskedRest c.args.filter.now (source.rests c.args.rows.now) in
+    let left = AskedRest c.args.filter.now (source.rests at.rows) in
+    let after = AskedRest c.args.filter.now (source.rests c.next_asked.new.rows) in
+    let is : c.add-in-Some.new.cells.items ≡ cells ++ row ∷ [] = c.in_ok-add-2.ensures.added in
+    let follows : goes_on at.last.0 row.0 ≡ true = search rules in
+    let long : length c.add-in-Some.new.cells.items ≡ length cells + 1 = ap length is ∙ length-append cells (row ∷ []) in
+    let later = later_day at.last.0 row.0 (length cells) follows at.invariant.days in
+    record {
+      begun = subst (λ cs. Begins cs row.0) (sym is) (begins_more cells at.last.0 row at.invariant.begun follows);
+      reading = λ sound. subst (Reading all after c.args.first.now) (sym is)
+          (reads_more all left after c.args.first.now cells row (at.invariant.reading (c.next_asked.ensures.sound sound))
+          (subst (Hands left after) c.in-Some.is (c.in_ok-row.ensures.next sound)));
+      few = subst (λ n. n ≤ 31) (sym long)
+          (at_most (length cells + 1) (date_of row.0.night).1.1 31 later c.goes_on.ensures.short);
+      days = subst (λ n. n ≤ (date_of row.0.night).1.1) (sym long) later;
+      given = omega (arith, at.invariant.given, c.in_ok-row.ensures.counted);
+      kept = g.met.R.RowSource.joins c.args.rows.now at.rows c.next_asked.new.rows at.invariant.kept c.next_asked.ensures.kept;
+      sound = λ sound. at.invariant.sound (c.next_asked.ensures.sound sound);
+    }
+
+-- the next cell begins another month
+pub returns-then-not-goes_on-clause-month : goal.returns-then-not-goes_on-clause-month
+returns-then-not-goes_on-clause-month g c sound =
+    let source = g.R.RowSource in
+    let at = c.loop-cells in
+    let row = c.in-Some.row in
+    let all = AskedRest c.args.filter.now (source.rests c.args.rows.now) in
+    let left = AskedRest c.args.filter.now (source.rests at.rows) in
+    let after = AskedRest c.args.filter.now (source.rests c.next_asked.new.rows) in
+    let apart : goes_on at.last.0 row.0 ≡ false = search rules in
+    hands_month all left after c.args.first.now at.cells.items at.last.0 row
+    (at.invariant.reading (c.next_asked.ensures.sound sound)) at.invariant.begun
+    (subst (Hands left after) c.in-Some.is (c.in_ok-row.ensures.next sound)) apart
+
+pub returns-then-not-goes_on-clause-kept : goal.returns-then-not-goes_on-clause-kept
+returns-then-not-goes_on-clause-kept g c =
+    let at = c.loop-cells in
+    g.met.R.RowSource.joins c.args.rows.now at.rows c.next_asked.new.rows at.invariant.kept c.next_asked.ensures.kept
+
+-- out of memory for one more cell
+pub returns-in_err-add-2-clause-kept : goal.returns-in_err-add-2-clause-kept
+returns-in_err-add-2-clause-kept g c =
+    let at = c.loop-cells in
+    g.met.R.RowSource.joins c.args.rows.now at.rows c.next_asked.new.rows at.invariant.kept c.next_asked.ensures.kept
+
+-- no cell is left
+pub returns-clause-month : goal.returns-clause-month
+returns-clause-month g c sound =
+    let source = g.R.RowSource in
+    let at = c.loop-cells in
+    let all = AskedRest c.args.filter.now (source.rests c.args.rows.now) in
+    let left = AskedRest c.args.filter.now (source.rests at.rows) in
+    let after = AskedRest c.args.filter.now (source.rests c.next_asked.new.rows) in
+    hands_last all left after c.args.first.now at.cells.items at.last.0
+    (at.invariant.reading (c.next_asked.ensures.sound sound)) at.invariant.begun
+    (subst (Hands left after) c.in_default.is (c.in_ok-row.ensures.next sound))

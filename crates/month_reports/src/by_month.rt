@@ -1,0 +1,149 @@
+//! The reports by month.
+ghost use Rattle.std.specs.Prelude.{◌≡◌, ◌+◌, ◌≤◌, ℕ, List, [], length, IfOk, OnOk};
+ghost use Rattle.std.specs.List.{flat_map};
+ghost use Rattle.std.specs.Io.KnownBytes.{Appends};
+ghost use Rattle.allotment.specs.declared.cells.Cell.{Cell};
+ghost use Rattle.allotment.specs.declared.places.Held.{Held};
+ghost use Rattle.month_reports.specs.MonthReports.{asked_months, month_shown, months_end, months_head, months_in};
+ghost use Rattle.month_reports.specs.Months.{AskedRest};
+ghost use Rattle.streams.specs.Written.{WroteFront};
+
+use crate::calendars::{calendar_head, calendar_row};
+use crate::months::{next_asked, read_month};
+use crate::summaries::{summary_head, summary_row};
+use crate::sums::MOST_NIGHTS;
+use allotment::{Cell, Held};
+use filters::CellFilter;
+use reports::{Format, ReportFault};
+use saga_core::RowSource;
+use std::alloc::{AllocError, Global};
+use std::io::Write;
+use streams::send_all;
+
+/// A report by month.
+#[derive(Clone, Copy, Debug, PartialEq, Eq)]
+pub enum MonthReport {
+    /// How many nights each month has and the sums of their places, in this format.
+    Summary(Format),
+    /// Each month's days in a row, with a mark that says how full each night is, as a text.
+    Calendar,
+}
+
+impl MonthReport {
+    ghost use Rattle.std.specs.Prelude.{string_bytes};
+
+    /// What comes before the months.
+    fn head(self) -> &'static str
+        ensures head { result.now ≡ months_head self }
+    {
+        match self {
+            MonthReport::Summary(format) => summary_head(format),
+            MonthReport::Calendar => calendar_head(),
+        }
+    }
+
+    /// The text of a month.
+    fn show(self, alloc: Global, month: &[(Cell, Held)]) -> Result<Vec<u8>, AllocError>
+        requires few { length month.now ≤ MOST_NIGHTS }
+
+        ensures text { IfOk result (λ bytes. bytes.items ≡ month_shown self month.now) }
+    {
+        match self {
+            MonthReport::Summary(format) => summary_row(alloc, format, month),
+            MonthReport::Calendar => calendar_row(alloc, month),
+        }
+    }
+
+    /// What comes after so many months.
+    fn ending(self, alloc: Global, count: u64) -> Result<String, AllocError>
+        ensures ending { IfOk result (λ text. string_bytes text ≡ months_end self count) }
+    {
+        match self {
+            MonthReport::Summary(Format::Text) | MonthReport::Calendar => {
+                format!(in alloc; "months {count}\n")
+            }
+            MonthReport::Summary(Format::Json | Format::Csv) => Ok(String::new(alloc)),
+        }
+    }
+}
+
+/// Writes the report of the months of the cells that a source returns and a filter lets through. Returns how many months
+/// there are.
+///
+/// A month has a text as the report says: in a summary a line with its kind, supplier, product, month, number of nights,
+/// and allotted, held and free places; in a calendar a line with its kind, supplier, product, month and days. A text and a
+/// CSV file begin with a heading, and the last line of a text is `months` and their number.
+pub fn months_text<R: RowSource<(Cell, Held)>, W: Write>(
+    alloc: Global,
+    report: MonthReport,
+    filter: &CellFilter,
+    rows: &mut R,
+    out: &mut W,
+) -> Result<u64, ReportFault>
+    ensures written { R.is_sound rows.new → (all : List (Cell × Held)) → R.rests rows.old all →
+        OnOk result (Appends (W.contents out.old) (W.contents out.new)
+        (months_in report (asked_months filter.now all))) }
+    ensures number { R.is_sound rows.new → (all : List (Cell × Held)) → R.rests rows.old all →
+        IfOk result (λ count. count ≡ length (asked_months filter.now all)) }
+    ensures rest { R.is_sound rows.new → (all : List (Cell × Held)) → R.rests rows.old all →
+        OnOk result (AskedRest filter.now (R.rests rows.new) []) }
+    ensures given { IfOk result (λ count. count + R.given rows.old ≤ R.given rows.new) }
+
+    ensures front { R.is_sound rows.new → (all : List (Cell × Held)) → R.rests rows.old all →
+        WroteFront (W.contents out.old) (W.contents out.new) (months_in report (asked_months filter.now all)) }
+
+    ensures kept { R.becomes rows.old rows.new }
+    ensures sound { R.is_sound rows.new → R.is_sound rows.old }
+{
+    send(out, report.head().as_bytes())?;
+    let count = send_months(alloc, report, filter, rows, out)?;
+    let text = report.ending(alloc, count)?;
+    send(out, text.as_bytes())?;
+    Ok(count)
+}
+
+/// Writes the text of each month, and returns how many there were.
+fn send_months<R: RowSource<(Cell, Held)>, W: Write>(
+    alloc: Global,
+    report: MonthReport,
+    filter: &CellFilter,
+    rows: &mut R,
+    out: &mut W,
+) -> Result<u64, ReportFault>
+    ensures written { R.is_sound rows.new → (all : List (Cell × Held)) → R.rests rows.old all →
+        OnOk result (Appends (W.contents out.old) (W.contents out.new)
+        (flat_map (month_shown report) (asked_months filter.now all))) }
+    ensures number { R.is_sound rows.new → (all : List (Cell × Held)) → R.rests rows.old all →
+        IfOk result (λ count. count ≡ length (asked_months filter.now all)) }
+    ensures rest { R.is_sound rows.new → (all : List (Cell × Held)) → R.rests rows.old all →
+        OnOk result (AskedRest filter.now (R.rests rows.new) []) }
+    ensures given { IfOk result (λ count. count + R.given rows.old ≤ R.given rows.new) }
+
+    ensures front { R.is_sound rows.new → (all : List (Cell × Held)) → R.rests rows.old all →
+        WroteFront (W.contents out.old) (W.contents out.new)
+        (flat_map (month_shown report) (asked_months filter.now all)) }
+
+    ensures kept { R.becomes rows.old rows.new }
+    ensures sound { R.is_sound rows.new → R.is_sound rows.old }
+{
+    let mut count = 0u64;
+    let mut next = next_asked(filter, rows)?;
+    while let Some(first) = next {
+        let month = read_month(alloc, filter, &first, rows)?;
+        let bytes = report.show(alloc, &month.cells)?;
+        send(out, &bytes)?;
+        count += 1;
+        next = month.after;
+    }
+    Ok(count)
+}
+
+/// Writes all bytes. After a fault a prefix of them was written.
+fn send<W: Write>(out: &mut W, bytes: &[u8]) -> Result<(), ReportFault>
+    ensures sent { OnOk result (Appends (W.contents out.old) (W.contents out.new) bytes.now) }
+
+    ensures front { WroteFront (W.contents out.old) (W.contents out.new) bytes.now }
+{
+    send_all(out, bytes)?;
+    Ok(())
+}

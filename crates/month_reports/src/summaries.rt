@@ -1,0 +1,199 @@
+//! The line of a month in a summary, in each format.
+ghost use Rattle.std.specs.Prelude.{◌≡◌, ◌≤◌, [], ◌∷◌, ◌++◌, false, decimal, length, IfOk, OnOk, string_bytes};
+ghost use Rattle.csv.specs.Records.{fields_of, partial_of};
+ghost use Rattle.csv.specs.Writing.{fields_written, has_written, writer_pending, writer_setup, writer_under};
+ghost use Rattle.reports.specs.Objects.{json_line};
+ghost use Rattle.reports.specs.Records.{csv_line, rfc_4180};
+ghost use Rattle.serde_json.specs.View.{view};
+ghost use Rattle.month_reports.specs.Summaries.{month_text, product_columns, summary_data, summary_fields, summary_head, summary_line, summary_names, summary_row, sums_columns};
+
+use crate::sums::{MOST_NIGHTS, Sums, sums_of};
+use allotment::{Cell, Held, Night};
+use csv::{ByteRecord, Terminator, Writer, WriterBuilder};
+use reports::Format;
+use serde_json::{Value, json};
+use std::alloc::{AllocError, Global};
+
+/// The heading of a summary in this format.
+pub(crate) fn summary_head(format: Format) -> &'static str
+    ensures head { result.now ≡ summary_head format }
+{
+    match format {
+        Format::Text => { "kind     supplier product  month   nights    allot     held     free\n" }
+        Format::Json => "",
+        Format::Csv => record_heading(),
+    }
+}
+
+/// The heading of a summary as CSV.
+fn record_heading() -> &'static str
+    ensures heading { result.now ≡ csv_line summary_names }
+{
+    "kind,supplier,product,month,nights,allot,held,free\r\n"
+}
+
+/// The line of a month in this format.
+pub(crate) fn summary_row(
+    alloc: Global,
+    format: Format,
+    month: &[(Cell, Held)],
+) -> Result<Vec<u8>, AllocError>
+    requires few { length month.now ≤ MOST_NIGHTS }
+
+    ensures row { IfOk result (λ bytes. bytes.items ≡ summary_row format month.now) }
+{
+    let Some((cell, _)) = month.first() else {
+        return Ok(Vec::new(alloc));
+    };
+    let sums = sums_of(month);
+    match format {
+        Format::Text => Ok(summary_line(alloc, cell, &sums)?.into_bytes()),
+        Format::Json => Ok(summary_object(alloc, cell, &sums)?.into_bytes()),
+        Format::Csv => summary_record(alloc, cell, &sums),
+    }
+}
+
+/// The line of a month with these sums, of which a cell is this one.
+fn summary_line(alloc: Global, cell: &Cell, sums: &Sums) -> Result<String, AllocError>
+    ensures line { IfOk result (λ text. string_bytes text ≡ summary_line cell.now sums.now) }
+{
+    let month = month_text(alloc, cell.night)?;
+    let cell = product_columns(alloc, cell)?;
+    let sums = sums_columns(alloc, sums)?;
+    format!(in alloc; "{cell} {month} {sums}\n")
+}
+
+/// The columns of a product: its kind, supplier and name.
+pub(crate) fn product_columns(alloc: Global, cell: &Cell) -> Result<String, AllocError>
+    ensures columns { IfOk result (λ text. string_bytes text ≡ product_columns cell.now) }
+{
+    let kind = cell.kind.word();
+    let supplier = cell.supplier.as_str();
+    let product = cell.product.as_str();
+    format!(in alloc; "{kind:<8} {supplier:<8} {product:<8}")
+}
+
+/// The columns of sums: nights, and allotted, held and free places.
+fn sums_columns(alloc: Global, sums: &Sums) -> Result<String, AllocError>
+    ensures columns { IfOk result (λ text. string_bytes text ≡ sums_columns sums.now) }
+{
+    let Sums {
+        nights,
+        allot,
+        held,
+        free,
+    } = *sums;
+    format!(in alloc; "{nights:>6} {allot:>8} {held:>8} {free:>8}")
+}
+
+/// The text of a night's month, as `2030-06`.
+pub(crate) fn month_text(alloc: Global, night: Night) -> Result<String, AllocError>
+    ensures text { IfOk result (λ text. string_bytes text ≡ month_text night) }
+{
+    let mut text = night.text(alloc)?;
+    text.truncate(7);
+    Ok(text)
+}
+
+/// The same line as an object.
+fn summary_object(alloc: Global, cell: &Cell, sums: &Sums) -> Result<String, AllocError>
+    ensures line { IfOk result (λ text. string_bytes text ≡ json_line (summary_data cell.now sums.now)) }
+{
+    let month = month_text(alloc, cell.night)?;
+    let value = summary_value(alloc, cell, month.as_str(), sums)?;
+    let mut text = value.to_string(alloc)?;
+    text.push('\n')?;
+    Ok(text)
+}
+
+/// The value of a month with this text and these sums, of which a cell is this one.
+fn summary_value(alloc: Global, cell: &Cell, month: &str, sums: &Sums) -> Result<Value, AllocError>
+    ensures value { month.now ≡ month_text cell.now.night →
+        IfOk result (λ value. view value ≡ summary_data cell.now sums.now) }
+{
+    let Sums {
+        nights,
+        allot,
+        held,
+        free,
+    } = *sums;
+    let kind = cell.kind.word();
+    let product = cell.product.as_str();
+    let supplier = cell.supplier.as_str();
+    json!(in alloc; {
+        "allot": allot,
+        "free": free,
+        "held": held,
+        "kind": kind,
+        "month": month,
+        "nights": nights,
+        "product": product,
+        "supplier": supplier,
+    })
+}
+
+/// The same line as a record.
+fn summary_record(alloc: Global, cell: &Cell, sums: &Sums) -> Result<Vec<u8>, AllocError>
+    ensures fields { IfOk result (λ bytes. bytes.items ≡ csv_line (summary_fields cell.now sums.now)) }
+{
+    let month = month_text(alloc, cell.night)?;
+    let mut row = ByteRecord::new(alloc);
+    put(&mut row, cell.kind.word())?;
+    put(&mut row, cell.supplier.as_str())?;
+    put(&mut row, cell.product.as_str())?;
+    put(&mut row, month.as_str())?;
+    put_number(alloc, &mut row, sums.nights)?;
+    put_number(alloc, &mut row, sums.allot)?;
+    put_number(alloc, &mut row, sums.held)?;
+    put_number(alloc, &mut row, sums.free)?;
+    csv_line(alloc, &row)
+}
+
+/// Adds a number as a field.
+fn put_number(alloc: Global, row: &mut ByteRecord, number: u64) -> Result<(), AllocError>
+    requires whole { partial_of row.old ≡ [] }
+
+    ensures fields { OnOk result (fields_of row.new ≡ fields_of row.old ++ decimal number ∷ []) }
+    ensures whole { OnOk result (partial_of row.new ≡ []) }
+{
+    let digits = format!(in alloc; "{number}")?;
+    put(row, digits.as_str())
+}
+
+/// Adds a field.
+fn put(row: &mut ByteRecord, field: &str) -> Result<(), AllocError>
+    requires whole { partial_of row.old ≡ [] }
+
+    ensures fields { OnOk result (fields_of row.new ≡ fields_of row.old ++ field.now ∷ []) }
+    ensures whole { OnOk result (partial_of row.new ≡ []) }
+{
+    row.push_field(field.as_bytes())
+}
+
+/// The text of a record, with its line end.
+fn csv_line(alloc: Global, row: &ByteRecord) -> Result<Vec<u8>, AllocError>
+    ensures fields { IfOk result (λ text. text.items ≡ csv_line (fields_of row.now)) }
+{
+    let mut writer = new_writer(alloc);
+    // Writing to a list in memory fails only if it is out of memory.
+    if writer.write_byte_record(row).is_err() {
+        return Err(AllocError);
+    }
+    match writer.into_inner() {
+        Ok(text) => Ok(text),
+        Err(_) => Err(AllocError),
+    }
+}
+
+/// A writer of records to a list in memory.
+fn new_writer(alloc: Global) -> Writer<Vec<u8>>
+    ensures setup { writer_setup result ≡ rfc_4180 }
+    ensures under { (writer_under result).items ≡ [] }
+    ensures pending { writer_pending result ≡ [] }
+    ensures fields { fields_written result ≡ 0 }
+    ensures wrote { has_written result ≡ false }
+{
+    WriterBuilder::new()
+        .terminator(Terminator::CRLF)
+        .from_writer(Vec::new(alloc))
+}

@@ -1,0 +1,158 @@
+-- The option with which a step was done last: it is the one that stands, if any does. For the compensation of the step,
+-- and for reading the items of a journey.
+use Rattle.std.proofs.Common.{◌≡◌, ℕ, List, [], ◌∷◌, ◌++◌, refl, ap, sym, ◌∙◌, append-nil, append_assoc, eq-eqb, eqb-true}
+use Rattle.std.proofs.lemmas.Bool.{false_from_ne_true}
+use Rattle.std.proofs.lemmas.List.Elements.{filter_map-append}
+use Rattle.std.specs.Prelude.{Bool, true, false, ◌==◌, ◌||◌, if◌then◌else◌, filter_map, Option, Some, None}
+use Rattle.std.specs.List.{cons_option, list_any}
+use Rattle.commands.specs.declared.items.Item.{Item}
+use Rattle.commands.specs.declared.items.Item.TheVariants.{Transaction, Compensation, Turn, Save}
+use Rattle.ledger.specs.History.{net, last_of, is_compensation_of}
+use Rattle.ledger.proofs.Lists.{last_of-is, last_of-append}
+use Rattle.ledger_transitions.specs.JourneyChanges.{newer}
+use Rattle.saga_core.specs.RowSources.{Hands, HandsFirst}
+use Rattle.outlooks.specs.Outlooks.{latest_option, option_done}
+
+-- What stands.
+
+-- the option of a transaction that stands, if it is of this step
+abbrev picked : ℕ → ℕ × ℕ → Option ℕ
+picked i t = if i == t.0 then Some t.1 else None
+
+-- the options of the transactions of a step that stand, and of all of them
+abbrev that_stand : ℕ → List Item → List ℕ
+that_stand i h = filter_map (picked i) (net h)
+
+abbrev all_done : ℕ → List Item → List ℕ
+all_done i h = filter_map (option_done i) h
+
+-- the option of a transaction of step k, if it is sought
+abbrev if_same : Bool → ℕ → Option ℕ
+if_same same d = if same then Some d else None
+
+or_second : (b c : Bool) → (b || c) ≡ false → c ≡ false
+or_second true c e = cc
+or_second false c e = e
+
+-- without a compensation of the step, each of its transactions stands
+untouched : (i : ℕ) (h : List Item) → list_any (is_compensation_of i) h ≡ false → that_stand i h ≡ all_done i h
+untouched i [] e = refl
+untouched i (Transaction k d ∷ later) e = go (untouched i later e) (list_any (is_compensation_of k) later) refl
+  where
+    apart : list_any (is_compensation_of k) later ≡ true → (i == k) ≡ true → ⊥
+    apart gone same =
+        let bad : true ≡ false = sym gone ∙ ap (λ n. list_any (is_compensation_of n) later) (sym (eqb-true i k same)) ∙ e in
+        cc
+
+    go : that_stand i later ≡ all_done i later
+        → (gone : Bool) → list_any (is_compensation_of k) later ≡ gone
+        → filter_map (picked i) (if gone then net later else (k, d) ∷ net later)
+        ≡ cons_option (if_same (i == k) d) (all_done i later)
+    go rest false g = ap (cons_option (if_same (i == k) d)) rest
+    go rest true g =
+        rest
+        ∙ sym (ap (λ b. cons_option (if_same b d) (all_done i later)) (false_from_ne_true (i == k) (apart g)))
+untouched i (Compensation k d ∷ later) e = untouched i later (or_second (i == k) _ e)
+untouched i (Turn p cause ∷ later) e = untouched i later e
+untouched i (Save p ∷ later) e = untouched i later e
+
+-- a last element stays the last
+last_of-before : (d : ℕ) (xs : List ℕ) (c : ℕ) → last_of xs ≡ Some c → last_of (d ∷ xs) ≡ Some c
+last_of-before d [] c e = cc
+last_of-before d (x ∷ xs) c e = e
+
+-- the last option that stands was the last one that was done
+last_stands : (i : ℕ) (h : List Item) (c : ℕ) → last_of (that_stand i h) ≡ Some c → last_of (all_done i h) ≡ Some c
+last_stands i [] c e = cc
+last_stands i (Transaction k d ∷ later) c e =
+    go (λ f. last_stands i later c f) (list_any (is_compensation_of k) later) refl (i == k) refl e
+  where
+    with_same : (same : Bool) → (i == k) ≡ same
+        → last_of (cons_option (if_same (i == k) d) (that_stand i later)) ≡ Some c
+        → last_of (cons_option (if_same same d) (that_stand i later)) ≡ Some c
+    with_same same s f = ap (λ b. last_of (cons_option (if_same b d) (that_stand i later))) (sym s) ∙ f
+
+    go : (last_of (that_stand i later) ≡ Some c → last_of (all_done i later) ≡ Some c)
+        → (gone : Bool) → list_any (is_compensation_of k) later ≡ gone → (same : Bool) → (i == k) ≡ same
+        → last_of (filter_map (picked i) (if gone then net later else (k, d) ∷ net later)) ≡ Some c
+        → last_of (cons_option (if_same (i == k) d) (all_done i later)) ≡ Some c
+    go more true g true s f =
+        ap (λ b. last_of (cons_option (if_same b d) (all_done i later))) s
+        ∙ last_of-before d (all_done i later) c (more f)
+    go more true g false s f =
+        ap (λ b. last_of (cons_option (if_same b d) (all_done i later))) s ∙ more f
+    go more false g true s f =
+        let none : list_any (is_compensation_of i) later ≡ false =
+        ap (λ n. list_any (is_compensation_of n) later) (eqb-true i k s) ∙ g in
+        ap (λ b. last_of (cons_option (if_same b d) (all_done i later))) s
+        ∙ ap (λ xs. last_of (d ∷ xs)) (sym (untouched i later none)) ∙ with_same true s f
+    go more false g false s f =
+        ap (λ b. last_of (cons_option (if_same b d) (all_done i later))) s
+        ∙ more (with_same false s f)
+last_stands i (Compensation k d ∷ later) c e = last_stands i later c e
+last_stands i (Turn p cause ∷ later) c e = last_stands i later c e
+last_stands i (Save p ∷ later) c e = last_stands i later c e
+
+-- the last step that stands was done last with the option that it took
+pub latest-standing : (h : List Item) (i c : ℕ) → last_of (net h) ≡ Some (i, c) → latest_option i h ≡ Some c
+latest-standing h i c last =
+    let cut = last_of-is (net h) (i, c) last in
+    last_stands i h c
+    (ap (λ ts. last_of (filter_map (picked i) ts)) cut.1
+    ∙ ap last_of (filter_map-append (picked i) cut.0 ((i, c) ∷ []))
+    ∙ ap (λ b. last_of (filter_map (picked i) cut.0 ++ cons_option (if_same b c) [])) (eq-eqb i i refl)
+    ∙ last_of-append (filter_map (picked i) cut.0) c [])
+
+-- Reading the items.
+
+-- one more item: the option of a transaction of the step is newer than what was found before
+latest-more : (i : ℕ) (h : List Item) (x : Item)
+    → latest_option i (h ++ x ∷ []) ≡ newer (option_done i x) (latest_option i h)
+latest-more i h x = ap last_of (filter_map-append (option_done i) h (x ∷ [])) ∙ go (option_done i x)
+  where
+    go : (o : Option ℕ) → last_of (all_done i h ++ cons_option o []) ≡ newer o (latest_option i h)
+    go None = ap last_of (append-nil (all_done i h))
+    go (Some c) = last_of-append (all_done i h) c []
+
+-- these items were read, and the others remain
+pub record Read (i : ℕ) (rests : List Item → Type 0) (all : List Item) (latest : Option ℕ) : Type 0 where
+  pub passed : List Item
+  pub left : List Item
+  pub whole : all ≡ passed ++ left
+  pub remain : rests left
+  pub latest_is : latest ≡ latest_option i passed
+
+-- none was read
+pub reads_none : (i : ℕ) (rests : List Item → Type 0) (all : List Item) → rests all → Read i rests all None
+reads_none i rests all remain =
+    record { passed = []; left = all; whole = refl; remain = remain; latest_is = refl }
+
+module _ (i : ℕ) (rested rests : List Item → Type 0) (all : List Item) (latest : Option ℕ) where
+  -- one more was
+  pub reads_more : (x : Item) (o : Option ℕ) → Read i rested all latest → Hands rested rests (Some x)
+      → o ≡ newer (option_done i x) latest → Read i rests all o
+  reads_more x o at hands is = go at.left at.whole (hands at.left at.remain)
+    where
+      go : (left : List Item) → all ≡ at.passed ++ left → HandsFirst rests (Some x) left → Read i rests all o
+      go [] whole first = let bad : Some x ≡ None = first.0 in cc
+      go (row ∷ later) whole first =
+          let same : x ≡ row = cc in
+          record {
+            passed = at.passed ++ x ∷ [];
+            left = later;
+            whole =
+                whole ∙ ap (λ r. at.passed ++ r ∷ later) (sym same)
+                ∙ sym (append_assoc at.passed (x ∷ []) later);
+            remain = first.1;
+            latest_is = is ∙ ap (newer (option_done i x)) at.latest_is ∙ sym (latest-more i at.passed x);
+          }
+
+  -- there is no other
+  pub reads_all : Read i rested all latest → Hands rested rests None → (latest ≡ latest_option i all) × rests []
+  reads_all at hands = go at.left at.whole (hands at.left at.remain)
+    where
+      go : (left : List Item) → all ≡ at.passed ++ left → HandsFirst rests None left
+          → (latest ≡ latest_option i all) × rests []
+      go [] whole first =
+          (at.latest_is ∙ ap (latest_option i) (sym (whole ∙ append-nil at.passed)), first.1)
+      go (row ∷ later) whole first = let bad : None ≡ Some row = first.0 in cc

@@ -1,0 +1,4 @@
+pub mod ReadLemmas
+pub mod NightLemmas
+pub mod LatestLemmas
+pub mod OutlookLemmas

@@ -1,0 +1,4 @@
+pub mod Nights
+pub mod Outlooks
+pub mod Layouts
+pub mod Examples

@@ -1,0 +1,4 @@
+pub mod HandedCells
+pub mod HandedBriefs
+pub mod HeldRows
+pub mod HandedHolders

@@ -1,0 +1,35 @@
+-- The row that is returned is that of the first remaining holder.
+use Rattle.std.proofs.Common.{◌≡◌, map, subst}
+use Rattle.commands.specs.declared.replies.Fault.TheVariants.{Store}
+use Rattle.sqlite.specs.Held.{state}
+use Rattle.desk_sql.specs.RemainingRows.{Hands}
+use Rattle.sql_lists.specs.HolderLists.{HoldersRest}
+use Rattle.sql_model.proofs.Staying.{of_error, stays_up}
+use Rattle.report_rows.specs.HoldersLeft.{found_of}
+use Rattle.report_rows.proofs.HandedHolders.{holder_first, holder_none}
+use Rattle.report_rows.proofs.holder_rows.HolderRowsRowSourceHolder.next_row.Goals as goal
+
+pub returns-else-given-clause-next : goal.returns-else-given-clause-next
+returns-else-given-clause-next g c clean =
+    let before = HoldersRest g.S.Store c.args.self.now.rows.now.conn.now in
+    let after = HoldersRest g.S.Store c.next_holder.new.rows.conn.now in
+    holder_first before after c.in-Ok-Some.found c.holder_of-holder.result c.holder_of-holder.ensures.told
+    (subst (Hands before after) c.in-Ok-Some.field-0-is (c.in-Ok-Some.ensures.next clean)) c.args.self.now.progress.failed
+
+pub returns-in-Ok-None-clause-next : goal.returns-in-Ok-None-clause-next
+returns-in-Ok-None-clause-next g c clean =
+    let before = HoldersRest g.S.Store c.args.self.now.rows.now.conn.now in
+    let after = HoldersRest g.S.Store c.next_holder.new.rows.conn.now in
+    holder_none before after (subst (Hands before after) c.in-Ok-None.field-0-is (c.in-Ok-None.ensures.next clean)) c.args.self.now.progress.failed
+
+-- an error of the store has a reason
+pub returns-in-Err-clause-store : goal.returns-in-Err-clause-store
+returns-in-Err-clause-store g c clean going rests few up store =
+    let old = c.args.self.now.rows.now.conn.now in
+    let new = c.next_holder.new.rows.conn.now in
+    let reason = c.in-Err.ensures.reason clean (map found_of rests.0) rests.1 up in
+    let is : c.fault_of.result ≡ Store = cc in
+    of_error (state g.S.Store old) (state g.S.Store new) c.in-Err.error c.fault_of.result c.fault_of.ensures.memory reason is
+
+pub returns-in-Ok-None-clause-up : goal.returns-in-Ok-None-clause-up
+returns-in-Ok-None-clause-up g c = stays_up g.S.Store c.args.self.now.rows.now.conn.now c.next_holder.new.rows.conn.now c.next_holder.ensures.survives

@@ -1,0 +1,35 @@
+//! How far a source of rows has come.
+//!
+//! A source is written where it is used, as `CellRows { rows, progress: Progress::new() }`: the check follows a loan
+//! into a struct only there. What it counts stays private. A later source may go on with the progress of an earlier
+//! one, and then counts the rows of both.
+
+ghost use Rattle.std.specs.Prelude.{◌≡◌, false};
+
+/// How many rows a source has returned, and whether it failed.
+#[derive(Clone, Copy, Debug)]
+pub struct Progress {
+    pub(crate) given: u64,
+    // A row could not be read, or has a value out of range, and no row may be returned after it.
+    pub(crate) failed: bool,
+}
+
+impl Progress {
+    /// No row was returned yet.
+    pub fn new() -> Progress
+        ensures none { result.given ≡ 0 }
+        ensures going { result.failed ≡ false }
+    {
+        Progress {
+            given: 0,
+            failed: false,
+        }
+    }
+
+    /// How many rows were returned.
+    pub fn given(&self) -> u64
+        ensures given { result ≡ self.now.given }
+    {
+        self.given
+    }
+}

@@ -1,0 +1,68 @@
+//! The parts of a stock report, for one whose cells come from several sources: its heading, its lines, its ending.
+ghost use Rattle.std.specs.Prelude.{◌≡◌, ◌+◌, List, [], codes, length, IfOk, OnOk};
+ghost use Rattle.std.specs.List.{flat_map};
+ghost use Rattle.std.specs.Io.KnownBytes.{Appends};
+ghost use Rattle.allotment.specs.declared.cells.Cell.{Cell};
+ghost use Rattle.allotment.specs.declared.places.Held.{Held};
+ghost use Rattle.reports.specs.Formats.{last_line, stock_head as head_in, stock_row};
+ghost use Rattle.streams.specs.Written.{WroteFront};
+
+use crate::endings::Ending;
+use crate::faults::ReportFault;
+use crate::formats::Format;
+use crate::lines::stock_head;
+use crate::outputs::send_text;
+use crate::rows::send_rows;
+use allotment::{Cell, Held};
+use saga_core::RowSource;
+use std::alloc::Global;
+use std::io::Write;
+
+/// Writes what comes before the cells of a stock report.
+pub fn begin_stock<W: Write>(format: Format, out: &mut W) -> Result<(), ReportFault>
+    ensures sent { OnOk result (Appends (W.contents out.old) (W.contents out.new) (head_in format)) }
+
+    ensures front { WroteFront (W.contents out.old) (W.contents out.new) (head_in format) }
+{
+    send_text(out, stock_head(format))
+}
+
+/// Writes the lines of further cells of a stock report, and returns how many there were.
+pub fn stock_lines<R: RowSource<(Cell, Held)>, W: Write>(
+    alloc: Global,
+    format: Format,
+    rows: &mut R,
+    out: &mut W,
+) -> Result<u64, ReportFault>
+    ensures written { R.is_sound rows.new → (all : List (Cell × Held)) → R.rests rows.old all →
+        OnOk result (Appends (W.contents out.old) (W.contents out.new) (flat_map (stock_row format) all)) }
+    ensures number { R.is_sound rows.new → (all : List (Cell × Held)) → R.rests rows.old all →
+        IfOk result (λ count. count ≡ length all) }
+    ensures rest { R.is_sound rows.new → (all : List (Cell × Held)) → R.rests rows.old all →
+        OnOk result (R.rests rows.new []) }
+    ensures given { IfOk result (λ count. R.given rows.new ≡ count + R.given rows.old) }
+
+    ensures front { R.is_sound rows.new → (all : List (Cell × Held)) → R.rests rows.old all →
+        WroteFront (W.contents out.old) (W.contents out.new) (flat_map (stock_row format) all) }
+
+    ensures kept { R.becomes rows.old rows.new }
+    ensures sound { R.is_sound rows.new → R.is_sound rows.old }
+{
+    send_rows(alloc, &format, rows, out)
+}
+
+/// Writes what comes after the cells of a stock report, of which there were so many.
+pub fn end_stock<W: Write>(
+    alloc: Global,
+    format: Format,
+    count: u64,
+    out: &mut W,
+) -> Result<(), ReportFault>
+    ensures sent { OnOk result (Appends (W.contents out.old) (W.contents out.new)
+        (last_line format (codes "cells") count)) }
+
+    ensures front { WroteFront (W.contents out.old) (W.contents out.new) (last_line format (codes "cells") count) }
+{
+    let text = Ending::of_list(format, "cells").text(alloc, count)?;
+    send_text(out, text.as_str())
+}

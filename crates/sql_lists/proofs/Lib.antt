@@ -1,0 +1,10 @@
+pub mod ListMeanings
+pub mod HandedRows
+pub mod HandedReasons
+pub mod HandedCells
+pub mod HandedJourneys
+pub mod CellAnswers
+pub mod JourneyAnswers
+pub mod NextItems
+pub mod Handed
+pub mod HolderAnswers

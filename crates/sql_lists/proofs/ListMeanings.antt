@@ -1,0 +1,109 @@
+-- Each text means under the desk's schema what the definitions say, and takes its parameters. For the statements.
+use Rattle.std.proofs.Common.{ℕ, List, [], ◌∷◌, Bool, true, false, Option, None, Some, refl}
+use Rattle.std.specs.Prelude.{is_some}
+use Rattle.sqlite.specs.declared.types.Value.TheVariants.{Text}
+use Rattle.sqlite.specs.Listing.{understood}
+use Rattle.sqlite_tied.specs.Compute.{everything}
+use Rattle.desk_sql.specs.declared.versions.Version.{Version}
+use Rattle.desk_sql.specs.declared.versions.Version.TheVariants.{One, Two}
+use Rattle.desk_sql.specs.Meanings.{find_items_in, find_items_names, find_stock_names, find_stock_query, first_unfinished_query, journey_names}
+use Rattle.desk_sql.specs.Rows.{whole}
+use Rattle.desk_sql.proofs.Causing.{Takes}
+use Rattle.desk_sql.proofs.Meaning.{MeansEach, MeansIn}
+use Rattle.sql_lists.specs.CellLists.{cell_list_query, cell_list_text, cells_query, cells_text, stock_text}
+use Rattle.sql_lists.specs.ItemLists.{next_item_text}
+use Rattle.sql_lists.specs.JourneyLists.{journey_list_query, journey_list_text, journeys_query, journeys_text, unfinished_text}
+
+pub cells_means : (s p : Bool) → MeansEach (cells_text s p) (cells_query s p) find_stock_names
+unfolding understood everything
+cells_means false false One = record { is = refl; plain = (refl, refl); unlisted = refl; selects = refl }
+cells_means false false Two = record { is = refl; plain = (refl, refl); unlisted = refl; selects = refl }
+cells_means true false One = record { is = refl; plain = (refl, refl); unlisted = refl; selects = refl }
+cells_means true false Two = record { is = refl; plain = (refl, refl); unlisted = refl; selects = refl }
+cells_means false true One = record { is = refl; plain = (refl, refl); unlisted = refl; selects = refl }
+cells_means false true Two = record { is = refl; plain = (refl, refl); unlisted = refl; selects = refl }
+cells_means true true One = record { is = refl; plain = (refl, refl); unlisted = refl; selects = refl }
+cells_means true true Two = record { is = refl; plain = (refl, refl); unlisted = refl; selects = refl }
+
+pub stock_means : MeansEach stock_text find_stock_query find_stock_names
+unfolding understood everything
+stock_means One = record { is = refl; plain = (refl, refl); unlisted = refl; selects = refl }
+stock_means Two = record { is = refl; plain = (refl, refl); unlisted = refl; selects = refl }
+
+pub stock_takes : (v : Version) → Takes v stock_text find_stock_query []
+unfolding understood everything
+stock_takes One = record { whole = refl; typed = refl }
+stock_takes Two = record { whole = refl; typed = refl }
+
+pub cell_list_means : (s : Option (Bool × Bool)) → MeansEach (cell_list_text s) (cell_list_query s) find_stock_names
+cell_list_means None = stock_means
+cell_list_means (Some asked) = cells_means asked.0 asked.1
+
+module _ (kind first last : ℕ) where
+  pub any_takes : (v : Version) → Takes v (cells_text false false) (cells_query false false) (whole kind ∷ whole first ∷ whole last ∷ [])
+  unfolding understood everything
+  any_takes One = record { whole = refl; typed = refl }
+  any_takes Two = record { whole = refl; typed = refl }
+
+  pub supplier_takes : (supplier : List ℕ) (v : Version)
+      → Takes v (cells_text true false) (cells_query true false) (whole kind ∷ Text supplier ∷ whole first ∷ whole last ∷ [])
+  unfolding understood everything
+  supplier_takes supplier One = record { whole = refl; typed = refl }
+  supplier_takes supplier Two = record { whole = refl; typed = refl }
+
+  pub product_takes : (product : List ℕ) (v : Version)
+      → Takes v (cells_text false true) (cells_query false true) (whole kind ∷ Text product ∷ whole first ∷ whole last ∷ [])
+  unfolding understood everything
+  product_takes product One = record { whole = refl; typed = refl }
+  product_takes product Two = record { whole = refl; typed = refl }
+
+  pub both_take : (supplier product : List ℕ) (v : Version)
+      → Takes v (cells_text true true) (cells_query true true)
+      (whole kind ∷ Text supplier ∷ Text product ∷ whole first ∷ whole last ∷ [])
+  unfolding understood everything
+  both_take supplier product One = record { whole = refl; typed = refl }
+  both_take supplier product Two = record { whole = refl; typed = refl }
+
+pub journeys_means : (agent : Bool) → MeansEach (journeys_text agent) (journeys_query agent) journey_names
+unfolding understood everything
+journeys_means false One = record { is = refl; plain = (refl, refl); unlisted = refl; selects = refl }
+journeys_means false Two = record { is = refl; plain = (refl, refl); unlisted = refl; selects = refl }
+journeys_means true One = record { is = refl; plain = (refl, refl); unlisted = refl; selects = refl }
+journeys_means true Two = record { is = refl; plain = (refl, refl); unlisted = refl; selects = refl }
+
+pub unfinished_means : MeansEach unfinished_text first_unfinished_query journey_names
+unfolding understood everything
+unfinished_means One = record { is = refl; plain = (refl, refl); unlisted = refl; selects = refl }
+unfinished_means Two = record { is = refl; plain = (refl, refl); unlisted = refl; selects = refl }
+
+pub unfinished_takes : (v : Version) (after : ℕ) → Takes v unfinished_text first_unfinished_query (whole after ∷ [])
+unfolding understood everything
+unfinished_takes One after = record { whole = refl; typed = refl }
+unfinished_takes Two after = record { whole = refl; typed = refl }
+
+pub journey_list_means : (s : Option Bool) → MeansEach (journey_list_text s) (journey_list_query s) journey_names
+journey_list_means None = unfinished_means
+journey_list_means (Some agent) = journeys_means agent
+
+module _ (least most : ℕ) where
+  pub all_take : (v : Version) → Takes v (journeys_text false) (journeys_query false) (whole least ∷ whole most ∷ [])
+  unfolding understood everything
+  all_take One = record { whole = refl; typed = refl }
+  all_take Two = record { whole = refl; typed = refl }
+
+  pub agent_takes : (agent : List ℕ) (v : Version)
+      → Takes v (journeys_text true) (journeys_query true) (Text agent ∷ whole least ∷ whole most ∷ [])
+  unfolding understood everything
+  agent_takes agent One = record { whole = refl; typed = refl }
+  agent_takes agent Two = record { whole = refl; typed = refl }
+
+pub next_item_means : (v : Version) → MeansIn v (next_item_text v) (find_items_in v) find_items_names
+unfolding understood everything
+next_item_means One = record { is = refl; plain = (refl, refl); unlisted = refl; selects = refl }
+next_item_means Two = record { is = refl; plain = (refl, refl); unlisted = refl; selects = refl }
+
+pub next_item_takes : (v : Version) (journey after : ℕ)
+    → Takes v (next_item_text v) (find_items_in v) (whole journey ∷ whole after ∷ [])
+unfolding understood everything
+next_item_takes One journey after = record { whole = refl; typed = refl }
+next_item_takes Two journey after = record { whole = refl; typed = refl }

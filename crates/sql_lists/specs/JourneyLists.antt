@@ -1,0 +1,93 @@
+-- The statements that return journeys: which rows they return, their texts, and what these mean.
+use Rattle.std.specs.Prelude.{ℕ, pos, ◌&&◌, Bool, true, false, List, [], ◌∷◌, ◌++◌, codes, filter, map, nat_le, Option, None, Some, is_some}
+use Rattle.filters.specs.CellFilters.{is_name_asked}
+use Rattle.filters.specs.declared.journeys.JourneyFilter.{JourneyFilter}
+use Rattle.filters.specs.declared.journeys.JourneyState.{JourneyState}
+use Rattle.filters.specs.declared.journeys.JourneyState.TheVariants.{Run, Back, Ended, Undone}
+use Rattle.filters.specs.declared.journeys.Phases.{Phases}
+use Rattle.filters.specs.declared.journeys.Phases.TheVariants.{All, Unfinished, Only}
+use Rattle.sqlite.specs.Order.{Row}
+use Rattle.sqlite.specs.Store.{Ghosts}
+use Rattle.sqlite.specs.Held.{Held}
+use Rattle.sqlite.specs.Query.{Query}
+use Rattle.sqlite.specs.Term.{Term, col, op2}
+use Rattle.sqlite_sql.specs.declared.ops.BinaryOp.TheVariants.{Compare}
+use Rattle.sqlite_sql.specs.declared.ops.CompareOp.TheVariants.{Ge, Le}
+use Rattle.sqlite_value.specs.declared.keys.Collation.TheVariants.{Binary}
+use Rattle.desk_sql.specs.Lists.{IsListed}
+use Rattle.desk_sql.specs.Meanings.{first_unfinished_query, is_equal, journey_project, rising, sorted_rows}
+use Rattle.desk_sql.specs.RemainingRows.{IsByNumber, Rests, journey_shown}
+use Rattle.desk_sql.specs.Rows.{whole, JourneyRow, Tables}
+use Rattle.sql_lists.specs.CellLists.{named}
+
+-- the number of a state in the tables
+abbrev pub state_number : JourneyState → ℕ
+state_number Run = 0
+state_number Back = 1
+state_number Ended = 2
+state_number Undone = 3
+
+-- the least and the greatest number of the phases
+abbrev pub least_phase : Phases → ℕ
+least_phase All = 0
+least_phase Unfinished = 0
+least_phase (Only state) = state_number state
+
+abbrev pub most_phase : Phases → ℕ
+most_phase All = 3
+most_phase Unfinished = 1
+most_phase (Only state) = state_number state
+
+-- the row is of the agent, if one is named, and of one of the phases
+abbrev pub is_journey_listed : JourneyFilter → JourneyRow → Bool
+is_journey_listed f j =
+    is_name_asked f.agent j.agent
+    && (nat_le (least_phase f.phases) j.cursor.phase && nat_le j.cursor.phase (most_phase f.phases))
+
+-- those journeys, in order
+abbrev pub ListsJourneys : JourneyFilter → Tables → List JourneyRow → Type 0
+ListsJourneys f t listed = IsListed IsByNumber (filter (is_journey_listed f) t.journey) listed
+
+-- the texts, by whether an agent is named
+abbrev pub journeys_text : Bool → List ℕ
+journeys_text false = codes "SELECT id, num, agent, steps, tries, pos, phase, target, used FROM journey WHERE phase BETWEEN ?1 AND ?2 ORDER BY id"
+journeys_text true = codes "SELECT id, num, agent, steps, tries, pos, phase, target, used FROM journey WHERE agent = ?1 AND phase BETWEEN ?2 AND ?3 ORDER BY id"
+
+-- the phase is not below one parameter, and not above another
+abbrev pub is_phase_between : ℕ → ℕ → List Term
+is_phase_between least most =
+    op2 (Compare Ge Binary) (col 1 7) (col 0 least) ∷ op2 (Compare Le Binary) (col 1 7) (col 0 most) ∷ []
+
+-- the tests of the texts
+abbrev pub journey_tests : Bool → List Term
+journey_tests false = is_phase_between 0 1
+journey_tests true = is_equal (col 1 3) (col 0 0) ∷ is_phase_between 1 2
+
+-- what the texts mean
+abbrev pub journeys_query : Bool → Query
+journeys_query agent = sorted_rows 6 (journey_tests agent) journey_project ((col 1 0, rising) ∷ [])
+
+-- the parameters of a statement
+abbrev pub journeys_params : JourneyFilter → Row
+journeys_params f = named f.agent ++ (whole (least_phase f.phases) ∷ whole (most_phase f.phases) ∷ [])
+
+-- the text of the statement of the unfinished journeys above a number
+abbrev pub unfinished_text : List ℕ
+unfinished_text = codes "SELECT id, num, agent, steps, tries, pos, phase, target, used FROM journey WHERE id > ?1 AND phase <= 1 ORDER BY id"
+
+-- the text of any statement, its tests, and what it means: None is that of the unfinished journeys above a number
+abbrev pub journey_list_text : Option Bool → List ℕ
+journey_list_text None = unfinished_text
+journey_list_text (Some agent) = journeys_text agent
+
+abbrev pub journey_list_tests : Option Bool → List Term
+journey_list_tests None = first_unfinished_query.filter
+journey_list_tests (Some agent) = journey_tests agent
+
+abbrev pub journey_list_query : Option Bool → Query
+journey_list_query statement = sorted_rows 6 (journey_list_tests statement) journey_project ((col 1 0, rising) ∷ [])
+
+-- these journeys remain of one of the statements
+abbrev pub JourneysRest : {S : Type 0} → Ghosts S → Held S → List JourneyRow → Type 0
+JourneysRest g h later =
+    (statement : Option Bool) × Rests g (journey_list_text statement) (journey_list_query statement) h (map journey_shown later)

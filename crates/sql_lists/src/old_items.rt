@@ -1,0 +1,42 @@
+//! The items of a journey in tables of version 1, each read after the event of the item before.
+//!
+//! The store reads no further than the item that is found.
+
+ghost use Rattle.std.specs.Prelude.{◌≡◌, ◌<◌, ◌^◌, false};
+ghost use Rattle.desk_sql.specs.Calls.{ReadsIn, ChangesNothing, LeavesNoMore};
+ghost use Rattle.desk_sql.specs.FoundRows.{FindsNextItem};
+ghost use Rattle.desk_sql.specs.Causes.{FailsForReasonIn};
+ghost use Rattle.desk_sql.specs.Readable.{Any};
+
+use desk_sql::{ItemFound, Version, first_row, read_item};
+use sqlite::types::ValueRef;
+use sqlite::{Alter, Connection, Error};
+
+/// Returns the first item of a journey whose event has a number above `after`, if there is one.
+pub fn next_old_item<S: Alter>(
+    conn: &mut Connection<S>,
+    journey: u64,
+    after: u64,
+) -> Result<Option<ItemFound>, Error>
+    requires journey { journey < 2 ^ 63 }
+    requires after { after < 2 ^ 63 }
+
+    ensures found { ReadsIn S.Store conn.old conn.new Version.One result
+        (FindsNextItem journey after) }
+    ensures quiet { ChangesNothing S.Store conn.old conn.new }
+    ensures reason { FailsForReasonIn S.Store conn.old conn.new Version.One result Any }
+    ensures mode { conn.old.in_transaction ≡ false → conn.new.in_transaction ≡ false }
+    ensures survives { LeavesNoMore S.Store conn.old conn.new }
+{
+    match first_row(
+        conn,
+        "SELECT num, item, a, b FROM entry WHERE journey = ?1 AND num > ?2 ORDER BY num",
+        &[ValueRef::Int(journey as i64), ValueRef::Int(after as i64)],
+    )? {
+        Some(row) => {
+            let item = read_item(&row)?;
+            Ok(Some(item))
+        }
+        None => Ok(None),
+    }
+}

@@ -1,0 +1,288 @@
+-- The writes of a load: one more cell, and the places of the nights of a range. For `insert_cell` and `set_nights`.
+use Rattle.std.proofs.Common.{◌≡◌, ◌+◌, ℕ, ℤ, suc, List, [], ◌∷◌, ◌++◌, filter, length, map, drop, cond, slice_get, unwrap_or, inl, inr, Some, None, Ok, Err, Result, OnOk, IfOk, Bool, true, false, refl, sym, ap, subst, ◌∙◌, arith}
+use Rattle.std.specs.Prelude.{not}
+use Rattle.std.specs.List.{AllByRecursion, list_any}
+use Rattle.std.proofs.lemmas.Bool.{false_from_ne_true}
+use Rattle.std.proofs.lemmas.List.{length-map}
+use Rattle.std.proofs.lemmas.List.Sorted.{length_permutation}
+use Rattle.sqlite.specs.declared.types.Value.TheVariants.{Null, Text}
+use Rattle.sqlite.specs.declared.error.Error.{Error}
+use Rattle.sqlite.specs.Order.{Row}
+use Rattle.sqlite.specs.Tree.{Trees, put_row}
+use Rattle.sqlite.specs.Program.{overlay}
+use Rattle.sqlite.specs.Query.{Query, IsAnswer}
+use Rattle.sqlite.specs.Table.{Table}
+use Rattle.sqlite.specs.Cast.{cast_row}
+use Rattle.sqlite.specs.Command.{Command}
+use Rattle.sqlite.specs.Command.TheVariants.{Update}
+use Rattle.sqlite.specs.Does.{Tally, Does, OnRows}
+use Rattle.sqlite.specs.Effect.{Database}
+use Rattle.sqlite.specs.Rows.{Written}
+use Rattle.sqlite.specs.Edit.{edit_of, edited, next_rowid}
+use Rattle.sqlite.specs.Rowids.TheVariants.{Given}
+use Rattle.sqlite.specs.Listing.{understood}
+use Rattle.sqlite.specs.State.{State, mode_of, Executes, ExecutesInside}
+use Rattle.sqlite.proofs.Callers.{IsPlain, command_of, statement_of, runs_as}
+use Rattle.sqlite_rules.specs.Calls.{ids_of}
+use Rattle.sqlite_rules.specs.Edit.{without_all}
+use Rattle.sqlite_rules.proofs.PlaceLemmas.{given}
+use Rattle.sqlite_rules.proofs.ListLemmas.{all_has, all_from, some_from}
+use Rattle.sqlite_schema.specs.Rules.{agree}
+use Rattle.sqlite_typing.specs.Types.{accepts_terms, accepts_program}
+use Rattle.sqlite_tied.specs.Compute.{everything}
+use Rattle.desk_sql.specs.Schema.{stock_at, desk_schema}
+use Rattle.desk_sql.specs.Lists.{numbered_row, IsTableOf, changed}
+use Rattle.desk_sql.specs.Rows.{whole, Tables, StockRow, stock_columns}
+use Rattle.desk_sql.specs.Calls.{IsReady, MayRun, Makes}
+use Rattle.desk_sql.specs.Causes.{IsUp, HasReason}
+use Rattle.desk_sql.specs.Stock.{is_cell, is_within}
+use Rattle.sql_loads.specs.Loads.{insert_cell_text, set_nights_text, insert_cell_terms, set_nights_query}
+use Rattle.sql_loads.specs.Loads.{with_both, adds_cell, sets_nights, nights_in, MayAddCell, MaySetNights}
+use Rattle.desk_sql.specs.Writable.{AreLow, HasRowids, IsShort}
+use Rattle.desk_sql.specs.Meanings.{update}
+use Rattle.desk_sql.specs.declared.stock.NightRange.{NightRange}
+use Rattle.desk_sql.proofs.Meaning.{Means, insert}
+use Rattle.desk_sql.proofs.Causing.{takes}
+use Rattle.desk_sql.proofs.Writing.{went, same_value, task_for, inserts, updates, source_edit, cast_null}
+use Rattle.desk_sql.proofs.Inserting.{cast_int}
+use Rattle.desk_sql.proofs.Reading.{passes, shown_of, lists, lists_any}
+use Rattle.desk_sql.proofs.Testing.{eq_whole, eq_text, ge_whole, le_whole, and_true}
+use Rattle.desk_sql.proofs.Framing.{ready_of, makes_at, with_stock}
+use Rattle.desk_sql.proofs.Tables.{id_of, value_of, appended}
+use Rattle.desk_sql.proofs.Updating.{updated, table_updated}
+use Rattle.desk_sql.proofs.Putting.{put_params}
+use Rattle.desk_sql.proofs.Upserting.{target}
+use Rattle.desk_sql.proofs.Refusing.{write_reason, insert_goes, update_goes, IsSafe}
+use Rattle.desk_sql.proofs.InsertReasons.{obeys_desk}
+use Rattle.desk_sql.proofs.UpdateReasons.{stock_fit, kept_kind, stock_serves, twin_four, value_there, low_fits}
+use Rattle.desk_sql.proofs.NewRow.{put_edit, put_safe}
+use Rattle.desk_sql.proofs.ChangedRows.{update_safe}
+use Rattle.desk_sql.proofs.Storing.{range_holds, next_fits, chosen_free, table_of, rows_all}
+use Rattle.desk_sql.proofs.Rowids.{low_put, low_changed, rowids_fewer, rowids_kept}
+use Rattle.sqlite_value.proofs.KeyLemmas.{first_key-plain}
+
+insert_cell_means : Means insert_cell_text (insert 1 insert_cell_terms 7)
+unfolding understood everything
+insert_cell_means = record { is = refl; plain = (refl, refl) }
+
+set_nights_means : Means set_nights_text (update 1 set_nights_query)
+unfolding understood everything
+set_nights_means = record { is = refl; plain = (refl, refl) }
+
+-- One more cell.
+
+abbrev cell_row : Trees → StockRow → Row
+cell_row db s = numbered_row stock_columns (next_rowid (db 1), s)
+
+cell_put : (db : Trees) (s : StockRow)
+    → edited db (source_edit (stock_at 1) insert_cell_terms 7 (put_params s) db) ≡ put_row (cell_row db s) (db 1)
+cell_put db s = simp (cast_int, cast_null)
+
+-- the cell is appended, since its rowid is the next
+pub inserts_cell : (old new : State) (t : Tables) (s : StockRow) (r : Result ℕ Error) → MayRun old t
+    → ExecutesInside 0 insert_cell_text (put_params s) old new r → OnOk r (Makes old new (adds_cell s t))
+inserts_cell old new t s (Err e) may ran = tt
+inserts_cell old new t s (Ok count) may ran =
+    let here = ran.1.was_open in
+    let db = old.now.trees in
+    let shown = (may.sees here).rows in
+    makes_at old new (source_edit (stock_at 1) insert_cell_terms 7 (put_params s) db)
+    (inserts insert_cell_text (put_params s) old new 1 (stock_at 1) insert_cell_terms 7 count insert_cell_means.is
+    insert_cell_means.plain refl refl refl refl (ready_of old t may here) ran.0)
+    1 _ (adds_cell s t) refl (cell_put db s)
+    (with_stock db t shown _ (t.stock ++ s ∷ []) (appended stock_columns (db 1) t.stock s shown.stock))
+
+pub cell_added_rowids : (old new : State) (t : Tables) (s : StockRow) (r : Result ℕ Error) → MayRun old t
+    → ExecutesInside 0 insert_cell_text (put_params s) old new r → (n : ℕ) → HasRowids (suc n) old.now.trees → OnOk r (HasRowids n new.now.trees)
+cell_added_rowids old new t s (Err e) may ran n has = tt
+cell_added_rowids old new t s (Ok count) may ran n has =
+    let db = old.now.trees in
+    rowids_kept old new (source_edit (stock_at 1) insert_cell_terms 7 (put_params s) db)
+    (inserts insert_cell_text (put_params s) old new 1 (stock_at 1) insert_cell_terms 7 count insert_cell_means.is
+    insert_cell_means.plain refl refl refl refl (ready_of old t may ran.1.was_open) ran.0) n (rowids_fewer n (suc n) db (omega arith) has)
+    (subst (AreLow n) (sym (cell_put db s)) (low_put n (db 1) (cell_row db s) refl has.few has.stock))
+
+cell_takes : (s : StockRow) → takes (length insert_cell_text) (length (put_params s)) (understood desk_schema insert_cell_text) ≡ true
+unfolding understood everything
+cell_takes s = refl
+
+cell_typed : (s : StockRow) → accepts_terms insert_cell_terms (put_params s) ≡ true
+unfolding everything
+cell_typed s = refl
+
+cell_edit : (db : Trees) (s : StockRow) → source_edit (stock_at 1) insert_cell_terms 7 (put_params s) db ≡ put_edit (stock_at 1) (cell_row db s)
+cell_edit db s = simp (cast_int, cast_null)
+
+-- no row is of the cell
+each_other : (s : StockRow) (cells : List StockRow) → list_any (is_cell s) cells ≡ false → AllByRecursion (λ x. is_cell s x ≡ false) cells
+each_other s cells none = all_from (λ x. is_cell s x ≡ false) cells (λ x there.
+    false_from_ne_true (is_cell s x) (λ same. let some = some_from (is_cell s) cells x there same in cc))
+
+-- rows agree on the columns of the key where they are of one cell
+agree_new : (id : ℤ) (s : StockRow) (p : ℤ × StockRow)
+    → agree (record { digits = 0 }) target (numbered_row stock_columns p) target (numbered_row stock_columns (id, s)) ≡ is_cell s p.1
+agree_new id s p = rw first_key-plain (simp (eq_whole, eq_text) (simp and_true))
+
+-- no rule of the tables refuses it
+pub insert_cell_reason : (old new : State) (t : Tables) (s : StockRow) (e : Error) → HasRowids 1 old.now.trees → MayRun old t → MayAddCell s t
+    → IsUp old → ExecutesInside 0 insert_cell_text (put_params s) old new (Err e) → HasReason old new e
+insert_cell_reason old new t s e rowids may fits up =
+    let sees = may.sees up.is_open in
+    let db = old.now.trees in
+    let shown = sees.rows.stock in
+    let safe : IsSafe db (put_edit (stock_at 1) (cell_row db s)) =
+    put_safe db (stock_at 1) (cell_row db s) (inr (inl refl))
+    (table_of stock_columns (db 1) t.stock shown) (obeys_desk old t sees)
+    (stock_fit db (next_rowid (db 1)) s (next_fits (db 1) rowids.stock) (ap not (range_holds s.kind 0 3 (omega arith) fits.kind)) fits.free fits.short)
+    (chosen_free stock_columns (db 1) t.stock s shown) (
+      rows_all stock_columns (db 1) t.stock _ (λ x. is_cell s x ≡ false) shown
+          (λ p apart. agree_new (next_rowid (db 1)) s p ∙ apart) (each_other s t.stock fits.lacks),
+      tt,
+    ) refl tt in
+    write_reason insert_cell_text (insert 1 insert_cell_terms 7) (put_params s) insert_cell_means (cell_takes s) refl refl old new up sees.schema
+    (insert_goes old (put_params s) 1 (stock_at 1) insert_cell_terms 7 refl refl refl (cell_typed s) up.unlimited
+    (subst (IsSafe db) (sym (cell_edit db s)) safe)) e
+
+-- The places of a range of nights.
+
+-- an UPDATE of a table counts the rows that its query shows
+module _ (old : State) (params : Row) (at : ℕ) (table : Table) (q : Query) where
+  abbrev command : Command
+  command = Update at (record { lets = []; body = q })
+
+  on_table : (tally : Tally) (after : Database) → OnRows (task_for old table params) (mode_of old) None command old.now.trees (Ok (tally, after))
+      → (rows : List Row) × IsAnswer q (overlay old.now.trees []) params rows × (unwrap_or tally.rows 0 ≡ length rows)
+  on_table tally after h =
+      let all = went h in
+      let told = went (went all.2).2 in
+      let found = went all.1 in
+      let written = went found.2 in
+      let write : Row → Row = λ r. cast_row table (drop 1 r) in
+      let tallied : tally.rows ≡ Some (length all.0.rows) = ap (λ (p : Tally × Database). p.0.rows) (same_value told.2) in
+      let news : all.0.rows ≡ (edit_of old.now.trees table (ids_of found.0) Given 1 found.0).news = ap (λ (it : Written). it.rows) (same_value written.2) in (
+        found.0,
+        found.1.answer Null,
+        ap (λ n. unwrap_or n 0) (tallied ∙ ap (λ rs. Some (length rs)) news)
+            ∙ ap length (given (without_all (old.now.trees table.tree) (ids_of found.0)) (map write found.0)) ∙ length-map found.0 write,
+      )
+
+  updates_many : (sql : List ℕ) (new : State) (count : ℕ) → command_of (understood desk_schema sql) ≡ command → IsPlain (understood desk_schema sql)
+      → slice_get desk_schema.tables at ≡ Some table → IsReady old → Executes sql params old new (Ok count)
+      → (rows : List Row) × IsAnswer q (overlay old.now.trees []) params rows × (count ≡ length rows)
+  updates_many sql new count is plain there ready h =
+      let w = runs_as sql params old new desk_schema ready.schema command is plain count h in
+      let text = statement_of sql (understood desk_schema sql) in
+      let all : Does old.step_limit (mode_of old) params (record { schema = desk_schema; trees = old.now.trees }) text None command (Ok (w.tally, new.now))
+      = subst (λ s. Does old.step_limit (mode_of old) params (record old.now { schema = s }) text None command (Ok (w.tally, new.now))) ready.schema w.changed in
+      let it = on_table w.tally new.now (rw there at all) in
+      (it.0, it.1, w.counted ∙ it.2)
+
+abbrev pub set_params : NightRange → ℕ → ℕ → Row
+set_params r allot free =
+    whole r.kind ∷ Text r.supplier.now ∷ Text r.product.now ∷ whole allot ∷ whole free ∷ whole r.first ∷ whole r.last ∷ []
+
+set_test : (r : NightRange) (allot free : ℕ) (p : ℤ × StockRow)
+    → passes set_nights_query.filter (set_params r allot free) (numbered_row stock_columns p) ≡ is_within r p.1
+set_test r allot free p = simp (eq_whole, eq_text, ge_whole, le_whole) (simp and_true)
+
+module _ (old new : State) (t : Tables) (w : NightRange) (allot free : ℕ) where
+  abbrev params : Row
+  params = set_params w allot free
+
+  pub sets_places : (r : Result ℕ Error) → MayRun old t → ExecutesInside 0 set_nights_text params old new r
+      → OnOk r (Makes old new (sets_nights w allot free t))
+  sets_places (Err e) may ran = tt
+  sets_places (Ok n) may ran =
+      let here = ran.1.was_open in
+      let db = old.now.trees in
+      let shown = (may.sees here).rows in
+      let it = updates set_nights_text params old new 1 (stock_at 1) set_nights_query n set_nights_means.is set_nights_means.plain refl
+      (ready_of old t may here) ran.0 in
+      let edit = edit_of db (stock_at 1) (ids_of it.0) Given 1 it.0 in
+      makes_at old new edit it.2 1 (edited db edit) (sets_nights w allot free t) refl refl
+      (with_stock db t shown _ (changed (is_within w) (with_both allot free) t.stock)
+      (table_updated stock_columns db (stock_at 1) t.stock shown.stock refl set_nights_query.filter set_nights_query.project params it.0
+      (is_within w) (with_both allot free) (set_test w allot free) (λ _. refl) (λ p _ _. simp cast_int)
+      it.1 it.2.applies.fresh))
+
+  -- as many rows pass as nights of the range have one
+  passing : (ps : List (ℤ × StockRow))
+      → length (filter (passes set_nights_query.filter params) (map (numbered_row stock_columns) ps)) ≡ length (filter (is_within w) (map value_of ps))
+  passing [] = refl
+  passing (p ∷ ps) =
+      rw (set_test w allot free p) (one (numbered_row stock_columns p) (filter (passes set_nights_query.filter params) (map (numbered_row stock_columns) ps))
+      p.1 (filter (is_within w) (map value_of ps)) (passing ps) (is_within w p.1))
+    where
+      one : (r : Row) (rows : List Row) (cell : StockRow) (cells : List StockRow) → length rows ≡ length cells → (pass : Bool)
+          → length (cond pass (r ∷ rows) rows) ≡ length (cond pass (cell ∷ cells) cells)
+      one r rows cell cells same true = ap suc same
+      one r rows cell cells same false = same
+
+  rows_shown : (db : Trees) → IsTableOf stock_columns (db 1) t.stock → (rows : List Row)
+      → IsAnswer set_nights_query (overlay db []) params rows → length rows ≡ nights_in w t
+  rows_shown db shown rows answer =
+      let some = lists 1 set_nights_query.filter set_nights_query.project [] (overlay db []) params rows answer in
+      let found = filter (passes set_nights_query.filter params) (db 1) in
+      let all = lists_any set_nights_query params found rows some in
+      length_permutation (map (shown_of set_nights_query.project params) found) rows all
+      ∙ length-map found (shown_of set_nights_query.project params)
+      ∙ ap (λ rs. length (filter (passes set_nights_query.filter params) rs)) shown.rows_are
+      ∙ passing shown.numbered ∙ ap (λ cells. length (filter (is_within w) cells)) (sym shown.values_are)
+
+  -- each night that has a row is counted
+  pub counts_nights : (r : Result ℕ Error) → MayRun old t → ExecutesInside 0 set_nights_text params old new r
+      → IfOk r (λ n. n ≡ nights_in w t)
+  counts_nights (Err e) may ran = tt
+  counts_nights (Ok n) may ran =
+      let here = ran.1.was_open in
+      let db = old.now.trees in
+      let shown = (may.sees here).rows.stock in
+      let it = updates_many old params 1 (stock_at 1) set_nights_query set_nights_text new n set_nights_means.is set_nights_means.plain refl
+      (ready_of old t may here) ran.0 in
+      it.2 ∙ rows_shown db shown it.0 it.1
+
+  pub set_rowids : (r : Result ℕ Error) → MayRun old t → ExecutesInside 0 set_nights_text params old new r
+      → (n : ℕ) → HasRowids n old.now.trees → OnOk r (HasRowids n new.now.trees)
+  set_rowids (Err e) may ran n has = tt
+  set_rowids (Ok count) may ran n has =
+      let here = ran.1.was_open in
+      let db = old.now.trees in
+      let shown = (may.sees here).rows.stock in
+      let it = updates set_nights_text params old new 1 (stock_at 1) set_nights_query count set_nights_means.is set_nights_means.plain refl
+      (ready_of old t may here) ran.0 in
+      let edit = edit_of db (stock_at 1) (ids_of it.0) Given 1 it.0 in
+      let test : ℤ × StockRow → Bool = λ p. is_within w p.1 in
+      let moved : ℤ × StockRow → ℤ × StockRow = λ p. (p.0, with_both allot free p.1) in
+      let rows = updated (numbered_row stock_columns) id_of (λ _. refl) db (stock_at 1) shown.numbered shown.rise shown.rows_are refl
+      set_nights_query.filter set_nights_query.project params it.0 test moved (set_test w allot free) (λ _. refl) (λ _. refl)
+      (λ p _ _. simp cast_int) it.1 it.2.applies.fresh in
+      rowids_kept old new edit it.2 n has (subst (AreLow n) (sym rows)
+      (low_changed (numbered_row stock_columns) n test moved (λ _. refl) shown.numbered (subst (AreLow n) shown.rows_are has.stock)))
+
+  set_takes : takes (length set_nights_text) (length params) (understood desk_schema set_nights_text) ≡ true
+  unfolding understood everything
+  set_takes = refl
+
+  set_typed : accepts_program desk_schema [] set_nights_query params ≡ true
+  unfolding everything
+  set_typed = refl
+
+  -- no rule of the tables refuses them
+  pub set_reason : (e : Error) → HasRowids 0 old.now.trees → MayRun old t → MaySetNights w allot free t → IsUp old
+      → ExecutesInside 0 set_nights_text params old new (Err e) → HasReason old new e
+  set_reason e rowids may fits up =
+      let sees = may.sees up.is_open in
+      let db = old.now.trees in
+      let shown = sees.rows.stock in
+      let obeys = obeys_desk old t sees in
+      write_reason set_nights_text (update 1 set_nights_query) params set_nights_means set_takes refl refl old new up sees.schema
+      (update_goes old params (stock_at 1) 1 set_nights_query.filter set_nights_query.project up.unlimited set_typed 1 refl
+      (λ rows asked. update_safe (numbered_row stock_columns) id_of (λ _. refl) db (stock_at 1) shown.numbered shown.rise
+      shown.rows_are refl set_nights_query.filter set_nights_query.project params rows (λ p. is_within w p.1) (λ p. (p.0, with_both allot free p.1))
+      (set_test w allot free) (λ _. refl) (λ _. refl) (λ p _ _. simp cast_int) (inr (inl refl)) obeys
+      (λ p there is.
+      let at = value_there stock_columns (db 1) t.stock shown p there in
+      stock_fit db p.0 (with_both allot free p.1) (low_fits (db 1) (numbered_row stock_columns p) p.0 rowids.stock at.1 refl) (kept_kind db p.0 p.1 obeys at.1) fits.free_is
+      (all_has (λ (s : StockRow). is_within w s ≡ true → IsShort (length s.supplier + length s.product)) t.stock p.1 fits.short at.0 is))
+      (λ p. twin_four (stock_at 1) (numbered_row stock_columns p) (numbered_row stock_columns (p.0, with_both allot free p.1)) refl refl refl refl refl tt)
+      refl stock_serves asked)) e

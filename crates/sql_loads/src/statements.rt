@@ -1,0 +1,79 @@
+//! An UPDATE of the nights of a range, and an INSERT of a cell.
+ghost use Rattle.std.specs.Prelude.{◌≡◌, ◌<◌, ◌^◌, ⊤};
+ghost use Rattle.desk_sql.specs.Calls.{Writes, StaysInside, WasOpen, CommitsNothing, LeavesNoMore};
+ghost use Rattle.desk_sql.specs.Stock.{IsSmallRange, IsSmallCell, placed};
+ghost use Rattle.desk_sql.specs.Causes.{FailsToChange, FailsToAdd};
+ghost use Rattle.desk_sql.specs.Writable.{KeepsRowids, TakesRowid};
+ghost use Rattle.sql_loads.specs.Loads.{CountsRows, MayAddCell, MaySetNights, adds_cell, sets_nights, nights_in};
+
+use desk_sql::{CellPlaces, NightRange};
+use sqlite::types::ValueRef;
+use sqlite::{Alter, Error, Transaction};
+
+/// Sets the places of each night of a range that has a row, and returns how many have one.
+pub fn set_nights<S: Alter>(
+    tx: &mut Transaction<'_, S>,
+    range: NightRange<'_>,
+    allot: u64,
+    free: u64,
+) -> Result<usize, Error>
+    requires range { IsSmallRange range }
+    requires allot { allot < 2 ^ 63 }
+    requires free { free < 2 ^ 63 }
+
+    ensures same_reference { tx.new.conn.ghost_name ≡ tx.old.conn.ghost_name }
+    ensures made { Writes S.Store tx.old.conn.now tx.new.conn.now result
+        (sets_nights range.entry allot free) }
+    ensures count { CountsRows S.Store tx.old.conn.now tx.new.conn.now result (nights_in range.entry) }
+    ensures reason { FailsToChange S.Store tx.old.conn.now tx.new.conn.now result
+        (MaySetNights range.entry allot free) }
+    ensures rowids { KeepsRowids S.Store tx.old.conn.now tx.new.conn.now result (λ _. ⊤) }
+    ensures inside { StaysInside S.Store tx.old.conn.now tx.new.conn.now result }
+    ensures live { WasOpen S.Store tx.old.conn.now tx.new.conn.now result }
+    ensures commit { CommitsNothing S.Store tx.old.conn.now tx.new.conn.now }
+    ensures survives { LeavesNoMore S.Store tx.old.conn.now tx.new.conn.now }
+{
+    tx.execute(
+        "UPDATE stock SET allot = ?4, free = ?5 WHERE kind = ?1 AND supplier = ?2 AND product = ?3 AND night BETWEEN ?6 AND ?7",
+        &[
+            ValueRef::Int(range.kind as i64),
+            ValueRef::Text(range.supplier.as_bytes()),
+            ValueRef::Text(range.product.as_bytes()),
+            ValueRef::Int(allot as i64),
+            ValueRef::Int(free as i64),
+            ValueRef::Int(range.first as i64),
+            ValueRef::Int(range.last as i64),
+        ],
+    )
+}
+
+/// Adds the row of a cell that has none.
+pub fn insert_cell<S: Alter>(
+    tx: &mut Transaction<'_, S>,
+    cell: CellPlaces<'_>,
+) -> Result<usize, Error>
+    requires { IsSmallCell cell }
+
+    ensures same_reference { tx.new.conn.ghost_name ≡ tx.old.conn.ghost_name }
+    ensures made { Writes S.Store tx.old.conn.now tx.new.conn.now result
+        (adds_cell (placed cell.entry)) }
+    ensures reason { FailsToAdd S.Store tx.old.conn.now tx.new.conn.now result
+        (MayAddCell (placed cell.entry)) }
+    ensures rowids { TakesRowid S.Store tx.old.conn.now tx.new.conn.now result (λ _. ⊤) }
+    ensures inside { StaysInside S.Store tx.old.conn.now tx.new.conn.now result }
+    ensures live { WasOpen S.Store tx.old.conn.now tx.new.conn.now result }
+    ensures commit { CommitsNothing S.Store tx.old.conn.now tx.new.conn.now }
+    ensures survives { LeavesNoMore S.Store tx.old.conn.now tx.new.conn.now }
+{
+    tx.execute(
+        "INSERT INTO stock VALUES (?1, ?2, ?3, ?4, ?5, ?6)",
+        &[
+            ValueRef::Int(cell.kind as i64),
+            ValueRef::Text(cell.supplier.as_bytes()),
+            ValueRef::Text(cell.product.as_bytes()),
+            ValueRef::Int(cell.night as i64),
+            ValueRef::Int(cell.allot as i64),
+            ValueRef::Int(cell.free as i64),
+        ],
+    )
+}

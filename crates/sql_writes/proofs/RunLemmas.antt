@@ -1,0 +1,195 @@
+-- Cells of a run, and their rows once they got their places. For the functions of `runs`.
+use Rattle.std.proofs.Common.{◌≡◌, ℕ, zero, suc, ◌+◌, ◌-◌, ◌<◌, List, [], ◌∷◌, ◌++◌, map, length, take, get_or, slice_get, Option, Some, None, Bool, true, false, if◌then◌else◌, refl, sym, ap, ap₂, subst, ◌∙◌, arith, length-append}
+use Rattle.std.specs.List.{AllByRecursion}
+use Rattle.std.proofs.lemmas.List.{length-take-le}
+use Rattle.allotment.specs.declared.cells.Cell.{Cell}
+use Rattle.allotment.specs.declared.places.Held.{Held}
+use Rattle.desk_sql.specs.Rows.{Tables, StockRow}
+use Rattle.desk_sql.specs.Stock.{put, with_places}
+use Rattle.desk_sql.specs.Writable.{IsShort}
+use Rattle.desk_sql.specs.Lists.{changed}
+use Rattle.sql_model.specs.Reading.{stock_row_of}
+use Rattle.sql_transitions.proofs.Changing.{once-changed}
+use Rattle.sql_transitions.proofs.Puts.{cells_apart}
+use Rattle.sql_writes.specs.Loads.{MayLoad, put_each, puts_each}
+use Rattle.sql_writes.specs.Permits.{HaveShortCells}
+use Rattle.sql_writes.specs.Runs.{next_night, nights_later, nights_from, IsLater, IsRun, HasShortTexts, is_until, sets_until, known_until, put_rows, AreNew, adds_each}
+use Rattle.sql_writes.proofs.LoadLemmas.{take-more}
+use Rattle.sql_writes.proofs.RunRows.{nights-more}
+use Rattle.sql_writes.proofs.RunPuts.{put_new, run_some, run_known, run_new}
+
+-- Lists of cells.
+
+pub put_each_rows : (cells : List (Cell × Held)) (rows : List StockRow) → put_each cells rows ≡ put_rows (map stock_row_of cells) rows
+put_each_rows [] rows = refl
+put_each_rows (c ∷ cells) rows = put_each_rows cells (put (stock_row_of c) rows)
+
+pub put_each-append : (xs ys : List (Cell × Held)) (rows : List StockRow) → put_each (xs ++ ys) rows ≡ put_each ys (put_each xs rows)
+put_each-append [] ys rows = refl
+put_each-append (x ∷ xs) ys rows = put_each-append xs ys (put (stock_row_of x) rows)
+
+map-append : (xs ys : List (Cell × Held)) → map stock_row_of (xs ++ ys) ≡ map stock_row_of xs ++ map stock_row_of ys
+map-append [] ys = refl
+map-append (x ∷ xs) ys = ap (λ rows. stock_row_of x ∷ rows) (map-append xs ys)
+
+pub adds-more : (xs : List (Cell × Held)) (x : Cell × Held) (t : Tables)
+    → record t { stock = (t.stock ++ map stock_row_of xs) ++ stock_row_of x ∷ [] } ≡ adds_each (xs ++ x ∷ []) t
+adds-more xs x t = ap (λ rows. record t { stock = rows }) (regroup t.stock ∙ ap (λ rows. t.stock ++ rows) (sym (map-append xs (x ∷ []))))
+  where
+    regroup : (rows : List StockRow) → (rows ++ map stock_row_of xs) ++ stock_row_of x ∷ [] ≡ rows ++ (map stock_row_of xs ++ stock_row_of x ∷ [])
+    regroup [] = refl
+    regroup (r ∷ rows) = ap (λ more. r ∷ more) (regroup rows)
+
+-- Runs.
+
+-- the row of a cell that is so many nights later
+later_row : (first next : Cell × Held) (n : ℕ) → IsLater first n next → stock_row_of next ≡ nights_later n (stock_row_of first)
+later_row first next n it = rw (it.kind, it.supplier, it.product, it.night, it.allot, it.free) refl
+
+-- a run with one more night
+pub run-more : (cells : List (Cell × Held)) (n : ℕ) (first next : Cell × Held) → IsLater first n next → 0 < n → n < length cells → first ≡ get_or cells 0 first → next ≡ get_or cells n next
+    → IsRun (take n cells) → IsRun (take (n + 1) cells)
+run-more [] n first next is some within is_first is_next run = absurd (omega (arith, within))
+run-more (c ∷ cells) zero first next is some within is_first is_next run = absurd (omega (arith, some))
+run-more (c ∷ cells) (suc n) first next is some within is_first is_next run =
+    subst IsRun (sym (take-more (c ∷ cells) (suc n) next within is_next)) longer
+  where
+    size : length (c ∷ take n cells) ≡ suc n
+    size = ap suc (length-take-le n cells (omega (arith, within)))
+
+    long : length (c ∷ (take n cells ++ next ∷ [])) ≡ suc n + 1
+    long = let one = length-append (take n cells) (next ∷ []) in omega (arith, one, size)
+
+    longer : map stock_row_of (c ∷ (take n cells ++ next ∷ [])) ≡ nights_from (stock_row_of c) (length (c ∷ (take n cells ++ next ∷ [])))
+    longer =
+        map-append (c ∷ take n cells) (next ∷ [])
+        ∙ ap₂ ◌++◌ (run ∙ ap (nights_from (stock_row_of c)) size) (ap (λ r. r ∷ []) (later_row first next (suc n) is ∙ ap (λ x. nights_later (suc n) (stock_row_of x)) is_first))
+        ∙ sym (nights-more (stock_row_of c) (suc n))
+        ∙ ap (nights_from (stock_row_of c)) (sym long)
+
+-- the night of the last cell
+last_night : (cells : List (Cell × Held)) (s : StockRow) (d : Cell × Held) → map stock_row_of cells ≡ nights_from (next_night s) (length cells)
+    → (c : Cell × Held) → c.0.night ≡ s.night → slice_get (c ∷ cells) (length cells) ≡ Some d → d.0.night ≡ s.night + length cells
+last_night [] s d run c here is = let one : Some c ≡ Some d = is in let same : c ≡ d = cc in let night = ap (λ (x : Cell × Held). x.0.night) same in omega (arith, night, here)
+last_night (x ∷ cells) s d run c here is =
+    let both : stock_row_of x ∷ map stock_row_of cells ≡ next_night s ∷ nights_from (next_night (next_night s)) (length cells) = run in
+    let first : stock_row_of x ≡ next_night s = cc in
+    let rest : map stock_row_of cells ≡ nights_from (next_night (next_night s)) (length cells) = cc in
+    let at : x.0.night ≡ s.night + 1 = ap (λ (r : StockRow). r.night) first in
+    let far = last_night cells (next_night s) d rest x at is in
+    omega (arith, far)
+
+-- the texts of each cell of a run are those of the first
+short_from : (n : ℕ) (s : StockRow) (cells : List (Cell × Held)) → IsShort (length s.supplier + length s.product)
+    → map stock_row_of cells ≡ nights_from s n → AllByRecursion HasShortTexts cells
+short_from zero s [] short run = tt
+short_from zero s (x ∷ cells) short run = absurd (cc)
+short_from (suc n) s [] short run = absurd (cc)
+short_from (suc n) s (x ∷ cells) short run =
+    let both : stock_row_of x ∷ map stock_row_of cells ≡ s ∷ nights_from (next_night s) n = run in
+    let first : stock_row_of x ≡ s = cc in
+    let rest : map stock_row_of cells ≡ nights_from (next_night s) n = cc in (
+      subst (λ (r : StockRow). IsShort (length r.supplier + length r.product)) (sym first) short,
+      short_from n (next_night s) cells short rest,
+    )
+
+pub short_run : (run : List (Cell × Held)) (first : Cell × Held) → slice_get run 0 ≡ Some first → IsRun run → HasShortTexts first
+    → AllByRecursion HasShortTexts run
+short_run [] first is run short = tt
+short_run (c ∷ cells) first is run short =
+    let one : Some c ≡ Some first = is in
+    let same : c ≡ first = cc in
+    short_from (length (c ∷ cells)) (stock_row_of c) (c ∷ cells) (subst HasShortTexts (sym same) short) run
+
+-- A run whose cells were given the places in the rows that there are.
+module _ (run : List (Cell × Held)) (first last : Cell × Held) (is_first : slice_get run 0 ≡ Some first)
+    (is_last : slice_get run (length run - 1) ≡ Some last) (is_run : IsRun run) (t : Tables) (apart : MayLoad t) where
+  abbrev pub given : Tables
+  given = sets_until (stock_row_of first) last.0.night t
+
+  record Shape : Type 0 where
+    pub n : ℕ
+    pub size : length run ≡ suc n
+    pub rows : map stock_row_of run ≡ nights_from (stock_row_of first) (suc n)
+    pub night : last.0.night ≡ (stock_row_of first).night + n
+
+  shape : Shape
+  shape = go run refl
+    where
+      go : (cells : List (Cell × Held)) → run ≡ cells → Shape
+      go [] is = absurd (let none : ◌≡◌ {A = Option (Cell × Held)} None (Some first) = subst (λ xs. slice_get xs 0 ≡ Some first) is is_first in cc)
+      go (c ∷ cells) is =
+          let one : Some c ≡ Some first = subst (λ xs. slice_get xs 0 ≡ Some first) is is_first in
+          let same : c ≡ first = cc in
+          let all : map stock_row_of (c ∷ cells) ≡ nights_from (stock_row_of c) (suc (length cells)) = subst IsRun is is_run in
+          let both : stock_row_of c ∷ map stock_row_of cells ≡ stock_row_of c ∷ nights_from (next_night (stock_row_of c)) (length cells) = all in
+          let rest : map stock_row_of cells ≡ nights_from (next_night (stock_row_of c)) (length cells) = cc in
+          let before : length (c ∷ cells) - 1 ≡ length cells = omega arith in
+          let end : slice_get (c ∷ cells) (length cells) ≡ Some last =
+          subst (λ n. slice_get (c ∷ cells) n ≡ Some last) before (subst (λ xs. slice_get xs (length xs - 1) ≡ Some last) is is_last) in
+          let night : last.0.night ≡ (stock_row_of c).night + length cells = last_night cells (stock_row_of c) last rest c refl end in
+          record {
+            n = length cells;
+            size = ap length is;
+            rows = ap (map stock_row_of) is ∙ all ∙ ap (λ (x : Cell × Held). nights_from (stock_row_of x) (suc (length cells))) same;
+            night = night ∙ ap (λ (x : Cell × Held). (stock_row_of x).night + length cells) same;
+          }
+
+  abbrev s : StockRow
+  s = stock_row_of first
+
+  at_last : (P : ℕ → Type 0) → P (s.night + shape.n) → P last.0.night
+  at_last P it = subst P (sym shape.night) it
+
+  back_last : (P : ℕ → Type 0) → P last.0.night → P (s.night + shape.n)
+  back_last P it = subst P shape.night it
+
+  each : (cells : List StockRow) → put_each run cells ≡ put_rows (nights_from s (suc shape.n)) cells
+  each cells = put_each_rows run cells ∙ ap (λ rows. put_rows rows cells) shape.rows
+
+  -- each cell has a row: all have their places
+  pub all_known : known_until s last.0.night t ≡ length run → given ≡ puts_each run t
+  all_known full =
+      at_last (λ night. sets_until s night t ≡ puts_each run t)
+      (ap (λ rows. record t { stock = rows })
+      (run_known s shape.n t.stock (cells_apart t apart) (back_last (λ night. known_until s night t ≡ length run) full ∙ shape.size)
+      ∙ sym (each t.stock)))
+
+  -- none has a row: each is new
+  pub none_known : known_until s last.0.night t ≡ 0 → AreNew (map stock_row_of run) given.stock
+  none_known none =
+      subst (λ rows. AreNew rows given.stock) (sym shape.rows)
+      (at_last (λ night. AreNew (nights_from s (suc shape.n)) (sets_until s night t).stock)
+      (run_new s shape.n t.stock (cells_apart t apart) (back_last (λ night. known_until s night t ≡ 0) none)))
+
+  -- cells that are put now have the places that they would have without
+  pub put_given : puts_each run given ≡ puts_each run t
+  put_given =
+      at_last (λ night. puts_each run (sets_until s night t) ≡ puts_each run t)
+      (ap (λ rows. record t { stock = rows })
+      (each (sets_until s (s.night + shape.n) t).stock ∙ run_some s shape.n t.stock (cells_apart t apart) ∙ sym (each t.stock)))
+
+  -- and so have cells that are added
+  pub added_given : known_until s last.0.night t ≡ 0 → adds_each run given ≡ puts_each run t
+  added_given none =
+      ap (λ rows. record t { stock = rows })
+      (sym (put_new (map stock_row_of run) given.stock (none_known none)) ∙ sym (put_each_rows run given.stock))
+      ∙ put_given
+
+  -- the rows are apart, and their texts fit, as before
+  pub apart_given : MayLoad given
+  apart_given = once-changed (is_until s last.0.night) (with_places s) (λ q r. refl) (λ q r. refl) t.stock apart
+
+  pub short_given : HaveShortCells t → HaveShortCells given
+  short_given short = go t.stock short
+    where
+      Short : StockRow → Type 0
+      Short x = IsShort (length x.supplier + length x.product)
+
+      one : (b : Bool) (x : StockRow) → Short x → Short (if b then with_places s x else x)
+      one true x fits = fits
+      one false x fits = fits
+
+      go : (cells : List StockRow) → AllByRecursion Short cells → AllByRecursion Short (changed (is_until s last.0.night) (with_places s) cells)
+      go [] all = tt
+      go (x ∷ cells) all = (one (is_until s last.0.night x) x all.0, go cells all.1)

@@ -1,0 +1,96 @@
+-- Runs of cells: consecutive nights of one product that get the same places.
+use Rattle.std.specs.Prelude.{◌≡◌, ◌+◌, ◌==◌, ◌&&◌, ℕ, ⊤, zero, suc, Bool, false, List, [], ◌∷◌, ◌++◌, map, filter, length, bytes_eq, nat_le, IsTrue}
+use Rattle.std.specs.List.{AllByRecursion, list_any}
+use Rattle.sqlite.specs.Store.{Ghosts}
+use Rattle.sqlite.specs.Held.{Held as Connection, state}
+use Rattle.sqlite.specs.State.{HasCleanDisk, KeepsCommit, Survives}
+use Rattle.allotment.specs.Cells.{kind_number}
+use Rattle.allotment.specs.declared.cells.Cell.{Cell}
+use Rattle.allotment.specs.declared.places.Held.{Held}
+use Rattle.desk_sql.specs.Calls.{MayRun, Makes}
+use Rattle.desk_sql.specs.Lists.{changed}
+use Rattle.desk_sql.specs.Rows.{Tables, StockRow}
+use Rattle.desk_sql.specs.Stock.{is_cell, with_places, put}
+use Rattle.desk_sql.specs.Writable.{HasRowids, IsShort}
+use Rattle.sql_model.specs.Reading.{stock_row_of}
+use Rattle.sql_writes.specs.Loads.{HasPut}
+
+-- the row of the same product so many nights later, with the same places
+abbrev pub nights_later : ℕ → StockRow → StockRow
+nights_later n s = record s { night = s.night + n }
+
+-- the next night
+abbrev pub next_night : StockRow → StockRow
+next_night s = record s { night = s.night + 1 }
+
+-- the cell is of the same product, so many nights later, and gets the same places
+pub record IsLater (first : Cell × Held) (n : ℕ) (next : Cell × Held) : Type 0 where
+  pub kind : kind_number next.0.kind ≡ kind_number first.0.kind
+  pub supplier : next.0.supplier ≡ first.0.supplier
+  pub product : next.0.product ≡ first.0.product
+  pub night : next.0.night ≡ first.0.night + n
+  pub allot : next.1.allot ≡ first.1.allot
+  pub free : next.1.free ≡ first.1.free
+
+-- so many consecutive nights, of which the row's is the first, with its places
+abbrev pub nights_from : StockRow → ℕ → List StockRow
+nights_from s zero = []
+nights_from s (suc more) = s ∷ nights_from (next_night s) more
+
+-- the cells are consecutive nights of one product, and get the same places
+abbrev pub IsRun : List (Cell × Held) → Type 0
+IsRun [] = ⊤
+IsRun (c ∷ cells) = map stock_row_of (c ∷ cells) ≡ nights_from (stock_row_of c) (length (c ∷ cells))
+
+-- a night of the row's product, from the row's to the last one
+abbrev pub is_until : StockRow → ℕ → StockRow → Bool
+is_until s last x =
+    (x.kind == s.kind) && (bytes_eq x.supplier s.supplier && (bytes_eq x.product s.product
+    && (nat_le s.night x.night && nat_le x.night last)))
+
+-- each of these nights that has a row gets the row's places
+abbrev pub sets_until : StockRow → ℕ → Tables → Tables
+sets_until s last t = record t { stock = changed (is_until s last) (with_places s) t.stock }
+
+-- how many of these nights have a row
+abbrev pub known_until : StockRow → ℕ → Tables → ℕ
+known_until s last t = length (filter (is_until s last) t.stock)
+
+-- rows get their places, in order, each in its own row or in a new one
+abbrev pub put_rows : List StockRow → List StockRow → List StockRow
+put_rows [] cells = cells
+put_rows (s ∷ rows) cells = put_rows rows (put s cells)
+
+-- none of the rows has a row when its turn comes
+abbrev pub AreNew : List StockRow → List StockRow → Type 0
+AreNew [] cells = ⊤
+AreNew (s ∷ rows) cells = (list_any (is_cell s) cells ≡ false) × AreNew rows (cells ++ s ∷ [])
+
+-- the rows of these cells, appended
+abbrev pub adds_each : List (Cell × Held) → Tables → Tables
+adds_each cells t = record t { stock = t.stock ++ map stock_row_of cells }
+
+-- the texts of the cell fit
+abbrev pub HasShortTexts : Cell × Held → Type 0
+HasShortTexts c = IsShort (length c.0.supplier + length c.0.product)
+
+-- the rows of these cells are added so far, in one open transaction, and nothing is committed
+module _ {S : Type 0} (g : Ghosts S) (old new : Connection S) where
+  pub record HasAdded (cells : List (Cell × Held)) : Type 0 where
+    pub survives : Survives (state g old) (state g new) (λ _. ⊥)
+    pub commit : HasCleanDisk (state g new) → IsTrue (state g old).in_transaction
+        → KeepsCommit (state g old) (state g new)
+    pub inside : HasCleanDisk (state g new) → IsTrue (state g old).in_transaction
+        → IsTrue (state g new).in_transaction
+    pub made : HasCleanDisk (state g new) → (t : Tables) → MayRun (state g old) t
+        → IsTrue (state g old).is_open → Makes (state g old) (state g new) (adds_each cells t)
+    pub rowids : HasCleanDisk (state g new) → (t : Tables) → MayRun (state g old) t
+        → IsTrue (state g old).is_open → (n : ℕ)
+        → HasRowids (length cells + n) (state g old).now.trees → HasRowids n (state g new).now.trees
+
+  -- the cells got their places up to these, which are left, and the texts of the cells that did fit
+  pub record HasPutTo (cells left : List (Cell × Held)) : Type 0 where
+    pub done : List (Cell × Held)
+    pub is : cells ≡ done ++ left
+    pub short : AllByRecursion HasShortTexts done
+    pub put : HasPut g old new done

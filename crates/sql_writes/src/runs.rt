@@ -1,0 +1,212 @@
+//! The places of the cells of a batch, written run by run.
+//!
+//! One UPDATE gives a run its places, and says how many of its cells have a row: most often all, or none. Cells that
+//! have none are inserted without a look for their rows. That takes half of what it takes to put each cell by itself.
+//!
+//! Words: a *run* is consecutive nights of one product that get the same places.
+ghost use Rattle.std.specs.Prelude.{◌≡◌, ◌<◌, ◌≤◌, ◌-◌, length, map, take, slice_get, Some, true, ⊤};
+ghost use Rattle.std.specs.List.{AllByRecursion};
+ghost use Rattle.desk_sql.specs.Calls.{StaysInside, CommitsNothing, LeavesNoMore};
+ghost use Rattle.sql_loads.specs.Loads.{CountsRows, LacksCell, adds_cell};
+ghost use Rattle.sql_model.specs.Reading.{stock_row_of};
+ghost use Rattle.sql_writes.specs.Begins.{WritesOn};
+ghost use Rattle.sql_writes.specs.Loads.{MayLoad, WritesCells};
+ghost use Rattle.sql_writes.specs.Permits.{HaveShortCells, MayPutAll};
+ghost use Rattle.sql_writes.specs.Reasons.{FailsOn, TakesRowids};
+ghost use Rattle.sql_writes.specs.Runs.{HasShortTexts, IsLater, IsRun, sets_until, known_until, AreNew, adds_each};
+ghost use Rattle.sql_writes.specs.Writing.{WritesRows};
+
+use crate::loads::put_all;
+use allotment::{Cell, Held, Night};
+use desk_sql::{CellPlaces, NightRange};
+use sql_loads::{insert_cell, set_nights};
+use sqlite::{Alter, Error, Transaction};
+
+/// Whether a cell is so many nights after the first one, of the same product, and gets the same places.
+fn is_later(first: &(Cell, Held), nights: usize, next: &(Cell, Held)) -> bool
+    ensures later { result ≡ true → IsLater first.now nights next.now }
+{
+    let (cell, held) = *first;
+    let (other, places) = *next;
+    let from = cell.night().day();
+    let day = other.night().day();
+    other.kind().number() == cell.kind().number()
+        && other.supplier().as_str() == cell.supplier().as_str()
+        && other.product().as_str() == cell.product().as_str()
+        && from <= day
+        && (day - from) as usize == nights
+        && places.allot == held.allot
+        && places.free == held.free
+}
+
+/// How many of the first cells are a run: at least one, if there is a cell.
+fn run_length(cells: &[(Cell, Held)]) -> usize
+    ensures within { result ≤ length cells.now }
+    ensures some { 0 < length cells.now → 0 < result }
+    ensures run { IsRun (take result cells.now) }
+{
+    let Some(first) = cells.first() else {
+        return 0;
+    };
+    for nights in 1..cells.len() {
+        if !is_later(first, nights, &cells[nights]) {
+            return nights;
+        }
+    }
+    cells.len()
+}
+
+/// Gives the nights of a product their places, from this cell to the last night, where they have a row. Returns how
+/// many have one.
+fn set_places<S: Alter>(
+    tx: &mut Transaction<'_, S>,
+    first: &(Cell, Held),
+    last: Night,
+) -> Result<usize, Error>
+    ensures same_reference { tx.new.conn.ghost_name ≡ tx.old.conn.ghost_name }
+    ensures made { WritesRows S.Store tx.old.conn.now tx.new.conn.now (λ _. ⊤) result
+        (sets_until (stock_row_of first.now) last) }
+    ensures known { CountsRows S.Store tx.old.conn.now tx.new.conn.now result
+        (known_until (stock_row_of first.now) last) }
+    ensures short { HasShortTexts first.now }
+    ensures reason { FailsOn S.Store tx.old.conn.now tx.new.conn.now result 0 HaveShortCells }
+    ensures rowids { TakesRowids S.Store tx.old.conn.now tx.new.conn.now result 0 (λ _. ⊤) }
+    ensures inside { StaysInside S.Store tx.old.conn.now tx.new.conn.now result }
+    ensures commit { CommitsNothing S.Store tx.old.conn.now tx.new.conn.now }
+    ensures survives { LeavesNoMore S.Store tx.old.conn.now tx.new.conn.now }
+{
+    let (cell, held) = *first;
+    let supplier = cell.supplier();
+    let product = cell.product();
+    let range = NightRange {
+        kind: u64::from(cell.kind().number()),
+        supplier: supplier.as_str(),
+        product: product.as_str(),
+        first: u64::from(cell.night().day()),
+        last: u64::from(last.day()),
+    };
+    set_nights(tx, range, u64::from(held.allot), u64::from(held.free))
+}
+
+/// Adds the row of a cell that has none.
+fn add_places<S: Alter>(tx: &mut Transaction<'_, S>, cell: Cell, held: Held) -> Result<(), Error>
+    ensures same_reference { tx.new.conn.ghost_name ≡ tx.old.conn.ghost_name }
+    ensures made { WritesRows S.Store tx.old.conn.now tx.new.conn.now (λ _. ⊤) result
+        (adds_cell (stock_row_of (cell, held))) }
+    ensures reason { FailsOn S.Store tx.old.conn.now tx.new.conn.now result
+        1 (LacksCell (stock_row_of (cell, held))) }
+    ensures rowids { TakesRowids S.Store tx.old.conn.now tx.new.conn.now result 1 (λ _. ⊤) }
+    ensures inside { StaysInside S.Store tx.old.conn.now tx.new.conn.now result }
+    ensures commit { CommitsNothing S.Store tx.old.conn.now tx.new.conn.now }
+    ensures survives { LeavesNoMore S.Store tx.old.conn.now tx.new.conn.now }
+{
+    let supplier = cell.supplier();
+    let product = cell.product();
+    let places = CellPlaces {
+        kind: u64::from(cell.kind().number()),
+        supplier: supplier.as_str(),
+        product: product.as_str(),
+        night: u64::from(cell.night().day()),
+        allot: u64::from(held.allot),
+        free: u64::from(held.free),
+    };
+    insert_cell(tx, places)?;
+    Ok(())
+}
+
+/// Adds the rows of cells that have none, in order.
+fn add_all<S: Alter>(tx: &mut Transaction<'_, S>, cells: &[(Cell, Held)]) -> Result<(), Error>
+    ensures same_reference { tx.new.conn.ghost_name ≡ tx.old.conn.ghost_name }
+    ensures made { WritesOn S.Store tx.old.conn.now tx.new.conn.now result (adds_each cells.now) }
+    ensures reason { FailsOn S.Store tx.old.conn.now tx.new.conn.now result
+        (length cells.now) (λ t. AreNew (map stock_row_of cells.now) t.stock) }
+    ensures rowids { TakesRowids S.Store tx.old.conn.now tx.new.conn.now result
+        (length cells.now) (λ _. ⊤) }
+    ensures inside { StaysInside S.Store tx.old.conn.now tx.new.conn.now result }
+    ensures commit { CommitsNothing S.Store tx.old.conn.now tx.new.conn.now }
+    ensures survives { LeavesNoMore S.Store tx.old.conn.now tx.new.conn.now }
+{
+    for (cell, held) in cells {
+        add_places(tx, *cell, *held)?;
+    }
+    Ok(())
+}
+
+/// Writes the places of the cells of a run, from its first to its last.
+fn put_between<S: Alter>(
+    tx: &mut Transaction<'_, S>,
+    run: &[(Cell, Held)],
+    first: &(Cell, Held),
+    last: &(Cell, Held),
+) -> Result<(), Error>
+    requires run { IsRun run.now }
+    requires first { slice_get run.now 0 ≡ Some first.now }
+    requires last { slice_get run.now (length run.now - 1) ≡ Some last.now }
+
+    ensures same_reference { tx.new.conn.ghost_name ≡ tx.old.conn.ghost_name }
+    ensures made { WritesCells S.Store tx.old.conn.now tx.new.conn.now result run.now }
+    ensures short { AllByRecursion HasShortTexts run.now }
+    ensures reason { FailsOn S.Store tx.old.conn.now tx.new.conn.now result
+        (length run.now) MayPutAll }
+    ensures rowids { TakesRowids S.Store tx.old.conn.now tx.new.conn.now result
+        (length run.now) MayLoad }
+    ensures inside { StaysInside S.Store tx.old.conn.now tx.new.conn.now result }
+    ensures commit { CommitsNothing S.Store tx.old.conn.now tx.new.conn.now }
+    ensures survives { LeavesNoMore S.Store tx.old.conn.now tx.new.conn.now }
+{
+    let known = set_places(tx, first, last.0.night())?;
+    let are_known = known == run.len();
+    let are_new = known == 0;
+    if are_known {
+        Ok(())
+    } else if are_new {
+        add_all(tx, run)
+    } else {
+        put_all(tx, run)
+    }
+}
+
+/// Writes the places of the cells of a run.
+fn put_run<S: Alter>(tx: &mut Transaction<'_, S>, run: &[(Cell, Held)]) -> Result<(), Error>
+    requires run { IsRun run.now }
+
+    ensures same_reference { tx.new.conn.ghost_name ≡ tx.old.conn.ghost_name }
+    ensures made { WritesCells S.Store tx.old.conn.now tx.new.conn.now result run.now }
+    ensures short { AllByRecursion HasShortTexts run.now }
+    ensures reason { FailsOn S.Store tx.old.conn.now tx.new.conn.now result
+        (length run.now) MayPutAll }
+    ensures rowids { TakesRowids S.Store tx.old.conn.now tx.new.conn.now result
+        (length run.now) MayLoad }
+    ensures inside { StaysInside S.Store tx.old.conn.now tx.new.conn.now result }
+    ensures commit { CommitsNothing S.Store tx.old.conn.now tx.new.conn.now }
+    ensures survives { LeavesNoMore S.Store tx.old.conn.now tx.new.conn.now }
+{
+    match (run.first(), run.last()) {
+        (Some(first), Some(last)) => put_between(tx, run, first, last),
+        _ => Ok(()),
+    }
+}
+
+/// Writes the places of the cells of a batch, run by run.
+pub(crate) fn put_runs<S: Alter>(
+    tx: &mut Transaction<'_, S>,
+    cells: &[(Cell, Held)],
+) -> Result<(), Error>
+    ensures same_reference { tx.new.conn.ghost_name ≡ tx.old.conn.ghost_name }
+    ensures made { WritesCells S.Store tx.old.conn.now tx.new.conn.now result cells.now }
+    ensures reason { FailsOn S.Store tx.old.conn.now tx.new.conn.now result
+        (length cells.now) MayPutAll }
+    ensures rowids { TakesRowids S.Store tx.old.conn.now tx.new.conn.now result
+        (length cells.now) MayLoad }
+    ensures inside { StaysInside S.Store tx.old.conn.now tx.new.conn.now result }
+    ensures commit { CommitsNothing S.Store tx.old.conn.now tx.new.conn.now }
+    ensures survives { LeavesNoMore S.Store tx.old.conn.now tx.new.conn.now }
+{
+    let mut rest = cells;
+    while !rest.is_empty() {
+        let (run, later) = rest.split_at(run_length(rest));
+        put_run(tx, run)?;
+        rest = later;
+    }
+    Ok(())
+}
