@@ -15,7 +15,7 @@
 cc -O1 -shared -fPIC -o refuse.so "$tests/refuse.c" || exit 1
 
 # a test that does one thing again at each byte, and how many of its allocations are refused
-at_each_byte='anywhere|cut|a_failed_read_leaves_the_lines|a_failed_write_leaves_a_beginning_of_the_answers'
+at_each_byte='anywhere|cut|a_writer_that_fails_has_a_prefix|a_failed_read_leaves_the_lines|a_failed_write_leaves_a_beginning_of_the_answers'
 few=10
 today=$(($(date +%s) / 86400))
 

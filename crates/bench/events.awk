@@ -49,6 +49,8 @@ function prepare_all() {
   prepare("find batch", "SELECT num, content FROM batch WHERE name = ?1")
   prepare("batch", "INSERT INTO batch VALUES (?1, ?2, ?3)")
   prepare("cell", "INSERT INTO stock VALUES (?1, ?2, ?3, ?4, ?5, ?6)")
+  prepare("week", "INSERT INTO stock VALUES (?1, ?2, ?3, ?6, ?4, ?5), (?1, ?2, ?3, ?7, ?4, ?5), (?1, ?2, ?3, ?8, ?4, ?5), " \
+    "(?1, ?2, ?3, ?9, ?4, ?5), (?1, ?2, ?3, ?10, ?4, ?5), (?1, ?2, ?3, ?11, ?4, ?5), (?1, ?2, ?3, ?12, ?4, ?5)")
   prepare("run", "UPDATE stock SET allot = ?4, free = ?5 WHERE kind = ?1 AND supplier = ?2 AND product = ?3 " \
     "AND night BETWEEN ?6 AND ?7")
 }
@@ -126,8 +128,8 @@ function give(id, key) {
 }
 
 # a batch of so many rows, whose cells are known by their texts and by their values: the nights of each product are a run, of
-# which 64 are read at once, and all cells are new in the first batch, and none in a later one
-function load_batch(  at, together) {
+# which 64 are read at once, and all cells are new in the first batch, where 7 are added at once, and none in a later one
+function load_batch(  at, together, night, week) {
   read_first("")
   run("query", "find batch", text_of(load))
   for (at = 1; at <= rows; at += together) {
@@ -139,7 +141,14 @@ function load_batch(  at, together) {
   for (at = 1; at <= rows; at++) {
     if (cells[at] != cells[at - 1])
       run("execute", "run", cells[at] int_of(places[at]) int_of(places[at]) int_of(days[at]) int_of(days[at] + 249))
-    if (!before) run("execute", "cell", cells[at] int_of(days[at]) int_of(places[at]) int_of(places[at]))
+    if (before) continue
+    night = days[at] - first
+    if (night >= 245) run("execute", "cell", cells[at] int_of(days[at]) int_of(places[at]) int_of(places[at]))
+    else if (night % 7 == 0) {
+      week = ""
+      for (together = 0; together < 7; together++) week = week int_of(days[at + together])
+      run("execute", "week", cells[at] int_of(places[at]) int_of(places[at]) week)
+    }
   }
   end_event("", "", "")
 }

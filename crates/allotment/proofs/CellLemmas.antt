@@ -6,7 +6,7 @@ use Rattle.std.specs.Result.{result_ok}
 use Rattle.allotment.specs.Limits.{is_code, is_good_cell}
 use Rattle.allotment.specs.Nights.{night_in}
 use Rattle.allotment.specs.Texts.{parts, slash, keep_if, cell_from, cell_of_parts, cell_in}
-use Rattle.allotment.specs.declared.kinds.Kind.{Kind}
+use Rattle.allotment.specs.declared.codes.Kind.{Kind}
 use Rattle.allotment.specs.declared.cells.Cell.{Cell}
 use Rattle.allotment.specs.declared.wants.Bad.{Bad}
 use Rattle.allotment.proofs.TestLemmas.{and_both, and_make, fails_too, keep_if_no, keep_if_none, keep_if_some, keep_if_yes}

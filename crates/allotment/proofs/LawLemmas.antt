@@ -8,8 +8,8 @@ use Rattle.allotment.specs.Cells.{kind_number}
 use Rattle.allotment.specs.Limits.{is_code, is_good_cell, is_night}
 use Rattle.allotment.specs.Nights.{night_in, night_text}
 use Rattle.allotment.specs.Texts.{parts, joined, slash, kinds, kind_letter, kind_word, kind_of_letter, kind_of_number, kind_of_word, cell_from, cell_of_parts, cell_in, cell_text}
-use Rattle.allotment.specs.declared.kinds.Kind.{Kind}
-use Rattle.allotment.specs.declared.kinds.Kind.TheVariants.{Flight, Room, Transfer, Cover}
+use Rattle.allotment.specs.declared.codes.Kind.{Kind}
+use Rattle.allotment.specs.declared.codes.Kind.TheVariants.{Flight, Room, Transfer, Cover}
 use Rattle.allotment.specs.declared.cells.Cell.{Cell}
 use Rattle.allotment.proofs.TestLemmas.{and_both, and_make, keep_if_some, keep_if_yes, same_bytes}
 use Rattle.allotment.proofs.NightLemmas.{night_in-night_text, night_text-night_in}

@@ -6,7 +6,7 @@ use Rattle.allotment.specs.Making.{unless, first_fault, want_of_parts, want_from
 use Rattle.allotment.specs.Nights.{night_in}
 use Rattle.allotment.specs.Texts.{keep_if}
 use Rattle.allotment.specs.Want.{Wanted}
-use Rattle.allotment.specs.declared.kinds.Kind.{Kind}
+use Rattle.allotment.specs.declared.codes.Kind.{Kind}
 use Rattle.allotment.specs.declared.wants.Bad.{Bad}
 use Rattle.allotment.specs.declared.wants.Bad.TheVariants as bad
 use Rattle.allotment.proofs.TestLemmas.{and_make, keep_if_some}

@@ -9,8 +9,8 @@ use Rattle.allotment.specs.Limits.{is_code, is_good_cell, is_night, is_want, are
 use Rattle.allotment.specs.Nights.{night_in, night_text}
 use Rattle.allotment.specs.Rows.{Allotted, allotted, is_row}
 use Rattle.allotment.specs.Texts.{parts, joined, slash, kind_letter, kind_of_letter, cell_of_parts, row_text, want_text}
-use Rattle.allotment.specs.declared.kinds.Kind.{Kind}
-use Rattle.allotment.specs.declared.kinds.Kind.TheVariants.{Flight, Room, Transfer, Cover}
+use Rattle.allotment.specs.declared.codes.Kind.{Kind}
+use Rattle.allotment.specs.declared.codes.Kind.TheVariants.{Flight, Room, Transfer, Cover}
 use Rattle.allotment.proofs.TestLemmas.{and_both, and_make}
 use Rattle.allotment.proofs.NightLemmas.{night_in-night_text}
 use Rattle.allotment.proofs.PlainLemmas.{is_plain, letter_plain, code_plain, night_plain, decimal_plain}

@@ -10,8 +10,8 @@ use Rattle.std.proofs.lemmas.Str.Parse.{digit_from_value}
 use Rattle.allotment.specs.Limits.{is_capital, is_digit, is_code, first_night, is_night}
 use Rattle.allotment.specs.Nights.{year_of, days_before, months, month_and_day, night_text}
 use Rattle.allotment.specs.Texts.{kind_letter}
-use Rattle.allotment.specs.declared.kinds.Kind.{Kind}
-use Rattle.allotment.specs.declared.kinds.Kind.TheVariants.{Flight, Room, Transfer, Cover}
+use Rattle.allotment.specs.declared.codes.Kind.{Kind}
+use Rattle.allotment.specs.declared.codes.Kind.TheVariants.{Flight, Room, Transfer, Cover}
 use Rattle.allotment.proofs.NightLemmas.{is_civil, night_range}
 use Rattle.allotment.proofs.TestLemmas.{and_both, and_make}
 

@@ -2,8 +2,8 @@
 use Rattle.std.specs.Prelude.{ℕ, zero, suc, ◌==◌, ◌&&◌, Bool, List, [], ◌∷◌, map, bytes_eq}
 use Rattle.std.specs.List.{list_any}
 use Rattle.allotment.specs.Want.{Wanted}
-use Rattle.allotment.specs.declared.kinds.Kind.{Kind}
-use Rattle.allotment.specs.declared.kinds.Kind.TheVariants.{Flight, Room, Transfer, Cover}
+use Rattle.allotment.specs.declared.codes.Kind.{Kind}
+use Rattle.allotment.specs.declared.codes.Kind.TheVariants.{Flight, Room, Transfer, Cover}
 use Rattle.allotment.specs.declared.cells.Cell.{Cell}
 
 -- the number of a kind, by which kinds are ordered

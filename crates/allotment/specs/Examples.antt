@@ -9,7 +9,7 @@ use Rattle.allotment.specs.Texts.{cell_text, row_text, want_text}
 use Rattle.allotment.specs.Want.{Wanted, wanted}
 use Rattle.allotment.specs.declared.cells.Cell.{Cell}
 use Rattle.allotment.specs.declared.cells.Row.{Row}
-use Rattle.allotment.specs.declared.kinds.Kind.TheVariants.{Room}
+use Rattle.allotment.specs.declared.codes.Kind.TheVariants.{Room}
 
 -- a supplier of rooms
 abbrev pub inn : List ℕ

@@ -3,7 +3,7 @@ use Rattle.std.specs.Prelude.{ℕ, ◌&&◌, Bool, List, [], ◌∷◌, ◌++◌
 use Rattle.allotment.specs.Want.{Wanted, wanted}
 use Rattle.allotment.specs.Limits.{is_code, are_nights, is_count}
 use Rattle.allotment.specs.Nights.{night_in}
-use Rattle.allotment.specs.declared.kinds.Kind.{Kind}
+use Rattle.allotment.specs.declared.codes.Kind.{Kind}
 use Rattle.allotment.specs.declared.wants.Bad.{Bad}
 use Rattle.allotment.specs.declared.wants.Bad.TheVariants as bad
 

@@ -1,6 +1,6 @@
 -- What a want says: so many places of a product, for some consecutive nights.
 use Rattle.std.specs.Prelude.{ℕ, List}
-use Rattle.allotment.specs.declared.kinds.Kind.{Kind}
+use Rattle.allotment.specs.declared.codes.Kind.{Kind}
 
 -- a want
 pub record Wanted : Type 0 where

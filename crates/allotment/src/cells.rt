@@ -2,8 +2,7 @@
 ghost use Rattle.allotment.specs.Texts.{cell_in_four, IsCut, IsOnePart};
 ghost use Rattle.std.specs.Prelude.{◌≡◌, MatchOption};
 
-use crate::codes::Code;
-use crate::kinds::Kind;
+use crate::codes::{Code, Kind};
 use crate::nights::Night;
 use std::alloc::{AllocError, Global};
 use std::fmt;

@@ -9,7 +9,7 @@ ghost use Rattle.allotment.specs.Rows.{Allotted, is_row};
 ghost use Rattle.allotment.specs.Texts.{cell_in, cell_text, keep_if, kind_letter, kind_of_letter, kind_of_number, kind_of_word, kind_word, row_text, want_text};
 ghost use Rattle.allotment.specs.Want.{Wanted};
 
-use crate::kinds::Kind;
+use crate::codes::Kind;
 
 /// A value is read back from its text, and a text that is read is the text of its value. Two different rows or wants
 /// have different texts.

@@ -10,7 +10,6 @@
 
 mod cells;
 mod codes;
-mod kinds;
 mod laws;
 mod limits;
 mod nights;
@@ -21,8 +20,7 @@ mod tests;
 mod wants;
 
 pub use cells::{Cell, Row};
-pub use codes::{Code, Short};
-pub use kinds::Kind;
+pub use codes::{Code, Kind, Short};
 pub use laws::{texts_of_a_room, values_have_one_text};
 pub use limits::MOST_PLACES;
 pub use nights::Night;

@@ -3,8 +3,7 @@ ghost use Rattle.allotment.specs.Limits.{are_nights as may_have_nights, is_count
 ghost use Rattle.std.specs.Prelude.{◌≡◌};
 
 use crate::cells::Cell;
-use crate::codes::Code;
-use crate::kinds::Kind;
+use crate::codes::{Code, Kind};
 use crate::limits::MOST_COUNT;
 use crate::nights::Night;
 use std::alloc::{AllocError, Global};

@@ -9,8 +9,8 @@ use Rattle.allotment.specs.Nights.{night_in}
 use Rattle.allotment.specs.Rows.{allotted}
 use Rattle.allotment.specs.Texts.{keep_if, kind_of_word, number_in, places_in}
 use Rattle.allotment.specs.declared.cells.Row.{Row}
-use Rattle.allotment.specs.declared.kinds.Kind.{Kind}
-use Rattle.allotment.specs.declared.kinds.Kind.TheVariants.{Flight}
+use Rattle.allotment.specs.declared.codes.Kind.{Kind}
+use Rattle.allotment.specs.declared.codes.Kind.TheVariants.{Flight}
 use Rattle.allotment.proofs.NightLemmas.{night_text-night_in}
 use Rattle.allotment.proofs.TestLemmas.{and_both, and_make, keep_if_some, keep_if_yes}
 use Rattle.plan.proofs.ListFacts.{append_none, unless_none, first_fault_ok, some_is}

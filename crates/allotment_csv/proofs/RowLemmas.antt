@@ -11,7 +11,7 @@ use Rattle.allotment.specs.Texts.{keep_if, kind_of_word, cell_from, number_in, p
 use Rattle.allotment.specs.declared.cells.Cell.{Cell}
 use Rattle.allotment.specs.declared.cells.Row.{Row}
 use Rattle.commands.specs.Batches.{is_good_row}
-use Rattle.allotment.specs.declared.kinds.Kind.{Kind}
+use Rattle.allotment.specs.declared.codes.Kind.{Kind}
 use Rattle.allotment.proofs.TestLemmas.{and_both, and_make, keep_if_some, keep_if_none, keep_if_yes}
 use Rattle.commands.specs.declared.replies.CsvCause.{CsvCause}
 use Rattle.commands.specs.declared.replies.CsvCause.TheVariants as cause

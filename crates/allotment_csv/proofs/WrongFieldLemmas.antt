@@ -5,7 +5,7 @@ use Rattle.allotment.specs.Limits.{is_code}
 use Rattle.allotment.specs.Making.{unless}
 use Rattle.allotment.specs.Nights.{night_in}
 use Rattle.allotment.specs.Texts.{keep_if, kind_of_word, places_in}
-use Rattle.allotment.specs.declared.kinds.Kind.{Kind}
+use Rattle.allotment.specs.declared.codes.Kind.{Kind}
 use Rattle.allotment.proofs.TestLemmas.{keep_if_none}
 use Rattle.allotment_csv.specs.WrongFields.{FieldText, wrong_fields}
 use Rattle.allotment_csv.specs.declared.wrong_fields.Column.TheVariants as column

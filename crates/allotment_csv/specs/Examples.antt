@@ -6,7 +6,7 @@ use lib.Utf8.{encode}
 use Rattle.csv.proofs.OnLiterals.{csv_on_literals}
 use Rattle.allotment.specs.Cells.{the_cell}
 use Rattle.allotment.specs.Rows.{allotted}
-use Rattle.allotment.specs.declared.kinds.Kind.TheVariants.{Flight, Room}
+use Rattle.allotment.specs.declared.codes.Kind.TheVariants.{Flight, Room}
 use Rattle.commands.specs.declared.replies.CsvCause.TheVariants as cause
 use Rattle.allotment_csv.specs.Files.{in_csv, rows_in, batch_of}
 use Rattle.allotment_csv.specs.declared.faults.CsvFault.TheVariants.{BadBody}

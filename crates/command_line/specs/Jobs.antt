@@ -7,6 +7,7 @@ use Rattle.allotment.specs.Texts.{number_from}
 use Rattle.clap.specs.Words.{App, Text, first_of, matches_of}
 use Rattle.command_line.specs.Filters.{HasCells, HasJourneys, cell_asked, has_bad_cells, has_bad_journeys, journey_asked, phases_in, unfinished_in}
 use Rattle.command_line.specs.Subcommands.{app_for, is_refused_by, name_of, subcommand_in}
+use Rattle.command_line.specs.Values.{NamesFile, calendar_in, connections_in, format_in, house_in, is_malformed, log_in, most_connections, page_in, port_in, stock_format_in, wide_in}
 use Rattle.command_line.specs.declared.jobs.Job.{Job}
 use Rattle.command_line.specs.declared.jobs.Job.TheVariants.{Run, Serve, Recover, Load, Stock, Calendar, Summary, Holders, Unfinished, Journeys, History, Why, Migrate, Version}
 use Rattle.command_line.specs.declared.jobs.JobFault.{JobFault}
@@ -32,87 +33,6 @@ subcommand_of (History file id format) = Some sub.History
 subcommand_of (Why file id format) = Some sub.Why
 subcommand_of (Migrate file) = Some sub.Migrate
 subcommand_of Version = None
-
--- the value of FILE is this file
-abbrev pub NamesFile : (Text → Option Text) → Text → Type 0
-NamesFile value file = value (codes "FILE") ≡ Some file
-
--- the highest port, and how many connections are served at most
-abbrev pub most_port : ℕ
-most_port = 65535
-
-abbrev pub most_connections : ℕ
-most_connections = 1000
-
--- the number from 1 to `most` that a value spells in digits, without sign and without leading zeros
-abbrev pub number_named : ℕ → Option Text → Option ℕ
-number_named most value = option_and_then (number_from 1 most) value
-
--- the value is there, and spells no such number
-abbrev pub is_malformed : ℕ → Option Text → Bool
-is_malformed most None = false
-is_malformed most (Some word) = is_none (number_from 1 most word)
-
--- the port, and the number of connections, by their names
-abbrev pub port_in : (Text → Option Text) → Option ℕ
-port_in value = number_named most_port (value (codes "PORT"))
-
-abbrev pub connections_in : (Text → Option Text) → Option ℕ
-connections_in value = number_named most_connections (value (codes "N"))
-
--- the path of the house's door, by its name
-abbrev pub house_in : (Text → Option Text) → Option Text
-house_in value = value (codes "PATH")
-
--- a flag is set where clap reads `true`
-abbrev pub is_set : Option Text → Bool
-is_set value = option_map_or (λ word. bytes_eq word (codes "true")) value false
-
--- whether the page for browsers is asked for, by its name
-abbrev pub page_in : (Text → Option Text) → Bool
-page_in value = is_set (value (codes "PAGE"))
-
--- whether the log is asked for, by its name
-abbrev pub log_in : (Text → Option Text) → Bool
-log_in value = is_set (value (codes "LOG"))
-
--- whether HTTP is read as libraries and proxies speak it, by its name
-abbrev pub wide_in : (Text → Option Text) → Bool
-wide_in value = is_set (value (codes "WIDE"))
-
--- the format that a word names
-abbrev pub format_named : Text → Option Format
-format_named word =
-    if bytes_eq word (codes "text") then Some format.Text
-    else if bytes_eq word (codes "json") then Some format.Json
-    else if bytes_eq word (codes "csv") then Some format.Csv
-    else None
-
--- the format of a report: a text if none is given
-abbrev pub format_of : Option Text → Option Format
-format_of None = Some format.Text
-format_of (Some word) = format_named word
-
--- the format, by its name
-abbrev pub format_in : (Text → Option Text) → Option Format
-format_in value = format_of (value (codes "FORMAT"))
-
--- whether the calendar of the stock is asked for, by its name
-abbrev pub calendar_in : (Text → Option Text) → Bool
-calendar_in value = is_set (value (codes "CALENDAR"))
-
--- the format, if it is a text
-abbrev pub text_alone : Format → Option Format
-text_alone format.Text = Some format.Text
-text_alone _ = None
-
--- the format of the stock: the calendar is a text alone
-abbrev pub stock_format_of : Bool → Option Format → Option Format
-stock_format_of true found = option_and_then text_alone found
-stock_format_of false found = found
-
-abbrev pub stock_format_in : (Text → Option Text) → Option Format
-stock_format_in value = stock_format_of (calendar_in value) (format_in value)
 
 -- the values of a job are those under their names
 abbrev pub HasValues : (Text → Option Text) → Job → Type 0

@@ -1,8 +1,8 @@
 //! The values that ask for cells and journeys: for those of a filter, or for one.
+ghost use Rattle.command_line.specs.Values.{values_read};
 ghost use Rattle.std.specs.Prelude.{◌≡◌, None, false, true, IfOk, IsOk, Some, codes, is_some};
 ghost use Rattle.allotment.specs.Nights.{night_in};
 ghost use Rattle.allotment.specs.Texts.{kind_of_word};
-ghost use Rattle.clap.specs.Words.{first_value, found_of};
 ghost use Rattle.filters.specs.JourneyFilters.{state_named};
 ghost use Rattle.command_line.specs.Filters.{agent_named, cell_asked, code_named, has_bad_cells, has_bad_journeys, journey_asked, phases_in, spelled, unfinished_in, unfinished_named, unfinished_state, HasCells, HasJourneys};
 ghost use Rattle.command_line.specs.Jobs.{IsUsage};
@@ -16,9 +16,9 @@ use std::alloc::Global;
 
 /// The cells that are asked for.
 pub(crate) fn cells_in(alloc: Global, matches: &ArgMatches) -> Result<CellFilter, JobFault>
-    ensures cells { IfOk result (HasCells (first_value (found_of matches.now))) }
-    ensures taken { IsOk result → has_bad_cells (first_value (found_of matches.now)) ≡ false }
-    ensures usage { IsUsage result → has_bad_cells (first_value (found_of matches.now)) ≡ true }
+    ensures cells { IfOk result (HasCells (values_read matches.now)) }
+    ensures taken { IsOk result → has_bad_cells (values_read matches.now) ≡ false }
+    ensures usage { IsUsage result → has_bad_cells (values_read matches.now) ≡ true }
 {
     let kind = kind_in(alloc, matches)?;
     let supplier = code_in(alloc, matches, "SUPPLIER", "--supplier")?;
@@ -36,9 +36,9 @@ pub(crate) fn cells_in(alloc: Global, matches: &ArgMatches) -> Result<CellFilter
 
 /// The journeys that are asked for, ended ones too.
 pub(crate) fn journeys_in(alloc: Global, matches: &ArgMatches) -> Result<JourneyFilter, JobFault>
-    ensures journeys { IfOk result (HasJourneys phases_in (first_value (found_of matches.now))) }
-    ensures taken { IsOk result → has_bad_journeys phases_in (first_value (found_of matches.now)) ≡ false }
-    ensures usage { IsUsage result → has_bad_journeys phases_in (first_value (found_of matches.now)) ≡ true }
+    ensures journeys { IfOk result (HasJourneys phases_in (values_read matches.now)) }
+    ensures taken { IsOk result → has_bad_journeys phases_in (values_read matches.now) ≡ false }
+    ensures usage { IsUsage result → has_bad_journeys phases_in (values_read matches.now) ≡ true }
 {
     let agent = agent_in(alloc, matches)?;
     let phases = phases_in(alloc, matches)?;
@@ -47,9 +47,9 @@ pub(crate) fn journeys_in(alloc: Global, matches: &ArgMatches) -> Result<Journey
 
 /// The unfinished journeys that are asked for.
 pub(crate) fn unfinished_in(alloc: Global, matches: &ArgMatches) -> Result<JourneyFilter, JobFault>
-    ensures journeys { IfOk result (HasJourneys unfinished_in (first_value (found_of matches.now))) }
-    ensures taken { IsOk result → has_bad_journeys unfinished_in (first_value (found_of matches.now)) ≡ false }
-    ensures usage { IsUsage result → has_bad_journeys unfinished_in (first_value (found_of matches.now)) ≡ true }
+    ensures journeys { IfOk result (HasJourneys unfinished_in (values_read matches.now)) }
+    ensures taken { IsOk result → has_bad_journeys unfinished_in (values_read matches.now) ≡ false }
+    ensures usage { IsUsage result → has_bad_journeys unfinished_in (values_read matches.now) ≡ true }
 {
     let agent = agent_in(alloc, matches)?;
     let phases = unfinished_phases_in(alloc, matches)?;
@@ -58,9 +58,9 @@ pub(crate) fn unfinished_in(alloc: Global, matches: &ArgMatches) -> Result<Journ
 
 /// The one cell that is asked for. The precondition says that there is a value.
 pub(crate) fn cell_in(alloc: Global, matches: &ArgMatches) -> Result<Cell, JobFault>
-    requires { is_some (first_value (found_of matches.now) (codes "CELL")) ≡ true }
-    ensures cell { IfOk result (λ cell. cell_asked (first_value (found_of matches.now)) ≡ Some cell) }
-    ensures usage { IsUsage result → cell_asked (first_value (found_of matches.now)) ≡ None }
+    requires { is_some (values_read matches.now (codes "CELL")) ≡ true }
+    ensures cell { IfOk result (λ cell. cell_asked (values_read matches.now) ≡ Some cell) }
+    ensures usage { IsUsage result → cell_asked (values_read matches.now) ≡ None }
 {
     let word = matches.get_str("CELL").unwrap();
     match Cell::parse(word) {
@@ -71,9 +71,9 @@ pub(crate) fn cell_in(alloc: Global, matches: &ArgMatches) -> Result<Cell, JobFa
 
 /// The number of the one journey that is asked for. The precondition says that there is a value.
 pub(crate) fn journey_in(alloc: Global, matches: &ArgMatches) -> Result<u64, JobFault>
-    requires { is_some (first_value (found_of matches.now) (codes "ID")) ≡ true }
-    ensures journey { IfOk result (λ id. journey_asked (first_value (found_of matches.now)) ≡ Some id) }
-    ensures usage { IsUsage result → journey_asked (first_value (found_of matches.now)) ≡ None }
+    requires { is_some (values_read matches.now (codes "ID")) ≡ true }
+    ensures journey { IfOk result (λ id. journey_asked (values_read matches.now) ≡ Some id) }
+    ensures usage { IsUsage result → journey_asked (values_read matches.now) ≡ None }
 {
     let word = matches.get_str("ID").unwrap();
     match number_between(word, 1, MOST_EVENTS as usize) {
@@ -85,9 +85,9 @@ pub(crate) fn journey_in(alloc: Global, matches: &ArgMatches) -> Result<u64, Job
 /// The kind that is asked for, if one is.
 fn kind_in(alloc: Global, matches: &ArgMatches) -> Result<Option<Kind>, JobFault>
     ensures kind { IfOk result (λ kind.
-        spelled kind_of_word (first_value (found_of matches.now) (codes "KIND")) ≡ Some kind) }
+        spelled kind_of_word (values_read matches.now (codes "KIND")) ≡ Some kind) }
     ensures usage { IsUsage result →
-        spelled kind_of_word (first_value (found_of matches.now) (codes "KIND")) ≡ None }
+        spelled kind_of_word (values_read matches.now (codes "KIND")) ≡ None }
 {
     let Some(word) = matches.get_str("KIND") else {
         return Ok(None);
@@ -110,8 +110,8 @@ fn code_in(
     id: &str,
     option: &str,
 ) -> Result<Option<Code>, JobFault>
-    ensures code { IfOk result (λ code. spelled code_named (first_value (found_of matches.now) id.now) ≡ Some code) }
-    ensures usage { IsUsage result → spelled code_named (first_value (found_of matches.now) id.now) ≡ None }
+    ensures code { IfOk result (λ code. spelled code_named (values_read matches.now id.now) ≡ Some code) }
+    ensures usage { IsUsage result → spelled code_named (values_read matches.now id.now) ≡ None }
 {
     let Some(word) = matches.get_str(id) else {
         return Ok(None);
@@ -129,8 +129,8 @@ fn night_in(
     id: &str,
     option: &str,
 ) -> Result<Option<Night>, JobFault>
-    ensures night { IfOk result (λ night. spelled night_in (first_value (found_of matches.now) id.now) ≡ Some night) }
-    ensures usage { IsUsage result → spelled night_in (first_value (found_of matches.now) id.now) ≡ None }
+    ensures night { IfOk result (λ night. spelled night_in (values_read matches.now id.now) ≡ Some night) }
+    ensures usage { IsUsage result → spelled night_in (values_read matches.now id.now) ≡ None }
 {
     let Some(word) = matches.get_str(id) else {
         return Ok(None);
@@ -150,9 +150,9 @@ fn night_in(
 /// The agent who is asked for, if one is.
 fn agent_in(alloc: Global, matches: &ArgMatches) -> Result<Option<Agent>, JobFault>
     ensures agent { IfOk result (λ agent.
-        spelled agent_named (first_value (found_of matches.now) (codes "AGENT")) ≡ Some agent) }
+        spelled agent_named (values_read matches.now (codes "AGENT")) ≡ Some agent) }
     ensures usage { IsUsage result →
-        spelled agent_named (first_value (found_of matches.now) (codes "AGENT")) ≡ None }
+        spelled agent_named (values_read matches.now (codes "AGENT")) ≡ None }
 {
     let Some(word) = matches.get_str("AGENT") else {
         return Ok(None);
@@ -165,8 +165,8 @@ fn agent_in(alloc: Global, matches: &ArgMatches) -> Result<Option<Agent>, JobFau
 
 /// The phases of the state that is asked for; all phases if none is.
 fn phases_in(alloc: Global, matches: &ArgMatches) -> Result<Phases, JobFault>
-    ensures phases { IfOk result (λ phases. phases_in (first_value (found_of matches.now) (codes "STATE")) ≡ Some phases) }
-    ensures usage { IsUsage result → phases_in (first_value (found_of matches.now) (codes "STATE")) ≡ None }
+    ensures phases { IfOk result (λ phases. phases_in (values_read matches.now (codes "STATE")) ≡ Some phases) }
+    ensures usage { IsUsage result → phases_in (values_read matches.now (codes "STATE")) ≡ None }
 {
     let Some(word) = matches.get_str("STATE") else {
         return Ok(Phases::All);
@@ -179,8 +179,8 @@ fn phases_in(alloc: Global, matches: &ArgMatches) -> Result<Phases, JobFault>
 
 /// The same of unfinished journeys.
 fn unfinished_phases_in(alloc: Global, matches: &ArgMatches) -> Result<Phases, JobFault>
-    ensures phases { IfOk result (λ phases. unfinished_in (first_value (found_of matches.now) (codes "STATE")) ≡ Some phases) }
-    ensures usage { IsUsage result → unfinished_in (first_value (found_of matches.now) (codes "STATE")) ≡ None }
+    ensures phases { IfOk result (λ phases. unfinished_in (values_read matches.now (codes "STATE")) ≡ Some phases) }
+    ensures usage { IsUsage result → unfinished_in (values_read matches.now (codes "STATE")) ≡ None }
 {
     let Some(word) = matches.get_str("STATE") else {
         return Ok(Phases::Unfinished);

@@ -1,8 +1,8 @@
 //! The job of each subcommand, with its values among the matches of `clap`.
 ghost use Rattle.std.specs.Prelude.{◌≡◌, false, true, All, IfOk, IsOk, codes, is_some};
 ghost use Rattle.std.specs.String.{string_bytes};
-ghost use Rattle.clap.specs.Words.{first_value, found_of};
-ghost use Rattle.command_line.specs.Jobs.{has_bad_value, IsJobWith, IsUsage, NamesFile};
+ghost use Rattle.command_line.specs.Jobs.{has_bad_value, IsJobWith, IsUsage};
+ghost use Rattle.command_line.specs.Values.{NamesFile, values_read};
 ghost use Rattle.command_line.specs.Subcommands.{needed_for};
 ghost use Rattle.command_line.specs.declared.subcommands.Subcommand.TheVariants as sub;
 
@@ -27,11 +27,11 @@ pub(crate) fn job_in(
     subcommand: Subcommand,
     matches: &ArgMatches,
 ) -> Result<Job, JobFault>
-    requires { All (λ id. is_some (first_value (found_of matches.now) id) ≡ true) (needed_for subcommand) }
+    requires { All (λ id. is_some (values_read matches.now id) ≡ true) (needed_for subcommand) }
 
-    ensures job { IfOk result (IsJobWith subcommand (first_value (found_of matches.now))) }
-    ensures taken { IsOk result → has_bad_value subcommand (first_value (found_of matches.now)) ≡ false }
-    ensures usage { IsUsage result → has_bad_value subcommand (first_value (found_of matches.now)) ≡ true }
+    ensures job { IfOk result (IsJobWith subcommand (values_read matches.now)) }
+    ensures taken { IsOk result → has_bad_value subcommand (values_read matches.now) ≡ false }
+    ensures usage { IsUsage result → has_bad_value subcommand (values_read matches.now) ≡ true }
 {
     let file = value_of(alloc, matches, "FILE")?;
     match subcommand {
@@ -56,12 +56,12 @@ pub(crate) fn job_in(
 
 /// Serving requests at a port.
 fn serve_in(alloc: Global, file: String, matches: &ArgMatches) -> Result<Job, JobFault>
-    requires file { NamesFile (first_value (found_of matches.now)) (string_bytes file) }
-    requires port { is_some (first_value (found_of matches.now) (codes "PORT")) ≡ true }
+    requires file { NamesFile (values_read matches.now) (string_bytes file) }
+    requires port { is_some (values_read matches.now (codes "PORT")) ≡ true }
 
-    ensures job { IfOk result (IsJobWith sub.Serve (first_value (found_of matches.now))) }
-    ensures taken { IsOk result → has_bad_value sub.Serve (first_value (found_of matches.now)) ≡ false }
-    ensures usage { IsUsage result → has_bad_value sub.Serve (first_value (found_of matches.now)) ≡ true }
+    ensures job { IfOk result (IsJobWith sub.Serve (values_read matches.now)) }
+    ensures taken { IsOk result → has_bad_value sub.Serve (values_read matches.now) ≡ false }
+    ensures usage { IsUsage result → has_bad_value sub.Serve (values_read matches.now) ≡ true }
 {
     let port = number_of(alloc, matches, "PORT", "--port", MOST_PORT)?;
     let connections = number_if_given(alloc, matches, "N", "--connections", MOST_CONNECTIONS)?;
@@ -82,11 +82,11 @@ fn serve_in(alloc: Global, file: String, matches: &ArgMatches) -> Result<Job, Jo
 
 /// The stock, or its calendar, which is a text alone.
 fn stock_in(alloc: Global, file: String, matches: &ArgMatches) -> Result<Job, JobFault>
-    requires file { NamesFile (first_value (found_of matches.now)) (string_bytes file) }
+    requires file { NamesFile (values_read matches.now) (string_bytes file) }
 
-    ensures job { IfOk result (IsJobWith sub.Stock (first_value (found_of matches.now))) }
-    ensures taken { IsOk result → has_bad_value sub.Stock (first_value (found_of matches.now)) ≡ false }
-    ensures usage { IsUsage result → has_bad_value sub.Stock (first_value (found_of matches.now)) ≡ true }
+    ensures job { IfOk result (IsJobWith sub.Stock (values_read matches.now)) }
+    ensures taken { IsOk result → has_bad_value sub.Stock (values_read matches.now) ≡ false }
+    ensures usage { IsUsage result → has_bad_value sub.Stock (values_read matches.now) ≡ true }
 {
     let filter = cells_in(alloc, matches)?;
     if is_given(matches, "CALENDAR") {
@@ -103,11 +103,11 @@ fn stock_in(alloc: Global, file: String, matches: &ArgMatches) -> Result<Job, Jo
 
 /// The months of cells.
 fn summary_in(alloc: Global, file: String, matches: &ArgMatches) -> Result<Job, JobFault>
-    requires file { NamesFile (first_value (found_of matches.now)) (string_bytes file) }
+    requires file { NamesFile (values_read matches.now) (string_bytes file) }
 
-    ensures job { IfOk result (IsJobWith sub.Summary (first_value (found_of matches.now))) }
-    ensures taken { IsOk result → has_bad_value sub.Summary (first_value (found_of matches.now)) ≡ false }
-    ensures usage { IsUsage result → has_bad_value sub.Summary (first_value (found_of matches.now)) ≡ true }
+    ensures job { IfOk result (IsJobWith sub.Summary (values_read matches.now)) }
+    ensures taken { IsOk result → has_bad_value sub.Summary (values_read matches.now) ≡ false }
+    ensures usage { IsUsage result → has_bad_value sub.Summary (values_read matches.now) ≡ true }
 {
     let filter = cells_in(alloc, matches)?;
     let format = format_in(alloc, matches)?;
@@ -120,12 +120,12 @@ fn summary_in(alloc: Global, file: String, matches: &ArgMatches) -> Result<Job, 
 
 /// The journeys that hold places of a cell.
 fn holders_in(alloc: Global, file: String, matches: &ArgMatches) -> Result<Job, JobFault>
-    requires file { NamesFile (first_value (found_of matches.now)) (string_bytes file) }
-    requires cell { is_some (first_value (found_of matches.now) (codes "CELL")) ≡ true }
+    requires file { NamesFile (values_read matches.now) (string_bytes file) }
+    requires cell { is_some (values_read matches.now (codes "CELL")) ≡ true }
 
-    ensures job { IfOk result (IsJobWith sub.Holders (first_value (found_of matches.now))) }
-    ensures taken { IsOk result → has_bad_value sub.Holders (first_value (found_of matches.now)) ≡ false }
-    ensures usage { IsUsage result → has_bad_value sub.Holders (first_value (found_of matches.now)) ≡ true }
+    ensures job { IfOk result (IsJobWith sub.Holders (values_read matches.now)) }
+    ensures taken { IsOk result → has_bad_value sub.Holders (values_read matches.now) ≡ false }
+    ensures usage { IsUsage result → has_bad_value sub.Holders (values_read matches.now) ≡ true }
 {
     let cell = cell_in(alloc, matches)?;
     let format = format_in(alloc, matches)?;
@@ -134,11 +134,11 @@ fn holders_in(alloc: Global, file: String, matches: &ArgMatches) -> Result<Job, 
 
 /// Unfinished journeys.
 fn unfinished_of(alloc: Global, file: String, matches: &ArgMatches) -> Result<Job, JobFault>
-    requires file { NamesFile (first_value (found_of matches.now)) (string_bytes file) }
+    requires file { NamesFile (values_read matches.now) (string_bytes file) }
 
-    ensures job { IfOk result (IsJobWith sub.Unfinished (first_value (found_of matches.now))) }
-    ensures taken { IsOk result → has_bad_value sub.Unfinished (first_value (found_of matches.now)) ≡ false }
-    ensures usage { IsUsage result → has_bad_value sub.Unfinished (first_value (found_of matches.now)) ≡ true }
+    ensures job { IfOk result (IsJobWith sub.Unfinished (values_read matches.now)) }
+    ensures taken { IsOk result → has_bad_value sub.Unfinished (values_read matches.now) ≡ false }
+    ensures usage { IsUsage result → has_bad_value sub.Unfinished (values_read matches.now) ≡ true }
 {
     let filter = unfinished_in(alloc, matches)?;
     let format = format_in(alloc, matches)?;
@@ -151,11 +151,11 @@ fn unfinished_of(alloc: Global, file: String, matches: &ArgMatches) -> Result<Jo
 
 /// Journeys, ended ones too.
 fn journeys_of(alloc: Global, file: String, matches: &ArgMatches) -> Result<Job, JobFault>
-    requires file { NamesFile (first_value (found_of matches.now)) (string_bytes file) }
+    requires file { NamesFile (values_read matches.now) (string_bytes file) }
 
-    ensures job { IfOk result (IsJobWith sub.Journeys (first_value (found_of matches.now))) }
-    ensures taken { IsOk result → has_bad_value sub.Journeys (first_value (found_of matches.now)) ≡ false }
-    ensures usage { IsUsage result → has_bad_value sub.Journeys (first_value (found_of matches.now)) ≡ true }
+    ensures job { IfOk result (IsJobWith sub.Journeys (values_read matches.now)) }
+    ensures taken { IsOk result → has_bad_value sub.Journeys (values_read matches.now) ≡ false }
+    ensures usage { IsUsage result → has_bad_value sub.Journeys (values_read matches.now) ≡ true }
 {
     let filter = journeys_in(alloc, matches)?;
     let format = format_in(alloc, matches)?;
@@ -168,12 +168,12 @@ fn journeys_of(alloc: Global, file: String, matches: &ArgMatches) -> Result<Job,
 
 /// The history of a journey.
 fn history_in(alloc: Global, file: String, matches: &ArgMatches) -> Result<Job, JobFault>
-    requires file { NamesFile (first_value (found_of matches.now)) (string_bytes file) }
-    requires id { is_some (first_value (found_of matches.now) (codes "ID")) ≡ true }
+    requires file { NamesFile (values_read matches.now) (string_bytes file) }
+    requires id { is_some (values_read matches.now (codes "ID")) ≡ true }
 
-    ensures job { IfOk result (IsJobWith sub.History (first_value (found_of matches.now))) }
-    ensures taken { IsOk result → has_bad_value sub.History (first_value (found_of matches.now)) ≡ false }
-    ensures usage { IsUsage result → has_bad_value sub.History (first_value (found_of matches.now)) ≡ true }
+    ensures job { IfOk result (IsJobWith sub.History (values_read matches.now)) }
+    ensures taken { IsOk result → has_bad_value sub.History (values_read matches.now) ≡ false }
+    ensures usage { IsUsage result → has_bad_value sub.History (values_read matches.now) ≡ true }
 {
     let id = value_of(alloc, matches, "ID")?;
     let format = format_in(alloc, matches)?;
@@ -182,12 +182,12 @@ fn history_in(alloc: Global, file: String, matches: &ArgMatches) -> Result<Job, 
 
 /// Why a journey stands where it does.
 fn why_in(alloc: Global, file: String, matches: &ArgMatches) -> Result<Job, JobFault>
-    requires file { NamesFile (first_value (found_of matches.now)) (string_bytes file) }
-    requires id { is_some (first_value (found_of matches.now) (codes "ID")) ≡ true }
+    requires file { NamesFile (values_read matches.now) (string_bytes file) }
+    requires id { is_some (values_read matches.now (codes "ID")) ≡ true }
 
-    ensures job { IfOk result (IsJobWith sub.Why (first_value (found_of matches.now))) }
-    ensures taken { IsOk result → has_bad_value sub.Why (first_value (found_of matches.now)) ≡ false }
-    ensures usage { IsUsage result → has_bad_value sub.Why (first_value (found_of matches.now)) ≡ true }
+    ensures job { IfOk result (IsJobWith sub.Why (values_read matches.now)) }
+    ensures taken { IsOk result → has_bad_value sub.Why (values_read matches.now) ≡ false }
+    ensures usage { IsUsage result → has_bad_value sub.Why (values_read matches.now) ≡ true }
 {
     let id = journey_in(alloc, matches)?;
     let format = format_in(alloc, matches)?;

@@ -1,10 +1,9 @@
 //! Single values among the matches of `clap`: words, flags, numbers and formats.
 ghost use Rattle.std.specs.Prelude.{◌≡◌, ◌≤◌, None, false, true, option_map, IfOk, IsOk, Some, codes, is_some};
-ghost use Rattle.std.specs.Option.{option_and_then};
 ghost use Rattle.std.specs.String.{string_bytes};
 ghost use Rattle.allotment.specs.Texts.{number_from};
-ghost use Rattle.clap.specs.Words.{first_value, found_of};
-ghost use Rattle.command_line.specs.Jobs.{format_named, format_of, is_malformed, is_set, number_named, text_alone, IsUsage};
+ghost use Rattle.command_line.specs.Jobs.{IsUsage};
+ghost use Rattle.command_line.specs.Values.{format_named, format_of, is_malformed, is_set, number_named, text_format_in, values_read};
 
 use crate::jobs::JobFault;
 use clap::ArgMatches;
@@ -14,9 +13,9 @@ use std::alloc::{AllocError, Global};
 
 /// The value of this name. The precondition says that there is one.
 pub(crate) fn value_of(alloc: Global, matches: &ArgMatches, id: &str) -> Result<String, AllocError>
-    requires { is_some (first_value (found_of matches.now) id.now) ≡ true }
+    requires { is_some (values_read matches.now id.now) ≡ true }
     ensures value { IfOk result (λ value.
-        first_value (found_of matches.now) id.now ≡ Some (string_bytes value)) }
+        values_read matches.now id.now ≡ Some (string_bytes value)) }
 {
     String::from_str(alloc, matches.get_str(id).unwrap())
 }
@@ -28,7 +27,7 @@ pub(crate) fn value_if_given(
     id: &str,
 ) -> Result<Option<String>, AllocError>
     ensures value { IfOk result (λ value.
-        first_value (found_of matches.now) id.now ≡ option_map string_bytes value) }
+        values_read matches.now id.now ≡ option_map string_bytes value) }
 {
     match matches.get_str(id) {
         Some(word) => Ok(Some(String::from_str(alloc, word)?)),
@@ -38,7 +37,7 @@ pub(crate) fn value_if_given(
 
 /// Whether the flag of this name is given. `clap` reads `true` for one that is.
 pub(crate) fn is_given(matches: &ArgMatches, id: &str) -> bool
-    ensures given { result ≡ is_set (first_value (found_of matches.now) id.now) }
+    ensures given { result ≡ is_set (values_read matches.now id.now) }
 {
     match matches.get_str(id) {
         Some(word) => word == "true",
@@ -54,11 +53,11 @@ pub(crate) fn number_of(
     option: &str,
     most: u16,
 ) -> Result<u16, JobFault>
-    requires { is_some (first_value (found_of matches.now) id.now) ≡ true }
+    requires { is_some (values_read matches.now id.now) ≡ true }
     ensures number { IfOk result (λ number.
-        number_named most (first_value (found_of matches.now) id.now) ≡ Some number) }
+        number_named most (values_read matches.now id.now) ≡ Some number) }
     ensures usage { IsUsage result →
-        number_named most (first_value (found_of matches.now) id.now) ≡ None }
+        number_named most (values_read matches.now id.now) ≡ None }
 {
     let word = matches.get_str(id).unwrap();
     number_in(alloc, word, id, option, most)
@@ -73,11 +72,11 @@ pub(crate) fn number_if_given(
     most: u16,
 ) -> Result<Option<u16>, JobFault>
     ensures number { IfOk result (λ number.
-        number_named most (first_value (found_of matches.now) id.now) ≡ number) }
+        number_named most (values_read matches.now id.now) ≡ number) }
     ensures taken { IsOk result →
-        is_malformed most (first_value (found_of matches.now) id.now) ≡ false }
+        is_malformed most (values_read matches.now id.now) ≡ false }
     ensures usage { IsUsage result →
-        is_malformed most (first_value (found_of matches.now) id.now) ≡ true }
+        is_malformed most (values_read matches.now id.now) ≡ true }
 {
     let Some(word) = matches.get_str(id) else {
         return Ok(None);
@@ -113,9 +112,9 @@ fn no_number(alloc: Global, word: &str, id: &str, option: &str, most: u16) -> Jo
 /// The format of a report: a text if none is given.
 pub(crate) fn format_in(alloc: Global, matches: &ArgMatches) -> Result<Format, JobFault>
     ensures format { IfOk result (λ format.
-        format_of (first_value (found_of matches.now) (codes "FORMAT")) ≡ Some format) }
+        format_of (values_read matches.now (codes "FORMAT")) ≡ Some format) }
     ensures usage { IsUsage result →
-        format_of (first_value (found_of matches.now) (codes "FORMAT")) ≡ None }
+        format_of (values_read matches.now (codes "FORMAT")) ≡ None }
 {
     match matches.get_str("FORMAT") {
         None => Ok(Format::Text),
@@ -125,10 +124,8 @@ pub(crate) fn format_in(alloc: Global, matches: &ArgMatches) -> Result<Format, J
 
 /// Refuses a format of the calendar that is not a text.
 pub(crate) fn text_in(alloc: Global, matches: &ArgMatches) -> Result<(), JobFault>
-    ensures format { IsOk result → option_and_then text_alone (format_of (first_value (found_of matches.now) (codes "FORMAT")))
-        ≡ Some Format.Text }
-    ensures usage { IsUsage result → option_and_then text_alone (format_of (first_value (found_of matches.now) (codes "FORMAT")))
-        ≡ None }
+    ensures format { IsOk result → text_format_in (values_read matches.now) ≡ Some Format.Text }
+    ensures usage { IsUsage result → text_format_in (values_read matches.now) ≡ None }
 {
     match format_in(alloc, matches)? {
         Format::Text => Ok(()),

@@ -1,4 +1,3 @@
-pub mod UnfinishedLemmas
 pub mod MineLemmas
 pub mod DemandLemmas
 pub mod AnswerLemmas

@@ -14,7 +14,7 @@ use Rattle.desk_http.specs.declared.demands.Demand.{Demand}
 use Rattle.desk_http.specs.declared.demands.Demand.TheVariants.{Carry, SeeJourney, SeePlan, SeeUnfinished, SeeMine, SeeStock, SeeHealth, SeePage, Stop}
 use Rattle.desk_http.specs.declared.demands.Unmet.{Unmet}
 use Rattle.desk_http.specs.declared.demands.Unmet.TheVariants.{Refused, Memory}
-use Rattle.desk_http.specs.declared.senders.Sender.{Sender}
+use Rattle.desk_http.specs.declared.demands.Sender.{Sender}
 
 -- the value that was found is this one
 abbrev pub ReadsAs : Option Data → Option Value → Type 0

@@ -1,16 +1,17 @@
-//! The demand of a request on the desk.
-ghost use Rattle.std.specs.Prelude.{◌≡◌, List, ℕ};
+//! Who sends a request, with its target and body, and the demand of the request on the desk.
+
+ghost use Rattle.std.specs.Prelude.{◌≡◌, List, ℕ, IfOk, Ok};
 ghost use Rattle.http_messages.specs.Requests.{IsRequest};
 ghost use Rattle.http_messages.specs.Heads.{Parts};
 ghost use Rattle.http_pages.specs.Admitting.{plain};
-ghost use Rattle.desk_http.specs.Demands.{admitted_of_house, agents_demand, asked_by_nobody, asked_of_house, asks_for_page, asks_to_stop, demand_of, demanded, house_demand, page_demand};
+ghost use Rattle.desk_http.specs.Demands.{admitted_of_house, agents_demand, asked_by_nobody, asked_of_house, asks_for_page, asks_to_stop, demand_of, demanded, house_demand, page_demand, carried, text_of};
 ghost use Rattle.desk_http.specs.DemandValues.{Demands, denied_by, sender_said};
 ghost use Rattle.desk_http.specs.declared.demands.Unmet.TheVariants.{Memory, Refused};
+ghost use Rattle.commands.specs.Orders.{request_of};
 
 use crate::doors::{Asker, Door, Site};
-use crate::senders::Sender;
 use crate::showing::{bare, begin, load};
-use commands::{Ask, Command, Refusal};
+use commands::{Ask, Command, Key, Refusal};
 use http_messages::Request;
 use http_pages::{Denied, HtmlPage, Paths, Route, Verb, admit};
 use std::alloc::{AllocError, Global};
@@ -228,5 +229,43 @@ fn demand_by(alloc: Global, route: Route, sender: &Sender<'_>) -> Result<Demand,
         Route::ShowStock => Ok(Demand::SeeStock),
         Route::ShowMine(after) => Ok(Demand::SeeMine(sender.asker, after)),
         Route::ShowHealth => Ok(Demand::SeeHealth),
+    }
+}
+
+/// Who sends a request, its key, its target and its body.
+#[derive(Clone, Copy)]
+pub(crate) struct Sender<'a> {
+    pub(crate) asker: Asker,
+    pub(crate) key: Option<Key>,
+    pub(crate) target: &'a [u8],
+    pub(crate) body: &'a [u8],
+}
+
+impl Sender<'_> {
+    /// The demand to execute a command: of an agent under its key, without which the request is refused; of the house
+    /// without one.
+    pub(crate) fn carry(&self, alloc: Global, command: Command) -> Result<Demand, Unmet>
+        ensures carry { Demands
+            (denied_by (carried (sender_said self.now) (Ok (request_of command)))) result }
+    {
+        let Asker::Agent(agent) = self.asker else {
+            return Ok(Demand::Carry(command, None));
+        };
+        let Some(key) = self.key else {
+            return Err(Unmet::from(Refusal::NoKey));
+        };
+        let text = self.text(alloc)?;
+        Ok(Demand::Carry(command, Some(Ask::new(agent, key, text))))
+    }
+
+    /// The text under which a reply is kept: the target, a line feed and the body. The only fault is out of memory.
+    fn text(&self, alloc: Global) -> Result<Vec<u8>, AllocError>
+        ensures text { IfOk result (λ text. text.items ≡ text_of (sender_said self.now)) }
+    {
+        let mut text = Vec::with_capacity(alloc, self.target.len())?;
+        text.extend_from_slice(self.target)?;
+        text.push(b'\n')?;
+        text.extend_from_slice(self.body)?;
+        Ok(text)
     }
 }

@@ -15,7 +15,6 @@ mod doors;
 mod law_examples;
 mod laws;
 mod mine;
-mod senders;
 mod showing;
 
 pub use answering::{Answer, answer_to};

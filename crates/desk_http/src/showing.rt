@@ -48,13 +48,12 @@ pub(crate) fn see_journey<B: Book>(
 
     ensures sound { B.is_sound book.new → B.is_sound book.old }
 {
-    match own_journey(book, asker, id)? {
-        Some(journey) => {
-            let items = book.history(id)?;
-            let body = journey_body(alloc, id, journey.cursor, &items)?;
+    match book.trace(id)? {
+        Some(trace) if asker.sees(&trace.brief.agent) => {
+            let body = journey_body(alloc, id, trace.brief.cursor, &trace.items)?;
             Ok(shown_page(Body::Json(body)))
         }
-        None => Ok(refused_page(alloc, &Refusal::NoJourney)?),
+        _ => Ok(refused_page(alloc, &Refusal::NoJourney)?),
     }
 }
 
@@ -119,7 +118,7 @@ pub(crate) fn see_unfinished<B: Book>(
 
     ensures sound { B.is_sound book.new → B.is_sound book.old }
 {
-    let briefs = own_unfinished(alloc, book, asker)?;
+    let briefs = own_unfinished(book, asker)?;
     let body = body_of(alloc, asker, &briefs)?;
     Ok(shown_page(Body::Json(body)))
 }
@@ -136,11 +135,7 @@ fn body_of(alloc: Global, asker: &Asker, briefs: &[Brief]) -> Result<String, All
 }
 
 /// The unfinished journeys that who asks sees, by rising number.
-fn own_unfinished<B: Book>(
-    alloc: Global,
-    book: &mut B,
-    asker: &Asker,
-) -> Result<Vec<Brief>, ServeFault>
+fn own_unfinished<B: Book>(book: &mut B, asker: &Asker) -> Result<Vec<Brief>, ServeFault>
     ensures briefs { B.is_sound book.new → (s : State) → B.stands book.old s →
         Shows (B.stands book.new) (B.leaves book.new) s
         (λ briefs. briefs.items ≡ own_unfinished s.ledger asker.now) result }
@@ -152,18 +147,9 @@ fn own_unfinished<B: Book>(
 
     ensures sound { B.is_sound book.new → B.is_sound book.old }
 {
-    let mut briefs = Vec::new(alloc);
-    let mut after = 0;
-    for _round in 0..u64::MAX {
-        let Some(brief) = book.first_unfinished(after)? else {
-            return Ok(briefs);
-        };
-        if asker.sees(&brief.agent) {
-            briefs.push(brief)?;
-        }
-        after = brief.id;
-    }
-    Err(ServeFault::Memory)
+    let mut briefs = book.unfinished()?;
+    briefs.retain(|brief| asker.sees(&brief.agent));
+    Ok(briefs)
 }
 
 /// The page of the stock.

@@ -1,32 +1,24 @@
-//! The jobs of the desk over any store of the SQL library: what each writes, and what the connection represents after it.
+//! The jobs that act on the desk of any store of the SQL library: what each writes, and what the connection represents
+//! after it.
 //!
 //! A job takes a connection that is in no transaction and has no limit of steps, and returns it so, to be closed, with
-//! its end. `ready_over` opens and recovers the desk for a job that goes on with it.
+//! its end. `ready_over` opens and recovers the desk for a job that goes on with it; `end_of_opening` is the end of a job,
+//! also of one that only shows the desk, whose store could not be opened.
 //!
 //! Words: a connection *represents* a state where an opening finds that state in it; a store without tables represents
 //! a new desk.
 #![tactic(auto)]
 
-mod asked_reports;
 mod field_notes;
-mod holding;
 mod loading;
-mod month_reporting;
 mod notes;
 mod opening;
-mod plain_reports;
 mod recovering;
-mod reporting;
 mod running;
-mod whys;
 
 pub use field_notes::note_wrong_field;
-pub use holding::holders_over;
 pub use loading::load_over;
-pub use month_reporting::months_over;
 pub use notes::note_recovered;
-pub use opening::ready_over;
+pub use opening::{end_of_opening, ready_over};
 pub use recovering::{Recovered, recover_over};
-pub use reporting::{history_over, journeys_over, stock_over};
 pub use running::run_over;
-pub use whys::why_over;

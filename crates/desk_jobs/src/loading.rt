@@ -111,7 +111,8 @@ fn tell_loaded<O: Write>(alloc: Global, reply: Reply, out: &mut O) -> End
 fn send_reply<O: Write>(alloc: Global, reply: &Reply, out: &mut O) -> Result<(), ServeFault>
     ensures sent { OnOk result (Appends (O.contents out.old) (O.contents out.new)
         (ended (reply_line reply.now))) }
-    ensures front { WroteFront (O.contents out.old) (O.contents out.new) (ended (reply_line reply.now)) }
+    ensures front { WroteFront (O.contents out.old) (O.contents out.new)
+        (ended (reply_line reply.now)) }
 {
     let mut line = reply.line(alloc)?;
     line.push('\n')?;

@@ -79,7 +79,7 @@ fn book_over<S: Alter + Drop>(
 }
 
 /// The end if a store could not be opened as a desk.
-pub(crate) fn end_of_opening(fault: OpenFault) -> End
+pub fn end_of_opening(fault: OpenFault) -> End
     ensures end { result ≡ end_of_open fault }
     ensures bad { EndsBadly result }
 {

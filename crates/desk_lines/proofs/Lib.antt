@@ -2,5 +2,6 @@ pub mod LineLemmas
 pub mod AnswerLemmas
 pub mod ServeLemmas
 pub mod WorldLemmas
+pub mod ReasonLemmas
 pub mod OrderLemmas
 pub mod OneLineLemmas

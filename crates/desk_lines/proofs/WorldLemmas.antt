@@ -59,7 +59,7 @@ in-limits (line ∷ ls) = meant-in_limits (meaning_in line) (asks_in ls) (limits
 -- The requests of lines.
 
 -- the requests of lines followed by other lines
-asks_in-append : (ls ms : List (List ℕ)) → asks_in (ls ++ ms) ≡ asks_in ls ++ asks_in ms
+pub asks_in-append : (ls ms : List (List ℕ)) → asks_in (ls ++ ms) ≡ asks_in ls ++ asks_in ms
 asks_in-append [] ms = refl
 asks_in-append (line ∷ ls) ms =
     ap (λ l. asks_meant (meaning_in line) ++ l) (asks_in-append ls ms)

@@ -1,13 +1,14 @@
 //! Runs over the lines of a reader, answered by a recovered desk.
 ghost use Rattle.desk_lines.specs.Answering.{AnswersLine, AnswersOrder};
-ghost use Rattle.desk_lines.specs.Lines.{lines};
+ghost use Rattle.desk_lines.specs.Lines.{lines, meaning_in};
 ghost use Rattle.desk_lines.specs.Orders.{meaning_of};
 ghost use Rattle.desk_lines.specs.Reading.{Keeps, KeepsMore, SaysIfAny};
 ghost use Rattle.desk_lines.specs.Serving.{AnswersAll, AnswersSome};
-ghost use Rattle.desk_lines.specs.Worlds.{GoesOnAmongLines, asks_in};
+ghost use Rattle.desk_lines.specs.Worlds.{GoesOnAmongLines, asks_in, asks_meant};
 ghost use Rattle.ledger.specs.Answer.{State};
 ghost use Rattle.protocols.specs.Scenes.{scene};
 ghost use Rattle.saga_core.specs.Books.{LeavesNoMore};
+ghost use Rattle.saga_core.specs.Reasons.{ActsOnAfter, FailsAmong};
 ghost use Rattle.saga_core.specs.Worlds.{GoesOnWith};
 ghost use Rattle.std.specs.Io.KnownBytes.{IsAtEnd};
 ghost use Rattle.std.specs.Prelude.{◌≡◌, IfOk, IfErr, IfSome, IsErrOf, IsTrue, OnOk, List, ℕ, []};
@@ -53,6 +54,12 @@ pub fn run_lines<R: Read, W: Write, B: Book>(
     ensures stays_failed { IsTrue (B.has_failed book.old) → IsTrue (B.has_failed book.new) }
     ensures stays_left { IsTrue (B.has_failed book.old) →
         LeavesNoMore (B.leaves book.old) (B.leaves book.new) }
+    ensures may_act { B.is_sound book.new → (first : B) → OnOk result
+        (IfSome (R.remaining reader.old) (λ input. ActsOnAfter
+        (B.may_act first book.old) (B.may_act first book.new) (asks_in (lines input)))) }
+    ensures reason { B.is_sound book.new → (first : B) → IsErrOf result ServeFault.Store →
+        IfSome (R.remaining reader.old) (λ input. FailsAmong
+        (B.may_act first book.old) (B.has_reason first book.new) (asks_in (lines input))) }
 
     ensures sound { B.is_sound book.new → B.is_sound book.old }
 {
@@ -80,6 +87,12 @@ fn answer_input<R: Read, W: Write, B: Book>(
     ensures stays_failed { IsTrue (B.has_failed book.old) → IsTrue (B.has_failed book.new) }
     ensures stays_left { IsTrue (B.has_failed book.old) →
         LeavesNoMore (B.leaves book.old) (B.leaves book.new) }
+    ensures may_act { B.is_sound book.new → (first : B) → OnOk result
+        (IfSome (R.remaining reader.old) (λ input. ActsOnAfter
+        (B.may_act first book.old) (B.may_act first book.new) (asks_in (lines input)))) }
+    ensures reason { B.is_sound book.new → (first : B) → IsErrOf result ServeFault.Store →
+        IfSome (R.remaining reader.old) (λ input. FailsAmong
+        (B.may_act first book.old) (B.has_reason first book.new) (asks_in (lines input))) }
 
     ensures sound { B.is_sound book.new → B.is_sound book.old }
 {
@@ -109,6 +122,12 @@ pub(crate) fn answer<B: Book>(
     ensures stays_failed { IsTrue (B.has_failed book.old) → IsTrue (B.has_failed book.new) }
     ensures stays_left { IsTrue (B.has_failed book.old) →
         LeavesNoMore (B.leaves book.old) (B.leaves book.new) }
+    ensures may_act { B.is_sound book.new → (first : B) → (text : List ℕ) → Keeps line.now text →
+        OnOk result (ActsOnAfter (B.may_act first book.old) (B.may_act first book.new)
+        (asks_meant (meaning_in text))) }
+    ensures reason { B.is_sound book.new → (first : B) → (text : List ℕ) → Keeps line.now text →
+        IsErrOf result ServeFault.Store → FailsAmong
+        (B.may_act first book.old) (B.has_reason first book.new) (asks_meant (meaning_in text)) }
 
     ensures sound { B.is_sound book.new → B.is_sound book.old }
 {
@@ -125,6 +144,10 @@ fn carry_out<B: Book>(alloc: Global, order: &Order, book: &mut B) -> Result<Stri
     ensures stays_failed { IsTrue (B.has_failed book.old) → IsTrue (B.has_failed book.new) }
     ensures stays_left { IsTrue (B.has_failed book.old) →
         LeavesNoMore (B.leaves book.old) (B.leaves book.new) }
+    ensures may_act { B.is_sound book.new → (first : B) → OnOk result (ActsOnAfter
+        (B.may_act first book.old) (B.may_act first book.new) (asks_meant (meaning_of order.now))) }
+    ensures reason { B.is_sound book.new → (first : B) → IsErrOf result ServeFault.Store → FailsAmong
+        (B.may_act first book.old) (B.has_reason first book.new) (asks_meant (meaning_of order.now)) }
 
     ensures sound { B.is_sound book.new → B.is_sound book.old }
 {

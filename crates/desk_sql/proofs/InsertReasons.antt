@@ -24,7 +24,7 @@ use Rattle.desk_sql.specs.Causes.{IsUp, HasReason}
 use Rattle.desk_sql.specs.Changes.{is_option, is_mark_at}
 use Rattle.desk_sql.specs.Writable.{HasRowids, MayKeep, MayAddBatch, MayAddJourney, MayAddStep, MayAddItem, MayAddMark}
 use Rattle.desk_sql.specs.FoundRows.{is_for, is_named, item_of, mark_at_pos}
-use Rattle.desk_sql.specs.declared.items.ItemFound.{ItemFound}
+use Rattle.desk_sql.specs.declared.journeys.ItemFound.{ItemFound}
 use Rattle.desk_sql.specs.Texts.{insert_batch_text, insert_journey_text, insert_step_text, insert_item_text, insert_answer_text, insert_mark_text}
 use Rattle.desk_sql.specs.Meanings.{insert_batch_terms, insert_journey_terms, insert_step_terms, insert_item_terms, insert_answer_terms, insert_mark_terms}
 use Rattle.desk_sql.proofs.Meaning.{Means, insert, insert_batch_means, insert_journey_means, insert_step_means, insert_item_means, insert_answer_means, insert_mark_means}

@@ -16,7 +16,7 @@ use Rattle.desk_sql.specs.Rows.{whole, Tables, BatchRow, batch_columns, JourneyR
 use Rattle.desk_sql.specs.Calls.{MayRun, Makes}
 use Rattle.desk_sql.specs.Changes.{adds_batch, adds_journey, adds_step, adds_item, adds_answer, adds_mark}
 use Rattle.desk_sql.specs.FoundRows.{item_of, mark_at_pos}
-use Rattle.desk_sql.specs.declared.items.ItemFound.{ItemFound}
+use Rattle.desk_sql.specs.declared.journeys.ItemFound.{ItemFound}
 use Rattle.desk_sql.specs.Texts.{insert_batch_text, insert_journey_text, insert_step_text, insert_item_text, insert_answer_text, insert_mark_text}
 use Rattle.desk_sql.specs.Meanings.{insert_batch_terms, insert_journey_terms, insert_step_terms, insert_item_terms, insert_answer_terms, insert_mark_terms}
 use Rattle.desk_sql.proofs.Meaning.{insert_batch_means, insert_journey_means, insert_step_means, insert_item_means, insert_answer_means, insert_mark_means}

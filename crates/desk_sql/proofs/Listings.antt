@@ -20,7 +20,7 @@ use Rattle.desk_sql.specs.Readable.{ShowsOne, AreWantTexts, HaveWantTexts, HaveO
 use Rattle.desk_sql.specs.Texts.{find_steps_text, find_options_text, find_items_text, find_marks_text}
 use Rattle.desk_sql.specs.Meanings.{find_steps_query, find_steps_names, find_options_query, find_items_query, find_items_names, find_marks_query, find_marks_names}
 use Rattle.desk_sql.specs.declared.steps.StepFound.{StepFound}
-use Rattle.desk_sql.specs.declared.items.ItemFound.{ItemFound}
+use Rattle.desk_sql.specs.declared.journeys.ItemFound.{ItemFound}
 use Rattle.desk_sql.proofs.Meaning.{find_steps_means, find_options_means, find_items_means, find_marks_means}
 use Rattle.desk_sql.proofs.Testing.{eq_whole, gt_whole, and_true}
 use Rattle.desk_sql.proofs.Ordered.{whole_then, whole_last}

@@ -27,7 +27,7 @@ use Rattle.desk_sql.specs.Changes.{is_option, with_taken}
 use Rattle.desk_sql.specs.Stock.{with_places, is_within, with_fewer, with_more, HaveFree, HaveRoom}
 use Rattle.desk_sql.specs.Writable.{AreLow, HasRowids}
 use Rattle.desk_sql.specs.FoundRows.{mark_at_pos}
-use Rattle.desk_sql.specs.declared.items.ItemFound.{ItemFound}
+use Rattle.desk_sql.specs.declared.journeys.ItemFound.{ItemFound}
 use Rattle.desk_sql.specs.declared.journeys.Cursor.{Cursor}
 use Rattle.desk_sql.specs.declared.stock.NightRange.{NightRange}
 use Rattle.desk_sql.specs.Texts.{put_cell_text, insert_batch_text, insert_journey_text, insert_step_text, insert_item_text, insert_answer_text, insert_mark_text, update_meta_text, move_journey_text, mark_step_text, shift_nights_text, delete_mark_text}

@@ -6,7 +6,7 @@ use Rattle.desk_sql.specs.Rows.{Tables, no_rows, MetaRow, BatchRow, CursorRow, J
 use Rattle.desk_sql.specs.FoundRows.{is_numbered, item_of, mark_at_pos}
 use Rattle.desk_sql.specs.declared.journeys.Cursor.{Cursor}
 use Rattle.desk_sql.specs.declared.steps.StepOption.{StepOption}
-use Rattle.desk_sql.specs.declared.items.ItemFound.{ItemFound}
+use Rattle.desk_sql.specs.declared.journeys.ItemFound.{ItemFound}
 
 -- the row of meta has these numbers
 abbrev pub counts : MetaRow → Tables → Tables

@@ -10,7 +10,7 @@ use Rattle.desk_sql.specs.declared.journeys.Cursor.{Cursor}
 use Rattle.desk_sql.specs.declared.journeys.JourneyFound.{JourneyFound}
 use Rattle.desk_sql.specs.declared.steps.StepFound.{StepFound}
 use Rattle.desk_sql.specs.declared.batches.BatchFound.{BatchFound}
-use Rattle.desk_sql.specs.declared.items.ItemFound.{ItemFound}
+use Rattle.desk_sql.specs.declared.journeys.ItemFound.{ItemFound}
 
 -- the row of meta with these numbers
 abbrev pub meta_of : Meta → MetaRow

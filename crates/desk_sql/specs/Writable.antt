@@ -17,7 +17,7 @@ use Rattle.desk_sql.specs.Stock.{is_within, HaveFree}
 use Rattle.desk_sql.specs.declared.journeys.Cursor.{Cursor}
 use Rattle.desk_sql.specs.declared.stock.NightRange.{NightRange}
 use Rattle.desk_sql.specs.Changes.{AreJourneysBelow, AreItemsBelow, is_option, is_mark_at}
-use Rattle.desk_sql.specs.declared.items.ItemFound.{ItemFound}
+use Rattle.desk_sql.specs.declared.journeys.ItemFound.{ItemFound}
 
 -- each rowid is positive, and so many larger ones are left
 abbrev pub AreLow : ℕ → List Row → Type 0

@@ -9,7 +9,6 @@
 mod answers;
 mod batches;
 mod founding;
-mod items;
 mod journeys;
 mod marks;
 mod meta;
@@ -21,10 +20,9 @@ mod versions;
 pub use answers::{KeptAnswer, find_answer, insert_answer};
 pub use batches::{BatchFound, find_batch, insert_batch};
 pub use founding::{has_no_tables, make_tables};
-pub use items::{ItemFound, find_items, insert_item, read_item};
 pub use journeys::{
-    Cursor, JourneyFound, find_journey, first_owned, first_unfinished, insert_journey,
-    move_journey, read_journey,
+    Cursor, ItemFound, JourneyFound, find_items, find_journey, first_owned, first_unfinished,
+    insert_item, insert_journey, move_journey, read_item, read_journey,
 };
 pub use marks::{delete_mark, find_marks, insert_mark};
 pub use meta::{Meta, read_meta, update_meta};

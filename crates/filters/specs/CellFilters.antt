@@ -2,7 +2,7 @@
 use Rattle.std.specs.Prelude.{ℕ, ◌==◌, ◌&&◌, Bool, true, List, bytes_eq, nat_le, Option, None, Some}
 use Rattle.allotment.specs.Cells.{kind_number}
 use Rattle.allotment.specs.declared.cells.Cell.{Cell}
-use Rattle.allotment.specs.declared.kinds.Kind.{Kind}
+use Rattle.allotment.specs.declared.codes.Kind.{Kind}
 use Rattle.filters.specs.declared.cells.CellFilter.{CellFilter}
 
 -- the kind of this number is the one that is named, if one is

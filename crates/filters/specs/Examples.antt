@@ -1,7 +1,7 @@
 -- Filters and what they let through, worked by hand.
 use Rattle.std.specs.Prelude.{◌≡◌, codes, true, false, None, Some, refl}
 use Rattle.allotment.specs.declared.cells.Cell.{Cell}
-use Rattle.allotment.specs.declared.kinds.Kind.TheVariants.{Flight, Room}
+use Rattle.allotment.specs.declared.codes.Kind.TheVariants.{Flight, Room}
 use Rattle.filters.specs.CellFilters.{is_cell_asked}
 use Rattle.filters.specs.declared.cells.CellFilter.{CellFilter}
 

@@ -3,7 +3,7 @@ use Rattle.std.specs.Prelude.{◌≡◌, [], ◌∷◌, ◌++◌, codes, refl}
 use Rattle.std.specs.Fmt.{digits}
 use Rattle.serde_json.proofs.OnLiterals.{serde_json_on_literals}
 use Rattle.csv.specs.Writing.{escaped, fields_text, is_blank}
-use Rattle.allotment.specs.declared.kinds.Kind.TheVariants.{Flight, Room}
+use Rattle.allotment.specs.declared.codes.Kind.TheVariants.{Flight, Room}
 use Rattle.commands.specs.Request.{Begin, Step}
 use Rattle.ledger.specs.Answer.{State, start}
 use Rattle.ledger.specs.Examples.{after_all, load, nights_of, row, row_after, step, untried, want}

@@ -6,9 +6,8 @@ ghost use Rattle.reports.specs.Records.{csv_line};
 ghost use Rattle.serde_json.specs.View.{view};
 
 use crate::holders::Holder;
-use crate::records::{csv_line, put_number};
 use csv::ByteRecord;
-use reports::Format;
+use reports::{Format, csv_line, json_line, put_number};
 use serde_json::{Value, json};
 use std::alloc::{AllocError, Global};
 
@@ -63,9 +62,7 @@ fn holder_object(alloc: Global, holder: &Holder) -> Result<String, AllocError>
     ensures line { IfOk result (λ text. string_bytes text ≡ json_line (holder_data holder.now)) }
 {
     let value = holder_value(alloc, holder)?;
-    let mut text = value.to_string(alloc)?;
-    text.push('\n')?;
-    Ok(text)
+    json_line(alloc, &value)
 }
 
 /// The value of a holder.

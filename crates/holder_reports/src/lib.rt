@@ -9,7 +9,6 @@
 mod holders;
 mod laws;
 mod layouts;
-mod records;
 mod writing;
 
 pub use holders::Holder;

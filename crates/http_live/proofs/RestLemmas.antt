@@ -8,7 +8,7 @@ use Rattle.http_conversations.proofs.Steps.{no_stop}
 use Rattle.http_conversations.specs.History.{HasNoTurn, History}
 use Rattle.http_live.specs.Endings.{ending_after, ends_stopped, is_stop}
 use Rattle.http_live.specs.Resting.{IsUsedUp}
-use Rattle.http_live.specs.declared.turns.Ending.TheVariants as ending
+use Rattle.http_live.specs.declared.serving.Ending.TheVariants as ending
 use Rattle.http_live.specs.declared.seats.Standing.{Standing}
 use Rattle.http_live.specs.declared.seats.Standing.TheVariants.{Between, Amid, Unsent, Lingering, Answered, Stopped, Busy, Over}
 

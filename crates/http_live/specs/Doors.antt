@@ -2,8 +2,8 @@
 use Rattle.std.specs.Prelude.{⊤}
 use Rattle.desk_http.specs.declared.doors.Door.{Door}
 use Rattle.http_ways.specs.declared.ways.Way.{Way}
-use Rattle.http_live.specs.declared.turns.Turn.{Turn}
-use Rattle.http_live.specs.declared.turns.Turn.TheVariants.{Comes, Ready, Leaves, End}
+use Rattle.http_live.specs.declared.serving.Turn.{Turn}
+use Rattle.http_live.specs.declared.serving.Turn.TheVariants.{Comes, Ready, Leaves, End}
 
 -- a peer that comes in this turn comes by the door of its reader
 abbrev pub ComesByItsDoor : {R W : Type 0} → (R → Door → Type 0) → Turn R W → Type 0

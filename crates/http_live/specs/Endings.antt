@@ -1,8 +1,8 @@
 -- How serving ends.
 use Rattle.std.specs.Prelude.{Bool, true, false, Option, Some, None, Result, Ok, Err}
 use Rattle.commands.specs.declared.replies.Fault.{Fault}
-use Rattle.http_live.specs.declared.turns.Ending.{Ending}
-use Rattle.http_live.specs.declared.turns.Ending.TheVariants as ending
+use Rattle.http_live.specs.declared.serving.Ending.{Ending}
+use Rattle.http_live.specs.declared.serving.Ending.TheVariants as ending
 use Rattle.http_live.specs.declared.seats.Standing.{Standing}
 use Rattle.http_live.specs.declared.seats.Standing.TheVariants.{Stopped}
 

@@ -11,9 +11,7 @@
 mod connection;
 mod seats;
 mod serving;
-mod turns;
 
 pub use connection::Connection;
 pub use seats::{SEATS, Seat, Standing, empty_seats};
-pub use serving::{finish_many, serve_many};
-pub use turns::{Ending, Turn, Turns};
+pub use serving::{Ending, Turn, Turns, finish_many, serve_many};

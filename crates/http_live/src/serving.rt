@@ -1,15 +1,18 @@
-//! Serving the connections of all seats, and ending those that are left.
+//! Where turns come from; serving the connections of all seats, and ending those that are left.
+
 ghost use Rattle.http_conversations.specs.Leading.{has_broken};
 ghost use Rattle.http_live.specs.Arrivals.{AreAtTheirDoors, AreReadByTheirWays, arrivals_at};
-ghost use Rattle.http_live.specs.Endings.{ends_stopped, has_stopped};
+ghost use Rattle.http_live.specs.Endings.{ends_stopped, has_stopped, ending_after};
 ghost use Rattle.http_live.specs.Merging.{Merges};
 ghost use Rattle.http_live.specs.Seats.{HasStopAmong, IsTaken, exchanges_at};
 ghost use Rattle.http_live.specs.Worlds.{WorldsGoOn};
 ghost use Rattle.saga_core.specs.Books.{LeavesNoMore};
 ghost use Rattle.std.specs.Prelude.{◌≡◌, ◌<◌, ◌≤◌, [], length, map, false, Ok, Some, IfErr, IsErrOf, IsTrue};
+ghost use Rattle.desk_http.specs.declared.doors.Door.{Door};
+ghost use Rattle.http_live.specs.Doors.{ComesByItsDoor, ComesByItsWay};
+ghost use Rattle.http_ways.specs.declared.ways.Way.{Way};
 
 use crate::seats::{Seat, Standing};
-use crate::turns::{Ending, Turn, Turns, ending_after};
 use commands::Fault;
 use desk_http::Door;
 use http_conversations::MOST_READ;
@@ -233,4 +236,70 @@ fn clear_at<R: Read + Drop, W: Write + Drop>(seats: &mut [Seat<R, W>], at: usize
         return;
     }
     seats[at].clear();
+}
+
+/// What happens next.
+#[derive(Drop)]
+pub enum Turn<R, W> {
+    /// A peer takes this seat, by this door and this way. Who had it before leaves.
+    Comes(usize, Door, Way, R, W),
+    /// The connection of this seat may go on.
+    Ready(usize),
+    /// The connection of this seat is ended.
+    Leaves(usize),
+    /// No turn comes.
+    End,
+}
+
+/// What the system reports, and who comes and goes.
+pub trait Turns {
+    type Reader: Read + Drop;
+
+    type Writer: Write + Drop;
+
+    /// What this reader gives comes in at this door.
+    ghost is_at: { Self.Reader → Door → Type 0 };
+
+    /// What this reader gives is read by this way.
+    ghost is_by: { Self.Reader → Way → Type 0 };
+
+    /// Waits for the next turn. A peer comes by the door of its reader, and is read by the way of its reader.
+    fn next_turn(&mut self) -> Turn<Self::Reader, Self::Writer>
+        ensures door { ComesByItsDoor is_at result }
+        ensures way { ComesByItsWay is_by result };
+
+    /// What the clock shows, in seconds since 1970, if it can be read. Pages by the wide way have its date.
+    fn second(&mut self) -> Option<u64> {
+        None
+    }
+
+    /// Sees what was received at a seat and may be answered in its turn, which comes next. Nothing depends on it: a log may
+    /// be kept so.
+    fn see_received(&mut self, _seat: usize, _received: &[u8]) {}
+
+    /// Sees how a turn of a seat ended, what is left of its page, and whether the connection ends after it. Nothing depends on
+    /// it.
+    fn see_page(&mut self, _seat: usize, _standing: Standing, _page: &[u8], _closes: bool) {}
+
+    /// Hears what the connection of a seat waits for after its turn.
+    fn hear(&mut self, seat: usize, standing: Standing);
+}
+
+/// Why no more turns are taken.
+#[derive(Clone, Copy, Debug, PartialEq, Eq)]
+pub enum Ending {
+    /// No turn comes.
+    NoTurn,
+    /// The house asked the desk to stop.
+    Stopped,
+}
+
+/// The ending after a turn of a connection, if serving ends with it.
+pub(crate) fn ending_after(standing: Standing) -> Option<Ending>
+    ensures ending { result ≡ ending_after standing }
+{
+    match standing {
+        Standing::Stopped => Some(Ending::Stopped),
+        _ => None,
+    }
 }

@@ -9,8 +9,8 @@ use Rattle.httparse.specs.declared.spans.Span.{Span}
 use Rattle.httparse.specs.Spans.{IsHeaderWithin, IsWithin, header_bytes, span_bytes}
 use Rattle.http_messages.specs.Heads.{Named, is_alike, values_named}
 use Rattle.http_messages.specs.Fields.{IsFound, found_and, named_in}
-use Rattle.http_messages.specs.declared.fields.Found.{Found}
-use Rattle.http_messages.specs.declared.fields.Found.TheVariants.{Absent, Once, Again}
+use Rattle.http_messages.specs.declared.heads.Found.{Found}
+use Rattle.http_messages.specs.declared.heads.Found.TheVariants.{Absent, Once, Again}
 
 -- the values of two lists of fields are those of the first, followed by those of the second
 values-append : (name : List ℕ) (xs ys : List Named)

@@ -5,8 +5,8 @@ use Rattle.httparse.specs.declared.spans.HeaderSpan.{HeaderSpan}
 use Rattle.httparse.specs.Grammar.{RequestHead}
 use Rattle.httparse.specs.Spans.{IsRequestWithin, IsWithin, header_bytes, span_bytes}
 use Rattle.http_messages.specs.Heads.{IsHead, Named, Parts, are_lengths, is_length, length_in, parts_of}
-use Rattle.http_messages.specs.declared.fields.Found.{Found}
-use Rattle.http_messages.specs.declared.fields.Found.TheVariants.{Absent, Once, Again}
+use Rattle.http_messages.specs.declared.heads.Found.{Found}
+use Rattle.http_messages.specs.declared.heads.Found.TheVariants.{Absent, Once, Again}
 use Rattle.http_messages.specs.declared.requests.Length.{Length}
 use Rattle.http_messages.specs.declared.requests.Length.TheVariants.{Untold, Bytes, Bad}
 use Rattle.http_messages.specs.declared.heads.Head.{Head}

@@ -8,17 +8,14 @@
 //! as many bytes as a head may have: there it is known whether it is a head.
 #![tactic(auto)]
 
-mod fields;
-mod first;
 mod heads;
 mod incoming;
 mod laws;
 mod places;
 mod requests;
 
-pub use fields::{Found, agent_in, find, key_in};
-pub use first::{decided_front, first_message};
+pub use heads::{Found, agent_in, find, key_in};
 pub use incoming::Incoming;
 pub use laws::{heads_are_told, messages_stay, one_reading, page_is_asked_twice, pages_come_first};
 pub use places::LONGEST_HEAD;
-pub use requests::{Message, ReadFault, Request};
+pub use requests::{Message, ReadFault, Request, decided_front, first_message};

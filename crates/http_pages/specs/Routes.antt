@@ -11,9 +11,9 @@ use Rattle.allotment.specs.Texts.{parts, slash, keep_if, number_from}
 use Rattle.commands.specs.Limits.{most_events, most_named_position}
 use Rattle.commands.specs.Names.{is_batch_name}
 use Rattle.http_pages.specs.Verbs.{verb_text}
-use Rattle.http_pages.specs.declared.places.Entry.{Entry}
-use Rattle.http_pages.specs.declared.places.Place.{Place}
-use Rattle.http_pages.specs.declared.places.Place.TheVariants as place
+use Rattle.http_pages.specs.declared.routes.Entry.{Entry}
+use Rattle.http_pages.specs.declared.routes.Place.{Place}
+use Rattle.http_pages.specs.declared.routes.Place.TheVariants as place
 use Rattle.http_pages.specs.declared.routes.Route.{Route}
 use Rattle.http_pages.specs.declared.routes.Route.TheVariants.{LoadBatch, Begin, Step, Abort, Save, ShowJourney, ShowPlan, ShowUnfinished, ShowStock, ShowMine, ShowHealth}
 use Rattle.http_pages.specs.declared.routes.Unrouted.{Unrouted}

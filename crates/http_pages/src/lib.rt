@@ -11,7 +11,6 @@
 mod answers;
 mod bodies;
 mod heads;
-mod places;
 mod plans;
 mod routes;
 #[cfg(test)]

@@ -4,11 +4,11 @@ use Rattle.desk_http.specs.declared.doors.Door.{Door}
 use Rattle.desk_http.specs.declared.doors.Door.TheVariants.{House}
 use Rattle.desk_http.specs.declared.doors.Site.{Site}
 use Rattle.http_ways.specs.declared.ways.Way.{Way}
-use Rattle.http_live.specs.declared.turns.Turn.{Turn}
-use Rattle.http_live.specs.declared.turns.Turn.TheVariants.{Comes, Ready, Leaves, End}
-use Rattle.http_sockets.specs.declared.ends.ReadEnd.{ReadEnd}
-use Rattle.http_sockets.specs.declared.ends.Socket.{Socket}
-use Rattle.http_sockets.specs.declared.ends.Socket.TheVariants.{Port, Path}
+use Rattle.http_live.specs.declared.serving.Turn.{Turn}
+use Rattle.http_live.specs.declared.serving.Turn.TheVariants.{Comes, Ready, Leaves, End}
+use Rattle.http_sockets.specs.declared.places.ReadEnd.{ReadEnd}
+use Rattle.http_sockets.specs.declared.places.Socket.{Socket}
+use Rattle.http_sockets.specs.declared.places.Socket.TheVariants.{Port, Path}
 use Rattle.http_sockets.specs.declared.sockets.Sockets.{Sockets}
 
 -- those at the path come in at the door of the house, and none at the port does

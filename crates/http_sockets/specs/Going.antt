@@ -12,8 +12,8 @@ use Rattle.http_live.specs.Seats.{exchanges_at}
 use Rattle.http_live.specs.Worlds.{GoesOnBy}
 use Rattle.http_live.specs.declared.seats.Seat.{Seat}
 use Rattle.http_sockets.specs.Doors.{IsAt, IsReadBy}
-use Rattle.http_sockets.specs.declared.ends.ReadEnd.{ReadEnd}
-use Rattle.http_sockets.specs.declared.ends.WriteEnd.{WriteEnd}
+use Rattle.http_sockets.specs.declared.places.ReadEnd.{ReadEnd}
+use Rattle.http_sockets.specs.declared.places.WriteEnd.{WriteEnd}
 
 -- each world at whose end the book stood goes on by some exchanges, while the book is sound
 abbrev pub GoOnBySome : Type 0 → (State → Type 0) → (State → Type 0) → (State → State → Type 0) → Bool → Type 0

@@ -7,7 +7,6 @@
 //! may owe the rest of a message, or to take a page.
 #![tactic(auto)]
 
-mod ends;
 mod files;
 mod listeners;
 mod places;

@@ -1,6 +1,6 @@
 //! The listeners: a port of 127.0.0.1, and perhaps the path of a Unix socket.
-use crate::ends::Socket;
 use crate::files::{listen_at, remove_socket};
+use crate::places::Socket;
 use mio::net::{TcpListener, UnixListener};
 use mio::{Interest, Registry, Token};
 use std::alloc::Global;

@@ -4,7 +4,7 @@ ghost use Rattle.http_sockets.specs.Going.{GoOnBySockets, GoOnBySome};
 ghost use Rattle.saga_core.specs.Books.{LeavesNoMore};
 ghost use Rattle.std.specs.Prelude.{◌≡◌, IsErrOf, IsTrue};
 
-use crate::ends::{ReadEnd, WriteEnd};
+use crate::places::{ReadEnd, WriteEnd};
 use crate::sockets::Sockets;
 use commands::Fault;
 use http_live::{Ending, Seat, empty_seats, finish_many, serve_many};

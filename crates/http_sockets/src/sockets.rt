@@ -3,9 +3,8 @@ ghost use Rattle.std.specs.Prelude.{◌≡◌, None, IfOk, IfSome, IsSome, OnErr
 ghost use Rattle.http_live.specs.Doors.{ComesByItsDoor, ComesByItsWay};
 ghost use Rattle.http_sockets.specs.Doors.{IsAt, IsReadBy};
 
-use crate::ends::{ReadEnd, Socket, WriteEnd, ends_of};
 use crate::listeners::{Accepted, FIRST, Listeners};
-use crate::places::Places;
+use crate::places::{Places, ReadEnd, Socket, WriteEnd, ends_of};
 use crate::serving::Limits;
 use desk_http::{Door, Site};
 use http_journal::Journal;

@@ -24,7 +24,7 @@ use Rattle.http_wide_messages.specs.declared.messages.WideMessage.TheVariants as
 use Rattle.http_wide_messages.specs.declared.messages.WideRequest.{WideRequest}
 use Rattle.http_ways.specs.Reading.{IsFirstOfBy}
 use Rattle.http_ways.specs.Ways.{IsSaidWidely, IsWideText, Said, Says, unread}
-use Rattle.http_ways.specs.declared.reading.TheConstants.{MOST_TEXT}
+use Rattle.http_ways.specs.declared.ways.TheConstants.{MOST_TEXT}
 use Rattle.http_ways.specs.declared.ways.Arrived.{Arrived}
 use Rattle.http_ways.specs.declared.ways.Layout.{Layout}
 use Rattle.http_ways.specs.declared.ways.Layout.TheVariants as layout

@@ -12,7 +12,7 @@ use Rattle.http_wide.specs.declared.denials.Denial.TheVariants.{TooLarge}
 use Rattle.http_wide_messages.specs.Messages.{IsOpen, IsWideMessage, rest_of}
 use Rattle.http_wide_messages.specs.Plain.{plain_parts}
 use Rattle.http_wide_messages.specs.declared.messages.WideMessage.TheVariants as taken
-use Rattle.http_ways.specs.declared.reading.TheConstants.{MOST_TEXT}
+use Rattle.http_ways.specs.declared.ways.TheConstants.{MOST_TEXT}
 use Rattle.http_ways.specs.declared.ways.Layout.{Layout}
 use Rattle.http_ways.specs.declared.ways.Layout.TheVariants as layout
 use Rattle.http_ways.specs.declared.ways.Way.{Way}

@@ -9,13 +9,9 @@
 //! one is shown.
 #![tactic(auto)]
 
-mod answering;
 mod laws;
-mod reading;
 mod showing;
 mod ways;
 
-pub use answering::answer_by;
 pub use laws::{asks_are_short, post_has_a_short_ask, post_is_first, said_is_first};
-pub use reading::{MOST_TEXT, first_by};
-pub use ways::{Arrived, Layout, Way, go_on_by, go_on_text};
+pub use ways::{Arrived, Layout, MOST_TEXT, Way, answer_by, first_by, go_on_by, go_on_text};

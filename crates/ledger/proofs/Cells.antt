@@ -5,8 +5,8 @@ use Rattle.std.proofs.lemmas.Slice.Eq.{bytes_eq-Decides}
 use Rattle.std.specs.Prelude.{true, ◌&&◌, ◌==◌, bytes_eq}
 use Rattle.allotment.specs.Cells.{is_cell, kind_number}
 use Rattle.allotment.specs.declared.cells.Cell.{Cell}
-use Rattle.allotment.specs.declared.kinds.Kind.{Kind}
-use Rattle.allotment.specs.declared.kinds.Kind.TheVariants.{Flight, Room, Transfer, Cover}
+use Rattle.allotment.specs.declared.codes.Kind.{Kind}
+use Rattle.allotment.specs.declared.codes.Kind.TheVariants.{Flight, Room, Transfer, Cover}
 
 -- the kind of a number
 pub kind_of : ℕ → Kind

@@ -1,7 +1,7 @@
 -- Worked examples of journeys: each is computed by the definitions.
 use Rattle.std.specs.Prelude.{◌≡◌, ℕ, ◌++◌, List, [], ◌∷◌, Some, refl}
 use Rattle.allotment.specs.declared.cells.Row.{Row}
-use Rattle.allotment.specs.declared.kinds.Kind.TheVariants.{Flight, Room, Transfer}
+use Rattle.allotment.specs.declared.codes.Kind.TheVariants.{Flight, Room, Transfer}
 use Rattle.plan.specs.PlanModel.{Planned}
 use Rattle.commands.specs.Request.{Request, Begin, Step, Abort, Stop, Save}
 use Rattle.commands.specs.declared.items.Cause.TheVariants as cause

@@ -1,6 +1,6 @@
 -- Worked examples of requests with a key: each is computed by the definitions.
 use Rattle.std.specs.Prelude.{◌≡◌, ℕ, true, List, [], ◌∷◌, Option, Some, None, refl}
-use Rattle.allotment.specs.declared.kinds.Kind.TheVariants.{Flight}
+use Rattle.allotment.specs.declared.codes.Kind.TheVariants.{Flight}
 use Rattle.commands.specs.Asks.{Asked}
 use Rattle.commands.specs.Request.{Request, Begin, Step}
 use Rattle.commands.specs.declared.items.Phase.TheVariants.{Ended}

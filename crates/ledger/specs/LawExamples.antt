@@ -2,7 +2,7 @@
 -- be told of them.
 use Rattle.std.specs.Prelude.{◌≡◌, ℕ, zero, suc, false, List, [], ◌∷◌, ◌++◌, Some, refl}
 use Rattle.allotment.specs.declared.cells.Cell.{Cell}
-use Rattle.allotment.specs.declared.kinds.Kind.TheVariants.{Flight, Transfer}
+use Rattle.allotment.specs.declared.codes.Kind.TheVariants.{Flight, Transfer}
 use Rattle.plan.specs.PlanModel.{Planned, is_marked_at}
 use Rattle.commands.specs.Names.{house}
 use Rattle.commands.specs.declared.items.Item.{Item}

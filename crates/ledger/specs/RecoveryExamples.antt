@@ -4,7 +4,7 @@ use Rattle.std.specs.List.{list_all}
 use Rattle.std.proofs.Common.{ap, sym, ◌∙◌}
 use Rattle.std.proofs.lemmas.Bool.{and_parts}
 use Rattle.std.proofs.Math.Nat.{not-suc-le-zero, le_of_suc-le-suc}
-use Rattle.allotment.specs.declared.kinds.Kind.TheVariants.{Flight, Room, Transfer}
+use Rattle.allotment.specs.declared.codes.Kind.TheVariants.{Flight, Room, Transfer}
 use Rattle.plan.specs.PlanModel.{Planned}
 use Rattle.commands.specs.Names.{house}
 use Rattle.commands.specs.Request.{Begin, Step, Abort, Save}

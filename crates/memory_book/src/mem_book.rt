@@ -9,7 +9,7 @@ use crate::stock::Stock;
 use allotment::{Cell, Held, Night, Want};
 use commands::{Agent, Ask, Batch, Command, Fault, Item, MOST_EVENTS, Refusal, Reply};
 use plan::Plan;
-use saga_core::{Book, Brief, Counts, Record, is_finished};
+use saga_core::{Book, Brief, Counts, Record, Trace, is_finished};
 use std::alloc::{AllocError, Global};
 
 /// The desk in memory.
@@ -69,7 +69,7 @@ impl MemBook {
     }
 
     /// How many of the journeys are unfinished. Looks at each of them.
-    fn unfinished(&self) -> usize
+    fn unfinished_count(&self) -> usize
         ensures number { result ≡ length (filter is_unfinished self.now.journeys.items) }
     {
         self.journeys
@@ -189,7 +189,7 @@ impl Book for MemBook {
         Ok(Counts {
             events: self.events,
             journeys: self.journeys.as_slice().len() as u64,
-            unfinished: self.unfinished() as u64,
+            unfinished: self.unfinished_count() as u64,
         })
     }
 
@@ -205,5 +205,29 @@ impl Book for MemBook {
             Ok(rows) => Ok(rows),
             Err(_) => Err(Fault::Memory),
         }
+    }
+
+    fn trace(&mut self, id: u64) -> Result<Option<Trace>, Fault> {
+        match self.place_of(id) {
+            None => Ok(None),
+            Some(place) => {
+                let brief = self.journeys[place].brief(id);
+                match Vec::from_slice(self.alloc, &self.journeys[place].items) {
+                    Ok(items) => Ok(Some(Trace { brief, items })),
+                    Err(_) => Err(Fault::Memory),
+                }
+            }
+        }
+    }
+
+    fn unfinished(&mut self) -> Result<Vec<Brief>, Fault> {
+        let mut briefs = Vec::new(self.alloc);
+        for place in 0..self.journeys.len() {
+            let brief = self.journeys[place].brief(place as u64 + 1);
+            if is_unfinished_above(&brief, 0) && briefs.push(brief).is_err() {
+                return Err(Fault::Memory);
+            }
+        }
+        Ok(briefs)
     }
 }

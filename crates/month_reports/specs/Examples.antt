@@ -3,7 +3,7 @@ use Rattle.std.specs.Prelude.{◌≡◌, List, [], ◌∷◌, ◌++◌, codes, m
 use Rattle.std.specs.Fmt.{digits}
 use Rattle.std.proofs.Common.{lit≤}
 use Rattle.allotment.specs.Cells.{the_cell}
-use Rattle.allotment.specs.declared.kinds.Kind.TheVariants.{Room}
+use Rattle.allotment.specs.declared.codes.Kind.TheVariants.{Room}
 use Rattle.allotment.specs.declared.places.Held.{Held}
 use Rattle.reports.specs.declared.formats.Format.TheVariants.{Text}
 use Rattle.month_reports.specs.Calendars.{mark_of}

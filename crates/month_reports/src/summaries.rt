@@ -1,16 +1,15 @@
 //! The line of a month in a summary, in each format.
-ghost use Rattle.std.specs.Prelude.{◌≡◌, ◌≤◌, [], ◌∷◌, ◌++◌, false, decimal, length, IfOk, OnOk, string_bytes};
+ghost use Rattle.std.specs.Prelude.{◌≡◌, ◌≤◌, [], ◌∷◌, ◌++◌, decimal, length, IfOk, OnOk, string_bytes};
 ghost use Rattle.csv.specs.Records.{fields_of, partial_of};
-ghost use Rattle.csv.specs.Writing.{fields_written, has_written, writer_pending, writer_setup, writer_under};
 ghost use Rattle.reports.specs.Objects.{json_line};
-ghost use Rattle.reports.specs.Records.{csv_line, rfc_4180};
+ghost use Rattle.reports.specs.Records.{csv_line};
 ghost use Rattle.serde_json.specs.View.{view};
 ghost use Rattle.month_reports.specs.Summaries.{month_text, product_columns, summary_data, summary_fields, summary_head, summary_line, summary_names, summary_row, sums_columns};
 
 use crate::sums::{MOST_NIGHTS, Sums, sums_of};
 use allotment::{Cell, Held, Night};
-use csv::{ByteRecord, Terminator, Writer, WriterBuilder};
-use reports::Format;
+use csv::ByteRecord;
+use reports::{Format, csv_line, json_line, put_field, put_number};
 use serde_json::{Value, json};
 use std::alloc::{AllocError, Global};
 
@@ -101,9 +100,7 @@ fn summary_object(alloc: Global, cell: &Cell, sums: &Sums) -> Result<String, All
 {
     let month = month_text(alloc, cell.night)?;
     let value = summary_value(alloc, cell, month.as_str(), sums)?;
-    let mut text = value.to_string(alloc)?;
-    text.push('\n')?;
-    Ok(text)
+    json_line(alloc, &value)
 }
 
 /// The value of a month with this text and these sums, of which a cell is this one.
@@ -138,62 +135,13 @@ fn summary_record(alloc: Global, cell: &Cell, sums: &Sums) -> Result<Vec<u8>, Al
 {
     let month = month_text(alloc, cell.night)?;
     let mut row = ByteRecord::new(alloc);
-    put(&mut row, cell.kind.word())?;
-    put(&mut row, cell.supplier.as_str())?;
-    put(&mut row, cell.product.as_str())?;
-    put(&mut row, month.as_str())?;
+    put_field(&mut row, cell.kind.word())?;
+    put_field(&mut row, cell.supplier.as_str())?;
+    put_field(&mut row, cell.product.as_str())?;
+    put_field(&mut row, month.as_str())?;
     put_number(alloc, &mut row, sums.nights)?;
     put_number(alloc, &mut row, sums.allot)?;
     put_number(alloc, &mut row, sums.held)?;
     put_number(alloc, &mut row, sums.free)?;
     csv_line(alloc, &row)
-}
-
-/// Adds a number as a field.
-fn put_number(alloc: Global, row: &mut ByteRecord, number: u64) -> Result<(), AllocError>
-    requires whole { partial_of row.old ≡ [] }
-
-    ensures fields { OnOk result (fields_of row.new ≡ fields_of row.old ++ decimal number ∷ []) }
-    ensures whole { OnOk result (partial_of row.new ≡ []) }
-{
-    let digits = format!(in alloc; "{number}")?;
-    put(row, digits.as_str())
-}
-
-/// Adds a field.
-fn put(row: &mut ByteRecord, field: &str) -> Result<(), AllocError>
-    requires whole { partial_of row.old ≡ [] }
-
-    ensures fields { OnOk result (fields_of row.new ≡ fields_of row.old ++ field.now ∷ []) }
-    ensures whole { OnOk result (partial_of row.new ≡ []) }
-{
-    row.push_field(field.as_bytes())
-}
-
-/// The text of a record, with its line end.
-fn csv_line(alloc: Global, row: &ByteRecord) -> Result<Vec<u8>, AllocError>
-    ensures fields { IfOk result (λ text. text.items ≡ csv_line (fields_of row.now)) }
-{
-    let mut writer = new_writer(alloc);
-    // Writing to a list in memory fails only if it is out of memory.
-    if writer.write_byte_record(row).is_err() {
-        return Err(AllocError);
-    }
-    match writer.into_inner() {
-        Ok(text) => Ok(text),
-        Err(_) => Err(AllocError),
-    }
-}
-
-/// A writer of records to a list in memory.
-fn new_writer(alloc: Global) -> Writer<Vec<u8>>
-    ensures setup { writer_setup result ≡ rfc_4180 }
-    ensures under { (writer_under result).items ≡ [] }
-    ensures pending { writer_pending result ≡ [] }
-    ensures fields { fields_written result ≡ 0 }
-    ensures wrote { has_written result ≡ false }
-{
-    WriterBuilder::new()
-        .terminator(Terminator::CRLF)
-        .from_writer(Vec::new(alloc))
 }

@@ -3,7 +3,7 @@ use Rattle.std.specs.Prelude.{◌≡◌, [], ◌∷◌, ◌++◌, codes, refl}
 use Rattle.std.specs.Fmt.{digits}
 use Rattle.serde_json.proofs.OnLiterals.{serde_json_on_literals}
 use Rattle.csv.specs.Writing.{escaped, fields_text, is_blank}
-use Rattle.allotment.specs.declared.kinds.Kind.TheVariants.{Flight, Room}
+use Rattle.allotment.specs.declared.codes.Kind.TheVariants.{Flight, Room}
 use Rattle.plan.specs.PlanModel.{Planned}
 use Rattle.commands.specs.Names.{house}
 use Rattle.commands.specs.Request.{Begin, Step}

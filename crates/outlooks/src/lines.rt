@@ -1,11 +1,9 @@
 //! The lines of an outlook as a text.
 ghost use Rattle.std.specs.Prelude.{◌≡◌, IfOk, Some, string_bytes};
-ghost use Rattle.allotment.specs.Nights.{night_text};
 ghost use Rattle.outlooks.specs.Layouts.{brief_lines, night_line, next_line, step_line, step_word};
 
 use crate::nights::FreeNight;
 use crate::steps::NextStep;
-use allotment::Night;
 use commands::Item;
 use saga_core::Brief;
 use std::alloc::{AllocError, Global};
@@ -66,11 +64,4 @@ pub(crate) fn step_line(alloc: Global, step: &Option<Item>) -> Result<String, Al
 {
     let word = step_word(alloc, step)?;
     format!(in alloc; "step {word}\n")
-}
-
-/// The text of a night, as `2030-06-01`.
-pub(crate) fn night_text(alloc: Global, night: Night) -> Result<String, AllocError>
-    ensures text { IfOk result (λ text. string_bytes text ≡ night_text night) }
-{
-    format!(in alloc; "{night}")
 }

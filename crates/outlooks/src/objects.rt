@@ -2,25 +2,16 @@
 ghost use Rattle.std.specs.Prelude.{◌≡◌, [], ◌∷◌, false, codes, IfOk, Some, string_bytes};
 ghost use Rattle.allotment.specs.Nights.{night_text};
 ghost use Rattle.serde_json.specs.View.{view};
-ghost use Rattle.serde_json.specs.Written.{has_float};
-ghost use Rattle.reports.specs.Objects.{counts, journey_data, json, json_line, says};
+ghost use Rattle.reports.specs.Objects.{counts, json, json_line, says};
 ghost use Rattle.outlooks.specs.Layouts.{next_object, night_data, step_data};
 
-use crate::lines::{night_text, step_word};
+use crate::lines::step_word;
 use crate::nights::FreeNight;
 use crate::steps::NextStep;
-use commands::{Cursor, Item, Phase};
-use saga_core::Brief;
+use commands::Item;
+use reports::{json_line, night_text};
 use serde_json::{Value, json};
 use std::alloc::{AllocError, Global};
-
-/// The line of a journey with its agent, and of where it is.
-pub(crate) fn brief_object(alloc: Global, brief: &Brief) -> Result<String, AllocError>
-    ensures line { IfOk result (λ text. string_bytes text ≡ json_line (journey_data brief.now)) }
-{
-    let value = brief_value(alloc, brief)?;
-    json_line(alloc, &value)
-}
 
 /// The line of the next step and its want; nothing if there is none.
 pub(crate) fn next_object(
@@ -62,32 +53,6 @@ pub(crate) fn step_object(alloc: Global, id: u64, step: &Option<Item>) -> Result
     let word = step_word(alloc, step)?;
     let value = step_value(alloc, id, word.as_str())?;
     json_line(alloc, &value)
-}
-
-/// The line of a value without floats.
-fn json_line(alloc: Global, value: &Value) -> Result<String, AllocError>
-    ensures line { IfOk result (λ text. has_float (view value.now) ≡ false →
-        string_bytes text ≡ json_line (view value.now)) }
-{
-    let mut text = value.to_string(alloc)?;
-    text.push('\n')?;
-    Ok(text)
-}
-
-/// The value of a journey with its agent, and of where it is.
-fn brief_value(alloc: Global, brief: &Brief) -> Result<Value, AllocError>
-    ensures value { IfOk result (λ value. view value ≡ journey_data brief.now) }
-{
-    let agent = brief.agent.as_str();
-    let id = brief.id;
-    let Cursor { pos, phase, .. } = brief.cursor;
-    let state = phase.word();
-    match phase {
-        Phase::Back(target) => json!(in alloc; {
-            "agent": agent, "journey": id, "pos": pos, "state": state, "target": target
-        }),
-        _ => json!(in alloc; {"agent": agent, "journey": id, "pos": pos, "state": state}),
-    }
 }
 
 /// The value of a next step with these texts of its item and want.

@@ -6,10 +6,10 @@ ghost use Rattle.outlooks.specs.Layouts.{why_ending, why_head, why_in, why_row};
 
 use crate::lines::{brief_lines, next_line, night_line, step_line};
 use crate::nights::FreeNight;
-use crate::objects::{brief_object, next_object, night_object, step_object};
+use crate::objects::{next_object, night_object, step_object};
 use crate::records::{why_heading, why_record};
 use crate::steps::Outlook;
-use reports::{Format, ReportFault};
+use reports::{Format, ReportFault, journey_object};
 use std::alloc::{AllocError, Global};
 use std::io::Write;
 use streams::send_all;
@@ -84,7 +84,7 @@ fn why_head(alloc: Global, format: Format, outlook: &Outlook) -> Result<Vec<u8>,
             Ok(text.into_bytes())
         }
         Format::Json => {
-            let mut text = brief_object(alloc, &outlook.brief)?;
+            let mut text = journey_object(alloc, &outlook.brief)?;
             let next = next_object(alloc, outlook.brief.id, &outlook.next)?;
             text.push_str(next.as_str())?;
             Ok(text.into_bytes())

@@ -7,7 +7,7 @@ use Rattle.allotment.specs.Limits.{is_code, is_count, are_nights}
 use Rattle.allotment.specs.Making.{unless, first_fault, want_made}
 use Rattle.allotment.specs.Nights.{night_in}
 use Rattle.allotment.specs.Texts.{kind_of_word}
-use Rattle.allotment.specs.declared.kinds.Kind.{Kind}
+use Rattle.allotment.specs.declared.codes.Kind.{Kind}
 use Rattle.allotment.specs.declared.wants.Bad.{Bad}
 use Rattle.plan.specs.declared.causes.PlanCause.TheVariants as cause
 use Rattle.plan.specs.declared.faults.BadPlan.{BadPlan}

@@ -7,8 +7,8 @@ use Rattle.allotment.specs.Limits.{is_between, is_code, is_count, are_nights, mo
 use Rattle.allotment.specs.Making.{unless, first_fault, want_made}
 use Rattle.allotment.specs.Nights.{night_in}
 use Rattle.allotment.specs.Texts.{parts, slash, keep_if, number_in, kind_of_letter}
-use Rattle.allotment.specs.declared.kinds.Kind.{Kind}
-use Rattle.allotment.specs.declared.kinds.Kind.TheVariants.{Flight, Room, Transfer, Cover}
+use Rattle.allotment.specs.declared.codes.Kind.{Kind}
+use Rattle.allotment.specs.declared.codes.Kind.TheVariants.{Flight, Room, Transfer, Cover}
 use Rattle.allotment.specs.declared.wants.Bad.{Bad}
 use Rattle.allotment.specs.declared.wants.Bad.TheVariants as bad
 use Rattle.plan.specs.declared.causes.PlanCause.TheVariants as cause

@@ -11,7 +11,7 @@ use Rattle.allotment.specs.Cells.{numbers_from}
 use Rattle.allotment.specs.Limits.{is_between, is_night, is_want}
 use Rattle.allotment.specs.Texts.{parts, joined, number_in, slash, bar, semicolon, star, kind_letter, kinds, kind_of_letter, want_text}
 use Rattle.allotment.specs.Nights.{night_text, night_in, named_night}
-use Rattle.allotment.specs.declared.kinds.Kind.TheVariants.{Flight}
+use Rattle.allotment.specs.declared.codes.Kind.TheVariants.{Flight}
 use Rattle.plan.specs.Limits.{most_options, most_steps, most_tries}
 use Rattle.plan.specs.PlanModel.{Planned, StepPlan, is_step, is_last_unmarked}
 use Rattle.plan.specs.Drafts.{OptionDraft, StepDraft, kind_or_any, number_or_none, option_faults, step_faults, faults, want_of, step_of, plan_of}

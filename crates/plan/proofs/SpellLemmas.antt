@@ -10,8 +10,8 @@ use Rattle.allotment.specs.Want.{Wanted}
 use Rattle.allotment.specs.Limits.{is_between, is_code, is_want}
 use Rattle.allotment.specs.Nights.{night_text, night_in}
 use Rattle.allotment.specs.Texts.{parts, joined, number_in, kind_letter, kind_of_letter, want_text, slash, bar, semicolon, star}
-use Rattle.allotment.specs.declared.kinds.Kind.{Kind}
-use Rattle.allotment.specs.declared.kinds.Kind.TheVariants.{Flight, Room, Transfer, Cover}
+use Rattle.allotment.specs.declared.codes.Kind.{Kind}
+use Rattle.allotment.specs.declared.codes.Kind.TheVariants.{Flight, Room, Transfer, Cover}
 use Rattle.plan.specs.Limits.{most_options, most_steps, most_tries}
 use Rattle.plan.specs.PlanModel.{Planned, StepPlan, is_step, is_plan, is_last_unmarked}
 use Rattle.plan.specs.Drafts.{OptionDraft, StepDraft, Draft, drafted, drafted_step, drafted_plan, judged, plan_made}

@@ -2,7 +2,7 @@
 use Rattle.std.specs.Prelude.{ℕ, true, false, List, [], ◌∷◌, codes, refl}
 use Rattle.std.specs.Fmt.{digits}
 use Rattle.allotment.specs.Want.{wanted}
-use Rattle.allotment.specs.declared.kinds.Kind.TheVariants.{Flight, Room}
+use Rattle.allotment.specs.declared.codes.Kind.TheVariants.{Flight, Room}
 use Rattle.plan.specs.PlanLine.{IsPlanLine}
 use Rattle.plan.specs.PlanModel.{Planned}
 

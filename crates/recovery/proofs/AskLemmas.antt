@@ -1,12 +1,11 @@
 -- What a command of recovery does, by how the rules answer it. For `stop` and `step`.
-use Rattle.std.proofs.Common.{◌≡◌, ℕ, ◌+◌, ◌<◌, ◌≤◌, List, [], ◌∷◌, ◌++◌, length, refl, ap, sym, ◌∙◌, subst, arith, append-nil, eq-eqb}
+use Rattle.std.proofs.Common.{◌≡◌, ℕ, List, [], ◌∷◌, ◌++◌, length, refl, ap, sym, ◌∙◌, subst, arith, append-nil, eq-eqb}
 use Rattle.std.proofs.lemmas.Bool.{leb-true, leb-false}
-use Rattle.std.specs.Prelude.{Bool, true, false, nat_le, Option, Some, None, is_some, option_map, Result, Err, IsTrue, if◌then◌else◌, ◌&&◌}
-use Rattle.commands.specs.Request.{Request, Stop, Step}
+use Rattle.std.specs.Prelude.{Bool, true, false, nat_le, Some, None, is_some, option_map, Err, IsTrue, if◌then◌else◌, ◌&&◌}
+use Rattle.commands.specs.Request.{Request}
 use Rattle.commands.specs.declared.replies.Fault.{Fault}
 use Rattle.commands.specs.declared.replies.Fault.TheVariants.{Memory, Store}
 use Rattle.commands.specs.declared.items.Item.{Item}
-use Rattle.commands.specs.declared.items.Phase.{Phase}
 use Rattle.commands.specs.declared.replies.Refusal.TheVariants.{Limit}
 use Rattle.commands.specs.declared.replies.Reply.{Reply}
 use Rattle.ledger.specs.Answer.{State, Outcome, Answer, outcome, carried_out, refused, moved, answer_within, most_events}
@@ -16,7 +15,7 @@ use Rattle.ledger.specs.Recovery.{is_forward}
 use Rattle.ledger.proofs.Growing.{journeys-did, history-did_same}
 use Rattle.plan.specs.PlanModel.{numbered}
 use Rattle.saga_core.specs.Books.{KeepsAtMemory, LeavesAtStore}
-use Rattle.recovery.specs.Asking.{phase_told, Adds, Stepped, SteppedTo}
+use Rattle.recovery.specs.Asking.{phase_told, Adds, SteppedTo}
 use Rattle.recovery.specs.Growing.{with_events, LeavesAt, MayHaveGrown}
 
 -- a request that moves journey j by this item
@@ -63,7 +62,7 @@ adds stands s asked j item m r is st =
     (adds-cut stands s j item m.journey v refl (subst (λ (p : Outcome). stands p.state) o st))
 
 -- the phase of the journey after the item
-phase-moved : (l : List Event) (j : ℕ) (item : Item) (a : Journey) → journey_at l j ≡ Some a
+pub phase-moved : (l : List Event) (j : ℕ) (item : Item) (a : Journey) → journey_at l j ≡ Some a
     → phase_of (l ++ Did j item ∷ []) j ≡ Some (phase a.plan (history l j ++ item ∷ []))
 phase-moved l j item a at =
     ap (λ js. option_map (λ (b : Journey). phase b.plan (history (l ++ Did j item ∷ []) j))

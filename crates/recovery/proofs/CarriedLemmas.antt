@@ -1,14 +1,12 @@
 -- A pass over one journey after another. For `carry`.
-use Rattle.std.proofs.Common.{◌≡◌, ℕ, zero, suc, ◌+◌, ◌-◌, ◌<◌, ◌≤◌, List, [], ◌∷◌, ◌++◌, length, refl, ap, sym, ◌∙◌, arith, append_assoc, append-nil, length-append, subst}
+use Rattle.std.proofs.Common.{◌≡◌, ℕ, zero, suc, ◌+◌, ◌<◌, ◌≤◌, List, [], ◌++◌, length, refl, ap, sym, ◌∙◌, arith, append_assoc, append-nil, length-append, subst}
 use Rattle.std.proofs.lemmas.Bool.{false_from_ne_true, not_from_false, ltb-true, ltb-false}
-use Rattle.std.specs.Prelude.{Bool, true, false, not, nat_lt, Option, Some, None, IsTrue}
-use Rattle.std.specs.List.{list_any}
-use Rattle.allotment.specs.Cells.{numbers_from}
+use Rattle.std.specs.Prelude.{Bool, true, false, nat_lt, Some, None}
 use Rattle.commands.specs.declared.replies.Fault.{Fault}
 use Rattle.ledger.specs.Answer.{State, most_events}
 use Rattle.ledger.specs.History.{is_open}
 use Rattle.ledger.specs.Ledger.{Event, journeys, is_in}
-use Rattle.ledger.specs.Recovery.{has_none, HasReached}
+use Rattle.ledger.specs.Recovery.{HasReached}
 use Rattle.ledger.proofs.Recoverable.{none-pass}
 use Rattle.saga_core.specs.Views.{first_unfinished}
 use Rattle.saga_core.specs.declared.records.Brief.{Brief}

@@ -1,12 +1,11 @@
 -- One journey in a pass, step by step. For `carry_one`.
-use Rattle.std.proofs.Common.{◌≡◌, ℕ, ◌+◌, ◌-◌, ◌<◌, ◌≤◌, List, [], ◌∷◌, ◌++◌, length, refl, ap, sym, ◌∙◌, arith, append_assoc, append-nil, length-append, subst}
-use Rattle.std.specs.Prelude.{Bool, true, false, Option, Some, None}
+use Rattle.std.proofs.Common.{◌≡◌, ℕ, ◌+◌, ◌≤◌, List, [], ◌∷◌, ◌++◌, length, refl, ap, sym, ◌∙◌, arith, append_assoc, append-nil, length-append, subst}
+use Rattle.std.specs.Prelude.{true, false, Some, None}
 use Rattle.commands.specs.declared.replies.Fault.{Fault}
-use Rattle.commands.specs.declared.items.Item.{Item}
 use Rattle.commands.specs.declared.items.Phase.{Phase}
 use Rattle.ledger.specs.Answer.{State, most_events}
 use Rattle.ledger.specs.Ledger.{Event, Did, is_in, IsLegal}
-use Rattle.recovery.specs.Asking.{Stepped, Steps, StepsOrNot, IsStepOrNone, stays, goes}
+use Rattle.recovery.specs.Asking.{Steps, StepsOrNot, IsStepOrNone, stays, goes}
 use Rattle.recovery.specs.Growing.{with_events, room_of, Grew, GrewFull, LeavesAt, MayHaveGrown}
 use Rattle.recovery.specs.Passes.{goes_on, Carry, CarryOut}
 use Rattle.recovery.specs.declared.passes.Pass.{Pass}

@@ -1,14 +1,13 @@
 -- One journey in a pass: each of its steps is of the kind that the pass makes. For `carry_one`.
-use Rattle.std.proofs.Common.{◌≡◌, ℕ, List, [], ◌∷◌, ◌++◌, refl, ap, sym, ◌∙◌, append_assoc, eq-eqb, subst}
+use Rattle.std.proofs.Common.{◌≡◌, ℕ, List, [], ◌∷◌, ◌++◌, refl, ap, sym, ◌∙◌, eq-eqb}
 use Rattle.std.proofs.lemmas.Bool.{and_from}
 use Rattle.std.proofs.lemmas.List.Folds.{list_all-append}
-use Rattle.std.specs.Prelude.{Bool, true, false, ◌==◌, Option, Some, option_map, unwrap_or, IsTrue}
-use Rattle.std.specs.List.{list_all}
+use Rattle.std.specs.Prelude.{true, false, ◌==◌, Some, option_map, unwrap_or}
 use Rattle.commands.specs.declared.items.Item.{Item}
 use Rattle.commands.specs.declared.items.Phase.{Phase}
 use Rattle.commands.specs.declared.items.Phase.TheVariants.{Run, Back, Ended, Undone}
-use Rattle.ledger.specs.History.{phase, is_open, is_compensation}
-use Rattle.ledger.specs.Ledger.{Event, Did, Journey, history, is_in, is_item_allowed, phase_of, AreAllowedAfter, IsLegal}
+use Rattle.ledger.specs.History.{is_open, is_compensation}
+use Rattle.ledger.specs.Ledger.{Event, Did, history, is_in, is_item_allowed, phase_of, IsLegal}
 use Rattle.ledger.specs.Recovery.{journey_of, are_items, is_forward}
 use Rattle.ledger.proofs.Deciding.{each_open_has_one}
 use Rattle.ledger.proofs.Phases.{passing}

@@ -10,7 +10,7 @@ use Rattle.recovery.specs.Recovers.{AreRecovery, AreBeginning}
 use Rattle.recovery.specs.declared.passes.Came.{Came}
 use Rattle.recovery.specs.declared.passes.Came.TheVariants.{Through, Full}
 use Rattle.recovery.specs.declared.passes.Pass.TheVariants.{Back, On}
-use Rattle.recovery.proofs.PassLemmas.{with_more, grew-join, full-join, may-join, may-weaken}
+use Rattle.recovery.proofs.PassLemmas.{grew-join, full-join, may-join, may-weaken}
 use Rattle.recovery.proofs.RecoverLemmas.{turns-begin, back-begins, on-begins, on-recovers, recovery-whole, recovery-full}
 
 -- a prefix of the recovered ledger that fills the ledger is recovery, as far as there is room

@@ -1,5 +1,6 @@
 pub mod AskLemmas
 pub mod TellLemmas
+pub mod ReasonLemmas
 pub mod ReachLemmas
 pub mod TurnLemmas
 pub mod PassLemmas

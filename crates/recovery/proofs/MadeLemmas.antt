@@ -1,9 +1,9 @@
 -- The requests of recovery make its events. For the executions of `recover`.
-use Rattle.std.proofs.Common.{◌≡◌, ℕ, ◌+◌, ◌-◌, ◌<◌, ◌≤◌, List, [], ◌∷◌, ◌++◌, length, refl, ap, sym, ◌∙◌, subst, arith, append_assoc, length-append, eqb-true}
+use Rattle.std.proofs.Common.{◌≡◌, ℕ, ◌+◌, ◌<◌, ◌≤◌, List, [], ◌∷◌, ◌++◌, length, refl, ap, sym, ◌∙◌, subst, arith, append_assoc, length-append, eqb-true}
 use Rattle.std.proofs.lemmas.Bool.{and_parts, and_from, false_from_ne_true, lt-leb}
 use Rattle.std.proofs.lemmas.List.{append_cancel_left}
 use Rattle.std.proofs.lemmas.List.Folds.{list_all-append}
-use Rattle.std.specs.Prelude.{Bool, true, false, filter, map, nat_le, Option, Some, None, option_map, option_to_list, unwrap_or, IsTrue}
+use Rattle.std.specs.Prelude.{Bool, true, false, filter, map, Option, Some, None, option_map, option_to_list, unwrap_or, IsTrue}
 use Rattle.std.specs.List.{list_all}
 use Rattle.commands.specs.Request.{Request}
 use Rattle.commands.specs.Request as request
@@ -13,7 +13,7 @@ use Rattle.commands.specs.declared.items.Item.TheVariants.{Transaction, Compensa
 use Rattle.commands.specs.declared.items.Phase.{Phase}
 use Rattle.commands.specs.declared.items.Phase.TheVariants.{Run, Back, Ended, Undone}
 use Rattle.ledger.specs.Answer.{State, Outcome, outcome, moved, most_events, is_request}
-use Rattle.ledger.specs.History.{phase, is_running, is_open, is_finished, is_compensation, last_save}
+use Rattle.ledger.specs.History.{is_running, is_open, is_finished, is_compensation, last_save}
 use Rattle.ledger.specs.Ledger.{Event, Loaded, Began, Did, Journey, journey_at, numbers, history, is_in, is_allowed, is_item_allowed, AreAllowedAfter, IsLegal}
 use Rattle.ledger.specs.Recovery.{stops, last_save_of, are_items, is_forward, IsRecovered}
 use Rattle.ledger.specs.World.{events_of}

@@ -1,18 +1,18 @@
 -- The three passes make recovery: all of it, or a prefix of it. For `recover`.
-use Rattle.std.proofs.Common.{◌≡◌, ℕ, ◌+◌, ◌-◌, ◌<◌, ◌≤◌, List, [], ◌∷◌, ◌++◌, length, take, refl, ap, sym, ◌∙◌, arith, append_assoc, append-nil, length-append, subst}
+use Rattle.std.proofs.Common.{◌≡◌, ℕ, ◌+◌, ◌≤◌, List, [], ◌∷◌, ◌++◌, length, refl, ap, sym, ◌∙◌, arith, append_assoc, append-nil, length-append, subst}
 use Rattle.std.proofs.lemmas.List.{take_all, take-append-le}
 use Rattle.std.specs.Prelude.{IsTrue}
 use Rattle.ledger.specs.Answer.{State, most_events}
-use Rattle.ledger.specs.History.{is_open, is_going_back}
+use Rattle.ledger.specs.History.{is_open}
 use Rattle.ledger.specs.Laws.{IsRecoverable}
 use Rattle.ledger.specs.Ledger.{Event, IsLegal}
-use Rattle.ledger.specs.Recovery.{stops, has_none, IsRecovered, HasComeTo, turning, going_back, going_on, BeginsRecovered, bound}
+use Rattle.ledger.specs.Recovery.{stops, has_none, IsRecovered, turning, going_back, going_on, BeginsRecovered, bound}
 use Rattle.ledger.proofs.Recoverable.{recovered-exists}
 use Rattle.ledger.proofs.Recovering.{recovered-unique}
 use Rattle.ledger.proofs.UnderWay.{recovery-goes_on}
-use Rattle.recovery.specs.Growing.{with_events, room_of, Grew}
+use Rattle.recovery.specs.Growing.{room_of}
 use Rattle.recovery.specs.Passes.{AreFirstStops, IsUnderWay, IsThrough}
-use Rattle.recovery.specs.Recovers.{AreRecovery, AreBeginning, IsFinished}
+use Rattle.recovery.specs.Recovers.{AreRecovery, AreBeginning}
 use Rattle.recovery.specs.declared.passes.Pass.TheVariants.{Back, On}
 
 -- Prefixes.

@@ -1,17 +1,17 @@
 -- What the rules answer to a stop of a running journey, and to a step of an open one. For `stop` and `step`.
-use Rattle.std.proofs.Common.{◌≡◌, ℕ, List, [], ◌∷◌, refl, ap, sym, ◌∙◌, eq-eqb}
+use Rattle.std.proofs.Common.{◌≡◌, ℕ, List, [], refl, ap, sym, ◌∙◌, eq-eqb}
 use Rattle.std.proofs.lemmas.Bool.{and_from}
-use Rattle.std.specs.Prelude.{Bool, true, false, Option, Some, None, find, option_map, unwrap_or, IsTrue, if◌then◌else◌}
-use Rattle.commands.specs.Request.{Request, Stop, Step}
+use Rattle.std.specs.Prelude.{Bool, true, false, Option, Some, None, find, option_map, unwrap_or, if◌then◌else◌}
+use Rattle.commands.specs.Request.{Stop, Step}
 use Rattle.commands.specs.declared.items.Cause.TheVariants as cause
 use Rattle.commands.specs.declared.items.Item.{Item}
 use Rattle.commands.specs.declared.items.Item.TheVariants.{Turn}
 use Rattle.commands.specs.declared.items.Phase.{Phase}
 use Rattle.commands.specs.declared.items.Phase.TheVariants.{Run, Back, Ended, Undone}
 use Rattle.commands.specs.declared.replies.Refusal.TheVariants.{Finished, NoSavePoint}
-use Rattle.ledger.specs.Answer.{answer_within, refused, moved, step_choices, stop_choices, answer_choices, answer_move}
+use Rattle.ledger.specs.Answer.{refused, moved, step_choices, stop_choices, answer_choices, answer_move}
 use Rattle.ledger.specs.History.{phase, is_running, is_finished, is_open, last_save}
-use Rattle.ledger.specs.Ledger.{Event, Did, Journey, journey_at, history, is_in, may_do, IsLegal}
+use Rattle.ledger.specs.Ledger.{Event, Did, Journey, journey_at, history, is_in, may_do}
 use Rattle.ledger.specs.Laws.{HasOneStep}
 use Rattle.ledger.specs.Recovery.{last_save_of}
 use Rattle.ledger.proofs.Phases.{passing}

@@ -8,7 +8,7 @@ use Rattle.commands.specs.declared.items.Item.{Item}
 use Rattle.commands.specs.declared.items.Item.TheVariants.{Turn}
 use Rattle.commands.specs.declared.items.Cause.TheVariants.{Stop}
 use Rattle.commands.specs.declared.items.Phase.{Phase}
-use Rattle.ledger.specs.History.{is_running, is_open, last_save}
+use Rattle.ledger.specs.History.{is_running, last_save}
 use Rattle.ledger.specs.Ledger.{Event, Did, Journey, journeys, journey_at, history, is_in}
 use Rattle.ledger.specs.Recovery.{stops, last_save_of}
 use Rattle.ledger.proofs.Growing.{journeys-did, history-did_other}

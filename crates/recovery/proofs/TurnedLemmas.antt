@@ -1,14 +1,13 @@
 -- The first pass over one journey after another. For `turn_back`.
-use Rattle.std.proofs.Common.{◌≡◌, ℕ, ◌+◌, ◌-◌, ◌^◌, ◌<◌, ◌≤◌, List, [], ◌∷◌, ◌++◌, length, refl, ap, sym, ◌∙◌, arith, append-nil, length-append, subst}
+use Rattle.std.proofs.Common.{◌≡◌, ℕ, ◌+◌, ◌<◌, ◌≤◌, List, [], ◌∷◌, ◌++◌, length, refl, ap, sym, ◌∙◌, arith, append-nil, length-append, subst}
 use Rattle.std.proofs.lemmas.Bool.{false_from_ne_true}
-use Rattle.std.specs.Prelude.{Bool, true, false, Option, Some, None, option_map, unwrap_or}
+use Rattle.std.specs.Prelude.{Bool, true, false, Some, None, option_map, unwrap_or}
 use Rattle.commands.specs.declared.replies.Fault.{Fault}
 use Rattle.commands.specs.declared.items.Phase.{Phase}
 use Rattle.commands.specs.declared.items.Phase.TheVariants.{Run, Back, Ended, Undone}
 use Rattle.ledger.specs.Answer.{State, most_events}
 use Rattle.ledger.specs.History.{is_running, is_open}
-use Rattle.ledger.specs.Ledger.{Event, history, journeys, is_in, phase_of}
-use Rattle.ledger.specs.Recovery.{stops}
+use Rattle.ledger.specs.Ledger.{Event, history, journeys, is_in}
 use Rattle.ledger.proofs.Phases.{passing}
 use Rattle.saga_core.specs.Views.{first_unfinished}
 use Rattle.saga_core.specs.declared.records.Brief.{Brief}

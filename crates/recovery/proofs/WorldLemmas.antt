@@ -1,5 +1,5 @@
 -- An execution continues with recovery. For `recover`.
-use Rattle.std.proofs.Common.{◌≡◌, ℕ, ◌+◌, ◌-◌, ◌≤◌, List, [], ◌∷◌, ◌++◌, length, take, refl, ap, sym, ◌∙◌, subst, arith, length-append}
+use Rattle.std.proofs.Common.{◌≡◌, ℕ, ◌+◌, ◌-◌, ◌≤◌, List, [], ◌++◌, length, take, refl, ap, sym, ◌∙◌, subst, arith, length-append}
 use Rattle.std.proofs.lemmas.List.{length-map, map-append}
 use Rattle.std.specs.Prelude.{Bool, true, false}
 use Rattle.commands.specs.declared.replies.Fault.{Fault}
@@ -8,7 +8,7 @@ use Rattle.ledger.specs.Answer.{State, start}
 use Rattle.ledger.specs.Ledger.{Event, IsLegal}
 use Rattle.ledger.specs.Recovery.{IsRecovered}
 use Rattle.ledger.specs.World.{Moment, after}
-use Rattle.saga_core.specs.Runs.{Asks, state_after}
+use Rattle.saga_core.specs.Runs.{state_after}
 use Rattle.saga_core.specs.Worlds.{KeepLimits, StandsAtEnd, EndsAmong, StandsUnless, continued, most_under_way}
 use Rattle.saga_core.proofs.WorldLemmas.{stands-continued, leaves-crashed, ends-with}
 use Rattle.recovery.specs.Growing.{with_events, room_of, Grew, LeavesAt, MayHaveGrown}

@@ -1,5 +1,5 @@
 -- A worked example of recovery's commands, computed by the definitions.
-use Rattle.std.specs.Prelude.{◌≡◌, List, [], ◌∷◌, ◌++◌, length, None, refl}
+use Rattle.std.specs.Prelude.{◌≡◌, suc, List, [], ◌∷◌, ◌++◌, length, None, refl}
 use Rattle.std.proofs.lemmas.Bool.{leb-true}
 use Rattle.commands.specs.Request.{Step, Stop}
 use Rattle.ledger.specs.Answer.{State, start}
@@ -7,8 +7,10 @@ use Rattle.ledger.specs.Examples.{done, undone}
 use Rattle.ledger.specs.Ledger.{Event, Did, IsLegal}
 use Rattle.ledger.specs.RecoveryExamples.{allowed_by_test, two_want_one_room, both_turn_back, second_journey_goes_back_before_the_first_goes_on}
 use Rattle.ledger.specs.World.{events_of}
+use Rattle.saga_core.specs.Runs.{Asks}
 use Rattle.saga_core.specs.Worlds.{dones}
 use Rattle.recovery.specs.Growing.{room_of}
+use Rattle.recovery.specs.Reasons.{MayRecover}
 use Rattle.recovery.specs.Recovers.{IsRecovery}
 use Rattle.recovery.specs.Worlds.{orders_of}
 
@@ -49,3 +51,11 @@ room_is_recovered = record {
 -- its ledger is legal
 pub room_ledger_is_legal : IsLegal room_is_wanted_twice.ledger
 room_ledger_is_legal = allowed_by_test [] two_want_one_room refl
+
+-- a book that may recover this desk may act for these commands, and for one more
+pub may_send_two_stops_and_two_steps :
+    (stands : State → Type 0) (can : State → Asks → Type 0) → MayRecover stands can [] room_is_wanted_twice
+    → can room_is_wanted_twice (orders_of room_changes_hands)
+may_send_two_stops_and_two_steps stands can may =
+    may.moves (orders_of room_changes_hands) ((tt, refl), ((tt, refl), ((tt, refl), ((tt, refl), tt))))
+    (leb-true (length (orders_of room_changes_hands)) (suc (room_of room_is_wanted_twice)) refl)

@@ -1,6 +1,7 @@
 pub mod Growing
 pub mod Asking
 pub mod Passes
+pub mod Reasons
 pub mod Recovers
 pub mod Worlds
 pub mod Examples

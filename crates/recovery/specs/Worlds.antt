@@ -1,6 +1,6 @@
 -- How an execution continues with recovery: the requests by which the house recovers a desk, each of them answered, and
 -- perhaps a last one that was cut off where the store failed.
-use Rattle.std.specs.Prelude.{◌≡◌, ℕ, ◌≤◌, List, ◌++◌, map, length, Option, None}
+use Rattle.std.specs.Prelude.{◌≡◌, ◌≤◌, List, ◌++◌, map, length, Option, None}
 use Rattle.commands.specs.Asks.{Asked}
 use Rattle.commands.specs.Request.{Request, Step, Stop}
 use Rattle.commands.specs.declared.replies.Fault.{Fault}

@@ -1,7 +1,9 @@
 //! One command of recovery, sent by the house.
 ghost use Rattle.std.specs.Prelude.{IfOk, IfErr, ◌↔◌, ◌≡◌, IsTrue, IsErrOf, is_some};
 ghost use Rattle.saga_core.specs.Books.{LeavesNoMore};
+ghost use Rattle.saga_core.specs.Runs.{Asks};
 ghost use Rattle.recovery.specs.Asking.{phase_told, Stops, StopsOrNot, Steps, StepsOrNot};
+ghost use Rattle.recovery.specs.Reasons.{AfterMove, MayRecover, NoState};
 
 use commands::{Command, Fault, Phase, Reply};
 use saga_core::Book;
@@ -26,6 +28,12 @@ pub fn stop<B: Book>(book: &mut B, id: u64) -> Result<bool, Fault>
     ensures stays_failed { IsTrue (B.has_failed book.old) → IsTrue (B.has_failed book.new) }
     ensures stays_left { IsTrue (B.has_failed book.old) →
         LeavesNoMore (B.leaves book.old) (B.leaves book.new) }
+    ensures may_act { B.is_sound book.new → (first : B) (later : Asks) → IfOk result (λ made. Stops
+        (MayRecover (B.stands book.old) (B.may_act first book.old) later)
+        (AfterMove (B.stands book.new) (B.may_act first book.new) later made) id made) }
+    ensures reason { B.is_sound book.new → (first : B) (later : Asks) → IfErr result (λ f.
+        f ≡ Fault.Store → StopsOrNot (MayRecover (B.stands book.old) (B.may_act first book.old) later)
+        NoState (B.has_reason first book.new) id Fault.Store) }
     ensures sound { B.is_sound book.new → B.is_sound book.old }
 {
     let command = Command::Stop(id);
@@ -46,6 +54,12 @@ pub fn step<B: Book>(book: &mut B, id: u64) -> Result<Option<Phase>, Fault>
     ensures stays_failed { IsTrue (B.has_failed book.old) → IsTrue (B.has_failed book.new) }
     ensures stays_left { IsTrue (B.has_failed book.old) →
         LeavesNoMore (B.leaves book.old) (B.leaves book.new) }
+    ensures may_act { B.is_sound book.new → (first : B) (later : Asks) → IfOk result (λ phase. Steps
+        (MayRecover (B.stands book.old) (B.may_act first book.old) later)
+        (AfterMove (B.stands book.new) (B.may_act first book.new) later (is_some phase)) id phase) }
+    ensures reason { B.is_sound book.new → (first : B) (later : Asks) → IfErr result (λ f.
+        f ≡ Fault.Store → StepsOrNot (MayRecover (B.stands book.old) (B.may_act first book.old) later)
+        NoState (B.has_reason first book.new) id Fault.Store) }
     ensures sound { B.is_sound book.new → B.is_sound book.old }
 {
     let command = Command::Step(id);

@@ -2,6 +2,8 @@
 ghost use Rattle.std.specs.Prelude.{◌≡◌, ◌↔◌, IfOk, IfErr, IsTrue, IsErrOf};
 ghost use Rattle.ledger.specs.History.{is_running};
 ghost use Rattle.saga_core.specs.Books.{LeavesNoMore};
+ghost use Rattle.recovery.specs.Reasons.{AfterPass, MayRecover, NoState};
+ghost use Rattle.saga_core.specs.Runs.{Asks};
 ghost use Rattle.recovery.specs.Passes.{made_by, goes_on, MadeStops, MadeSomeStops, CarriedAll, CarriedSome, CarriedOne, CarriedOneSome};
 
 use crate::asking::{step, stop};
@@ -69,6 +71,12 @@ pub fn turn_back<B: Book>(book: &mut B) -> Result<Came, Fault>
     ensures stays_failed { IsTrue (B.has_failed book.old) → IsTrue (B.has_failed book.new) }
     ensures stays_left { IsTrue (B.has_failed book.old) →
         LeavesNoMore (B.leaves book.old) (B.leaves book.new) }
+    ensures may_act { B.is_sound book.new → (first : B) (later : Asks) → IfOk result (λ came. MadeStops
+        (MayRecover (B.stands book.old) (B.may_act first book.old) later)
+        (AfterPass (B.stands book.new) (B.may_act first book.new) later came) came) }
+    ensures reason { B.is_sound book.new → (first : B) (later : Asks) → IfErr result (λ f.
+        f ≡ Fault.Store → MadeSomeStops (MayRecover (B.stands book.old) (B.may_act first book.old) later)
+        NoState (B.has_reason first book.new) Fault.Store) }
     ensures sound { B.is_sound book.new → B.is_sound book.old }
 {
     let mut after = 0;
@@ -101,6 +109,12 @@ fn carry_one<B: Book>(book: &mut B, pass: Pass, id: u64) -> Result<Came, Fault>
     ensures stays_failed { IsTrue (B.has_failed book.old) → IsTrue (B.has_failed book.new) }
     ensures stays_left { IsTrue (B.has_failed book.old) →
         LeavesNoMore (B.leaves book.old) (B.leaves book.new) }
+    ensures may_act { B.is_sound book.new → (first : B) (later : Asks) → IfOk result (λ came. CarriedOne
+        (MayRecover (B.stands book.old) (B.may_act first book.old) later)
+        (AfterPass (B.stands book.new) (B.may_act first book.new) later came) pass id came) }
+    ensures reason { B.is_sound book.new → (first : B) (later : Asks) → IfErr result (λ f.
+        f ≡ Fault.Store → CarriedOneSome (MayRecover (B.stands book.old) (B.may_act first book.old) later)
+        NoState (B.has_reason first book.new) pass id Fault.Store) }
     ensures sound { B.is_sound book.new → B.is_sound book.old }
 {
     for made in 0..u64::MAX {
@@ -127,6 +141,12 @@ pub fn carry<B: Book>(book: &mut B, pass: Pass) -> Result<Came, Fault>
     ensures stays_failed { IsTrue (B.has_failed book.old) → IsTrue (B.has_failed book.new) }
     ensures stays_left { IsTrue (B.has_failed book.old) →
         LeavesNoMore (B.leaves book.old) (B.leaves book.new) }
+    ensures may_act { B.is_sound book.new → (first : B) (later : Asks) → IfOk result (λ came. CarriedAll
+        (MayRecover (B.stands book.old) (B.may_act first book.old) later)
+        (AfterPass (B.stands book.new) (B.may_act first book.new) later came) pass came) }
+    ensures reason { B.is_sound book.new → (first : B) (later : Asks) → IfErr result (λ f.
+        f ≡ Fault.Store → CarriedSome (MayRecover (B.stands book.old) (B.may_act first book.old) later)
+        NoState (B.has_reason first book.new) pass Fault.Store) }
     ensures sound { B.is_sound book.new → B.is_sound book.old }
 {
     let mut after = 0;

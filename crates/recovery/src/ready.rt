@@ -3,7 +3,7 @@ ghost use Rattle.std.specs.Prelude.{◌≡◌};
 
 use allotment::{Cell, Held, Night, Want};
 use commands::{Agent, Ask, Command, Fault, Item, Reply};
-use saga_core::{Book, Brief, Counts, Record};
+use saga_core::{Book, Brief, Counts, Record, Trace};
 use std::marker::Model;
 
 /// A book that is recovered. Only `recover` makes one. In a contract it is the book itself.
@@ -43,6 +43,10 @@ impl<B: Book> Book for Ready<B> {
 
     ghost has_failed = { λ r. B.has_failed r };
 
+    ghost may_act = { λ first r s asks. B.may_act first r s asks };
+
+    ghost has_reason = { λ first r s next. B.has_reason first r s next };
+
     ghost legal = { λ r s h. B.legal r s h };
 
     ghost settled = { λ r s h. B.settled r s h };
@@ -77,5 +81,13 @@ impl<B: Book> Book for Ready<B> {
 
     fn stock(&mut self) -> Result<Vec<(Cell, Held)>, Fault> {
         self.book.stock()
+    }
+
+    fn trace(&mut self, id: u64) -> Result<Option<Trace>, Fault> {
+        self.book.trace(id)
+    }
+
+    fn unfinished(&mut self) -> Result<Vec<Brief>, Fault> {
+        self.book.unfinished()
     }
 }

@@ -1,6 +1,8 @@
 //! The whole of recovery.
 ghost use Rattle.std.specs.Prelude.{◌≡◌, IfOk, IfErr, IsTrue};
 ghost use Rattle.saga_core.specs.Books.{LeavesNoMore};
+ghost use Rattle.saga_core.specs.Runs.{Asks};
+ghost use Rattle.recovery.specs.Reasons.{MayActThen, MayRecover, NoState};
 ghost use Rattle.recovery.specs.Recovers.{Recovers, Finishes, RecoversSome, IsWithinBound};
 ghost use Rattle.recovery.specs.Worlds.{GoesOnRecovered, GoesOnRecovering};
 
@@ -20,6 +22,12 @@ fn recover_all<B: Book>(book: &mut B) -> Result<u64, Fault>
     ensures stays_failed { IsTrue (B.has_failed book.old) → IsTrue (B.has_failed book.new) }
     ensures stays_left { IsTrue (B.has_failed book.old) →
         LeavesNoMore (B.leaves book.old) (B.leaves book.new) }
+    ensures may_act { B.is_sound book.new → (first : B) (later : Asks) → IfOk result (λ made. Recovers
+        (MayRecover (B.stands book.old) (B.may_act first book.old) later)
+        (MayActThen (B.stands book.new) (B.may_act first book.new) later) made) }
+    ensures reason { B.is_sound book.new → (first : B) (later : Asks) → IfErr result (λ f.
+        f ≡ Fault.Store → RecoversSome (MayRecover (B.stands book.old) (B.may_act first book.old) later)
+        NoState (B.has_reason first book.new) Fault.Store) }
     ensures sound { B.is_sound book.new → B.is_sound book.old }
 {
     let turned = match turn_back(book) {
@@ -59,6 +67,13 @@ pub fn recover<B: Book>(book: B) -> Result<(Ready<B>, u64), (B, Fault)>
         B.is_sound r.0 → GoesOnRecovered (B.stands book) (B.stands r.0) (B.leaves r.0)) }
     ensures world_at_fault { IfErr result (λ e.
         B.is_sound e.0 → GoesOnRecovering (B.stands book) (B.stands e.0) (B.leaves e.0) e.1) }
+
+    ensures may_act { IfOk result (λ r. B.is_sound r.0 → (first : B) (later : Asks) → Recovers
+        (MayRecover (B.stands book) (B.may_act first book) later)
+        (MayActThen (B.stands r.0) (B.may_act first r.0) later) r.1) }
+    ensures reason { IfErr result (λ e. B.is_sound e.0 → (first : B) (later : Asks) → e.1 ≡ Fault.Store →
+        RecoversSome (MayRecover (B.stands book) (B.may_act first book) later) NoState
+        (B.has_reason first e.0) Fault.Store) }
 
     ensures stays_failed { IfOk result (λ r.
         IsTrue (B.has_failed book) → IsTrue (B.has_failed r.0)) }

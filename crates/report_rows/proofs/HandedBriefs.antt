@@ -25,27 +25,12 @@ use Rattle.sql_model.specs.ExpectedRows.{counted_from, Begun, begun, phase_numbe
 use Rattle.sql_model.proofs.Events.{length-begun}
 use Rattle.sql_model.proofs.JourneyRows.{row_in, begun_there, called_rises}
 use Rattle.sql_model.proofs.Orders.{Rises, one_order}
+use Rattle.desk_sql.specs.FoundRows.{journey_of}
+use Rattle.desk_sql.specs.declared.journeys.JourneyFound.{JourneyFound}
+use Rattle.sql_reads.specs.Reading.{TellsBrief}
+use Rattle.sql_reads.proofs.ReadJourneys.{brief_told}
 use Rattle.sql_reads.specs.RemainingRows.{short_of, short_told, TellBriefs}
-
--- the brief of a journey with its number
-abbrev brief_in : List Event → ℕ × Begun → Brief
-brief_in l b = brief_of_journey b.0 (history l b.0) b.1.journey
-
-briefs_from : (l : List Event) (n : ℕ) (bs : List Begun)
-    → ((i : ℕ) (b : Begun) → slice_get bs i ≡ Some b → journey_at l (n + i) ≡ Some b.journey)
-    → filter_map (brief_of l) (numbers_from n (length bs)) ≡ map (brief_in l) (counted_from n bs)
-briefs_from l n [] at = refl
-briefs_from l n (b ∷ bs) at =
-    let here : journey_at l n ≡ Some b.journey = ap (journey_at l) (let e : n ≡ n + 0 = omega arith in e) ∙ at 0 b refl in
-    ap (λ o. cons_option (option_map (brief_of_journey n (history l n)) o) (filter_map (brief_of l) (numbers_from (suc n) (length bs)))) here
-    ∙ ap (λ more. brief_in l (n, b) ∷ more)
-    (briefs_from l (suc n) bs (λ i x e. ap (journey_at l) (let k : suc n + i ≡ n + suc i = omega arith in k) ∙ at (suc i) x e))
-
--- the briefs are those of the journeys that were begun
-briefs : (l : List Event) → filter_map (brief_of l) (numbers l) ≡ map (brief_in l) (counted_from 1 (begun l))
-briefs l =
-    ap (λ n. filter_map (brief_of l) (numbers_from 1 n)) (sym (length-begun l))
-    ∙ briefs_from l 1 (begun l) (λ i b e. ap (journey_at l) (let k : 1 + i ≡ suc i = omega arith in k) ∙ begun_there l i b e)
+use Rattle.sql_reads.proofs.HandedBriefs.{brief_in, briefs, kept_alike}
 
 -- a phase is in the range of numbers where it is asked for
 phases_same : (phases : Phases) (p : Phase)
@@ -74,13 +59,6 @@ phases_same (Only state.Undone) Run = refl
 phases_same (Only state.Undone) (Back target) = refl
 phases_same (Only state.Undone) Ended = refl
 phases_same (Only state.Undone) Undone = refl
-
-kept_alike : (v w : Bool) (r : JourneyRow) (b : Brief) (rs : List JourneyRow) (bs : List Brief) → v ≡ w → short_of r ≡ short_told b
-    → map short_of rs ≡ map short_told bs → map short_of (cond v (r ∷ rs) rs) ≡ map short_told (cond w (b ∷ bs) bs)
-kept_alike true true r b rs bs e one more = cc
-kept_alike true false r b rs bs e one more = cc
-kept_alike false true r b rs bs e one more = cc
-kept_alike false false r b rs bs e one more = more
 
 module _ (f : JourneyFilter) where
   -- the rows of the journeys that are asked for are those of their briefs

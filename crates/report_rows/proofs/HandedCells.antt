@@ -1,160 +1,33 @@
 -- The cells that are asked for, in their only order. For `cell_rows`.
-use Rattle.std.proofs.Common.{◌≡◌, inl, inr, ℕ, ◌≤◌, List, [], ◌∷◌, map, filter, find, cond, ◌==◌, ◌&&◌, Bool, true, false, Option, Some, None, refl, sym, ap, ap₂, subst, ◌∙◌, arith, eqb-true, eq-eqb}
-use Rattle.std.specs.Prelude.{nat_le, option_map}
-use Rattle.std.specs.Ordering.{is_lt, ordering_reverse}
-use Rattle.std.specs.declared.cmp.Ordering.{Ordering}
-use Rattle.std.specs.declared.cmp.Ordering.TheVariants.{Less, Equal, Greater}
-use Rattle.std.specs.Cmp.{IsTotalOrder}
-use Rattle.std.specs.List.{AllByRecursion}
-use Rattle.std.proofs.lemmas.Cmp.{on_total, then_total, nat_cmp_total, nat_list_cmp_total}
-use Rattle.std.proofs.lemmas.Bool.{and_parts, and_from}
+use Rattle.std.proofs.Common.{◌≡◌, inl, inr, ℕ, List, [], ◌∷◌, map, filter, cond, ◌==◌, ◌&&◌, Bool, true, false, Option, Some, None, refl, ap, ◌∙◌, arith}
+use Rattle.std.specs.Prelude.{nat_le}
+use Rattle.std.specs.Ordering.{is_lt}
+use Rattle.std.proofs.lemmas.Bool.{and_parts}
 use Rattle.std.proofs.lemmas.Bool.Decides.{nat_tests}
-use Rattle.std.proofs.lemmas.Slice.Eq.{bytes_eq-Decides}
-use Rattle.sqlite_trees.specs.Tree.{IsAscending}
 use Rattle.sqlite_trees.proofs.ListLemmas.{ascending-filter}
 use Rattle.sqlite_rules.specs.Lists.{Has}
-use Rattle.sqlite_rules.proofs.ListLemmas.{all_has, test_has, has_filtered, has_found, has_kept}
-use Rattle.sqlite_rules.proofs.ProbeLemmas.{has_mapped, mapped_has}
+use Rattle.sqlite_rules.proofs.ListLemmas.{has_filtered, has_kept}
+use Rattle.sqlite_rules.proofs.ProbeLemmas.{mapped_has}
 use Rattle.allotment.specs.Limits.{first_night, last_night}
-use Rattle.allotment.specs.Cells.{kind_number, is_cell}
+use Rattle.allotment.specs.Cells.{kind_number}
 use Rattle.allotment.specs.declared.cells.Cell.{Cell}
-use Rattle.allotment.specs.declared.kinds.Kind.{Kind}
+use Rattle.allotment.specs.declared.codes.Kind.{Kind}
 use Rattle.filters.specs.CellFilters.{is_cell_of, is_from, is_name_asked, is_to, last_day}
 use Rattle.filters.specs.declared.cells.CellFilter.{CellFilter}
 use Rattle.sql_lists.specs.CellLists.{is_row_asked}
 use Rattle.allotment.specs.declared.places.Held.{Held}
 use Rattle.ledger.specs.Ledger.{Event, IsLegal}
-use Rattle.ledger.proofs.Cells.{is_cell-same}
-use Rattle.saga_core.specs.Views.{Places, places_said, places_at, cell_cmp, are_in_order, IsStock}
+use Rattle.saga_core.specs.Views.{IsStock}
 use Rattle.desk_sql.specs.Rows.{StockRow}
 use Rattle.desk_sql.specs.Stock.{IsByCell, cell_cmp as stock_cmp}
 use Rattle.desk_sql.specs.RemainingRows.{IsOnlyOrder}
 use Rattle.desk_sql.proofs.Members.{permutation_from, permutation_to}
-use Rattle.sql_model.specs.Standing.{AreApart, is_stock_of, is_same_stock, places_told, StockStands}
+use Rattle.sql_model.specs.Standing.{is_same_stock, StockStands}
 use Rattle.sql_model.specs.Reading.{stock_row_of}
-use Rattle.sql_model.proofs.Finding.{find-none}
 use Rattle.sql_model.proofs.Orders.{pairs-permutation}
-use Rattle.sql_model.proofs.StockRows.{stock_at-row, row-stock_at, same_back}
+use Rattle.sql_model.proofs.StockRows.{same_back}
 use Rattle.sql_reads.proofs.GoodStock.{good_row}
-
-stock_total : IsTotalOrder stock_cmp
-stock_total =
-    then_total (on_total (λ (r : StockRow). r.kind) nat_cmp_total)
-    (then_total (on_total (λ (r : StockRow). r.supplier) nat_list_cmp_total)
-    (then_total (on_total (λ (r : StockRow). r.product) nat_list_cmp_total) (on_total (λ (r : StockRow). r.night) nat_cmp_total)))
-
--- no row is before itself
-not_before : (r : StockRow) → is_lt (stock_cmp r r) ≡ true → ⊥
-not_before r e = go (stock_cmp r r) (stock_total.antisymm r r) e
-  where
-    go : (o : Ordering) → o ≡ ordering_reverse o → is_lt o ≡ true → ⊥
-    go Less f g = cc
-    go Equal f g = cc
-    go Greater f g = cc
-
--- a row is of the same cell as itself
-same_self : (r : StockRow) → is_same_stock r r ≡ true
-same_self r =
-    and_from _ _ (and_from _ _ (and_from _ _ (eq-eqb r.kind r.kind refl) ((bytes_eq-Decides r.supplier r.supplier).1 refl)) ((bytes_eq-Decides r.product r.product).1 refl))
-    (eq-eqb r.night r.night refl)
-
--- a list in which no element is before an earlier one is the list in which each is before all later ones
-one_order : (xs ys : List StockRow) → IsAscending IsByCell xs → AreApart is_same_stock xs
-    → IsAscending (λ (r s : StockRow). is_lt (stock_cmp r s) ≡ true) ys
-    → ((r : StockRow) → Has xs r → Has ys r) → ((r : StockRow) → Has ys r → Has xs r) → xs ≡ ys
-one_order [] [] up apart strict a b = refl
-one_order [] (y ∷ ys) up apart strict a b = absurd (b y (inl refl))
-one_order (x ∷ xs) [] up apart strict a b = absurd (a x (inl refl))
-one_order (x ∷ xs) (y ∷ ys) up apart strict a b =
-    let first : x ≡ y = elim (a x (inl refl)) [
-      | inl e ↦ e
-      | inr later ↦ elim (b y (inl refl)) [
-        | inl e ↦ sym e
-        | inr also ↦ absurd (let one = all_has _ xs y up.0 also in let two = all_has _ ys x strict.0 later in let bad : true ≡ false = sym two ∙ one in cc)
-      ]
-    ] in
-    ap₂ ◌∷◌ first (one_order xs ys up.1 apart.1 strict.1
-    (λ r h. elim (a r (inr h)) [ inl e ↦ absurd (twice r h (e ∙ sym first)) | inr k ↦ k ])
-    (λ r h. elim (b r (inr h)) [ inl e ↦ absurd (again r h (e ∙ first)) | inr k ↦ k ]))
-  where
-    twice : (r : StockRow) → Has xs r → r ≡ x → ⊥
-    twice r h e =
-        let off = all_has _ xs r apart.0 h in
-        let bad : true ≡ false = sym (same_self x) ∙ ap (is_same_stock x) (sym e) ∙ off in cc
-
-    again : (r : StockRow) → Has ys r → r ≡ y → ⊥
-    again r h e = not_before y (ap (λ s. is_lt (stock_cmp y s)) (sym e) ∙ all_has _ ys r strict.0 h)
-
--- a row of this cell with these places is the row that both give
-row_is : (x : Cell) (h : Held) (r : StockRow) → is_stock_of x r ≡ true → places_said h ≡ places_told r → stock_row_of (x, h) ≡ r
-row_is x h r on places =
-    let three = and_parts _ _ on in
-    let two = and_parts _ _ three.0 in
-    let one = and_parts _ _ two.0 in
-    let kind : kind_number x.kind ≡ r.kind = eqb-true _ _ one.0 in
-    let supplier : x.supplier ≡ r.supplier = (bytes_eq-Decides x.supplier r.supplier).0 one.1 in
-    let product : x.product ≡ r.product = (bytes_eq-Decides x.product r.product).0 two.1 in
-    let night : x.night ≡ r.night = eqb-true _ _ three.1 in
-    let allot : h.allot ≡ r.allot = ap (λ (p : Places). p.allot) places in
-    let free : h.free ≡ r.free = ap (λ (p : Places). p.free) places in
-    rw (kind, supplier, product, night, allot, free) refl
-
-in_order_strict : (cells : List (Cell × Held)) → are_in_order cells ≡ true
-    → IsAscending (λ (r s : StockRow). is_lt (stock_cmp r s) ≡ true) (map stock_row_of cells)
-in_order_strict [] e = tt
-in_order_strict (c ∷ cells) e = let both = and_parts _ _ e in (below cells (λ d h. test_has _ cells d both.0 h), in_order_strict cells both.1)
-  where
-    below : (ds : List (Cell × Held)) → ((d : Cell × Held) → Has ds d → is_lt (cell_cmp c.0 d.0) ≡ true)
-        → AllByRecursion (λ (s : StockRow). is_lt (stock_cmp (stock_row_of c) s) ≡ true) (map stock_row_of ds)
-    below [] each = tt
-    below (d ∷ ds) each = (each d (inl refl), below ds (λ x h. each x (inr h)))
-
--- a list in order has each cell once
-one_of_cell : (cells : List (Cell × Held)) → are_in_order cells ≡ true → (c d : Cell × Held) → Has cells c → Has cells d → c.0 ≡ d.0 → c ≡ d
-one_of_cell [] order c d h k e = absurd h
-one_of_cell (x ∷ cells) order c d (inl p) (inl q) e = p ∙ sym q
-one_of_cell (x ∷ cells) order c d (inl p) (inr k) e =
-    absurd (not_before (stock_row_of c) (ap (λ (y : Cell). is_lt (cell_cmp c.0 y)) e ∙ ap (λ (y : Cell × Held). is_lt (cell_cmp y.0 d.0)) p
-    ∙ test_has (λ (y : Cell × Held). is_lt (cell_cmp x.0 y.0)) cells d (and_parts _ _ order).0 k))
-one_of_cell (x ∷ cells) order c d (inr h) (inl q) e =
-    absurd (not_before (stock_row_of d) (ap (λ (y : Cell). is_lt (cell_cmp d.0 y)) (sym e) ∙ ap (λ (y : Cell × Held). is_lt (cell_cmp y.0 c.0)) q
-    ∙ test_has (λ (y : Cell × Held). is_lt (cell_cmp x.0 y.0)) cells c (and_parts _ _ order).0 h))
-one_of_cell (x ∷ cells) order c d (inr h) (inr k) e = one_of_cell cells (and_parts _ _ order).1 c d h k e
-
--- the test of a cell is reflexive
-self_cell : (x : Cell) → is_cell x x ≡ true
-self_cell x =
-    and_from _ _ (and_from _ _ (and_from _ _ (eq-eqb (kind_number x.kind) (kind_number x.kind) refl) ((bytes_eq-Decides x.supplier x.supplier).1 refl)) ((bytes_eq-Decides x.product x.product).1 refl))
-    (eq-eqb x.night x.night refl)
-
--- the places that the list has of a cell are those of one of its elements
-listed_there : (cells : List (Cell × Held)) (x : Cell) (p : Places) → places_at cells x ≡ Some p
-    → (h : Held) × Has cells (x, h) × (places_said h ≡ p)
-listed_there cells x p e = go (find (λ (c : Cell × Held). is_cell x c.0) cells) refl
-  where
-    go : (o : Option (Cell × Held)) → find (λ (c : Cell × Held). is_cell x c.0) cells ≡ o → (h : Held) × Has cells (x, h) × (places_said h ≡ p)
-    go None f = let bad : None ≡ Some p = sym (ap (option_map (λ (c : Cell × Held). places_said c.1)) f) ∙ e in absurd (cc)
-    go (Some c) f =
-        let there = has_found (λ (d : Cell × Held). is_cell x d.0) cells c f in
-        let said : Some (places_said c.1) ≡ Some p = sym (ap (option_map (λ (d : Cell × Held). places_said d.1)) f) ∙ e in
-        let cell : x ≡ c.0 = is_cell-same x c.0 there.1 in
-        (c.1, subst (λ (y : Cell). Has cells (y, c.1)) (sym cell) there.0, (let s : places_said c.1 ≡ p = cc in s))
-
--- the places of each element are those that a list in order has of its cell
-there_listed : (cells : List (Cell × Held)) → are_in_order cells ≡ true → (c : Cell × Held) → Has cells c
-    → places_at cells c.0 ≡ Some (places_said c.1)
-there_listed cells order c h = go (find (λ (d : Cell × Held). is_cell c.0 d.0) cells) refl
-  where
-    go : (o : Option (Cell × Held)) → find (λ (d : Cell × Held). is_cell c.0 d.0) cells ≡ o → places_at cells c.0 ≡ Some (places_said c.1)
-    go None f =
-        let off = all_has _ cells c (find-none (λ (d : Cell × Held). is_cell c.0 d.0) cells f) h in
-        let bad : true ≡ false = sym (self_cell c.0) ∙ off in absurd (cc)
-    go (Some d) f =
-        let there = has_found (λ (e : Cell × Held). is_cell c.0 e.0) cells d f in
-        ap (option_map (λ (e : Cell × Held). places_said e.1)) f
-        ∙ ap (λ (e : Cell × Held). Some (places_said e.1)) (sym (one_of_cell cells order c d h there.0 (is_cell-same c.0 d.0 there.1)))
-
--- The cells that are asked for.
+use Rattle.report_rows.proofs.HandedStock.{in_order_strict, listed_row, one_order, row_listed}
 
 to_same : (last : Option ℕ) (night : ℕ) → nat_le night last_night ≡ true → nat_le night (last_day last) ≡ is_to last night
 to_same None night low = grind (arith, nat_tests, low)
@@ -168,21 +41,6 @@ kept_same false true c rs cs e more = cc
 kept_same false false c rs cs e more = more
 
 module _ (l : List Event) (stock : List StockRow) (stand : StockStands l stock) (cells : List (Cell × Held)) (is : IsStock l cells) where
-  row_listed : (r : StockRow) → Has stock r → Has (map stock_row_of cells) r
-  row_listed r h =
-      let known = all_has _ stock r stand.known h in
-      let at : places_at cells known.0 ≡ Some (places_told r)
-      = is.each known.0 ∙ sym (stand.each known.0) ∙ stock_at-row stock known.0 r stand.once h known.1 in
-      let there = listed_there cells known.0 (places_told r) at in
-      subst (Has (map stock_row_of cells)) (row_is known.0 there.0 r known.1 there.2) (mapped_has stock_row_of cells (known.0, there.0) there.1)
-
-  listed_row : (r : StockRow) → Has (map stock_row_of cells) r → Has stock r
-  listed_row r h =
-      let c = has_mapped stock_row_of cells r h in
-      let at = stand.each c.0.0 ∙ sym (is.each c.0.0) ∙ there_listed cells is.in_order c.0 c.1 in
-      let there = row-stock_at stock c.0.0 (places_said c.0.1) at in
-      subst (Has stock) (sym (row_is c.0.0 c.0.1 there.0 there.2 (sym there.3)) ∙ sym c.2) there.1
-
   -- a row is one of those that are asked for where its cell is
   each_asked : (kind : Kind) (f : CellFilter) (c : Cell × Held) → nat_le c.0.night last_night ≡ true
       → is_row_asked kind f (stock_row_of c) ≡ is_cell_of kind f c.0
@@ -201,7 +59,7 @@ module _ (l : List Event) (stock : List StockRow) (stand : StockStands l stock) 
     -- each cell of the stock is of a night
     low_nights : (c : Cell × Held) → Has cells c → nat_le c.0.night last_night ≡ true
     low_nights c h =
-        let good = good_row l legal stock stand (stock_row_of c) (listed_row (stock_row_of c) (mapped_has stock_row_of cells c h)) in
+        let good = good_row l legal stock stand (stock_row_of c) (listed_row l stock stand cells is (stock_row_of c) (mapped_has stock_row_of cells c h)) in
         (and_parts (nat_le first_night c.0.night) (nat_le c.0.night last_night) good.night).1
 
     abbrev all : List StockRow
@@ -217,7 +75,7 @@ module _ (l : List Event) (stock : List StockRow) (stand : StockStands l stock) 
         (ascending-filter (λ (r s : StockRow). is_same_stock r s ≡ false) p stock stand.once))
         (ascending-filter (λ (r s : StockRow). is_lt (stock_cmp r s) ≡ true) p all (in_order_strict cells is.in_order))
         (λ r h. let kept = has_filtered p stock r (permutation_from (filter p stock) other r listed.same h) in
-        has_kept p all r (row_listed r kept.0) kept.1)
+        has_kept p all r (row_listed l stock stand cells is r kept.0) kept.1)
         (λ r h. let kept = has_filtered p all r h in
-        permutation_to (filter p stock) other r listed.same (has_kept p stock r (listed_row r kept.0) kept.1))
+        permutation_to (filter p stock) other r listed.same (has_kept p stock r (listed_row l stock stand cells is r kept.0) kept.1))
         ∙ rows_asked kind f cells low_nights

@@ -1,3 +1,4 @@
+pub mod HandedStock
 pub mod HandedCells
 pub mod HandedBriefs
 pub mod HeldRows

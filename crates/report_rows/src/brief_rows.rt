@@ -2,31 +2,47 @@
 
 ghost use Rattle.std.specs.Prelude.{◌≡◌, ◌<◌, ◌+◌, ◌-◌, ◌^◌, false, IfOk, IsErrOf};
 ghost use Rattle.std.specs.Borrow.{sem};
+ghost use Rattle.saga_core.specs.Views.{unfinished_of};
 ghost use Rattle.sqlite.specs.Held.{state};
 ghost use Rattle.sqlite.specs.State.{HasCleanDisk};
 ghost use Rattle.filters.specs.JourneyFilters.{asked_of};
 ghost use Rattle.desk_sql.specs.declared.versions.Version.{Version};
 ghost use Rattle.sql_reads.specs.Lending.{LeavesIfErr};
-ghost use Rattle.report_rows.specs.RowsLeft.{AreGoodBriefsRest, BriefsRest};
-ghost use Rattle.sql_reads.specs.RemainingRows.{BeginsKept, IsLeftAsItWas, RowsStay};
+ghost use Rattle.sql_reads.specs.RemainingRows.{RowsStay};
+ghost use Rattle.sql_reads.specs.RemainingRows.{AreGoodBriefsRest, BriefsRest};
+ghost use Rattle.sql_reads.specs.RemainingRows.{BeginsKept, IsLeftAsItWas};
 ghost use Rattle.saga_core.specs.RowSources.{count_of, Hands};
 ghost use Rattle.desk_sql.specs.Causes.{HasFaulted, IsUp};
 ghost use Rattle.sql_model.specs.Staying.{StaysUp};
 
 use crate::progress::Progress;
-use crate::telling::brief_of;
 use commands::Fault;
 use filters::JourneyFilter;
 use saga_core::{Brief, RowSource};
-use sql_lists::{hand_journeys, next_journey};
+use sql_lists::{hand_journeys, hand_unfinished, next_journey};
 use sql_model::fault_of;
+use sql_reads::brief_of;
 use sqlite::{Alter, Connection, Error, Rows};
 
-/// The journeys that remain of rows that `start_journeys` returned. After a fault every call returns `Store`.
+/// The journeys that remain of rows that `start_unfinished` or `start_journeys` returned. After a fault every call returns
+/// `Store`.
 #[derive(Drop)]
 pub struct JourneyRows<'r, 'c, S: Alter> {
     pub rows: &'r mut Rows<'c, S>,
     pub progress: Progress,
+}
+
+/// Starts to read all unfinished journeys, in order of number. If that fails, nothing has changed.
+pub fn start_unfinished<S: Alter>(conn: &mut Connection<S>) -> Result<Rows<'_, S>, Error>
+    ensures* fault { sem 𝓛 (LeavesIfErr S.row S.Store conn.entry result) }
+    ensures same_reference { IfOk result (λ it. it.conn.ghost_name ≡ conn.entry.ghost_name) }
+    ensures rows { IfOk result (λ it. (v : Version)
+        → BeginsKept S.Store conn.old it.conn.now v (λ s briefs. briefs ≡ unfinished_of s.ledger)
+        (BriefsRest S.Store it.conn.now)) }
+    ensures kept { IfOk result (λ it. IsLeftAsItWas S.Store conn.old it.conn.now) }
+    ensures up { IfOk result (λ it. StaysUp S.Store conn.old it.conn.now) }
+{
+    hand_unfinished(conn, 0)
 }
 
 /// Starts to read the journeys that a filter lets through, in order of number. If that fails, nothing has changed.

@@ -1,32 +1,49 @@
-//! The cells of a kind with their places, in order of supplier, product and night, read one at a time.
+//! Cells with their places, in order of kind, supplier, product and night, read one at a time.
 
 ghost use Rattle.std.specs.Prelude.{◌≡◌, ◌<◌, ◌+◌, ◌-◌, ◌^◌, false, IfOk, IsErrOf};
 ghost use Rattle.std.specs.Borrow.{sem};
+ghost use Rattle.saga_core.specs.Views.{IsStock};
 ghost use Rattle.sqlite.specs.Held.{state};
 ghost use Rattle.sqlite.specs.State.{HasCleanDisk};
 ghost use Rattle.desk_sql.specs.declared.versions.Version.{Version};
 ghost use Rattle.sql_reads.specs.Lending.{LeavesIfErr};
-ghost use Rattle.report_rows.specs.RowsLeft.{AreCellsOf, AreGoodCellsRest, StockRests};
-ghost use Rattle.sql_reads.specs.RemainingRows.{BeginsKept, IsLeftAsItWas, RowsStay};
+ghost use Rattle.sql_reads.specs.RemainingRows.{RowsStay};
+ghost use Rattle.report_rows.specs.RowsLeft.{AreCellsOf};
+ghost use Rattle.sql_reads.specs.RemainingRows.{AreGoodCellsRest, StockRests};
+ghost use Rattle.sql_reads.specs.RemainingRows.{BeginsKept, IsLeftAsItWas};
 ghost use Rattle.saga_core.specs.RowSources.{count_of, Hands};
 ghost use Rattle.desk_sql.specs.Causes.{HasFaulted, IsUp};
 ghost use Rattle.sql_model.specs.Staying.{StaysUp};
 
 use crate::progress::Progress;
-use crate::telling::cell_told;
 use allotment::{Cell, Held, Kind};
 use commands::Fault;
 use filters::CellFilter;
 use saga_core::RowSource;
-use sql_lists::{hand_cells, next_cell};
+use sql_lists::{hand_cells, hand_stock, next_cell};
 use sql_model::fault_of;
+use sql_reads::cell_told;
 use sqlite::{Alter, Connection, Error, Rows};
 
-/// The cells that remain of rows that `start_cells` returned. After a fault every call returns `Store`.
+/// The cells that remain of rows that `start_stock` or `start_cells` returned. After a fault every call returns `Store`.
 #[derive(Drop)]
 pub struct CellRows<'r, 'c, S: Alter> {
     pub rows: &'r mut Rows<'c, S>,
     pub progress: Progress,
+}
+
+/// Starts to read every cell that has an allotment, in order of kind, supplier, product and night. If that fails,
+/// nothing has changed.
+pub fn start_stock<S: Alter>(conn: &mut Connection<S>) -> Result<Rows<'_, S>, Error>
+    ensures* fault { sem 𝓛 (LeavesIfErr S.row S.Store conn.entry result) }
+    ensures same_reference { IfOk result (λ it. it.conn.ghost_name ≡ conn.entry.ghost_name) }
+    ensures rows { IfOk result (λ it. (v : Version)
+        → BeginsKept S.Store conn.old it.conn.now v (λ s rows. IsStock s.ledger rows)
+        (StockRests S.Store it.conn.now)) }
+    ensures kept { IfOk result (λ it. IsLeftAsItWas S.Store conn.old it.conn.now) }
+    ensures up { IfOk result (λ it. StaysUp S.Store conn.old it.conn.now) }
+{
+    hand_stock(conn)
 }
 
 /// Starts to read the cells of a kind that have an allotment and that a filter lets through, in order of supplier,

@@ -7,8 +7,9 @@ ghost use Rattle.sqlite.specs.State.{HasCleanDisk};
 ghost use Rattle.desk_sql.specs.declared.versions.Version.{Version};
 ghost use Rattle.holder_reports.specs.Holders.{holders_of};
 ghost use Rattle.sql_reads.specs.Lending.{LeavesIfErr};
+ghost use Rattle.sql_reads.specs.RemainingRows.{RowsStay};
 ghost use Rattle.report_rows.specs.HoldersLeft.{AreHoldersRest, HoldersLeft, found_of};
-ghost use Rattle.sql_reads.specs.RemainingRows.{BeginsKept, IsLeftAsItWas, RowsStay};
+ghost use Rattle.sql_reads.specs.RemainingRows.{BeginsKept, IsLeftAsItWas};
 ghost use Rattle.saga_core.specs.RowSources.{count_of, Hands};
 ghost use Rattle.desk_sql.specs.Causes.{HasFaulted, IsUp};
 ghost use Rattle.sql_model.specs.Staying.{StaysUp};
@@ -37,8 +38,8 @@ pub fn start_holders<'a, S: Alter>(
     ensures* fault { sem 𝓛 (LeavesIfErr S.row S.Store conn.entry result) }
     ensures same_reference { IfOk result (λ it. it.conn.ghost_name ≡ conn.entry.ghost_name) }
     ensures rows { IfOk result (λ it. (v : Version)
-        → BeginsKept S.Store conn.old it.conn.now v (λ s holders. holders ≡ holders_of s.ledger cell.now)
-        (HoldersLeft S.Store it.conn.now)) }
+        → BeginsKept S.Store conn.old it.conn.now v (λ s holders.
+        holders ≡ holders_of s.ledger cell.now) (HoldersLeft S.Store it.conn.now)) }
     ensures kept { IfOk result (λ it. IsLeftAsItWas S.Store conn.old it.conn.now) }
     ensures up { IfOk result (λ it. StaysUp S.Store conn.old it.conn.now) }
 {
@@ -62,7 +63,8 @@ impl<S: Alter> RowSource<Holder> for HolderRows<'_, '_, S> {
 
     ghost is_sound = { λ s. HasCleanDisk (state S.Store s.rows.now.conn.now) };
 
-    ghost rests = { λ s holders. (s.progress.failed ≡ false) × HoldersLeft S.Store s.rows.now.conn.now holders };
+    ghost rests = { λ s holders. (s.progress.failed ≡ false)
+        × HoldersLeft S.Store s.rows.now.conn.now holders };
 
     ghost given = { λ s. s.progress.given };
 
@@ -74,19 +76,25 @@ impl<S: Alter> RowSource<Holder> for HolderRows<'_, '_, S> {
 
     fn next_row(&mut self) -> Result<Option<Holder>, Fault>
         ensures next { HasCleanDisk (state S.Store self.new.rows.now.conn.now) → IfOk result (Hands
-            (λ rows. (self.old.progress.failed ≡ false) × HoldersLeft S.Store self.old.rows.now.conn.now rows)
-            (λ rows. (self.new.progress.failed ≡ false) × HoldersLeft S.Store self.new.rows.now.conn.now rows)) }
-        ensures counted { IfOk result (λ found. self.new.progress.given ≡ count_of found + self.old.progress.given) }
+            (λ rows. (self.old.progress.failed ≡ false)
+            × HoldersLeft S.Store self.old.rows.now.conn.now rows)
+            (λ rows. (self.new.progress.failed ≡ false)
+            × HoldersLeft S.Store self.new.rows.now.conn.now rows)) }
+        ensures counted { IfOk result (λ found.
+            self.new.progress.given ≡ count_of found + self.old.progress.given) }
         ensures few { self.new.progress.given < 2 ^ 64 }
 
         ensures kept { RowsStay S.Store self.old.rows self.new.rows }
         ensures sound { HasCleanDisk (state S.Store self.new.rows.now.conn.now)
             → HasCleanDisk (state S.Store self.old.rows.now.conn.now) }
 
-        ensures store { HasCleanDisk (state S.Store self.new.rows.now.conn.now) → self.old.progress.failed ≡ false
-            → AreHoldersRest S.Store self.old.rows.now.conn.now → self.old.progress.given < 2 ^ 64 - 1
+        ensures store { HasCleanDisk (state S.Store self.new.rows.now.conn.now)
+            → self.old.progress.failed ≡ false
+            → AreHoldersRest S.Store self.old.rows.now.conn.now
+            → self.old.progress.given < 2 ^ 64 - 1
             → IsUp (state S.Store self.old.rows.now.conn.now) → IsErrOf result Fault.Store
-            → HasFaulted (state S.Store self.old.rows.now.conn.now) (state S.Store self.new.rows.now.conn.now) }
+            → HasFaulted (state S.Store self.old.rows.now.conn.now)
+            (state S.Store self.new.rows.now.conn.now) }
         ensures up { StaysUp S.Store self.old.rows.now.conn.now self.new.rows.now.conn.now }
     {
         let given = self.progress.given;

@@ -1,5 +1,5 @@
-//! The rows of reports that a connection's desk has: cells and journeys that a filter lets through, and the holders of a
-//! cell, one at a time.
+//! The rows of reports that a connection's desk has, one at a time: cells and journeys, all or those that a filter lets
+//! through, and the holders of a cell.
 //!
 //! Whatever is returned, the connection keeps each desk that it kept, and a crash leaves nothing new of it. A row with a
 //! value out of range is reported as a fault of the store, and no row comes after a fault.
@@ -11,9 +11,8 @@ mod brief_rows;
 mod cell_rows;
 mod holder_rows;
 mod progress;
-mod telling;
 
-pub use brief_rows::{JourneyRows, start_journeys};
-pub use cell_rows::{CellRows, start_cells};
+pub use brief_rows::{JourneyRows, start_journeys, start_unfinished};
+pub use cell_rows::{CellRows, start_cells, start_stock};
 pub use holder_rows::{HolderRows, start_holders};
 pub use progress::Progress;

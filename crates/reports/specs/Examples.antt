@@ -5,7 +5,7 @@ use Rattle.std.proofs.Common.{lit≤}
 use Rattle.std.specs.FinSet as set
 use Rattle.allotment.specs.Want.{Wanted, wanted}
 use Rattle.allotment.specs.declared.cells.Cell.{Cell}
-use Rattle.allotment.specs.declared.kinds.Kind.TheVariants.{Flight}
+use Rattle.allotment.specs.declared.codes.Kind.TheVariants.{Flight}
 use Rattle.allotment.specs.declared.places.Held.{Held}
 use Rattle.commands.specs.declared.items.Cause.TheVariants as cause
 use Rattle.commands.specs.declared.items.Item.TheVariants.{Turn}

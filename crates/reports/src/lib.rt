@@ -10,6 +10,7 @@
 
 mod endings;
 mod faults;
+mod fields;
 mod formats;
 mod lines;
 mod objects;
@@ -20,6 +21,10 @@ mod reports;
 mod rows;
 
 pub use faults::ReportFault;
+pub use fields::{csv_line, put_field, put_number};
 pub use formats::{Format, JourneyReport};
+pub use lines::night_text;
+pub use objects::{journey_object, json_line};
 pub use parts::{begin_stock, end_stock, stock_lines};
+pub use records::put_journey;
 pub use reports::{history_text, journeys_text, stock_text, unfinished_text};

@@ -62,7 +62,7 @@ fn cell_columns(alloc: Global, cell: &Cell) -> Result<String, AllocError>
 }
 
 /// The text of a night, as `2030-06-01`.
-pub(crate) fn night_text(alloc: Global, night: Night) -> Result<String, AllocError>
+pub fn night_text(alloc: Global, night: Night) -> Result<String, AllocError>
     ensures text { IfOk result (λ text. string_bytes text ≡ night_text night) }
 {
     format!(in alloc; "{night}")

@@ -22,8 +22,8 @@ pub(crate) fn cell_object(alloc: Global, cell: &Cell, places: &Held) -> Result<S
     json_line(alloc, &value)
 }
 
-/// The line of an unfinished journey.
-pub(crate) fn journey_object(alloc: Global, brief: &Brief) -> Result<String, AllocError>
+/// The line of a journey with its agent, and of where it is.
+pub fn journey_object(alloc: Global, brief: &Brief) -> Result<String, AllocError>
     ensures line { IfOk result (λ text. string_bytes text ≡ json_line (journey_data brief.now)) }
 {
     let value = journey_value(alloc, brief)?;
@@ -56,8 +56,8 @@ pub(crate) fn state_object(alloc: Global, id: u64, cursor: &Cursor) -> Result<St
     json_line(alloc, &value)
 }
 
-/// The line of a value without floats.
-fn json_line(alloc: Global, value: &Value) -> Result<String, AllocError>
+/// The text of a value without floats, and a line end.
+pub fn json_line(alloc: Global, value: &Value) -> Result<String, AllocError>
     ensures line { IfOk result (λ text. has_float (view value.now) ≡ false →
         string_bytes text ≡ json_line (view value.now)) }
 {

@@ -1,5 +1,5 @@
 //! Writing texts and bytes to a writer.
-ghost use Rattle.std.specs.Prelude.{OnOk};
+ghost use Rattle.std.specs.Prelude.{◌≡◌, IfErr, OnOk};
 ghost use Rattle.std.specs.Io.KnownBytes.{Appends};
 ghost use Rattle.streams.specs.Written.{WroteFront};
 
@@ -12,6 +12,7 @@ pub(crate) fn send<W: Write>(out: &mut W, bytes: &[u8]) -> Result<(), ReportFaul
     ensures sent { OnOk result (Appends (W.contents out.old) (W.contents out.new) bytes.now) }
 
     ensures front { WroteFront (W.contents out.old) (W.contents out.new) bytes.now }
+    ensures write { IfErr result (λ fault. fault ≡ ReportFault.Write) }
 {
     send_all(out, bytes)?;
     Ok(())
@@ -22,6 +23,7 @@ pub(crate) fn send_text<W: Write>(out: &mut W, text: &str) -> Result<(), ReportF
     ensures sent { OnOk result (Appends (W.contents out.old) (W.contents out.new) text.now) }
 
     ensures front { WroteFront (W.contents out.old) (W.contents out.new) text.now }
+    ensures write { IfErr result (λ fault. fault ≡ ReportFault.Write) }
 {
     send(out, text.as_bytes())
 }

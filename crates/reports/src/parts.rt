@@ -1,5 +1,5 @@
 //! The parts of a stock report, for one whose cells come from several sources: its heading, its lines, its ending.
-ghost use Rattle.std.specs.Prelude.{◌≡◌, ◌+◌, List, [], codes, length, IfOk, OnOk};
+ghost use Rattle.std.specs.Prelude.{◌≡◌, ◌≢◌, ◌+◌, List, [], codes, length, IfErr, IfOk, OnOk};
 ghost use Rattle.std.specs.List.{flat_map};
 ghost use Rattle.std.specs.Io.KnownBytes.{Appends};
 ghost use Rattle.allotment.specs.declared.cells.Cell.{Cell};
@@ -23,6 +23,7 @@ pub fn begin_stock<W: Write>(format: Format, out: &mut W) -> Result<(), ReportFa
     ensures sent { OnOk result (Appends (W.contents out.old) (W.contents out.new) (head_in format)) }
 
     ensures front { WroteFront (W.contents out.old) (W.contents out.new) (head_in format) }
+    ensures write { IfErr result (λ fault. fault ≡ ReportFault.Write) }
 {
     send_text(out, stock_head(format))
 }
@@ -62,6 +63,7 @@ pub fn end_stock<W: Write>(
         (last_line format (codes "cells") count)) }
 
     ensures front { WroteFront (W.contents out.old) (W.contents out.new) (last_line format (codes "cells") count) }
+    ensures no_store { IfErr result (λ fault. fault ≢ ReportFault.Store) }
 {
     let text = Ending::of_list(format, "cells").text(alloc, count)?;
     send_text(out, text.as_str())

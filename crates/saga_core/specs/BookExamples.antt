@@ -1,7 +1,7 @@
 -- What the definitions of a book's calls say of a new desk: of the load of a flight, and of a run that loads the flight
 -- and begins a journey. A definition with one more premise, which a new desk does not meet, is refused here.
-use Rattle.std.specs.Prelude.{◌≡◌, ℕ, List, [], ◌∷◌, Option, Some, None, Ok, Err, refl}
-use Rattle.allotment.specs.declared.kinds.Kind.TheVariants.{Flight}
+use Rattle.std.specs.Prelude.{◌≡◌, ◌<◌, ℕ, List, [], ◌∷◌, Option, Some, None, Ok, Err, refl}
+use Rattle.allotment.specs.declared.codes.Kind.TheVariants.{Flight}
 use Rattle.commands.specs.Request.{Request}
 use Rattle.commands.specs.declared.replies.Fault.{Fault}
 use Rattle.commands.specs.declared.replies.Fault.TheVariants.{Memory, Store}
@@ -11,8 +11,9 @@ use Rattle.ledger.specs.Answer.{State, start, outcome}
 use Rattle.ledger.specs.Examples.{load, row}
 use Rattle.saga_core.specs.Books.{Replies, MovesOn, KeepsAtMemory, Keeps, LeavesNoMore, LeavesAtStore, Shows}
 use Rattle.saga_core.specs.ChainExamples.{begun}
+use Rattle.saga_core.specs.Reasons.{ActsOn, ActsOnAfter, FailsAmong, HasReasonAmong, ReadsOn}
 use Rattle.saga_core.specs.RowSources.{Hands}
-use Rattle.saga_core.specs.Runs.{AreReplies, MovesOnBy, Stops, StopsAmong, state_after}
+use Rattle.saga_core.specs.Runs.{Asks, AreReplies, MovesOnBy, Stops, StopsAmong, state_after}
 use Rattle.saga_core.specs.Worlds.{EndsWith, GoesOnWith, GoesOnAmong, RunEndsAmong}
 
 -- the book represents a new desk
@@ -56,6 +57,48 @@ crash_leaves_no_more leaves no_more = no_more start start refl
 pub first_row_is_handed_out :
     (rests : List ℕ → Type 0) (found : Option ℕ) → Hands (λ rows. rows ≡ 7 ∷ []) rests found → found ≡ Some 7
 first_row_is_handed_out rests found hands = (hands (7 ∷ []) refl).0
+
+-- Reasons.
+
+-- a book that may act for the load of a flight, on a new desk, may then act for no more asks
+pub load_leaves_a_book_that_may_act :
+    (could can : State → Asks → Type 0) (reason : State → State → Type 0) (reply : Reply)
+    → ActsOn could can reason None flight (Ok reply) → could start ((flight, None) ∷ []) → can (outcome start None flight).state []
+load_leaves_a_book_that_may_act could can reason reply acts may = acts start [] may
+
+pub load_out_of_memory_leaves_a_book_that_may_act :
+    (could can : State → Asks → Type 0) (reason : State → State → Type 0)
+    → ActsOn {T = Reply} could can reason None flight (Err Memory) → could start ((flight, None) ∷ []) → can start []
+load_out_of_memory_leaves_a_book_that_may_act could can reason acts may = acts start [] may
+
+pub load_fails_for_a_reason :
+    (could can : State → Asks → Type 0) (reason : State → State → Type 0)
+    → ActsOn {T = Reply} could can reason None flight (Err Store) → could start ((flight, None) ∷ [])
+    → reason start (outcome start None flight).state
+load_fails_for_a_reason could can reason acts may = acts start [] may
+
+pub read_leaves_a_book_that_may_act :
+    (could can : State → Asks → Type 0) (reason : State → State → Type 0)
+    → ReadsOn {T = ℕ} could can reason (Ok 7) → could start begun → can start begun
+read_leaves_a_book_that_may_act could can reason reads may = reads start begun may
+
+pub read_fails_for_a_reason :
+    (could can : State → Asks → Type 0) (reason : State → State → Type 0)
+    → ReadsOn {T = ℕ} could can reason (Err Store) → could start begun → reason start start
+read_fails_for_a_reason could can reason reads may = reads start begun may
+
+pub run_leaves_a_book_that_may_act :
+    (could can : State → Asks → Type 0) → ActsOnAfter could can begun → could start begun → can (state_after start begun) []
+run_leaves_a_book_that_may_act could can acts may = acts start [] may
+
+pub run_fails_for_a_reason :
+    (could : State → Asks → Type 0) (reason : State → State → Type 0) → FailsAmong could reason begun → could start begun
+    → HasReasonAmong reason start begun
+run_fails_for_a_reason could reason fails may = fails start [] may
+
+-- the reason is one of a single ask
+pub reason_is_that_of_one_ask : (reason : State → State → Type 0) (among : HasReasonAmong reason start begun) → among.count < 2
+reason_is_that_of_one_ask reason among = among.within
 
 -- Runs.
 

@@ -1,6 +1,6 @@
 -- A session that crashes within a step, made of the worked requests of the ledger. For the laws of chains.
 use Rattle.std.specs.Prelude.{true, List, [], ◌∷◌, None}
-use Rattle.allotment.specs.declared.kinds.Kind.TheVariants.{Flight}
+use Rattle.allotment.specs.declared.codes.Kind.TheVariants.{Flight}
 use Rattle.commands.specs.Request.{Step}
 use Rattle.commands.specs.declared.replies.Reply.TheVariants.{Loaded, Begun}
 use Rattle.ledger.specs.Examples.{load, row}

@@ -15,7 +15,7 @@ use Rattle.commands.specs.declared.items.Phase.{Phase}
 use Rattle.commands.specs.declared.items.Phase.TheVariants.{Run, Back, Ended}
 use Rattle.commands.specs.declared.replies.Refusal.{Refusal}
 use Rattle.commands.specs.declared.replies.Refusal.TheVariants.{Finished, NoSavePoint, NoSave}
-use Rattle.allotment.specs.declared.kinds.Kind.TheVariants.{Flight, Room}
+use Rattle.allotment.specs.declared.codes.Kind.TheVariants.{Flight, Room}
 use Rattle.ledger.specs.Answer.{start}
 use Rattle.ledger.specs.Ledger.{Event, Began}
 use Rattle.ledger.specs.Examples.{june, after_all, step, marked, untried, flight, load, row, row_after, nights_of}

@@ -1,6 +1,7 @@
 pub mod Books
 pub mod Views
 pub mod Runs
+pub mod Reasons
 pub mod RowSources
 pub mod Rulings
 pub mod Worlds

@@ -1,5 +1,5 @@
 -- What a book reports of a ledger.
-use Rattle.std.specs.Prelude.{◌≡◌, ℕ, ◌-◌, ◌&&◌, not, Bool, true, List, length, filter, filter_map, find, nat_lt, bytes_eq, Option, option_map, IsTrue, [], ◌∷◌, map}
+use Rattle.std.specs.Prelude.{◌≡◌, ℕ, ◌-◌, ◌&&◌, not, Bool, true, List, length, filter, filter_map, find, nat_lt, bytes_eq, Option, option_map, IfSome, IsTrue, [], ◌∷◌, map}
 use Rattle.std.specs.List.{list_all}
 use Rattle.std.specs.Ordering.{is_lt, ordering_then, nat_cmp}
 use Rattle.std.specs.Cmp.Lexicographic.{slice_cmp}
@@ -16,6 +16,7 @@ pub use Rattle.ledger_transitions.specs.Cursors.{cursor_of, marks_of}
 use Rattle.saga_core.specs.declared.records.Record.{Record}
 use Rattle.saga_core.specs.declared.records.Brief.{Brief}
 use Rattle.saga_core.specs.declared.records.Counts.{Counts}
+use Rattle.saga_core.specs.declared.records.Trace.{Trace}
 
 abbrev pub record_of_journey : List Item → Journey → Record
 record_of_journey h a =
@@ -30,6 +31,14 @@ brief_of_journey j h a = record { id = j; agent = a.agent; cursor = cursor_of a.
 
 abbrev pub brief_of : List Event → ℕ → Option Brief
 brief_of l j = option_map (brief_of_journey j (history l j)) (journey_at l j)
+
+-- a trace was found of the journey of this number, if there is one, and it has the journey's brief
+abbrev pub TracesBrief : ℕ → State → Option Trace → Type 0
+TracesBrief j s found = option_map (λ (t : Trace). t.brief) found ≡ brief_of s.ledger j
+
+-- a trace that was found has the items of the journey of this number
+abbrev pub TracesItems : ℕ → State → Option Trace → Type 0
+TracesItems j s found = IfSome found (λ (t : Trace). t.items.items ≡ history s.ledger j)
 
 abbrev pub is_unfinished_above : ℕ → Brief → Bool
 is_unfinished_above after b = nat_lt after b.id && not (is_finished b.cursor.phase)

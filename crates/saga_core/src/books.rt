@@ -9,9 +9,12 @@ ghost use Rattle.commands.specs.Orders.{request_of};
 ghost use Rattle.ledger.specs.Ledger.{IsLegal, history};
 ghost use Rattle.ledger.specs.Answer.{State};
 ghost use Rattle.saga_core.specs.Books.{Replies, MovesOn, KeepsAtMemory, Keeps, Shows, LeavesJust, LeavesNoMore, LeavesAtStore};
+ghost use Rattle.saga_core.specs.Reasons.{ActsOn, ReadsOn};
+ghost use Rattle.saga_core.specs.Runs.{Asks};
 ghost use Rattle.saga_core.specs.Views.{record_of, first_unfinished, first_owned, counts_of, ShowsCells, IsStock};
+ghost use Rattle.saga_core.specs.Views.{TracesBrief, TracesItems, unfinished_of};
 
-use crate::records::{Brief, Counts, Record};
+use crate::records::{Brief, Counts, Record, Trace};
 use allotment::{Cell, Held, Night, Want};
 use commands::{Agent, Ask, Command, Fault, Item, Reply};
 
@@ -27,6 +30,15 @@ pub trait Book {
 
     /// A call has returned `Store`.
     ghost has_failed: { Self → Bool };
+
+    /// Since the first of the two books, the store has failed or refused; or the second book represents this state, and
+    /// executes these asks in order, unless its store fails or refuses. What that takes, each book says; by default, no
+    /// book may act so.
+    ghost may_act: { Self → Self → State → Asks → Type 0 } = { λ _ _ _ _. ⊥ };
+
+    /// Since the first of the two books, its store has failed or refused, or could not commit the step from the one
+    /// state to the other: why the second one returned `Store`. By default, there is no reason.
+    ghost has_reason: { Self → Self → State → State → Type 0 } = { λ _ _ _ _. ⊥ };
 
     /// Executes one command for the agent of the ask, or for the house if there is no ask.
     ///
@@ -49,6 +61,9 @@ pub trait Book {
         ensures stays_failed { IsTrue (has_failed self.old) → IsTrue (has_failed self.new) }
         ensures stays_left { IsTrue (has_failed self.old) →
             LeavesNoMore (leaves self.old) (leaves self.new) }
+        ensures may_act { is_sound self.new → (first : Self) → ActsOn
+            (may_act first self.old) (may_act first self.new) (has_reason first self.new)
+            (option_copied ask.entry) (request_of command.now) result }
 
         ensures sound { is_sound self.new → is_sound self.old };
 
@@ -63,6 +78,8 @@ pub trait Book {
         ensures stays_failed { IsTrue (has_failed self.old) → IsTrue (has_failed self.new) }
         ensures stays_left { IsTrue (has_failed self.old) →
             LeavesNoMore (leaves self.old) (leaves self.new) }
+        ensures may_act { is_sound self.new → (first : Self) → ReadsOn
+            (may_act first self.old) (may_act first self.new) (has_reason first self.new) result }
         ensures sound { is_sound self.new → is_sound self.old };
 
     /// Returns the items of the journey of that number, in order; none if there is no such journey.
@@ -76,6 +93,8 @@ pub trait Book {
         ensures stays_failed { IsTrue (has_failed self.old) → IsTrue (has_failed self.new) }
         ensures stays_left { IsTrue (has_failed self.old) →
             LeavesNoMore (leaves self.old) (leaves self.new) }
+        ensures may_act { is_sound self.new → (first : Self) → ReadsOn
+            (may_act first self.old) (may_act first self.new) (has_reason first self.new) result }
         ensures sound { is_sound self.new → is_sound self.old };
 
     /// Returns the unfinished journey with the least number above `after`.
@@ -89,6 +108,8 @@ pub trait Book {
         ensures stays_failed { IsTrue (has_failed self.old) → IsTrue (has_failed self.new) }
         ensures stays_left { IsTrue (has_failed self.old) →
             LeavesNoMore (leaves self.old) (leaves self.new) }
+        ensures may_act { is_sound self.new → (first : Self) → ReadsOn
+            (may_act first self.old) (may_act first self.new) (has_reason first self.new) result }
         ensures sound { is_sound self.new → is_sound self.old };
 
     /// Returns the journey of this agent with the least number above `after`, a finished one too.
@@ -103,6 +124,8 @@ pub trait Book {
         ensures stays_failed { IsTrue (has_failed self.old) → IsTrue (has_failed self.new) }
         ensures stays_left { IsTrue (has_failed self.old) →
             LeavesNoMore (leaves self.old) (leaves self.new) }
+        ensures may_act { is_sound self.new → (first : Self) → ReadsOn
+            (may_act first self.old) (may_act first self.new) (has_reason first self.new) result }
         ensures sound { is_sound self.new → is_sound self.old };
 
     /// Returns how many events, journeys and unfinished journeys there are.
@@ -116,6 +139,8 @@ pub trait Book {
         ensures stays_failed { IsTrue (has_failed self.old) → IsTrue (has_failed self.new) }
         ensures stays_left { IsTrue (has_failed self.old) →
             LeavesNoMore (leaves self.old) (leaves self.new) }
+        ensures may_act { is_sound self.new → (first : Self) → ReadsOn
+            (may_act first self.old) (may_act first self.new) (has_reason first self.new) result }
         ensures sound { is_sound self.new → is_sound self.old };
 
     /// Returns the places of a want's nights, in order of night, without the nights that have no allotment.
@@ -129,6 +154,8 @@ pub trait Book {
         ensures stays_failed { IsTrue (has_failed self.old) → IsTrue (has_failed self.new) }
         ensures stays_left { IsTrue (has_failed self.old) →
             LeavesNoMore (leaves self.old) (leaves self.new) }
+        ensures may_act { is_sound self.new → (first : Self) → ReadsOn
+            (may_act first self.old) (may_act first self.new) (has_reason first self.new) result }
         ensures sound { is_sound self.new → is_sound self.old };
 
     /// Returns the places of every cell that has an allotment, in order of kind, supplier, product and night.
@@ -142,6 +169,40 @@ pub trait Book {
         ensures stays_failed { IsTrue (has_failed self.old) → IsTrue (has_failed self.new) }
         ensures stays_left { IsTrue (has_failed self.old) →
             LeavesNoMore (leaves self.old) (leaves self.new) }
+        ensures may_act { is_sound self.new → (first : Self) → ReadsOn
+            (may_act first self.old) (may_act first self.new) (has_reason first self.new) result }
+        ensures sound { is_sound self.new → is_sound self.old };
+
+    // What pages show of journeys, by as few looks at the store as that takes.
+
+    /// Returns the journey of that number with its items, in order, if there is one. Its plan is not read.
+    fn trace(&mut self, id: u64) -> Result<Option<Trace>, Fault>
+        ensures brief { is_sound self.new → Shows (stands self.old) (TracesBrief id) result }
+        ensures items { is_sound self.new → Shows (stands self.old) (TracesItems id) result }
+        ensures same { is_sound self.new → Keeps (stands self.old) (stands self.new) result }
+        ensures stop { is_sound self.new →
+            LeavesNoMore (leaves self.old) (leaves self.new) }
+        ensures fails { IsErrOf result Fault.Store ↔ IsTrue (has_failed self.new) }
+        ensures stays_failed { IsTrue (has_failed self.old) → IsTrue (has_failed self.new) }
+        ensures stays_left { IsTrue (has_failed self.old) →
+            LeavesNoMore (leaves self.old) (leaves self.new) }
+        ensures may_act { is_sound self.new → (first : Self) → ReadsOn
+            (may_act first self.old) (may_act first self.new) (has_reason first self.new) result }
+        ensures sound { is_sound self.new → is_sound self.old };
+
+    /// Returns the unfinished journeys, in order of number.
+    fn unfinished(&mut self) -> Result<Vec<Brief>, Fault>
+        ensures briefs { is_sound self.new →
+            Shows (stands self.old) (λ s briefs. briefs.items ≡ unfinished_of s.ledger) result }
+        ensures same { is_sound self.new → Keeps (stands self.old) (stands self.new) result }
+        ensures stop { is_sound self.new →
+            LeavesNoMore (leaves self.old) (leaves self.new) }
+        ensures fails { IsErrOf result Fault.Store ↔ IsTrue (has_failed self.new) }
+        ensures stays_failed { IsTrue (has_failed self.old) → IsTrue (has_failed self.new) }
+        ensures stays_left { IsTrue (has_failed self.old) →
+            LeavesNoMore (leaves self.old) (leaves self.new) }
+        ensures may_act { is_sound self.new → (first : Self) → ReadsOn
+            (may_act first self.old) (may_act first self.new) (has_reason first self.new) result }
         ensures sound { is_sound self.new → is_sound self.old };
 
     /// If a book represents a state, the ledger of that state is legal.

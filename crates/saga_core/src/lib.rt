@@ -20,7 +20,7 @@ pub use commands::{
 pub use deciding::{Move, decide};
 pub use laws::{chains, session_that_crashes};
 pub use ledger;
-pub use records::{Brief, Counts, Record};
+pub use records::{Brief, Counts, Record, Trace};
 pub use row_sources::{Listed, RowSource};
 pub use rulings::{going, is_finished, is_running, saved, turned};
 pub use runs::run;

@@ -1,5 +1,5 @@
 //! What a book reports of journeys.
-use commands::{Agent, Cursor};
+use commands::{Agent, Cursor, Item};
 use plan::Plan;
 use savepoints::Marks;
 
@@ -19,6 +19,14 @@ pub struct Brief {
     pub id: u64,
     pub agent: Agent,
     pub cursor: Cursor,
+}
+
+/// A journey by its number with its items, without its plan.
+#[derive(Drop)]
+pub struct Trace {
+    pub brief: Brief,
+    /// The items that it has made, the oldest first.
+    pub items: Vec<Item>,
 }
 
 /// How many events, journeys and unfinished journeys a ledger has.

@@ -3,6 +3,7 @@ ghost use Rattle.std.specs.Prelude.{◌≡◌, IfOk, OnOk, IfErr, IsTrue};
 ghost use Rattle.commands.specs.Orders.{request_of};
 ghost use Rattle.ledger.specs.Answer.{is_request};
 ghost use Rattle.saga_core.specs.Books.{LeavesNoMore};
+ghost use Rattle.saga_core.specs.Reasons.{ActsOnAfter, FailsAmong};
 ghost use Rattle.saga_core.specs.Runs.{AreReplies, MovesOnBy, Stops, asks_of};
 ghost use Rattle.saga_core.specs.Worlds.{GoesOnWith, GoesOnAmong};
 
@@ -48,6 +49,11 @@ pub fn run<B: Book>(
     ensures world_at_fault { B.is_sound book.new → IfErr result (λ e. GoesOnAmong
         (B.stands book.old) (B.stands book.new) (B.leaves book.new) (asks_of commands.now)
         e.0.items e.1) }
+
+    ensures may_act { B.is_sound book.new → (first : B) → OnOk result (ActsOnAfter
+        (B.may_act first book.old) (B.may_act first book.new) (asks_of commands.now)) }
+    ensures reason { B.is_sound book.new → (first : B) → IfErr result (λ e. e.1 ≡ Fault.Store →
+        FailsAmong (B.may_act first book.old) (B.has_reason first book.new) (asks_of commands.now)) }
 
     ensures stays_failed { IsTrue (B.has_failed book.old) → IsTrue (B.has_failed book.new) }
     ensures stays_left { IsTrue (B.has_failed book.old) →

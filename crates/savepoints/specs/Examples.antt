@@ -5,7 +5,7 @@ use Rattle.std.specs.FinSet as set
 use Rattle.std.specs.Ordering.{nat_cmp}
 use Rattle.std.proofs.Common.{◌≤◌, arith}
 use Rattle.allotment.specs.Want.{Wanted, wanted}
-use Rattle.allotment.specs.declared.kinds.Kind.TheVariants.{Flight}
+use Rattle.allotment.specs.declared.codes.Kind.TheVariants.{Flight}
 use Rattle.plan.specs.PlanModel.{Planned, StepPlan}
 use Rattle.savepoints.specs.Marks.{AreInRange, is_taken_in}
 use Rattle.savepoints.specs.Rules.{is_save_point}

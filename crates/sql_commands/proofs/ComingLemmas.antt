@@ -42,12 +42,12 @@ use Rattle.sql_model.specs.Standing.{IsDesk}
 use Rattle.sql_reads.specs.Reading.{stand_of, HasStand, IsRecordOf}
 use Rattle.sql_reads.specs.declared.reads.Stand.{Stand}
 use Rattle.sql_writes.specs.declared.events.Event.TheVariants as event
-use Rattle.sql_commands.specs.OptionChoice.{IsNextChoice, IsLastChoice}
+use Rattle.sql_reads.specs.OptionChoice.{IsNextChoice, IsLastChoice}
 use Rattle.sql_commands.specs.Moving.{IsStepUp, IsStepDown, IsTurnedToStart, LeadsToStart, FitsIn, IsNextMade, IsMade, ComesFor, IsLastOption, FitsNext, IsEventOf, IsUnfit, IsNext, IsDue, IsRead, Runs, asked_for}
 use Rattle.sql_commands.specs.Placing.{begun_as, IsSeen, Fits, SeesStand, StandsAt, turned_to_start}
 use Rattle.sql_commands.specs.declared.step_outcome.Coming.TheVariants as coming
 use Rattle.sql_commands.specs.declared.moves.Made.{Made}
-use Rattle.sql_commands.specs.declared.options.Choice.{Choice}
+use Rattle.sql_reads.specs.declared.plan_rows.Choice.{Choice}
 use Rattle.sql_commands.proofs.NextLemmas.{abort_next, record_seen, record_unseen, none_seen}
 use Rattle.sql_commands.proofs.StepLemmas.{IsSaid, step_next}
 

@@ -1,5 +1,4 @@
 pub mod AnswerLemmas
-pub mod ChoiceLemmas
 pub mod ComingLemmas
 pub mod CommitReasons
 pub mod DueLemmas
@@ -12,7 +11,6 @@ pub mod LoadComes
 pub mod LoadRows
 pub mod NextLemmas
 pub mod OkLemmas
-pub mod OptionReasons
 pub mod Possible
 pub mod Reasons
 pub mod RequestRowids

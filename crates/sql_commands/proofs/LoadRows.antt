@@ -16,7 +16,7 @@ use Rattle.sqlite_rules.proofs.ProbeLemmas.{has_mapped, mapped_has}
 use Rattle.allotment.specs.Cells.{kind_number, the_cell, cell_at}
 use Rattle.allotment.specs.Places.{held_of}
 use Rattle.allotment.specs.Want.{Wanted}
-use Rattle.allotment.specs.declared.kinds.Kind.{Kind}
+use Rattle.allotment.specs.declared.codes.Kind.{Kind}
 use Rattle.allotment.specs.Texts.{row_text, line_feed}
 use Rattle.allotment.specs.declared.cells.Cell.{Cell}
 use Rattle.allotment.specs.declared.cells.Row.{Row}

@@ -24,7 +24,7 @@ use Rattle.sql_model.specs.Standing.{IsDesk}
 use Rattle.sql_reads.specs.Reading.{stand_of}
 use Rattle.sql_reads.specs.declared.reads.Stand.{Stand}
 use Rattle.sql_reads.proofs.ReadReasons.{few_journeys}
-use Rattle.sql_commands.specs.OptionChoice.{HasStep, TakesLast}
+use Rattle.sql_reads.specs.OptionChoice.{HasStep, TakesLast}
 use Rattle.sql_commands.specs.Placing.{IsPlaced, IsPlacedIn, StandsAt}
 use Rattle.sql_commands.proofs.ComingLemmas.{stand_seen}
 

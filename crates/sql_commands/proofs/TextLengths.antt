@@ -9,8 +9,8 @@ use Rattle.allotment.specs.Limits.{is_between, is_code, is_good_cell, is_night, 
 use Rattle.allotment.specs.Nights.{night_text}
 use Rattle.allotment.specs.Texts.{cell_text, kind_letter, line_feed, row_text, slash}
 use Rattle.allotment.specs.declared.cells.Row.{Row}
-use Rattle.allotment.specs.declared.kinds.Kind.{Kind}
-use Rattle.allotment.specs.declared.kinds.Kind.TheVariants.{Flight, Room, Transfer, Cover}
+use Rattle.allotment.specs.declared.codes.Kind.{Kind}
+use Rattle.allotment.specs.declared.codes.Kind.TheVariants.{Flight, Room, Transfer, Cover}
 use Rattle.plan.specs.Limits.{most_options, most_steps}
 use Rattle.commands.specs.Batches.{is_good_row}
 use Rattle.commands.specs.Limits.{longest_batch_name, most_events, most_rows}

@@ -3,5 +3,4 @@ pub mod Committing
 pub mod Failing
 pub mod Loading
 pub mod Moving
-pub mod OptionChoice
 pub mod Placing

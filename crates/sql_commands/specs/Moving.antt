@@ -40,7 +40,7 @@ use Rattle.sql_model.specs.Keeping.{Keeps, MayLeave}
 use Rattle.sql_commands.specs.Placing.{IsSeen, SeesStand, Fits, stepped_up, stepped_down, turned_to_start}
 use Rattle.sql_reads.specs.Reading.{stand_of}
 use Rattle.sql_reads.specs.declared.reads.Stand.{Stand}
-use Rattle.sql_commands.specs.declared.options.Choice.{Choice}
+use Rattle.sql_reads.specs.declared.plan_rows.Choice.{Choice}
 use Rattle.sql_commands.specs.declared.step_outcome.Coming.{Coming}
 use Rattle.sql_commands.specs.declared.step_outcome.Coming.TheVariants as coming
 use Rattle.sql_commands.specs.declared.moves.Made.{Made}

@@ -1,24 +1,30 @@
-//! The reply to a command.
-ghost use Rattle.std.specs.Prelude.{◌≡◌, false, IfErr, IfOk, IsTrue, Some};
-ghost use Rattle.std.specs.Option.{option_copied as asker};
+//! The reply to a command, and the transaction of its event, with one commit.
+
+ghost use Rattle.std.specs.Prelude.{◌≡◌, false, IfErr, IfOk, IsTrue, Some, OnOk};
+ghost use Rattle.std.specs.Option.{option_copied as asker, option_copied as asked_by};
 ghost use Rattle.commands.specs.Orders.{request_of};
-ghost use Rattle.ledger.specs.Answer.{is_request};
-ghost use Rattle.sql_commands.specs.Answering.{AnswersAgain, IsKeptLine, AnswersFirst, Finds, KeepsOn, KeepsAtMemory, TellsNew};
-ghost use Rattle.sql_commands.specs.Answering.{Answers, KeepsNext, LeavesOld, AnswersNew, KeepsNew, LeavesNew};
+ghost use Rattle.ledger.specs.Answer.{is_request, State};
+ghost use Rattle.sql_commands.specs.Answering.{AnswersAgain, IsKeptLine, AnswersFirst, Finds, KeepsOn, KeepsAtMemory, TellsNew, Answers, KeepsNext, LeavesOld, AnswersNew, KeepsNew, LeavesNew, Counts, IsCounted};
 ghost use Rattle.sql_commands.specs.Failing.{FailsFor, LeavesRowidsFor, UsesForNew, UsesStore};
 ghost use Rattle.sql_model.specs.Standing.{IsDesk};
 ghost use Rattle.sql_model.specs.Staying.{SeesAsBefore, StaysUp};
 ghost use Rattle.sql_reads.specs.Causes.{FailsForReason};
 ghost use Rattle.sql_reads.specs.GoodRows.{IsMemory};
 ghost use Rattle.sql_reads.specs.Reading.{LeavesAsBefore, ShowsKept, WasClean};
+ghost use Rattle.sql_commands.specs.Committing.{FailsToCommit, LeavesRowids};
+ghost use Rattle.sql_commands.specs.Moving.{LeadsTo};
+ghost use Rattle.sql_model.specs.Keeping.{Keeps, MayLeave};
+ghost use Rattle.sql_writes.specs.Kinds.{IsSmall};
+ghost use Rattle.sqlite.specs.Held.{state};
 
 use crate::begins::answer_begin;
 use crate::loading::answer_load;
 use crate::moves::{Motion, answer_move};
 use crate::step_outcome::answer_step;
-use commands::{Ask, Command, Fault, Refusal, Reply};
-use desk_sql::{KeptAnswer, find_answer};
+use commands::{Ask, Command, Fault, MOST_EVENTS, Refusal, Reply};
+use desk_sql::{KeptAnswer, Meta, find_answer, read_meta};
 use sql_model::fault_of;
+use sql_writes::{Event, Keeping, Numbers, commit_event};
 use sqlite::{Alter, Connection};
 use std::alloc::Global;
 
@@ -209,5 +215,97 @@ pub fn know_limits(command: &Command)
             let _rows = batch.rows();
         }
         _ => {}
+    }
+}
+
+/// Writes an event and the reply to this ask in one commit.
+fn commit_kept<S: Alter>(
+    alloc: Global,
+    conn: &mut Connection<S>,
+    numbers: Numbers,
+    event: &Event<'_>,
+    reply: &Reply,
+    ask: &Ask,
+) -> Result<(), Fault>
+    requires outside { conn.old.in_transaction ≡ false }
+    requires small { IsSmall event.now }
+
+    ensures outside { conn.new.in_transaction ≡ false }
+    ensures done { (s next : State) → LeadsTo numbers event.now (Some ask.now) reply.now s next
+        → Keeps (state S.Store conn.old) s → OnOk result (Keeps (state S.Store conn.new) next) }
+    ensures memory { KeepsAtMemory S.Store conn.old conn.new result }
+    ensures left { (s next : State) → LeadsTo numbers event.now (Some ask.now) reply.now s next
+        → Keeps (state S.Store conn.old) s → MayLeave (state S.Store conn.new) s next }
+    ensures sound { WasClean S.Store conn.old conn.new }
+
+    ensures store { FailsToCommit S.Store conn.old conn.new numbers event.now (Some ask.now) reply.now result }
+    ensures rowids { LeavesRowids S.Store conn.old conn.new numbers event.now (Some ask.now) }
+    ensures up { StaysUp S.Store conn.old conn.new }
+{
+    let line = match reply.line(alloc) {
+        Ok(line) => line,
+        Err(_) => return Err(Fault::Memory),
+    };
+    let agent = ask.agent();
+    let key = ask.key();
+    let keeping = Keeping {
+        agent: agent.as_str(),
+        key: key.as_str(),
+        text: ask.text(),
+        line: line.as_str(),
+    };
+    commit_event(conn, numbers, event, Some(keeping))
+}
+
+/// Writes an event in one commit, with its reply if there is an ask.
+pub(crate) fn commit_answered<S: Alter>(
+    alloc: Global,
+    conn: &mut Connection<S>,
+    numbers: Numbers,
+    event: &Event<'_>,
+    reply: &Reply,
+    ask: Option<&Ask>,
+) -> Result<(), Fault>
+    requires outside { conn.old.in_transaction ≡ false }
+    requires small { IsSmall event.now }
+
+    ensures outside { conn.new.in_transaction ≡ false }
+    ensures done { (s next : State) → LeadsTo numbers event.now (asked_by ask.entry) reply.now s next
+        → Keeps (state S.Store conn.old) s → OnOk result (Keeps (state S.Store conn.new) next) }
+    ensures memory { KeepsAtMemory S.Store conn.old conn.new result }
+    ensures left { (s next : State) → LeadsTo numbers event.now (asked_by ask.entry) reply.now s next
+        → Keeps (state S.Store conn.old) s → MayLeave (state S.Store conn.new) s next }
+    ensures sound { WasClean S.Store conn.old conn.new }
+
+    ensures store { FailsToCommit S.Store conn.old conn.new numbers event.now (asked_by ask.entry) reply.now result }
+    ensures rowids { LeavesRowids S.Store conn.old conn.new numbers event.now (asked_by ask.entry) }
+    ensures up { StaysUp S.Store conn.old conn.new }
+{
+    match ask {
+        None => commit_event(conn, numbers, event, None),
+        Some(ask) => commit_kept(alloc, conn, numbers, event, reply, ask),
+    }
+}
+
+/// Reads the numbers of `meta`. Numbers greater than those of any ledger are a fault of the store.
+pub fn read_counts<S: Alter>(conn: &mut Connection<S>) -> Result<Meta, Fault>
+    requires outside { conn.old.in_transaction ≡ false }
+
+    ensures outside { conn.new.in_transaction ≡ false }
+    ensures counts { ShowsKept S.Store conn.old conn.new result Counts }
+    ensures small { IfOk result IsCounted }
+    ensures same { KeepsOn S.Store conn.old conn.new result }
+    ensures memory { KeepsAtMemory S.Store conn.old conn.new result }
+    ensures left { LeavesAsBefore S.Store conn.old conn.new }
+    ensures sound { WasClean S.Store conn.old conn.new }
+
+    ensures store { FailsForReason S.Store conn.old conn.new result }
+    ensures up { StaysUp S.Store conn.old conn.new }
+    ensures sees { SeesAsBefore S.Store conn.old conn.new }
+{
+    match read_meta(conn) {
+        Ok(meta) if meta.events <= MOST_EVENTS && meta.journeys <= MOST_EVENTS => Ok(meta),
+        Ok(_) => Err(Fault::Store),
+        Err(error) => Err(fault_of(&error)),
     }
 }

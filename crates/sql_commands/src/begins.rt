@@ -8,7 +8,7 @@ ghost use Rattle.sql_commands.specs.Answering.{AnswersNew, KeepsNew, LeavesNew, 
 ghost use Rattle.sql_commands.specs.Failing.{UsesForNew};
 ghost use Rattle.sql_reads.specs.Reading.{WasClean};
 
-use crate::committing::{commit_answered, read_counts};
+use crate::answering::{commit_answered, read_counts};
 use commands::{Agent, Ask, Fault, MOST_EVENTS, Refusal, Reply};
 use plan::Plan;
 use sql_writes::{Event, JourneyBegun, Numbers};

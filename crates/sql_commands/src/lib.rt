@@ -10,11 +10,9 @@
 
 mod answering;
 mod begins;
-mod committing;
+mod cursors;
 mod loading;
 mod moves;
-mod options;
 mod step_outcome;
 
-pub use answering::{Answered, answer, know_limits};
-pub use committing::read_counts;
+pub use answering::{Answered, answer, know_limits, read_counts};

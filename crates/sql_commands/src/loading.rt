@@ -18,7 +18,7 @@ ghost use Rattle.sql_reads.specs.Causes.{FailsForReason};
 ghost use Rattle.sql_reads.specs.GoodRows.{IsMemory};
 ghost use Rattle.sql_reads.specs.Reading.{KeepsOn, KeepsEach, LeavesAsBefore, ShowsKept, WasClean};
 
-use crate::committing::{commit_answered, read_counts};
+use crate::answering::{commit_answered, read_counts};
 use allotment::{Cell, Held, Row};
 use commands::{Ask, Batch, Fault, MOST_EVENTS, Refusal, Reply};
 use desk_sql::{BatchFound, Meta, find_batch};

@@ -24,8 +24,8 @@ ghost use Rattle.sql_model.specs.Staying.{SeesAsBefore, StaysUp};
 ghost use Rattle.sql_reads.specs.Causes.{FailsForReason};
 ghost use Rattle.sql_reads.specs.Reading.{KeepsOn, LeavesAsBefore, ShowsKept, WasClean};
 
-use crate::committing::{commit_answered, read_counts};
-use crate::options::{cursor_after, cursor_to_start, is_placed, may_be_made};
+use crate::answering::{commit_answered, read_counts};
+use crate::cursors::{cursor_after, cursor_to_start, is_placed, may_be_made};
 use commands::{Agent, Ask, Cause, Cursor, Fault, Item, MOST_EVENTS, Phase, Refusal, Reply};
 use desk_sql::Meta;
 use plan::{MOST_STEPS, Plan};

@@ -16,12 +16,12 @@ ghost use Rattle.sql_commands.specs.Placing.{IsPlacedIn, StandsAt};
 ghost use Rattle.commands.specs.Request.{Step};
 ghost use Rattle.sql_writes.specs.Kinds.{IsSmall};
 
-use crate::committing::read_counts;
+use crate::answering::read_counts;
+use crate::cursors::{cursor_down, cursor_up};
 use crate::moves::{Made, Motion, answer_motion, find_stand, make_event};
-use crate::options::{Choice, cursor_down, cursor_up, last_choice, next_choice};
 use allotment::{Want, fits};
 use commands::{Ask, Fault, Item, Phase, Refusal, Reply};
-use sql_reads::{Stand, read_cells};
+use sql_reads::{Choice, Stand, last_choice, next_choice, read_cells};
 use sql_writes::{Event, StepMade};
 use sqlite::{Alter, Connection};
 use std::alloc::Global;

@@ -17,7 +17,7 @@ use Rattle.desk_sql.specs.Queries.{GivesRow}
 use Rattle.desk_sql.specs.FoundRows.{is_item_after, FindsNextItem, shows_item, four_of}
 use Rattle.desk_sql.specs.Readable.{ShowsOne, item_shown}
 use Rattle.desk_sql.specs.Meanings.{find_items_in, find_items_names}
-use Rattle.desk_sql.specs.declared.items.ItemFound.{ItemFound}
+use Rattle.desk_sql.specs.declared.journeys.ItemFound.{ItemFound}
 use Rattle.desk_sql.proofs.Meaning.{MeansIn}
 use Rattle.desk_sql.proofs.Listings.{item_out, item_test, same_item}
 use Rattle.desk_sql.proofs.Ordered.{whole_last}

@@ -1,7 +1,7 @@
 -- The statements that return cells: which rows they return, their texts, and what these mean.
 use Rattle.std.specs.Prelude.{ℕ, ◌==◌, ◌&&◌, Bool, true, false, List, [], ◌∷◌, ◌++◌, codes, filter, map, nat_le, Option, None, Some, is_some}
 use Rattle.allotment.specs.Cells.{kind_number}
-use Rattle.allotment.specs.declared.kinds.Kind.{Kind}
+use Rattle.allotment.specs.declared.codes.Kind.{Kind}
 use Rattle.filters.specs.CellFilters.{first_day, is_from, is_name_asked, last_day}
 use Rattle.filters.specs.declared.cells.CellFilter.{CellFilter}
 use Rattle.sqlite.specs.Order.{Row}

@@ -1,1 +1,3 @@
 pub mod LoadedCells
+pub mod NewRows
+pub mod LoadedWeeks

@@ -114,12 +114,12 @@ cell_edit : (db : Trees) (s : StockRow) → source_edit (stock_at 1) insert_cell
 cell_edit db s = simp (cast_int, cast_null)
 
 -- no row is of the cell
-each_other : (s : StockRow) (cells : List StockRow) → list_any (is_cell s) cells ≡ false → AllByRecursion (λ x. is_cell s x ≡ false) cells
+pub each_other : (s : StockRow) (cells : List StockRow) → list_any (is_cell s) cells ≡ false → AllByRecursion (λ x. is_cell s x ≡ false) cells
 each_other s cells none = all_from (λ x. is_cell s x ≡ false) cells (λ x there.
     false_from_ne_true (is_cell s x) (λ same. let some = some_from (is_cell s) cells x there same in cc))
 
 -- rows agree on the columns of the key where they are of one cell
-agree_new : (id : ℤ) (s : StockRow) (p : ℤ × StockRow)
+pub agree_new : (id : ℤ) (s : StockRow) (p : ℤ × StockRow)
     → agree (record { digits = 0 }) target (numbered_row stock_columns p) target (numbered_row stock_columns (id, s)) ≡ is_cell s p.1
 agree_new id s p = rw first_key-plain (simp (eq_whole, eq_text) (simp and_true))
 

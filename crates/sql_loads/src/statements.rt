@@ -1,10 +1,11 @@
-//! An UPDATE of the nights of a range, and an INSERT of a cell.
-ghost use Rattle.std.specs.Prelude.{◌≡◌, ◌<◌, ◌^◌, ⊤};
+//! An UPDATE of the nights of a range, and INSERTs of a cell and of a week.
+ghost use Rattle.std.specs.Prelude.{◌≡◌, ◌<◌, ◌^◌, ◌+◌, ⊤};
 ghost use Rattle.desk_sql.specs.Calls.{Writes, StaysInside, WasOpen, CommitsNothing, LeavesNoMore};
 ghost use Rattle.desk_sql.specs.Stock.{IsSmallRange, IsSmallCell, placed};
 ghost use Rattle.desk_sql.specs.Causes.{FailsToChange, FailsToAdd};
 ghost use Rattle.desk_sql.specs.Writable.{KeepsRowids, TakesRowid};
 ghost use Rattle.sql_loads.specs.Loads.{CountsRows, MayAddCell, MaySetNights, adds_cell, sets_nights, nights_in};
+ghost use Rattle.sql_loads.specs.Weeks.{FailsToAddRows, MayAddWeek, TakesRowids, adds_cells, week_from};
 
 use desk_sql::{CellPlaces, NightRange};
 use sqlite::types::ValueRef;
@@ -74,6 +75,48 @@ pub fn insert_cell<S: Alter>(
             ValueRef::Int(cell.night as i64),
             ValueRef::Int(cell.allot as i64),
             ValueRef::Int(cell.free as i64),
+        ],
+    )
+}
+
+/// How many rows `insert_week` adds.
+pub const WEEK: usize = 7;
+
+/// Adds the rows of a week that has none: of the night of a cell and of the six after it, of the same product and with the
+/// same places.
+pub fn insert_week<S: Alter>(
+    tx: &mut Transaction<'_, S>,
+    first: CellPlaces<'_>,
+) -> Result<usize, Error>
+    requires first { IsSmallCell first }
+    requires nights { first.night + 6 < 2 ^ 63 }
+
+    ensures same_reference { tx.new.conn.ghost_name ≡ tx.old.conn.ghost_name }
+    ensures made { Writes S.Store tx.old.conn.now tx.new.conn.now result
+        (adds_cells (week_from (placed first.entry))) }
+    ensures reason { FailsToAddRows S.Store tx.old.conn.now tx.new.conn.now result 7
+        (MayAddWeek (placed first.entry)) }
+    ensures rowids { TakesRowids S.Store tx.old.conn.now tx.new.conn.now result 7 (λ _. ⊤) }
+    ensures inside { StaysInside S.Store tx.old.conn.now tx.new.conn.now result }
+    ensures live { WasOpen S.Store tx.old.conn.now tx.new.conn.now result }
+    ensures commit { CommitsNothing S.Store tx.old.conn.now tx.new.conn.now }
+    ensures survives { LeavesNoMore S.Store tx.old.conn.now tx.new.conn.now }
+{
+    tx.execute(
+        "INSERT INTO stock VALUES (?1, ?2, ?3, ?6, ?4, ?5), (?1, ?2, ?3, ?7, ?4, ?5), (?1, ?2, ?3, ?8, ?4, ?5), (?1, ?2, ?3, ?9, ?4, ?5), (?1, ?2, ?3, ?10, ?4, ?5), (?1, ?2, ?3, ?11, ?4, ?5), (?1, ?2, ?3, ?12, ?4, ?5)",
+        &[
+            ValueRef::Int(first.kind as i64),
+            ValueRef::Text(first.supplier.as_bytes()),
+            ValueRef::Text(first.product.as_bytes()),
+            ValueRef::Int(first.allot as i64),
+            ValueRef::Int(first.free as i64),
+            ValueRef::Int(first.night as i64),
+            ValueRef::Int((first.night + 1) as i64),
+            ValueRef::Int((first.night + 2) as i64),
+            ValueRef::Int((first.night + 3) as i64),
+            ValueRef::Int((first.night + 4) as i64),
+            ValueRef::Int((first.night + 5) as i64),
+            ValueRef::Int((first.night + 6) as i64),
         ],
     )
 }

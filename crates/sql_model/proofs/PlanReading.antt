@@ -8,8 +8,8 @@ use Rattle.std.proofs.lemmas.List.Elements.{filter-append}
 use Rattle.sqlite_trees.proofs.ListLemmas.{filter_all, filter_none, all-map, all_of, all_weaker, all-append}
 use Rattle.allotment.specs.Want.{Wanted}
 use Rattle.allotment.specs.Cells.{kind_number}
-use Rattle.allotment.specs.declared.kinds.Kind.{Kind}
-use Rattle.allotment.specs.declared.kinds.Kind.TheVariants.{Flight, Room, Transfer, Cover}
+use Rattle.allotment.specs.declared.codes.Kind.{Kind}
+use Rattle.allotment.specs.declared.codes.Kind.TheVariants.{Flight, Room, Transfer, Cover}
 use Rattle.plan.specs.PlanModel.{Planned, StepPlan, is_plan}
 use Rattle.desk_sql.specs.Rows.{StepRow}
 use Rattle.sql_model.specs.ExpectedRows.{counted_from, flag, option_row, option_rows, none_taken, step_rows, step_rows_of}

@@ -12,7 +12,7 @@ use Rattle.allotment.specs.Limits.{is_code, is_night, are_nights, is_count, is_w
 use Rattle.allotment.specs.Making.{want_made}
 use Rattle.allotment.specs.Nights.{night_in, night_text}
 use Rattle.allotment.specs.Want.{Wanted, wanted}
-use Rattle.allotment.specs.declared.kinds.Kind.{Kind}
+use Rattle.allotment.specs.declared.codes.Kind.{Kind}
 use Rattle.allotment.proofs.LawLemmas.{number_again}
 use Rattle.allotment.proofs.MakingLemmas.{made_whole}
 use Rattle.allotment.proofs.NightLemmas.{night_in-night_text}

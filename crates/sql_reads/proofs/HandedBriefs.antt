@@ -27,7 +27,7 @@ use Rattle.sql_reads.specs.RemainingRows.{Short, short_of, short_told, TellBrief
 use Rattle.sql_reads.proofs.ReadJourneys.{brief_told}
 
 -- the brief of a journey with its number
-abbrev brief_in : List Event → ℕ × Begun → Brief
+abbrev pub brief_in : List Event → ℕ × Begun → Brief
 brief_in l b = brief_of_journey b.0 (history l b.0) b.1.journey
 
 briefs_from : (l : List Event) (n : ℕ) (bs : List Begun)
@@ -41,12 +41,12 @@ briefs_from l n (b ∷ bs) at =
     (briefs_from l (suc n) bs (λ i x e. ap (journey_at l) (let k : suc n + i ≡ n + suc i = omega arith in k) ∙ at (suc i) x e))
 
 -- the briefs are those of the journeys that were begun
-briefs : (l : List Event) → filter_map (brief_of l) (numbers l) ≡ map (brief_in l) (counted_from 1 (begun l))
+pub briefs : (l : List Event) → filter_map (brief_of l) (numbers l) ≡ map (brief_in l) (counted_from 1 (begun l))
 briefs l =
     ap (λ n. filter_map (brief_of l) (numbers_from 1 n)) (sym (length-begun l))
     ∙ briefs_from l 1 (begun l) (λ i b e. ap (journey_at l) (let k : 1 + i ≡ suc i = omega arith in k) ∙ begun_there l i b e)
 
-unfinished_phase : (p : Phase) → nat_le (phase_number p) 1 ≡ not (is_finished p)
+pub unfinished_phase : (p : Phase) → nat_le (phase_number p) 1 ≡ not (is_finished p)
 unfinished_phase Run = refl
 unfinished_phase (Back target) = refl
 unfinished_phase Ended = refl
@@ -55,7 +55,7 @@ unfinished_phase Undone = refl
 abbrev goes_on : Brief → Bool
 goes_on b = not (is_finished b.cursor.phase)
 
-kept_alike : (v w : Bool) (r : JourneyRow) (b : Brief) (rs : List JourneyRow) (bs : List Brief) → v ≡ w → short_of r ≡ short_told b
+pub kept_alike : (v w : Bool) (r : JourneyRow) (b : Brief) (rs : List JourneyRow) (bs : List Brief) → v ≡ w → short_of r ≡ short_told b
     → map short_of rs ≡ map short_told bs → map short_of (cond v (r ∷ rs) rs) ≡ map short_told (cond w (b ∷ bs) bs)
 kept_alike true true r b rs bs e one more = cc
 kept_alike true false r b rs bs e one more = cc

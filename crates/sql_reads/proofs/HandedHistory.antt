@@ -6,7 +6,7 @@ use Rattle.commands.specs.declared.items.Item.{Item}
 use Rattle.ledger.specs.Answer.{State}
 use Rattle.ledger.specs.Ledger.{journey_at, history}
 use Rattle.desk_sql.specs.FoundRows.{item_of}
-use Rattle.desk_sql.specs.declared.items.ItemFound.{ItemFound}
+use Rattle.desk_sql.specs.declared.journeys.ItemFound.{ItemFound}
 use Rattle.saga_core.specs.RowSources.{HandsFirst}
 use Rattle.desk_sql.specs.declared.versions.Version.{Version}
 use Rattle.sql_model.specs.Keeping.{KeepsIn}

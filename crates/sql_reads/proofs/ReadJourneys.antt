@@ -4,7 +4,7 @@ use Rattle.std.specs.Prelude.{bytes_eq, option_map, filter_map, nat_lt, not}
 use Rattle.std.proofs.lemmas.Bool.{and_parts, and_from, ltb-true, lt-ltb}
 use Rattle.std.proofs.lemmas.Option.{slice_get_past}
 use Rattle.commands.specs.declared.items.Cursor.{Cursor}
-use Rattle.saga_core.specs.Views.{first_owned, first_unfinished, is_owned_above, is_unfinished_above, brief_of, record_of, record_of_journey, cursor_of, marks_of}
+use Rattle.saga_core.specs.Views.{first_owned, first_unfinished, is_owned_above, is_unfinished_above, brief_of, brief_of_journey, record_of, record_of_journey, cursor_of, marks_of}
 use Rattle.saga_core.specs.declared.records.Record.{Record}
 use Rattle.plan.specs.PlanModel.{Planned, step_count}
 use Rattle.std.specs.List.{list_any}
@@ -152,6 +152,32 @@ stand_shown l id r b told tells =
   where
     made : List ℕ → ℕ → ℕ → Cursor → Stand
     made agent steps tries cursor = record { agent = agent; steps = steps; tries = tries; cursor = cursor }
+
+-- if no row is found, the ledger has no brief of the number
+pub brief_none : (l : List Event) (id : ℕ) → Tells (λ (r : JourneyRow) a. (r.id ≡ id) × IsJourneyOf l r a) None (journey_at l id)
+    → None ≡ brief_of l id
+brief_none l id = go (journey_at l id)
+  where
+    go : (o : Option Journey) → Tells (λ (r : JourneyRow) a. (r.id ≡ id) × IsJourneyOf l r a) None o
+        → None ≡ option_map (brief_of_journey id (history l id)) o
+    go None t = refl
+    go (Some a) t = absurd t
+
+-- the number, agent and cursor in a row are those of the brief
+pub brief_shown : (l : List Event) (id : ℕ) (r : JourneyFound) (b : Brief)
+    → Tells (λ (x : JourneyRow) a. (x.id ≡ id) × IsJourneyOf l x a) (Some (journey_of r)) (journey_at l id)
+    → TellsBrief r b → Some b ≡ brief_of l id
+unfolding made_brief
+brief_shown l id r b told tells =
+    let there = journey_there l id (journey_of r) told in
+    let a = there.journey in
+    let cursor : Some b.cursor ≡ Some (cursor_of a.plan (history l r.id)) = sym tells.cursor ∙ ap cursor_in there.is.cursor ∙ cursor_back (cursor_of a.plan (history l r.id)) in
+    let same_cursor : b.cursor ≡ cursor_of a.plan (history l id) =
+    (let here : b.cursor ≡ cursor_of a.plan (history l r.id) = cc in here ∙ ap (λ n. cursor_of a.plan (history l n)) there.same) in
+    ap Some
+    (ap (λ n. made_brief n b.agent b.cursor) (tells.id ∙ there.same) ∙ ap (λ x. made_brief id x b.cursor) (tells.agent ∙ there.is.agent)
+    ∙ ap (made_brief id a.agent) same_cursor)
+    ∙ sym (ap (λ o. option_map (brief_of_journey id (history l id)) o) there.at)
 
 -- the journey of a stand is there, with its tries and its steps
 pub record HasRow (l : List Event) (id : ℕ) (stand : Stand) : Type 0 where

@@ -23,7 +23,7 @@ use Rattle.desk_sql.specs.FoundRows.{is_numbered, is_owned_after, is_unfinished_
 use Rattle.desk_sql.specs.Readable.{HasAgentText, HasMeta, HaveAgentTexts, HaveOwnedTexts}
 use Rattle.desk_sql.specs.Rows.{Tables, EntryRow, JourneyRow}
 use Rattle.desk_sql.specs.declared.journeys.JourneyFound.{JourneyFound}
-use Rattle.desk_sql.specs.declared.items.ItemFound.{ItemFound}
+use Rattle.desk_sql.specs.declared.journeys.ItemFound.{ItemFound}
 use Rattle.desk_sql.specs.declared.versions.Version.{Version}
 use Rattle.desk_sql.proofs.Members.{permutation_from}
 use Rattle.ledger.specs.Answer.{State, most_events}
@@ -143,6 +143,12 @@ module _ {v : Version} (t : Tables) (s : State) (st : StandsIn v t s) (spelled :
       let at = cursor_of told.0.plan (history s.ledger r.id) in
       let is : cursor_in (row_of r.cursor) ≡ Some at = ap cursor_in told.2.cursor ∙ cursor_back at in
       rw is refl
+
+  pub rows_tell : (after : ℕ) (j : JourneyRow) → Has (filter (is_unfinished_after after) t.journey) j → IsTrue (is_agent j.agent)
+  rows_tell after j has =
+      let there = (has_filtered (is_unfinished_after after) t.journey j has).0 in
+      let told = journey_told s.ledger j (permutation_from _ t.journey j st.journey there) in
+      subst (λ x. IsTrue (is_agent x)) (sym told.2.agent) (good_agent j.id told.0 told.1)
 
   pub row_low : (r : JourneyFound) → Has t.journey (journey_of r) → r.id ≤ most_events
   row_low r has =

@@ -9,7 +9,7 @@ use Rattle.ledger.specs.Answer.{State}
 use Rattle.ledger.specs.Ledger.{Event, Journey, journey_at, item_of, history}
 use Rattle.ledger.proofs.Ledgers.{all_go}
 use Rattle.desk_sql.specs.FoundRows.{FindsJourney, FindsNextItem, journey_of, item_of as item_row}
-use Rattle.desk_sql.specs.declared.items.ItemFound.{ItemFound}
+use Rattle.desk_sql.specs.declared.journeys.ItemFound.{ItemFound}
 use Rattle.desk_sql.specs.declared.versions.Version.{Version}
 use Rattle.desk_sql.specs.Rows.{Tables, JourneyRow}
 use Rattle.desk_sql.specs.declared.journeys.JourneyFound.{JourneyFound}

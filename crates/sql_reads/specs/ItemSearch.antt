@@ -2,12 +2,16 @@
 use Rattle.std.specs.Prelude.{◌≡◌, ◌<◌, ◌^◌, ℕ, List, [], ◌∷◌, take, drop, Option, Some, None}
 use Rattle.commands.specs.declared.items.Item.{Item}
 use Rattle.desk_sql.specs.FoundRows.{item_of}
-use Rattle.desk_sql.specs.declared.items.ItemFound.{ItemFound}
+use Rattle.desk_sql.specs.declared.journeys.ItemFound.{ItemFound}
 use Rattle.sql_model.specs.Reading.{item_in}
 use Rattle.plan.specs.PlanModel.{step_count}
 use Rattle.ledger.specs.Answer.{State}
 use Rattle.ledger.specs.Ledger.{Event, Journey, journey_at, history}
 use Rattle.sql_reads.specs.declared.item_search.Sought.{Sought}
+
+-- the journey of this number has no item in the first so many events
+abbrev pub HasNoItemTo : ℕ → ℕ → State → Type 0
+HasNoItemTo id after s = history (take after s.ledger) id ≡ []
 
 -- each journey of this number has so many steps
 abbrev pub HasSteps : List Event → ℕ → ℕ → Type 0

@@ -4,6 +4,7 @@ pub mod GoodRows
 pub mod RemainingRows
 pub mod Lending
 pub mod NightsRead
+pub mod OptionChoice
 pub mod PlanRows
 pub mod Reading
 pub mod ItemSearch

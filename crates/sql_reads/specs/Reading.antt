@@ -1,8 +1,8 @@
 -- What a read of a connection returns of the desk that it keeps, and what it leaves of the desk.
-use Rattle.std.specs.Prelude.{◌≡◌, ℕ, false, List, map, Option, None, Some, option_map, Result, IfOk}
+use Rattle.std.specs.Prelude.{◌≡◌, ℕ, false, List, map, Option, None, Some, option_map, Result, IfOk, filter, filter_map}
 use Rattle.allotment.specs.declared.cells.Cell.{Cell}
 use Rattle.allotment.specs.declared.places.Held.{Held as HeldPlaces}
-use Rattle.saga_core.specs.Views.{night_said, first_owned, first_unfinished, record_of, marks_of}
+use Rattle.saga_core.specs.Views.{night_said, brief_of, first_owned, first_unfinished, is_unfinished_above, record_of, marks_of}
 use Rattle.desk_sql.specs.Stock.{stock_of}
 use Rattle.desk_sql.specs.declared.stock.NightFound.{NightFound}
 use Rattle.desk_sql.specs.declared.stock.CellFound.{CellFound}
@@ -16,7 +16,7 @@ use Rattle.commands.specs.declared.items.Cursor.{Cursor}
 use Rattle.desk_sql.specs.Rows.{CursorRow}
 use Rattle.desk_sql.specs.declared.journeys.Cursor.{Cursor as CursorFound}
 use Rattle.ledger.specs.Answer.{State}
-use Rattle.ledger.specs.Ledger.{Journey, journey_at, history}
+use Rattle.ledger.specs.Ledger.{Journey, journey_at, history, numbers}
 use Rattle.saga_core.specs.declared.records.Brief.{Brief}
 use Rattle.saga_core.specs.declared.records.Record.{Record}
 use Rattle.plan.specs.PlanModel.{Planned, step_count}
@@ -25,7 +25,7 @@ use Rattle.std.specs.FinSet as set
 use Rattle.std.specs.Ordering.{nat_cmp}
 use Rattle.desk_sql.specs.FoundRows.{journey_of, item_of}
 use Rattle.desk_sql.specs.declared.journeys.JourneyFound.{JourneyFound}
-use Rattle.desk_sql.specs.declared.items.ItemFound.{ItemFound}
+use Rattle.desk_sql.specs.declared.journeys.ItemFound.{ItemFound}
 use Rattle.sql_model.specs.Standing.{IsDesk}
 use Rattle.sql_reads.specs.declared.reads.Stand.{Stand}
 use Rattle.sql_model.specs.Reading.{cursor_in, item_in, night_seen, stock_row_of}
@@ -125,6 +125,11 @@ HasTries id tries s = (a : Journey) × (journey_at s.ledger id ≡ Some a) × (t
 -- the brief of the first unfinished journey above this number
 abbrev pub IsFirstAbove : ℕ → State → Option Brief → Type 0
 IsFirstAbove after s found = found ≡ first_unfinished s.ledger after
+
+-- the briefs of the unfinished journeys above this number, in order of number
+abbrev pub AreUnfinishedAbove : ℕ → State → List Brief → Type 0
+AreUnfinishedAbove after s briefs =
+    briefs ≡ filter (is_unfinished_above after) (filter_map (brief_of s.ledger) (numbers s.ledger))
 
 -- the journey of this agent with the least number above this one
 abbrev pub IsFirstOwned : List ℕ → ℕ → State → Option Brief → Type 0

@@ -23,6 +23,7 @@ use Rattle.sql_model.specs.ExpectedRows.{cursor_row}
 use Rattle.desk_sql.specs.declared.versions.Version.{Version}
 use Rattle.sql_model.specs.Keeping.{KeepsIn}
 use Rattle.sql_model.specs.Reading.{stock_row_of}
+use Rattle.sql_model.specs.Spelling.{IsSpelled}
 use Rattle.sql_model.specs.Standing.{IsDesk}
 use Rattle.sql_model.specs.Staying.{sees_alone, sees_twice}
 use Rattle.sql_reads.specs.Reading.{OnlyReads}
@@ -101,6 +102,13 @@ module _ {S : Type 0} (g : Ghosts S) where
     BeginsKept v {X} IsList Rests =
         HasCleanDisk (state g new) → (s : State) → IsDesk s → KeepsIn v (state g old) s
         → (rows : List X) → IsList s rows → Rests rows
+
+    -- while the store returns what was written, good rows remain of each desk that the connection kept in tables of this
+    -- version, and whose agents have the form of one
+    abbrev pub BeginsGood : Version → Type 0
+    BeginsGood v =
+        HasCleanDisk (state g new) → (s : State) → IsDesk s → IsSpelled s.ledger → KeepsIn v (state g old) s
+        → AreGoodBriefsRest new
 
   -- the reference is the same, and its connection is left as it was
   pub record StaysUnder (a b : MutBor (Held S)) : Type 0 where

@@ -6,26 +6,21 @@
 //! Words: a connection *keeps* a state if its tables represent the state and a crash leaves just that state.
 #![tactic(auto)]
 
-mod brief_rows;
-mod cell_rows;
 mod following;
 mod history_rows;
 mod item_search;
 mod nights_read;
-mod owned_journeys;
 mod plan_rows;
-mod progress;
 mod reads;
 mod telling;
+mod traces;
 
-pub use brief_rows::{UnfinishedRows, start_unfinished};
-pub use cell_rows::{StockRows, start_stock};
 pub use history_rows::{ItemCursor, item_cursor};
 pub use nights_read::{NightsRead, nights_with};
-pub use owned_journeys::read_first_owned;
-pub use plan_rows::want_told;
-pub use progress::Progress;
+pub use plan_rows::{Choice, last_choice, next_choice};
 pub use reads::{
     LARGEST, Stand, read_cells, read_first_unfinished, read_history, read_journey, read_record,
     read_stand, read_stock,
 };
+pub use telling::{brief_of, cell_told};
+pub use traces::read_trace;

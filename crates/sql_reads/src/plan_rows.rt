@@ -1,5 +1,6 @@
-//! The plan that rows of options give. It is built step by step, and then compared with the rows.
-ghost use Rattle.std.specs.Prelude.{◌≡◌, ◌≤◌, ◌+◌, ◌∷◌, ℕ, [], true, length, map, IfErr, IfOk, IfSome, IsSome, IsTrue};
+//! The rows of a plan and of its save-points, and the choice of an option of a step by the rows of that step alone.
+
+ghost use Rattle.std.specs.Prelude.{◌≡◌, ◌≤◌, ◌+◌, ◌∷◌, ℕ, [], true, length, map, IfErr, IfOk, IfSome, IsSome, IsTrue, ◌<◌, ◌^◌, false, find, min, Some};
 ghost use Rattle.allotment.specs.Limits.{is_want};
 ghost use Rattle.allotment.specs.Want.{Wanted};
 ghost use Rattle.plan.specs.PlanModel.{Planned, step_count, step_said, option_count, is_plan};
@@ -7,11 +8,20 @@ ghost use Rattle.sql_model.specs.Beginning.{rows_of_option};
 ghost use Rattle.sql_model.specs.ExpectedRows.{step_rows_of};
 ghost use Rattle.sql_reads.specs.GoodRows.{IsMemory};
 ghost use Rattle.sql_reads.specs.PlanRows.{first_rows, AreRowsOf, BeginWithStep, IsOfPlace, TellsWant, TellsOption, TellStep, TellPlan};
+ghost use Rattle.desk_sql.specs.declared.versions.Version.TheVariants.{Two};
+ghost use Rattle.plan.specs.Limits.{most_options};
+ghost use Rattle.sql_model.specs.Staying.{SeesAsBefore, StaysUp};
+ghost use Rattle.sql_reads.specs.Causes.{FailsWhere};
+ghost use Rattle.sql_reads.specs.OptionChoice.{IsLastChoice, IsNextChoice, IsOfRow, IsRowChosen, IsTakenChosen, is_taken_row, AreOfStep, HasStep, HasTaken, IsOfOption, TakesLast};
+ghost use Rattle.sql_reads.specs.Reading.{KeepsOn, LeavesAsBefore, ShowsKept, WasClean};
+ghost use Rattle.std.specs.Option.{option_copied};
 
 use allotment::{Kind, Night, Want};
 use commands::Fault;
-use desk_sql::StepFound;
-use plan::{MOST_TRIES, Plan, PlanFault, PlanStep};
+use desk_sql::{StepFound, find_options};
+use plan::{MOST_OPTIONS, MOST_TRIES, Plan, PlanFault, PlanStep};
+use sql_model::fault_of;
+use sqlite::{Alter, Connection};
 use std::alloc::Global;
 
 /// Whether a row is that of an option with this want.
@@ -81,7 +91,7 @@ fn are_of_plan(rows: &[StepFound], plan: &Plan) -> bool
 }
 
 /// Returns the want in the row of an option. A want out of range is a fault of the store.
-pub fn want_told(alloc: Global, row: &StepFound) -> Result<Want, Fault>
+pub(crate) fn want_told(alloc: Global, row: &StepFound) -> Result<Want, Fault>
     ensures told { IfOk result (TellsWant row.now) }
     ensures there { (want : Wanted) → IsTrue (is_want want) → TellsWant row.now want
         → IfErr result IsMemory }
@@ -173,5 +183,117 @@ pub(crate) fn plan_told(alloc: Global, rows: &[StepFound], tries: u64) -> Result
         }
         Err(PlanFault::Memory) => Err(Fault::Memory),
         Err(PlanFault::Bad(_)) => Err(Fault::Store),
+    }
+}
+
+/// An option of a step, numbered from 1, with its want.
+#[derive(Clone, Copy)]
+pub struct Choice {
+    pub option: usize,
+    pub want: Want,
+}
+
+/// The option of a row, with its want.
+fn choice_of(alloc: Global, row: &StepFound, option: usize) -> Result<Choice, Fault>
+    ensures row { IfOk result (IsOfRow row.now option) }
+    ensures few { IfOk result (λ choice. choice.option ≤ most_options) }
+    ensures there { IsOfOption row.now → option ≤ most_options → IfErr result IsMemory }
+{
+    if option > MOST_OPTIONS {
+        return Err(Fault::Store);
+    }
+    let want = want_told(alloc, row)?;
+    Ok(Choice { option, want })
+}
+
+/// The next option, by the rows of a step: the option after the refused ones, or the last option.
+fn choose_next(alloc: Global, rows: &[StepFound], used: usize) -> Result<Choice, Fault>
+    ensures chosen { IfOk result (IsRowChosen rows.now (min (used + 1) (length rows.now))) }
+    ensures few { IfOk result (λ choice. choice.option ≤ most_options) }
+    ensures there { AreOfStep rows.now → IfErr result IsMemory }
+{
+    let option = used.saturating_add(1).min(rows.len());
+    if option == 0 {
+        return Err(Fault::Store);
+    }
+    match rows.get(option - 1) {
+        Some(row) => choice_of(alloc, row, option),
+        None => Err(Fault::Store),
+    }
+}
+
+/// The first row of an option that is taken.
+fn find_taken(rows: &[StepFound]) -> Option<&StepFound>
+    ensures first { option_copied result ≡ find is_taken_row rows.now }
+{
+    rows.iter().find(|row| row.taken == 1)
+}
+
+/// The taken option, by the rows of a step.
+fn choose_taken(alloc: Global, rows: &[StepFound]) -> Result<Choice, Fault>
+    ensures chosen { IfOk result (IsTakenChosen rows.now) }
+    ensures few { IfOk result (λ choice. choice.option ≤ most_options) }
+    ensures there { HasTaken rows.now → IfErr result IsMemory }
+{
+    match find_taken(rows) {
+        Some(row) => choice_of(alloc, row, row.opt as usize),
+        None => Err(Fault::Store),
+    }
+}
+
+/// Reads the option that a journey takes next at a step, with its want, after `used` of its steps were refused.
+pub fn next_choice<S: Alter>(
+    alloc: Global,
+    conn: &mut Connection<S>,
+    id: u64,
+    step: usize,
+    used: usize,
+) -> Result<Choice, Fault>
+    requires outside { conn.old.in_transaction ≡ false }
+    requires id { id < 2 ^ 63 }
+    requires step { step < 2 ^ 63 }
+
+    ensures outside { conn.new.in_transaction ≡ false }
+    ensures next { ShowsKept S.Store conn.old conn.new result (IsNextChoice id step used) }
+    ensures few { IfOk result (λ choice. choice.option ≤ most_options) }
+    ensures same { KeepsOn S.Store conn.old conn.new }
+    ensures stop { LeavesAsBefore S.Store conn.old conn.new }
+    ensures less { WasClean S.Store conn.old conn.new }
+
+    ensures store { FailsWhere S.Store conn.old conn.new Two result (HasStep id step) }
+    ensures up { StaysUp S.Store conn.old conn.new }
+    ensures sees { SeesAsBefore S.Store conn.old conn.new }
+{
+    match find_options(alloc, conn, id, step as u64) {
+        Ok(rows) => choose_next(alloc, rows.as_slice(), used),
+        Err(error) => Err(fault_of(&error)),
+    }
+}
+
+/// Reads the option that the last standing step of a journey took, with its want.
+pub fn last_choice<S: Alter>(
+    alloc: Global,
+    conn: &mut Connection<S>,
+    id: u64,
+    step: usize,
+) -> Result<Choice, Fault>
+    requires outside { conn.old.in_transaction ≡ false }
+    requires id { id < 2 ^ 63 }
+    requires step { step < 2 ^ 63 }
+
+    ensures outside { conn.new.in_transaction ≡ false }
+    ensures last { ShowsKept S.Store conn.old conn.new result (IsLastChoice id step) }
+    ensures few { IfOk result (λ choice. choice.option ≤ most_options) }
+    ensures same { KeepsOn S.Store conn.old conn.new }
+    ensures stop { LeavesAsBefore S.Store conn.old conn.new }
+    ensures less { WasClean S.Store conn.old conn.new }
+
+    ensures store { FailsWhere S.Store conn.old conn.new Two result (TakesLast id step) }
+    ensures up { StaysUp S.Store conn.old conn.new }
+    ensures sees { SeesAsBefore S.Store conn.old conn.new }
+{
+    match find_options(alloc, conn, id, step as u64) {
+        Ok(rows) => choose_taken(alloc, rows.as_slice()),
+        Err(error) => Err(fault_of(&error)),
     }
 }

@@ -17,14 +17,13 @@ ghost use Rattle.sql_reads.specs.ItemSearch.{AreSoughtAt, IsLow, IsNextOf};
 
 use crate::item_search::Sought;
 use crate::plan_rows::plan_told;
-use crate::telling::{
-    brief_of, cells_told, items_told, marks_told, nights_told, record_of, stand_of,
-};
+use crate::telling::{brief_of, cells_told, marks_told, nights_told, record_of, stand_of};
+use crate::traces::read_items;
 use allotment::{Cell, Held, Night, Want};
 use commands::{Agent, Cursor, Fault, Item};
 use desk_sql::{
-    ItemFound, NightRange, Version, find_items, find_journey, find_marks, find_nights, find_steps,
-    find_stock, first_unfinished, read_meta,
+    ItemFound, NightRange, Version, find_journey, find_marks, find_nights, find_steps, find_stock,
+    first_unfinished, read_meta,
 };
 use plan::Plan;
 use saga_core::{Brief, Record};
@@ -191,10 +190,7 @@ pub fn read_history<S: Alter>(
     ensures sees { SeesAsBefore S.Store conn.old conn.new }
 {
     let sought = find_sought(conn, id)?;
-    match find_items(alloc, conn, sought.journey, sought.after) {
-        Ok(found) => items_told(alloc, found.as_slice()),
-        Err(error) => Err(fault_of(&error)),
-    }
+    read_items(alloc, conn, sought.journey, sought.after)
 }
 
 /// Returns the plan of the journey of that number, if its tries are these.

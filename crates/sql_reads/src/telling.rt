@@ -48,7 +48,7 @@ fn cursor_of(found: &CursorFound) -> Option<Cursor>
 }
 
 /// The brief of a journey.
-pub(crate) fn brief_of(found: &JourneyFound) -> Option<Brief>
+pub fn brief_of(found: &JourneyFound) -> Option<Brief>
     ensures told { IfSome result (TellsBrief found.now) }
     ensures there { IsTrue (is_agent (string_bytes found.now.agent))
         → IsSome (cursor_in (row_of found.now.cursor)) → IsSome result }
@@ -217,7 +217,7 @@ fn kind_of(number: u64) -> Option<Kind>
 }
 
 /// A cell and its places.
-pub(crate) fn cell_told(found: &CellFound) -> Option<(Cell, Held)>
+pub fn cell_told(found: &CellFound) -> Option<(Cell, Held)>
     ensures told { IfSome result (λ c. stock_row_of c ≡ stock_of found.now) }
     ensures there { IsGoodStock (stock_of found.now) → IsSome result }
 {

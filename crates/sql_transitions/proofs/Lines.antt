@@ -7,8 +7,8 @@ use Rattle.std.proofs.lemmas.Fmt.{decimal_by_steps, decimal_injective}
 use Rattle.allotment.specs.Limits.{is_between, is_capital, is_digit, is_code, is_night, is_good_cell, first_night, most_places}
 use Rattle.allotment.specs.Nights.{civil, two_digits, four_digits, night_text, named_night}
 use Rattle.allotment.specs.Texts.{row_text, kind_letter, kind_of_letter, slash, line_feed}
-use Rattle.allotment.specs.declared.kinds.Kind.{Kind}
-use Rattle.allotment.specs.declared.kinds.Kind.TheVariants.{Flight, Room, Transfer, Cover}
+use Rattle.allotment.specs.declared.codes.Kind.{Kind}
+use Rattle.allotment.specs.declared.codes.Kind.TheVariants.{Flight, Room, Transfer, Cover}
 use Rattle.allotment.specs.declared.cells.Row.{Row}
 use Rattle.allotment.proofs.NightLemmas.{night_named}
 use Rattle.allotment.proofs.TestLemmas.{list_all_weaker}

@@ -10,7 +10,7 @@ use Rattle.desk_sql.specs.Rows.{Tables}
 use Rattle.desk_sql.specs.Stock.{with_fewer, with_more}
 use Rattle.desk_sql.specs.Changes.{counts, moves_journey, marks_step, adds_item, adds_mark, drops_mark}
 use Rattle.desk_sql.specs.declared.journeys.Cursor.{Cursor as CursorWritten}
-use Rattle.desk_sql.specs.declared.items.ItemFound.{ItemFound}
+use Rattle.desk_sql.specs.declared.journeys.ItemFound.{ItemFound}
 use Rattle.sql_model.specs.ExpectedRows.{phase_number, target_of, cause_number}
 use Rattle.sql_model.specs.Beginning.{meta_row_at}
 use Rattle.sql_model.specs.Reading.{is_wanted_row}

@@ -10,4 +10,5 @@ pub mod RunRows
 pub mod RunPuts
 pub mod RunWrites
 pub mod RunLemmas
+pub mod RunWeeks
 pub mod Batches

@@ -13,7 +13,8 @@ use Rattle.sql_transitions.proofs.Changing.{once-changed}
 use Rattle.sql_transitions.proofs.Puts.{cells_apart}
 use Rattle.sql_writes.specs.Loads.{MayLoad, put_each, puts_each}
 use Rattle.sql_writes.specs.Permits.{HaveShortCells}
-use Rattle.sql_writes.specs.Runs.{next_night, nights_later, nights_from, IsLater, IsRun, HasShortTexts, is_until, sets_until, known_until, put_rows, AreNew, adds_each}
+use Rattle.sql_loads.specs.Weeks.{next_night, nights_from}
+use Rattle.sql_writes.specs.Runs.{nights_later, IsLater, IsRun, HasShortTexts, is_until, sets_until, known_until, put_rows, AreNew, adds_each}
 use Rattle.sql_writes.proofs.LoadLemmas.{take-more}
 use Rattle.sql_writes.proofs.RunRows.{nights-more}
 use Rattle.sql_writes.proofs.RunPuts.{put_new, run_some, run_known, run_new}
@@ -28,7 +29,7 @@ pub put_each-append : (xs ys : List (Cell × Held)) (rows : List StockRow) → p
 put_each-append [] ys rows = refl
 put_each-append (x ∷ xs) ys rows = put_each-append xs ys (put (stock_row_of x) rows)
 
-map-append : (xs ys : List (Cell × Held)) → map stock_row_of (xs ++ ys) ≡ map stock_row_of xs ++ map stock_row_of ys
+pub map-append : (xs ys : List (Cell × Held)) → map stock_row_of (xs ++ ys) ≡ map stock_row_of xs ++ map stock_row_of ys
 map-append [] ys = refl
 map-append (x ∷ xs) ys = ap (λ rows. stock_row_of x ∷ rows) (map-append xs ys)
 

@@ -131,7 +131,7 @@ short_nights r t short = go t.stock short
 
 -- Before the first run.
 
-survives_same : (a : State) → Survives a a (λ _. ⊥)
+pub survives_same : (a : State) → Survives a a (λ _. ⊥)
 survives_same a = record {
   clean = omega arith;
   shield = λ s. s;

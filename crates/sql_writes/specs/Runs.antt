@@ -1,5 +1,5 @@
 -- Runs of cells: consecutive nights of one product that get the same places.
-use Rattle.std.specs.Prelude.{◌≡◌, ◌+◌, ◌==◌, ◌&&◌, ℕ, ⊤, zero, suc, Bool, false, List, [], ◌∷◌, ◌++◌, map, filter, length, bytes_eq, nat_le, IsTrue}
+use Rattle.std.specs.Prelude.{◌≡◌, ◌+◌, ◌==◌, ◌&&◌, ℕ, ⊤, Bool, false, List, [], ◌∷◌, ◌++◌, map, filter, length, bytes_eq, nat_le, IsTrue}
 use Rattle.std.specs.List.{AllByRecursion, list_any}
 use Rattle.sqlite.specs.Store.{Ghosts}
 use Rattle.sqlite.specs.Held.{Held as Connection, state}
@@ -12,16 +12,14 @@ use Rattle.desk_sql.specs.Lists.{changed}
 use Rattle.desk_sql.specs.Rows.{Tables, StockRow}
 use Rattle.desk_sql.specs.Stock.{is_cell, with_places, put}
 use Rattle.desk_sql.specs.Writable.{HasRowids, IsShort}
+use Rattle.sql_loads.specs.Loads.{LacksCell}
+use Rattle.sql_loads.specs.Weeks.{nights_from, week_from}
 use Rattle.sql_model.specs.Reading.{stock_row_of}
 use Rattle.sql_writes.specs.Loads.{HasPut}
 
 -- the row of the same product so many nights later, with the same places
 abbrev pub nights_later : ℕ → StockRow → StockRow
 nights_later n s = record s { night = s.night + n }
-
--- the next night
-abbrev pub next_night : StockRow → StockRow
-next_night s = record s { night = s.night + 1 }
 
 -- the cell is of the same product, so many nights later, and gets the same places
 pub record IsLater (first : Cell × Held) (n : ℕ) (next : Cell × Held) : Type 0 where
@@ -31,11 +29,6 @@ pub record IsLater (first : Cell × Held) (n : ℕ) (next : Cell × Held) : Type
   pub night : next.0.night ≡ first.0.night + n
   pub allot : next.1.allot ≡ first.1.allot
   pub free : next.1.free ≡ first.1.free
-
--- so many consecutive nights, of which the row's is the first, with its places
-abbrev pub nights_from : StockRow → ℕ → List StockRow
-nights_from s zero = []
-nights_from s (suc more) = s ∷ nights_from (next_night s) more
 
 -- the cells are consecutive nights of one product, and get the same places
 abbrev pub IsRun : List (Cell × Held) → Type 0
@@ -66,6 +59,10 @@ abbrev pub AreNew : List StockRow → List StockRow → Type 0
 AreNew [] cells = ⊤
 AreNew (s ∷ rows) cells = (list_any (is_cell s) cells ≡ false) × AreNew rows (cells ++ s ∷ [])
 
+-- no night of the week that begins with the row's has a row
+abbrev pub LacksWeek : StockRow → Tables → Type 0
+LacksWeek s t = AllByRecursion (λ x. LacksCell x t) (week_from s)
+
 -- the rows of these cells, appended
 abbrev pub adds_each : List (Cell × Held) → Tables → Tables
 adds_each cells t = record t { stock = t.stock ++ map stock_row_of cells }
@@ -87,6 +84,12 @@ module _ {S : Type 0} (g : Ghosts S) (old new : Connection S) where
     pub rowids : HasCleanDisk (state g new) → (t : Tables) → MayRun (state g old) t
         → IsTrue (state g old).is_open → (n : ℕ)
         → HasRowids (length cells + n) (state g old).now.trees → HasRowids n (state g new).now.trees
+
+  -- the rows of a run are added up to these cells, which are left
+  pub record HasAddedTo (run left : List (Cell × Held)) : Type 0 where
+    pub done : List (Cell × Held)
+    pub is : run ≡ done ++ left
+    pub added : HasAdded done
 
   -- the cells got their places up to these, which are left, and the texts of the cells that did fit
   pub record HasPutTo (cells left : List (Cell × Held)) : Type 0 where

@@ -1,18 +1,23 @@
-//! The rows of one item of a journey, of each kind.
-ghost use Rattle.std.specs.Prelude.{◌≡◌};
+//! The rows of an event of a journey: its item, the journey's cursor, the numbers of `meta`, and the places of its want.
+
+ghost use Rattle.std.specs.Prelude.{◌≡◌, ◌<◌, ◌^◌};
 ghost use Rattle.desk_sql.specs.Calls.{StaysInside, WasOpen, CommitsNothing, LeavesNoMore};
-ghost use Rattle.desk_sql.specs.Changes.{AreItemsBelow};
-ghost use Rattle.sql_writes.specs.Writing.{WritesRows};
-ghost use Rattle.sql_writes.specs.Events.{IsSmallStep, IsSmallTurn, IsSmallSave};
-ghost use Rattle.sql_writes.specs.Events.{MayTake, MayGive, transaction_rows, compensation_rows};
-ghost use Rattle.sql_writes.specs.Events.{turn_rows, save_rows};
-ghost use Rattle.sql_writes.specs.Permits.{MayDo, MayMoveOn, MaySave, MayUndo};
+ghost use Rattle.desk_sql.specs.Changes.{AreItemsBelow, IsSmallCursor, IsSmallItem};
+ghost use Rattle.sql_writes.specs.Writing.{WritesRows, HaveFreeFor, HaveRoomFor};
+ghost use Rattle.sql_writes.specs.Events.{IsSmallStep, IsSmallTurn, IsSmallSave, MayTake, MayGive, transaction_rows, compensation_rows, turn_rows, save_rows};
+ghost use Rattle.sql_writes.specs.Permits.{MayDo, MayMoveOn, MaySave, MayUndo, MayAdd, MayGiveWant, MayTakeWant};
 ghost use Rattle.sql_writes.specs.Reasons.{FailsOn, TakesRowids};
+ghost use Rattle.desk_sql.specs.Stock.{IsSmallRange};
+ghost use Rattle.sql_model.specs.Reading.{IsRangeOf};
+ghost use Rattle.sql_transitions.specs.Moving.{cursor_written, item_written, with_item, with_move, takes_want, gives_want};
 
 use crate::events::{Numbers, SaveMade, StepMade, TurnMade};
-use crate::items::{give_want, take_want, write_item, write_move};
-use commands::Item;
-use desk_sql::{delete_mark, insert_mark, mark_step};
+use allotment::{Code, Want};
+use commands::{Cause, Cursor, Item, Phase};
+use desk_sql::{
+    Cursor as CursorRow, ItemFound, NightRange, delete_mark, give_nights, insert_item, insert_mark,
+    mark_step, move_journey, take_nights, update_meta,
+};
 use sqlite::{Alter, Error, Transaction};
 
 /// Writes the rows of a step that is done: its want is taken, and its option is marked as taken.
@@ -144,4 +149,168 @@ pub fn write_save<S: Alter>(
     let SaveMade { journey, position } = made;
     insert_mark(tx, journey, position as u64)?;
     write_item(tx, numbers, journey, Item::Save { position })
+}
+
+/// The row of a cursor.
+fn cursor_row(cursor: Cursor) -> CursorRow
+    ensures { result ≡ cursor_written cursor }
+{
+    let (phase, target) = match cursor.phase {
+        Phase::Run => (0, 0),
+        Phase::Back(target) => (1, target as u64),
+        Phase::Ended => (2, 0),
+        Phase::Undone => (3, 0),
+    };
+    CursorRow {
+        pos: cursor.pos as u64,
+        phase,
+        target,
+        used: cursor.used as u64,
+    }
+}
+
+/// The row of an item under the number of its event.
+fn item_row(num: u64, item: Item) -> ItemFound
+    ensures written { result ≡ item_written num item }
+    ensures num { result.num ≡ num }
+{
+    let (kind, a, b) = match item {
+        Item::Transaction { step, option } => (0, step, option),
+        Item::Compensation { step, option } => (1, step, option),
+        Item::Turn {
+            target,
+            cause: Cause::Stop,
+        } => (2, target, 0),
+        Item::Turn {
+            target,
+            cause: Cause::Refused,
+        } => (2, target, 1),
+        Item::Turn {
+            target,
+            cause: Cause::Asked,
+        } => (2, target, 2),
+        Item::Save { position } => (3, position, 0),
+    };
+    ItemFound {
+        num,
+        item: kind,
+        a: a as u64,
+        b: b as u64,
+    }
+}
+
+/// Inserts the row of an item, and updates the numbers of `meta`.
+pub(crate) fn write_item<S: Alter>(
+    tx: &mut Transaction<'_, S>,
+    numbers: Numbers,
+    journey: u64,
+    item: Item,
+) -> Result<(), Error>
+    requires journey { journey < 2 ^ 63 }
+    requires item { IsSmallItem (item_written numbers.num item) }
+
+    ensures same_reference { tx.new.conn.ghost_name ≡ tx.old.conn.ghost_name }
+    ensures made { WritesRows S.Store tx.old.conn.now tx.new.conn.now (AreItemsBelow numbers.num)
+        result (with_item numbers.num numbers.journeys journey item) }
+    ensures reason { FailsOn S.Store tx.old.conn.now tx.new.conn.now result
+        0 (MayAdd numbers journey) }
+    ensures rowids { TakesRowids S.Store tx.old.conn.now tx.new.conn.now result
+        0 (AreItemsBelow numbers.num) }
+    ensures live { WasOpen S.Store tx.old.conn.now tx.new.conn.now result }
+    ensures inside { StaysInside S.Store tx.old.conn.now tx.new.conn.now result }
+    ensures commit { CommitsNothing S.Store tx.old.conn.now tx.new.conn.now }
+    ensures survives { LeavesNoMore S.Store tx.old.conn.now tx.new.conn.now }
+{
+    let row = item_row(numbers.num, item);
+    insert_item(tx, journey, row)?;
+    update_meta(tx, 2, numbers.num, numbers.journeys)?;
+    Ok(())
+}
+
+/// Updates the cursor of the journey, inserts the row of an item, and updates the numbers of `meta`.
+pub(crate) fn write_move<S: Alter>(
+    tx: &mut Transaction<'_, S>,
+    numbers: Numbers,
+    journey: u64,
+    item: Item,
+    cursor: Cursor,
+) -> Result<(), Error>
+    requires journey { journey < 2 ^ 63 }
+    requires item { IsSmallItem (item_written numbers.num item) }
+    requires cursor { IsSmallCursor (cursor_written cursor) }
+
+    ensures same_reference { tx.new.conn.ghost_name ≡ tx.old.conn.ghost_name }
+    ensures made { WritesRows S.Store tx.old.conn.now tx.new.conn.now (AreItemsBelow numbers.num)
+        result (with_move numbers.num numbers.journeys journey item cursor) }
+    ensures reason { FailsOn S.Store tx.old.conn.now tx.new.conn.now result
+        0 (MayMoveOn numbers journey) }
+    ensures rowids { TakesRowids S.Store tx.old.conn.now tx.new.conn.now result
+        0 (AreItemsBelow numbers.num) }
+    ensures live { WasOpen S.Store tx.old.conn.now tx.new.conn.now result }
+    ensures inside { StaysInside S.Store tx.old.conn.now tx.new.conn.now result }
+    ensures commit { CommitsNothing S.Store tx.old.conn.now tx.new.conn.now }
+    ensures survives { LeavesNoMore S.Store tx.old.conn.now tx.new.conn.now }
+{
+    let row = cursor_row(cursor);
+    move_journey(tx, journey, row)?;
+    write_item(tx, numbers, journey, item)?;
+    Ok(())
+}
+
+/// The range of a want's nights, of its supplier and its product.
+fn range_of<'x>(want: Want, supplier: &'x Code, product: &'x Code) -> NightRange<'x>
+    requires supplier { supplier.now ≡ want.supplier }
+    requires product { product.now ≡ want.product }
+
+    ensures range { IsRangeOf result want }
+    ensures small { IsSmallRange result }
+{
+    let first = u64::from(want.first().day());
+    NightRange {
+        kind: u64::from(want.kind().number()),
+        supplier: supplier.as_str(),
+        product: product.as_str(),
+        first,
+        last: first + u64::from(want.nights()) - 1,
+    }
+}
+
+/// Takes the places of a want.
+pub(crate) fn take_want<S: Alter>(tx: &mut Transaction<'_, S>, want: Want) -> Result<(), Error>
+    ensures same_reference { tx.new.conn.ghost_name ≡ tx.old.conn.ghost_name }
+    ensures made { WritesRows S.Store tx.old.conn.now tx.new.conn.now (HaveFreeFor want)
+        result (takes_want want) }
+    ensures reason { FailsOn S.Store tx.old.conn.now tx.new.conn.now result 0 (MayTakeWant want) }
+    ensures rowids { TakesRowids S.Store tx.old.conn.now tx.new.conn.now result
+        0 (HaveFreeFor want) }
+    ensures live { WasOpen S.Store tx.old.conn.now tx.new.conn.now result }
+    ensures inside { StaysInside S.Store tx.old.conn.now tx.new.conn.now result }
+    ensures commit { CommitsNothing S.Store tx.old.conn.now tx.new.conn.now }
+    ensures survives { LeavesNoMore S.Store tx.old.conn.now tx.new.conn.now }
+{
+    let supplier = want.supplier();
+    let product = want.product();
+    let range = range_of(want, &supplier, &product);
+    take_nights(tx, range, u64::from(want.count()))?;
+    Ok(())
+}
+
+/// Gives back the places of a want.
+pub(crate) fn give_want<S: Alter>(tx: &mut Transaction<'_, S>, want: Want) -> Result<(), Error>
+    ensures same_reference { tx.new.conn.ghost_name ≡ tx.old.conn.ghost_name }
+    ensures made { WritesRows S.Store tx.old.conn.now tx.new.conn.now (HaveRoomFor want)
+        result (gives_want want) }
+    ensures reason { FailsOn S.Store tx.old.conn.now tx.new.conn.now result 0 (MayGiveWant want) }
+    ensures rowids { TakesRowids S.Store tx.old.conn.now tx.new.conn.now result
+        0 (HaveRoomFor want) }
+    ensures live { WasOpen S.Store tx.old.conn.now tx.new.conn.now result }
+    ensures inside { StaysInside S.Store tx.old.conn.now tx.new.conn.now result }
+    ensures commit { CommitsNothing S.Store tx.old.conn.now tx.new.conn.now }
+    ensures survives { LeavesNoMore S.Store tx.old.conn.now tx.new.conn.now }
+{
+    let supplier = want.supplier();
+    let product = want.product();
+    let range = range_of(want, &supplier, &product);
+    give_nights(tx, range, u64::from(want.count()))?;
+    Ok(())
 }

@@ -10,7 +10,6 @@
 mod begins;
 mod committing;
 mod events;
-mod items;
 mod journeys;
 mod loads;
 mod runs;

@@ -1,6 +1,6 @@
 -- What a command leaves of a book that may act, and what a chain of them does. For carry_out, act_all and open_and_act.
 use Rattle.std.proofs.Common.{◌≡◌, ◌≤◌, ◌⊎◌, ◌+◌, ℕ, inl, inr, ◌∷◌, take, ap, sym, subst, ◌∙◌, arith}
-use Rattle.std.specs.Prelude.{Option, Result, Ok, Err, IfErr, drop}
+use Rattle.std.specs.Prelude.{Option, Result, Ok, Err, IfErr, IfOk, drop}
 use Rattle.std.proofs.lemmas.List.{drop_more}
 use Rattle.std.specs.Borrow.{Bor}
 use Rattle.std.specs.Option.{option_copied}
@@ -91,6 +91,10 @@ module _ {S : Type 0} (g : Ghosts S) (first old new : TableBook S g) {asks : Ask
 pub if_err_more : {T E : Type 0} (r : Result T E) (P Q : E → Type 0) → ((e : E) → P e → Q e) → IfErr r P → IfErr r Q
 if_err_more (Ok x) P Q f p = tt
 if_err_more (Err e) P Q f p = f e p
+
+pub if_ok_more : {T E : Type 0} (r : Result T E) (P Q : T → Type 0) → IfOk r P → ((x : T) → P x → Q x) → IfOk r Q
+if_ok_more (Ok x) P Q p f = f x p
+if_ok_more (Err e) P Q p f = tt
 
 pub fails_from_new : {S : Type 0} (g : Ghosts S) (old : Held S) (book new : TableBook S g) (asks : Asks) (fault : Fault)
     → StaysUp g old book.conn → NewDeskMayAct g book → StaysUp g book.conn new.conn → WasClean g book.conn new.conn

@@ -1,5 +1,6 @@
 pub mod ClosingLemmas
 pub mod FinishedLemmas
+pub mod ListedLemmas
 pub mod LookLemmas
 pub mod OpenKept
 pub mod NumberLemmas
@@ -8,3 +9,4 @@ pub mod WalkLemmas
 pub mod SpelledLemmas
 pub mod NewDesks
 pub mod ActingLemmas
+pub mod SinceLemmas

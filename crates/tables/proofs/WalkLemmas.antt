@@ -65,11 +65,10 @@ filter-same f g h (j ∷ js) agree = go (h j) refl (filter-same f g h js agree)
         ∙ ap (λ more. cond (g b) (b ∷ more) more) rest
 
 -- if all journeys up to a number have finished, the unfinished ones are those above it
-pub all_counted : (l : List Event) (n : ℕ) → AreFinishedTo l n → unfinished_above l n ≡ length (unfinished_of l)
-all_counted l n has =
-    ap length
-    (filter-same (is_unfinished_above n) goes_on (brief_of l) (numbers l)
-    (λ j b is. by_number j b (tells l j b is) (nat_lt n b.id) refl))
+pub all_listed : (l : List Event) (n : ℕ) → AreFinishedTo l n → filter (is_unfinished_above n) (briefs_of l) ≡ unfinished_of l
+all_listed l n has =
+    filter-same (is_unfinished_above n) goes_on (brief_of l) (numbers l)
+    (λ j b is. by_number j b (tells l j b is) (nat_lt n b.id) refl)
   where
     both_false : (v w : Bool) → w ≡ false → (v && w) ≡ w
     both_false true w e = refl
@@ -83,3 +82,6 @@ all_counted l n has =
         let ended : is_open b.cursor.phase ≡ false =
         sym (ap (λ o. unwrap_or (option_map is_open o) false) t.phase_is) ∙ has.closed j (omega (arith, within, same)) in
         both_false (nat_lt n b.id) (goes_on b) ended
+
+pub all_counted : (l : List Event) (n : ℕ) → AreFinishedTo l n → unfinished_above l n ≡ length (unfinished_of l)
+all_counted l n has = ap length (all_listed l n has)

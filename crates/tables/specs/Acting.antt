@@ -1,5 +1,6 @@
 -- When a book may act, so that its next commands fail with Store only for a reason, and what each of them leaves of that.
-use Rattle.std.specs.Prelude.{◌≡◌, ◌⊎◌, ◌+◌, ◌<◌, ◌^◌, ⊤, ℕ, [], ◌∷◌, length, take, Option, Result, Ok, Err}
+use Rattle.std.specs.Prelude.{◌≡◌, ◌⊎◌, ◌+◌, ◌≤◌, ◌<◌, ◌^◌, ⊤, ℕ, [], ◌∷◌, length, take, Option, Result, Ok, Err}
+use Rattle.std.proofs.Common.{inl, arith}
 use Rattle.std.specs.Borrow.{Bor}
 use Rattle.std.specs.Option.{option_copied}
 use Rattle.sqlite.specs.Store.{Ghosts}
@@ -14,6 +15,7 @@ use Rattle.desk_sql.specs.Causes.{IsUp, HasFaulted}
 use Rattle.desk_sql.specs.Writable.{HasRowids}
 use Rattle.desk_sql.specs.declared.versions.Version.TheVariants.{Two}
 use Rattle.ledger.specs.Answer.{State, outcome, start}
+use Rattle.saga_core.specs.Reasons as reasons
 use Rattle.saga_core.specs.Runs.{Asks, state_after}
 use Rattle.sql_commands.specs.Committing.{HasShortText}
 use Rattle.sql_commands.specs.Failing.{RanOutOf, asked_rowids}
@@ -81,6 +83,11 @@ module _ {S : Type 0} (g : Ghosts S) (new : TableBook S g) where
       HasCleanDisk (state g new.conn) → StoodFor Two (state g old) start → IsUp (state g old)
       → AreShort asks → rowids_for asks < 2 ^ 63 → fault ≡ Store → HasReasonAmong old start asks
 
+  -- the book came of a connection that stood for a new desk, and its store has returned what was written
+  pub record CameFromNew (old : Held S) : Type 0 where
+    pub clean : HasCleanDisk (state g new.conn)
+    pub stood : StoodFor Two (state g old) start
+
 module _ {S : Type 0} (g : Ghosts S) (old new : TableBook S g) where
   -- A book that may act, for asks with short texts and no more rowids: Store says that the disk failed or refused meanwhile, or
   -- that the commit of one of them ran out of memory.
@@ -94,3 +101,34 @@ module _ {S : Type 0} (g : Ghosts S) (old new : TableBook S g) where
   ActsOnAfter asks =
       HasCleanDisk (state g new.conn) → (s : State) (m : ℕ) → MayAct g old s (rowids_for asks + m)
       → MayAct g new (state_after s asks) m ⊎ HasFaulted (state g old.conn) (state g new.conn)
+
+-- What the contract of every book says of a book over tables. `first` is the book since which a reason counts.
+
+module _ {S : Type 0} (g : Ghosts S) (first now : TableBook S g) where
+  -- no fault was forgotten since the first book; and this one may act for these asks, whose texts are short, or the disk failed
+  -- or refused meanwhile
+  pub record MayActSince (s : State) (asks : Asks) : Type 0 where
+    pub counts : (state g first.conn).faults ≤ (state g now.conn).faults
+    pub may : (MayAct g now s (rowids_for asks) × AreShort asks) ⊎ HasFaulted (state g first.conn) (state g now.conn)
+
+  -- since the first book the disk failed or refused, or the commit that leads from one state to the next ran out of memory
+  abbrev pub HasReasonSince : State → State → Type 0
+  HasReasonSince s next = HasFaulted (state g first.conn) (state g now.conn) ⊎ RanOutOf g now.conn s next
+
+-- a book that may act for asks with short texts may do so since itself
+pub may_act_since_itself : {S : Type 0} (g : Ghosts S) (b : TableBook S g) (s : State) (asks : Asks) → MayAct g b s (rowids_for asks)
+    → AreShort asks → MayActSince g b b s asks
+may_act_since_itself g b s asks may short = record { counts = omega arith; may = inl (may, short) }
+
+module _ {S : Type 0} (g : Ghosts S) (old new : TableBook S g) where
+  -- a command leaves the book so that it may act on for later asks, or fails for a reason
+  abbrev pub ActsSince : Option (Bor Asked) → Request → {V : Type 0} → Result V Fault → Type 0
+  ActsSince ask asked result =
+      HasCleanDisk (state g new.conn) → (first : TableBook S g)
+      → reasons.ActsOn (MayActSince g first old) (MayActSince g first new) (HasReasonSince g first new) (option_copied ask) asked result
+
+  -- a read leaves the book so that it may act for the same asks, or fails for a reason
+  abbrev pub ReadsSince : {V : Type 0} → Result V Fault → Type 0
+  ReadsSince result =
+      HasCleanDisk (state g new.conn) → (first : TableBook S g)
+      → reasons.ReadsOn (MayActSince g first old) (MayActSince g first new) (HasReasonSince g first new) result

@@ -10,11 +10,12 @@ use crate::opening::{Opened, without_limit};
 use allotment::{Cell, Held, Night, Want};
 use commands::{Agent, Ask, Command, Fault, Item, Reply};
 use desk_sql::Version;
-use saga_core::{Book, Brief, Counts, Record};
+use saga_core::{Book, Brief, Counts, Record, Trace};
 use sql_commands::{answer, know_limits, read_counts};
 use sql_reads::{
-    read_cells, read_first_owned, read_first_unfinished, read_history, read_journey, read_stock,
+    LARGEST, read_cells, read_first_unfinished, read_history, read_journey, read_stock, read_trace,
 };
+use sql_views::{read_first_owned, read_unfinished};
 use sqlite::{Alter, Connection};
 use std::alloc::Global;
 
@@ -120,6 +121,30 @@ impl<S: Alter> TableBook<S> {
         } else {
             read_first_unfinished(&mut self.conn, after)
         }
+    }
+
+    /// Returns the unfinished journeys, in order of number. The book remembers that the journeys before the first of them
+    /// have finished.
+    fn look_at_all(&mut self) -> Result<Vec<Brief>, Fault>
+        ensures briefs { ShowsKept S.Store self.old self.new (λ s briefs. briefs.items ≡ unfinished_of s.ledger) result }
+        ensures same { KeepsKnowing S.Store self.old self.new result }
+        ensures stop { LeavesAsBefore S.Store self.old.conn self.new.conn }
+        ensures failed { self.new.failed ≡ self.old.failed }
+        ensures sound { WasClean S.Store self.old.conn self.new.conn }
+
+        ensures store { FailsForReason S.Store self.old self.new result }
+        ensures up { StaysUp S.Store self.old.conn self.new.conn }
+        ensures sees { SeesAsBefore S.Store self.old.conn self.new.conn }
+    {
+        let known = self.finished.min(LARGEST);
+        let briefs = read_unfinished(self.alloc, &mut self.conn, known)?;
+        if let Some(first) = briefs.first() {
+            self.finished = first.id.saturating_sub(1);
+            return Ok(briefs);
+        }
+        let now = read_counts(&mut self.conn)?;
+        self.finished = now.journeys;
+        Ok(briefs)
     }
 
     /// Returns how many journeys are unfinished. They are counted once, and the book remembers the number.
@@ -242,9 +267,10 @@ impl<S: Alter> Opened<S> {
 impl<S: Alter> Book for TableBook<S> {
     ghost use Rattle.ledger.specs.Ledger.{history};
     ghost use Rattle.saga_core.specs.Views.{ShowsCells, IsStock, counts_of, first_owned, first_unfinished, record_of};
+    ghost use Rattle.saga_core.specs.Views.{TracesBrief, TracesItems, unfinished_of};
     ghost use Rattle.sql_model.specs.Staying.{SeesAsBefore};
     ghost use Rattle.sql_reads.specs.Reading.{WasClean};
-    ghost use Rattle.tables.specs.Acting.{ActsOn};
+    ghost use Rattle.tables.specs.Acting.{ActsOn, ActsSince, HasReasonSince, MayActSince, ReadsSince};
     ghost use Rattle.tables.specs.BookTerms.{FailsForReason, KeepsKnowing, LeavesNoMore, ShowsKept};
     ghost use Rattle.tables.specs.BookTerms.{Answers, FailsToAct, KeepsAtMemory, LeavesAtStore, LeavesRowids, MovesOn};
     ghost use Rattle.sql_model.specs.Staying.{StaysUp};
@@ -259,6 +285,10 @@ impl<S: Alter> Book for TableBook<S> {
     ghost leaves = { λ b s t. MayLeave (state S.Store b.conn) s t };
 
     ghost has_failed = { λ b. b.failed };
+
+    ghost may_act = { λ first b s asks. MayActSince S.Store first b s asks };
+
+    ghost has_reason = { λ first b s next. HasReasonSince S.Store first b s next };
 
     ghost legal = { λ b s h. h.desk.legal };
 
@@ -279,6 +309,7 @@ impl<S: Alter> Book for TableBook<S> {
         ensures rowids { LeavesRowids S.Store self.old self.new ask.entry (request_of command.now) }
         ensures up { StaysUp S.Store self.old.conn self.new.conn }
         ensures acts { ActsOn S.Store self.old self.new ask.entry (request_of command.now) result }
+        ensures may_act { ActsSince S.Store self.old self.new ask.entry (request_of command.now) result }
     {
         match self.carry_out(command, ask) {
             Ok(reply) => Ok(reply),
@@ -297,6 +328,7 @@ impl<S: Alter> Book for TableBook<S> {
         ensures sound { WasClean S.Store self.old.conn self.new.conn }
 
         ensures store { FailsForReason S.Store self.old self.new result }
+        ensures may_act { ReadsSince S.Store self.old self.new result }
         ensures sees { SeesAsBefore S.Store self.old.conn self.new.conn }
     {
         if self.failed {
@@ -322,6 +354,7 @@ impl<S: Alter> Book for TableBook<S> {
         ensures sound { WasClean S.Store self.old.conn self.new.conn }
 
         ensures store { FailsForReason S.Store self.old self.new result }
+        ensures may_act { ReadsSince S.Store self.old self.new result }
         ensures sees { SeesAsBefore S.Store self.old.conn self.new.conn }
     {
         if self.failed {
@@ -348,6 +381,7 @@ impl<S: Alter> Book for TableBook<S> {
         ensures sound { WasClean S.Store self.old.conn self.new.conn }
 
         ensures store { FailsForReason S.Store self.old self.new result }
+        ensures may_act { ReadsSince S.Store self.old self.new result }
         ensures sees { SeesAsBefore S.Store self.old.conn self.new.conn }
     {
         if self.failed {
@@ -374,6 +408,7 @@ impl<S: Alter> Book for TableBook<S> {
         ensures sound { WasClean S.Store self.old.conn self.new.conn }
 
         ensures store { FailsForReason S.Store self.old self.new result }
+        ensures may_act { ReadsSince S.Store self.old self.new result }
         ensures sees { SeesAsBefore S.Store self.old.conn self.new.conn }
     {
         if self.failed {
@@ -399,6 +434,7 @@ impl<S: Alter> Book for TableBook<S> {
         ensures sound { WasClean S.Store self.old.conn self.new.conn }
 
         ensures store { FailsForReason S.Store self.old self.new result }
+        ensures may_act { ReadsSince S.Store self.old self.new result }
         ensures sees { SeesAsBefore S.Store self.old.conn self.new.conn }
     {
         if self.failed {
@@ -424,6 +460,7 @@ impl<S: Alter> Book for TableBook<S> {
         ensures sound { WasClean S.Store self.old.conn self.new.conn }
 
         ensures store { FailsForReason S.Store self.old self.new result }
+        ensures may_act { ReadsSince S.Store self.old self.new result }
         ensures sees { SeesAsBefore S.Store self.old.conn self.new.conn }
     {
         if self.failed {
@@ -449,12 +486,66 @@ impl<S: Alter> Book for TableBook<S> {
         ensures sound { WasClean S.Store self.old.conn self.new.conn }
 
         ensures store { FailsForReason S.Store self.old self.new result }
+        ensures may_act { ReadsSince S.Store self.old self.new result }
         ensures sees { SeesAsBefore S.Store self.old.conn self.new.conn }
     {
         if self.failed {
             return Err(Fault::Store);
         }
         match read_stock(self.alloc, &mut self.conn) {
+            Ok(shown) => Ok(shown),
+            Err(Fault::Memory) => Err(Fault::Memory),
+            Err(Fault::Store) => {
+                self.failed = true;
+                Err(Fault::Store)
+            }
+        }
+    }
+
+    fn trace(&mut self, id: u64) -> Result<Option<Trace>, Fault>
+        ensures brief { ShowsKept S.Store self.old self.new (TracesBrief id) result }
+        ensures items { ShowsKept S.Store self.old self.new (TracesItems id) result }
+        ensures same { KeepsKnowing S.Store self.old self.new result }
+        ensures stop { HasCleanDisk (state S.Store self.new.conn) → LeavesNoMore S.Store self.old self.new }
+        ensures fails { IsErrOf result Fault.Store ↔ IsTrue self.new.failed }
+        ensures stays_failed { IsTrue self.old.failed → IsTrue self.new.failed }
+        ensures stays_left { IsTrue self.old.failed → LeavesNoMore S.Store self.old self.new }
+        ensures sound { WasClean S.Store self.old.conn self.new.conn }
+
+        ensures store { FailsForReason S.Store self.old self.new result }
+        ensures may_act { ReadsSince S.Store self.old self.new result }
+        ensures sees { SeesAsBefore S.Store self.old.conn self.new.conn }
+    {
+        if self.failed {
+            return Err(Fault::Store);
+        }
+        match read_trace(self.alloc, &mut self.conn, id) {
+            Ok(shown) => Ok(shown),
+            Err(Fault::Memory) => Err(Fault::Memory),
+            Err(Fault::Store) => {
+                self.failed = true;
+                Err(Fault::Store)
+            }
+        }
+    }
+
+    fn unfinished(&mut self) -> Result<Vec<Brief>, Fault>
+        ensures briefs { ShowsKept S.Store self.old self.new (λ s briefs. briefs.items ≡ unfinished_of s.ledger) result }
+        ensures same { KeepsKnowing S.Store self.old self.new result }
+        ensures stop { HasCleanDisk (state S.Store self.new.conn) → LeavesNoMore S.Store self.old self.new }
+        ensures fails { IsErrOf result Fault.Store ↔ IsTrue self.new.failed }
+        ensures stays_failed { IsTrue self.old.failed → IsTrue self.new.failed }
+        ensures stays_left { IsTrue self.old.failed → LeavesNoMore S.Store self.old self.new }
+        ensures sound { WasClean S.Store self.old.conn self.new.conn }
+
+        ensures store { FailsForReason S.Store self.old self.new result }
+        ensures may_act { ReadsSince S.Store self.old self.new result }
+        ensures sees { SeesAsBefore S.Store self.old.conn self.new.conn }
+    {
+        if self.failed {
+            return Err(Fault::Store);
+        }
+        match self.look_at_all() {
             Ok(shown) => Ok(shown),
             Err(Fault::Memory) => Err(Fault::Memory),
             Err(Fault::Store) => {

@@ -2,10 +2,11 @@
 ghost use Rattle.std.specs.Prelude.{◌≡◌, false, None, IfErr, IfOk, OnOk};
 ghost use Rattle.sqlite.specs.Held.{state};
 ghost use Rattle.sqlite.specs.State.{HasCleanDisk};
-ghost use Rattle.saga_core.specs.Runs.{AreReplies, asks_of};
+ghost use Rattle.ledger.specs.Answer.{start};
+ghost use Rattle.saga_core.specs.Runs.{AreReplies, asks_of, replies_to};
 ghost use Rattle.sql_model.specs.Staying.{StaysUp};
 ghost use Rattle.sql_reads.specs.Reading.{WasClean};
-ghost use Rattle.tables.specs.Acting.{ActsOnAfter, FailsAmong, FailsFromNew, NewDeskMayAct};
+ghost use Rattle.tables.specs.Acting.{ActsOnAfter, CameFromNew, FailsAmong, FailsFromNew, NewDeskMayAct};
 ghost use Rattle.tables.specs.BookTerms.{StandsBook};
 
 use crate::books::TableBook;
@@ -59,6 +60,8 @@ pub fn open_and_act<S: Alter + Drop>(
     requires outside { conn.in_transaction ≡ false }
     requires unlimited { conn.step_limit ≡ None }
 
+    ensures replies { IfOk result (λ done. CameFromNew S.Store done.0 conn →
+        IfOk done.1 (λ replies. replies.items ≡ replies_to start (asks_of commands.now))) }
     ensures store { IfOk result (λ done. IfErr done.1 (λ e.
         FailsFromNew S.Store done.0 conn (asks_of commands.now) e.1)) }
 {

@@ -40,6 +40,8 @@ pub fn has_failed<B: Book>(rt: &impl Abort, book: &mut B, story: &Story) {
     fails(rt, "history", book.history(1));
     fails(rt, "first_unfinished", book.first_unfinished(0));
     fails(rt, "stock", book.stock());
+    fails(rt, "trace", book.trace(1));
+    fails(rt, "unfinished", book.unfinished());
     for turn in &story.turns {
         if let Command::Begin(plan) = &turn.command {
             if let Some(want) = want_of(plan, 1, 1) {

@@ -132,8 +132,20 @@ fn same_journey<B: Book>(
         book.history(id)?.as_slice() == items.as_slice(),
         "items of {id}"
     );
+    let trace = book.trace(id)?;
     match (book.journey(id)?, plain.begun(id)) {
         (Some(record), Some((agent, plan))) => {
+            let trace = trace.ok_or("no trace")?;
+            assert!(rt; trace.brief.id == id, "number of {id}");
+            assert!(rt; trace.brief.agent == *agent, "agent of the trace of {id}");
+            assert!(rt;
+                trace.brief.cursor == record.cursor,
+                "cursor of the trace of {id}"
+            );
+            assert!(rt;
+                trace.items.as_slice() == items.as_slice(),
+                "items of the trace of {id}"
+            );
             let pos = net(alloc, &items)?.len();
             assert!(rt; record.agent == *agent, "agent of {id}");
             assert_eq!(rt;
@@ -148,7 +160,7 @@ fn same_journey<B: Book>(
                 "phase of {id}"
             );
         }
-        (None, None) => {}
+        (None, None) => assert!(rt; trace.is_none(), "trace of {id}"),
         _ => assert!(rt; false, "journey {id}"),
     }
     Ok(())
@@ -165,6 +177,24 @@ fn same_stock<B: Book>(rt: &impl Abort, book: &mut B, plain: &Plain) -> Result<(
     Ok(())
 }
 
+/// Checks that a book lists the unfinished journeys that it finds one after another.
+fn same_unfinished<B: Book>(rt: &impl Abort, book: &mut B) -> Result<(), Fail> {
+    let mut after = 0;
+    for brief in &book.unfinished()? {
+        let found = book.first_unfinished(after)?.ok_or("no journey")?;
+        assert!(rt;
+            (found.id, found.agent, found.cursor) == (brief.id, brief.agent, brief.cursor),
+            "the unfinished journey {after}"
+        );
+        after = brief.id;
+    }
+    assert!(rt;
+        book.first_unfinished(after)?.is_none(),
+        "no unfinished journey above {after}"
+    );
+    Ok(())
+}
+
 /// Checks that two books show the same places of all cells, and the same unfinished journey above this number.
 fn same_shown<A: Book, B: Book>(
     rt: &impl Abort,
@@ -176,6 +206,8 @@ fn same_shown<A: Book, B: Book>(
         one.stock()?.as_slice() == other.stock()?.as_slice(),
         "the stock"
     );
+    same_unfinished(rt, one)?;
+    same_unfinished(rt, other)?;
     let shown = one
         .first_unfinished(after)?
         .map(|brief| (brief.id, brief.cursor));

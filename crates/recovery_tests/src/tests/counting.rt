@@ -2,7 +2,7 @@
 //! sound.
 use allotment::{Cell, Held, Night, Want};
 use commands::{Agent, Ask, Command, Fault, Item, Reply};
-use saga_core::{Book, Brief, Counts, Record};
+use saga_core::{Book, Brief, Counts, Record, Trace};
 
 /// A book, and how many such reads came before its first command.
 #[derive(Drop)]
@@ -77,5 +77,13 @@ impl<B: Book> Book for CountingBook<B> {
 
     fn stock(&mut self) -> Result<Vec<(Cell, Held)>, Fault> {
         self.book.stock()
+    }
+
+    fn trace(&mut self, id: u64) -> Result<Option<Trace>, Fault> {
+        self.book.trace(id)
+    }
+
+    fn unfinished(&mut self) -> Result<Vec<Brief>, Fault> {
+        self.book.unfinished()
     }
 }

@@ -2,7 +2,7 @@
 use allotment::{Cell, Held, Night, Want};
 use commands::{Agent, Ask, Command, Fault, Item, Reply};
 use memory_book::MemBook;
-use saga_core::{Book, Brief, Counts, Record};
+use saga_core::{Book, Brief, Counts, Record, Trace};
 
 /// A desk in memory, and after how many replies its store fails at the next call.
 #[derive(Drop)]
@@ -90,6 +90,16 @@ impl Book for FailingBook {
     }
 
     fn stock(&mut self) -> Result<Vec<(Cell, Held)>, Fault> {
+        self.failed = true;
+        Err(Fault::Store)
+    }
+
+    fn trace(&mut self, _id: u64) -> Result<Option<Trace>, Fault> {
+        self.failed = true;
+        Err(Fault::Store)
+    }
+
+    fn unfinished(&mut self) -> Result<Vec<Brief>, Fault> {
         self.failed = true;
         Err(Fault::Store)
     }

@@ -53,8 +53,12 @@ fn a_journey_is_shown_as_it_began(rt: HostRuntime) -> Result<(), Fail> {
         let shown = book.journey(id)?.ok_or("no journey")?;
         holds(&rt, agent, is_new(alloc, &shown, agent)?);
         holds(&rt, "no items", book.history(id)?.is_empty());
+        let trace = book.trace(id)?.ok_or("no trace")?;
+        holds(&rt, agent, is_at_the_start(&trace.brief, id, agent));
+        holds(&rt, "no items in the trace", trace.items.is_empty());
     }
     for &id in &[0, 3, u64::MAX] {
+        holds(&rt, "no trace", book.trace(id)?.is_none());
         holds(&rt, "no journey", book.journey(id)?.is_none());
         holds(&rt, "no items", book.history(id)?.is_empty());
     }
@@ -76,6 +80,7 @@ fn unfinished_journeys_are_found_in_order(rt: HostRuntime) -> Result<(), Fail> {
     let command = begin(alloc, PLAN)?;
     let mut book = book_over(alloc, Connection::open_in_memory(alloc)?)?;
     holds(&rt, "a new desk", book.first_unfinished(0)?.is_none());
+    holds(&rt, "a new desk's list", book.unfinished()?.is_empty());
     begin_two(&rt, alloc, &mut book, &command)?;
     for &(after, id, agent) in &[(0, 1, "desk"), (1, 2, "ann")] {
         let found = book.first_unfinished(after)?.ok_or("no journey")?;
@@ -83,6 +88,11 @@ fn unfinished_journeys_are_found_in_order(rt: HostRuntime) -> Result<(), Fail> {
     }
     for &after in &[2, u64::MAX] {
         holds(&rt, "past all", book.first_unfinished(after)?.is_none());
+    }
+    let all = book.unfinished()?;
+    holds(&rt, "both are listed", all.len() == 2);
+    for (found, &(id, agent)) in all.iter().zip(&[(1, "desk"), (2, "ann")]) {
+        holds(&rt, agent, is_at_the_start(found, id, agent));
     }
     Ok(())
 }

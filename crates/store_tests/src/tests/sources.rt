@@ -5,8 +5,8 @@ use crate::tests::helping::{book_over, run};
 use allotment::{Cell, Held};
 use commands::{Fault, Item};
 use memory_files::{ClosedFile, Session};
+use report_rows::{CellRows, JourneyRows, Progress, start_stock, start_unfinished};
 use saga_core::{Brief, RowSource};
-use sql_reads::{Progress, StockRows, UnfinishedRows, start_stock, start_unfinished};
 use sqlite::{Alter, Connection};
 use std::alloc::{AllocError, Global};
 use std::process::Abort;
@@ -96,7 +96,7 @@ fn stock_told<S: Alter>(
     calls: u8,
 ) -> Result<String, Fail> {
     let mut rows = start_stock(conn)?;
-    let mut source = StockRows {
+    let mut source = CellRows {
         rows: &mut rows,
         progress: Progress::new(),
     };
@@ -110,7 +110,7 @@ fn unfinished_told<S: Alter>(
     calls: u8,
 ) -> Result<String, Fail> {
     let mut rows = start_unfinished(conn)?;
-    let mut source = UnfinishedRows {
+    let mut source = JourneyRows {
         rows: &mut rows,
         progress: Progress::new(),
     };

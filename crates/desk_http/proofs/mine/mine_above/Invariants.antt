@@ -2,7 +2,7 @@ use Rattle.std.proofs.Common.{◌≡◌, ◌++◌, ◌-◌, take}
 use Rattle.std.specs.Prelude.{IsTrue}
 use Rattle.ledger.specs.Answer.{State}
 use Rattle.saga_core.specs.Books.{LeavesNoMore}
-use Rattle.desk_http.specs.Pages.{mine_of, owned_above, owner_of}
+use Rattle.desk_http.specs.Pages.{mine_of, owned_above}
 use Rattle.desk_http.proofs.mine.mine_above.Given as goal
 
 -- the own journeys so far, and then so many of those above the last one that the page has room for

@@ -1,13 +1,16 @@
 -- A run over lines answers one line after another, until the input ends or a fault comes.
-use Rattle.std.proofs.Common.{sym, subst, refl, []}
+use Rattle.std.proofs.Common.{ap, sym, subst, refl, []}
+use Rattle.std.specs.Prelude.{Err}
 use Rattle.std.specs.Io.KnownBytes.{Appends}
 use Rattle.std.proofs.lemmas.Result.{err_from_is_err_and}
 use Rattle.desk_lines.specs.Reading.{TakesLine, to_come}
 use Rattle.protocols.specs.Faults.{IsOfReading}
 use Rattle.streams.specs.Written.{WroteFront}
 use Rattle.protocols.specs.Scenes.{scene}
+use Rattle.protocols.specs.declared.faults.ServeFault.{ServeFault}
 use Rattle.protocols.specs.declared.faults.ServeFault.TheVariants.{Memory, Read}
 use Rattle.protocols.proofs.KnownLemmas.{for_known}
+use Rattle.desk_lines.proofs.ReasonLemmas.{line_fails, may_at_end, may_at_first, may_go_on, same_fault}
 use Rattle.desk_lines.proofs.ServeLemmas.{all_answered, answer_fails, goes_on, read_fails, starts, write_fails}
 use Rattle.desk_lines.proofs.runs.answer_input.Goals as goal
 
@@ -20,6 +23,9 @@ loop-answered-init g c = record {
   so_far = λ sound s stood input is.
       starts (g.W.Write.contents c.args.writer.now) (g.B.Book.stands c.args.book.now) (g.B.Book.leaves c.args.book.now) s input
       c.in_ok-unread.unread (g.R.Read.remaining c.args.reader.now) c.in_ok-unread.ensures is stood;
+  may_act = λ sound first s later input is may.
+      may_at_first (g.B.Book.may_act first c.args.book.now) s input later c.in_ok-unread.unread (g.R.Read.remaining c.args.reader.now)
+      c.in_ok-unread.ensures is may;
 }
 
 -- one more line was answered
@@ -42,6 +48,11 @@ loop-answered-preserved g c =
           (subst (λ found. TakesLine before after found c.next_line.new.line) c.if-not-branch.false c.in_ok-next_line.ensures.line)
           (c.in_ok-text.ensures.answer sound)
           (subst (Appends (contents at.writer) (contents c.send.new.writer)) c.as_bytes.ensures.value c.in_ok-send.ensures.sent);
+      may_act = λ sound first s later input is may.
+          may_go_on (book.may_act first at.book) (book.may_act first c.answer.new.book) s input before after c.next_line.new.line later
+          (at.invariant.may_act (c.answer.ensures.sound sound) first s later input is may)
+          (subst (λ found. TakesLine before after found c.next_line.new.line) c.if-not-branch.false c.in_ok-next_line.ensures.line)
+          (c.in_ok-text.ensures.may_act sound first);
     }
 
 -- out of memory before the first line
@@ -83,6 +94,34 @@ returns-then-not-branch-clause-all g c = λ sound s stood.
     all_answered (scene (contents c.args.writer.now) (contents at.writer) (book.stands at.book) (book.leaves at.book)) s input before after at.answered
     c.next_line.new.line (at.invariant.so_far sound s stood input is)
     (subst (λ found. TakesLine before after found c.next_line.new.line) c.if-not-branch.true c.in_ok-next_line.ensures.line))
+
+-- and the book may act for later asks
+pub returns-then-not-branch-clause-may_act : goal.returns-then-not-branch-clause-may_act
+returns-then-not-branch-clause-may_act g c = λ sound first.
+    let left = g.R.Read.remaining in
+    let at = c.loop-answered in
+    let before = to_come at.unread (left at.reader) in
+    let after = to_come c.next_line.new.self (left c.next_line.new.reader) in
+    for_known (left c.args.reader.now) _ (λ input is s later may.
+    may_at_end (g.B.Book.may_act first at.book) s input before after c.next_line.new.line later
+    (at.invariant.may_act sound first s later input is may)
+    (subst (λ found. TakesLine before after found c.next_line.new.line) c.if-not-branch.true c.in_ok-next_line.ensures.line))
+
+-- the store failed at a line, for a reason
+pub returns-in_err-text-clause-reason : goal.returns-in_err-text-clause-reason
+returns-in_err-text-clause-reason g c = λ sound first store.
+    let book = g.B.Book in
+    let left = g.R.Read.remaining in
+    let at = c.loop-answered in
+    let before = to_come at.unread (left at.reader) in
+    let after = to_come c.next_line.new.self (left c.next_line.new.reader) in
+    let failed = err_from_is_err_and c.from_residual-in_err-text.result c.from_residual-in_err-text.ensures.1 in
+    let came = same_fault c.from_residual-in_err-text.result failed.0 c.in_err-text.field-0.0 failed.1 failed.2 store in
+    for_known (left c.args.reader.now) _ (λ input is s later may.
+    line_fails (book.may_act first at.book) (book.has_reason first c.answer.new.book) s input before after c.next_line.new.line later
+    (at.invariant.may_act (c.answer.ensures.sound sound) first s later input is may)
+    (subst (λ found. TakesLine before after found c.next_line.new.line) c.if-not-branch.false c.in_ok-next_line.ensures.line)
+    (λ text kept. c.in_err-text.ensures.reason sound first text kept (ap (λ (f : ServeFault). Err f) came)))
 
 -- the answer to a line failed
 pub returns-in_err-text-clause-some : goal.returns-in_err-text-clause-some

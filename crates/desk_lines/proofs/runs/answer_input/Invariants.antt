@@ -1,9 +1,13 @@
-use Rattle.std.proofs.Common.{◌≡◌, List, ℕ}
+use Rattle.std.proofs.Common.{◌≡◌, ◌++◌, List, ℕ}
 use Rattle.std.specs.Prelude.{IsTrue, Some}
 use Rattle.ledger.specs.Answer.{State}
 use Rattle.saga_core.specs.Books.{LeavesNoMore}
+use Rattle.saga_core.specs.Runs.{Asks}
+use Rattle.desk_lines.specs.Lines.{lines}
 use Rattle.desk_lines.specs.Reading.{to_come}
+use Rattle.desk_lines.specs.Worlds.{asks_in}
 use Rattle.protocols.specs.Scenes.{scene}
+use Rattle.desk_lines.proofs.ReasonLemmas.{MayStill}
 use Rattle.desk_lines.proofs.ServeLemmas.{SoFar}
 use Rattle.desk_lines.proofs.runs.answer_input.Given as goal
 
@@ -19,4 +23,7 @@ invariant-loop-answered g l =
       stays_left : IsTrue (book.has_failed l.fn.book) → LeavesNoMore (book.leaves l.fn.book) (book.leaves l.book);
       so_far : book.is_sound l.book → (s : State) → book.stands l.fn.book s → (input : List ℕ) → left l.fn.reader ≡ Some input
           → SoFar (scene (contents l.fn.writer) (contents l.writer) (book.stands l.book) (book.leaves l.book)) s input (to_come l.unread (left l.reader)) l.answered;
+      may_act : book.is_sound l.book → (first : _) (s : State) (later : Asks) (input : List ℕ) → left l.fn.reader ≡ Some input
+          → book.may_act first l.fn.book s (asks_in (lines input) ++ later)
+          → MayStill (book.may_act first l.book) s input (to_come l.unread (left l.reader)) later;
     }

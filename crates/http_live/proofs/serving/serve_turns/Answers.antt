@@ -2,7 +2,7 @@
 use Rattle.std.proofs.Common.{Ok, Err, Option, ap, false, refl}
 use Rattle.std.proofs.lemmas.Result.{err_from_is_err_and}
 use Rattle.http_conversations.specs.Leading.{has_broken}
-use Rattle.http_live.specs.declared.turns.Ending.{Ending}
+use Rattle.http_live.specs.declared.serving.Ending.{Ending}
 use Rattle.http_live.specs.Endings.{ends_stopped, is_stopped}
 use Rattle.http_live.proofs.Merged.{merges_as, merges_none, merges_then}
 use Rattle.http_live.proofs.serving.serve_turns.Goals as goal

@@ -3,8 +3,8 @@ use Rattle.std.proofs.Common.{◌≡◌, ◌∙◌, Ok, Err, Option, Some, ap, f
 use Rattle.std.proofs.lemmas.List.Quantifiers.{any-set}
 use Rattle.std.proofs.lemmas.Result.{err_from_is_err_and}
 use Rattle.http_conversations.specs.Leading.{has_broken}
-use Rattle.http_live.specs.declared.turns.Ending.{Ending}
-use Rattle.http_live.specs.declared.turns.Ending.TheVariants as ends
+use Rattle.http_live.specs.declared.serving.Ending.{Ending}
+use Rattle.http_live.specs.declared.serving.Ending.TheVariants as ends
 use Rattle.http_live.specs.Endings.{ending_after, ends_stopped, is_stop}
 use Rattle.http_live.specs.Seats.{HasStopAt, exchanges_at}
 use Rattle.http_conversations.proofs.Steps.{no_stop}

@@ -2,6 +2,8 @@
 use Rattle.std.specs.Prelude.{IsTrue}
 use Rattle.ledger.specs.Answer.{State}
 use Rattle.saga_core.specs.Books.{LeavesNoMore}
+use Rattle.saga_core.specs.Runs.{Asks}
+use Rattle.recovery.specs.Reasons.{MayRecover}
 use Rattle.recovery.proofs.CarriedLemmas.{CarriedSoFar}
 use Rattle.recovery.proofs.passes.carry.Given as goal
 
@@ -14,4 +16,6 @@ invariant-loop-round g l =
       stays_left : IsTrue (book.has_failed l.fn.book) → LeavesNoMore (book.leaves l.fn.book) (book.leaves l.book);
       carried : book.is_sound l.book → (s : State) → book.stands l.fn.book s
           → CarriedSoFar l.pass (book.stands l.book) s l.after l.made l._round;
+      may_act : book.is_sound l.book → (first : _) (later : Asks) (s : State) → MayRecover (book.stands l.fn.book) (book.may_act first l.fn.book) later s
+          → CarriedSoFar l.pass (MayRecover (book.stands l.book) (book.may_act first l.book) later) s l.after l.made l._round;
     }

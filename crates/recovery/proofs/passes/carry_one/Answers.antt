@@ -1,9 +1,11 @@
-use Rattle.std.proofs.Common.{◌≡◌, sym, ◌∙◌, subst}
+use Rattle.std.proofs.Common.{◌≡◌, sym, ◌∙◌, subst, arith}
 use Rattle.recovery.specs.Asking.{Steps}
-use Rattle.std.specs.Prelude.{true, false}
+use Rattle.std.specs.Prelude.{true, false, is_some}
+use Rattle.commands.specs.declared.replies.Fault.TheVariants.{Store}
 use Rattle.recovery.specs.Growing.{with_events}
 use Rattle.recovery.specs.Passes.{goes_on}
-use Rattle.recovery.proofs.CarriedOneLemmas.{one-on, one-done, one-fault}
+use Rattle.recovery.specs.Reasons.{AfterMove, MayActThen, MayRecover, NoState}
+use Rattle.recovery.proofs.CarriedOneLemmas.{one-on, one-done, one-fault, one-refused}
 use Rattle.recovery.proofs.passes.carry_one.Goals as goal
 
 -- one step more, and the pass is done with the journey
@@ -46,4 +48,57 @@ loop-made-preserved g c = record {
       (g.met.B.Book.legal c.loop-made.book (with_events s t.events) t.stands_there)
       (subst (Steps (g.B.Book.stands c.loop-made.book) (g.B.Book.stands c.step.new.book) c.args.id)
       c.in-Ok-Some.field-0-is (c.in-Ok-Some.ensures.ok sound)) goes;
+  may_act = λ sound first later s may on.
+      let book = g.B.Book in
+      let t = c.loop-made.invariant.may_act (c.step.ensures.sound sound) first later s may on in
+      let goes : goes_on c.args.pass c.in-Ok-Some.phase ≡ true =
+      sym c.goes_on.ensures ∙ c.if-not-goes_on.false in
+      one-on c.args.pass (MayRecover (book.stands c.loop-made.book) (book.may_act first c.loop-made.book) later) (MayRecover (book.stands c.step.new.book) (book.may_act first c.step.new.book) later) s
+      c.args.id c.loop-made.made c.in-Ok-Some.phase t
+      (g.met.B.Book.legal c.loop-made.book (with_events s t.events) t.stands_there.stands_there)
+      (subst (λ o. Steps (MayRecover (book.stands c.loop-made.book) (book.may_act first c.loop-made.book) later) (AfterMove (book.stands c.step.new.book) (book.may_act first c.step.new.book) later (is_some o)) c.args.id o)
+      c.in-Ok-Some.field-0-is (c.in-Ok-Some.ensures.may_act sound first later)) goes;
 }
+
+-- The book may recover on, or had a reason to fail.
+
+pub returns-in-Ok-None-clause-may_act : goal.returns-in-Ok-None-clause-may_act
+returns-in-Ok-None-clause-may_act g c =
+    λ sound first later s may on.
+    let book = g.B.Book in
+    let t = c.loop-made.invariant.may_act (c.step.ensures.sound sound) first later s may on in
+    one-refused c.args.pass (MayRecover (book.stands c.loop-made.book) (book.may_act first c.loop-made.book) later) (MayActThen (book.stands c.step.new.book) (book.may_act first c.step.new.book) later) s
+    c.args.id c.loop-made.made t
+    (subst (λ o. Steps (MayRecover (book.stands c.loop-made.book) (book.may_act first c.loop-made.book) later) (AfterMove (book.stands c.step.new.book) (book.may_act first c.step.new.book) later (is_some o)) c.args.id o)
+    c.in-Ok-None.field-0-is (c.in-Ok-None.ensures.may_act sound first later))
+
+pub returns-then-not-goes_on-clause-may_act : goal.returns-then-not-goes_on-clause-may_act
+returns-then-not-goes_on-clause-may_act g c =
+    λ sound first later s may on.
+    let book = g.B.Book in
+    let t = c.loop-made.invariant.may_act (c.step.ensures.sound sound) first later s may on in
+    let out : goes_on c.args.pass c.in-Ok-Some.phase ≡ false =
+    sym c.goes_on.ensures ∙ c.if-not-goes_on.true in
+    one-done c.args.pass (MayRecover (book.stands c.loop-made.book) (book.may_act first c.loop-made.book) later) (MayRecover (book.stands c.step.new.book) (book.may_act first c.step.new.book) later) s
+    c.args.id c.loop-made.made c.in-Ok-Some.phase t
+    (g.met.B.Book.legal c.loop-made.book (with_events s t.events) t.stands_there.stands_there)
+    (subst (λ o. Steps (MayRecover (book.stands c.loop-made.book) (book.may_act first c.loop-made.book) later) (AfterMove (book.stands c.step.new.book) (book.may_act first c.step.new.book) later (is_some o)) c.args.id o)
+    c.in-Ok-Some.field-0-is (c.in-Ok-Some.ensures.may_act sound first later)) out
+
+pub returns-in-Err-clause-reason : goal.returns-in-Err-clause-reason
+returns-in-Err-clause-reason g c =
+    λ sound first later store s may on.
+    let book = g.B.Book in
+    let t = c.loop-made.invariant.may_act (c.step.ensures.sound sound) first later s may on in
+    one-fault c.args.pass (MayRecover (book.stands c.loop-made.book) (book.may_act first c.loop-made.book) later) NoState (book.has_reason first c.step.new.book) s
+    c.args.id c.loop-made.made Store t
+    (g.met.B.Book.legal c.loop-made.book (with_events s t.events) t.stands_there.stands_there)
+    (c.in-Err.ensures.reason sound first later store)
+
+-- more steps were made than there is room for
+pub returns-clause-may_act : goal.returns-clause-may_act
+returns-clause-may_act g c =
+    λ sound first later s may on.
+    let t = c.loop-made.invariant.may_act sound first later s may on in
+    let within = t.within in
+    absurd (omega (arith, within, c.loop-made-test.false))

@@ -5,6 +5,8 @@ use Rattle.ledger.specs.Answer.{State}
 use Rattle.saga_core.specs.Books.{LeavesNoMore}
 use Rattle.ledger.specs.Ledger.{is_in}
 use Rattle.recovery.specs.Passes.{goes_on}
+use Rattle.saga_core.specs.Runs.{Asks}
+use Rattle.recovery.specs.Reasons.{MayRecover}
 use Rattle.recovery.proofs.CarriedOneLemmas.{OneSoFar}
 use Rattle.recovery.proofs.passes.carry_one.Given as goal
 
@@ -18,4 +20,7 @@ invariant-loop-made g l =
       carried : book.is_sound l.book → (s : State) → book.stands l.fn.book s
           → is_in (goes_on l.pass) s.ledger l.id ≡ true
           → OneSoFar l.pass (book.stands l.book) s l.id l.made;
+      may_act : book.is_sound l.book → (first : _) (later : Asks) (s : State) → MayRecover (book.stands l.fn.book) (book.may_act first l.fn.book) later s
+          → is_in (goes_on l.pass) s.ledger l.id ≡ true
+          → OneSoFar l.pass (MayRecover (book.stands l.book) (book.may_act first l.book) later) s l.id l.made;
     }

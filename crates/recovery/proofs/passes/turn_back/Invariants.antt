@@ -3,6 +3,8 @@ use Rattle.std.proofs.Common.{◌≤◌}
 use Rattle.std.specs.Prelude.{IsTrue}
 use Rattle.ledger.specs.Answer.{State}
 use Rattle.saga_core.specs.Books.{LeavesNoMore}
+use Rattle.saga_core.specs.Runs.{Asks}
+use Rattle.recovery.specs.Reasons.{MayRecover}
 use Rattle.recovery.proofs.TurnedLemmas.{TurnedSoFar}
 use Rattle.recovery.proofs.passes.turn_back.Given as goal
 
@@ -16,4 +18,6 @@ invariant-loop-round g l =
       stays_left : IsTrue (book.has_failed l.fn.book) → LeavesNoMore (book.leaves l.fn.book) (book.leaves l.book);
       turned : book.is_sound l.book → (s : State) → book.stands l.fn.book s
           → TurnedSoFar (book.stands l.book) s l.after l.made l._round;
+      may_act : book.is_sound l.book → (first : _) (later : Asks) (s : State) → MayRecover (book.stands l.fn.book) (book.may_act first l.fn.book) later s
+          → TurnedSoFar (MayRecover (book.stands l.book) (book.may_act first l.book) later) s l.after l.made l._round;
     }

@@ -1,7 +1,9 @@
 use Rattle.std.proofs.Common.{arith, subst, sym}
 use Rattle.ledger.specs.Answer.{start}
 use Rattle.ledger.specs.World.{after}
-use Rattle.recovery.specs.Growing.{with_events}
+use Rattle.recovery.specs.Growing.{Grew, with_events}
+use Rattle.recovery.specs.Reasons.{MayActThen}
+use Rattle.recovery.specs.Recovers.{AreRecovery}
 use Rattle.recovery.specs.Worlds.{EndsRecovered}
 use Rattle.recovery.proofs.RecoverLemmas.{recovery-finishes, recovery-within}
 use Rattle.recovery.proofs.WorldLemmas.{world-recovered, world-cut}
@@ -53,3 +55,12 @@ returns-in-Err-clause-world_at_fault g c =
     world-cut (g.B.Book.stands c.recover_all.new.book) (g.B.Book.leaves c.recover_all.new.book) w
     c.in-Err.fault here (g.met.B.Book.legal c.args.book s here.stands_there)
     (c.in-Err.ensures.fault sound s here.stands_there)
+
+-- the book may act for the later asks
+pub returns-in-Ok-clause-may_act : goal.returns-in-Ok-clause-may_act
+returns-in-Ok-clause-may_act g c =
+    λ sound first later s may.
+    let book = g.B.Book in
+    let moved = subst book.is_sound c.new.ensures.same sound in
+    subst (λ b. Grew (MayActThen (book.stands b) (book.may_act first b) later) (AreRecovery s.ledger) s c.in-Ok.made) (sym c.new.ensures.same)
+    (c.in-Ok.ensures.may_act moved first later s may)

@@ -6,6 +6,7 @@ use Rattle.ledger.specs.World.{after}
 use Rattle.saga_core.specs.Runs.{asked_by, asks_of, replies_to, state_after}
 use Rattle.saga_core.specs.Worlds.{KeepLimits}
 use Rattle.saga_core.proofs.RunLemmas.{IsAt, is_at, stops, replies_to-more, state_after-more}
+use Rattle.saga_core.proofs.ReasonLemmas.{acts_after_all, acts_more, fails_at}
 use Rattle.saga_core.proofs.RunEndLemmas.{KeepLimits-more, none-ran, run-ends}
 use Rattle.saga_core.proofs.WorldLemmas.{ends-with}
 use Rattle.saga_core.proofs.runs.run.Goals as goal
@@ -46,6 +47,23 @@ returns-in-Err-clause-world_at_fault g c =
     let book = g.B.Book in
     none-ran (book.stands c.args.book.now) (book.leaves c.args.book.now) w (asks_of c.args.commands.now)
     _ c.new.ensures.items (g.met.B.Book.settled c.args.book.now) here
+
+-- the command that failed had a reason
+pub returns-in-Err-act-clause-reason : goal.returns-in-Err-act-clause-reason
+returns-in-Err-act-clause-reason g c = λ sound first store s later may.
+    let was = c.act.ensures.sound sound in
+    let at = is_at c.args.commands.now c.loop-command.command-index c.loop-command-item.result (option_copied c.as_ref.result)
+    c.loop-command-test.true c.loop-command-item.is c.as_ref.ensures.value in
+    fails_at (g.B.Book.may_act first c.loop-command.book) (g.B.Book.may_act first c.act.new.self) (g.B.Book.has_reason first c.act.new.self)
+    s later c.in-Err-act.fault at (c.loop-command.invariant.may_act was first s later may) (c.in-Err-act.ensures.may_act sound first) store
+
+-- at the end the book may act for the later asks
+pub returns-clause-may_act : goal.returns-clause-may_act
+returns-clause-may_act g c = λ sound first s later may.
+    let past = c.loop-command-test.false in
+    let longer = length-map c.args.commands.now asked_by in
+    acts_after_all (g.B.Book.may_act first c.loop-command.book) s (asks_of c.args.commands.now) later c.loop-command.command-index
+    (omega (arith, past, longer)) (c.loop-command.invariant.may_act sound first s later may)
 
 -- at the end all commands were executed
 pub returns-clause-world : goal.returns-clause-world
@@ -88,4 +106,8 @@ loop-command-preserved g c =
           let now = c.loop-command.invariant.stands was s st in
           let went = c.in-Ok-act.ensures.after sound _ now in
           subst (g.B.Book.stands c.act.new.self) (sym (state_after-more s at)) went;
+      may_act = λ sound first s later may.
+          let was = c.act.ensures.sound sound in
+          acts_more (g.B.Book.may_act first c.loop-command.book) (g.B.Book.may_act first c.act.new.self) (g.B.Book.has_reason first c.act.new.self)
+          s later c.in-Ok-act.reply at (c.loop-command.invariant.may_act was first s later may) (c.in-Ok-act.ensures.may_act sound first);
     }

@@ -1,9 +1,9 @@
 -- The replies so far, and the state of the book, are those of the commands so far.
-use Rattle.std.proofs.Common.{◌≡◌, length, take}
-use Rattle.std.specs.Prelude.{vec_len, vec_capacity, IsTrue}
+use Rattle.std.proofs.Common.{◌≡◌, ◌++◌, length, take}
+use Rattle.std.specs.Prelude.{drop, vec_len, vec_capacity, IsTrue}
 use Rattle.ledger.specs.Answer.{State}
 use Rattle.saga_core.specs.Books.{LeavesNoMore}
-use Rattle.saga_core.specs.Runs.{asks_of, replies_to, state_after}
+use Rattle.saga_core.specs.Runs.{Asks, asks_of, replies_to, state_after}
 use Rattle.saga_core.specs.Worlds.{KeepLimits}
 use Rattle.saga_core.proofs.runs.run.Given as goal
 
@@ -21,4 +21,6 @@ invariant-loop-command g l =
           → l.replies.items ≡ replies_to s (take l.command-index (asks_of l.commands));
       stands : book.is_sound l.book → (s : State) → book.stands l.fn.book s
           → book.stands l.book (state_after s (take l.command-index (asks_of l.commands)));
+      may_act : book.is_sound l.book → (first : _) (s : State) (later : Asks) → book.may_act first l.fn.book s (asks_of l.commands ++ later)
+          → book.may_act first l.book (state_after s (take l.command-index (asks_of l.commands))) (drop l.command-index (asks_of l.commands) ++ later);
     }

@@ -3,8 +3,8 @@ use Rattle.std.proofs.Common.{IsTrue, subst, sym, ◌≡◌, ◌≤◌, ◌+◌,
 use Rattle.sqlite.specs.Held.{state}
 use Rattle.allotment.specs.Limits.{is_code}
 use Rattle.allotment.specs.Cells.{kind_number}
-use Rattle.allotment.specs.declared.kinds.Kind.{Kind}
-use Rattle.allotment.specs.declared.kinds.Kind.TheVariants.{Flight, Room, Transfer, Cover}
+use Rattle.allotment.specs.declared.codes.Kind.{Kind}
+use Rattle.allotment.specs.declared.codes.Kind.TheVariants.{Flight, Room, Transfer, Cover}
 use Rattle.desk_sql.specs.Causes.{HasReason}
 use Rattle.sql_writes.proofs.Permitting.{codes_short}
 use Rattle.desk_sql.proofs.Rowids.{rowids_fewer}

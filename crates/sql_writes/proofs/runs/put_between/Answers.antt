@@ -36,17 +36,17 @@ returns-then-are_new-clause-made g c clean t may live apart =
     let run = c.args.run.now in
     let first = c.args.first.now in
     let last = c.args.last.now in
-    let new = state g.S.Store c.add_all.new.tx.conn.now in
-    let at_mid : HasCleanDisk mid = omega (arith, c.add_all.ensures.survives.clean) in
+    let new = state g.S.Store c.add_run.new.tx.conn.now in
+    let at_mid : HasCleanDisk mid = omega (arith, c.add_run.ensures.survives.clean) in
     let given : Tables = sets_until (stock_row_of first) last.0.night t in
     let told : c.in_ok-known.known ≡ known_until (stock_row_of first) last.0.night t =
     subst (λ n. c.in_ok-known.known ≡ known_until (stock_row_of first) n t) c.night.ensures (c.in_ok-known.ensures.known at_mid t may) in
     let none : c.in_ok-known.known ≡ 0 = search rules in
     let made : Makes old mid given = subst (λ n. Makes old mid (sets_until (stock_row_of first) n t)) c.night.ensures (c.in_ok-known.ensures.made at_mid t may tt) in
-    subst (λ (u : Tables). OnOk c.add_all.result (Makes old new u))
+    subst (λ (u : Tables). OnOk c.add_run.result (Makes old new u))
     (added_given run first last c.requires.first c.requires.last c.requires.run t apart (sym told ∙ none))
-    (makes_last old mid new t (sets_until (stock_row_of first) last.0.night) (adds_each run) c.add_all.result made
-    (λ m. c.add_all.ensures.made clean given m made.is_open))
+    (makes_last old mid new t (sets_until (stock_row_of first) last.0.night) (adds_each run) c.add_run.result made
+    (λ m. c.add_run.ensures.made clean given m made.is_open))
 
 -- some had one: each is put
 pub returns-else-are_new-clause-made : goal.returns-else-are_new-clause-made
@@ -98,8 +98,8 @@ returns-then-are_new-clause-reason g c clean t may permits has up =
     let run = c.args.run.now in
     let first = c.args.first.now in
     let last = c.args.last.now in
-    let new = state g.S.Store c.add_all.new.tx.conn.now in
-    let at_mid : HasCleanDisk mid = omega (arith, c.add_all.ensures.survives.clean) in
+    let new = state g.S.Store c.add_run.new.tx.conn.now in
+    let at_mid : HasCleanDisk mid = omega (arith, c.add_run.ensures.survives.clean) in
     let given : Tables = sets_until (stock_row_of first) last.0.night t in
     let told : c.in_ok-known.known ≡ known_until (stock_row_of first) last.0.night t =
     subst (λ n. c.in_ok-known.known ≡ known_until (stock_row_of first) n t) c.night.ensures (c.in_ok-known.ensures.known at_mid t may) in
@@ -107,8 +107,8 @@ returns-then-are_new-clause-reason g c clean t may permits has up =
     let made : Makes old mid given = subst (λ n. Makes old mid (sets_until (stock_row_of first) n t)) c.night.ensures (c.in_ok-known.ensures.made at_mid t may tt) in
     let left = c.in_ok-known.ensures.rowids at_mid t may up.is_open tt (length run)
     (rowids_fewer (0 + length run) (length run) old.now.trees (omega arith) has) in
-    reason_last old mid new c.add_all.result c.set_places.ensures.survives
-    (c.add_all.ensures.reason clean given (runs_after old mid given made)
+    reason_last old mid new c.add_run.result c.set_places.ensures.survives
+    (c.add_run.ensures.reason clean given (runs_after old mid given made)
     (none_known run first last c.requires.first c.requires.last c.requires.run t permits.apart (sym told ∙ none)) left
     (up_after old mid given c.set_places.ensures.survives made up))
 
@@ -150,11 +150,11 @@ returns-then-are_new-clause-rowids g c clean t may live apart m has =
     let run = c.args.run.now in
     let first = c.args.first.now in
     let last = c.args.last.now in
-    let new = state g.S.Store c.add_all.new.tx.conn.now in
-    let at_mid : HasCleanDisk mid = omega (arith, c.add_all.ensures.survives.clean) in
+    let new = state g.S.Store c.add_run.new.tx.conn.now in
+    let at_mid : HasCleanDisk mid = omega (arith, c.add_run.ensures.survives.clean) in
     let given : Tables = sets_until (stock_row_of first) last.0.night t in
     let made : Makes old mid given = subst (λ n. Makes old mid (sets_until (stock_row_of first) n t)) c.night.ensures (c.in_ok-known.ensures.made at_mid t may tt) in
-    c.add_all.ensures.rowids clean given (runs_after old mid given made) made.is_open tt m
+    c.add_run.ensures.rowids clean given (runs_after old mid given made) made.is_open tt m
     (c.in_ok-known.ensures.rowids at_mid t may live tt (length run + m)
     (rowids_fewer (0 + (length run + m)) (length run + m) old.now.trees (omega arith) has))
 

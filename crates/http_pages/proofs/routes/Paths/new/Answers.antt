@@ -1,7 +1,7 @@
 -- Each path was added to those before it, so all paths of the table are there.
 use Rattle.std.proofs.Common.{◌∙◌, ap, codes}
 use Rattle.http_pages.specs.Routes.{routes, get, post, with_line}
-use Rattle.http_pages.specs.declared.places.Place.TheVariants as place
+use Rattle.http_pages.specs.declared.routes.Place.TheVariants as place
 use Rattle.http_pages.proofs.routes.Paths.new.Goals as goal
 
 -- the paths are added one after another, to none at first

@@ -5,7 +5,7 @@ use Rattle.desk_sql.specs.Stock.{stock_of}
 use Rattle.desk_sql.specs.RemainingRows.{Hands}
 use Rattle.sql_lists.specs.CellLists.{CellsRest}
 use Rattle.sql_reads.proofs.HandedTold.{left_by}
-use Rattle.sql_reads.proofs.HandedStock.{cell_first, cell_none}
+use Rattle.report_rows.proofs.HandedStock.{cell_first, cell_none}
 use Rattle.commands.specs.declared.replies.Fault.TheVariants.{Store}
 use Rattle.sqlite.specs.Held.{state}
 use Rattle.sql_model.specs.Reading.{stock_row_of}

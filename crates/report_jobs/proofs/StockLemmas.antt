@@ -1,0 +1,302 @@
+-- The cells that are asked for, kind after kind, are those that are asked for; and the parts of their report are the report.
+-- For `write_stock`.
+use Rattle.std.proofs.Common.{◌≡◌, ◌≢◌, ◌⊎◌, inl, inr, ℕ, suc, ◌+◌, ◌<◌, ◌≤◌, ◌==◌, ◌&&◌, List, [], ◌∷◌, ◌++◌, filter, cond, length, Bool, true, false, Option, Ordering, Less, Equal, Greater, is_lt, nat_cmp, refl, sym, ap, ap₂, subst, ◌∙◌, arith, append_assoc, eqb-true}
+use Rattle.std.specs.Prelude.{codes, nat_le}
+use Rattle.std.specs.List.{AllByRecursion, flat_map}
+use Rattle.std.specs.Ordering.{ordering_then}
+use Rattle.std.specs.Io.KnownBytes.{Appends}
+use Rattle.std.proofs.lemmas.Bool.{and_parts}
+use Rattle.std.proofs.lemmas.Bool.Decides.{nat_tests}
+use Rattle.sqlite_rules.specs.Lists.{Has}
+use Rattle.sqlite_rules.proofs.ListLemmas.{all_from, test_has}
+use Rattle.sqlite_trees.specs.Tree.{IsAscending}
+use Rattle.allotment.specs.Cells.{kind_number}
+use Rattle.allotment.specs.declared.cells.Cell.{Cell}
+use Rattle.allotment.specs.declared.codes.Kind.{Kind}
+use Rattle.allotment.specs.declared.codes.Kind.TheVariants.{Flight, Room, Transfer, Cover}
+use Rattle.allotment.specs.declared.places.Held.{Held as Places}
+use Rattle.filters.specs.CellFilters.{is_cell_asked, is_cell_of, is_kind_asked, is_name_asked, is_night_asked}
+use Rattle.filters.specs.declared.cells.CellFilter.{CellFilter}
+use Rattle.reports.specs.Formats.{last_line, stock_head, stock_in, stock_row}
+use Rattle.reports.specs.declared.formats.Format.{Format}
+use Rattle.reports.proofs.FrontLemmas.{front_after, front_before}
+use Rattle.saga_core.specs.Views.{are_in_order, cell_cmp}
+use Rattle.streams.specs.Written.{WroteFront}
+use Rattle.streams.proofs.ByteLemmas.{appends_more}
+use Rattle.report_jobs.specs.Reporting.{asked_cells, cells_of_kind}
+
+-- Parts of a text.
+
+-- the text up to this rest was written
+pub record WroteUpTo (held now : Option (List ℕ)) (rest text : List ℕ) : Type 0 where
+  pub done : List ℕ
+  pub sent : Appends held now done
+  pub whole : text ≡ done ++ rest
+
+module _ (held : Option (List ℕ)) (text : List ℕ) where
+  -- one more part was written
+  pub one_more : (mid now : Option (List ℕ)) (part rest : List ℕ) → WroteUpTo held mid (part ++ rest) text → Appends mid now part
+      → WroteUpTo held now rest text
+  one_more mid now part rest at sent = record {
+    done = at.done ++ part;
+    sent = appends_more held mid now at.done part at.sent sent;
+    whole = at.whole ∙ sym (append_assoc at.done part rest);
+  }
+
+  -- of one more part a prefix was written
+  pub broken_off : (mid now : Option (List ℕ)) (part rest : List ℕ) → WroteUpTo held mid (part ++ rest) text → WroteFront mid now part
+      → WroteFront held now text
+  broken_off mid now part rest at front =
+      subst (WroteFront held now) (sym at.whole) (front_after held mid now at.done (part ++ rest) at.sent (front_before mid now part rest front))
+
+-- Kinds.
+
+-- the cells of the list are in order of their kinds
+by_kind : (a b : ℕ) (rest : Ordering) → is_lt (ordering_then (nat_cmp a b) rest) ≡ true → a ≤ b
+by_kind a b rest e = go (nat_cmp a b) refl e
+  where
+    go : (o : Ordering) → nat_cmp a b ≡ o → is_lt (ordering_then o rest) ≡ true → a ≤ b
+    go Less f g = grind (arith, nat_tests, f)
+    go Equal f g = grind (arith, nat_tests, f)
+    go Greater f g = absurd (cc)
+
+abbrev key : Cell × Places → ℕ
+key r = kind_number r.0.kind
+
+kinds_rise : (rows : List (Cell × Places)) → are_in_order rows ≡ true → IsAscending (λ (a b : Cell × Places). key a ≤ key b) rows
+kinds_rise [] e = tt
+kinds_rise (r ∷ later) e =
+    let both = and_parts _ _ e in (
+      all_from (λ (s : Cell × Places). key r ≤ key s) later
+          (λ s h. by_kind (key r) (key s) _ (test_has (λ (s : Cell × Places). is_lt (cell_cmp r.0 s.0)) later s both.0 h)),
+      kinds_rise later both.1,
+    )
+
+-- tests that agree on each element keep the same
+filter_same : {X : Type 0} (p q : X → Bool) (xs : List X) → ((x : X) → p x ≡ q x) → filter p xs ≡ filter q xs
+filter_same p q [] same = refl
+filter_same p q (x ∷ xs) same = ap₂ (λ b more. cond b (x ∷ more) more) (same x) (filter_same p q xs same)
+
+and_false : (b : Bool) → (b && false) ≡ false
+and_false true = refl
+and_false false = refl
+
+and_true : (b : Bool) → (b && true) ≡ b
+and_true true = refl
+and_true false = refl
+
+module _ (p : Cell × Places → Bool) where
+  -- those of a kind's number, and those from it on
+  abbrev of_kind : ℕ → Cell × Places → Bool
+  of_kind n r = p r && (key r == n)
+
+  abbrev from : ℕ → Cell × Places → Bool
+  from n r = p r && nat_le n (key r)
+
+  none_of : (n : ℕ) (rows : List (Cell × Places)) → AllByRecursion (λ (r : Cell × Places). n < key r) rows → filter (of_kind n) rows ≡ []
+  none_of n [] all = refl
+  none_of n (r ∷ rows) all =
+      let above : n < key r = all.0 in
+      let no : of_kind n r ≡ false = ap (λ b. p r && b) (let e : (key r == n) ≡ false = grind (arith, nat_tests, above) in e) ∙ and_false (p r) in
+      ap (λ b. cond b (r ∷ filter (of_kind n) rows) (filter (of_kind n) rows)) no ∙ none_of n rows all.1
+
+  all_above : (n : ℕ) (r : Cell × Places) (rows : List (Cell × Places)) → n < key r
+      → AllByRecursion (λ (s : Cell × Places). key r ≤ key s) rows → AllByRecursion (λ (s : Cell × Places). n < key s) rows
+  all_above n r [] low all = tt
+  all_above n r (s ∷ rows) low all = (let up : key r ≤ key s = all.0 in omega (arith, low, up), all_above n r rows low all.1)
+
+  split : (n : ℕ) (rows : List (Cell × Places)) → IsAscending (λ (a b : Cell × Places). key a ≤ key b) rows
+      → filter (from n) rows ≡ filter (of_kind n) rows ++ filter (from (suc n)) rows
+  split n [] up = refl
+  split n (r ∷ rows) up = go (split n rows up.1) (nat_cmp (key r) n) refl
+    where
+      -- which tests the first one passes
+      shape : (a b c : Bool) → from n r ≡ a → of_kind n r ≡ b → from (suc n) r ≡ c
+          → cond a (r ∷ filter (from n) rows) (filter (from n) rows)
+          ≡ cond b (r ∷ filter (of_kind n) rows) (filter (of_kind n) rows) ++ cond c (r ∷ filter (from (suc n)) rows) (filter (from (suc n)) rows)
+          → filter (from n) (r ∷ rows) ≡ filter (of_kind n) (r ∷ rows) ++ filter (from (suc n)) (r ∷ rows)
+      shape a b c one two three same =
+          ap (λ t. cond t (r ∷ filter (from n) rows) (filter (from n) rows)) one ∙ same
+          ∙ sym (ap₂ ◌++◌ (ap (λ t. cond t (r ∷ filter (of_kind n) rows) (filter (of_kind n) rows)) two)
+          (ap (λ t. cond t (r ∷ filter (from (suc n)) rows) (filter (from (suc n)) rows)) three))
+
+      here : (b : Bool) → filter (from n) rows ≡ filter (of_kind n) rows ++ filter (from (suc n)) rows
+          → cond b (r ∷ filter (from n) rows) (filter (from n) rows)
+          ≡ cond b (r ∷ filter (of_kind n) rows) (filter (of_kind n) rows) ++ filter (from (suc n)) rows
+      here true rest = ap (λ more. r ∷ more) rest
+      here false rest = rest
+
+      later : filter (of_kind n) rows ≡ [] → (b : Bool) → filter (from n) rows ≡ filter (of_kind n) rows ++ filter (from (suc n)) rows
+          → cond b (r ∷ filter (from n) rows) (filter (from n) rows)
+          ≡ filter (of_kind n) rows ++ cond b (r ∷ filter (from (suc n)) rows) (filter (from (suc n)) rows)
+      later none true rest = ap (λ more. r ∷ more) (rest ∙ ap (λ f. f ++ filter (from (suc n)) rows) none)
+          ∙ sym (ap (λ f. f ++ (r ∷ filter (from (suc n)) rows)) none)
+      later none false rest = rest
+
+      go : filter (from n) rows ≡ filter (of_kind n) rows ++ filter (from (suc n)) rows → (o : Ordering) → nat_cmp (key r) n ≡ o
+          → filter (from n) (r ∷ rows) ≡ filter (of_kind n) (r ∷ rows) ++ filter (from (suc n)) (r ∷ rows)
+      go rest Less f =
+          let low : key r < n = grind (arith, nat_tests, f) in
+          shape false false false
+          (ap (λ b. p r && b) (let e : nat_le n (key r) ≡ false = grind (arith, nat_tests, low) in e) ∙ and_false (p r))
+          (ap (λ b. p r && b) (let e : (key r == n) ≡ false = grind (arith, nat_tests, low) in e) ∙ and_false (p r))
+          (ap (λ b. p r && b) (let e : nat_le (suc n) (key r) ≡ false = grind (arith, nat_tests, low) in e) ∙ and_false (p r))
+          rest
+      go rest Equal f =
+          let same : key r ≡ n = grind (arith, nat_tests, f) in
+          shape (p r) (p r) false
+          (ap (λ b. p r && b) (let e : nat_le n (key r) ≡ true = grind (arith, nat_tests, same) in e) ∙ and_true (p r))
+          (ap (λ b. p r && b) (let e : (key r == n) ≡ true = grind (arith, nat_tests, same) in e) ∙ and_true (p r))
+          (ap (λ b. p r && b) (let e : nat_le (suc n) (key r) ≡ false = grind (arith, nat_tests, same) in e) ∙ and_false (p r))
+          (here (p r) rest)
+      go rest Greater f =
+          let high : n < key r = grind (arith, nat_tests, f) in
+          shape (p r) false (p r)
+          (ap (λ b. p r && b) (let e : nat_le n (key r) ≡ true = grind (arith, nat_tests, high) in e) ∙ and_true (p r))
+          (ap (λ b. p r && b) (let e : (key r == n) ≡ false = grind (arith, nat_tests, high) in e) ∙ and_false (p r))
+          (ap (λ b. p r && b) (let e : nat_le (suc n) (key r) ≡ true = grind (arith, nat_tests, high) in e) ∙ and_true (p r))
+          (later (none_of n rows (all_above n r rows high up.0)) (p r) rest)
+
+  all_from_none : (r : Cell × Places) → p r ≡ from 0 r
+  all_from_none r = sym (ap (λ b. p r && b) (let e : nat_le 0 (key r) ≡ true = grind (arith, nat_tests) in e) ∙ and_true (p r))
+
+  none_from_four : (rows : List (Cell × Places)) → filter (from 4) rows ≡ []
+  none_from_four [] = refl
+  none_from_four (r ∷ rows) =
+      ap (λ b. cond b (r ∷ filter (from 4) rows) (filter (from 4) rows)) (ap (λ b. p r && b) (low r.0.kind) ∙ and_false (p r)) ∙ none_from_four rows
+    where
+      low : (kind : Kind) → nat_le 4 (kind_number kind) ≡ false
+      low Flight = refl
+      low Room = refl
+      low Transfer = refl
+      low Cover = refl
+
+-- the cells that are asked for are those of the four kinds, one after another
+pub by_kinds : (f : CellFilter) (rows : List (Cell × Places)) → are_in_order rows ≡ true
+    → asked_cells f rows
+    ≡ cells_of_kind Flight f rows ++ (cells_of_kind Room f rows ++ (cells_of_kind Transfer f rows ++ cells_of_kind Cover f rows))
+by_kinds f rows order =
+    let p : Cell × Places → Bool = λ r. is_cell_asked f r.0 in
+    let up = kinds_rise rows order in
+    filter_same p (from p 0) rows (all_from_none p)
+    ∙ split p 0 rows up
+    ∙ ap (λ more. filter (of_kind p 0) rows ++ more) (split p 1 rows up
+    ∙ ap (λ more. filter (of_kind p 1) rows ++ more) (split p 2 rows up
+    ∙ ap (λ more. filter (of_kind p 2) rows ++ more) (split p 3 rows up
+    ∙ ap (λ more. filter (of_kind p 3) rows ++ more) (none_from_four p rows) ∙ append_none _)))
+  where
+    append_none : {X : Type 0} (xs : List X) → xs ++ [] ≡ xs
+    append_none [] = refl
+    append_none (x ∷ xs) = ap (λ more. x ∷ more) (append_none xs)
+
+flat_append : {X : Type 0} (f : X → List ℕ) (xs ys : List X) → flat_map f (xs ++ ys) ≡ flat_map f xs ++ flat_map f ys
+flat_append f [] ys = refl
+flat_append f (x ∷ xs) ys = ap (λ more. f x ++ more) (flat_append f xs ys) ∙ sym (append_assoc (f x) (flat_map f xs) (flat_map f ys))
+
+length_append : {X : Type 0} (xs ys : List X) → length (xs ++ ys) ≡ length xs + length ys
+length_append [] ys = let e : length ys ≡ 0 + length ys = omega arith in e
+length_append (x ∷ xs) ys =
+    let rest = length_append xs ys in
+    let e : suc (length (xs ++ ys)) ≡ suc (length xs) + length ys = omega (arith, rest) in e
+
+-- the report in its parts
+pub in_parts : (format : Format) (a b c d all : List (Cell × Places)) → all ≡ a ++ (b ++ (c ++ d))
+    → stock_in format all
+    ≡ stock_head format
+    ++ (flat_map (stock_row format) a ++ (flat_map (stock_row format) b ++ (flat_map (stock_row format) c ++ (flat_map (stock_row format) d
+    ++ last_line format (codes "cells") (length all)))))
+in_parts format a b c d all is =
+    let f = stock_row format in
+    let ending = last_line format (codes "cells") (length all) in
+    let rows : flat_map f all ≡ flat_map f a ++ (flat_map f b ++ (flat_map f c ++ flat_map f d)) =
+    ap (flat_map f) is ∙ flat_append f a (b ++ (c ++ d))
+    ∙ ap (λ more. flat_map f a ++ more) (flat_append f b (c ++ d) ∙ ap (λ more. flat_map f b ++ more) (flat_append f c d)) in
+    ap (λ t. stock_head format ++ t ++ ending) rows ∙ simp append_assoc
+
+-- so many cells there are
+pub count_of : (a b c d all : List (Cell × Places)) (na nb nc nd : ℕ) → all ≡ a ++ (b ++ (c ++ d)) → na ≡ length a + 0 → nb ≡ length b + na
+    → nc ≡ length c + nb → nd ≡ length d + nc → nd ≡ length all
+count_of a b c d all na nb nc nd is one two three four =
+    let sum : length all ≡ length a + (length b + (length c + length d)) =
+    ap length is ∙ length_append a (b ++ (c ++ d)) ∙ ap (λ n. length a + n) (length_append b (c ++ d) ∙ ap (λ n. length b + n) (length_append c d)) in
+    omega (arith, sum, one, two, three, four)
+
+-- The report of these cells, kind after kind.
+module _ (held : Option (List ℕ)) (format : Format) (f : CellFilter) (rows : List (Cell × Places)) (order : are_in_order rows ≡ true) where
+  abbrev pub lines_of : Kind → List ℕ
+  lines_of kind = flat_map (stock_row format) (cells_of_kind kind f rows)
+
+  abbrev pub text : List ℕ
+  text = stock_in format (asked_cells f rows)
+
+  -- what comes last, and what comes after each kind
+  abbrev pub ending : List ℕ
+  ending = last_line format (codes "cells") (length (asked_cells f rows))
+
+  abbrev pub after_transfers : List ℕ
+  after_transfers = lines_of Cover ++ ending
+
+  abbrev pub after_rooms : List ℕ
+  after_rooms = lines_of Transfer ++ after_transfers
+
+  abbrev pub after_flights : List ℕ
+  after_flights = lines_of Room ++ after_rooms
+
+  abbrev pub after_head : List ℕ
+  after_head = lines_of Flight ++ after_flights
+
+  parts : text ≡ stock_head format ++ after_head
+  parts =
+      in_parts format (cells_of_kind Flight f rows) (cells_of_kind Room f rows) (cells_of_kind Transfer f rows) (cells_of_kind Cover f rows)
+      (asked_cells f rows) (by_kinds f rows order)
+
+  pub head_written : (now : Option (List ℕ)) → Appends held now (stock_head format) → WroteUpTo held now after_head text
+  head_written now sent = record { done = stock_head format; sent = sent; whole = parts }
+
+  pub head_begun : (now : Option (List ℕ)) → WroteFront held now (stock_head format) → WroteFront held now text
+  head_begun now front = subst (WroteFront held now) (sym parts) (front_before held now (stock_head format) after_head front)
+
+  -- a prefix of the ending was written
+  pub ending_begun : (mid now : Option (List ℕ)) → WroteUpTo held mid ending text → WroteFront mid now ending → WroteFront held now text
+  ending_begun mid now at front = subst (WroteFront held now) (sym at.whole) (front_after held mid now at.done ending at.sent front)
+
+  -- the ending was written too
+  pub all_written : (mid now : Option (List ℕ)) → WroteUpTo held mid ending text → Appends mid now ending → Appends held now text
+  all_written mid now at sent = subst (Appends held now) (sym at.whole) (appends_more held mid now at.done ending at.sent sent)
+
+-- The cells of one kind.
+
+-- a cell is of the kind and asked for where it is of the kind, the kind is asked for, and its other values are
+kind_same : (kind : Kind) (f : CellFilter) (x : Cell) (b : Bool) → (kind_number x.kind == kind_number kind) ≡ b
+    → (is_cell_asked f x && b)
+    ≡ (is_kind_asked f.kind (kind_number kind)
+    && (b && (is_name_asked f.supplier x.supplier && (is_name_asked f.product x.product && is_night_asked f.from f.to x.night))))
+kind_same kind f x true e =
+    let same : kind_number x.kind ≡ kind_number kind = eqb-true _ _ e in
+    and_true _ ∙ ap (λ n. is_kind_asked f.kind n && (is_name_asked f.supplier x.supplier && (is_name_asked f.product x.product && is_night_asked f.from f.to x.night))) same
+kind_same kind f x false e = and_false _ ∙ sym (and_false _)
+
+each_same : (kind : Kind) (f : CellFilter) (r : Cell × Places)
+    → (is_cell_asked f r.0 && (kind_number r.0.kind == kind_number kind)) ≡ (is_kind_asked f.kind (kind_number kind) && is_cell_of kind f r.0)
+each_same kind f r = kind_same kind f r.0 (kind_number r.0.kind == kind_number kind) refl
+
+-- the kind is asked for
+pub kind_asked : (kind : Kind) (f : CellFilter) (rows : List (Cell × Places)) → is_kind_asked f.kind (kind_number kind) ≡ true
+    → cells_of_kind kind f rows ≡ filter (λ (r : Cell × Places). is_cell_of kind f r.0) rows
+kind_asked kind f rows e =
+    filter_same _ (λ (r : Cell × Places). is_cell_of kind f r.0) rows (λ r. each_same kind f r ∙ ap (λ b. b && is_cell_of kind f r.0) e)
+
+-- it is not: there is no such cell
+pub kind_passed : (kind : Kind) (f : CellFilter) (rows : List (Cell × Places)) → is_kind_asked f.kind (kind_number kind) ≡ false
+    → cells_of_kind kind f rows ≡ []
+kind_passed kind f rows e =
+    filter_same _ (λ _. false) rows (λ r. each_same kind f r ∙ ap (λ b. b && is_cell_of kind f r.0) e) ∙ none rows
+  where
+    none : {X : Type 0} (xs : List X) → filter (λ _. false) xs ≡ []
+    none [] = refl
+    none (x ∷ xs) = none xs
+
+-- each cell is asked for
+pub asked_all : (f : CellFilter) (rows : List (Cell × Places)) → ((cell : Cell) → is_cell_asked f cell ≡ true) → asked_cells f rows ≡ rows
+asked_all f [] each = refl
+asked_all f (r ∷ rows) each = ap₂ (λ b more. cond b (r ∷ more) more) (each r.0) (asked_all f rows each)

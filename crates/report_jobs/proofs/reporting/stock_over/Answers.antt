@@ -1,0 +1,13 @@
+-- An opening that failed wrote nothing; one that did not found the state that was represented.
+use Rattle.report_jobs.specs.Reporting.{IsDeskIn}
+use Rattle.report_jobs.proofs.ReportLemmas.{reported_none}
+use Rattle.report_jobs.proofs.reporting.stock_over.Goals as goal
+
+pub returns-clause-told : goal.returns-clause-told
+returns-clause-told g c clean v s was rows stock =
+    let is : IsDeskIn g.S.Store c.in-Ok.opened s =
+    record { desk = was.desk; keeps = λ at. c.in-Ok.ensures.finds at v s was.stood } in
+    c.tell_stock-end.ensures.told (c.into_store.ensures.sound clean) s is rows stock
+
+pub returns-in-Err-clause-told : goal.returns-in-Err-clause-told
+returns-in-Err-clause-told g c clean v s was rows stock = reported_none _ _ _ c.end_of_opening.ensures.bad

@@ -1,0 +1,24 @@
+-- The cells that are read are those that the filter lets through.
+use Rattle.std.proofs.Common.{◌≡◌, ap, filter, rules, sym, subst}
+use Rattle.std.specs.Prelude.{IfOk}
+use Rattle.sqlite.specs.Held.{state}
+use Rattle.sqlite.specs.State.{HasCleanDisk}
+use Rattle.allotment.specs.declared.cells.Cell.{Cell}
+use Rattle.allotment.specs.declared.places.Held.{Held as Places}
+use Rattle.filters.specs.CellFilters.{is_cell_of}
+use Rattle.report_jobs.proofs.WhyLemmas.{nights-asked}
+use Rattle.report_jobs.proofs.whys.nights_of.Goals as goal
+
+pub returns-clause-nights : goal.returns-clause-nights
+returns-clause-nights g c clean v s desk keeps rows stock =
+    let stayed = c.nights_left.ensures.kept in
+    -- the connection is the one that the rows give back when they are let go
+    let read : HasCleanDisk (state g.S.Store c.nights_left.new.rows.conn.now) = search rules in
+    let w = c.args.want.now in
+    let f = c.filter_of-filter.result in
+    let asked = filter (λ (r : Cell × Places). is_cell_of w.kind f r.0) rows in
+    let rest = c.in-Ok.ensures.rows v (stayed.left.reads.less read) s desk keeps asked
+    (rows, stock, ap (λ k. filter (λ (r : Cell × Places). is_cell_of k f r.0) rows) (sym c.kind.ensures.kind)) in
+    subst (λ ns. IfOk c.nights_left.result (λ nights. nights.items ≡ ns))
+    (nights-asked s.ledger w f rows stock c.filter_of-filter.ensures.lets)
+    (c.nights_left.ensures.nights read asked rest)

@@ -1,0 +1,32 @@
+-- A journey that is there is reported, and one that is absent is refused.
+use Rattle.std.proofs.Common.{◌≡◌, ◌∙◌, sym, subst}
+use Rattle.std.specs.Prelude.{Some}
+use Rattle.sqlite.specs.Held.{state}
+use Rattle.saga_core.specs.Views.{record_of}
+use Rattle.tables.specs.Keeping.{KeepsIn}
+use Rattle.report_jobs.specs.Reporting.{IsDeskIn}
+use Rattle.report_jobs.proofs.WhyLemmas.{absent_why, failed_why, reported_why}
+use Rattle.report_jobs.proofs.whys.tell_why.Goals as goal
+
+pub returns-in-Ok-Some-clause-told : goal.returns-in-Ok-Some-clause-told
+returns-in-Ok-Some-clause-told g c clean s is rows stock =
+    let mid = c.journey_of.new.self in
+    let told = c.in-Ok-Some.ensures.journey (c.write_why.ensures.kept.left.reads.less clean) s is.desk is.keeps in
+    let found : record_of s.ledger c.args.id ≡ Some c.in-Ok-Some.journey = sym told ∙ c.in-Ok-Some.field-0-is in
+    let here : IsDeskIn g.S.Store mid s =
+    record {
+      desk = is.desk;
+      keeps =
+          subst (λ v. KeepsIn v (state g.S.Store mid.conn) s) (sym c.journey_of.ensures.version)
+          (c.journey_of.ensures.same c.args.opened.now.version s is.keeps);
+    } in
+    reported_why _ _ c.args.format c.args.id s c.in-Ok-Some.journey c.write_why.result _ found c.from.ensures
+    (c.write_why.ensures.told clean s here found rows stock)
+
+pub returns-in-Ok-None-clause-told : goal.returns-in-Ok-None-clause-told
+returns-in-Ok-None-clause-told g c clean s is rows stock =
+    let told = c.in-Ok-None.ensures.journey clean s is.desk is.keeps in
+    absent_why _ c.args.format c.args.id s (sym told ∙ c.in-Ok-None.field-0-is)
+
+pub returns-in-Err-clause-told : goal.returns-in-Err-clause-told
+returns-in-Err-clause-told g c clean s is = failed_why _ c.args.format c.args.id _ s

@@ -1,0 +1,18 @@
+-- An opening that failed wrote nothing; one that did not found the state that was represented.
+use Rattle.std.proofs.Common.{sym, subst}
+use Rattle.report_jobs.specs.Reporting.{IsDeskIn}
+use Rattle.report_jobs.specs.Whys.{ReportsWhy}
+use Rattle.report_jobs.proofs.WhyLemmas.{unopened_why}
+use Rattle.report_jobs.proofs.whys.why_over.Goals as goal
+
+pub returns-clause-told : goal.returns-clause-told
+returns-clause-told g c clean v s was rows stock =
+    let is : IsDeskIn g.S.Store c.in-Ok.opened s =
+    record { desk = was.desk; keeps = λ at. c.in-Ok.ensures.finds at v s was.stood } in
+    c.tell_why-end.ensures.told (c.into_store.ensures.sound clean) s is rows stock
+
+pub returns-in-Err-clause-told : goal.returns-in-Err-clause-told
+returns-in-Err-clause-told g c clean v s was =
+    let held = g.O.Write.contents c.args.out.now in
+    subst (λ e. ReportsWhy held held c.args.format c.args.id e s) (sym c.end_of_opening.ensures.end)
+    (unopened_why g.S.Store c.args.conn c.in-Err.conn held c.args.format c.args.id c.in-Err.fault v s c.in-Err.ensures.told clean was.stood)

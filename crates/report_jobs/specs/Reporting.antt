@@ -1,0 +1,108 @@
+-- What the reports write of a desk, and when that is known.
+use Rattle.std.specs.Prelude.{◌≡◌, ◌==◌, ◌&&◌, ◌+◌, ⊤, ℕ, false, List, filter, length, Option, None, Some, Result, IfOk, OnOk}
+use Rattle.std.specs.List.{flat_map}
+use Rattle.std.specs.Io.KnownBytes.{Appends, Keeps}
+use Rattle.sqlite.specs.Store.{Ghosts}
+use Rattle.allotment.specs.Cells.{kind_number}
+use Rattle.allotment.specs.declared.cells.Cell.{Cell}
+use Rattle.allotment.specs.declared.codes.Kind.{Kind}
+use Rattle.allotment.specs.declared.places.Held.{Held as Places}
+use Rattle.commands.specs.declared.items.Item.{Item}
+use Rattle.commands.specs.declared.replies.Refusal.TheVariants as refusal
+use Rattle.ledger.specs.Answer.{State}
+use Rattle.ledger.specs.Ledger.{history}
+use Rattle.filters.specs.CellFilters.{is_cell_asked}
+use Rattle.filters.specs.JourneyFilters.{asked_of}
+use Rattle.filters.specs.declared.cells.CellFilter.{CellFilter}
+use Rattle.filters.specs.declared.journeys.JourneyFilter.{JourneyFilter}
+use Rattle.saga_core.specs.Views.{IsStock, record_of}
+use Rattle.saga_core.specs.declared.records.Record.{Record}
+use Rattle.reports.specs.Formats.{history_in, journeys_in, stock_in, stock_row}
+use Rattle.reports.specs.declared.formats.Format.{Format}
+use Rattle.reports.specs.declared.formats.JourneyReport.{JourneyReport}
+use Rattle.month_reports.specs.MonthReports.{asked_months, months_in}
+use Rattle.month_reports.specs.declared.by_month.MonthReport.{MonthReport}
+use Rattle.streams.specs.Written.{WroteFront}
+use Rattle.sql_model.specs.Standing.{IsDesk}
+use Rattle.report_rows.specs.declared.progress.Progress.{Progress}
+use Rattle.tables.specs.Lending.{OpenedKeeps}
+use Rattle.tables.specs.declared.opening.Opened.{Opened}
+use Rattle.program_ends.specs.declared.ends.End.{End}
+use Rattle.program_ends.specs.declared.ends.End.TheVariants as finish
+use Rattle.program_ends.specs.declared.faults.ProgramFault.{ProgramFault}
+use Rattle.program_ends.specs.Ends.{IfDone}
+
+module _ {S : Type 0} (g : Ghosts S) where
+  -- what was opened keeps this state of a desk
+  pub record IsDeskIn (o : Opened S) (s : State) : Type 0 where
+    pub desk : IsDesk s
+    pub keeps : OpenedKeeps g o s
+
+-- a journey that is there is not refused
+abbrev pub IsNotRefused : End → Type 0
+IsNotRefused (finish.Refused why) = ⊥
+IsNotRefused _ = ⊤
+
+-- the cells that are asked for, with their places
+abbrev pub asked_cells : CellFilter → List (Cell × Places) → List (Cell × Places)
+asked_cells f rows = filter (λ (r : Cell × Places). is_cell_asked f r.0) rows
+
+-- those of one kind
+abbrev pub cells_of_kind : Kind → CellFilter → List (Cell × Places) → List (Cell × Places)
+cells_of_kind kind f rows =
+    filter (λ (r : Cell × Places). is_cell_asked f r.0 && (kind_number r.0.kind == kind_number kind)) rows
+
+module _ (held holds : Option (List ℕ)) where
+  -- a prefix of the text was written, and the whole text if there was no fault
+  pub record WritesText (text : List ℕ) {T : Type 0} (result : Result T ProgramFault) : Type 0 where
+    pub whole : OnOk result (Appends held holds text)
+    pub front : WroteFront held holds text
+
+  -- a prefix of the text was written, and the whole text if all was done
+  pub record ReportsText (text : List ℕ) (e : End) : Type 0 where
+    pub whole : IfDone e (Appends held holds text)
+    pub front : WroteFront held holds text
+
+  -- the lines of these cells were written and counted after those before, or a prefix of them
+  pub record WritesCells (format : Format) (cells : List (Cell × Places)) (before : Progress)
+      (result : Result Progress ProgramFault) : Type 0 where
+    pub whole : OnOk result (Appends held holds (flat_map (stock_row format) cells))
+    pub front : WroteFront held holds (flat_map (stock_row format) cells)
+    pub going : IfOk result (λ p. p.failed ≡ false)
+    pub counted : IfOk result (λ p. p.given ≡ length cells + before.given)
+
+  -- the report of the places of each cell that has an allotment and is asked for
+  abbrev pub ReportsStock : Format → CellFilter → End → State → Type 0
+  ReportsStock format f e s =
+      (rows : List (Cell × Places)) → IsStock s.ledger rows
+      → ReportsText (stock_in format (asked_cells f rows)) e
+
+  -- the report by month of those cells
+  abbrev pub ReportsMonths : MonthReport → CellFilter → End → State → Type 0
+  ReportsMonths report f e s =
+      (rows : List (Cell × Places)) → IsStock s.ledger rows
+      → ReportsText (months_in report (asked_months f rows)) e
+
+  -- the report of the journeys that are asked for, in order of number
+  abbrev pub WritesJourneys : {T : Type 0} → JourneyReport → Format → JourneyFilter
+      → Result T ProgramFault → State → Type 0
+  WritesJourneys name format f result s = WritesText (journeys_in name format (asked_of f s.ledger)) result
+
+  abbrev pub ReportsJourneys : JourneyReport → Format → JourneyFilter → End → State → Type 0
+  ReportsJourneys name format f e s = ReportsText (journeys_in name format (asked_of f s.ledger)) e
+
+  -- nothing was written, and the end is that there is no such journey, or a fault
+  abbrev pub ReportsNone : End → Type 0
+  ReportsNone finish.Done = ⊥
+  ReportsNone (finish.Refused why) = (why ≡ refusal.NoJourney) × Keeps held holds
+  ReportsNone _ = Keeps held holds
+
+  -- the report of the history of a journey, if there is one of this number
+  abbrev pub ReportsJourney : Format → ℕ → List Item → Option Record → End → Type 0
+  ReportsJourney format id items None e = ReportsNone e
+  ReportsJourney format id items (Some journey) e =
+      IsNotRefused e × ReportsText (history_in format id journey items) e
+
+  abbrev pub ReportsHistory : Format → ℕ → End → State → Type 0
+  ReportsHistory format id e s =
+      ReportsJourney format id (history s.ledger id) (record_of s.ledger id) e

@@ -1,0 +1,123 @@
+//! The report of the holders of a cell, of a desk that is not recovered.
+ghost use Rattle.std.specs.Prelude.{◌≡◌, false, None, List};
+ghost use Rattle.sqlite.specs.Held.{state};
+ghost use Rattle.sqlite.specs.State.{HasCleanDisk};
+ghost use Rattle.desk_sql.specs.declared.versions.Version.{Version};
+ghost use Rattle.holder_reports.specs.Holders.{holders_of};
+ghost use Rattle.holder_reports.specs.Layouts.{holders_in};
+ghost use Rattle.holder_reports.specs.declared.holders.Holder.{Holder};
+ghost use Rattle.ledger.specs.Answer.{State};
+ghost use Rattle.sql_model.specs.Standing.{IsDesk};
+ghost use Rattle.sql_reads.specs.Reading.{WasClean};
+ghost use Rattle.sql_reads.specs.RemainingRows.{IsLeftAsItWas};
+ghost use Rattle.sql_reads.specs.RemainingRows.{StaysUnder};
+ghost use Rattle.report_rows.specs.HoldersLeft.{HoldersLeft};
+ghost use Rattle.tables.specs.Keeping.{KeepsIn};
+ghost use Rattle.tables.specs.Lending.{IsOnlyRead};
+ghost use Rattle.program_ends.specs.Ends.{EndsJob};
+ghost use Rattle.desk_jobs.specs.Connections.{RepresentsIn, StillRepresents};
+ghost use Rattle.report_jobs.specs.Holding.{ReportsHolders};
+ghost use Rattle.report_jobs.specs.Reporting.{IsDeskIn, WritesText};
+
+use crate::reporting::flush;
+use allotment::Cell;
+use desk_jobs::end_of_opening;
+use holder_reports::{Holder, holders_text};
+use program_ends::{End, ProgramFault};
+use report_rows::{HolderRows, Progress, start_holders};
+use reports::Format;
+use sql_model::fault_of;
+use sqlite::{Alter, Connection, Rows};
+use std::alloc::Global;
+use std::io::Write;
+use tables::{Opened, open_from};
+
+/// Writes the report of the holders of a cell, of the desk of a connection, in a format, and flushes it. Returns the
+/// connection, and the end.
+pub fn holders_over<S: Alter + Drop, O: Write>(
+    alloc: Global,
+    conn: Connection<S>,
+    cell: &Cell,
+    format: Format,
+    out: &mut O,
+) -> (Connection<S>, End)
+    requires outside { conn.in_transaction ≡ false }
+    requires unlimited { conn.step_limit ≡ None }
+
+    ensures told { HasCleanDisk (state S.Store result.0) → (v : Version) (s : State) →
+        RepresentsIn S.Store conn v s →
+        ReportsHolders (O.contents out.old) (O.contents out.new) format cell.now result.1 s }
+    ensures end { EndsJob result.1 }
+
+    ensures same { HasCleanDisk (state S.Store result.0) → (v : Version) (s : State) →
+        RepresentsIn S.Store conn v s → StillRepresents S.Store result.0 s }
+    ensures outside { result.0.in_transaction ≡ false }
+    ensures unlimited { result.0.step_limit ≡ None }
+    ensures sound { WasClean S.Store conn result.0 }
+{
+    let mut opened = match open_from(conn) {
+        Ok(opened) => opened,
+        Err((conn, fault)) => return (conn, end_of_opening(fault)),
+    };
+    let end = tell_holders(alloc, cell, format, &mut opened, out);
+    (opened.into_store(), end)
+}
+
+/// Writes the report of the holders of a cell, of what was opened, and flushes it.
+fn tell_holders<S: Alter, O: Write>(
+    alloc: Global,
+    cell: &Cell,
+    format: Format,
+    opened: &mut Opened<S>,
+    out: &mut O,
+) -> End
+    ensures told { HasCleanDisk (state S.Store opened.new.conn) → (s : State) →
+        IsDeskIn S.Store opened.old s →
+        ReportsHolders (O.contents out.old) (O.contents out.new) format cell.now result s }
+    ensures end { EndsJob result }
+
+    ensures kept { IsOnlyRead S.Store opened.old opened.new }
+{
+    End::from(write_holders(alloc, cell, format, opened.connection(), out))
+}
+
+/// Writes the report of the holders of a cell, of the desk of a connection, and flushes it.
+fn write_holders<S: Alter, O: Write>(
+    alloc: Global,
+    cell: &Cell,
+    format: Format,
+    conn: &mut Connection<S>,
+    out: &mut O,
+) -> Result<(), ProgramFault>
+    ensures told { HasCleanDisk (state S.Store conn.new) → (v : Version) (s : State) → IsDesk s →
+        KeepsIn v (state S.Store conn.old) s →
+        WritesText (O.contents out.old) (O.contents out.new)
+        (holders_in format (holders_of s.ledger cell.now)) result }
+    ensures kept { IsLeftAsItWas S.Store conn.old conn.new }
+{
+    let mut rows = match start_holders(conn, cell) {
+        Ok(rows) => rows,
+        Err(error) => return Err(fault_of(&error).into()),
+    };
+    write_rows(alloc, format, &mut rows, out)
+}
+
+/// Writes the report of the holders that remain, and flushes it.
+fn write_rows<S: Alter, O: Write>(
+    alloc: Global,
+    format: Format,
+    rows: &mut Rows<'_, S>,
+    out: &mut O,
+) -> Result<(), ProgramFault>
+    ensures told { HasCleanDisk (state S.Store rows.new.conn.now) → (all : List Holder) →
+        HoldersLeft S.Store rows.old.conn.now all →
+        WritesText (O.contents out.old) (O.contents out.new) (holders_in format all) result }
+    ensures kept { StaysUnder S.Store rows.old.conn rows.new.conn }
+{
+    let progress = Progress::new();
+    let mut holders = HolderRows { rows, progress };
+    match holders_text(alloc, format, &mut holders, out) {
+        Ok(_) => flush(out),
+        Err(fault) => Err(fault.into()),
+    }
+}

@@ -1,0 +1,265 @@
+//! The report of why a journey goes on or does not, of a desk that is not recovered.
+ghost use Rattle.std.specs.Prelude.{◌≡◌, false, None, Some, List, IfOk};
+ghost use Rattle.sqlite.specs.Held.{state};
+ghost use Rattle.sqlite.specs.State.{HasCleanDisk};
+ghost use Rattle.desk_sql.specs.declared.versions.Version.{Version};
+ghost use Rattle.ledger.specs.Answer.{State};
+ghost use Rattle.ledger.specs.Ledger.{history};
+ghost use Rattle.saga_core.specs.Views.{record_of, IsStock};
+ghost use Rattle.sql_model.specs.Standing.{IsDesk};
+ghost use Rattle.sql_reads.specs.Reading.{WasClean};
+ghost use Rattle.sql_reads.specs.RemainingRows.{IsLeftAsItWas};
+ghost use Rattle.sql_reads.specs.RemainingRows.{StaysUnder};
+ghost use Rattle.sql_reads.specs.RemainingRows.{StockRests};
+ghost use Rattle.tables.specs.Keeping.{KeepsIn};
+ghost use Rattle.tables.specs.Lending.{IsOnlyRead};
+ghost use Rattle.allotment.specs.declared.cells.Cell.{Cell};
+ghost use Rattle.allotment.specs.declared.places.Held.{Held};
+ghost use Rattle.outlooks.specs.Layouts.{why_in, why_of};
+ghost use Rattle.outlooks.specs.Nights.{nights_in, nights_of};
+ghost use Rattle.outlooks.specs.Outlooks.{begun_as, latest_option as latest_option_of, nights_ahead, IsTaken};
+ghost use Rattle.program_ends.specs.Ends.{EndsJob};
+ghost use Rattle.desk_jobs.specs.Connections.{RepresentsIn, StillRepresents};
+ghost use Rattle.report_jobs.specs.Reporting.{IsDeskIn, WritesText};
+ghost use Rattle.report_jobs.specs.Whys.{IsSeenOf, LetsCellsOf, ReportsWhy};
+
+use crate::reporting::flush;
+use allotment::{Night, Want};
+use commands::{Fault, Phase, Refusal};
+use desk_jobs::end_of_opening;
+use filters::CellFilter;
+use outlooks::{
+    FreeNight, NextStep, Outlook, latest_option, look_ahead, next_step, read_nights, why_text,
+};
+use program_ends::{End, ProgramFault};
+use report_rows::{CellRows, Progress, start_cells};
+use reports::{Format, ReportFault};
+use saga_core::Record;
+use sql_model::fault_of;
+use sqlite::{Alter, Connection, Rows};
+use std::alloc::Global;
+use std::io::Write;
+use tables::{Opened, open_from};
+
+/// What was read of a journey: its outlook, and what is free of the nights of its next want.
+#[derive(Drop)]
+struct Seen {
+    outlook: Outlook,
+    nights: Vec<FreeNight>,
+}
+
+/// Writes why the journey of this number in the desk of a connection goes on or does not, in a format, and flushes it:
+/// where it is, its next want, what is free of each night of it, and what a step of the house would make. A journey that
+/// is absent is refused. Returns the connection, and the end.
+pub fn why_over<S: Alter + Drop, O: Write>(
+    alloc: Global,
+    conn: Connection<S>,
+    id: u64,
+    format: Format,
+    out: &mut O,
+) -> (Connection<S>, End)
+    requires outside { conn.in_transaction ≡ false }
+    requires unlimited { conn.step_limit ≡ None }
+
+    ensures told { HasCleanDisk (state S.Store result.0) → (v : Version) (s : State) →
+        RepresentsIn S.Store conn v s →
+        ReportsWhy (O.contents out.old) (O.contents out.new) format id result.1 s }
+    ensures end { EndsJob result.1 }
+
+    ensures same { HasCleanDisk (state S.Store result.0) → (v : Version) (s : State) →
+        RepresentsIn S.Store conn v s → StillRepresents S.Store result.0 s }
+    ensures outside { result.0.in_transaction ≡ false }
+    ensures unlimited { result.0.step_limit ≡ None }
+    ensures sound { WasClean S.Store conn result.0 }
+{
+    let mut opened = match open_from(conn) {
+        Ok(opened) => opened,
+        Err((conn, fault)) => return (conn, end_of_opening(fault)),
+    };
+    let end = tell_why(alloc, format, id, &mut opened, out);
+    (opened.into_store(), end)
+}
+
+/// Writes the report of the journey of this number in what was opened, or refuses one that is absent.
+fn tell_why<S: Alter, O: Write>(
+    alloc: Global,
+    format: Format,
+    id: u64,
+    opened: &mut Opened<S>,
+    out: &mut O,
+) -> End
+    ensures told { HasCleanDisk (state S.Store opened.new.conn) → (s : State) →
+        IsDeskIn S.Store opened.old s →
+        ReportsWhy (O.contents out.old) (O.contents out.new) format id result s }
+    ensures end { EndsJob result }
+
+    ensures kept { IsOnlyRead S.Store opened.old opened.new }
+{
+    match opened.journey_of(alloc, id) {
+        Ok(Some(journey)) => End::from(write_why(alloc, format, id, &journey, opened, out)),
+        Ok(None) => End::Refused(Refusal::NoJourney),
+        Err(fault) => End::Fault(fault.into()),
+    }
+}
+
+/// Writes the report of a journey in what was opened, and flushes it.
+fn write_why<S: Alter, O: Write>(
+    alloc: Global,
+    format: Format,
+    id: u64,
+    journey: &Record,
+    opened: &mut Opened<S>,
+    out: &mut O,
+) -> Result<(), ProgramFault>
+    ensures told { HasCleanDisk (state S.Store opened.new.conn) → (s : State) →
+        IsDeskIn S.Store opened.old s → record_of s.ledger id ≡ Some journey.now →
+        (rows : List (Cell × Held)) → IsStock s.ledger rows →
+        WritesText (O.contents out.old) (O.contents out.new)
+        (why_of format s.ledger id (begun_as journey.now)) result }
+
+    ensures kept { IsOnlyRead S.Store opened.old opened.new }
+{
+    match read_outlook(alloc, id, journey, opened) {
+        Ok(seen) => send_why(alloc, format, &seen, out),
+        Err(fault) => Err(fault.into()),
+    }
+}
+
+/// Writes the report of what was read, and flushes it.
+fn send_why<O: Write>(
+    alloc: Global,
+    format: Format,
+    seen: &Seen,
+    out: &mut O,
+) -> Result<(), ProgramFault>
+    ensures told { WritesText (O.contents out.old) (O.contents out.new)
+        (why_in format seen.now.outlook seen.now.nights.items) result }
+{
+    match why_text(alloc, format, &seen.outlook, seen.nights.as_slice(), out) {
+        Ok(()) => flush(out),
+        Err(fault) => Err(fault.into()),
+    }
+}
+
+/// Reads the outlook of a journey in what was opened.
+fn read_outlook<S: Alter>(
+    alloc: Global,
+    id: u64,
+    journey: &Record,
+    opened: &mut Opened<S>,
+) -> Result<Seen, ReportFault>
+    ensures seen { HasCleanDisk (state S.Store opened.new.conn) → (s : State) →
+        IsDeskIn S.Store opened.old s → record_of s.ledger id ≡ Some journey.now →
+        (rows : List (Cell × Held)) → IsStock s.ledger rows
+        → IfOk result (IsSeenOf s.ledger id journey.now) }
+
+    ensures kept { IsOnlyRead S.Store opened.old opened.new }
+{
+    let taken = read_taken(id, journey, opened)?;
+    let next = next_step(journey, taken)?;
+    let nights = nights_ahead(alloc, &next, opened.connection())?;
+    let outlook = look_ahead(id, journey, next, nights.as_slice());
+    Ok(Seen { outlook, nights })
+}
+
+/// Reads the option with which the step at the position of a journey was done last, if the journey goes back.
+fn read_taken<S: Alter>(
+    id: u64,
+    journey: &Record,
+    opened: &mut Opened<S>,
+) -> Result<Option<usize>, Fault>
+    ensures taken { HasCleanDisk (state S.Store opened.new.conn) → (s : State) →
+        IsDeskIn S.Store opened.old s → IfOk result (IsTaken s.ledger id journey.now) }
+
+    ensures kept { IsOnlyRead S.Store opened.old opened.new }
+{
+    match journey.cursor.phase {
+        Phase::Back(_) => read_latest(id, journey.cursor.pos, opened),
+        _ => Ok(None),
+    }
+}
+
+/// Reads the option with which a step of the journey of this number was done last.
+fn read_latest<S: Alter>(
+    id: u64,
+    step: usize,
+    opened: &mut Opened<S>,
+) -> Result<Option<usize>, Fault>
+    ensures latest { HasCleanDisk (state S.Store opened.new.conn) → (s : State) →
+        IsDeskIn S.Store opened.old s →
+        IfOk result (λ option. option ≡ latest_option_of step (history s.ledger id)) }
+
+    ensures kept { IsOnlyRead S.Store opened.old opened.new }
+{
+    let mut rows = match opened.item_rows(id) {
+        Ok(rows) => rows,
+        Err(fault) => return Err(fault),
+    };
+    latest_option(&mut rows, step)
+}
+
+/// Reads what is free of each night of the want of a next step, in the desk of a connection.
+fn nights_ahead<S: Alter>(
+    alloc: Global,
+    next: &Option<NextStep>,
+    conn: &mut Connection<S>,
+) -> Result<Vec<FreeNight>, ReportFault>
+    ensures nights { HasCleanDisk (state S.Store conn.new) → (v : Version) (s : State) → IsDesk s →
+        KeepsIn v (state S.Store conn.old) s → (rows : List (Cell × Held)) → IsStock s.ledger rows →
+        IfOk result (λ nights. nights.items ≡ nights_ahead s.ledger next.now) }
+    ensures kept { IsLeftAsItWas S.Store conn.old conn.new }
+{
+    match next {
+        Some(next) => nights_of(alloc, &next.want, conn),
+        None => Ok(Vec::new(alloc)),
+    }
+}
+
+/// The filter of the cells of a want, whose kind is named apart.
+fn filter_of(want: &Want) -> CellFilter
+    ensures lets { LetsCellsOf want.now result }
+{
+    let first = want.first();
+    CellFilter {
+        kind: None,
+        supplier: Some(want.supplier()),
+        product: Some(want.product()),
+        from: Some(first),
+        to: Night::from_day(first.day() + u32::from(want.nights()) - 1),
+    }
+}
+
+/// Reads what is free of each night of a want, in the desk of a connection.
+fn nights_of<S: Alter>(
+    alloc: Global,
+    want: &Want,
+    conn: &mut Connection<S>,
+) -> Result<Vec<FreeNight>, ReportFault>
+    ensures nights { HasCleanDisk (state S.Store conn.new) → (v : Version) (s : State) → IsDesk s →
+        KeepsIn v (state S.Store conn.old) s → (rows : List (Cell × Held)) → IsStock s.ledger rows →
+        IfOk result (λ nights. nights.items ≡ nights_of s.ledger want.now) }
+    ensures kept { IsLeftAsItWas S.Store conn.old conn.new }
+{
+    let filter = filter_of(want);
+    let mut rows = match start_cells(conn, want.kind(), &filter) {
+        Ok(rows) => rows,
+        Err(error) => return Err(fault_of(&error).into()),
+    };
+    nights_left(alloc, want, &mut rows)
+}
+
+/// Reads what is free of each night of a want by the cells that remain.
+fn nights_left<S: Alter>(
+    alloc: Global,
+    want: &Want,
+    rows: &mut Rows<'_, S>,
+) -> Result<Vec<FreeNight>, ReportFault>
+    ensures nights { HasCleanDisk (state S.Store rows.new.conn.now) → (all : List (Cell × Held)) →
+        StockRests S.Store rows.old.conn.now all
+        → IfOk result (λ nights. nights.items ≡ nights_in all want.now) }
+    ensures kept { StaysUnder S.Store rows.old.conn rows.new.conn }
+{
+    let progress = Progress::new();
+    let mut cells = CellRows { rows, progress };
+    read_nights(alloc, want, &mut cells)
+}

@@ -1,0 +1,221 @@
+-- The rows of the stock, in their only order. For `cell_rows`.
+use Rattle.std.proofs.Common.{◌≡◌, inl, inr, ℕ, ◌≤◌, List, [], ◌∷◌, map, find, Bool, true, false, Option, Some, None, refl, sym, ap, ap₂, subst, ◌∙◌, eqb-true, eq-eqb}
+use Rattle.std.specs.Prelude.{option_map}
+use Rattle.std.specs.Ordering.{is_lt, ordering_reverse}
+use Rattle.std.specs.declared.cmp.Ordering.{Ordering}
+use Rattle.std.specs.declared.cmp.Ordering.TheVariants.{Less, Equal, Greater}
+use Rattle.std.specs.Cmp.{IsTotalOrder}
+use Rattle.std.specs.List.{AllByRecursion}
+use Rattle.std.proofs.Math.Bridge.{le_prop}
+use Rattle.std.proofs.lemmas.Cmp.{on_total, then_total, nat_cmp_total, nat_list_cmp_total}
+use Rattle.std.proofs.lemmas.Bool.{and_parts, and_from}
+use Rattle.std.proofs.lemmas.Slice.Eq.{bytes_eq-Decides}
+use Rattle.sqlite_trees.specs.Tree.{IsAscending}
+use Rattle.sqlite_rules.specs.Lists.{Has}
+use Rattle.sqlite_rules.proofs.ListLemmas.{all_has, test_has, has_found}
+use Rattle.sqlite_rules.proofs.ProbeLemmas.{has_mapped, mapped_has}
+use Rattle.allotment.specs.Limits.{most_places}
+use Rattle.allotment.specs.Cells.{kind_number, is_cell}
+use Rattle.allotment.specs.declared.cells.Cell.{Cell}
+use Rattle.allotment.specs.declared.places.Held.{Held}
+use Rattle.ledger.specs.Ledger.{Event}
+use Rattle.ledger.proofs.Cells.{is_cell-same}
+use Rattle.saga_core.specs.Views.{Places, places_said, places_at, cell_cmp, are_in_order, IsStock}
+use Rattle.saga_core.specs.RowSources.{HandsFirst}
+use Rattle.desk_sql.specs.Rows.{StockRow}
+use Rattle.desk_sql.specs.Stock.{IsByCell, cell_cmp as stock_cmp}
+use Rattle.desk_sql.specs.RemainingRows.{IsOnlyOrder, HandsFirst as HandsFirstRow, Hands as HandsRows}
+use Rattle.desk_sql.proofs.Members.{permutation_from, permutation_to}
+use Rattle.sql_model.specs.Standing.{AreApart, is_stock_of, is_same_stock, places_told, StockStands}
+use Rattle.sql_model.specs.Reading.{stock_row_of}
+use Rattle.sql_model.proofs.Finding.{find-none}
+use Rattle.sql_model.proofs.Orders.{pairs-permutation}
+use Rattle.sql_model.proofs.StockRows.{stock_at-row, row-stock_at, same_back}
+
+stock_total : IsTotalOrder stock_cmp
+stock_total =
+    then_total (on_total (λ (r : StockRow). r.kind) nat_cmp_total)
+    (then_total (on_total (λ (r : StockRow). r.supplier) nat_list_cmp_total)
+    (then_total (on_total (λ (r : StockRow). r.product) nat_list_cmp_total) (on_total (λ (r : StockRow). r.night) nat_cmp_total)))
+
+-- no row is before itself
+not_before : (r : StockRow) → is_lt (stock_cmp r r) ≡ true → ⊥
+not_before r e = go (stock_cmp r r) (stock_total.antisymm r r) e
+  where
+    go : (o : Ordering) → o ≡ ordering_reverse o → is_lt o ≡ true → ⊥
+    go Less f g = cc
+    go Equal f g = cc
+    go Greater f g = cc
+
+-- a row is of the same cell as itself
+same_self : (r : StockRow) → is_same_stock r r ≡ true
+same_self r =
+    and_from _ _ (and_from _ _ (and_from _ _ (eq-eqb r.kind r.kind refl) ((bytes_eq-Decides r.supplier r.supplier).1 refl)) ((bytes_eq-Decides r.product r.product).1 refl))
+    (eq-eqb r.night r.night refl)
+
+-- a list in which no element is before an earlier one is the list in which each is before all later ones
+pub one_order : (xs ys : List StockRow) → IsAscending IsByCell xs → AreApart is_same_stock xs
+    → IsAscending (λ (r s : StockRow). is_lt (stock_cmp r s) ≡ true) ys
+    → ((r : StockRow) → Has xs r → Has ys r) → ((r : StockRow) → Has ys r → Has xs r) → xs ≡ ys
+one_order [] [] up apart strict a b = refl
+one_order [] (y ∷ ys) up apart strict a b = absurd (b y (inl refl))
+one_order (x ∷ xs) [] up apart strict a b = absurd (a x (inl refl))
+one_order (x ∷ xs) (y ∷ ys) up apart strict a b =
+    let first : x ≡ y = elim (a x (inl refl)) [
+      | inl e ↦ e
+      | inr later ↦ elim (b y (inl refl)) [
+        | inl e ↦ sym e
+        | inr also ↦ absurd (let one = all_has _ xs y up.0 also in let two = all_has _ ys x strict.0 later in let bad : true ≡ false = sym two ∙ one in cc)
+      ]
+    ] in
+    ap₂ ◌∷◌ first (one_order xs ys up.1 apart.1 strict.1
+    (λ r h. elim (a r (inr h)) [ inl e ↦ absurd (twice r h (e ∙ sym first)) | inr k ↦ k ])
+    (λ r h. elim (b r (inr h)) [ inl e ↦ absurd (again r h (e ∙ first)) | inr k ↦ k ]))
+  where
+    twice : (r : StockRow) → Has xs r → r ≡ x → ⊥
+    twice r h e =
+        let off = all_has _ xs r apart.0 h in
+        let bad : true ≡ false = sym (same_self x) ∙ ap (is_same_stock x) (sym e) ∙ off in cc
+
+    again : (r : StockRow) → Has ys r → r ≡ y → ⊥
+    again r h e = not_before y (ap (λ s. is_lt (stock_cmp y s)) (sym e) ∙ all_has _ ys r strict.0 h)
+
+-- a row of this cell with these places is the row that both give
+row_is : (x : Cell) (h : Held) (r : StockRow) → is_stock_of x r ≡ true → places_said h ≡ places_told r → stock_row_of (x, h) ≡ r
+row_is x h r on places =
+    let three = and_parts _ _ on in
+    let two = and_parts _ _ three.0 in
+    let one = and_parts _ _ two.0 in
+    let kind : kind_number x.kind ≡ r.kind = eqb-true _ _ one.0 in
+    let supplier : x.supplier ≡ r.supplier = (bytes_eq-Decides x.supplier r.supplier).0 one.1 in
+    let product : x.product ≡ r.product = (bytes_eq-Decides x.product r.product).0 two.1 in
+    let night : x.night ≡ r.night = eqb-true _ _ three.1 in
+    let allot : h.allot ≡ r.allot = ap (λ (p : Places). p.allot) places in
+    let free : h.free ≡ r.free = ap (λ (p : Places). p.free) places in
+    rw (kind, supplier, product, night, allot, free) refl
+
+pub in_order_strict : (cells : List (Cell × Held)) → are_in_order cells ≡ true
+    → IsAscending (λ (r s : StockRow). is_lt (stock_cmp r s) ≡ true) (map stock_row_of cells)
+in_order_strict [] e = tt
+in_order_strict (c ∷ cells) e = let both = and_parts _ _ e in (below cells (λ d h. test_has _ cells d both.0 h), in_order_strict cells both.1)
+  where
+    below : (ds : List (Cell × Held)) → ((d : Cell × Held) → Has ds d → is_lt (cell_cmp c.0 d.0) ≡ true)
+        → AllByRecursion (λ (s : StockRow). is_lt (stock_cmp (stock_row_of c) s) ≡ true) (map stock_row_of ds)
+    below [] each = tt
+    below (d ∷ ds) each = (each d (inl refl), below ds (λ x h. each x (inr h)))
+
+-- a list in order has each cell once
+one_of_cell : (cells : List (Cell × Held)) → are_in_order cells ≡ true → (c d : Cell × Held) → Has cells c → Has cells d → c.0 ≡ d.0 → c ≡ d
+one_of_cell [] order c d h k e = absurd h
+one_of_cell (x ∷ cells) order c d (inl p) (inl q) e = p ∙ sym q
+one_of_cell (x ∷ cells) order c d (inl p) (inr k) e =
+    absurd (not_before (stock_row_of c) (ap (λ (y : Cell). is_lt (cell_cmp c.0 y)) e ∙ ap (λ (y : Cell × Held). is_lt (cell_cmp y.0 d.0)) p
+    ∙ test_has (λ (y : Cell × Held). is_lt (cell_cmp x.0 y.0)) cells d (and_parts _ _ order).0 k))
+one_of_cell (x ∷ cells) order c d (inr h) (inl q) e =
+    absurd (not_before (stock_row_of d) (ap (λ (y : Cell). is_lt (cell_cmp d.0 y)) (sym e) ∙ ap (λ (y : Cell × Held). is_lt (cell_cmp y.0 c.0)) q
+    ∙ test_has (λ (y : Cell × Held). is_lt (cell_cmp x.0 y.0)) cells c (and_parts _ _ order).0 h))
+one_of_cell (x ∷ cells) order c d (inr h) (inr k) e = one_of_cell cells (and_parts _ _ order).1 c d h k e
+
+-- the test of a cell is reflexive
+self_cell : (x : Cell) → is_cell x x ≡ true
+self_cell x =
+    and_from _ _ (and_from _ _ (and_from _ _ (eq-eqb (kind_number x.kind) (kind_number x.kind) refl) ((bytes_eq-Decides x.supplier x.supplier).1 refl)) ((bytes_eq-Decides x.product x.product).1 refl))
+    (eq-eqb x.night x.night refl)
+
+-- the places that the list has of a cell are those of one of its elements
+listed_there : (cells : List (Cell × Held)) (x : Cell) (p : Places) → places_at cells x ≡ Some p
+    → (h : Held) × Has cells (x, h) × (places_said h ≡ p)
+listed_there cells x p e = go (find (λ (c : Cell × Held). is_cell x c.0) cells) refl
+  where
+    go : (o : Option (Cell × Held)) → find (λ (c : Cell × Held). is_cell x c.0) cells ≡ o → (h : Held) × Has cells (x, h) × (places_said h ≡ p)
+    go None f = let bad : None ≡ Some p = sym (ap (option_map (λ (c : Cell × Held). places_said c.1)) f) ∙ e in absurd (cc)
+    go (Some c) f =
+        let there = has_found (λ (d : Cell × Held). is_cell x d.0) cells c f in
+        let said : Some (places_said c.1) ≡ Some p = sym (ap (option_map (λ (d : Cell × Held). places_said d.1)) f) ∙ e in
+        let cell : x ≡ c.0 = is_cell-same x c.0 there.1 in
+        (c.1, subst (λ (y : Cell). Has cells (y, c.1)) (sym cell) there.0, (let s : places_said c.1 ≡ p = cc in s))
+
+-- the places of each element are those that a list in order has of its cell
+there_listed : (cells : List (Cell × Held)) → are_in_order cells ≡ true → (c : Cell × Held) → Has cells c
+    → places_at cells c.0 ≡ Some (places_said c.1)
+there_listed cells order c h = go (find (λ (d : Cell × Held). is_cell c.0 d.0) cells) refl
+  where
+    go : (o : Option (Cell × Held)) → find (λ (d : Cell × Held). is_cell c.0 d.0) cells ≡ o → places_at cells c.0 ≡ Some (places_said c.1)
+    go None f =
+        let off = all_has _ cells c (find-none (λ (d : Cell × Held). is_cell c.0 d.0) cells f) h in
+        let bad : true ≡ false = sym (self_cell c.0) ∙ off in absurd (cc)
+    go (Some d) f =
+        let there = has_found (λ (e : Cell × Held). is_cell c.0 e.0) cells d f in
+        ap (option_map (λ (e : Cell × Held). places_said e.1)) f
+        ∙ ap (λ (e : Cell × Held). Some (places_said e.1)) (sym (one_of_cell cells order c d h there.0 (is_cell-same c.0 d.0 there.1)))
+
+module _ (l : List Event) (stock : List StockRow) (stand : StockStands l stock) (cells : List (Cell × Held)) (is : IsStock l cells) where
+  pub row_listed : (r : StockRow) → Has stock r → Has (map stock_row_of cells) r
+  row_listed r h =
+      let known = all_has _ stock r stand.known h in
+      let at : places_at cells known.0 ≡ Some (places_told r)
+      = is.each known.0 ∙ sym (stand.each known.0) ∙ stock_at-row stock known.0 r stand.once h known.1 in
+      let there = listed_there cells known.0 (places_told r) at in
+      subst (Has (map stock_row_of cells)) (row_is known.0 there.0 r known.1 there.2) (mapped_has stock_row_of cells (known.0, there.0) there.1)
+
+  pub listed_row : (r : StockRow) → Has (map stock_row_of cells) r → Has stock r
+  listed_row r h =
+      let c = has_mapped stock_row_of cells r h in
+      let at = stand.each c.0.0 ∙ sym (is.each c.0.0) ∙ there_listed cells is.in_order c.0 c.1 in
+      let there = row-stock_at stock c.0.0 (places_said c.0.1) at in
+      subst (Has stock) (sym (row_is c.0.0 c.0.1 there.0 there.2 (sym there.3)) ∙ sym c.2) there.1
+
+  -- the stock is the one order of the cells
+  pub stock_in_order : IsOnlyOrder IsByCell stock (map stock_row_of cells)
+  stock_in_order other listed =
+      one_order other (map stock_row_of cells) listed.rising
+      (pairs-permutation (λ (r s : StockRow). is_same_stock r s ≡ false) same_back stock other listed.same stand.once)
+      (in_order_strict cells is.in_order)
+      (λ r h. row_listed r (permutation_from stock other r listed.same h))
+      (λ r h. permutation_to stock other r listed.same (listed_row r h))
+
+-- Places.
+
+held_made : (a f : ℕ) → f ≤ a → a ≤ most_places → Held
+held_made a f within bounded = record { allot = a; free = f; within = within; bounded = bounded }
+
+-- places with the same numbers are equal
+held_same : (h k : Held) → h.allot ≡ k.allot → h.free ≡ k.free → h ≡ k
+unfolding held_made
+held_same h k allot free =
+    subst (λ (a : ℕ). (w : h.free ≤ a) (b : a ≤ most_places) → held_made a h.free w b ≡ k) (sym allot)
+    (subst (λ (f : ℕ). (w : f ≤ k.allot) (b : k.allot ≤ most_places) → held_made k.allot f w b ≡ k) (sym free)
+    (λ w b. ap₂ (λ u v. held_made k.allot k.free u v) (le_prop w k.within) (le_prop b k.bounded)))
+    h.within h.bounded
+
+-- a row determines its cell and its places
+pub cell_same : (c d : Cell × Held) → stock_row_of c ≡ stock_row_of d → c ≡ d
+cell_same c d e =
+    let kind : kind_number c.0.kind ≡ kind_number d.0.kind = ap (λ (r : StockRow). r.kind) e in
+    let cell : c.0 ≡ d.0 = is_cell-same c.0 d.0
+    (and_from _ _ (and_from _ _ (and_from _ _ (eq-eqb _ _ kind) ((bytes_eq-Decides c.0.supplier d.0.supplier).1 (ap (λ (r : StockRow). r.supplier) e)))
+    ((bytes_eq-Decides c.0.product d.0.product).1 (ap (λ (r : StockRow). r.product) e))) (eq-eqb _ _ (ap (λ (r : StockRow). r.night) e))) in
+    let places : c.1 ≡ d.1 = held_same c.1 d.1 (ap (λ (r : StockRow). r.allot) e) (ap (λ (r : StockRow). r.free) e) in
+    ap (λ x. (x, c.1)) cell ∙ ap (λ h. (d.0, h)) places
+
+module _ (Before After : List StockRow → Type 0) where
+  -- the first row is that of the first remaining cell
+  pub cell_first : (r : StockRow) (c : Cell × Held) → stock_row_of c ≡ r → HandsRows Before After (Some r) → (failed : Bool)
+      → (cells : List (Cell × Held)) → (failed ≡ false) × Before (map stock_row_of cells)
+      → HandsFirst (λ ds. (false ≡ false) × After (map stock_row_of ds)) (Some c) cells
+  cell_first r c told hands failed cells rests = go cells (hands (map stock_row_of cells) rests.1)
+    where
+      go : (cells : List (Cell × Held)) → HandsFirstRow After (Some r) (map stock_row_of cells)
+          → HandsFirst (λ ds. (false ≡ false) × After (map stock_row_of ds)) (Some c) cells
+      go [] h = absurd (let none = h.0 in cc)
+      go (d ∷ ds) h = (ap Some (cell_same c d (told ∙ (let e : r ≡ stock_row_of d = (let s = h.0 in cc) in e))), (refl, h.1))
+
+  pub cell_none : HandsRows Before After None → (failed : Bool)
+      → (cells : List (Cell × Held)) → (failed ≡ false) × Before (map stock_row_of cells)
+      → HandsFirst (λ ds. (false ≡ false) × After (map stock_row_of ds)) None cells
+  cell_none hands failed cells rests = go cells (hands (map stock_row_of cells) rests.1)
+    where
+      go : (cells : List (Cell × Held)) → HandsFirstRow After None (map stock_row_of cells)
+          → HandsFirst (λ ds. (false ≡ false) × After (map stock_row_of ds)) None cells
+      go [] h = (refl, (refl, h.1))
+      go (d ∷ ds) h = absurd (let some = h.0 in cc)

@@ -1,0 +1,117 @@
+-- What each call leaves of a book that may act, as the contract of every book says it. For the book over tables.
+use Rattle.std.proofs.Common.{◌≡◌, ◌≤◌, ◌⊎◌, ◌∙◌, ◌+◌, inl, inr, true, false, refl, sym, arith}
+use Rattle.std.specs.Prelude.{Option, Result, Ok, Err}
+use Rattle.std.specs.Borrow.{Bor}
+use Rattle.std.specs.Option.{option_copied}
+use Rattle.sqlite.specs.Store.{Ghosts}
+use Rattle.sqlite.specs.Held.{Held, state}
+use Rattle.sqlite.specs.State.{HasCleanDisk}
+use Rattle.commands.specs.Asks.{Asked}
+use Rattle.commands.specs.Request.{Request}
+use Rattle.commands.specs.declared.replies.Fault.{Fault}
+use Rattle.commands.specs.declared.replies.Fault.TheVariants.{Memory, Store}
+use Rattle.commands.specs.declared.replies.Reply.{Reply}
+use Rattle.desk_sql.specs.Causes.{HasFaulted, IsUp}
+use Rattle.desk_sql.proofs.Rowids.{rowids_fewer}
+use Rattle.ledger.specs.Answer.{State, outcome}
+use Rattle.saga_core.specs.Runs.{Asks}
+use Rattle.sql_commands.specs.Failing.{RanOutOf, asked_rowids}
+use Rattle.sql_model.specs.Keeping.{WasClean}
+use Rattle.sql_model.specs.Spelling.{IsSpelled}
+use Rattle.sql_model.specs.Staying.{SeesAsBefore, StaysUp}
+use Rattle.sql_model.proofs.Staying.{faulted_earlier, faulted_later, rowids_stay}
+use Rattle.tables.specs.Acting.{ActsOn, ActsSince, AreShort, HasReasonSince, MayAct, MayActSince, rowids_for}
+use Rattle.tables.specs.BookTerms.{FailsToAct, StandsBook}
+use Rattle.tables.specs.declared.books.TableBook.{TableBook}
+
+module _ {S : Type 0} (g : Ghosts S) (first old new : TableBook S g) (stays : StaysUp g old.conn new.conn)
+    (low : (state g first.conn).faults ≤ (state g old.conn).faults) where
+  -- a fault before the call, or meanwhile, is one since the first book
+  since_earlier : HasFaulted (state g first.conn) (state g old.conn) → HasFaulted (state g first.conn) (state g new.conn)
+  since_earlier faulted = faulted_earlier (state g first.conn) (state g old.conn) (state g new.conn) faulted stays.counts
+
+  since_later : HasFaulted (state g old.conn) (state g new.conn) → HasFaulted (state g first.conn) (state g new.conn)
+  since_later faulted = faulted_later (state g first.conn) (state g old.conn) (state g new.conn) low faulted
+
+  -- after a fault it does not matter what the book may do
+  faulted_since : (s : State) (asks : Asks) → HasFaulted (state g first.conn) (state g old.conn) → MayActSince g first new s asks
+  faulted_since s asks faulted = record {
+    counts = let high = stays.counts in omega (arith, low, high);
+    may = inr (since_earlier faulted);
+  }
+
+  -- the book may act on, or the disk failed or refused
+  acts_on : (s : State) (asks : Asks) → AreShort asks
+      → MayAct g new s (rowids_for asks) ⊎ HasFaulted (state g old.conn) (state g new.conn) → MayActSince g first new s asks
+  acts_on s asks short (inl may) = record {
+    counts = let high = stays.counts in omega (arith, low, high);
+    may = inl (may, short);
+  }
+  acts_on s asks short (inr faulted) = record {
+    counts = let high = stays.counts in omega (arith, low, high);
+    may = inr (since_later faulted);
+  }
+
+-- A read.
+
+module _ {S : Type 0} (g : Ghosts S) (old new : TableBook S g) (stays : StaysUp g old.conn new.conn) (clean : HasCleanDisk (state g new.conn))
+    (first : TableBook S g) (s : State) (asks : Asks) (since : MayActSince g first old s asks) where
+  -- it leaves the state, and the rowids
+  pub may_still : SeesAsBefore g old.conn new.conn → WasClean g old.conn new.conn → (StandsBook g old s → StandsBook g new s)
+      → MayActSince g first new s asks
+  may_still sees less same = elim since.may [
+    | inr faulted ↦ faulted_since g first old new stays since.counts s asks faulted
+    | inl may ↦ acts_on g first old new stays since.counts s asks may.1 (elim (stays.up clean may.0.up) [
+      | inr faulted ↦ inr faulted
+      | inl up ↦ inl (record {
+        stands = same may.0.stands;
+        spelled = may.0.spelled;
+        up = up;
+        rowids = rowids_stay g old.conn new.conn sees less s may.0.stands.keeps clean up.is_open (rowids_for asks) may.0.rowids;
+      })
+    ])
+  ]
+
+-- it failed, for a reason
+pub failed_since : {S : Type 0} (g : Ghosts S) (first old : TableBook S g) (conn : Held S) → StaysUp g old.conn conn → (s : State) (asks : Asks)
+    → MayActSince g first old s asks
+    → (StandsBook g old s → IsSpelled s.ledger → IsUp (state g old.conn) → HasFaulted (state g old.conn) (state g conn))
+    → HasFaulted (state g first.conn) (state g conn) ⊎ RanOutOf g conn s s
+failed_since g first old conn stays s asks since fails = elim since.may [
+  | inr faulted ↦ inl (faulted_earlier (state g first.conn) (state g old.conn) (state g conn) faulted stays.counts)
+  | inl may ↦
+      inl (faulted_later (state g first.conn) (state g old.conn) (state g conn) since.counts (fails may.0.stands may.0.spelled may.0.up))
+]
+
+-- a book that has failed did so for a reason
+pub had_failed : {S : Type 0} (g : Ghosts S) (b first : TableBook S g) (s : State) (asks : Asks) → b.failed ≡ true
+    → MayActSince g first b s asks → HasReasonSince g first b s s
+had_failed g b first s asks failed since = elim since.may [
+  | inr faulted ↦ inl faulted
+  | inl may ↦ absurd (let both : true ≡ false = sym failed ∙ may.0.stands.working in cc)
+]
+
+-- A command.
+
+module _ {S : Type 0} (g : Ghosts S) (old new : TableBook S g) (stays : StaysUp g old.conn new.conn) where
+  pub acts_since : (ask : Option (Bor Asked)) (asked : Request) (result : Result Reply Fault) → ActsOn g old new ask asked result
+      → FailsToAct g old new ask asked result → ActsSince g old new ask asked result
+  acts_since ask asked (Ok r) acts fails clean first s later since = elim since.may [
+    | inr faulted ↦ faulted_since g first old new stays since.counts (outcome s (option_copied ask) asked).state later faulted
+    | inl may ↦
+        acts_on g first old new stays since.counts (outcome s (option_copied ask) asked).state later may.1.1
+        (acts clean s (rowids_for later) may.0)
+  ]
+  acts_since ask asked (Err Memory) acts fails clean first s later since = elim since.may [
+    | inr faulted ↦ faulted_since g first old new stays since.counts s later faulted
+    | inl may ↦ acts_on g first old new stays since.counts s later may.1.1 (acts clean s (rowids_for later) may.0)
+  ]
+  acts_since ask asked (Err Store) acts fails clean first s later since = elim since.may [
+    | inr faulted ↦ inl (since_earlier g first old new stays since.counts faulted)
+    | inl may ↦ (let n = asked_rowids (option_copied ask) asked in
+        let has = rowids_fewer n (n + rowids_for later) (state g old.conn).now.trees (omega arith) may.0.rowids in
+        elim (fails clean s may.0.stands may.0.spelled may.1.0 has may.0.up refl) [
+          | inl faulted ↦ inl (since_later g first old new stays since.counts faulted)
+          | inr ran ↦ inr ran
+        ])
+  ]
