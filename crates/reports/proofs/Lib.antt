@@ -1,4 +1,5 @@
 pub mod FrontLemmas
+pub mod BlankLemmas
 pub mod FillLemmas
 pub mod HistoryLemmas
 pub mod PartLemmas
