@@ -2,4 +2,3 @@ pub mod JobLemmas
 pub mod AnswerLemmas
 pub mod LoadLemmas
 pub mod RecoveredLemmas
-pub mod ReasonLemmas

@@ -9,18 +9,15 @@ ghost use Rattle.sql_reads.specs.Reading.{WasClean};
 ghost use Rattle.program_ends.specs.Ends.{EndsBadly, EndsJob, IfDone};
 ghost use Rattle.desk_jobs.specs.Connections.{Represents};
 ghost use Rattle.desk_jobs.specs.Ends.{recovered_line};
-ghost use Rattle.desk_jobs.specs.Reasons.{FailsToRecover};
-ghost use Rattle.tables.specs.Opening.{FailsToOpen};
 
 use crate::opening::ready_over;
-use program_ends::{End, ProgramFault};
+use program_ends::End;
 use protocols::ServeFault;
 use sqlite::{Alter, Connection};
 use std::alloc::Global;
 use std::io::Write;
 use std::marker::Model;
 use streams::send;
-use tables::OpenFault;
 
 /// How many events a recovery made. Only `recover_over` makes one. In a contract it is that number.
 #[derive(Clone, Copy, Debug)]
@@ -64,11 +61,6 @@ pub fn recover_over<S: Alter + Drop>(
     ensures recovered { HasCleanDisk (state S.Store result.0) → IfOk result.1 (λ made.
         Recovers (Represents S.Store conn) (Represents S.Store result.0) made) }
     ensures end { IfErr result.1 EndsBadly }
-
-    ensures reason { HasCleanDisk (state S.Store result.0) → IfErr result.1 (λ end.
-        end ≡ End.Fault ProgramFault.Store → FailsToRecover S.Store conn result.0) }
-    ensures opening { IfErr result.1 (λ end. end ≡ End.Fault ProgramFault.OpeningStore →
-        FailsToOpen S.Store conn result.0 OpenFault.Store) }
 
     ensures outside { result.0.in_transaction ≡ false }
     ensures unlimited { result.0.step_limit ≡ None }

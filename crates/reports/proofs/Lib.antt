@@ -1,5 +1,4 @@
 pub mod FrontLemmas
-pub mod BlankLemmas
 pub mod FillLemmas
 pub mod HistoryLemmas
 pub mod PartLemmas

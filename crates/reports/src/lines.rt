@@ -1,17 +1,14 @@
 //! The lines of reports, each as one text in memory.
-ghost use Rattle.std.specs.Prelude.{◌≡◌, ◌≤◌, [], ◌∷◌, ◌++◌, IfOk, OnOk, replicate, string_bytes};
+ghost use Rattle.std.specs.Prelude.{◌≡◌, IfOk, string_bytes};
 ghost use Rattle.allotment.specs.Nights.{night_text};
-ghost use Rattle.allotment.specs.Texts.{blank};
 ghost use Rattle.reports.specs.Formats.{stock_head, unfinished_head};
 ghost use Rattle.reports.specs.Layouts.{stock_heading, stock_line, journey_line};
-ghost use Rattle.reports.specs.Columns.{left, right};
-ghost use Rattle.reports.specs.Parts.{history_head, history_tail, item_word};
+ghost use Rattle.reports.specs.Parts.{cell_columns, history_head, history_tail, item_word};
 
 use crate::formats::Format;
 use crate::records::{cell_heading, journey_heading};
 use allotment::{Cell, Held, Night};
 use commands::{Cursor, Item};
-use itoa::Buffer;
 use saga_core::{Brief, Record};
 use std::alloc::{AllocError, Global};
 
@@ -43,49 +40,25 @@ fn heading() -> &'static str
     "kind     supplier product  night       allot   held   free\n"
 }
 
-/// The line of a cell and its places. A report has many of them, so each is put together by hand: a format of its columns
-/// takes several times as long.
-pub(crate) fn stock_line(alloc: Global, cell: &Cell, places: &Held) -> Result<Vec<u8>, AllocError>
-    ensures line { IfOk result (λ line. line.items ≡ stock_line (cell.now, places.now)) }
+/// The line of a cell and its places.
+pub(crate) fn stock_line(alloc: Global, cell: &Cell, places: &Held) -> Result<String, AllocError>
+    ensures line { IfOk result (λ text. string_bytes text ≡ stock_line (cell.now, places.now)) }
 {
+    let cell = cell_columns(alloc, cell)?;
     let Held { allot, free, .. } = *places;
-    let night = cell.night.text(alloc)?;
-    let mut digits = Buffer::new();
-    let mut line = Vec::with_capacity(alloc, 64)?;
-    put_left(&mut line, cell.kind.word())?;
-    put_left(&mut line, cell.supplier.as_str())?;
-    put_left(&mut line, cell.product.as_str())?;
-    line.extend_from_slice(night.as_bytes())?;
-    put_right(&mut line, digits.format(allot))?;
-    put_right(&mut line, digits.format(places.held()))?;
-    put_right(&mut line, digits.format(free))?;
-    line.push(b'\n')?;
-    Ok(line)
+    let held = places.held();
+    format!(in alloc; "{cell} {allot:>6} {held:>6} {free:>6}\n")
 }
 
-/// Appends a text in a left column of 8, and a blank.
-fn put_left(line: &mut Vec<u8>, text: &str) -> Result<(), AllocError>
-    ensures column { OnOk result (line.new.items ≡ line.old.items ++ left 8 text.now ++ blank ∷ []) }
+/// The columns of a cell: its kind, supplier, product and night.
+fn cell_columns(alloc: Global, cell: &Cell) -> Result<String, AllocError>
+    ensures columns { IfOk result (λ text. string_bytes text ≡ cell_columns cell.now) }
 {
-    line.extend_from_slice(text.as_bytes())?;
-    put_blanks(line, 9 - text.len().min(8))
-}
-
-/// Appends a blank, and a text in a right column of 6.
-fn put_right(line: &mut Vec<u8>, text: &str) -> Result<(), AllocError>
-    ensures column { OnOk result (line.new.items ≡ line.old.items ++ blank ∷ right 6 text.now) }
-{
-    put_blanks(line, 7 - text.len().min(6))?;
-    line.extend_from_slice(text.as_bytes())
-}
-
-/// Appends so many blanks, at most 9.
-fn put_blanks(line: &mut Vec<u8>, count: usize) -> Result<(), AllocError>
-    requires few { count ≤ 9 }
-
-    ensures blanks { OnOk result (line.new.items ≡ line.old.items ++ replicate count blank) }
-{
-    line.extend_from_slice(&b"         "[..count])
+    let kind = cell.kind.word();
+    let supplier = cell.supplier.as_str();
+    let product = cell.product.as_str();
+    let night = cell.night;
+    format!(in alloc; "{kind:<8} {supplier:<8} {product:<8} {night}")
 }
 
 /// The text of a night, as `2030-06-01`.

@@ -33,7 +33,7 @@ impl Layout<(Cell, Held)> for Format {
 
     fn show(&self, alloc: Global, row: &(Cell, Held)) -> Result<Vec<u8>, AllocError> {
         match self {
-            Format::Text => lines::stock_line(alloc, &row.0, &row.1),
+            Format::Text => Ok(lines::stock_line(alloc, &row.0, &row.1)?.into_bytes()),
             Format::Json => Ok(objects::cell_object(alloc, &row.0, &row.1)?.into_bytes()),
             Format::Csv => records::cell_record(alloc, &row.0, &row.1),
         }

@@ -1,0 +1,31 @@
+-- The format writes the columns.
+use Rattle.std.proofs.Common.{◌≡◌, ◌∙◌, ◌++◌, ◌∷◌, append-nil, append_assoc}
+use Rattle.std.specs.Prelude.{string_bytes}
+use Rattle.std.specs.Fmt.{styled_text}
+use Rattle.std.proofs.lemmas.Result.{IfOk-weaker}
+use Rattle.allotment.specs.Nights.{night_text}
+use Rattle.reports.proofs.FillLemmas.{code_left, kind_left}
+use Rattle.reports.proofs.lines.cell_columns.Goals as goal
+
+pub returns : goal.returns
+returns c =
+    let cell = c.args.cell.now in
+    let written =
+    styled_text c.laid_out.result c.word-kind.result.now
+    ++ (32 ∷ (styled_text c.laid_out-2.result c.as_str-supplier.result.now
+    ++ (32 ∷ (styled_text c.laid_out-3.result c.as_str-product.result.now ++ (32 ∷ night_text cell.night))))) in
+    record {
+      columns = IfOk-weaker c.format.result (λ text. string_bytes text ≡ written) _
+          (λ text is. is ∙ rw (
+            c.laid_out.ensures,
+            c.laid_out-2.ensures,
+            c.laid_out-3.ensures,
+            c.word-kind.ensures,
+            c.as_str-supplier.ensures.text,
+            c.as_str-product.ensures.text,
+            kind_left 8 cell.kind,
+            code_left 8 cell.supplier c.as_str-supplier.ensures.limits,
+            code_left 8 cell.product c.as_str-product.ensures.limits,
+          )
+          (simp (append_assoc, append-nil))) c.format.ensures.ok;
+    }
