@@ -43,7 +43,8 @@ pub fn perform<R: Read, O: Write, E: Write>(
     ensures quiet { result ≡ 0 → Keeps (E.contents err.old) (E.contents err.new) }
     ensures err { TellsNoneOrFault (E.contents err.old) (E.contents err.new) }
 
-    ensures bad_id { HasBadId job → (result ≡ 1) × WroteFront (O.contents out.old) (O.contents out.new)
+    ensures bad_id { HasBadId job →
+        (result ≡ 1) × WroteFront (O.contents out.old) (O.contents out.new)
         (ended (refusal_line Refusal.BadBody)) }
 {
     let ended = carry_out(rt, alloc, job, reader, out, &mut sink());
@@ -67,7 +68,8 @@ pub fn perform_explained<R: Read, O: Write, E: Write>(
 
     ensures err { TellsExplained (E.contents err.old) (E.contents err.new) }
 
-    ensures bad_id { HasBadId job → (result ≡ 1) × WroteFront (O.contents out.old) (O.contents out.new)
+    ensures bad_id { HasBadId job →
+        (result ≡ 1) × WroteFront (O.contents out.old) (O.contents out.new)
         (ended (refusal_line Refusal.BadBody)) }
 {
     let ended = carry_out(rt, alloc, job, reader, out, err);
@@ -85,7 +87,8 @@ fn carry_out<R: Read, O: Write, N: Write>(
     notes: &mut N,
 ) -> Ended
     ensures job { EndsJob result.end }
-    ensures read { IfDone result.end (ReadsFor job (R.remaining reader.old) (R.remaining reader.new)) }
+    ensures read { IfDone result.end
+        (ReadsFor job (R.remaining reader.old) (R.remaining reader.new)) }
     ensures told { IfDone result.end (TellsOf job (O.contents out.old) (O.contents out.new)) }
     ensures notes { MayNoteAll (N.contents notes.old) (N.contents notes.new) }
 
@@ -214,7 +217,8 @@ fn recover_file<O: Write>(rt: &HostRuntime, alloc: Global, file: &str, out: &mut
 /// Prints the version of the program.
 fn tell_version<O: Write>(out: &mut O) -> End
     ensures job { EndsJob result }
-    ensures told { IfDone result (Appends (O.contents out.old) (O.contents out.new) line_of_version) }
+    ensures told { IfDone result
+        (Appends (O.contents out.old) (O.contents out.new) line_of_version) }
 {
     match send(out, version_line().as_bytes()) {
         Ok(()) => End::Done,

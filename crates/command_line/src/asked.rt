@@ -49,7 +49,8 @@ pub(crate) fn journeys_in(alloc: Global, matches: &ArgMatches) -> Result<Journey
 pub(crate) fn unfinished_in(alloc: Global, matches: &ArgMatches) -> Result<JourneyFilter, JobFault>
     ensures journeys { IfOk result (HasJourneys unfinished_in (values_read matches.now)) }
     ensures taken { IsOk result → has_bad_journeys unfinished_in (values_read matches.now) ≡ false }
-    ensures usage { IsUsage result → has_bad_journeys unfinished_in (values_read matches.now) ≡ true }
+    ensures usage { IsUsage result →
+        has_bad_journeys unfinished_in (values_read matches.now) ≡ true }
 {
     let agent = agent_in(alloc, matches)?;
     let phases = unfinished_phases_in(alloc, matches)?;
@@ -110,7 +111,8 @@ fn code_in(
     id: &str,
     option: &str,
 ) -> Result<Option<Code>, JobFault>
-    ensures code { IfOk result (λ code. spelled code_named (values_read matches.now id.now) ≡ Some code) }
+    ensures code { IfOk result
+        (λ code. spelled code_named (values_read matches.now id.now) ≡ Some code) }
     ensures usage { IsUsage result → spelled code_named (values_read matches.now id.now) ≡ None }
 {
     let Some(word) = matches.get_str(id) else {
@@ -129,7 +131,8 @@ fn night_in(
     id: &str,
     option: &str,
 ) -> Result<Option<Night>, JobFault>
-    ensures night { IfOk result (λ night. spelled night_in (values_read matches.now id.now) ≡ Some night) }
+    ensures night { IfOk result
+        (λ night. spelled night_in (values_read matches.now id.now) ≡ Some night) }
     ensures usage { IsUsage result → spelled night_in (values_read matches.now id.now) ≡ None }
 {
     let Some(word) = matches.get_str(id) else {
@@ -165,7 +168,8 @@ fn agent_in(alloc: Global, matches: &ArgMatches) -> Result<Option<Agent>, JobFau
 
 /// The phases of the state that is asked for; all phases if none is.
 fn phases_in(alloc: Global, matches: &ArgMatches) -> Result<Phases, JobFault>
-    ensures phases { IfOk result (λ phases. phases_in (values_read matches.now (codes "STATE")) ≡ Some phases) }
+    ensures phases { IfOk result
+        (λ phases. phases_in (values_read matches.now (codes "STATE")) ≡ Some phases) }
     ensures usage { IsUsage result → phases_in (values_read matches.now (codes "STATE")) ≡ None }
 {
     let Some(word) = matches.get_str("STATE") else {
@@ -179,8 +183,10 @@ fn phases_in(alloc: Global, matches: &ArgMatches) -> Result<Phases, JobFault>
 
 /// The same of unfinished journeys.
 fn unfinished_phases_in(alloc: Global, matches: &ArgMatches) -> Result<Phases, JobFault>
-    ensures phases { IfOk result (λ phases. unfinished_in (values_read matches.now (codes "STATE")) ≡ Some phases) }
-    ensures usage { IsUsage result → unfinished_in (values_read matches.now (codes "STATE")) ≡ None }
+    ensures phases { IfOk result
+        (λ phases. unfinished_in (values_read matches.now (codes "STATE")) ≡ Some phases) }
+    ensures usage { IsUsage result →
+        unfinished_in (values_read matches.now (codes "STATE")) ≡ None }
 {
     let Some(word) = matches.get_str("STATE") else {
         return Ok(Phases::Unfinished);

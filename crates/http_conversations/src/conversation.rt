@@ -83,13 +83,15 @@ impl Conversation {
     /// Out of memory, the message was carried out or not, and its page is lost. Then, and where the store failed, the
     /// conversation has failed.
     pub fn answer<B: Book>(&mut self, paths: &Paths, book: &mut B) -> Result<bool, Fault>
-        ensures goes_on { GoesOn (B.is_sound book.new) (B.stands book.old) (B.stands book.new) (B.leaves book.new)
+        ensures goes_on { GoesOn (B.is_sound book.new) (B.stands book.old) (B.stands book.new)
+            (B.leaves book.new)
             (has_broken result) (history self.old).exchanges (history self.new).exchanges }
         ensures takes { TakesFirst result (history self.old) (history self.new) }
         ensures passes { Passes (history self.old) (history self.new) }
         ensures door { (history self.new).door ≡ (history self.old).door }
         ensures way { (history self.new).way ≡ (history self.old).way }
-        ensures at_most_one { length (history self.new).exchanges ≤ length (history self.old).exchanges + 1 }
+        ensures at_most_one { length (history self.new).exchanges
+            ≤ length (history self.old).exchanges + 1 }
         ensures one { result ≡ Ok true → AnswersOne (history self.old) (history self.new) }
         ensures stopping { StopAtLast (stops_by result (history self.new))
             (since (history self.old).exchanges (history self.new).exchanges) }
@@ -133,7 +135,8 @@ impl Conversation {
     /// Writes once what is pending.
     pub fn send<W: Write>(&mut self, writer: &mut W) -> io::Result<usize>
         ensures ok { IfOk result (λ count. (history self.new ≡ after_sent (history self.old) count)
-            × Appends (W.contents writer.old) (W.contents writer.new) (take count (history self.old).pending)) }
+            × Appends (W.contents writer.old) (W.contents writer.new)
+            (take count (history self.old).pending)) }
 
         ensures err { OnErr result ((history self.new ≡ history self.old)
             × Keeps (W.contents writer.old) (W.contents writer.new)) }

@@ -80,7 +80,8 @@ impl Talk {
         buffer: &mut [u8],
         reader: &mut R,
     ) -> io::Result<usize>
-        ensures ok { IfOk result (λ count. (more : List ℕ) × (length more ≡ count) × (count ≤ length buffer.old)
+        ensures ok { IfOk result
+            (λ count. (more : List ℕ) × (length more ≡ count) × (count ≤ length buffer.old)
             × Consumes (R.remaining reader.old) (R.remaining reader.new) more
             × (history_of self.new ≡ after_received (history_of self.old) more)) }
         ensures end { result ≡ Ok 0 → 0 < length buffer.old → IsAtEnd (R.remaining reader.new) }
@@ -109,7 +110,8 @@ impl Talk {
 
     /// Answers the first message that waits, if it is its turn.
     pub(crate) fn answer<B: Book>(&mut self, paths: &Paths, book: &mut B) -> Result<bool, Fault>
-        ensures goes_on { GoesOn (B.is_sound book.new) (B.stands book.old) (B.stands book.new) (B.leaves book.new)
+        ensures goes_on { GoesOn (B.is_sound book.new) (B.stands book.old) (B.stands book.new)
+            (B.leaves book.new)
             (has_broken result) (history_of self.old).exchanges (history_of self.new).exchanges }
         ensures takes { TakesFirst result (history_of self.old) (history_of self.new) }
         ensures none { result ≡ Ok false → HasNoTurn (history_of self.old)
@@ -147,7 +149,8 @@ impl Talk {
         requires is_open { self.old.stage ≡ Stage.Open }
         requires free { self.old.pending.items ≡ [] }
 
-        ensures goes_on { GoesOn (B.is_sound book.new) (B.stands book.old) (B.stands book.new) (B.leaves book.new)
+        ensures goes_on { GoesOn (B.is_sound book.new) (B.stands book.old) (B.stands book.new)
+            (B.leaves book.new)
             (has_broken result) (history_of self.old).exchanges (history_of self.new).exchanges }
         ensures takes { TakesFirst result (history_of self.old) (history_of self.new) }
         ensures some { result ≢ Ok false }
@@ -176,7 +179,8 @@ impl Talk {
         requires within { count ≤ length self.old.waiting.items }
         requires is_open { self.old.stage ≡ Stage.Open }
         ensures answered { history_of self.new
-            ≡ after_answer (history_of self.old) count answer.bytes.items answer.closes answer.stops }
+            ≡ after_answer
+            (history_of self.old) count answer.bytes.items answer.closes answer.stops }
     {
         let closes = answer.closes;
         self.stops = answer.stops;
@@ -253,8 +257,10 @@ impl Talk {
 
     /// Writes once what is pending.
     pub(crate) fn send<W: Write>(&mut self, writer: &mut W) -> io::Result<usize>
-        ensures ok { IfOk result (λ count. (history_of self.new ≡ after_sent (history_of self.old) count)
-            × Appends (W.contents writer.old) (W.contents writer.new) (take count (history_of self.old).pending)) }
+        ensures ok { IfOk result
+            (λ count. (history_of self.new ≡ after_sent (history_of self.old) count)
+            × Appends (W.contents writer.old) (W.contents writer.new)
+            (take count (history_of self.old).pending)) }
 
         ensures err { OnErr result ((history_of self.new ≡ history_of self.old)
             × Keeps (W.contents writer.old) (W.contents writer.new)) }

@@ -55,7 +55,8 @@ impl<R: Read + Drop, W: Write + Drop> Connection<R, W> {
     /// True of every connection, while it is here and when it left: where its ends report their bytes, what was received
     /// was read from the one, and what was handed out was written to the other.
     pub fn always_faithful(&self)
-        ensures faithful { ∥ Faithful R.remaining W.contents self.now.came.items self.now.reader self.now.writer
+        ensures faithful { ∥ Faithful R.remaining W.contents self.now.came.items self.now.reader
+            self.now.writer
             (history self.now.conversation).received (history self.now.conversation).sent ∥₁ }
     {}
 
@@ -97,9 +98,11 @@ impl<R: Read + Drop, W: Write + Drop> Connection<R, W> {
     ) -> Result<Standing, Fault>
         requires small { length buffer.old ≤ MOST_READ }
 
-        ensures goes_on { GoesOn (B.is_sound book.new) (B.stands book.old) (B.stands book.new) (B.leaves book.new)
+        ensures goes_on { GoesOn (B.is_sound book.new) (B.stands book.old) (B.stands book.new)
+            (B.leaves book.new)
             (has_broken result) (exchanges_with self.old) (exchanges_with self.new) }
-        ensures at_most_one { length (exchanges_with self.new) ≤ length (exchanges_with self.old) + 1 }
+        ensures at_most_one { length (exchanges_with self.new)
+            ≤ length (exchanges_with self.old) + 1 }
         ensures rests { IfOk result (λ standing. Rests standing (history self.new.conversation)) }
         ensures arrival { arrival_of self.new ≡ arrival_of self.old }
         ensures stopping { StopAtLast (turn_stops result)
@@ -145,7 +148,8 @@ impl<R: Read + Drop, W: Write + Drop> Connection<R, W> {
     fn gives_go_on(&mut self) -> bool
         ensures kept { exchanges_with self.new ≡ exchanges_with self.old }
         ensures arrival { arrival_of self.new ≡ arrival_of self.old }
-        ensures none { result ≡ false → history self.new.conversation ≡ history self.old.conversation }
+        ensures none { result ≡ false →
+            history self.new.conversation ≡ history self.old.conversation }
     {
         match self.conversation.go_on() {
             Ok(given) => given,
@@ -172,9 +176,11 @@ impl<R: Read + Drop, W: Write + Drop> Connection<R, W> {
         second: Option<u64>,
         book: &mut B,
     ) -> Result<bool, Fault>
-        ensures goes_on { GoesOn (B.is_sound book.new) (B.stands book.old) (B.stands book.new) (B.leaves book.new)
+        ensures goes_on { GoesOn (B.is_sound book.new) (B.stands book.old) (B.stands book.new)
+            (B.leaves book.new)
             (has_broken result) (exchanges_with self.old) (exchanges_with self.new) }
-        ensures at_most_one { length (exchanges_with self.new) ≤ length (exchanges_with self.old) + 1 }
+        ensures at_most_one { length (exchanges_with self.new)
+            ≤ length (exchanges_with self.old) + 1 }
         ensures stopping { StopAtLast (stops_by result (history self.new.conversation))
             (since (exchanges_with self.old) (exchanges_with self.new)) }
         ensures none { result ≡ Ok false → HasNoTurn (history self.old.conversation)
@@ -199,7 +205,8 @@ impl<R: Read + Drop, W: Write + Drop> Connection<R, W> {
 
         ensures kept { exchanges_with self.new ≡ exchanges_with self.old }
         ensures arrival { arrival_of self.new ≡ arrival_of self.old }
-        ensures unsent { (history self.new.conversation).pending ≡ (history self.old.conversation).pending }
+        ensures unsent { (history self.new.conversation).pending
+            ≡ (history self.old.conversation).pending }
         ensures err { OnErr result (history self.new.conversation ≡ history self.old.conversation) }
     {
         self.conversation.receive(buffer, &mut self.reader)

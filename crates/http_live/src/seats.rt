@@ -47,7 +47,8 @@ impl<R: Read + Drop, W: Write + Drop> Seat<R, W> {
     pub(crate) fn take(&mut self, alloc: Global, door: Door, way: Way, reader: R, writer: W)
         ensures kept { exchanges_at self.new ≡ exchanges_at self.old }
         ensures door { HasDoor door way self.new.connection }
-        ensures arrivals { arrivals_at self.new ≡ arrivals_at self.old ++ arrival reader writer door way ∷ [] }
+        ensures arrivals { arrivals_at self.new
+            ≡ arrivals_at self.old ++ arrival reader writer door way ∷ [] }
     {
         self.clear();
         self.connection = Some(Connection::new(alloc, door, way, reader, writer));
@@ -113,14 +114,16 @@ impl<R: Read + Drop, W: Write + Drop> Seat<R, W> {
     ) -> Result<Standing, Fault>
         requires small { length buffer.old ≤ MOST_READ }
 
-        ensures goes_on { GoesOn (B.is_sound book.new) (B.stands book.old) (B.stands book.new) (B.leaves book.new)
+        ensures goes_on { GoesOn (B.is_sound book.new) (B.stands book.old) (B.stands book.new)
+            (B.leaves book.new)
             (has_broken result) (exchanges_at self.old) (exchanges_at self.new) }
         ensures at_most_one { length (exchanges_at self.new) ≤ length (exchanges_at self.old) + 1 }
         ensures rests { IfOk result (λ standing. IfSome self.new.connection
             (λ connection. Rests standing (history connection.conversation))) }
         ensures arrivals { arrivals_at self.new ≡ arrivals_at self.old }
         ensures stopped { result ≡ Ok Standing.Stopped → HasStopAt self.new }
-        ensures stopping { StopAtLast (turn_stops result) (since (exchanges_at self.old) (exchanges_at self.new)) }
+        ensures stopping { StopAtLast (turn_stops result)
+            (since (exchanges_at self.old) (exchanges_at self.new)) }
 
         ensures broken { IfErr result (λ fault. fault ≡ Fault.Store) }
         ensures failed { IsErrOf result Fault.Store → IsTrue (B.has_failed book.new) }

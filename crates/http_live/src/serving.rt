@@ -33,10 +33,12 @@ pub fn serve_many<T: Turns, B: Book>(
     turns: &mut T,
     book: &mut Ready<B>,
 ) -> Result<Ending, Fault>
-    ensures served { Merges (B.is_sound book.new) (B.stands book.old) (B.stands book.new) (B.leaves book.new)
-        (has_broken result) (has_stopped result) (map exchanges_at seats.old) (map exchanges_at seats.new) }
-    ensures worlds { WorldsGoOn (B.is_sound book.new) (B.stands book.old) (B.stands book.new) (B.leaves book.new)
-        (has_broken result) (has_stopped result) (map exchanges_at seats.old) (map exchanges_at seats.new) }
+    ensures served { Merges (B.is_sound book.new) (B.stands book.old) (B.stands book.new)
+        (B.leaves book.new) (has_broken result) (has_stopped result) (map exchanges_at seats.old)
+        (map exchanges_at seats.new) }
+    ensures worlds { WorldsGoOn (B.is_sound book.new) (B.stands book.old) (B.stands book.new)
+        (B.leaves book.new) (has_broken result) (has_stopped result) (map exchanges_at seats.old)
+        (map exchanges_at seats.new) }
     ensures stopped { result ≡ Ok Ending.Stopped → HasStopAmong seats.new }
     ensures doors { AreAtTheirDoors T.is_at seats.old → AreAtTheirDoors T.is_at seats.new }
     ensures ways { AreReadByTheirWays T.is_by seats.old → AreReadByTheirWays T.is_by seats.new }
@@ -68,8 +70,9 @@ fn serve_turns<T: Turns, B: Book>(
 ) -> Result<Ending, Fault>
     requires small { length buffer.old ≤ MOST_READ }
 
-    ensures served { Merges (B.is_sound book.new) (B.stands book.old) (B.stands book.new) (B.leaves book.new)
-        (has_broken result) (has_stopped result) (map exchanges_at seats.old) (map exchanges_at seats.new) }
+    ensures served { Merges (B.is_sound book.new) (B.stands book.old) (B.stands book.new)
+        (B.leaves book.new) (has_broken result) (has_stopped result) (map exchanges_at seats.old)
+        (map exchanges_at seats.new) }
     ensures stopped { result ≡ Ok Ending.Stopped → HasStopAmong seats.new }
     ensures doors { AreAtTheirDoors T.is_at seats.old → AreAtTheirDoors T.is_at seats.new }
     ensures ways { AreReadByTheirWays T.is_by seats.old → AreReadByTheirWays T.is_by seats.new }
@@ -102,8 +105,9 @@ fn take_turn<T: Turns, B: Book>(
 ) -> Result<Option<Ending>, Fault>
     requires small { length buffer.old ≤ MOST_READ }
 
-    ensures served { Merges (B.is_sound book.new) (B.stands book.old) (B.stands book.new) (B.leaves book.new)
-        (has_broken result) (ends_stopped result) (map exchanges_at seats.old) (map exchanges_at seats.new) }
+    ensures served { Merges (B.is_sound book.new) (B.stands book.old) (B.stands book.new)
+        (B.leaves book.new) (has_broken result) (ends_stopped result) (map exchanges_at seats.old)
+        (map exchanges_at seats.new) }
     ensures stopped { result ≡ Ok (Some Ending.Stopped) → HasStopAmong seats.new }
     ensures doors { AreAtTheirDoors T.is_at seats.old → AreAtTheirDoors T.is_at seats.new }
     ensures ways { AreReadByTheirWays T.is_by seats.old → AreReadByTheirWays T.is_by seats.new }

@@ -32,10 +32,10 @@ pub fn serve_sockets<B: Book>(
     sockets: &mut Sockets<'_>,
     book: &mut Ready<B>,
 ) -> Result<(), Fault>
-    ensures worlds { GoOnBySome (B.is_sound book.new) (B.stands book.old) (B.stands book.new) (B.leaves book.new)
-        (has_broken result) }
-    ensures doors { GoOnBySockets ⟦<ReadEnd as Read>⟧ ⟦<WriteEnd as Write>⟧ (B.is_sound book.new) (B.stands book.old)
-        (B.stands book.new) (B.leaves book.new) (has_broken result) }
+    ensures worlds { GoOnBySome (B.is_sound book.new) (B.stands book.old) (B.stands book.new)
+        (B.leaves book.new) (has_broken result) }
+    ensures doors { GoOnBySockets ⟦<ReadEnd as Read>⟧ ⟦<WriteEnd as Write>⟧ (B.is_sound book.new)
+        (B.stands book.old) (B.stands book.new) (B.leaves book.new) (has_broken result) }
 
     ensures failed { IsErrOf result Fault.Store → IsTrue (B.has_failed book.new) }
     ensures stays_failed { IsTrue (B.has_failed book.old) → IsTrue (B.has_failed book.new) }

@@ -29,7 +29,8 @@ pub fn asks_are_short()
 /// The proof applies the law to this request. A law with one more premise, which it does not meet, is refused here.
 pub fn post_is_first()
     ensures first { (more : List ℕ) (m : Wide) (later : List Wide) →
-        WideMessages ((post_bytes ++ text_of_get) ++ more) (m ∷ later) → m ≡ Asks post_page get_bytes }
+        WideMessages ((post_bytes ++ text_of_get) ++ more) (m ∷ later) →
+        m ≡ Asks post_page get_bytes }
     ensures passed { (more : List ℕ) (m : Wide) (later : List Wide) →
         WideMessages ((post_bytes ++ text_of_get) ++ more) (m ∷ later) → WideMessages more later }
 {
@@ -41,7 +42,8 @@ pub fn post_is_first()
 ///
 /// The proof applies the law to these bytes. A law with one more premise, which they do not meet, is refused here.
 pub fn post_has_a_short_ask()
-    ensures short { (x : Said) → Says way.Wide (post_bytes ++ text_of_get) x → HasShortAsk Port x.meant }
+    ensures short { (x : Said) → Says way.Wide (post_bytes ++ text_of_get) x →
+        HasShortAsk Port x.meant }
 {
     asks_are_short();
 }

@@ -90,7 +90,8 @@ pub fn months_text<R: RowSource<(Cell, Held)>, W: Write>(
     ensures given { IfOk result (λ count. count + R.given rows.old ≤ R.given rows.new) }
 
     ensures front { R.is_sound rows.new → (all : List (Cell × Held)) → R.rests rows.old all →
-        WroteFront (W.contents out.old) (W.contents out.new) (months_in report (asked_months filter.now all)) }
+        WroteFront (W.contents out.old) (W.contents out.new)
+        (months_in report (asked_months filter.now all)) }
 
     ensures kept { R.becomes rows.old rows.new }
     ensures sound { R.is_sound rows.new → R.is_sound rows.old }

@@ -25,7 +25,8 @@ pub(crate) fn next_asked<R: RowSource<(Cell, Held)>>(
     rows: &mut R,
 ) -> Result<Option<(Cell, Held)>, Fault>
     ensures next { R.is_sound rows.new → IfOk result
-        (Hands (AskedRest filter.now (R.rests rows.old)) (AskedRest filter.now (R.rests rows.new))) }
+        (Hands (AskedRest filter.now (R.rests rows.old))
+        (AskedRest filter.now (R.rests rows.new))) }
     ensures counted { IfOk result (λ found. count_of found + R.given rows.old ≤ R.given rows.new) }
     ensures few { R.given rows.new < 2 ^ 64 }
 
@@ -51,7 +52,8 @@ pub(crate) fn read_month<R: RowSource<(Cell, Held)>>(
         Hands (MonthsRest (AskedRest filter.now (R.rests rows.old)) (Some first.now))
         (MonthsRest (AskedRest filter.now (R.rests rows.new)) read.after) (Some read.cells.items)) }
     ensures few { IfOk result (λ read. length read.cells.items ≤ MOST_NIGHTS) }
-    ensures counted { IfOk result (λ read. count_of read.after + R.given rows.old ≤ R.given rows.new) }
+    ensures counted { IfOk result
+        (λ read. count_of read.after + R.given rows.old ≤ R.given rows.new) }
     ensures given { OnOk result (R.given rows.new < 2 ^ 64) }
 
     ensures kept { R.becomes rows.old rows.new }

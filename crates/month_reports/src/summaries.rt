@@ -96,7 +96,8 @@ pub(crate) fn month_text(alloc: Global, night: Night) -> Result<String, AllocErr
 
 /// The same line as an object.
 fn summary_object(alloc: Global, cell: &Cell, sums: &Sums) -> Result<String, AllocError>
-    ensures line { IfOk result (λ text. string_bytes text ≡ json_line (summary_data cell.now sums.now)) }
+    ensures line { IfOk result
+        (λ text. string_bytes text ≡ json_line (summary_data cell.now sums.now)) }
 {
     let month = month_text(alloc, cell.night)?;
     let value = summary_value(alloc, cell, month.as_str(), sums)?;
@@ -131,7 +132,8 @@ fn summary_value(alloc: Global, cell: &Cell, month: &str, sums: &Sums) -> Result
 
 /// The same line as a record.
 fn summary_record(alloc: Global, cell: &Cell, sums: &Sums) -> Result<Vec<u8>, AllocError>
-    ensures fields { IfOk result (λ bytes. bytes.items ≡ csv_line (summary_fields cell.now sums.now)) }
+    ensures fields { IfOk result
+        (λ bytes. bytes.items ≡ csv_line (summary_fields cell.now sums.now)) }
 {
     let month = month_text(alloc, cell.night)?;
     let mut row = ByteRecord::new(alloc);

@@ -34,7 +34,8 @@ fn is_cell(cell: &Cell, other: &Cell) -> bool
 
 /// The first cell of a list that is this one.
 fn find_cell<'a>(cells: &'a [(Cell, Held)], cell: &Cell) -> Option<&'a (Cell, Held)>
-    ensures first { option_copied result ≡ find (λ (r : Cell × Held). is_cell cell.now r.0) cells.now }
+    ensures first { option_copied result
+        ≡ find (λ (r : Cell × Held). is_cell cell.now r.0) cells.now }
 {
     cells.iter().find(|row| is_cell(cell, &row.0))
 }

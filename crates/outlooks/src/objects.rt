@@ -39,7 +39,8 @@ fn object_of(alloc: Global, id: u64, next: &NextStep) -> Result<String, AllocErr
 
 /// The line of a night and what is free of it.
 pub(crate) fn night_object(alloc: Global, id: u64, row: &FreeNight) -> Result<String, AllocError>
-    ensures line { IfOk result (λ text. string_bytes text ≡ json_line (night_data id row.now.night row.now.free)) }
+    ensures line { IfOk result
+        (λ text. string_bytes text ≡ json_line (night_data id row.now.night row.now.free)) }
 {
     let night = night_text(alloc, row.night)?;
     let value = night_value(alloc, id, night.as_str(), row)?;
@@ -58,7 +59,8 @@ pub(crate) fn step_object(alloc: Global, id: u64, step: &Option<Item>) -> Result
 /// The value of a next step with these texts of its item and want.
 fn next_value(alloc: Global, id: u64, item: &str, want: &str) -> Result<Value, AllocError>
     ensures value { IfOk result (λ value. view value ≡ json
-        (counts (codes "journey") id ∷ says (codes "next") item.now ∷ says (codes "want") want.now ∷ [])) }
+        (counts (codes "journey") id ∷ says (codes "next") item.now
+        ∷ says (codes "want") want.now ∷ [])) }
 {
     json!(in alloc; {"journey": id, "next": item, "want": want})
 }

@@ -24,7 +24,8 @@ pub(crate) fn why_record(
     outlook: &Outlook,
     night: &Option<FreeNight>,
 ) -> Result<Vec<u8>, AllocError>
-    ensures fields { IfOk result (λ text. text.items ≡ csv_line (why_fields outlook.now night.now)) }
+    ensures fields { IfOk result
+        (λ text. text.items ≡ csv_line (why_fields outlook.now night.now)) }
 {
     let step = step_word(alloc, &outlook.step)?;
     let mut row = ByteRecord::new(alloc);

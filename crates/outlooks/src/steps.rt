@@ -73,9 +73,11 @@ pub fn latest_option<R: RowSource<Item>>(rows: &mut R, step: usize) -> Result<Op
 /// The next step of a journey with its want. `taken` is the option with which the step at its position was done last, if
 /// it goes back. A position or an option that the plan does not have is a fault of the store.
 pub fn next_step(journey: &Record, taken: Option<usize>) -> Result<Option<NextStep>, Fault>
-    ensures next { (l : List Event) (j : ℕ) → IsJourneyOf l j journey.now → IsTaken l j journey.now taken →
+    ensures next { (l : List Event) (j : ℕ) → IsJourneyOf l j journey.now →
+        IsTaken l j journey.now taken →
         IfOk result (λ next. next ≡ next_of journey.now.plan (history l j)) }
-    ensures there { (l : List Event) (j : ℕ) → IsJourneyOf l j journey.now → IsTaken l j journey.now taken →
+    ensures there { (l : List Event) (j : ℕ) → IsJourneyOf l j journey.now →
+        IsTaken l j journey.now taken →
         IsOk result }
     ensures short { OnOk result (journey.now.cursor.phase ≡ Run →
         journey.now.cursor.pos < step_count journey.now.plan) }
@@ -107,7 +109,8 @@ fn step_up(plan: &Plan, pos: usize, used: usize) -> Result<NextStep, Fault>
 
 /// The compensation of this step of a plan, which took this option.
 fn step_down(plan: &Plan, step: usize, taken: Option<usize>) -> Result<NextStep, Fault>
-    ensures down { IfOk result (λ next. IfSome taken (λ option. IsStepDown plan.now step option next)) }
+    ensures down { IfOk result
+        (λ next. IfSome taken (λ option. IsStepDown plan.now step option next)) }
     ensures there { IfSome taken (HasOption plan.now step) → IsSome taken → IsOk result }
 {
     let Some(option) = taken else {
@@ -134,10 +137,12 @@ fn item_of(next: &Option<NextStep>) -> Option<Item>
 
 /// The item that a step makes, by the next step of a journey and whether its want fits.
 fn step_now(journey: &Record, next: &Option<NextStep>, fitting: bool) -> Option<Item>
-    requires short { journey.now.cursor.phase ≡ Run → journey.now.cursor.pos < step_count journey.now.plan }
+    requires short { journey.now.cursor.phase ≡ Run →
+        journey.now.cursor.pos < step_count journey.now.plan }
 
     ensures step { (l : List Event) (j : ℕ) → IsJourneyOf l j journey.now →
-        next.now ≡ next_of journey.now.plan (history l j) → FitsNext l next.now fitting → result ≡ step_of l j }
+        next.now ≡ next_of journey.now.plan (history l j) → FitsNext l next.now fitting →
+        result ≡ step_of l j }
 {
     match decide(&journey.plan, &journey.marks, &journey.cursor, fitting) {
         Move::Turn(target) => Some(Item::Turn {
@@ -152,7 +157,8 @@ fn step_now(journey: &Record, next: &Option<NextStep>, fitting: bool) -> Option<
 
 /// Whether the want of a next step fits, by what is free of its nights; `false` if there is none.
 fn fits_next(next: &Option<NextStep>, nights: &[FreeNight]) -> bool
-    ensures fits { (l : List Event) → IsLegal l → nights.now ≡ nights_ahead l next.now → FitsNext l next.now result }
+    ensures fits { (l : List Event) → IsLegal l → nights.now ≡ nights_ahead l next.now →
+        FitsNext l next.now result }
 {
     match next {
         Some(next) => fits_nights(&next.want, nights),
@@ -167,7 +173,8 @@ pub fn look_ahead(
     next: Option<NextStep>,
     nights: &[FreeNight],
 ) -> Outlook
-    requires short { journey.now.cursor.phase ≡ Run → journey.now.cursor.pos < step_count journey.now.plan }
+    requires short { journey.now.cursor.phase ≡ Run →
+        journey.now.cursor.pos < step_count journey.now.plan }
 
     ensures outlook { (l : List Event) → IsJourneyOf l id journey.now →
         next ≡ next_of journey.now.plan (history l id) → nights.now ≡ nights_ahead l next →

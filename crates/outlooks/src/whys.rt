@@ -65,7 +65,8 @@ fn push_row(
     night: &FreeNight,
     text: &mut Vec<u8>,
 ) -> Result<(), AllocError>
-    ensures row { OnOk result (text.new.items ≡ text.old.items ++ why_row format outlook.now night.now) }
+    ensures row { OnOk result (text.new.items
+        ≡ text.old.items ++ why_row format outlook.now night.now) }
 {
     let row = why_row(alloc, format, outlook, night)?;
     text.extend_from_slice(row.as_slice())?;
