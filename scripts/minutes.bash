@@ -42,3 +42,25 @@ minutes_reckoned() {
       printf "%d\n", wall + 0.999
     }' "$top/docs/minutes.tsv" "$top/crates.txt" -
 }
+
+# longest_first: reads names of crates, one a line, and prints them in the order in which they best begin: those first on which
+# the longest chain of crates waits that are proved one after another, by minutes. Of two alike the first stays first.
+longest_first() {
+  awk -v top="$top" '
+    function chain(name,    word, i, longest) {
+      if (name in known) return known[name]
+      for (i = split(users[name], word, " "); i > 0; i--) {
+        if (chain(word[i]) > longest) longest = chain(word[i])
+      }
+      return known[name] = longest + (name in proof ? proof[name] + 0 : 2)
+    }
+    FILENAME ~ /minutes\.tsv$/ { if (!/^#/) proof[$1] = $2; next }
+    FILENAME ~ /crates\.txt$/ { sub(/#.*/, ""); if (split($0, half, ":") > 1) { split(half[1], w, " "); uses[w[1]] = half[2] }; next }
+    { asked[++count] = $1 }
+    END {
+      for (at = 1; at <= count; at++) {
+        for (i = split(uses[asked[at]], word, " "); i > 0; i--) users[word[i]] = users[word[i]] " " asked[at]
+      }
+      for (at = 1; at <= count; at++) print chain(asked[at]), asked[at]
+    }' "$top/docs/minutes.tsv" "$top/crates.txt" - | LC_ALL=C sort -s -k1,1nr | cut -d " " -f 2
+}

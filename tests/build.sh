@@ -89,6 +89,13 @@ same "the program: standard error" "" "$(cat "$work/err")"
 builds 0
 same "nothing is built twice" "" "$(order)"
 
+# the crate on which the longest chain waits begins first: two minutes each, but for `first` and what the table has
+mkdir -p "$work/chain/docs"
+printf 'first:\nsecond:\nover: second sqlite\nlast: first over\nnext: first\n' >"$work/chain/crates.txt"
+printf '# names\ncrate\tproof\nfirst\t1.5\nnext\t-\n' >"$work/chain/docs/minutes.tsv"
+same "which crates begin first" "second over first last next" \
+  "$(top=$work/chain && . scripts/minutes.bash && crates=$(sed 's/:.*//' "$top/crates.txt") && longest_first <<<"$crates" | xargs)"
+
 # a build that is stopped goes on with what was kept
 touch crates/low/src/lib.rt
 touch "$FAKE/hold"
