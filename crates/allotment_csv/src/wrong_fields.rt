@@ -71,7 +71,8 @@ fn wrong_of<'a>(fields: &Fields<'a>) -> Option<(Column, &'a str)>
 
 /// The first field of the record that is not what its column holds.
 fn wrong_in(alloc: Global, record: &ByteRecord) -> Result<Option<WrongField>, AllocError>
-    ensures wrong { IfOk result (λ wrong. option_map field_text wrong ≡ first_wrong (fields_of record.now)) }
+    ensures wrong { IfOk result
+        (λ wrong. option_map field_text wrong ≡ first_wrong (fields_of record.now)) }
 {
     let Some(fields) = fields_in(record) else {
         return Ok(None);
@@ -110,7 +111,8 @@ fn record_after(
 /// Returns `None` if there is no such row, if the row has not five fields of text, or if nothing is wrong with each by
 /// itself. The only error is out of memory.
 pub fn wrong_field(alloc: Global, bytes: &[u8], row: usize) -> Result<Option<WrongField>, CsvFault>
-    ensures wrong { IfOk result (λ wrong. option_map field_text wrong ≡ wrong_field_in bytes.now row) }
+    ensures wrong { IfOk result
+        (λ wrong. option_map field_text wrong ≡ wrong_field_in bytes.now row) }
 {
     let mut reader = open(alloc, bytes);
     let mut record = ByteRecord::new(alloc);

@@ -139,7 +139,8 @@ fn four_in(
 
 /// The turn of a journey to a position.
 fn abort_of(id: &str, position: &str) -> Option<Command>
-    ensures abort { request_if_any result ≡ abort_meant (journey_of id.now) (position_of position.now) }
+    ensures abort { request_if_any result
+        ≡ abort_meant (journey_of id.now) (position_of position.now) }
 {
     let id = journey_in(id)?;
     let position = position_in(position)?;
@@ -153,7 +154,8 @@ fn load_of(
     cell: &str,
     places: &str,
 ) -> Result<Option<Command>, AllocError>
-    ensures load { IfOk result (λ command. let row = row_meant (cell_in cell.now) (places_in places.now) in
+    ensures load { IfOk result
+        (λ command. let row = row_meant (cell_in cell.now) (places_in places.now) in
         request_if_any command ≡ load_meant (name_in name.now) row) }
 {
     let (Some(name), Some(row)) = (Name::parse(name), row_of(cell, places)) else {

@@ -146,8 +146,10 @@ fn carry_out<B: Book>(alloc: Global, order: &Order, book: &mut B) -> Result<Stri
         LeavesNoMore (B.leaves book.old) (B.leaves book.new) }
     ensures may_act { B.is_sound book.new → (first : B) → OnOk result (ActsOnAfter
         (B.may_act first book.old) (B.may_act first book.new) (asks_meant (meaning_of order.now))) }
-    ensures reason { B.is_sound book.new → (first : B) → IsErrOf result ServeFault.Store → FailsAmong
-        (B.may_act first book.old) (B.has_reason first book.new) (asks_meant (meaning_of order.now)) }
+    ensures reason { B.is_sound book.new → (first : B) →
+        IsErrOf result ServeFault.Store → FailsAmong
+        (B.may_act first book.old) (B.has_reason first book.new)
+        (asks_meant (meaning_of order.now)) }
 
     ensures sound { B.is_sound book.new → B.is_sound book.old }
 {

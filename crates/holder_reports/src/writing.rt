@@ -48,7 +48,8 @@ pub fn holders_text<R: RowSource<Holder>, W: Write>(
 
 /// What comes after so many holders.
 fn ending(alloc: Global, format: Format, count: u64) -> Result<String, AllocError>
-    ensures ending { IfOk result (λ text. string_bytes text ≡ last_line format (codes "holders") count) }
+    ensures ending { IfOk result
+        (λ text. string_bytes text ≡ last_line format (codes "holders") count) }
 {
     match format {
         Format::Text => format!(in alloc; "holders {count}\n"),
@@ -64,7 +65,8 @@ fn send_holders<R: RowSource<Holder>, W: Write>(
     out: &mut W,
 ) -> Result<u64, ReportFault>
     ensures written { R.is_sound rows.new → (all : List Holder) → R.rests rows.old all →
-        OnOk result (Appends (W.contents out.old) (W.contents out.new) (flat_map (holder_row format) all)) }
+        OnOk result
+        (Appends (W.contents out.old) (W.contents out.new) (flat_map (holder_row format) all)) }
     ensures number { R.is_sound rows.new → (all : List Holder) → R.rests rows.old all →
         IfOk result (λ count. count ≡ length all) }
     ensures rest { R.is_sound rows.new → (all : List Holder) → R.rests rows.old all →

@@ -171,7 +171,8 @@ impl<'a> Journal<'a> {
 
     /// Writes a line, if there is one. It has printable bytes of ASCII alone, so that one line is one record.
     fn write(&self, line: Option<String>)
-        requires printable { IfSome line (λ text. IsTrue (list_all is_printable (string_bytes text))) }
+        requires printable { IfSome line
+            (λ text. IsTrue (list_all is_printable (string_bytes text))) }
     {
         if let Some(line) = line {
             info!(self.rt; target: "desk", "{line}");

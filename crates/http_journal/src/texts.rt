@@ -38,7 +38,8 @@ fn both(agent: Option<Agent>, key: Option<Key>) -> Option<(Agent, Key)>
 /// What the line of a message says of it.
 pub(crate) fn asked_by<'m>(arrived: &'m Arrived, status: &'m [u8], again: bool) -> Asked<'m>
     ensures agent { result.agent.now ≡ text_of (λ r. unwrap_or r.agent []) arrived.now.message }
-    ensures method { result.method.now ≡ text_of (method_by arrived.now.layout) arrived.now.message }
+    ensures method { result.method.now
+        ≡ text_of (method_by arrived.now.layout) arrived.now.message }
     ensures target { result.target.now ≡ text_of (λ r. r.target.items) arrived.now.message }
     ensures status { result.status.now ≡ status.now }
     ensures key { result.key.now ≡ text_of (λ r. unwrap_or r.key []) arrived.now.message }

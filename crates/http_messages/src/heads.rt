@@ -48,7 +48,8 @@ impl Head {
     /// The request of this head, without its body.
     pub(crate) fn request(&self, alloc: Global, front: &[u8]) -> Result<Request, AllocError>
         requires { LiesIn front.now self.now }
-        ensures request { IfOk result (λ request. IsRequest request (parts_in front.now self.now) []) }
+        ensures request { IfOk result
+            (λ request. IsRequest request (parts_in front.now self.now) []) }
     {
         Ok(Request {
             method: self.line.method.of(front).to_vec(alloc)?,

@@ -88,7 +88,8 @@ impl Incoming {
         ensures at_once { IsSome (first_told self.old.waiting) →
             (self.new.waiting ≡ self.old.waiting) × (reader.new ≡ reader.old) }
 
-        ensures reads { ReadsOn self.old self.new (R.remaining reader.old) (R.remaining reader.new) }
+        ensures reads { ReadsOn self.old self.new (R.remaining reader.old)
+            (R.remaining reader.new) }
     {
         let mut search = Search::new();
         loop {
@@ -107,7 +108,8 @@ impl Incoming {
         ensures at_once { count ≤ length self.old.waiting →
             (self.new.waiting ≡ self.old.waiting) × (reader.new ≡ reader.old) }
 
-        ensures reads { ReadsOn self.old self.new (R.remaining reader.old) (R.remaining reader.new) }
+        ensures reads { ReadsOn self.old self.new (R.remaining reader.old)
+            (R.remaining reader.new) }
     {
         while self.waiting.len() < count {
             if !self.fill(reader)? {
@@ -119,7 +121,8 @@ impl Incoming {
 
     /// Appends one read to the buffer, and returns whether there was a byte.
     fn fill<R: Read>(&mut self, reader: &mut R) -> Result<bool, ReadFault>
-        ensures reads { ReadsOn self.old self.new (R.remaining reader.old) (R.remaining reader.new) }
+        ensures reads { ReadsOn self.old self.new (R.remaining reader.old)
+            (R.remaining reader.new) }
         ensures end { IfOk result (λ more. more ≡ false →
             (self.new ≡ self.old) × IsAtEnd (R.remaining reader.new)) }
         ensures fewer { IfOk result (λ more. more ≡ true → self.new.left < self.old.left) }

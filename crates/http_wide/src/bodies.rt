@@ -68,7 +68,8 @@ impl BodyReader {
     pub fn new(alloc: Global, kind: BodyKind) -> BodyReader
         requires within { IsWithinLimit kind }
         ensures first { result ≡ first_reading kind }
-        ensures waits { (stream body rest : List ℕ) → IsBody kind stream body rest ↔ Awaits result stream body rest }
+        ensures waits { (stream body rest : List ℕ) →
+            IsBody kind stream body rest ↔ Awaits result stream body rest }
     {
         let decoder = match kind {
             BodyKind::Sized(count) => Decoder::Length(count as u64),

@@ -45,7 +45,8 @@ pub fn request_in_a_body()
     ensures only { (rest : List ℕ) (k : RequestHead) (other left : List ℕ) →
         BeginsWith (post_bytes ++ (text_of_get ++ rest)) (Asks k other) left → left ≡ rest }
     ensures first { (rest left : List ℕ) (m : Wide) →
-        BeginsWith (post_bytes ++ (text_of_get ++ rest)) m left → (m ≡ Asks post_page get_bytes) × (left ≡ rest) }
+        BeginsWith (post_bytes ++ (text_of_get ++ rest)) m left →
+        (m ≡ Asks post_page get_bytes) × (left ≡ rest) }
     ensures passed { (rest : List ℕ) (m : Wide) (later : List Wide) →
         WideMessages (post_bytes ++ (text_of_get ++ rest)) (m ∷ later) → WideMessages rest later }
     ensures one { (other left : List ℕ) → IsBody Chunked text_of_get other left

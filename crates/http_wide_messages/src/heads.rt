@@ -117,7 +117,8 @@ impl Head {
         body: Vec<u8>,
     ) -> Result<Request, AllocError>
         requires { LiesIn front.now self.now }
-        ensures says { IfOk result (λ request. SaysPlainly request (parts_in front.now self.now) body.items) }
+        ensures says { IfOk result
+            (λ request. SaysPlainly request (parts_in front.now self.now) body.items) }
     {
         let host = self.host(front);
         Ok(Request {

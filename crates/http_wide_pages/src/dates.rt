@@ -24,7 +24,8 @@ pub fn date_line(alloc: Global, second: Option<u64>) -> Result<String, AllocErro
 
 /// The field of a date, with its line end. The only fault is out of memory.
 fn line_of(alloc: Global, date: HttpDate) -> Result<String, AllocError>
-    ensures line { IfOk result (λ text. string_bytes text ≡ line (codes "Date: " ++ date_text date)) }
+    ensures line { IfOk result
+        (λ text. string_bytes text ≡ line (codes "Date: " ++ date_text date)) }
 {
     let text = fmt_http_date(alloc, date)?;
     format!(in alloc; "Date: {text}\r\n")

@@ -44,7 +44,8 @@ impl Ended {
     pub fn explain<O: Write, E: Write>(&self, alloc: Global, out: &mut O, err: &mut E) -> u8
         ensures status { result ≡ status_of self.now.end }
         ensures out { WroteFront (O.contents out.old) (O.contents out.new) (told_out self.now.end) }
-        ensures err { Explains self.now.end self.now.cause (E.contents err.old) (E.contents err.new) }
+        ensures err { Explains self.now.end self.now.cause (E.contents err.old)
+            (E.contents err.new) }
     {
         let status = self.end.tell(alloc, out, err);
         tell_cause(self.cause, err);

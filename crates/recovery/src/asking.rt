@@ -32,7 +32,8 @@ pub fn stop<B: Book>(book: &mut B, id: u64) -> Result<bool, Fault>
         (MayRecover (B.stands book.old) (B.may_act first book.old) later)
         (AfterMove (B.stands book.new) (B.may_act first book.new) later made) id made) }
     ensures reason { B.is_sound book.new → (first : B) (later : Asks) → IfErr result (λ f.
-        f ≡ Fault.Store → StopsOrNot (MayRecover (B.stands book.old) (B.may_act first book.old) later)
+        f ≡ Fault.Store →
+        StopsOrNot (MayRecover (B.stands book.old) (B.may_act first book.old) later)
         NoState (B.has_reason first book.new) id Fault.Store) }
     ensures sound { B.is_sound book.new → B.is_sound book.old }
 {
@@ -58,7 +59,8 @@ pub fn step<B: Book>(book: &mut B, id: u64) -> Result<Option<Phase>, Fault>
         (MayRecover (B.stands book.old) (B.may_act first book.old) later)
         (AfterMove (B.stands book.new) (B.may_act first book.new) later (is_some phase)) id phase) }
     ensures reason { B.is_sound book.new → (first : B) (later : Asks) → IfErr result (λ f.
-        f ≡ Fault.Store → StepsOrNot (MayRecover (B.stands book.old) (B.may_act first book.old) later)
+        f ≡ Fault.Store →
+        StepsOrNot (MayRecover (B.stands book.old) (B.may_act first book.old) later)
         NoState (B.has_reason first book.new) id Fault.Store) }
     ensures sound { B.is_sound book.new → B.is_sound book.old }
 {

@@ -18,7 +18,8 @@ pub fn one_recovery()
 ///
 /// Its proof hands the law that state. So a premise more in the law, which this state does not meet, is refused here.
 pub fn recovery_of_one_room()
-    ensures alone { (other : List Event) → IsRecovery room_is_wanted_twice other → other ≡ room_changes_hands }
+    ensures alone { (other : List Event) → IsRecovery room_is_wanted_twice other →
+        other ≡ room_changes_hands }
     ensures bounded { length room_changes_hands ≤ bound room_is_wanted_twice.ledger }
 {
     one_recovery();

@@ -71,11 +71,13 @@ pub fn turn_back<B: Book>(book: &mut B) -> Result<Came, Fault>
     ensures stays_failed { IsTrue (B.has_failed book.old) → IsTrue (B.has_failed book.new) }
     ensures stays_left { IsTrue (B.has_failed book.old) →
         LeavesNoMore (B.leaves book.old) (B.leaves book.new) }
-    ensures may_act { B.is_sound book.new → (first : B) (later : Asks) → IfOk result (λ came. MadeStops
+    ensures may_act { B.is_sound book.new → (first : B) (later : Asks) →
+        IfOk result (λ came. MadeStops
         (MayRecover (B.stands book.old) (B.may_act first book.old) later)
         (AfterPass (B.stands book.new) (B.may_act first book.new) later came) came) }
     ensures reason { B.is_sound book.new → (first : B) (later : Asks) → IfErr result (λ f.
-        f ≡ Fault.Store → MadeSomeStops (MayRecover (B.stands book.old) (B.may_act first book.old) later)
+        f ≡ Fault.Store →
+        MadeSomeStops (MayRecover (B.stands book.old) (B.may_act first book.old) later)
         NoState (B.has_reason first book.new) Fault.Store) }
     ensures sound { B.is_sound book.new → B.is_sound book.old }
 {
@@ -104,16 +106,19 @@ fn carry_one<B: Book>(book: &mut B, pass: Pass, id: u64) -> Result<Came, Fault>
     ensures ok { B.is_sound book.new →
         IfOk result (λ came. CarriedOne (B.stands book.old) (B.stands book.new) pass id came) }
     ensures fault { B.is_sound book.new →
-        IfErr result (CarriedOneSome (B.stands book.old) (B.stands book.new) (B.leaves book.new) pass id) }
+        IfErr result
+        (CarriedOneSome (B.stands book.old) (B.stands book.new) (B.leaves book.new) pass id) }
     ensures failed { IfErr result (λ f. f ≡ Fault.Store → IsTrue (B.has_failed book.new)) }
     ensures stays_failed { IsTrue (B.has_failed book.old) → IsTrue (B.has_failed book.new) }
     ensures stays_left { IsTrue (B.has_failed book.old) →
         LeavesNoMore (B.leaves book.old) (B.leaves book.new) }
-    ensures may_act { B.is_sound book.new → (first : B) (later : Asks) → IfOk result (λ came. CarriedOne
+    ensures may_act { B.is_sound book.new → (first : B) (later : Asks) →
+        IfOk result (λ came. CarriedOne
         (MayRecover (B.stands book.old) (B.may_act first book.old) later)
         (AfterPass (B.stands book.new) (B.may_act first book.new) later came) pass id came) }
     ensures reason { B.is_sound book.new → (first : B) (later : Asks) → IfErr result (λ f.
-        f ≡ Fault.Store → CarriedOneSome (MayRecover (B.stands book.old) (B.may_act first book.old) later)
+        f ≡ Fault.Store →
+        CarriedOneSome (MayRecover (B.stands book.old) (B.may_act first book.old) later)
         NoState (B.has_reason first book.new) pass id Fault.Store) }
     ensures sound { B.is_sound book.new → B.is_sound book.old }
 {
@@ -136,16 +141,19 @@ pub fn carry<B: Book>(book: &mut B, pass: Pass) -> Result<Came, Fault>
     ensures ok { B.is_sound book.new →
         IfOk result (λ came. CarriedAll (B.stands book.old) (B.stands book.new) pass came) }
     ensures fault { B.is_sound book.new →
-        IfErr result (CarriedSome (B.stands book.old) (B.stands book.new) (B.leaves book.new) pass) }
+        IfErr result
+        (CarriedSome (B.stands book.old) (B.stands book.new) (B.leaves book.new) pass) }
     ensures failed { IfErr result (λ f. f ≡ Fault.Store → IsTrue (B.has_failed book.new)) }
     ensures stays_failed { IsTrue (B.has_failed book.old) → IsTrue (B.has_failed book.new) }
     ensures stays_left { IsTrue (B.has_failed book.old) →
         LeavesNoMore (B.leaves book.old) (B.leaves book.new) }
-    ensures may_act { B.is_sound book.new → (first : B) (later : Asks) → IfOk result (λ came. CarriedAll
+    ensures may_act { B.is_sound book.new → (first : B) (later : Asks) →
+        IfOk result (λ came. CarriedAll
         (MayRecover (B.stands book.old) (B.may_act first book.old) later)
         (AfterPass (B.stands book.new) (B.may_act first book.new) later came) pass came) }
     ensures reason { B.is_sound book.new → (first : B) (later : Asks) → IfErr result (λ f.
-        f ≡ Fault.Store → CarriedSome (MayRecover (B.stands book.old) (B.may_act first book.old) later)
+        f ≡ Fault.Store →
+        CarriedSome (MayRecover (B.stands book.old) (B.may_act first book.old) later)
         NoState (B.has_reason first book.new) pass Fault.Store) }
     ensures sound { B.is_sound book.new → B.is_sound book.old }
 {

@@ -22,11 +22,13 @@ fn recover_all<B: Book>(book: &mut B) -> Result<u64, Fault>
     ensures stays_failed { IsTrue (B.has_failed book.old) → IsTrue (B.has_failed book.new) }
     ensures stays_left { IsTrue (B.has_failed book.old) →
         LeavesNoMore (B.leaves book.old) (B.leaves book.new) }
-    ensures may_act { B.is_sound book.new → (first : B) (later : Asks) → IfOk result (λ made. Recovers
+    ensures may_act { B.is_sound book.new → (first : B) (later : Asks) →
+        IfOk result (λ made. Recovers
         (MayRecover (B.stands book.old) (B.may_act first book.old) later)
         (MayActThen (B.stands book.new) (B.may_act first book.new) later) made) }
     ensures reason { B.is_sound book.new → (first : B) (later : Asks) → IfErr result (λ f.
-        f ≡ Fault.Store → RecoversSome (MayRecover (B.stands book.old) (B.may_act first book.old) later)
+        f ≡ Fault.Store →
+        RecoversSome (MayRecover (B.stands book.old) (B.may_act first book.old) later)
         NoState (B.has_reason first book.new) Fault.Store) }
     ensures sound { B.is_sound book.new → B.is_sound book.old }
 {
@@ -71,7 +73,8 @@ pub fn recover<B: Book>(book: B) -> Result<(Ready<B>, u64), (B, Fault)>
     ensures may_act { IfOk result (λ r. B.is_sound r.0 → (first : B) (later : Asks) → Recovers
         (MayRecover (B.stands book) (B.may_act first book) later)
         (MayActThen (B.stands r.0) (B.may_act first r.0) later) r.1) }
-    ensures reason { IfErr result (λ e. B.is_sound e.0 → (first : B) (later : Asks) → e.1 ≡ Fault.Store →
+    ensures reason { IfErr result
+        (λ e. B.is_sound e.0 → (first : B) (later : Asks) → e.1 ≡ Fault.Store →
         RecoversSome (MayRecover (B.stands book) (B.may_act first book) later) NoState
         (B.has_reason first e.0) Fault.Store) }
 

@@ -53,7 +53,8 @@ pub fn run<B: Book>(
     ensures may_act { B.is_sound book.new → (first : B) → OnOk result (ActsOnAfter
         (B.may_act first book.old) (B.may_act first book.new) (asks_of commands.now)) }
     ensures reason { B.is_sound book.new → (first : B) → IfErr result (λ e. e.1 ≡ Fault.Store →
-        FailsAmong (B.may_act first book.old) (B.has_reason first book.new) (asks_of commands.now)) }
+        FailsAmong (B.may_act first book.old) (B.has_reason first book.new)
+        (asks_of commands.now)) }
 
     ensures stays_failed { IsTrue (B.has_failed book.old) → IsTrue (B.has_failed book.new) }
     ensures stays_left { IsTrue (B.has_failed book.old) →

@@ -99,7 +99,8 @@ fn answer_new<S: Alter>(
     ensures left { LeavesNew S.Store conn.old conn.new (asker ask.entry) (request_of command.now) }
     ensures sound { WasClean S.Store conn.old conn.new }
 
-    ensures store { UsesForNew S.Store conn.old conn.new (asker ask.entry) (request_of command.now) result }
+    ensures store { UsesForNew S.Store conn.old conn.new (asker ask.entry)
+        (request_of command.now) result }
 {
     match command {
         Command::Load(batch) => answer_load(alloc, conn, batch, ask),
@@ -123,8 +124,8 @@ fn answer_first<S: Alter>(
     requires outside { conn.old.in_transaction ≡ false }
 
     ensures outside { conn.new.in_transaction ≡ false }
-    ensures reply { AnswersFirst S.Store conn.old conn.new (asker ask.entry) (request_of command.now)
-        result }
+    ensures reply { AnswersFirst S.Store conn.old conn.new (asker ask.entry)
+        (request_of command.now) result }
     ensures new { IfOk result (λ answered. IsTrue answered.is_new) }
     ensures after { KeepsNew S.Store conn.old conn.new (asker ask.entry) (request_of command.now)
         result }
@@ -132,7 +133,8 @@ fn answer_first<S: Alter>(
     ensures left { LeavesNew S.Store conn.old conn.new (asker ask.entry) (request_of command.now) }
     ensures sound { WasClean S.Store conn.old conn.new }
 
-    ensures store { UsesForNew S.Store conn.old conn.new (asker ask.entry) (request_of command.now) result }
+    ensures store { UsesForNew S.Store conn.old conn.new (asker ask.entry)
+        (request_of command.now) result }
 {
     match answer_new(alloc, conn, command, ask) {
         Ok(reply) => Ok(Answered {
@@ -162,7 +164,8 @@ fn answer_for<S: Alter>(
     ensures left { LeavesOld S.Store conn.old conn.new (Some ask.now) (request_of command.now) }
     ensures sound { WasClean S.Store conn.old conn.new }
 
-    ensures store { UsesStore S.Store conn.old conn.new (Some ask.now) (request_of command.now) IsDesk result }
+    ensures store { UsesStore S.Store conn.old conn.new (Some ask.now)
+        (request_of command.now) IsDesk result }
 {
     match find_reply(alloc, conn, ask) {
         Ok(Some(reply)) => Ok(Answered {
@@ -193,8 +196,10 @@ pub fn answer<S: Alter>(
     ensures left { LeavesOld S.Store conn.old conn.new (asker ask.entry) (request_of command.now) }
     ensures sound { WasClean S.Store conn.old conn.new }
 
-    ensures store { FailsFor S.Store conn.old conn.new (asker ask.entry) (request_of command.now) IsDesk result }
-    ensures rowids { LeavesRowidsFor S.Store conn.old conn.new (asker ask.entry) (request_of command.now) IsDesk }
+    ensures store { FailsFor S.Store conn.old conn.new (asker ask.entry)
+        (request_of command.now) IsDesk result }
+    ensures rowids { LeavesRowidsFor S.Store conn.old conn.new (asker ask.entry)
+        (request_of command.now) IsDesk }
     ensures up { StaysUp S.Store conn.old conn.new }
 {
     match ask {
@@ -238,7 +243,8 @@ fn commit_kept<S: Alter>(
         → Keeps (state S.Store conn.old) s → MayLeave (state S.Store conn.new) s next }
     ensures sound { WasClean S.Store conn.old conn.new }
 
-    ensures store { FailsToCommit S.Store conn.old conn.new numbers event.now (Some ask.now) reply.now result }
+    ensures store { FailsToCommit S.Store conn.old conn.new numbers event.now
+        (Some ask.now) reply.now result }
     ensures rowids { LeavesRowids S.Store conn.old conn.new numbers event.now (Some ask.now) }
     ensures up { StaysUp S.Store conn.old conn.new }
 {
@@ -270,14 +276,17 @@ pub(crate) fn commit_answered<S: Alter>(
     requires small { IsSmall event.now }
 
     ensures outside { conn.new.in_transaction ≡ false }
-    ensures done { (s next : State) → LeadsTo numbers event.now (asked_by ask.entry) reply.now s next
+    ensures done { (s next : State) →
+        LeadsTo numbers event.now (asked_by ask.entry) reply.now s next
         → Keeps (state S.Store conn.old) s → OnOk result (Keeps (state S.Store conn.new) next) }
     ensures memory { KeepsAtMemory S.Store conn.old conn.new result }
-    ensures left { (s next : State) → LeadsTo numbers event.now (asked_by ask.entry) reply.now s next
+    ensures left { (s next : State) →
+        LeadsTo numbers event.now (asked_by ask.entry) reply.now s next
         → Keeps (state S.Store conn.old) s → MayLeave (state S.Store conn.new) s next }
     ensures sound { WasClean S.Store conn.old conn.new }
 
-    ensures store { FailsToCommit S.Store conn.old conn.new numbers event.now (asked_by ask.entry) reply.now result }
+    ensures store { FailsToCommit S.Store conn.old conn.new numbers event.now
+        (asked_by ask.entry) reply.now result }
     ensures rowids { LeavesRowids S.Store conn.old conn.new numbers event.now (asked_by ask.entry) }
     ensures up { StaysUp S.Store conn.old conn.new }
 {

@@ -35,13 +35,16 @@ pub(crate) fn answer_begin<S: Alter>(
     requires outside { conn.old.in_transaction ≡ false }
 
     ensures outside { conn.new.in_transaction ≡ false }
-    ensures reply { AnswersNew S.Store conn.old conn.new (asked_by ask.entry) (Begin plan.now) result }
-    ensures after { KeepsNew S.Store conn.old conn.new (asked_by ask.entry) (Begin plan.now) result }
+    ensures reply { AnswersNew S.Store conn.old conn.new (asked_by ask.entry)
+        (Begin plan.now) result }
+    ensures after { KeepsNew S.Store conn.old conn.new (asked_by ask.entry)
+        (Begin plan.now) result }
     ensures memory { KeepsAtMemory S.Store conn.old conn.new result }
     ensures left { LeavesNew S.Store conn.old conn.new (asked_by ask.entry) (Begin plan.now) }
     ensures sound { WasClean S.Store conn.old conn.new }
 
-    ensures store { UsesForNew S.Store conn.old conn.new (asked_by ask.entry) (Begin plan.now) result }
+    ensures store { UsesForNew S.Store conn.old conn.new (asked_by ask.entry)
+        (Begin plan.now) result }
 {
     let _steps = plan.steps();
     let counts = read_counts(conn)?;

@@ -95,7 +95,8 @@ fn cells_of<S: Alter>(
 
     ensures outside { conn.new.in_transaction ≡ false }
     ensures cells { ShowsKept S.Store conn.old conn.new result
-        (λ s r. MatchResult r (λ cells. HavePlaces rows.now s cells.items) (TellsBelow rows.now s)) }
+        (λ s r. MatchResult r
+        (λ cells. HavePlaces rows.now s cells.items) (TellsBelow rows.now s)) }
     ensures same { KeepsEach S.Store conn.old conn.new }
     ensures stop { LeavesAsBefore S.Store conn.old conn.new }
     ensures less { WasClean S.Store conn.old conn.new }

@@ -66,7 +66,8 @@ pub(crate) fn find_stand<S: Alter>(
     requires outside { conn.old.in_transaction ≡ false }
 
     ensures outside { conn.new.in_transaction ≡ false }
-    ensures seen { ShowsKept S.Store conn.old conn.new result (SeesStand (asker (asked_by ask.entry)) id) }
+    ensures seen { ShowsKept S.Store conn.old conn.new result
+        (SeesStand (asker (asked_by ask.entry)) id) }
     ensures placed { IfOk result (λ found. IfSome found (λ it. IsPlacedIn it.steps it.cursor)) }
     ensures few { IfOk result (λ found. IfSome found (λ it. it.steps ≤ most_steps)) }
     ensures small { IfOk result (λ found. IfSome found (λ it. id < 2 ^ 63)) }
@@ -146,13 +147,16 @@ pub(crate) fn make_event<S: Alter>(
     requires small { IsSmall made.now.event }
 
     ensures outside { conn.new.in_transaction ≡ false }
-    ensures reply { AnswersMade S.Store conn.old conn.new (asked_by ask.entry) counts made.now result }
-    ensures after { KeepsMade S.Store conn.old conn.new (asked_by ask.entry) counts made.now result }
+    ensures reply { AnswersMade S.Store conn.old conn.new
+        (asked_by ask.entry) counts made.now result }
+    ensures after { KeepsMade S.Store conn.old conn.new
+        (asked_by ask.entry) counts made.now result }
     ensures memory { KeepsAtMemory S.Store conn.old conn.new result }
     ensures left { LeavesMade S.Store conn.old conn.new (asked_by ask.entry) counts made.now }
     ensures sound { WasClean S.Store conn.old conn.new }
 
-    ensures store { UsesForMade S.Store conn.old conn.new (asked_by ask.entry) counts made.now result }
+    ensures store { UsesForMade S.Store conn.old conn.new
+        (asked_by ask.entry) counts made.now result }
 {
     if counts.events >= MOST_EVENTS {
         return Ok(Reply::Refused(Refusal::Limit));
@@ -351,13 +355,17 @@ pub(crate) fn answer_motion<S: Alter>(
     requires few { stand.now.steps ≤ most_steps }
 
     ensures outside { conn.new.in_transaction ≡ false }
-    ensures reply { AnswersRead S.Store conn.old conn.new (asked_by ask.entry) counts id stand.now why result }
-    ensures after { KeepsRead S.Store conn.old conn.new (asked_by ask.entry) counts id stand.now why result }
+    ensures reply { AnswersRead S.Store conn.old conn.new
+        (asked_by ask.entry) counts id stand.now why result }
+    ensures after { KeepsRead S.Store conn.old conn.new
+        (asked_by ask.entry) counts id stand.now why result }
     ensures memory { KeepsAtMemory S.Store conn.old conn.new result }
-    ensures left { LeavesRead S.Store conn.old conn.new (asked_by ask.entry) counts id stand.now why }
+    ensures left { LeavesRead S.Store conn.old conn.new
+        (asked_by ask.entry) counts id stand.now why }
     ensures sound { WasClean S.Store conn.old conn.new }
 
-    ensures store { UsesForRead S.Store conn.old conn.new (asked_by ask.entry) counts id stand.now why result }
+    ensures store { UsesForRead S.Store conn.old conn.new
+        (asked_by ask.entry) counts id stand.now why result }
 {
     if let Some(cause) = start_cause(stand, why) {
         let made = turn_to_start(id, stand, cause);

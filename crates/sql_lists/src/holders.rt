@@ -93,7 +93,8 @@ pub fn next_holder<S: Alter>(rows: &mut Rows<'_, S>) -> Result<Option<HolderFoun
     ensures reason { HasCleanDisk (state S.Store rows.new.conn.now) → (later : List HolderFound)
         → HoldersRest S.Store rows.old.conn.now later
         → IsUp (state S.Store rows.old.conn.now)
-        → IfErr result (HasReason (state S.Store rows.old.conn.now) (state S.Store rows.new.conn.now)) }
+        → IfErr result
+        (HasReason (state S.Store rows.old.conn.now) (state S.Store rows.new.conn.now)) }
     ensures mode { rows.old.conn.now.in_transaction ≡ false
         → rows.new.conn.now.in_transaction ≡ false }
     ensures survives { LeavesNoMore S.Store rows.old.conn.now rows.new.conn.now }

@@ -100,7 +100,8 @@ pub fn next_journey<S: Alter>(rows: &mut Rows<'_, S>) -> Result<Option<JourneyFo
     ensures reason { HasCleanDisk (state S.Store rows.new.conn.now) → (later : List JourneyRow)
         → JourneysRest S.Store rows.old.conn.now later → Each IsAgentText later
         → IsUp (state S.Store rows.old.conn.now)
-        → IfErr result (HasReason (state S.Store rows.old.conn.now) (state S.Store rows.new.conn.now)) }
+        → IfErr result
+        (HasReason (state S.Store rows.old.conn.now) (state S.Store rows.new.conn.now)) }
     ensures mode { rows.old.conn.now.in_transaction ≡ false
         → rows.new.conn.now.in_transaction ≡ false }
     ensures survives { LeavesNoMore S.Store rows.old.conn.now rows.new.conn.now }

@@ -25,7 +25,8 @@ pub fn set_nights<S: Alter>(
     ensures same_reference { tx.new.conn.ghost_name ≡ tx.old.conn.ghost_name }
     ensures made { Writes S.Store tx.old.conn.now tx.new.conn.now result
         (sets_nights range.entry allot free) }
-    ensures count { CountsRows S.Store tx.old.conn.now tx.new.conn.now result (nights_in range.entry) }
+    ensures count { CountsRows S.Store tx.old.conn.now tx.new.conn.now result
+        (nights_in range.entry) }
     ensures reason { FailsToChange S.Store tx.old.conn.now tx.new.conn.now result
         (MaySetNights range.entry allot free) }
     ensures rowids { KeepsRowids S.Store tx.old.conn.now tx.new.conn.now result (λ _. ⊤) }

@@ -136,7 +136,8 @@ pub(crate) fn item_told(found: &ItemFound) -> Option<Item>
 /// The items of rows.
 pub(crate) fn items_told(alloc: Global, found: &[ItemFound]) -> Result<Vec<Item>, Fault>
     ensures told { IfOk result (λ items. TellItems found.now items.items) }
-    ensures there { AllByRecursion (λ i. IsSome (item_in (item_of 0 i))) found.now → IfErr result IsMemory }
+    ensures there { AllByRecursion (λ i. IsSome (item_in (item_of 0 i))) found.now →
+        IfErr result IsMemory }
 {
     let mut items = Vec::new(alloc);
     for row in found {
@@ -188,7 +189,8 @@ fn night_told(found: &NightFound) -> Option<(Night, Held)>
 /// The nights of rows, with their places.
 pub(crate) fn nights_told(alloc: Global, found: &[NightFound]) -> Result<Vec<(Night, Held)>, Fault>
     ensures told { IfOk result (λ nights. TellNights found.now nights.items) }
-    ensures there { AllByRecursion (λ n. IsGoodNight (night_seen n)) found.now → IfErr result IsMemory }
+    ensures there { AllByRecursion (λ n. IsGoodNight (night_seen n)) found.now →
+        IfErr result IsMemory }
 {
     let mut nights = Vec::new(alloc);
     for row in found {
@@ -232,7 +234,8 @@ pub fn cell_told(found: &CellFound) -> Option<(Cell, Held)>
 /// The cells of rows, with their places.
 pub(crate) fn cells_told(alloc: Global, found: &[CellFound]) -> Result<Vec<(Cell, Held)>, Fault>
     ensures told { IfOk result (λ cells. TellCells found.now cells.items) }
-    ensures there { AllByRecursion (λ c. IsGoodStock (stock_of c)) found.now → IfErr result IsMemory }
+    ensures there { AllByRecursion (λ c. IsGoodStock (stock_of c)) found.now →
+        IfErr result IsMemory }
 {
     let mut cells = Vec::new(alloc);
     for row in found {
@@ -251,7 +254,8 @@ pub(crate) fn marks_told(found: &[u64]) -> Option<Marks>
     ensures says { IfSome result (λ marks. (p : ℕ)
         → is_taken_in marks p ≡ list_any (λ q. q == p) found.now) }
     ensures low { IfSome result AreInRange }
-    ensures there { AllByRecursion (λ p. IsTrue (is_between 1 last_mark p)) found.now → IsSome result }
+    ensures there { AllByRecursion (λ p. IsTrue (is_between 1 last_mark p)) found.now →
+        IsSome result }
 {
     let mut marks = Marks::none();
     for at in found {

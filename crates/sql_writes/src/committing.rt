@@ -35,7 +35,8 @@ pub fn commit_event<S: Alter>(
         → Keeps (state S.Store conn.old) s → OnOk result (Keeps (state S.Store conn.new) next) }
     ensures memory { (s : State) → Keeps (state S.Store conn.old) s → result ≡ Err Fault.Memory
         → Keeps (state S.Store conn.new) s }
-    ensures store { FailsToCommitFor S.Store conn.old conn.new numbers event.now keeping.entry result }
+    ensures store { FailsToCommitFor S.Store conn.old conn.new numbers event.now
+        keeping.entry result }
     ensures rowids { LeavesRowids S.Store conn.old conn.new numbers event.now keeping.entry }
     ensures up { StaysUp S.Store conn.old conn.new }
     ensures either { (s next : State) → LeadsTo numbers event.now keeping.entry s next
@@ -62,8 +63,8 @@ fn write_rows<S: Alter>(
     requires { IsSmall event.now }
 
     ensures same_reference { tx.new.conn.ghost_name ≡ tx.old.conn.ghost_name }
-    ensures made { WritesRows S.Store tx.old.conn.now tx.new.conn.now (Fits numbers event.now) result
-        (rows_after numbers event.now) }
+    ensures made { WritesRows S.Store tx.old.conn.now tx.new.conn.now
+        (Fits numbers event.now) result (rows_after numbers event.now) }
     ensures reason { FailsOn S.Store tx.old.conn.now tx.new.conn.now result
         (rowids_of numbers event.now) (Permits numbers event.now) }
     ensures rowids { TakesRowids S.Store tx.old.conn.now tx.new.conn.now result
@@ -93,8 +94,8 @@ fn write_kept<S: Alter>(
     requires { IsSmall event.now }
 
     ensures same_reference { tx.new.conn.ghost_name ≡ tx.old.conn.ghost_name }
-    ensures made { WritesRows S.Store tx.old.conn.now tx.new.conn.now (Fits numbers event.now) result
-        (with_kept numbers event.now keeping.entry) }
+    ensures made { WritesRows S.Store tx.old.conn.now tx.new.conn.now
+        (Fits numbers event.now) result (with_kept numbers event.now keeping.entry) }
     ensures reason { FailsOn S.Store tx.old.conn.now tx.new.conn.now result
         (suc (rowids_of numbers event.now)) (PermitsEvent numbers event.now (Some keeping.entry)) }
     ensures rowids { TakesRowids S.Store tx.old.conn.now tx.new.conn.now result
@@ -119,8 +120,8 @@ pub fn write_event<S: Alter>(
     requires { IsSmall event.now }
 
     ensures same_reference { tx.new.conn.ghost_name ≡ tx.old.conn.ghost_name }
-    ensures made { WritesRows S.Store tx.old.conn.now tx.new.conn.now (Fits numbers event.now) result
-        (event_rows numbers event.now keeping.entry) }
+    ensures made { WritesRows S.Store tx.old.conn.now tx.new.conn.now
+        (Fits numbers event.now) result (event_rows numbers event.now keeping.entry) }
     ensures reason { FailsOn S.Store tx.old.conn.now tx.new.conn.now result
         (event_rowids numbers event.now keeping.entry)
         (PermitsEvent numbers event.now keeping.entry) }
