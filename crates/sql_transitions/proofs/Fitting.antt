@@ -1,7 +1,7 @@
--- The nights found of a want determine whether it fits, and those of a cell its held places. For steps and loads.
+-- The nights found of a want determine whether it fits, and the places of a cell those that are held. For steps and loads.
 use Rattle.std.proofs.Common.{◌≡◌, ℕ, ◌+◌, ◌-◌, ◌<◌, ◌≤◌, ◌==◌, List, [], ◌∷◌, map, Bool, true, false, Option, Some, None, refl, sym, ap, ap₂, ◌∙◌, arith, eqb-true, eq-eqb, inl, inr}
 use Rattle.std.specs.Prelude.{option_map, unwrap_or, nat_le, ◌&&◌}
-use Rattle.std.specs.List.{list_any, list_all, cons_option}
+use Rattle.std.specs.List.{list_any, list_all}
 use Rattle.std.proofs.lemmas.Bool.{and_parts, and_from, leb-true, le-leb}
 use Rattle.sqlite_rules.specs.Lists.{Has}
 use Rattle.sqlite_rules.proofs.ListLemmas.{some_has, some_from}
@@ -12,12 +12,9 @@ use Rattle.allotment.specs.declared.cells.Cell.{Cell}
 use Rattle.allotment.specs.declared.places.Held.{Held}
 use Rattle.ledger.specs.Ledger.{Event, held, allotment, has_free, fits, IsLegal}
 use Rattle.ledger_transitions.proofs.Places.{held_within, held_none}
-use Rattle.saga_core.specs.Views.{Places, places_of, at_night, places_shown, night_said}
-use Rattle.desk_sql.specs.declared.stock.NightFound.{NightFound}
-use Rattle.sql_model.specs.Reading.{night_seen}
+use Rattle.saga_core.specs.Views.{Places, places_of, places_shown, night_said}
 use Rattle.sql_model.proofs.ItemRows.{any-map}
 use Rattle.sql_model.proofs.StockRows.{shown_has, has_shown}
-use Rattle.sql_transitions.specs.Loading.{one_night, held_seen}
 use Rattle.sql_transitions.proofs.Wants.{same_test, numbers_within}
 
 module _ (l : List Event) (legal : IsLegal l) where
@@ -51,27 +48,6 @@ module _ (l : List Event) (legal : IsLegal l) where
           → option_map {U = Places} (λ (n : ℕ). record { allot = n; free = n - held l x }) o ≡ None → o ≡ None
       absent None s = refl
       absent (Some n) s = cc
-
-  -- the night found of a cell gives how many of its places are held
-  pub cell_told : (x : Cell) (found : List NightFound)
-      → map night_seen found ≡ places_shown l (one_night x) → held_seen found ≡ held l x
-  cell_told x found shows = go (places_of l x) refl found shows
-    where
-      go : (o : Option Places) → places_of l x ≡ o → (ns : List NightFound)
-          → map night_seen ns ≡ cons_option (option_map (at_night x) (places_of l x)) []
-          → held_seen ns ≡ held l x
-      go None e [] s = sym (held_untold x e)
-      go None e (n ∷ ns) s =
-          let bad : map night_seen (n ∷ ns) ≡ [] =
-          s ∙ ap (λ o. cons_option (option_map (at_night x) o) []) e in cc
-      go (Some p) e [] s =
-          let bad : [] ≡ at_night x p ∷ [] =
-          s ∙ ap (λ o. cons_option (option_map (at_night x) o) []) e in cc
-      go (Some p) e (n ∷ ns) s =
-          let same : night_seen n ∷ map night_seen ns ≡ at_night x p ∷ [] =
-          s ∙ ap (λ o. cons_option (option_map (at_night x) o) []) e in
-          let here : night_seen n ≡ at_night x p = cc in
-          ap (λ (q : ℕ × Places). q.1.allot - q.1.free) here ∙ held_told x p e
 
   module _ (w : Wanted) where
     -- a night has so many free places

@@ -1,13 +1,11 @@
 -- The rows that a load writes, in the order of its statements.
 use Rattle.std.specs.Prelude.{ℕ, ◌-◌, List, [], ◌∷◌}
-use Rattle.allotment.specs.Want.{Wanted}
 use Rattle.allotment.specs.Cells.{kind_number}
 use Rattle.allotment.specs.declared.cells.Cell.{Cell}
 use Rattle.allotment.specs.declared.cells.Row.{Row}
 use Rattle.desk_sql.specs.Rows.{Tables, StockRow}
 use Rattle.desk_sql.specs.Stock.{put}
 use Rattle.desk_sql.specs.Changes.{counts, adds_batch}
-use Rattle.desk_sql.specs.declared.stock.NightFound.{NightFound}
 use Rattle.sql_model.specs.ExpectedRows.{batch_text}
 use Rattle.sql_model.specs.Beginning.{meta_row_at}
 
@@ -36,19 +34,3 @@ abbrev pub with_batch : ℕ → ℕ → List ℕ → List Row → (Cell → ℕ)
 with_batch num journeys name rows holds t =
     counts (meta_row_at num journeys)
     (adds_batch (record { name = name; num = num; content = batch_text rows }) (puts_rows holds rows t))
-
--- a cell as the one night of a want
-abbrev pub one_night : Cell → Wanted
-one_night x = record {
-  kind = x.kind;
-  supplier = x.supplier;
-  product = x.product;
-  first = x.night;
-  nights = 1;
-  count = 1;
-}
-
--- how many places of a cell are held, by what was found of its night
-abbrev pub held_seen : List NightFound → ℕ
-held_seen [] = 0
-held_seen (n ∷ later) = n.allot - n.free
