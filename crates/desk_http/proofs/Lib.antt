@@ -1,3 +1,4 @@
+pub mod PlanTextLemmas
 pub mod MineLemmas
 pub mod DemandLemmas
 pub mod AnswerLemmas

@@ -1,4 +1,5 @@
 pub mod Hosts
+pub mod PlanTexts
 pub mod Demands
 pub mod DemandValues
 pub mod Pages

@@ -15,6 +15,7 @@ mod doors;
 mod law_examples;
 mod laws;
 mod mine;
+mod plan_texts;
 mod showing;
 
 pub use answering::{Answer, answer_to};

@@ -26,7 +26,8 @@ pub(crate) fn see_mine<B: Book>(
 ) -> Result<Page, ServeFault>
     ensures page { B.is_sound book.new → (s : State) → B.stands book.old s →
         Shows (B.stands book.new) (B.leaves book.new) s (λ page.
-        page_said page ≡ value_page (mine_shown asker.now (mine_of s.ledger asker.now after))) result }
+        page_said page
+        ≡ value_page (mine_shown asker.now (mine_of s.ledger asker.now after))) result }
 
     ensures failed { IsErrOf result ServeFault.Store → IsTrue (B.has_failed book.new) }
     ensures stays_failed { IsTrue (B.has_failed book.old) → IsTrue (B.has_failed book.new) }

@@ -10,19 +10,21 @@ ghost use Rattle.http_pages.specs.Pages.{page_said, value_page};
 ghost use Rattle.ledger.specs.Answer.{State};
 ghost use Rattle.saga_core.specs.Books.{LeavesNoMore};
 ghost use Rattle.saga_core.specs.Views.{counts_of};
+ghost use Rattle.serde_json.specs.Read.{read};
 ghost use Rattle.serde_json.specs.Written.{compact_text};
 ghost use Rattle.std.specs.Prelude.{◌≡◌, IfOk, IsErrOf, IsTrue};
 ghost use Rattle.std.specs.String.{string_bytes};
 
 use crate::demands::Unmet;
 use crate::doors::Asker;
+use crate::plan_texts::plan_in;
 use allotment_csv::{CsvFault, read_batch};
 use commands::{Command, Name, Refusal};
 use http_pages::{
     Body, Owners, Page, health_body, journey_body, plan_body, refused_page, shown_page,
     unfinished_body,
 };
-use plan::{Plan, PlanFault};
+use plan::{Plan, PlanFault, json_is_read_back};
 use protocols::ServeFault;
 use reports::{Format, stock_text};
 use saga_core::{Book, Brief, Listed, Record};
@@ -109,7 +111,8 @@ pub(crate) fn see_unfinished<B: Book>(
 ) -> Result<Page, ServeFault>
     ensures page { B.is_sound book.new → (s : State) → B.stands book.old s →
         Shows (B.stands book.new) (B.leaves book.new) s (λ page.
-        page_said page ≡ value_page (unfinished_shown asker.now (own_unfinished s.ledger asker.now))) result }
+        page_said page
+        ≡ value_page (unfinished_shown asker.now (own_unfinished s.ledger asker.now))) result }
 
     ensures failed { IsErrOf result ServeFault.Store → IsTrue (B.has_failed book.new) }
     ensures stays_failed { IsTrue (B.has_failed book.old) → IsTrue (B.has_failed book.new) }
@@ -207,7 +210,21 @@ pub(crate) fn load(alloc: Global, name: Name, body: &[u8]) -> Result<Command, Un
 pub(crate) fn begin(alloc: Global, body: &[u8]) -> Result<Command, Unmet>
     ensures begin { AsksFor (begin_by (value_in body.now)) result }
 {
-    let Some(value) = value_of(alloc, body)? else {
+    let Ok(text) = str::from_utf8(body) else {
+        return Err(Unmet::from(Refusal::BadBody));
+    };
+    json_is_read_back();
+    match plan_in(alloc, text) {
+        Some(plan) => Ok(Command::Begin(plan)),
+        None => begin_of(alloc, text),
+    }
+}
+
+/// The begin of a journey, whose plan is that of the JSON value of a text, or what is wrong with the text.
+fn begin_of(alloc: Global, text: &str) -> Result<Command, Unmet>
+    ensures begin { AsksFor (begin_by (read text.now)) result }
+{
+    let Some(value) = value_of(alloc, text)? else {
         return Err(Unmet::from(Refusal::BadBody));
     };
     match Plan::from_json(alloc, &value) {
@@ -217,13 +234,10 @@ pub(crate) fn begin(alloc: Global, body: &[u8]) -> Result<Command, Unmet>
     }
 }
 
-/// The JSON value of a body. Returns `None` if the body is not UTF-8 or not JSON.
-fn value_of(alloc: Global, body: &[u8]) -> Result<Option<Value>, AllocError>
-    ensures value { IfOk result (ReadsAs (value_in body.now)) }
+/// The JSON value of a text. Returns `None` if the text is not JSON.
+fn value_of(alloc: Global, text: &str) -> Result<Option<Value>, AllocError>
+    ensures value { IfOk result (ReadsAs (read text.now)) }
 {
-    let Ok(text) = str::from_utf8(body) else {
-        return Ok(None);
-    };
     match Value::from_str(alloc, text) {
         Ok(value) => Ok(Some(value)),
         Err(error) if error.is_memory() => Err(AllocError),

@@ -2,3 +2,4 @@ pub mod JobLemmas
 pub mod AnswerLemmas
 pub mod LoadLemmas
 pub mod RecoveredLemmas
+pub mod ReasonLemmas

@@ -20,7 +20,7 @@ done_as (finish.Fault fault) follows holds = tt
 done_as (finish.Usage text) follows holds = tt
 
 -- the events that recovery appended are the recovery of the state
-recovery_of : {stands : State → Type 0} (s : State) (made : ℕ) (grew : Grew stands (AreRecovery s.ledger) s made)
+pub recovery_of : {stands : State → Type 0} (s : State) (made : ℕ) (grew : Grew stands (AreRecovery s.ledger) s made)
     → IsRecovery s grew.events
 recovery_of s made grew =
     record { are = grew.are; within = subst (λ n. n ≤ room_of s) (sym grew.counted) grew.within }

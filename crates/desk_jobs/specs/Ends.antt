@@ -8,6 +8,8 @@ use Rattle.commands.specs.declared.replies.Reply.TheVariants as reply
 use Rattle.tables.specs.declared.faults.OpenFault.{OpenFault}
 use Rattle.tables.specs.declared.faults.OpenFault.TheVariants as opening
 use Rattle.protocols.specs.Scenes.{ended}
+use Rattle.protocols.specs.declared.faults.ServeFault.{ServeFault}
+use Rattle.protocols.specs.declared.faults.ServeFault.TheVariants as serve
 use Rattle.program_ends.specs.declared.ends.End.{End}
 use Rattle.program_ends.specs.declared.ends.End.TheVariants as finish
 use Rattle.program_ends.specs.declared.faults.ProgramFault.TheVariants as fault
@@ -31,3 +33,16 @@ IsAccepted _ = ⊤
 abbrev pub TellsAccepted : Option (List ℕ) → Option (List ℕ) → Type 0
 TellsAccepted held holds =
     (told : Reply) × IsAccepted told × Appends held holds (ended (reply_line told))
+
+-- memory ran out, or the output failed
+abbrev pub IsOfWriting : ServeFault → Type 0
+IsOfWriting serve.Memory = ⊤
+IsOfWriting serve.Write = ⊤
+IsOfWriting _ = ⊥
+
+-- a text was written, or memory ran out, or the output failed
+abbrev pub EndsWriting : End → Type 0
+EndsWriting finish.Done = ⊤
+EndsWriting (finish.Fault fault.Memory) = ⊤
+EndsWriting (finish.Fault fault.Write) = ⊤
+EndsWriting _ = ⊥

@@ -2,4 +2,5 @@ pub mod Connections
 pub mod Ends
 pub mod Loading
 pub mod Notes
+pub mod Reasons
 pub mod Running

@@ -1,5 +1,5 @@
 //! Loads of allotment files into a recovered desk.
-ghost use Rattle.std.specs.Prelude.{◌≡◌, false, None, OnOk};
+ghost use Rattle.std.specs.Prelude.{◌≡◌, ◌≢◌, false, None, IfErr, IsErrOf, OnOk};
 ghost use Rattle.std.specs.Io.KnownBytes.{Appends};
 ghost use Rattle.sqlite.specs.Held.{state};
 ghost use Rattle.sqlite.specs.State.{HasCleanDisk};
@@ -13,10 +13,11 @@ ghost use Rattle.program_ends.specs.Ends.{EndsJob, IfDone};
 ghost use Rattle.desk_jobs.specs.Connections.{Represents, MayBeLeft};
 ghost use Rattle.desk_jobs.specs.Ends.{TellsAccepted};
 ghost use Rattle.desk_jobs.specs.Loading.{EndsLoad, LoadsFile, TellsLoaded};
+ghost use Rattle.desk_jobs.specs.Reasons.{FailsToLoad, FailsToLoadFor};
 
 use allotment_csv::{CsvFault, read_batch};
 use commands::{Command, Refusal, Reply};
-use program_ends::End;
+use program_ends::{End, ProgramFault};
 use protocols::ServeFault;
 use recovery::Ready;
 use saga_core::Book;
@@ -35,11 +36,17 @@ pub fn load_over<S: Alter + Drop, O: Write>(
     bytes: &[u8],
     out: &mut O,
 ) -> (Connection<S>, End)
-    ensures loaded { HasCleanDisk (state S.Store result.0) → (s : State) → StandsBook S.Store desk s →
+    ensures loaded { HasCleanDisk (state S.Store result.0) → (s : State) →
+        StandsBook S.Store desk s →
         EndsLoad (O.contents out.old) (O.contents out.new) (Represents S.Store result.0)
         (MayBeLeft S.Store result.0) s (batch_of name.now bytes.now) result.1 }
     ensures told { IfDone result.1 (TellsAccepted (O.contents out.old) (O.contents out.new)) }
     ensures end { EndsJob result.1 }
+
+    ensures reason { HasCleanDisk (state S.Store result.0) →
+        result.1 ≡ End.Fault ProgramFault.Store →
+        FailsToLoadFor S.Store desk result.0 (batch_of name.now bytes.now) }
+    ensures opened { result.1 ≢ End.Fault ProgramFault.OpeningStore }
 
     ensures outside { result.0.in_transaction ≡ false }
     ensures unlimited { result.0.step_limit ≡ None }
@@ -64,6 +71,11 @@ fn load_into<B: Book, O: Write>(
     ensures told { IfDone result (TellsAccepted (O.contents out.old) (O.contents out.new)) }
     ensures end { EndsJob result }
 
+    ensures reason { B.is_sound book.new → (first : B) → result ≡ End.Fault ProgramFault.Store →
+        FailsToLoad (B.may_act first book.old) (B.has_reason first book.new)
+        (batch_of name.now bytes.now) }
+    ensures opened { result ≢ End.Fault ProgramFault.OpeningStore }
+
     ensures sound { B.is_sound book.new → B.is_sound book.old }
 {
     match load(alloc, name, bytes, book) {
@@ -77,6 +89,9 @@ fn load_into<B: Book, O: Write>(
 fn load<B: Book>(alloc: Global, name: &str, bytes: &[u8], book: &mut B) -> Result<Reply, ServeFault>
     ensures loads { B.is_sound book.new → (s : State) → B.stands book.old s →
         LoadsFile (B.stands book.new) (B.leaves book.new) s (batch_of name.now bytes.now) result }
+    ensures reason { B.is_sound book.new → (first : B) → IsErrOf result ServeFault.Store →
+        FailsToLoad (B.may_act first book.old) (B.has_reason first book.new)
+        (batch_of name.now bytes.now) }
     ensures sound { B.is_sound book.new → B.is_sound book.old }
 {
     let batch = match read_batch(alloc, name, bytes) {
@@ -97,6 +112,8 @@ fn load<B: Book>(alloc: Global, name: &str, bytes: &[u8], book: &mut B) -> Resul
 fn tell_loaded<O: Write>(alloc: Global, reply: Reply, out: &mut O) -> End
     ensures told { TellsLoaded (O.contents out.old) (O.contents out.new) reply result }
     ensures end { EndsJob result }
+    ensures no_store { result ≢ End.Fault ProgramFault.Store }
+    ensures opened { result ≢ End.Fault ProgramFault.OpeningStore }
 {
     match reply {
         Reply::Refused(refusal) => End::Refused(refusal),
@@ -113,6 +130,7 @@ fn send_reply<O: Write>(alloc: Global, reply: &Reply, out: &mut O) -> Result<(),
         (ended (reply_line reply.now))) }
     ensures front { WroteFront (O.contents out.old) (O.contents out.new)
         (ended (reply_line reply.now)) }
+    ensures no_store { IfErr result (λ fault. fault ≢ ServeFault.Store) }
 {
     let mut line = reply.line(alloc)?;
     line.push('\n')?;

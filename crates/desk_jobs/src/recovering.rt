@@ -8,16 +8,19 @@ ghost use Rattle.recovery.specs.Recovers.{Recovers};
 ghost use Rattle.sql_reads.specs.Reading.{WasClean};
 ghost use Rattle.program_ends.specs.Ends.{EndsBadly, EndsJob, IfDone};
 ghost use Rattle.desk_jobs.specs.Connections.{Represents};
-ghost use Rattle.desk_jobs.specs.Ends.{recovered_line};
+ghost use Rattle.desk_jobs.specs.Ends.{EndsWriting, IsOfWriting, recovered_line};
+ghost use Rattle.desk_jobs.specs.Reasons.{FailsToRecover};
+ghost use Rattle.tables.specs.Opening.{FailsToOpen};
 
 use crate::opening::ready_over;
-use program_ends::End;
+use program_ends::{End, ProgramFault};
 use protocols::ServeFault;
 use sqlite::{Alter, Connection};
 use std::alloc::Global;
 use std::io::Write;
 use std::marker::Model;
 use streams::send;
+use tables::OpenFault;
 
 /// How many events a recovery made. Only `recover_over` makes one. In a contract it is that number.
 #[derive(Clone, Copy, Debug)]
@@ -42,6 +45,7 @@ impl Recovered {
             (recovered_line self)) }
         ensures front { WroteFront (O.contents out.old) (O.contents out.new) (recovered_line self) }
         ensures end { EndsJob result }
+        ensures writing { EndsWriting result }
     {
         match send_recovered(alloc, self.made, out) {
             Ok(()) => End::Done,
@@ -62,6 +66,11 @@ pub fn recover_over<S: Alter + Drop>(
         Recovers (Represents S.Store conn) (Represents S.Store result.0) made) }
     ensures end { IfErr result.1 EndsBadly }
 
+    ensures reason { HasCleanDisk (state S.Store result.0) → IfErr result.1 (λ end.
+        end ≡ End.Fault ProgramFault.Store → FailsToRecover S.Store conn result.0) }
+    ensures opening { IfErr result.1 (λ end. end ≡ End.Fault ProgramFault.OpeningStore →
+        FailsToOpen S.Store conn result.0 OpenFault.Store) }
+
     ensures outside { result.0.in_transaction ≡ false }
     ensures unlimited { result.0.step_limit ≡ None }
     ensures sound { WasClean S.Store conn result.0 }
@@ -77,6 +86,7 @@ fn send_recovered<O: Write>(alloc: Global, made: u64, out: &mut O) -> Result<(),
     ensures sent { OnOk result (Appends (O.contents out.old) (O.contents out.new)
         (recovered_line made)) }
     ensures front { WroteFront (O.contents out.old) (O.contents out.new) (recovered_line made) }
+    ensures fault { IfErr result IsOfWriting }
 {
     let line = format!(in alloc; "recovered {made}\n")?;
     Ok(send(out, line.as_bytes())?)

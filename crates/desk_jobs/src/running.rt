@@ -1,5 +1,5 @@
 //! The answers to the lines of a reader, over a recovered desk.
-ghost use Rattle.std.specs.Prelude.{◌≡◌, false, None, IfSome};
+ghost use Rattle.std.specs.Prelude.{◌≡◌, ◌≢◌, false, None, IfSome};
 ghost use Rattle.std.specs.Io.KnownBytes.{IsAtEnd};
 ghost use Rattle.sqlite.specs.Held.{state};
 ghost use Rattle.sqlite.specs.State.{HasCleanDisk};
@@ -9,18 +9,22 @@ ghost use Rattle.tables.specs.BookTerms.{StandsBook};
 ghost use Rattle.program_ends.specs.Ends.{EndsJob, IfDone};
 ghost use Rattle.desk_jobs.specs.Connections.{Represents};
 ghost use Rattle.desk_jobs.specs.Notes.{MayNote};
+ghost use Rattle.desk_jobs.specs.Reasons.{FailsAmongFrom, FailsToRun};
+ghost use Rattle.desk_lines.specs.Lines.{lines};
+ghost use Rattle.desk_lines.specs.Worlds.{asks_in};
+ghost use Rattle.tables.specs.Opening.{FailsToOpen};
 ghost use Rattle.desk_jobs.specs.Running.{NotesRecovery, Answers, AnswersAfterRecovery, AnswersFront, AnswersFrontAfterRecovery};
 
 use crate::notes::note_recovered;
 use crate::opening::ready_over;
 use desk_lines::run_lines;
-use program_ends::End;
+use program_ends::{End, ProgramFault};
 use recovery::{Ready, one_recovery};
 use saga_core::Book;
 use sqlite::{Alter, Connection};
 use std::alloc::Global;
 use std::io::{Read, Write};
-use tables::TableBook;
+use tables::{OpenFault, TableBook};
 
 /// Recovers the desk of a connection, and answers the lines of a reader. Returns the connection, and the end. If recovery
 /// made events, a note says so first.
@@ -39,13 +43,22 @@ pub fn run_over<S: Alter + Drop, R: Read, O: Write, N: Write>(
         (O.contents out.old) (O.contents out.new) (Represents S.Store result.0) s input)) }
     ensures read { IfDone result.1 (IsAtEnd (R.remaining reader.new)) }
 
-    ensures front { HasCleanDisk (state S.Store result.0) → (s : State) → Represents S.Store conn s →
+    ensures front { HasCleanDisk (state S.Store result.0) → (s : State) →
+        Represents S.Store conn s →
         IfSome (R.remaining reader.old) (AnswersFrontAfterRecovery
         (O.contents out.old) (O.contents out.new) s) }
     ensures end { EndsJob result.1 }
-    ensures noted { HasCleanDisk (state S.Store result.0) → (s : State) → Represents S.Store conn s →
+    ensures noted { HasCleanDisk (state S.Store result.0) → (s : State) →
+        Represents S.Store conn s →
         NotesRecovery (N.contents notes.old) (N.contents notes.new) s }
     ensures notes { MayNote (N.contents notes.old) (N.contents notes.new) }
+
+    ensures reason { HasCleanDisk (state S.Store result.0) →
+        result.1 ≡ End.Fault ProgramFault.Store →
+        IfSome (R.remaining reader.old) (λ input.
+        FailsToRun S.Store conn result.0 (asks_in (lines input))) }
+    ensures opening { result.1 ≡ End.Fault ProgramFault.OpeningStore →
+        FailsToOpen S.Store conn result.0 OpenFault.Store }
 
     ensures outside { result.0.in_transaction ≡ false }
     ensures unlimited { result.0.step_limit ≡ None }
@@ -73,9 +86,16 @@ fn run_desk<S: Alter + Drop, R: Read, O: Write>(
         (O.contents out.old) (O.contents out.new) (Represents S.Store result.0) s input)) }
     ensures read { IfDone result.1 (IsAtEnd (R.remaining reader.new)) }
 
-    ensures front { HasCleanDisk (state S.Store result.0) → (s : State) → StandsBook S.Store desk s →
+    ensures front { HasCleanDisk (state S.Store result.0) → (s : State) →
+        StandsBook S.Store desk s →
         IfSome (R.remaining reader.old) (AnswersFront (O.contents out.old) (O.contents out.new) s) }
     ensures end { EndsJob result.1 }
+
+    ensures reason { HasCleanDisk (state S.Store result.0) →
+        result.1 ≡ End.Fault ProgramFault.Store →
+        IfSome (R.remaining reader.old) (λ input.
+        FailsAmongFrom S.Store desk result.0 (asks_in (lines input))) }
+    ensures opened { result.1 ≢ End.Fault ProgramFault.OpeningStore }
 
     ensures outside { result.0.in_transaction ≡ false }
     ensures unlimited { result.0.step_limit ≡ None }

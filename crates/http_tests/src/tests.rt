@@ -10,6 +10,7 @@ mod limits;
 mod moves;
 mod orders;
 mod own;
+mod plans;
 mod refusals;
 mod sockets;
 mod talks;

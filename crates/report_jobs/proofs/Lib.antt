@@ -1,3 +1,4 @@
+pub mod EndLemmas
 pub mod ReportLemmas
 pub mod StockLemmas
 pub mod WhyLemmas

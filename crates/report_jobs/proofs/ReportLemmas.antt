@@ -15,17 +15,18 @@ use Rattle.streams.specs.Written.{WroteFront}
 use Rattle.streams.proofs.ByteLemmas.{appends_before, keeps_same}
 use Rattle.reports.proofs.FrontLemmas.{front_none, front_whole}
 use Rattle.reports.specs.Formats.{history_in}
+use Rattle.reports.specs.declared.faults.ReportFault.{ReportFault}
 use Rattle.reports.specs.declared.formats.Format.{Format}
 use Rattle.tables.specs.Keeping.{StoodFor}
 use Rattle.tables.specs.Opening.{Tells}
 use Rattle.tables.specs.declared.faults.OpenFault.{OpenFault}
 use Rattle.tables.specs.declared.faults.OpenFault.TheVariants as opening
-use Rattle.program_ends.specs.Ends.{EndsBadly, IfDone, end_of_result}
+use Rattle.program_ends.specs.Ends.{EndsBadly, IfDone}
 use Rattle.program_ends.specs.declared.ends.End.{End}
 use Rattle.program_ends.specs.declared.ends.End.TheVariants as finish
 use Rattle.program_ends.specs.declared.faults.ProgramFault.{ProgramFault}
 use Rattle.desk_jobs.specs.Ends.{end_of_open}
-use Rattle.report_jobs.specs.Reporting.{IsNotRefused, ReportsHistory, ReportsJourney, ReportsText, WritesText}
+use Rattle.report_jobs.specs.Reporting.{IsNotRefused, ReportsHistory, ReportsJourney, ReportsText, WritesText, end_of_report}
 
 -- what holds, holds where there was no fault
 on_ok : {T E P : Type 0} (r : Result T E) → P → OnOk r P
@@ -41,14 +42,14 @@ if_done P (finish.Usage text) bad = tt
 
 module _ (held : Option (List ℕ)) (text : List ℕ) where
   -- the text was written, and then flushed or not
-  pub wrote_whole : {T : Type 0} (mid holds : Option (List ℕ)) (r : Result T ProgramFault) → Appends held mid text
+  pub wrote_whole : {T : Type 0} (mid holds : Option (List ℕ)) (r : Result T ReportFault) → Appends held mid text
       → Keeps mid holds → WritesText held holds text r
   wrote_whole mid holds r sent kept =
       let all = appends_before held mid holds text sent kept in
       record { whole = on_ok r all; front = front_whole held holds text all }
 
   -- a prefix of the text was written, and a fault came
-  pub wrote_front : {T : Type 0} (holds : Option (List ℕ)) (f : ProgramFault) → WroteFront held holds text
+  pub wrote_front : {T : Type 0} (holds : Option (List ℕ)) (f : ReportFault) → WroteFront held holds text
       → WritesText held holds text {T = T} (Err f)
   wrote_front holds f front = record { whole = tt; front = front }
 
@@ -57,17 +58,17 @@ module _ (held : Option (List ℕ)) (text : List ℕ) where
   reported_none e bad = record { whole = if_done _ e bad; front = front_none held text }
 
 -- the end of a result
-done_if_ok : {T : Type 0} (P : Type 0) (r : Result T ProgramFault) → OnOk r P → IfDone (end_of_result r) P
+done_if_ok : {T : Type 0} (P : Type 0) (r : Result T ReportFault) → OnOk r P → IfDone (end_of_report r) P
 done_if_ok P (Ok done) holds = holds
 done_if_ok P (Err f) holds = tt
 
-pub not_refused : {T : Type 0} (r : Result T ProgramFault) → IsNotRefused (end_of_result r)
+pub not_refused : {T : Type 0} (r : Result T ReportFault) → IsNotRefused (end_of_report r)
 not_refused (Ok done) = tt
 not_refused (Err f) = tt
 
 -- what was written is reported by the end
-pub reported : {T : Type 0} (held holds : Option (List ℕ)) (text : List ℕ) (r : Result T ProgramFault) (e : End)
-    → e ≡ end_of_result r
+pub reported : {T : Type 0} (held holds : Option (List ℕ)) (text : List ℕ) (r : Result T ReportFault) (e : End)
+    → e ≡ end_of_report r
     → WritesText held holds text r → ReportsText held holds text e
 reported held holds text r e is wrote =
     subst (ReportsText held holds text) (sym is)
@@ -77,11 +78,11 @@ reported held holds text r e is wrote =
 
 module _ (held holds : Option (List ℕ)) (format : Format) (id : ℕ) where
   -- the journey that is there, and its history
-  pub reported_journey : {T : Type 0} (s : State) (shown : Option Record) (journey : Record) (r : Result T ProgramFault)
+  pub reported_journey : {T : Type 0} (s : State) (shown : Option Record) (journey : Record) (r : Result T ReportFault)
       (e : End)
       → shown ≡ record_of s.ledger id
       → shown ≡ Some journey
-      → e ≡ end_of_result r
+      → e ≡ end_of_report r
       → WritesText held holds (history_in format id journey (history s.ledger id)) r
       → ReportsHistory held holds format id e s
   reported_journey s shown journey r e of is end wrote =

@@ -1,13 +1,12 @@
 -- The cells that are asked for, kind after kind, are those that are asked for; and the parts of their report are the report.
 -- For `write_stock`.
-use Rattle.std.proofs.Common.{◌≡◌, ◌≢◌, ◌⊎◌, inl, inr, ℕ, suc, ◌+◌, ◌<◌, ◌≤◌, ◌==◌, ◌&&◌, List, [], ◌∷◌, ◌++◌, filter, cond, length, Bool, true, false, Option, Ordering, Less, Equal, Greater, is_lt, nat_cmp, refl, sym, ap, ap₂, subst, ◌∙◌, arith, append_assoc, eqb-true}
+use Rattle.std.proofs.Common.{◌≡◌, ℕ, suc, ◌+◌, ◌<◌, ◌≤◌, ◌==◌, ◌&&◌, List, [], ◌∷◌, ◌++◌, filter, cond, length, Bool, true, false, Option, Ordering, Less, Equal, Greater, is_lt, nat_cmp, refl, sym, ap, ap₂, subst, ◌∙◌, arith, append_assoc, eqb-true}
 use Rattle.std.specs.Prelude.{codes, nat_le}
 use Rattle.std.specs.List.{AllByRecursion, flat_map}
 use Rattle.std.specs.Ordering.{ordering_then}
 use Rattle.std.specs.Io.KnownBytes.{Appends}
 use Rattle.std.proofs.lemmas.Bool.{and_parts}
 use Rattle.std.proofs.lemmas.Bool.Decides.{nat_tests}
-use Rattle.sqlite_rules.specs.Lists.{Has}
 use Rattle.sqlite_rules.proofs.ListLemmas.{all_from, test_has}
 use Rattle.sqlite_trees.specs.Tree.{IsAscending}
 use Rattle.allotment.specs.Cells.{kind_number}

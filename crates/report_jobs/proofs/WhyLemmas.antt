@@ -23,10 +23,10 @@ use Rattle.saga_core.specs.declared.records.Record.{Record}
 use Rattle.outlooks.specs.Layouts.{why_of}
 use Rattle.outlooks.specs.Nights.{night_with, nights_in, nights_of}
 use Rattle.outlooks.specs.Outlooks.{begun_as}
-use Rattle.program_ends.specs.Ends.{end_of_result}
 use Rattle.program_ends.specs.declared.ends.End.{End}
 use Rattle.program_ends.specs.declared.ends.End.TheVariants as finish
 use Rattle.program_ends.specs.declared.faults.ProgramFault.{ProgramFault}
+use Rattle.reports.specs.declared.faults.ReportFault.{ReportFault}
 use Rattle.reports.specs.declared.formats.Format.{Format}
 use Rattle.streams.proofs.ByteLemmas.{keeps_same}
 use Rattle.desk_sql.specs.declared.versions.Version.{Version}
@@ -38,7 +38,7 @@ use Rattle.tables.specs.Opening.{Tells}
 use Rattle.tables.specs.declared.faults.OpenFault.{OpenFault}
 use Rattle.tables.specs.declared.faults.OpenFault.TheVariants as opening
 use Rattle.desk_jobs.specs.Ends.{end_of_open}
-use Rattle.report_jobs.specs.Reporting.{IsNotRefused, WritesText}
+use Rattle.report_jobs.specs.Reporting.{IsNotRefused, WritesText, end_of_report}
 use Rattle.report_jobs.specs.Whys.{LetsCellsOf, ReportsOutlook, ReportsWhy}
 use Rattle.report_jobs.proofs.ReportLemmas.{not_refused, reported, reported_none}
 
@@ -110,8 +110,8 @@ nights-asked l w f stock is lets = each (cells_of w) lets
 
 module _ (held holds : Option (List ℕ)) (format : Format) (id : ℕ) (s : State) where
   -- a journey that is there
-  pub reported_why : {T : Type 0} (journey : Record) (r : Result T ProgramFault) (e : End)
-      → record_of s.ledger id ≡ Some journey → e ≡ end_of_result r
+  pub reported_why : {T : Type 0} (journey : Record) (r : Result T ReportFault) (e : End)
+      → record_of s.ledger id ≡ Some journey → e ≡ end_of_report r
       → WritesText held holds (why_of format s.ledger id (begun_as journey)) r
       → ReportsOutlook held holds format s.ledger id (record_of s.ledger id) e
   reported_why journey r e found end wrote =

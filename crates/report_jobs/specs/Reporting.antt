@@ -1,13 +1,15 @@
 -- What the reports write of a desk, and when that is known.
-use Rattle.std.specs.Prelude.{◌≡◌, ◌==◌, ◌&&◌, ◌+◌, ⊤, ℕ, false, List, filter, length, Option, None, Some, Result, IfOk, OnOk}
+use Rattle.std.specs.Prelude.{◌≡◌, ◌==◌, ◌&&◌, ◌+◌, ⊤, ℕ, false, List, filter, length, Option, None, Some, Result, Ok, Err, IfOk, OnOk}
 use Rattle.std.specs.List.{flat_map}
 use Rattle.std.specs.Io.KnownBytes.{Appends, Keeps}
 use Rattle.sqlite.specs.Store.{Ghosts}
+use Rattle.sqlite.specs.Held.{Held}
 use Rattle.allotment.specs.Cells.{kind_number}
 use Rattle.allotment.specs.declared.cells.Cell.{Cell}
 use Rattle.allotment.specs.declared.codes.Kind.{Kind}
 use Rattle.allotment.specs.declared.places.Held.{Held as Places}
 use Rattle.commands.specs.declared.items.Item.{Item}
+use Rattle.commands.specs.declared.replies.Refusal.{Refusal}
 use Rattle.commands.specs.declared.replies.Refusal.TheVariants as refusal
 use Rattle.ledger.specs.Answer.{State}
 use Rattle.ledger.specs.Ledger.{history}
@@ -18,6 +20,7 @@ use Rattle.filters.specs.declared.journeys.JourneyFilter.{JourneyFilter}
 use Rattle.saga_core.specs.Views.{IsStock, record_of}
 use Rattle.saga_core.specs.declared.records.Record.{Record}
 use Rattle.reports.specs.Formats.{history_in, journeys_in, stock_in, stock_row}
+use Rattle.reports.specs.declared.faults.ReportFault.{ReportFault}
 use Rattle.reports.specs.declared.formats.Format.{Format}
 use Rattle.reports.specs.declared.formats.JourneyReport.{JourneyReport}
 use Rattle.month_reports.specs.MonthReports.{asked_months, months_in}
@@ -26,11 +29,14 @@ use Rattle.streams.specs.Written.{WroteFront}
 use Rattle.sql_model.specs.Standing.{IsDesk}
 use Rattle.report_rows.specs.declared.progress.Progress.{Progress}
 use Rattle.tables.specs.Lending.{OpenedKeeps}
+use Rattle.tables.specs.Opening.{Tells}
+use Rattle.tables.specs.declared.faults.OpenFault.TheVariants as opening
 use Rattle.tables.specs.declared.opening.Opened.{Opened}
 use Rattle.program_ends.specs.declared.ends.End.{End}
 use Rattle.program_ends.specs.declared.ends.End.TheVariants as finish
 use Rattle.program_ends.specs.declared.faults.ProgramFault.{ProgramFault}
-use Rattle.program_ends.specs.Ends.{IfDone}
+use Rattle.program_ends.specs.declared.faults.ProgramFault.TheVariants as fault
+use Rattle.program_ends.specs.Ends.{IfDone, fault_of_report}
 
 module _ {S : Type 0} (g : Ghosts S) where
   -- what was opened keeps this state of a desk
@@ -43,6 +49,45 @@ abbrev pub IsNotRefused : End → Type 0
 IsNotRefused (finish.Refused why) = ⊥
 IsNotRefused _ = ⊤
 
+-- this holds of the refusal, if the report was refused
+abbrev pub IfRefused : End → (Refusal → Type 0) → Type 0
+IfRefused (finish.Refused why) So = So why
+IfRefused _ So = ⊤
+
+-- this holds of the fault, if one came
+abbrev pub IfFault : End → (ProgramFault → Type 0) → Type 0
+IfFault (finish.Fault f) So = So f
+IfFault _ So = ⊤
+
+-- the refusal is that there is no such journey
+abbrev pub IsNoJourney : Refusal → Type 0
+IsNoJourney why = why ≡ refusal.NoJourney
+
+module _ {S : Type 0} (g : Ghosts S) (old new : Held S) where
+  -- the refusal names the version of the tables, which is unknown, so that the connection represented no state
+  abbrev pub RefusesVersion : Refusal → Type 0
+  RefusesVersion (refusal.UnknownSchema n) = Tells g old new (opening.UnknownSchema n)
+  RefusesVersion _ = ⊥
+
+  -- the refusal names such a version, or is that there is no such journey
+  abbrev pub RefusesToShow : Refusal → Type 0
+  RefusesToShow refusal.NoJourney = ⊤
+  RefusesToShow why = RefusesVersion why
+
+-- the end of a report that was begun: it was written, or a fault came
+abbrev pub end_of_report : {T : Type 0} → Result T ReportFault → End
+end_of_report (Ok done) = finish.Done
+end_of_report (Err f) = finish.Fault (fault_of_report f)
+
+-- the fault is one of a report: of memory, the store or the output, or of memory or the store while it was opened
+abbrev pub IsFaultOfReport : ProgramFault → Type 0
+IsFaultOfReport fault.Memory = ⊤
+IsFaultOfReport fault.Store = ⊤
+IsFaultOfReport fault.Write = ⊤
+IsFaultOfReport fault.OpeningStore = ⊤
+IsFaultOfReport fault.OpeningMemory = ⊤
+IsFaultOfReport _ = ⊥
+
 -- the cells that are asked for, with their places
 abbrev pub asked_cells : CellFilter → List (Cell × Places) → List (Cell × Places)
 asked_cells f rows = filter (λ (r : Cell × Places). is_cell_asked f r.0) rows
@@ -54,7 +99,7 @@ cells_of_kind kind f rows =
 
 module _ (held holds : Option (List ℕ)) where
   -- a prefix of the text was written, and the whole text if there was no fault
-  pub record WritesText (text : List ℕ) {T : Type 0} (result : Result T ProgramFault) : Type 0 where
+  pub record WritesText (text : List ℕ) {T : Type 0} (result : Result T ReportFault) : Type 0 where
     pub whole : OnOk result (Appends held holds text)
     pub front : WroteFront held holds text
 
@@ -65,7 +110,7 @@ module _ (held holds : Option (List ℕ)) where
 
   -- the lines of these cells were written and counted after those before, or a prefix of them
   pub record WritesCells (format : Format) (cells : List (Cell × Places)) (before : Progress)
-      (result : Result Progress ProgramFault) : Type 0 where
+      (result : Result Progress ReportFault) : Type 0 where
     pub whole : OnOk result (Appends held holds (flat_map (stock_row format) cells))
     pub front : WroteFront held holds (flat_map (stock_row format) cells)
     pub going : IfOk result (λ p. p.failed ≡ false)
@@ -85,7 +130,7 @@ module _ (held holds : Option (List ℕ)) where
 
   -- the report of the journeys that are asked for, in order of number
   abbrev pub WritesJourneys : {T : Type 0} → JourneyReport → Format → JourneyFilter
-      → Result T ProgramFault → State → Type 0
+      → Result T ReportFault → State → Type 0
   WritesJourneys name format f result s = WritesText (journeys_in name format (asked_of f s.ledger)) result
 
   abbrev pub ReportsJourneys : JourneyReport → Format → JourneyFilter → End → State → Type 0

@@ -19,9 +19,10 @@ ghost use Rattle.report_jobs.specs.Reporting.{asked_cells, cells_of_kind, Writes
 use crate::reporting::flush;
 use allotment::{Cell, Held, Kind};
 use filters::{CellFilter, JourneyFilter};
-use program_ends::ProgramFault;
 use report_rows::{CellRows, JourneyRows, Progress, start_cells, start_journeys};
-use reports::{Format, JourneyReport, begin_stock, end_stock, journeys_text, stock_lines};
+use reports::{
+    Format, JourneyReport, ReportFault, begin_stock, end_stock, journeys_text, stock_lines,
+};
 use saga_core::Brief;
 use sql_model::fault_of;
 use sqlite::{Alter, Connection, Rows};
@@ -36,7 +37,7 @@ pub(crate) fn write_kinds<S: Alter, O: Write>(
     format: Format,
     conn: &mut Connection<S>,
     out: &mut O,
-) -> Result<(), ProgramFault>
+) -> Result<(), ReportFault>
     ensures whole { HasCleanDisk (state S.Store conn.new) → (v : Version) (s : State) → IsDesk s →
         KeepsIn v (state S.Store conn.old) s → (rows : List (Cell × Held)) → IsStock s.ledger rows →
         OnOk result (Appends (O.contents out.old) (O.contents out.new)
@@ -68,7 +69,7 @@ fn write_kind<S: Alter, O: Write>(
     before: Progress,
     conn: &mut Connection<S>,
     out: &mut O,
-) -> Result<Progress, ProgramFault>
+) -> Result<Progress, ReportFault>
     ensures told { HasCleanDisk (state S.Store conn.new) → (v : Version) (s : State) → IsDesk s →
         KeepsIn v (state S.Store conn.old) s → before.failed ≡ false →
         (all : List (Cell × Held)) → IsStock s.ledger all →
@@ -91,7 +92,7 @@ fn write_found<S: Alter, O: Write>(
     before: Progress,
     conn: &mut Connection<S>,
     out: &mut O,
-) -> Result<Progress, ProgramFault>
+) -> Result<Progress, ReportFault>
     ensures told { HasCleanDisk (state S.Store conn.new) → (v : Version) (s : State) → IsDesk s →
         KeepsIn v (state S.Store conn.old) s → before.failed ≡ false →
         (rows : List (Cell × Held)) → AreCellsOf kind filter.now s.ledger rows →
@@ -112,7 +113,7 @@ fn write_cells<S: Alter, O: Write>(
     before: Progress,
     rows: &mut Rows<'_, S>,
     out: &mut O,
-) -> Result<Progress, ProgramFault>
+) -> Result<Progress, ReportFault>
     ensures told { HasCleanDisk (state S.Store rows.new.conn.now) → before.failed ≡ false →
         (all : List (Cell × Held)) → StockRests S.Store rows.old.conn.now all →
         WritesCells (O.contents out.old) (O.contents out.new) format all before result }
@@ -124,7 +125,7 @@ fn write_cells<S: Alter, O: Write>(
     };
     match stock_lines(alloc, format, &mut cells, out) {
         Ok(_) => Ok(cells.progress),
-        Err(fault) => Err(fault.into()),
+        Err(fault) => Err(fault),
     }
 }
 
@@ -136,7 +137,7 @@ pub(crate) fn write_asked<S: Alter, O: Write>(
     format: Format,
     conn: &mut Connection<S>,
     out: &mut O,
-) -> Result<(), ProgramFault>
+) -> Result<(), ReportFault>
     ensures told { HasCleanDisk (state S.Store conn.new) → (v : Version) (s : State) → IsDesk s →
         KeepsIn v (state S.Store conn.old) s →
         WritesJourneys (O.contents out.old) (O.contents out.new) name format filter.now result s }
@@ -156,7 +157,7 @@ fn write_briefs<S: Alter, O: Write>(
     format: Format,
     rows: &mut Rows<'_, S>,
     out: &mut O,
-) -> Result<(), ProgramFault>
+) -> Result<(), ReportFault>
     ensures told { HasCleanDisk (state S.Store rows.new.conn.now) → (all : List Brief) →
         BriefsRest S.Store rows.old.conn.now all →
         WritesText (O.contents out.old) (O.contents out.new) (journeys_in name format all) result }
@@ -166,6 +167,6 @@ fn write_briefs<S: Alter, O: Write>(
     let mut briefs = JourneyRows { rows, progress };
     match journeys_text(alloc, name, format, &mut briefs, out) {
         Ok(_) => flush(out),
-        Err(fault) => Err(fault.into()),
+        Err(fault) => Err(fault),
     }
 }

@@ -17,15 +17,15 @@ ghost use Rattle.tables.specs.Lending.{IsOnlyRead};
 ghost use Rattle.program_ends.specs.Ends.{EndsJob};
 ghost use Rattle.desk_jobs.specs.Connections.{RepresentsIn, StillRepresents};
 ghost use Rattle.report_jobs.specs.Holding.{ReportsHolders};
-ghost use Rattle.report_jobs.specs.Reporting.{IsDeskIn, WritesText};
+ghost use Rattle.report_jobs.specs.Reporting.{IfFault, IfRefused, IsDeskIn, IsFaultOfReport, IsNotRefused, RefusesVersion, WritesText};
 
-use crate::reporting::flush;
+use crate::reporting::{end_of_report, flush};
 use allotment::Cell;
 use desk_jobs::end_of_opening;
 use holder_reports::{Holder, holders_text};
-use program_ends::{End, ProgramFault};
+use program_ends::End;
 use report_rows::{HolderRows, Progress, start_holders};
-use reports::Format;
+use reports::{Format, ReportFault};
 use sql_model::fault_of;
 use sqlite::{Alter, Connection, Rows};
 use std::alloc::Global;
@@ -47,6 +47,8 @@ pub fn holders_over<S: Alter + Drop, O: Write>(
     ensures told { HasCleanDisk (state S.Store result.0) → (v : Version) (s : State) →
         RepresentsIn S.Store conn v s →
         ReportsHolders (O.contents out.old) (O.contents out.new) format cell.now result.1 s }
+    ensures refused { IfRefused result.1 (RefusesVersion S.Store conn result.0) }
+    ensures fault { IfFault result.1 IsFaultOfReport }
     ensures end { EndsJob result.1 }
 
     ensures same { HasCleanDisk (state S.Store result.0) → (v : Version) (s : State) →
@@ -74,11 +76,13 @@ fn tell_holders<S: Alter, O: Write>(
     ensures told { HasCleanDisk (state S.Store opened.new.conn) → (s : State) →
         IsDeskIn S.Store opened.old s →
         ReportsHolders (O.contents out.old) (O.contents out.new) format cell.now result s }
+    ensures taken { IsNotRefused result }
+    ensures fault { IfFault result IsFaultOfReport }
     ensures end { EndsJob result }
 
     ensures kept { IsOnlyRead S.Store opened.old opened.new }
 {
-    End::from(write_holders(alloc, cell, format, opened.connection(), out))
+    end_of_report(write_holders(alloc, cell, format, opened.connection(), out))
 }
 
 /// Writes the report of the holders of a cell, of the desk of a connection, and flushes it.
@@ -88,7 +92,7 @@ fn write_holders<S: Alter, O: Write>(
     format: Format,
     conn: &mut Connection<S>,
     out: &mut O,
-) -> Result<(), ProgramFault>
+) -> Result<(), ReportFault>
     ensures told { HasCleanDisk (state S.Store conn.new) → (v : Version) (s : State) → IsDesk s →
         KeepsIn v (state S.Store conn.old) s →
         WritesText (O.contents out.old) (O.contents out.new)
@@ -108,7 +112,7 @@ fn write_rows<S: Alter, O: Write>(
     format: Format,
     rows: &mut Rows<'_, S>,
     out: &mut O,
-) -> Result<(), ProgramFault>
+) -> Result<(), ReportFault>
     ensures told { HasCleanDisk (state S.Store rows.new.conn.now) → (all : List Holder) →
         HoldersLeft S.Store rows.old.conn.now all →
         WritesText (O.contents out.old) (O.contents out.new) (holders_in format all) result }
@@ -118,6 +122,6 @@ fn write_rows<S: Alter, O: Write>(
     let mut holders = HolderRows { rows, progress };
     match holders_text(alloc, format, &mut holders, out) {
         Ok(_) => flush(out),
-        Err(fault) => Err(fault.into()),
+        Err(fault) => Err(fault),
     }
 }

@@ -16,15 +16,17 @@ ghost use Rattle.tables.specs.Keeping.{KeepsIn};
 ghost use Rattle.tables.specs.Lending.{IsOnlyRead};
 ghost use Rattle.program_ends.specs.Ends.{EndsJob};
 ghost use Rattle.desk_jobs.specs.Connections.{RepresentsIn, StillRepresents};
-ghost use Rattle.report_jobs.specs.Reporting.{IsDeskIn, ReportsMonths, WritesText};
+ghost use Rattle.report_jobs.specs.Reporting.{IfFault, IfRefused, IsDeskIn, IsFaultOfReport, IsNotRefused, RefusesVersion};
+ghost use Rattle.report_jobs.specs.Reporting.{ReportsMonths, WritesText};
 
-use crate::reporting::flush;
+use crate::reporting::{end_of_report, flush};
 use allotment::{Cell, Held};
 use desk_jobs::end_of_opening;
 use filters::CellFilter;
 use month_reports::{MonthReport, months_text};
-use program_ends::{End, ProgramFault};
+use program_ends::End;
 use report_rows::{CellRows, Progress, start_stock};
+use reports::ReportFault;
 use sql_model::fault_of;
 use sqlite::{Alter, Connection, Rows};
 use std::alloc::Global;
@@ -46,6 +48,8 @@ pub fn months_over<S: Alter + Drop, O: Write>(
     ensures told { HasCleanDisk (state S.Store result.0) → (v : Version) (s : State) →
         RepresentsIn S.Store conn v s →
         ReportsMonths (O.contents out.old) (O.contents out.new) report filter.now result.1 s }
+    ensures refused { IfRefused result.1 (RefusesVersion S.Store conn result.0) }
+    ensures fault { IfFault result.1 IsFaultOfReport }
     ensures end { EndsJob result.1 }
 
     ensures same { HasCleanDisk (state S.Store result.0) → (v : Version) (s : State) →
@@ -73,11 +77,13 @@ fn tell_months<S: Alter, O: Write>(
     ensures told { HasCleanDisk (state S.Store opened.new.conn) → (s : State) →
         IsDeskIn S.Store opened.old s →
         ReportsMonths (O.contents out.old) (O.contents out.new) report filter.now result s }
+    ensures taken { IsNotRefused result }
+    ensures fault { IfFault result IsFaultOfReport }
     ensures end { EndsJob result }
 
     ensures kept { IsOnlyRead S.Store opened.old opened.new }
 {
-    End::from(write_months(alloc, report, filter, opened.connection(), out))
+    end_of_report(write_months(alloc, report, filter, opened.connection(), out))
 }
 
 /// Writes the report by month of the desk of a connection, and flushes it.
@@ -87,7 +93,7 @@ fn write_months<S: Alter, O: Write>(
     filter: &CellFilter,
     conn: &mut Connection<S>,
     out: &mut O,
-) -> Result<(), ProgramFault>
+) -> Result<(), ReportFault>
     ensures told { HasCleanDisk (state S.Store conn.new) → (v : Version) (s : State) → IsDesk s →
         KeepsIn v (state S.Store conn.old) s → (rows : List (Cell × Held)) → IsStock s.ledger rows →
         WritesText (O.contents out.old) (O.contents out.new)
@@ -108,7 +114,7 @@ fn write_remaining<S: Alter, O: Write>(
     filter: &CellFilter,
     rows: &mut Rows<'_, S>,
     out: &mut O,
-) -> Result<(), ProgramFault>
+) -> Result<(), ReportFault>
     ensures told { HasCleanDisk (state S.Store rows.new.conn.now) → (all : List (Cell × Held)) →
         StockRests S.Store rows.old.conn.now all →
         WritesText (O.contents out.old) (O.contents out.new)
@@ -119,6 +125,6 @@ fn write_remaining<S: Alter, O: Write>(
     let mut cells = CellRows { rows, progress };
     match months_text(alloc, report, filter, &mut cells, out) {
         Ok(_) => flush(out),
-        Err(fault) => Err(fault.into()),
+        Err(fault) => Err(fault),
     }
 }

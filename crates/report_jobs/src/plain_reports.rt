@@ -15,9 +15,8 @@ ghost use Rattle.report_jobs.specs.Reporting.{WritesText};
 
 use crate::reporting::flush;
 use allotment::{Cell, Held};
-use program_ends::ProgramFault;
 use report_rows::{CellRows, JourneyRows, Progress, start_stock, start_unfinished};
-use reports::{Format, stock_text, unfinished_text};
+use reports::{Format, ReportFault, stock_text, unfinished_text};
 use saga_core::Brief;
 use sql_model::fault_of;
 use sqlite::{Alter, Connection, Rows};
@@ -30,7 +29,7 @@ pub(crate) fn write_whole_stock<S: Alter, O: Write>(
     format: Format,
     conn: &mut Connection<S>,
     out: &mut O,
-) -> Result<(), ProgramFault>
+) -> Result<(), ReportFault>
     ensures told { HasCleanDisk (state S.Store conn.new) → (v : Version) (s : State) → IsDesk s →
         KeepsIn v (state S.Store conn.old) s → (rows : List (Cell × Held)) → IsStock s.ledger rows →
         WritesText (O.contents out.old) (O.contents out.new) (stock_in format rows) result }
@@ -49,7 +48,7 @@ fn write_cells<S: Alter, O: Write>(
     format: Format,
     rows: &mut Rows<'_, S>,
     out: &mut O,
-) -> Result<(), ProgramFault>
+) -> Result<(), ReportFault>
     ensures told { HasCleanDisk (state S.Store rows.new.conn.now) → (all : List (Cell × Held)) →
         StockRests S.Store rows.old.conn.now all →
         WritesText (O.contents out.old) (O.contents out.new) (stock_in format all) result }
@@ -59,7 +58,7 @@ fn write_cells<S: Alter, O: Write>(
     let mut cells = CellRows { rows, progress };
     match stock_text(alloc, format, &mut cells, out) {
         Ok(_) => flush(out),
-        Err(fault) => Err(fault.into()),
+        Err(fault) => Err(fault),
     }
 }
 
@@ -69,7 +68,7 @@ pub(crate) fn write_unfinished<S: Alter, O: Write>(
     format: Format,
     conn: &mut Connection<S>,
     out: &mut O,
-) -> Result<(), ProgramFault>
+) -> Result<(), ReportFault>
     ensures told { HasCleanDisk (state S.Store conn.new) → (v : Version) (s : State) → IsDesk s →
         KeepsIn v (state S.Store conn.old) s →
         WritesText (O.contents out.old) (O.contents out.new)
@@ -89,7 +88,7 @@ fn write_briefs<S: Alter, O: Write>(
     format: Format,
     rows: &mut Rows<'_, S>,
     out: &mut O,
-) -> Result<(), ProgramFault>
+) -> Result<(), ReportFault>
     ensures told { HasCleanDisk (state S.Store rows.new.conn.now) → (all : List Brief) →
         BriefsRest S.Store rows.old.conn.now all →
         WritesText (O.contents out.old) (O.contents out.new) (unfinished_in format all) result }
@@ -99,6 +98,6 @@ fn write_briefs<S: Alter, O: Write>(
     let mut briefs = JourneyRows { rows, progress };
     match unfinished_text(alloc, format, &mut briefs, out) {
         Ok(_) => flush(out),
-        Err(fault) => Err(fault.into()),
+        Err(fault) => Err(fault),
     }
 }

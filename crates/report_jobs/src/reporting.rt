@@ -20,7 +20,8 @@ ghost use Rattle.filters.specs.JourneyFilters.{asked_of};
 ghost use Rattle.ledger.specs.Ledger.{Event};
 ghost use Rattle.reports.specs.declared.formats.JourneyReport.TheVariants.{Unfinished};
 ghost use Rattle.saga_core.specs.Views.{unfinished_of};
-ghost use Rattle.report_jobs.specs.Reporting.{asked_cells, IsDeskIn, ReportsHistory, ReportsJourneys, ReportsStock, WritesJourneys, WritesText};
+ghost use Rattle.report_jobs.specs.Reporting.{IfFault, IfRefused, IsFaultOfReport, IsNoJourney, IsNotRefused, RefusesToShow, RefusesVersion};
+ghost use Rattle.report_jobs.specs.Reporting.{asked_cells, end_of_report, IsDeskIn, ReportsHistory, ReportsJourneys, ReportsStock, WritesJourneys, WritesText};
 
 use crate::asked_reports::{write_asked, write_kinds};
 use crate::plain_reports::{write_unfinished, write_whole_stock};
@@ -28,8 +29,8 @@ use allotment::{Cell, Held};
 use commands::Refusal;
 use desk_jobs::end_of_opening;
 use filters::{CellFilter, JourneyFilter, Phases};
-use program_ends::{End, ProgramFault};
-use reports::{Format, JourneyReport, history_text};
+use program_ends::End;
+use reports::{Format, JourneyReport, ReportFault, history_text};
 use saga_core::Record;
 use sqlite::{Alter, Connection};
 use std::alloc::Global;
@@ -51,6 +52,8 @@ pub fn stock_over<S: Alter + Drop, O: Write>(
     ensures told { HasCleanDisk (state S.Store result.0) → (v : Version) (s : State) →
         RepresentsIn S.Store conn v s →
         ReportsStock (O.contents out.old) (O.contents out.new) format filter.now result.1 s }
+    ensures refused { IfRefused result.1 (RefusesVersion S.Store conn result.0) }
+    ensures fault { IfFault result.1 IsFaultOfReport }
     ensures end { EndsJob result.1 }
 
     ensures same { HasCleanDisk (state S.Store result.0) → (v : Version) (s : State) →
@@ -84,6 +87,8 @@ pub fn journeys_over<S: Alter + Drop, O: Write>(
         RepresentsIn S.Store conn v s →
         ReportsJourneys (O.contents out.old) (O.contents out.new)
         name format filter.now result.1 s }
+    ensures refused { IfRefused result.1 (RefusesVersion S.Store conn result.0) }
+    ensures fault { IfFault result.1 IsFaultOfReport }
     ensures end { EndsJob result.1 }
 
     ensures same { HasCleanDisk (state S.Store result.0) → (v : Version) (s : State) →
@@ -115,6 +120,8 @@ pub fn history_over<S: Alter + Drop, O: Write>(
     ensures told { HasCleanDisk (state S.Store result.0) → (v : Version) (s : State) →
         RepresentsIn S.Store conn v s →
         ReportsHistory (O.contents out.old) (O.contents out.new) format id result.1 s }
+    ensures refused { IfRefused result.1 (RefusesToShow S.Store conn result.0) }
+    ensures fault { IfFault result.1 IsFaultOfReport }
     ensures end { EndsJob result.1 }
 
     ensures same { HasCleanDisk (state S.Store result.0) → (v : Version) (s : State) →
@@ -142,11 +149,13 @@ fn tell_stock<S: Alter, O: Write>(
     ensures told { HasCleanDisk (state S.Store opened.new.conn) → (s : State) →
         IsDeskIn S.Store opened.old s →
         ReportsStock (O.contents out.old) (O.contents out.new) format filter.now result s }
+    ensures taken { IsNotRefused result }
+    ensures fault { IfFault result IsFaultOfReport }
     ensures end { EndsJob result }
 
     ensures kept { IsOnlyRead S.Store opened.old opened.new }
 {
-    End::from(write_stock(alloc, filter, format, opened.connection(), out))
+    end_of_report(write_stock(alloc, filter, format, opened.connection(), out))
 }
 
 /// Writes the report of the journeys of what was opened, and flushes it.
@@ -161,11 +170,13 @@ fn tell_journeys<S: Alter, O: Write>(
     ensures told { HasCleanDisk (state S.Store opened.new.conn) → (s : State) →
         IsDeskIn S.Store opened.old s →
         ReportsJourneys (O.contents out.old) (O.contents out.new) name format filter.now result s }
+    ensures taken { IsNotRefused result }
+    ensures fault { IfFault result IsFaultOfReport }
     ensures end { EndsJob result }
 
     ensures kept { IsOnlyRead S.Store opened.old opened.new }
 {
-    End::from(write_journeys(alloc, name, filter, format, opened.connection(), out))
+    end_of_report(write_journeys(alloc, name, filter, format, opened.connection(), out))
 }
 
 /// Whether the filter names no value, so that it lets each cell through.
@@ -192,7 +203,7 @@ fn write_stock<S: Alter, O: Write>(
     format: Format,
     conn: &mut Connection<S>,
     out: &mut O,
-) -> Result<(), ProgramFault>
+) -> Result<(), ReportFault>
     ensures told { HasCleanDisk (state S.Store conn.new) → (v : Version) (s : State) → IsDesk s →
         KeepsIn v (state S.Store conn.old) s → (rows : List (Cell × Held)) → IsStock s.ledger rows →
         WritesText (O.contents out.old) (O.contents out.new)
@@ -231,7 +242,7 @@ fn write_journeys<S: Alter, O: Write>(
     format: Format,
     conn: &mut Connection<S>,
     out: &mut O,
-) -> Result<(), ProgramFault>
+) -> Result<(), ReportFault>
     ensures told { HasCleanDisk (state S.Store conn.new) → (v : Version) (s : State) → IsDesk s →
         KeepsIn v (state S.Store conn.old) s →
         WritesJourneys (O.contents out.old) (O.contents out.new) name format filter.now result s }
@@ -254,14 +265,16 @@ fn tell_history<S: Alter, O: Write>(
     ensures told { HasCleanDisk (state S.Store opened.new.conn) → (s : State) →
         IsDeskIn S.Store opened.old s →
         ReportsHistory (O.contents out.old) (O.contents out.new) format id result s }
+    ensures refused { IfRefused result IsNoJourney }
+    ensures fault { IfFault result IsFaultOfReport }
     ensures end { EndsJob result }
 
     ensures kept { IsOnlyRead S.Store opened.old opened.new }
 {
     match opened.journey_of(alloc, id) {
-        Ok(Some(journey)) => End::from(write_history(alloc, format, id, &journey, opened, out)),
+        Ok(Some(journey)) => end_of_report(write_history(alloc, format, id, &journey, opened, out)),
         Ok(None) => End::Refused(Refusal::NoJourney),
-        Err(fault) => End::Fault(fault.into()),
+        Err(fault) => end_of_report(Err(fault.into())),
     }
 }
 
@@ -273,7 +286,7 @@ fn write_history<S: Alter, O: Write>(
     journey: &Record,
     opened: &mut Opened<S>,
     out: &mut O,
-) -> Result<(), ProgramFault>
+) -> Result<(), ReportFault>
     ensures told { HasCleanDisk (state S.Store opened.new.conn) → (s : State) →
         IsDeskIn S.Store opened.old s →
         WritesText (O.contents out.old) (O.contents out.new)
@@ -287,16 +300,30 @@ fn write_history<S: Alter, O: Write>(
     };
     match history_text(alloc, format, id, journey, &mut rows, out) {
         Ok(_) => flush(out),
-        Err(fault) => Err(fault.into()),
+        Err(fault) => Err(fault),
+    }
+}
+
+/// The end of a report that was begun: it was written, or a fault came.
+pub(crate) fn end_of_report(done: Result<(), ReportFault>) -> End
+    ensures end { result ≡ end_of_report done }
+
+    ensures taken { IsNotRefused result }
+    ensures fault { IfFault result IsFaultOfReport }
+    ensures job { EndsJob result }
+{
+    match done {
+        Ok(()) => End::Done,
+        Err(fault) => End::Fault(fault.into()),
     }
 }
 
 /// Flushes the writer.
-pub(crate) fn flush<O: Write>(out: &mut O) -> Result<(), ProgramFault>
+pub(crate) fn flush<O: Write>(out: &mut O) -> Result<(), ReportFault>
     ensures same { Keeps (O.contents out.old) (O.contents out.new) }
 {
     match out.flush() {
         Ok(()) => Ok(()),
-        Err(_) => Err(ProgramFault::Write),
+        Err(_) => Err(ReportFault::Write),
     }
 }

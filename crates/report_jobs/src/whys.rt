@@ -20,10 +20,10 @@ ghost use Rattle.outlooks.specs.Nights.{nights_in, nights_of};
 ghost use Rattle.outlooks.specs.Outlooks.{begun_as, latest_option as latest_option_of, nights_ahead, IsTaken};
 ghost use Rattle.program_ends.specs.Ends.{EndsJob};
 ghost use Rattle.desk_jobs.specs.Connections.{RepresentsIn, StillRepresents};
-ghost use Rattle.report_jobs.specs.Reporting.{IsDeskIn, WritesText};
+ghost use Rattle.report_jobs.specs.Reporting.{IfFault, IfRefused, IsDeskIn, IsFaultOfReport, IsNoJourney, RefusesToShow, WritesText};
 ghost use Rattle.report_jobs.specs.Whys.{IsSeenOf, LetsCellsOf, ReportsWhy};
 
-use crate::reporting::flush;
+use crate::reporting::{end_of_report, flush};
 use allotment::{Night, Want};
 use commands::{Fault, Phase, Refusal};
 use desk_jobs::end_of_opening;
@@ -31,7 +31,7 @@ use filters::CellFilter;
 use outlooks::{
     FreeNight, NextStep, Outlook, latest_option, look_ahead, next_step, read_nights, why_text,
 };
-use program_ends::{End, ProgramFault};
+use program_ends::End;
 use report_rows::{CellRows, Progress, start_cells};
 use reports::{Format, ReportFault};
 use saga_core::Record;
@@ -64,6 +64,8 @@ pub fn why_over<S: Alter + Drop, O: Write>(
     ensures told { HasCleanDisk (state S.Store result.0) → (v : Version) (s : State) →
         RepresentsIn S.Store conn v s →
         ReportsWhy (O.contents out.old) (O.contents out.new) format id result.1 s }
+    ensures refused { IfRefused result.1 (RefusesToShow S.Store conn result.0) }
+    ensures fault { IfFault result.1 IsFaultOfReport }
     ensures end { EndsJob result.1 }
 
     ensures same { HasCleanDisk (state S.Store result.0) → (v : Version) (s : State) →
@@ -91,14 +93,16 @@ fn tell_why<S: Alter, O: Write>(
     ensures told { HasCleanDisk (state S.Store opened.new.conn) → (s : State) →
         IsDeskIn S.Store opened.old s →
         ReportsWhy (O.contents out.old) (O.contents out.new) format id result s }
+    ensures refused { IfRefused result IsNoJourney }
+    ensures fault { IfFault result IsFaultOfReport }
     ensures end { EndsJob result }
 
     ensures kept { IsOnlyRead S.Store opened.old opened.new }
 {
     match opened.journey_of(alloc, id) {
-        Ok(Some(journey)) => End::from(write_why(alloc, format, id, &journey, opened, out)),
+        Ok(Some(journey)) => end_of_report(write_why(alloc, format, id, &journey, opened, out)),
         Ok(None) => End::Refused(Refusal::NoJourney),
-        Err(fault) => End::Fault(fault.into()),
+        Err(fault) => end_of_report(Err(fault.into())),
     }
 }
 
@@ -110,7 +114,7 @@ fn write_why<S: Alter, O: Write>(
     journey: &Record,
     opened: &mut Opened<S>,
     out: &mut O,
-) -> Result<(), ProgramFault>
+) -> Result<(), ReportFault>
     ensures told { HasCleanDisk (state S.Store opened.new.conn) → (s : State) →
         IsDeskIn S.Store opened.old s → record_of s.ledger id ≡ Some journey.now →
         (rows : List (Cell × Held)) → IsStock s.ledger rows →
@@ -121,7 +125,7 @@ fn write_why<S: Alter, O: Write>(
 {
     match read_outlook(alloc, id, journey, opened) {
         Ok(seen) => send_why(alloc, format, &seen, out),
-        Err(fault) => Err(fault.into()),
+        Err(fault) => Err(fault),
     }
 }
 
@@ -131,13 +135,13 @@ fn send_why<O: Write>(
     format: Format,
     seen: &Seen,
     out: &mut O,
-) -> Result<(), ProgramFault>
+) -> Result<(), ReportFault>
     ensures told { WritesText (O.contents out.old) (O.contents out.new)
         (why_in format seen.now.outlook seen.now.nights.items) result }
 {
     match why_text(alloc, format, &seen.outlook, seen.nights.as_slice(), out) {
         Ok(()) => flush(out),
-        Err(fault) => Err(fault.into()),
+        Err(fault) => Err(fault),
     }
 }
 

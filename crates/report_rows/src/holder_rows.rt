@@ -1,6 +1,6 @@
 //! The holders of a cell, in order of journey and step, read one at a time.
 
-ghost use Rattle.std.specs.Prelude.{◌≡◌, ◌<◌, ◌+◌, ◌-◌, ◌^◌, false, IfOk, IsErrOf};
+ghost use Rattle.std.specs.Prelude.{◌≡◌, ◌<◌, ◌+◌, ◌-◌, ◌^◌, true, false, Err, IfOk, IsErrOf, OnErr};
 ghost use Rattle.std.specs.Borrow.{sem};
 ghost use Rattle.sqlite.specs.Held.{state};
 ghost use Rattle.sqlite.specs.State.{HasCleanDisk};
@@ -95,6 +95,8 @@ impl<S: Alter> RowSource<Holder> for HolderRows<'_, '_, S> {
             → IsUp (state S.Store self.old.rows.now.conn.now) → IsErrOf result Fault.Store
             → HasFaulted (state S.Store self.old.rows.now.conn.now)
             (state S.Store self.new.rows.now.conn.now) }
+        ensures failed { OnErr result (self.new.progress.failed ≡ true) }
+        ensures stays_failed { self.old.progress.failed ≡ true → result ≡ Err Fault.Store }
         ensures up { StaysUp S.Store self.old.rows.now.conn.now self.new.rows.now.conn.now }
     {
         let given = self.progress.given;

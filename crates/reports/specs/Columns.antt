@@ -1,5 +1,5 @@
 -- Columns of a width, and lines of them. A text that is longer than its column is not cut.
-use Rattle.std.specs.Prelude.{ℕ, ◌-◌, List, [], ◌∷◌, ◌++◌, length, replicate}
+use Rattle.std.specs.Prelude.{◌≡◌, ℕ, ◌+◌, ◌-◌, ◌≤◌, List, [], ◌∷◌, ◌++◌, length, replicate}
 use Rattle.allotment.specs.Texts.{blank, line_feed}
 use Rattle.commands.specs.Texts.{sentence}
 
@@ -18,3 +18,16 @@ right width text = blanks width text ++ text
 -- a line: its words with one blank between each two, followed by a line feed
 abbrev pub line : List (List ℕ) → List ℕ
 line words = sentence words ++ line_feed ∷ []
+
+-- Columns that are written over the blanks of a line, from its left to its right.
+
+-- a text was written from this place on, where the blanks of the line began
+abbrev pub PutsText : List ℕ → List ℕ → ℕ → List ℕ → Type 0
+PutsText old new at text =
+    (width : ℕ) (done : List ℕ) → old ≡ left width done → length done ≡ at → new ≡ left width (done ++ text)
+
+-- digits were written up to this place: they are a right column from where the blanks of the line began
+abbrev pub PutsDigits : List ℕ → List ℕ → ℕ → List ℕ → Type 0
+PutsDigits old new end digits =
+    (width : ℕ) (done : List ℕ) → old ≡ left width done → length done + length digits ≤ end → end ≤ width
+    → new ≡ left width (done ++ right (end - length done) digits)

@@ -1,24 +1,14 @@
 -- The parts in which a report is written: its head, the text of each row, and its ending.
-use Rattle.std.specs.Prelude.{ℕ, List, [], ◌∷◌, ◌++◌, length, codes}
+use Rattle.std.specs.Prelude.{ℕ, List, ◌∷◌, ◌++◌, length, codes}
 use Rattle.std.specs.List.{flat_map}
-use Rattle.allotment.specs.Nights.{night_text}
-use Rattle.allotment.specs.Texts.{blank, kind_word, line_feed}
-use Rattle.allotment.specs.declared.cells.Cell.{Cell}
-use Rattle.commands.specs.Texts.{item_text, sentence}
+use Rattle.allotment.specs.Texts.{blank, line_feed}
+use Rattle.commands.specs.Texts.{item_text}
 use Rattle.commands.specs.declared.items.Cursor.{Cursor}
 use Rattle.commands.specs.declared.items.Item.{Item}
 use Rattle.saga_core.specs.declared.records.Record.{Record}
-use Rattle.reports.specs.Columns.{left}
 use Rattle.reports.specs.Layouts.{count_line, history_heading, history_ending}
 use Rattle.reports.specs.declared.endings.Ending.{Ending}
 use Rattle.reports.specs.declared.endings.Ending.TheVariants.{Count, Text}
-
--- the text of a cell: its kind, supplier, product and night, each in its column
-abbrev pub cell_columns : Cell → List ℕ
-cell_columns cell =
-    sentence
-    (left 8 (kind_word cell.kind) ∷ left 8 cell.supplier ∷ left 8 cell.product
-    ∷ left 10 (night_text cell.night) ∷ [])
 
 -- the text of an item in a history: the item after one blank
 abbrev pub item_word : Item → List ℕ

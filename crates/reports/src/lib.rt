@@ -8,6 +8,7 @@
 //! rows, and its *ending* after them.
 #![tactic(auto)]
 
+mod columns;
 mod endings;
 mod faults;
 mod fields;

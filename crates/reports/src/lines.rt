@@ -3,8 +3,9 @@ ghost use Rattle.std.specs.Prelude.{◌≡◌, IfOk, string_bytes};
 ghost use Rattle.allotment.specs.Nights.{night_text};
 ghost use Rattle.reports.specs.Formats.{stock_head, unfinished_head};
 ghost use Rattle.reports.specs.Layouts.{stock_heading, stock_line, journey_line};
-ghost use Rattle.reports.specs.Parts.{cell_columns, history_head, history_tail, item_word};
+ghost use Rattle.reports.specs.Parts.{history_head, history_tail, item_word};
 
+use crate::columns::{night_digits, put_number, put_text};
 use crate::formats::Format;
 use crate::records::{cell_heading, journey_heading};
 use allotment::{Cell, Held, Night};
@@ -40,25 +41,21 @@ fn heading() -> &'static str
     "kind     supplier product  night       allot   held   free\n"
 }
 
-/// The line of a cell and its places.
-pub(crate) fn stock_line(alloc: Global, cell: &Cell, places: &Held) -> Result<String, AllocError>
-    ensures line { IfOk result (λ text. string_bytes text ≡ stock_line (cell.now, places.now)) }
+/// The line of a cell and its places: columns of 8, 8, 8, 10, 6, 6 and 6 bytes with a blank between each two.
+pub(crate) fn stock_line(cell: &Cell, places: &Held) -> [u8; 59]
+    ensures line { result ≡ stock_line (cell.now, places.now) }
 {
-    let cell = cell_columns(alloc, cell)?;
-    let Held { allot, free, .. } = *places;
     let held = places.held();
-    format!(in alloc; "{cell} {allot:>6} {held:>6} {free:>6}\n")
-}
-
-/// The columns of a cell: its kind, supplier, product and night.
-fn cell_columns(alloc: Global, cell: &Cell) -> Result<String, AllocError>
-    ensures columns { IfOk result (λ text. string_bytes text ≡ cell_columns cell.now) }
-{
-    let kind = cell.kind.word();
-    let supplier = cell.supplier.as_str();
-    let product = cell.product.as_str();
-    let night = cell.night;
-    format!(in alloc; "{kind:<8} {supplier:<8} {product:<8} {night}")
+    let mut line = [b' '; 59];
+    put_text(&mut line, 0, cell.kind.word().as_bytes());
+    put_text(&mut line, 9, cell.supplier.as_str().as_bytes());
+    put_text(&mut line, 18, cell.product.as_str().as_bytes());
+    put_text(&mut line, 27, &night_digits(cell.night));
+    put_number(&mut line, 44, places.allot);
+    put_number(&mut line, 51, held);
+    put_number(&mut line, 58, places.free);
+    put_text(&mut line, 58, b"\n");
+    line
 }
 
 /// The text of a night, as `2030-06-01`.

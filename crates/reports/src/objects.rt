@@ -120,7 +120,8 @@ fn state_value(alloc: Global, id: u64, cursor: &Cursor) -> Result<Value, AllocEr
 /// The value of a journey with its agent and plan.
 fn begin_value(alloc: Global, id: u64, agent: &str, plan: &str) -> Result<Value, AllocError>
     ensures value { IfOk result (λ value. view value ≡ json
-        (says (codes "agent") agent.now ∷ counts (codes "journey") id ∷ says (codes "plan") plan.now ∷ [])) }
+        (says (codes "agent") agent.now ∷ counts (codes "journey") id
+        ∷ says (codes "plan") plan.now ∷ [])) }
 {
     json!(in alloc; {"agent": agent, "journey": id, "plan": plan})
 }

@@ -20,7 +20,8 @@ use std::io::Write;
 
 /// Writes what comes before the cells of a stock report.
 pub fn begin_stock<W: Write>(format: Format, out: &mut W) -> Result<(), ReportFault>
-    ensures sent { OnOk result (Appends (W.contents out.old) (W.contents out.new) (head_in format)) }
+    ensures sent { OnOk result
+        (Appends (W.contents out.old) (W.contents out.new) (head_in format)) }
 
     ensures front { WroteFront (W.contents out.old) (W.contents out.new) (head_in format) }
     ensures write { IfErr result (λ fault. fault ≡ ReportFault.Write) }
@@ -36,7 +37,8 @@ pub fn stock_lines<R: RowSource<(Cell, Held)>, W: Write>(
     out: &mut W,
 ) -> Result<u64, ReportFault>
     ensures written { R.is_sound rows.new → (all : List (Cell × Held)) → R.rests rows.old all →
-        OnOk result (Appends (W.contents out.old) (W.contents out.new) (flat_map (stock_row format) all)) }
+        OnOk result
+        (Appends (W.contents out.old) (W.contents out.new) (flat_map (stock_row format) all)) }
     ensures number { R.is_sound rows.new → (all : List (Cell × Held)) → R.rests rows.old all →
         IfOk result (λ count. count ≡ length all) }
     ensures rest { R.is_sound rows.new → (all : List (Cell × Held)) → R.rests rows.old all →
@@ -62,7 +64,8 @@ pub fn end_stock<W: Write>(
     ensures sent { OnOk result (Appends (W.contents out.old) (W.contents out.new)
         (last_line format (codes "cells") count)) }
 
-    ensures front { WroteFront (W.contents out.old) (W.contents out.new) (last_line format (codes "cells") count) }
+    ensures front { WroteFront (W.contents out.old) (W.contents out.new)
+        (last_line format (codes "cells") count) }
     ensures no_store { IfErr result (λ fault. fault ≢ ReportFault.Store) }
 {
     let text = Ending::of_list(format, "cells").text(alloc, count)?;

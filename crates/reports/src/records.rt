@@ -36,7 +36,8 @@ pub(crate) fn item_heading() -> &'static str
 
 /// The record of a cell and its places.
 pub(crate) fn cell_record(alloc: Global, cell: &Cell, places: &Held) -> Result<Vec<u8>, AllocError>
-    ensures fields { IfOk result (λ text. text.items ≡ csv_line (cell_fields (cell.now, places.now))) }
+    ensures fields { IfOk result
+        (λ text. text.items ≡ csv_line (cell_fields (cell.now, places.now))) }
 {
     let night = night_text(alloc, cell.night)?;
     let mut row = ByteRecord::new(alloc);
@@ -69,7 +70,8 @@ pub(crate) fn item_record(alloc: Global, id: u64, item: &Item) -> Result<Vec<u8>
 pub fn put_journey(alloc: Global, row: &mut ByteRecord, brief: &Brief) -> Result<(), AllocError>
     requires whole { partial_of row.old ≡ [] }
 
-    ensures fields { OnOk result (fields_of row.new ≡ fields_of row.old ++ journey_fields brief.now) }
+    ensures fields { OnOk result (fields_of row.new
+        ≡ fields_of row.old ++ journey_fields brief.now) }
     ensures whole { OnOk result (partial_of row.new ≡ []) }
 {
     let Cursor { pos, phase, .. } = brief.cursor;

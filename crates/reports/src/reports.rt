@@ -95,7 +95,8 @@ pub fn journeys_text<R: RowSource<Brief>, W: Write>(
     out: &mut W,
 ) -> Result<u64, ReportFault>
     ensures written { R.is_sound rows.new → (all : List Brief) → R.rests rows.old all →
-        OnOk result (Appends (W.contents out.old) (W.contents out.new) (journeys_in name format all)) }
+        OnOk result
+        (Appends (W.contents out.old) (W.contents out.new) (journeys_in name format all)) }
     ensures number { R.is_sound rows.new → (all : List Brief) → R.rests rows.old all →
         IfOk result (λ count. count ≡ length all) }
     ensures rest { R.is_sound rows.new → (all : List Brief) → R.rests rows.old all →
@@ -136,7 +137,8 @@ pub fn history_text<R: RowSource<Item>, W: Write>(
     ensures given { IfOk result (λ count. R.given rows.new ≡ count + R.given rows.old) }
 
     ensures front { R.is_sound rows.new → (all : List Item) → R.rests rows.old all →
-        WroteFront (W.contents out.old) (W.contents out.new) (history_in format id journey.now all) }
+        WroteFront (W.contents out.old) (W.contents out.new)
+        (history_in format id journey.now all) }
 
     ensures kept { R.becomes rows.old rows.new }
     ensures sound { R.is_sound rows.new → R.is_sound rows.old }
@@ -230,7 +232,8 @@ fn history_records<R: RowSource<Item>, W: Write>(
     ensures given { IfOk result (λ count. R.given rows.new ≡ count + R.given rows.old) }
 
     ensures front { R.is_sound rows.new → (all : List Item) → R.rests rows.old all →
-        WroteFront (W.contents out.old) (W.contents out.new) (csv_line item_names ++ flat_map (λ item. csv_line (item_fields id item)) all) }
+        WroteFront (W.contents out.old) (W.contents out.new)
+        (csv_line item_names ++ flat_map (λ item. csv_line (item_fields id item)) all) }
 
     ensures kept { R.becomes rows.old rows.new }
     ensures sound { R.is_sound rows.new → R.is_sound rows.old }

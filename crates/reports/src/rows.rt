@@ -10,12 +10,12 @@ ghost use Rattle.streams.specs.Written.{WroteFront};
 
 use crate::faults::ReportFault;
 use crate::formats::Format;
-use crate::outputs::send;
+use crate::outputs::{send, send_text};
 use crate::{lines, objects, records};
 use allotment::{Cell, Held};
 use commands::Item;
 use saga_core::{Brief, RowSource};
-use std::alloc::{AllocError, Global};
+use std::alloc::Global;
 use std::io::Write;
 
 /// How the rows of a report are laid out.
@@ -23,19 +23,28 @@ pub(crate) trait Layout<T> {
     /// The bytes that represent a row.
     ghost shown: { Self → T → List ℕ };
 
-    /// Those bytes. The only fault is out of memory.
-    fn show(&self, alloc: Global, row: &T) -> Result<Vec<u8>, AllocError>
-        ensures bytes { IfOk result (λ bytes. bytes.items ≡ shown self.now row.now) };
+    /// Writes those bytes. After a fault a prefix of them was written.
+    fn send_row<W: Write>(&self, alloc: Global, row: &T, out: &mut W) -> Result<(), ReportFault>
+        ensures sent { OnOk result
+            (Appends (W.contents out.old) (W.contents out.new) (shown self.now row.now)) }
+
+        ensures front { WroteFront (W.contents out.old) (W.contents out.new)
+            (shown self.now row.now) };
 }
 
 impl Layout<(Cell, Held)> for Format {
     ghost shown = { λ format row. stock_row format row };
 
-    fn show(&self, alloc: Global, row: &(Cell, Held)) -> Result<Vec<u8>, AllocError> {
+    fn send_row<W: Write>(
+        &self,
+        alloc: Global,
+        row: &(Cell, Held),
+        out: &mut W,
+    ) -> Result<(), ReportFault> {
         match self {
-            Format::Text => Ok(lines::stock_line(alloc, &row.0, &row.1)?.into_bytes()),
-            Format::Json => Ok(objects::cell_object(alloc, &row.0, &row.1)?.into_bytes()),
-            Format::Csv => records::cell_record(alloc, &row.0, &row.1),
+            Format::Text => send(out, &lines::stock_line(&row.0, &row.1)),
+            Format::Json => send_text(out, objects::cell_object(alloc, &row.0, &row.1)?.as_str()),
+            Format::Csv => send(out, &records::cell_record(alloc, &row.0, &row.1)?),
         }
     }
 }
@@ -43,11 +52,16 @@ impl Layout<(Cell, Held)> for Format {
 impl Layout<Brief> for Format {
     ghost shown = { λ format brief. unfinished_row format brief };
 
-    fn show(&self, alloc: Global, row: &Brief) -> Result<Vec<u8>, AllocError> {
+    fn send_row<W: Write>(
+        &self,
+        alloc: Global,
+        row: &Brief,
+        out: &mut W,
+    ) -> Result<(), ReportFault> {
         match self {
-            Format::Text => Ok(lines::journey_line(alloc, row)?.into_bytes()),
-            Format::Json => Ok(objects::journey_object(alloc, row)?.into_bytes()),
-            Format::Csv => records::journey_record(alloc, row),
+            Format::Text => send_text(out, lines::journey_line(alloc, row)?.as_str()),
+            Format::Json => send_text(out, objects::journey_object(alloc, row)?.as_str()),
+            Format::Csv => send(out, &records::journey_record(alloc, row)?),
         }
     }
 }
@@ -59,8 +73,14 @@ pub(crate) struct ItemWords;
 impl Layout<Item> for ItemWords {
     ghost shown = { λ _ item. item_word item };
 
-    fn show(&self, alloc: Global, row: &Item) -> Result<Vec<u8>, AllocError> {
-        Ok(lines::item_word(alloc, row)?.into_bytes())
+    fn send_row<W: Write>(
+        &self,
+        alloc: Global,
+        row: &Item,
+        out: &mut W,
+    ) -> Result<(), ReportFault> {
+        let word = lines::item_word(alloc, row)?;
+        send_text(out, word.as_str())
     }
 }
 
@@ -73,8 +93,14 @@ pub(crate) struct ItemObjects {
 impl Layout<Item> for ItemObjects {
     ghost shown = { λ journey item. json_line (item_data journey.id item) };
 
-    fn show(&self, alloc: Global, row: &Item) -> Result<Vec<u8>, AllocError> {
-        Ok(objects::item_object(alloc, self.id, row)?.into_bytes())
+    fn send_row<W: Write>(
+        &self,
+        alloc: Global,
+        row: &Item,
+        out: &mut W,
+    ) -> Result<(), ReportFault> {
+        let object = objects::item_object(alloc, self.id, row)?;
+        send_text(out, object.as_str())
     }
 }
 
@@ -87,8 +113,14 @@ pub(crate) struct ItemRecords {
 impl Layout<Item> for ItemRecords {
     ghost shown = { λ journey item. csv_line (item_fields journey.id item) };
 
-    fn show(&self, alloc: Global, row: &Item) -> Result<Vec<u8>, AllocError> {
-        records::item_record(alloc, self.id, row)
+    fn send_row<W: Write>(
+        &self,
+        alloc: Global,
+        row: &Item,
+        out: &mut W,
+    ) -> Result<(), ReportFault> {
+        let record = records::item_record(alloc, self.id, row)?;
+        send(out, &record)
     }
 }
 
@@ -100,7 +132,8 @@ pub(crate) fn send_rows<T: Drop, L: Layout<T>, R: RowSource<T>, W: Write>(
     out: &mut W,
 ) -> Result<u64, ReportFault>
     ensures written { R.is_sound rows.new → (all : List T) → R.rests rows.old all →
-        OnOk result (Appends (W.contents out.old) (W.contents out.new) (flat_map (L.shown layout.now) all)) }
+        OnOk result
+        (Appends (W.contents out.old) (W.contents out.new) (flat_map (L.shown layout.now) all)) }
     ensures number { R.is_sound rows.new → (all : List T) → R.rests rows.old all →
         IfOk result (λ count. count ≡ length all) }
     ensures rest { R.is_sound rows.new → (all : List T) → R.rests rows.old all →
@@ -115,8 +148,7 @@ pub(crate) fn send_rows<T: Drop, L: Layout<T>, R: RowSource<T>, W: Write>(
 {
     let mut count = 0u64;
     while let Some(row) = rows.next_row()? {
-        let bytes = layout.show(alloc, &row)?;
-        send(out, &bytes)?;
+        layout.send_row(alloc, &row, out)?;
         count += 1;
     }
     Ok(count)

@@ -26,7 +26,8 @@ use tables::TableBook;
 /// The connection of a recovered desk, as it is.
 fn let_go<S: Alter>(ready: Ready<TableBook<S>>) -> Connection<S>
     ensures found { (s : State) → StandsBook S.Store ready s → Stood (state S.Store result) s }
-    ensures left { (s t : State) → LeavesBook S.Store ready s t → MayLeave (state S.Store result) s t }
+    ensures left { (s t : State) → LeavesBook S.Store ready s t →
+        MayLeave (state S.Store result) s t }
     ensures outside { result.in_transaction ≡ false }
     ensures unlimited { result.step_limit ≡ None }
     ensures sound { HasCleanDisk (state S.Store result) → ⟦<TableBook<S> as Book>⟧.is_sound ready }
@@ -44,15 +45,18 @@ pub(crate) fn answer_lines<S: Alter, P: Power, R: Read, W: Write>(
 ) -> Result<Connection<S>, Connection<S>>
     ensures all { IfOk result (λ c. HasCleanDisk (state S.Store c) → IfSome (R.remaining lines.old)
         (λ text. (w : List Moment) → StandsAtEnd (StandsBook S.Store ready) w
-        → Answering (W.contents writer.old) (W.contents writer.new) w (Lines text) (Stood (state S.Store c)))) }
+        → Answering (W.contents writer.old) (W.contents writer.new) w (Lines text)
+        (Stood (state S.Store c)))) }
     ensures outside { IfOk result (λ c. c.in_transaction ≡ false) }
     ensures unlimited { IfOk result (λ c. c.step_limit ≡ None) }
     ensures sound { IfOk result (λ c. HasCleanDisk (state S.Store c)
         → ⟦<TableBook<S> as Book>⟧.is_sound ready) }
 
-    ensures left { IfErr result (λ c. HasCleanDisk (state S.Store c) → IfSome (R.remaining lines.old)
+    ensures left { IfErr result
+        (λ c. HasCleanDisk (state S.Store c) → IfSome (R.remaining lines.old)
         (λ text. (w : List Moment) → StandsAtEnd (StandsBook S.Store ready) w
-        → LeavesAnswering (state S.Store c).may_leave (W.contents writer.old) (W.contents writer.new) w (Lines text))) }
+        → LeavesAnswering (state S.Store c).may_leave (W.contents writer.old)
+        (W.contents writer.new) w (Lines text))) }
     ensures unharmed { IfErr result (λ c. HasCleanDisk (state S.Store c)
         → ⟦<TableBook<S> as Book>⟧.is_sound ready) }
 {
@@ -74,17 +78,21 @@ pub(crate) fn answer_messages<S: Alter, P: Power, R: Read, W: Write>(
     messages: &mut R,
     writer: &mut W,
 ) -> Result<Connection<S>, Connection<S>>
-    ensures all { IfOk result (λ c. HasCleanDisk (state S.Store c) → IfSome (R.remaining messages.old)
+    ensures all { IfOk result
+        (λ c. HasCleanDisk (state S.Store c) → IfSome (R.remaining messages.old)
         (λ bytes. (w : List Moment) → StandsAtEnd (StandsBook S.Store ready) w
-        → Answering (W.contents writer.old) (W.contents writer.new) w (Messages bytes) (Stood (state S.Store c)))) }
+        → Answering (W.contents writer.old) (W.contents writer.new) w (Messages bytes)
+        (Stood (state S.Store c)))) }
     ensures outside { IfOk result (λ c. c.in_transaction ≡ false) }
     ensures unlimited { IfOk result (λ c. c.step_limit ≡ None) }
     ensures sound { IfOk result (λ c. HasCleanDisk (state S.Store c)
         → ⟦<TableBook<S> as Book>⟧.is_sound ready) }
 
-    ensures left { IfErr result (λ c. HasCleanDisk (state S.Store c) → IfSome (R.remaining messages.old)
+    ensures left { IfErr result
+        (λ c. HasCleanDisk (state S.Store c) → IfSome (R.remaining messages.old)
         (λ bytes. (w : List Moment) → StandsAtEnd (StandsBook S.Store ready) w
-        → LeavesAnswering (state S.Store c).may_leave (W.contents writer.old) (W.contents writer.new) w (Messages bytes))) }
+        → LeavesAnswering (state S.Store c).may_leave (W.contents writer.old)
+        (W.contents writer.new) w (Messages bytes))) }
     ensures unharmed { IfErr result (λ c. HasCleanDisk (state S.Store c)
         → ⟦<TableBook<S> as Book>⟧.is_sound ready) }
 {
@@ -106,7 +114,8 @@ pub(crate) fn answer_connections<S: Alter, P: Power, T: Turns>(
     seats: &mut Vec<Seat<T::Reader, T::Writer>>,
     turns: &mut T,
 ) -> Connection<S>
-    ensures left { Exchanged seats.old.items seats.new.items (λ exchanges. HasCleanDisk (state S.Store result)
+    ensures left { Exchanged seats.old.items seats.new.items
+        (λ exchanges. HasCleanDisk (state S.Store result)
         → (w : List Moment) → StandsAtEnd (StandsBook S.Store ready) w → (held : Option (List ℕ))
         → LeavesAnswering (state S.Store result).may_leave held held w (Connections exchanges)) }
     ensures sound { HasCleanDisk (state S.Store result) → ⟦<TableBook<S> as Book>⟧.is_sound ready }

@@ -37,11 +37,13 @@ pub struct Session<L, M, T, R: Read + Drop, W: Write + Drop> {
 fn come_up<S: Alter + Reopen + Drop>(alloc: Global, conn: Connection<S>) -> Result<Connection<S>, S>
     ensures up { IfOk result (λ c. HasCleanDisk (state S.Store c)
         → ComesUp (state S.Store conn) (state S.Store c)) }
-    ensures sound { IfOk result (λ c. HasCleanDisk (state S.Store c) → HasCleanDisk (state S.Store conn)) }
+    ensures sound { IfOk result
+        (λ c. HasCleanDisk (state S.Store c) → HasCleanDisk (state S.Store conn)) }
     ensures outside { IfOk result (λ c. c.in_transaction ≡ false) }
     ensures unlimited { IfOk result (λ c. c.step_limit ≡ None) }
 
-    ensures left { IfErr result (λ s. LeavesNoMore (state S.Store conn) (S.Store.view s) (S.Store.recovers s)) }
+    ensures left { IfErr result
+        (λ s. LeavesNoMore (state S.Store conn) (S.Store.view s) (S.Store.recovers s)) }
 {
     match restart(alloc, conn) {
         Ok(conn) => {
@@ -60,7 +62,8 @@ fn run_after_crash<S: Alter + Reopen + Drop, P: Power, L: Read, M: Read, W: Writ
     session: &mut Session<L, M, T, T::Reader, T::Writer>,
     writer: &mut W,
 ) -> Result<Connection<S>, S>
-    ensures step { IsSoundDisk S.Store result → AreKnown L.remaining M.remaining (session.old ∷ []) →
+    ensures step { IsSoundDisk S.Store result →
+        AreKnown L.remaining M.remaining (session.old ∷ []) →
         Came L.remaining M.remaining (session.old ∷ []) (session.new ∷ [])
         (Comes (state S.Store conn).may_leave (MayBeFound S.Store result)
         (W.contents writer.old) (W.contents writer.new)) }
@@ -92,7 +95,8 @@ fn run_next<S: Alter + Reopen + Drop, P: Power, L: Read, M: Read, W: Write, T: T
     session: &mut Session<L, M, T, T::Reader, T::Writer>,
     writer: &mut W,
 ) -> Result<Connection<S>, S>
-    ensures step { IsSoundDisk S.Store result → AreKnown L.remaining M.remaining (session.old ∷ []) →
+    ensures step { IsSoundDisk S.Store result →
+        AreKnown L.remaining M.remaining (session.old ∷ []) →
         Came L.remaining M.remaining (session.old ∷ []) (session.new ∷ [])
         (Comes (MayBeFound S.Store at) (MayBeFound S.Store result)
         (W.contents writer.old) (W.contents writer.new)) }

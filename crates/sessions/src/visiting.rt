@@ -34,15 +34,20 @@ fn open_for_lines<S: Alter, P: Power, R: Read, W: Write>(
 
     ensures all { IfOk result (λ c. HasCleanDisk (state S.Store c) → IfSome (R.remaining lines.old)
         (λ text. (w : List Moment) → IsWorld w → Stood (state S.Store conn) (after start w)
-        → HasOpened (W.contents writer.old) (W.contents writer.new) w (Lines text) (Stood (state S.Store c)))) }
+        → HasOpened (W.contents writer.old) (W.contents writer.new) w (Lines text)
+        (Stood (state S.Store c)))) }
     ensures outside { IfOk result (λ c. c.in_transaction ≡ false) }
     ensures unlimited { IfOk result (λ c. c.step_limit ≡ None) }
-    ensures sound { IfOk result (λ c. HasCleanDisk (state S.Store c) → HasCleanDisk (state S.Store conn)) }
+    ensures sound { IfOk result
+        (λ c. HasCleanDisk (state S.Store c) → HasCleanDisk (state S.Store conn)) }
 
-    ensures left { IfErr result (λ c. HasCleanDisk (state S.Store c) → IfSome (R.remaining lines.old)
+    ensures left { IfErr result
+        (λ c. HasCleanDisk (state S.Store c) → IfSome (R.remaining lines.old)
         (λ text. (w : List Moment) → IsWorld w → Stood (state S.Store conn) (after start w)
-        → LeadsEach (state S.Store c).may_leave (W.contents writer.old) (W.contents writer.new) (Lines text ∷ []) w)) }
-    ensures unharmed { IfErr result (λ c. HasCleanDisk (state S.Store c) → HasCleanDisk (state S.Store conn)) }
+        → LeadsEach (state S.Store c).may_leave (W.contents writer.old) (W.contents writer.new)
+        (Lines text ∷ []) w)) }
+    ensures unharmed { IfErr result
+        (λ c. HasCleanDisk (state S.Store c) → HasCleanDisk (state S.Store conn)) }
 {
     chains();
     match open_recovered(alloc, conn, power) {
@@ -62,17 +67,23 @@ fn open_for_messages<S: Alter, P: Power, R: Read, W: Write>(
     requires outside { conn.in_transaction ≡ false }
     requires unlimited { conn.step_limit ≡ None }
 
-    ensures all { IfOk result (λ c. HasCleanDisk (state S.Store c) → IfSome (R.remaining messages.old)
+    ensures all { IfOk result
+        (λ c. HasCleanDisk (state S.Store c) → IfSome (R.remaining messages.old)
         (λ bytes. (w : List Moment) → IsWorld w → Stood (state S.Store conn) (after start w)
-        → HasOpened (W.contents writer.old) (W.contents writer.new) w (Messages bytes) (Stood (state S.Store c)))) }
+        → HasOpened (W.contents writer.old) (W.contents writer.new) w (Messages bytes)
+        (Stood (state S.Store c)))) }
     ensures outside { IfOk result (λ c. c.in_transaction ≡ false) }
     ensures unlimited { IfOk result (λ c. c.step_limit ≡ None) }
-    ensures sound { IfOk result (λ c. HasCleanDisk (state S.Store c) → HasCleanDisk (state S.Store conn)) }
+    ensures sound { IfOk result
+        (λ c. HasCleanDisk (state S.Store c) → HasCleanDisk (state S.Store conn)) }
 
-    ensures left { IfErr result (λ c. HasCleanDisk (state S.Store c) → IfSome (R.remaining messages.old)
+    ensures left { IfErr result
+        (λ c. HasCleanDisk (state S.Store c) → IfSome (R.remaining messages.old)
         (λ bytes. (w : List Moment) → IsWorld w → Stood (state S.Store conn) (after start w)
-        → LeadsEach (state S.Store c).may_leave (W.contents writer.old) (W.contents writer.new) (Messages bytes ∷ []) w)) }
-    ensures unharmed { IfErr result (λ c. HasCleanDisk (state S.Store c) → HasCleanDisk (state S.Store conn)) }
+        → LeadsEach (state S.Store c).may_leave (W.contents writer.old) (W.contents writer.new)
+        (Messages bytes ∷ []) w)) }
+    ensures unharmed { IfErr result
+        (λ c. HasCleanDisk (state S.Store c) → HasCleanDisk (state S.Store conn)) }
 {
     chains();
     match open_recovered(alloc, conn, power) {
@@ -92,8 +103,10 @@ fn open_for_connections<S: Alter, P: Power, T: Turns>(
     requires outside { conn.in_transaction ≡ false }
     requires unlimited { conn.step_limit ≡ None }
 
-    ensures opening { Exchanged seats.old.items seats.new.items (λ exchanges. HasCleanDisk (state S.Store result)
-        → (w : List Moment) → IsWorld w → Stood (state S.Store conn) (after start w) → (held : Option (List ℕ))
+    ensures opening { Exchanged seats.old.items seats.new.items
+        (λ exchanges. HasCleanDisk (state S.Store result)
+        → (w : List Moment) → IsWorld w → Stood (state S.Store conn) (after start w) →
+        (held : Option (List ℕ))
         → LeadsEach (state S.Store result).may_leave held held (Connections exchanges ∷ []) w) }
     ensures sound { HasCleanDisk (state S.Store result) → HasCleanDisk (state S.Store conn) }
 {
@@ -117,7 +130,8 @@ fn open_for_http<S: Alter, P: Power, M: Read, W: Write, T: Turns>(
     requires outside { conn.in_transaction ≡ false }
     requires unlimited { conn.step_limit ≡ None }
 
-    ensures openings { Exchanged seats.old.items seats.new.items (λ exchanges. HasCleanDisk (state S.Store result)
+    ensures openings { Exchanged seats.old.items seats.new.items
+        (λ exchanges. HasCleanDisk (state S.Store result)
         → IfSome (M.remaining messages.old) (λ bytes.
         (w : List Moment) → IsWorld w → Stood (state S.Store conn) (after start w)
         → LeadsEach (state S.Store result).may_leave (W.contents writer.old) (W.contents writer.new)
@@ -151,7 +165,8 @@ pub fn run_session<S: Alter, P: Power, L: Read, M: Read, W: Write, T: Turns>(
     requires outside { conn.in_transaction ≡ false }
     requires unlimited { conn.step_limit ≡ None }
 
-    ensures session { Exchanged seats.old.items seats.new.items (λ exchanges. HasCleanDisk (state S.Store result)
+    ensures session { Exchanged seats.old.items seats.new.items
+        (λ exchanges. HasCleanDisk (state S.Store result)
         → IfSome (L.remaining lines.old) (λ text. IfSome (M.remaining messages.old) (λ bytes.
         (w : List Moment) → IsWorld w → Stood (state S.Store conn) (after start w)
         → LeadsEach (state S.Store result).may_leave (W.contents writer.old) (W.contents writer.new)

@@ -1,11 +1,10 @@
 -- The rows of a plan that keeps its limits give that plan. For the functions of `plan_rows`.
-use Rattle.std.proofs.Common.{◌≡◌, ℕ, zero, suc, ◌+◌, ◌<◌, ◌≤◌, ◌⊎◌, inl, inr, List, [], ◌∷◌, ◌++◌, map, take, drop, length, get_or, Bool, true, false, IsTrue, Option, Some, None, Ok, refl, sym, ap, subst, ◌∙◌, arith, add-one, append_assoc}
-use Rattle.std.specs.Prelude.{◌&&◌, ◌==◌, if◌then◌else◌, flat_map, slice_get, option_map, option_and_then, unwrap_or, string_bytes}
-use Rattle.std.specs.List.{list_all}
+use Rattle.std.proofs.Common.{◌≡◌, ℕ, zero, suc, ◌+◌, ◌<◌, ◌≤◌, ◌⊎◌, inl, inr, List, [], ◌∷◌, ◌++◌, map, drop, length, get_or, Bool, true, false, IsTrue, Option, Some, None, Ok, refl, sym, ap, ◌∙◌, arith, add-one}
+use Rattle.std.specs.Prelude.{◌&&◌, if◌then◌else◌, flat_map, slice_get, option_map, option_and_then, unwrap_or, string_bytes}
 use Rattle.std.proofs.Math.Seq.{drop-cons, drop-append_seam, drop-nil}
 use Rattle.std.proofs.Math.ListN.{drop_of_length-le}
 use Rattle.std.proofs.lemmas.Bool.{and_parts}
-use Rattle.std.proofs.lemmas.List.{drop-map, get_or_default, map-append}
+use Rattle.std.proofs.lemmas.List.{drop-map}
 use Rattle.allotment.specs.Cells.{kind_number}
 use Rattle.allotment.specs.Texts.{keep_if, kind_of_number}
 use Rattle.allotment.specs.Limits.{is_code, is_night, are_nights, is_count, is_want}
@@ -16,16 +15,14 @@ use Rattle.allotment.specs.declared.codes.Kind.{Kind}
 use Rattle.allotment.proofs.LawLemmas.{number_again}
 use Rattle.allotment.proofs.MakingLemmas.{made_whole}
 use Rattle.allotment.proofs.NightLemmas.{night_in-night_text}
-use Rattle.plan.specs.PlanModel.{Planned, StepPlan, is_step, numbered, option_count, step_count, step_said}
-use Rattle.plan.specs.declared.steps.PlanStep.{PlanStep}
-use Rattle.plan.proofs.LimitLemmas.{step_limited}
+use Rattle.plan.specs.PlanModel.{Planned, StepPlan, numbered, option_count, step_count}
 use Rattle.desk_sql.specs.Rows.{StepRow}
 use Rattle.desk_sql.specs.FoundRows.{step_of}
 use Rattle.desk_sql.specs.declared.steps.StepFound.{StepFound}
 use Rattle.sql_model.specs.Beginning.{rows_of_option, rows_of_step}
-use Rattle.sql_model.specs.ExpectedRows.{counted_from, flag, none_taken, option_row, option_rows, step_rows_of}
+use Rattle.sql_model.specs.ExpectedRows.{counted_from, none_taken, option_row, option_rows}
 use Rattle.sql_model.specs.Reading.{not_taken}
-use Rattle.sql_reads.specs.PlanRows.{first_rows, steps_after, AreRowsOf, Goes, IsLeft, TellsWant}
+use Rattle.sql_reads.specs.PlanRows.{first_rows, steps_after, TellsWant}
 
 pub not_both : (b : Bool) → b ≡ true → b ≡ false → ⊥
 not_both b is_true is_false = absurd (let both : true ≡ false = sym is_true ∙ is_false in cc)

@@ -1,5 +1,5 @@
 -- A legal ledger calls for rows of cells that keep their limits alone. For the reads of places.
-use Rattle.std.proofs.Common.{◌≡◌, inl, inr, ℕ, ◌≤◌, List, [], ◌∷◌, map, filter, find, Option, Some, None, IsTrue, true, refl, sym, ap, subst, ◌∙◌, arith, eqb-true}
+use Rattle.std.proofs.Common.{◌≡◌, inl, inr, ℕ, ◌≤◌, List, [], ◌∷◌, map, filter, Option, Some, None, IsTrue, true, refl, sym, ap, subst, ◌∙◌, arith, eqb-true}
 use Rattle.std.specs.Prelude.{◌-◌, ◌==◌, ◌&&◌, length, nat_le, flat_map, filter_map, option_map, IsUtf8}
 use Rattle.std.specs.List.{AllByRecursion, list_all}
 use Rattle.std.proofs.lemmas.Bool.{and_parts, leb-true}
@@ -7,7 +7,7 @@ use Rattle.std.proofs.lemmas.Slice.Eq.{bytes_eq-Decides}
 use Rattle.sqlite_trees.proofs.ListLemmas.{all-flat_map}
 use Rattle.sqlite_rules.specs.Lists.{Has}
 use Rattle.sqlite_rules.proofs.ListLemmas.{all_from, all_has, has_filtered, test_has}
-use Rattle.allotment.specs.Cells.{cells_of, is_cell, kind_number}
+use Rattle.allotment.specs.Cells.{cells_of, is_cell}
 use Rattle.allotment.specs.Limits.{is_code, is_good_cell, is_night, most_places, longest_code}
 use Rattle.allotment.specs.Want.{Wanted}
 use Rattle.allotment.specs.declared.cells.Cell.{Cell}
@@ -15,16 +15,11 @@ use Rattle.allotment.specs.declared.cells.Row.{Row}
 use Rattle.allotment.proofs.CodeLemmas.{is_short-code}
 use Rattle.allotment.proofs.ShortLemmas.{is_utf8}
 use Rattle.ledger.specs.History.{last_of}
-use Rattle.ledger.specs.Ledger.{Event, Loaded, Began, Did, rows_of, allotment, held, is_allowed, are_distinct, is_batch, is_good_row, is_not_below_held, batches_named, AreAllowedAfter, IsLegal}
+use Rattle.ledger.specs.Ledger.{Event, Loaded, Began, Did, rows_of, held, is_allowed, are_distinct, is_batch, is_good_row, is_not_below_held, batches_named, AreAllowedAfter, IsLegal}
 use Rattle.ledger.proofs.Cells.{is_cell-same}
 use Rattle.saga_core.specs.Views.{Places, places_of, places_shown, at_night}
-use Rattle.desk_sql.specs.Readable.{AreCellTexts, Each}
-use Rattle.desk_sql.specs.Lists.{IsListed}
 use Rattle.desk_sql.specs.Rows.{StockRow}
-use Rattle.desk_sql.specs.Stock.{stock_of, IsByCell}
 use Rattle.desk_sql.specs.declared.stock.NightFound.{NightFound}
-use Rattle.desk_sql.specs.declared.stock.CellFound.{CellFound}
-use Rattle.desk_sql.proofs.Members.{permutation_from}
 use Rattle.sql_model.specs.Reading.{night_seen}
 use Rattle.sql_model.specs.Standing.{StockStands, places_told}
 use Rattle.sql_model.proofs.StockRows.{stock_at-row}
@@ -131,13 +126,3 @@ module _ (l : List Event) (legal : IsLegal l) (rows : List StockRow) (stand : St
         night = subst (λ n. IsTrue (is_night n)) (eqb-true _ _ three.1) limits.1;
         places = good.places;
       }
-
-  -- each row that is found is such a one, and its texts can be read
-  pub good_cells : (found : List CellFound) → IsListed IsByCell rows (map stock_of found)
-      → AllByRecursion (λ (c : CellFound). IsGoodStock (stock_of c)) found
-  good_cells found finds =
-      all_unmap stock_of IsGoodStock found
-      (all_from IsGoodStock (map stock_of found) (λ s h. good_row s (permutation_from rows (map stock_of found) s finds.same h)))
-
-  pub cell_texts : Each AreCellTexts rows
-  cell_texts r h = let good = good_row r h in (code_text r.supplier good.supplier, code_text r.product good.product)

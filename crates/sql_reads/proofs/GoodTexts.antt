@@ -1,10 +1,9 @@
 -- The texts in the rows of a plan that keeps its limits can be read. For `reads::read_plan`.
-use Rattle.std.proofs.Common.{◌≡◌, ℕ, suc, List, [], ◌∷◌, ◌++◌, map, filter, Bool, true, Some, IsTrue, refl, sym, ap, ◌∙◌}
-use Rattle.std.specs.Prelude.{◌&&◌, flat_map, IsUtf8}
+use Rattle.std.proofs.Common.{◌≡◌, ℕ, suc, List, [], ◌∷◌, map, filter, Bool, true, Some, IsTrue, sym, ap, ◌∙◌}
+use Rattle.std.specs.Prelude.{◌&&◌, flat_map}
 use Rattle.std.specs.List.{AllByRecursion, list_all}
 use Rattle.std.proofs.lemmas.Bool.{and_parts}
 use Rattle.sqlite_trees.proofs.ListLemmas.{all-append}
-use Rattle.sqlite_rules.specs.Lists.{Has}
 use Rattle.sqlite_rules.proofs.ListLemmas.{all_has}
 use Rattle.allotment.specs.Limits.{is_code, is_night, are_nights, is_count, is_want}
 use Rattle.allotment.specs.Want.{Wanted}
@@ -12,9 +11,9 @@ use Rattle.plan.specs.PlanModel.{Planned, StepPlan, is_plan, is_step}
 use Rattle.plan.proofs.LimitLemmas.{limited, step_limited}
 use Rattle.ledger.specs.Answer.{State}
 use Rattle.ledger.specs.Ledger.{Journey, journey_at, history}
-use Rattle.desk_sql.specs.FoundRows.{FindsSteps, is_step_of, step_of}
+use Rattle.desk_sql.specs.FoundRows.{FindsSteps, is_step_of}
 use Rattle.desk_sql.specs.Readable.{AreWantTexts, HaveWantTexts}
-use Rattle.desk_sql.specs.Rows.{Tables, StepRow}
+use Rattle.desk_sql.specs.Rows.{Tables}
 use Rattle.desk_sql.specs.declared.steps.StepFound.{StepFound}
 use Rattle.desk_sql.specs.declared.versions.Version.{Version}
 use Rattle.desk_sql.proofs.Members.{permutation_from}

@@ -1,25 +1,21 @@
 -- Rows that are handed out of cells and journeys which keep their limits tell something, and can be read. For `cell_rows` and
 -- `brief_rows`.
-use Rattle.std.proofs.Common.{◌≡◌, inl, inr, ℕ, List, [], ◌∷◌, map, Option, Some, None, IsTrue, true, refl, sym, ap, subst, ◌∙◌}
-use Rattle.std.specs.Prelude.{◌&&◌, IsUtf8, IsSome}
+use Rattle.std.proofs.Common.{◌≡◌, inl, inr, List, [], ◌∷◌, map, Some, IsTrue, refl, sym, ap, subst, ◌∙◌}
+use Rattle.std.specs.Prelude.{◌&&◌, IsSome}
 use Rattle.std.specs.List.{AllByRecursion}
 use Rattle.std.proofs.lemmas.Bool.{and_parts}
-use Rattle.sqlite_rules.specs.Lists.{Has}
 use Rattle.allotment.specs.Limits.{is_code, is_good_cell, is_night}
 use Rattle.allotment.specs.declared.cells.Cell.{Cell}
 use Rattle.allotment.specs.declared.places.Held.{Held}
 use Rattle.commands.specs.Names.{is_agent}
-use Rattle.desk_sql.specs.FoundRows.{journey_of}
 use Rattle.desk_sql.specs.Readable.{AreCellTexts, Each, IsAgentText}
 use Rattle.desk_sql.specs.RemainingRows.{HandsFirst, Hands}
-use Rattle.desk_sql.specs.Rows.{CursorRow, JourneyRow, StockRow}
-use Rattle.desk_sql.specs.declared.journeys.JourneyFound.{JourneyFound}
+use Rattle.desk_sql.specs.Rows.{JourneyRow, StockRow}
 use Rattle.saga_core.specs.declared.records.Brief.{Brief}
 use Rattle.sql_model.specs.ExpectedRows.{cursor_row}
 use Rattle.sql_model.specs.Reading.{cursor_in, stock_row_of}
 use Rattle.sql_model.proofs.Cursors.{cursor_back}
 use Rattle.sql_reads.specs.GoodRows.{IsGoodStock}
-use Rattle.sql_reads.specs.Reading.{row_of}
 use Rattle.sql_reads.specs.RemainingRows.{Short, short_of, short_told, TellBriefs}
 use Rattle.sql_reads.proofs.GoodStock.{code_text}
 use Rattle.sql_reads.proofs.ReadReasons.{agent_text}

@@ -1,10 +1,10 @@
 -- Why a read of the desk fails. For the functions of `sql_reads`.
-use Rattle.std.proofs.Common.{◌≡◌, ◌≢◌, ◌≤◌, ◌<◌, ◌⊎◌, inl, inr, ℕ, zero, suc, List, [], ◌∷◌, Option, Some, None, Ok, Err, Result, IsTrue, true, false, length, filter, map, refl, sym, ap, subst, ◌∙◌, arith}
+use Rattle.std.proofs.Common.{◌≡◌, ◌≤◌, ◌<◌, inl, inr, ℕ, zero, suc, List, [], ◌∷◌, Option, Some, None, Ok, Err, Result, IsTrue, true, false, length, filter, map, refl, sym, ap, subst, ◌∙◌, arith}
 use Rattle.std.specs.Prelude.{bytes_eq, IsUtf8, IsSome, IfSome, IfErr, IsErrOf, ◌+◌, slice_get, filter_map, nat_le, nat_lt}
 use Rattle.std.specs.List.{AllByRecursion}
 use Rattle.std.proofs.lemmas.Bool.{and_parts, ltb-true}
 use Rattle.sqlite.specs.Store.{Ghosts}
-use Rattle.sqlite.specs.State.{State as Connected, HasCleanDisk}
+use Rattle.sqlite.specs.State.{HasCleanDisk}
 use Rattle.sqlite.specs.Held.{Held, state}
 use Rattle.sqlite.specs.declared.error.Error.{Error}
 use Rattle.sqlite_rules.specs.Lists.{Has}
@@ -29,7 +29,7 @@ use Rattle.desk_sql.proofs.Members.{permutation_from}
 use Rattle.ledger.specs.Answer.{State, most_events}
 use Rattle.ledger.specs.Ledger.{Event, Loaded, Began, Did, Journey, journeys, journey_at, history}
 use Rattle.saga_core.specs.Views.{cursor_of}
-use Rattle.sql_model.specs.ExpectedRows.{Begun, begun, begun_of, counted_from, cursor_row, entry_row_if, entry_row_of, meta_in}
+use Rattle.sql_model.specs.ExpectedRows.{Begun, begun, begun_of, counted_from, entry_row_if, entry_row_of, meta_in}
 use Rattle.sql_model.specs.Reading.{cursor_in}
 use Rattle.sql_model.specs.Standing.{StandsIn}
 use Rattle.sql_model.specs.Spelling.{IsSpelled}

@@ -1,11 +1,8 @@
 -- What a read of a connection returns of the desk that it keeps, and what it leaves of the desk.
 use Rattle.std.specs.Prelude.{◌≡◌, ℕ, false, List, map, Option, None, Some, option_map, Result, IfOk, filter, filter_map}
-use Rattle.allotment.specs.declared.cells.Cell.{Cell}
 use Rattle.allotment.specs.declared.places.Held.{Held as HeldPlaces}
 use Rattle.saga_core.specs.Views.{night_said, brief_of, first_owned, first_unfinished, is_unfinished_above, record_of, marks_of}
-use Rattle.desk_sql.specs.Stock.{stock_of}
 use Rattle.desk_sql.specs.declared.stock.NightFound.{NightFound}
-use Rattle.desk_sql.specs.declared.stock.CellFound.{CellFound}
 use Rattle.sqlite.specs.Tree.{Trees}
 use Rattle.sqlite.specs.Store.{Ghosts}
 use Rattle.sqlite.specs.Held.{Held, state}
@@ -28,7 +25,7 @@ use Rattle.desk_sql.specs.declared.journeys.JourneyFound.{JourneyFound}
 use Rattle.desk_sql.specs.declared.journeys.ItemFound.{ItemFound}
 use Rattle.sql_model.specs.Standing.{IsDesk}
 use Rattle.sql_reads.specs.declared.reads.Stand.{Stand}
-use Rattle.sql_model.specs.Reading.{cursor_in, item_in, night_seen, stock_row_of}
+use Rattle.sql_model.specs.Reading.{cursor_in, item_in, night_seen}
 use Rattle.desk_sql.specs.declared.versions.Version.{Version}
 use Rattle.desk_sql.specs.declared.versions.Version.TheVariants.{Two}
 use Rattle.sql_model.specs.Keeping.{Keeps, KeepsIn}
@@ -108,10 +105,6 @@ TellItems found items = map (λ (i : ItemFound). item_in (item_of 0 i)) found �
 -- the rows are those of these nights, with their places
 abbrev pub TellNights : List NightFound → List (ℕ × HeldPlaces) → Type 0
 TellNights found nights = map night_said nights ≡ map night_seen found
-
--- the rows are those of these cells, with their places
-abbrev pub TellCells : List CellFound → List (Cell × HeldPlaces) → Type 0
-TellCells found cells = map stock_row_of cells ≡ map stock_of found
 
 -- this is the plan of the journey with this number, if the tries are those of the journey
 abbrev pub IsPlanOf : ℕ → ℕ → State → Planned → Type 0

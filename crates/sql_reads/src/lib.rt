@@ -20,7 +20,7 @@ pub use nights_read::{NightsRead, nights_with};
 pub use plan_rows::{Choice, last_choice, next_choice};
 pub use reads::{
     LARGEST, Stand, read_cells, read_first_unfinished, read_history, read_journey, read_record,
-    read_stand, read_stock,
+    read_stand,
 };
 pub use telling::{brief_of, cell_told};
 pub use traces::read_trace;

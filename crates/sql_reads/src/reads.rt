@@ -1,7 +1,7 @@
 //! Reads of the tables, in the desk's types. A read changes nothing, whether it succeeds or not.
 ghost use Rattle.std.specs.Prelude.{◌≡◌, ◌<◌, ◌≤◌, ◌^◌, false, IfOk, IfSome};
 ghost use Rattle.ledger.specs.Ledger.{history};
-ghost use Rattle.saga_core.specs.Views.{ShowsCells, IsStock};
+ghost use Rattle.saga_core.specs.Views.{ShowsCells};
 ghost use Rattle.sql_reads.specs.Reading.{ShowsKept, ShowsKeptIn, ShowsEach, KeepsOn, KeepsEach, LeavesAsBefore, WasClean};
 ghost use Rattle.sql_reads.specs.Reading.{IsFirstAbove, HasNone, IsRecordAt, IsRecordOf, IsStandAt, HasStand, AreMarksAt, IsNone, IsPlanOf, HasTries};
 ghost use Rattle.sql_reads.specs.Causes.{FailsForReason, FailsForReasonEach, FailsForReasonIn, FailsWhere, FailsWhereEach, ShowsSpelled};
@@ -17,12 +17,12 @@ ghost use Rattle.sql_reads.specs.ItemSearch.{AreSoughtAt, IsLow, IsNextOf};
 
 use crate::item_search::Sought;
 use crate::plan_rows::plan_told;
-use crate::telling::{brief_of, cells_told, marks_told, nights_told, record_of, stand_of};
+use crate::telling::{brief_of, marks_told, nights_told, record_of, stand_of};
 use crate::traces::read_items;
-use allotment::{Cell, Held, Night, Want};
+use allotment::{Held, Night, Want};
 use commands::{Agent, Cursor, Fault, Item};
 use desk_sql::{
-    ItemFound, NightRange, Version, find_journey, find_marks, find_nights, find_steps, find_stock,
+    ItemFound, NightRange, Version, find_journey, find_marks, find_nights, find_steps,
     first_unfinished, read_meta,
 };
 use plan::Plan;
@@ -419,30 +419,6 @@ pub fn read_cells<S: Alter>(
     };
     match find_nights(alloc, conn, range) {
         Ok(found) => nights_told(alloc, found.as_slice()),
-        Err(error) => Err(fault_of(&error)),
-    }
-}
-
-/// Returns the places of every cell that has an allotment, in order of kind, supplier, product and night.
-pub fn read_stock<S: Alter>(
-    alloc: Global,
-    conn: &mut Connection<S>,
-) -> Result<Vec<(Cell, Held)>, Fault>
-    requires { conn.old.in_transaction ≡ false }
-
-    ensures outside { conn.new.in_transaction ≡ false }
-    ensures stock { ShowsKept S.Store conn.old conn.new result
-        (λ s rows. IsStock s.ledger rows.items) }
-    ensures same { KeepsOn S.Store conn.old conn.new }
-    ensures stop { LeavesAsBefore S.Store conn.old conn.new }
-    ensures less { WasClean S.Store conn.old conn.new }
-
-    ensures store { FailsForReason S.Store conn.old conn.new result }
-    ensures up { StaysUp S.Store conn.old conn.new }
-    ensures sees { SeesAsBefore S.Store conn.old conn.new }
-{
-    match find_stock(alloc, conn) {
-        Ok(found) => cells_told(alloc, found.as_slice()),
         Err(error) => Err(fault_of(&error)),
     }
 }

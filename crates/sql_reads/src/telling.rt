@@ -10,7 +10,7 @@ ghost use Rattle.desk_sql.specs.FoundRows.{item_of};
 ghost use Rattle.desk_sql.specs.Stock.{stock_of};
 ghost use Rattle.sql_model.specs.Reading.{cursor_in, phase_in, cause_in, item_in, night_seen, stock_row_of};
 ghost use Rattle.sql_reads.specs.GoodRows.{IsGoodNight, IsGoodStock, IsMemory};
-ghost use Rattle.sql_reads.specs.Reading.{row_of, TellsCursor, TellsBrief, TellsStand, TellsRecord, TellItems, TellNights, TellCells};
+ghost use Rattle.sql_reads.specs.Reading.{row_of, TellsCursor, TellsBrief, TellsStand, TellsRecord, TellItems, TellNights};
 
 use crate::reads::Stand;
 use allotment::{Cell, Code, Held, Kind, MOST_PLACES, Night};
@@ -229,24 +229,6 @@ pub fn cell_told(found: &CellFound) -> Option<(Cell, Held)>
     let night = night_of(found.night)?;
     let places = places_of(found.allot, found.free)?;
     Some((Cell::new(kind, supplier, product, night), places))
-}
-
-/// The cells of rows, with their places.
-pub(crate) fn cells_told(alloc: Global, found: &[CellFound]) -> Result<Vec<(Cell, Held)>, Fault>
-    ensures told { IfOk result (λ cells. TellCells found.now cells.items) }
-    ensures there { AllByRecursion (λ c. IsGoodStock (stock_of c)) found.now →
-        IfErr result IsMemory }
-{
-    let mut cells = Vec::new(alloc);
-    for row in found {
-        let Some(cell) = cell_told(row) else {
-            return Err(Fault::Store);
-        };
-        if cells.push(cell).is_err() {
-            return Err(Fault::Memory);
-        }
-    }
-    Ok(cells)
 }
 
 /// The save-points at these positions.

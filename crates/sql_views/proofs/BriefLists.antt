@@ -1,6 +1,6 @@
 -- The unfinished journeys above a number, and the taking of the rows that remain. For `brief_lists`.
-use Rattle.std.proofs.Common.{◌≡◌, ◌≤◌, ◌<◌, inl, inr, ℕ, suc, List, [], ◌∷◌, ◌++◌, map, filter, cond, Bool, true, false, Option, Some, None, IsTrue, refl, sym, ap, subst, ◌∙◌, append_assoc, append-nil, arith}
-use Rattle.std.specs.Prelude.{filter_map, nat_le, nat_lt, ◌&&◌, IsSome}
+use Rattle.std.proofs.Common.{◌≡◌, ◌≤◌, ◌<◌, inl, inr, ℕ, suc, List, [], ◌∷◌, ◌++◌, map, filter, false, Some, None, IsTrue, refl, sym, ap, subst, ◌∙◌, append_assoc, append-nil, arith}
+use Rattle.std.specs.Prelude.{filter_map, nat_lt, ◌&&◌, IsSome}
 use Rattle.std.specs.Borrow.{MutBor}
 use Rattle.std.specs.List.{AllByRecursion}
 use Rattle.std.specs.List.Sorted.{IsPermutation}
@@ -8,7 +8,6 @@ use Rattle.std.proofs.lemmas.List.Sorted.{IsPermutation-refl}
 use Rattle.sqlite.specs.Store.{Ghosts}
 use Rattle.sqlite.specs.Held.{Held, state}
 use Rattle.sqlite.specs.State.{HasCleanDisk}
-use Rattle.sqlite_rules.specs.Lists.{Has}
 use Rattle.sqlite_trees.proofs.ListLemmas.{ascending-filter, ascending_weaker}
 use Rattle.commands.specs.Names.{is_agent}
 use Rattle.ledger.specs.Ledger.{Event, numbers}
@@ -22,7 +21,7 @@ use Rattle.desk_sql.specs.Readable.{Each, IsAgentText}
 use Rattle.desk_sql.specs.RemainingRows.{Hands as HandsRows, ListsUnfinished}
 use Rattle.desk_sql.specs.Rows.{JourneyRow, Tables}
 use Rattle.desk_sql.specs.declared.journeys.JourneyFound.{JourneyFound}
-use Rattle.sql_model.specs.ExpectedRows.{counted_from, Begun, begun, phase_number, journeys_called}
+use Rattle.sql_model.specs.ExpectedRows.{counted_from, Begun, begun, journeys_called}
 use Rattle.sql_lists.specs.JourneyLists.{JourneysRest}
 use Rattle.sql_model.specs.Reading.{cursor_in}
 use Rattle.sql_model.specs.Staying.{StaysUp}
@@ -35,6 +34,7 @@ use Rattle.sql_reads.proofs.HandedBriefs.{brief_in, brief_same, briefs, kept_ali
 use Rattle.sql_reads.proofs.HandedGood.{brief_good, briefs_text}
 use Rattle.sql_reads.proofs.HandedTold.{Told, left_by, told_first, told_none}
 use Rattle.sql_reads.proofs.ReadLemmas.{was_clean}
+use Rattle.sql_views.proofs.Taken.{Remain, up_alone}
 
 -- The rows above a number.
 
@@ -77,10 +77,6 @@ good_told (r ∷ rows) (b ∷ shown) told good =
     (subst (λ a. IsTrue (is_agent a)) (ap (λ (x : Short). x.agent) head) (good r (inl refl)), good_told rows shown tail (λ j h. good j (inr h)))
 
 -- One row after another.
-
--- these were taken of all, and such ones remain
-abbrev pub Remain : (List Brief → Type 0) → List Brief → List Brief → Type 0
-Remain Rests taken all = (last : List Brief) × Rests last × (all ≡ taken ++ last)
 
 -- such ones remain whose agents have the form of one
 abbrev pub GoodRemain : (List Brief → Type 0) → Type 0
@@ -148,13 +144,10 @@ module _ {S : Type 0} (g : Ghosts S) where
     left = left_by g old.now new.now look.same look.survives look.mode;
   }
 
-  up_alone : (h : Held S) → StaysUp g h h
-  up_alone h = record { counts = omega arith; up = λ clean up. inl up }
-
   pub none_so_far : (first : MutBor (Held S)) (taken : List Brief) → taken ≡ [] → AreSoFar first first taken
   none_so_far first taken none = record {
     kept = stays_alone first;
-    up = up_alone first.now;
+    up = up_alone g first.now;
     so_far = λ clean all rests. (all, rests, sym (ap (λ bs. bs ++ all) none));
     good = λ clean good. good;
   }

@@ -1,1 +1,4 @@
 pub mod BriefLists
+pub mod StockLists
+pub mod StockOrder
+pub mod Taken

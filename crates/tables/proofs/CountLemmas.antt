@@ -11,7 +11,7 @@ use Rattle.commands.specs.declared.replies.Refusal.TheVariants.{BatchDiffers, Fi
 use Rattle.commands.specs.declared.replies.Reply.{Reply}
 use Rattle.plan.specs.PlanModel.{Planned}
 use Rattle.ledger.specs.History.{phase, is_finished}
-use Rattle.ledger.specs.Ledger.{Event, Loaded, Began, Did, Journey, journey_at, history, is_allowed, is_not_below_held, batches_named, may_do, IsLegal}
+use Rattle.ledger.specs.Ledger.{Event, Began, Did, Journey, journey_at, history, is_allowed, is_not_below_held, batches_named, may_do, IsLegal}
 use Rattle.ledger.specs.Answer.{State, KeptReply, outcome, outcome_for, state_with, answer, answer_within, asker, kept_for, most_events}
 use Rattle.ledger.specs.Replies.{Answer, refused, are_same_rows, loaded, answer_new, answer_load, answer_begin, sees, seen_journey, step_choices, abort_choices, stop_choices, save_choices, moved, answer_choices, answer_move}
 use Rattle.ledger.proofs.Recovering.{AreAllowedAfter-split}

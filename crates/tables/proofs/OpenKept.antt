@@ -34,7 +34,7 @@ use Rattle.tables.specs.Opening.{Tells}
 use Rattle.sql_writes.proofs.CommitLemmas.{KeepsOne}
 
 -- the schema of the desk has tables, in each version
-not_bare : (v : Version) → schema_of v ≡ no_schema → ⊥
+pub not_bare : (v : Version) → schema_of v ≡ no_schema → ⊥
 not_bare One e = let n : ◌≡◌ {A = ℕ} 7 0 = ap (λ (s : Schema). length s.tables) e in omega arith
 not_bare Two e = let n : ◌≡◌ {A = ℕ} 9 0 = ap (λ (s : Schema). length s.tables) e in omega arith
 

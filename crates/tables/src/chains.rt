@@ -29,10 +29,12 @@ pub fn act_all<S: Alter>(
     commands: &[(Command, Option<Ask>)],
 ) -> Result<Vec<Reply>, (Vec<Reply>, Fault)>
     ensures replies { HasCleanDisk (state S.Store book.new.conn) →
-        IfOk result (λ replies. AreReplies (StandsBook S.Store book.old) (asks_of commands.now) replies.items) }
+        IfOk result
+        (λ replies. AreReplies (StandsBook S.Store book.old) (asks_of commands.now) replies.items) }
     ensures acts { OnOk result (ActsOnAfter S.Store book.old book.new (asks_of commands.now)) }
 
-    ensures store { IfErr result (λ e. FailsAmong S.Store book.old book.new (asks_of commands.now) e.1) }
+    ensures store { IfErr result
+        (λ e. FailsAmong S.Store book.old book.new (asks_of commands.now) e.1) }
 
     ensures up { StaysUp S.Store book.old.conn book.new.conn }
     ensures sound { WasClean S.Store book.old.conn book.new.conn }

@@ -101,7 +101,8 @@ impl<S: Alter> RowSource<Item> for ItemRows<'_, S> {
         ensures next { HasCleanDisk (state S.Store self.new.opened.now.conn) → IfOk result (Hands
             (ItemsRest S.Store self.old.opened.now.conn self.old.cursor)
             (ItemsRest S.Store self.new.opened.now.conn self.new.cursor)) }
-        ensures counted { IfOk result (λ found. self.new.cursor.given ≡ count_of found + self.old.cursor.given) }
+        ensures counted { IfOk result
+            (λ found. self.new.cursor.given ≡ count_of found + self.old.cursor.given) }
         ensures few { self.new.cursor.given < 2 ^ 64 }
 
         ensures kept { StaysUnder S.Store self.old.opened self.new.opened }

@@ -14,7 +14,7 @@ ghost use Rattle.desk_sql.specs.Versions.{number_of, SawVersion};
 ghost use Rattle.desk_sql.specs.declared.versions.Version.{Version};
 ghost use Rattle.ledger.specs.Answer.{State};
 ghost use Rattle.tables.specs.Opening.{FailsToOpen, KeepsIt, StandsOn, Tells};
-ghost use Rattle.sql_model.specs.Staying.{StaysUp};
+ghost use Rattle.sql_model.specs.Staying.{SeesAsBefore, StaysUp};
 ghost use Rattle.sql_reads.specs.Reading.{WasClean};
 
 use crate::faults::OpenFault;
@@ -161,6 +161,7 @@ fn read_version<S: Alter>(conn: &mut Connection<S>) -> Result<Version, OpenFault
     ensures stands { OnErr result (StandsOn S.Store conn.old conn.new) }
     ensures version { IfOk result (λ v. SawVersion S.Store conn.old conn.new (number_of v)) }
     ensures up { OnOk result (StaysUp S.Store conn.old conn.new) }
+    ensures sees { SeesAsBefore S.Store conn.old conn.new }
     ensures told { IfErr result (Tells S.Store conn.old conn.new) }
     ensures store { IfErr result (FailsToOpen S.Store conn.old conn.new) }
 {
@@ -185,6 +186,7 @@ pub fn open_from<S: Alter>(mut conn: Connection<S>) -> Result<Opened<S>, (Connec
     ensures unlimited { IfOk result (λ o. o.conn.step_limit ≡ None) }
     ensures sound { IfOk result (λ o. WasClean S.Store conn o.conn) }
     ensures up { IfOk result (λ o. StaysUp S.Store conn o.conn) }
+    ensures sees { IfOk result (λ o. conn.schema ≢ no_schema → SeesAsBefore S.Store conn o.conn) }
     ensures outside { IfErr result (λ e. e.0.in_transaction ≡ false) }
     ensures stands { IfErr result (λ e. StandsOn S.Store conn e.0) }
     ensures told { IfErr result (λ e. Tells S.Store conn e.0 e.1) }

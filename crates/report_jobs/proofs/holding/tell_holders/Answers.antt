@@ -9,4 +9,4 @@ pub returns-clause-told : goal.returns-clause-told
 returns-clause-told g c clean s is =
     let keeps = subst (λ h. KeepsIn c.args.opened.now.version (state g.S.Store h) s) (sym c.connection.ensures.same) is.keeps in
     let wrote = c.write_holders.ensures.told clean c.args.opened.now.version s is.desk keeps in
-    reported _ _ _ c.write_holders.result _ c.from.ensures wrote
+    reported _ _ _ c.write_holders.result _ c.end_of_report.ensures.end wrote

@@ -9,4 +9,4 @@ pub returns-clause-told : goal.returns-clause-told
 returns-clause-told g c clean s is rows stock =
     let keeps = subst (λ h. KeepsIn c.args.opened.now.version (state g.S.Store h) s) (sym c.connection.ensures.same) is.keeps in
     let wrote = c.write_stock.ensures.told clean c.args.opened.now.version s is.desk keeps rows stock in
-    reported _ _ _ c.write_stock.result _ c.from.ensures wrote
+    reported _ _ _ c.write_stock.result _ c.end_of_report.ensures.end wrote

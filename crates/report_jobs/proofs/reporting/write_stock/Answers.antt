@@ -1,5 +1,5 @@
 -- The whole stock where each cell is asked for, and else the cells that are asked for, kind after kind.
-use Rattle.std.proofs.Common.{◌≡◌, ap, rules, sym, subst, true}
+use Rattle.std.proofs.Common.{◌≡◌, rules, sym, subst, true}
 use Rattle.reports.specs.Formats.{stock_in}
 use Rattle.allotment.specs.declared.cells.Cell.{Cell}
 use Rattle.filters.specs.CellFilters.{is_cell_asked}

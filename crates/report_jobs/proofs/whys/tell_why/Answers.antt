@@ -5,6 +5,7 @@ use Rattle.sqlite.specs.Held.{state}
 use Rattle.saga_core.specs.Views.{record_of}
 use Rattle.tables.specs.Keeping.{KeepsIn}
 use Rattle.report_jobs.specs.Reporting.{IsDeskIn}
+use Rattle.report_jobs.specs.Whys.{ReportsWhy}
 use Rattle.report_jobs.proofs.WhyLemmas.{absent_why, failed_why, reported_why}
 use Rattle.report_jobs.proofs.whys.tell_why.Goals as goal
 
@@ -20,7 +21,7 @@ returns-in-Ok-Some-clause-told g c clean s is rows stock =
           subst (λ v. KeepsIn v (state g.S.Store mid.conn) s) (sym c.journey_of.ensures.version)
           (c.journey_of.ensures.same c.args.opened.now.version s is.keeps);
     } in
-    reported_why _ _ c.args.format c.args.id s c.in-Ok-Some.journey c.write_why.result _ found c.from.ensures
+    reported_why _ _ c.args.format c.args.id s c.in-Ok-Some.journey c.write_why.result _ found c.end_of_report.ensures.end
     (c.write_why.ensures.told clean s here found rows stock)
 
 pub returns-in-Ok-None-clause-told : goal.returns-in-Ok-None-clause-told
@@ -29,4 +30,7 @@ returns-in-Ok-None-clause-told g c clean s is rows stock =
     absent_why _ c.args.format c.args.id s (sym told ∙ c.in-Ok-None.field-0-is)
 
 pub returns-in-Err-clause-told : goal.returns-in-Err-clause-told
-returns-in-Err-clause-told g c clean s is = failed_why _ c.args.format c.args.id _ s
+returns-in-Err-clause-told g c clean s is =
+    let held = g.O.Write.contents c.args.out.now in
+    subst (λ e. ReportsWhy held held c.args.format c.args.id e s) (sym c.end_of_report-in-Err.ensures.end)
+    (failed_why held c.args.format c.args.id _ s)

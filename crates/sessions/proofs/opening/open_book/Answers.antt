@@ -1,5 +1,5 @@
 -- What was found is kept, and the book stands for that.
-use Rattle.sessions.proofs.KnownLemmas.{if_ok_more}
+use Rattle.sessions.proofs.KnownLemmas.{if_err_more, if_ok_more}
 use Rattle.sessions.proofs.opening.open_book.Goals as goal
 
 pub returns-in-Ok-clause-stands : goal.returns-in-Ok-clause-stands
@@ -7,3 +7,9 @@ returns-in-Ok-clause-stands g c =
     if_ok_more c.make_book.result _ _ (λ b stands s desk stood.
     stands s desk (λ clean. c.in-Ok.ensures.finds clean stood.0 s stood.1))
     c.make_book.ensures.stands
+
+-- where no book was made, the connection stands for the same
+pub returns-in-Ok-clause-left : goal.returns-in-Ok-clause-left
+returns-in-Ok-clause-left g c =
+    if_err_more c.make_book.result _ _ (λ out left s stood. left s (λ clean. c.in-Ok.ensures.finds clean stood.0 s stood.1))
+    c.make_book.ensures.left

@@ -1,5 +1,5 @@
 -- Each row is that of the next option.
-use Rattle.std.proofs.Common.{◌≡◌, ◌+◌, ◌<◌, [], ◌∷◌, ◌++◌, drop, length, get_or, sym, ap, ◌∙◌, arith, rules, true, false, refl}
+use Rattle.std.proofs.Common.{◌≡◌, ◌+◌, ◌<◌, [], ◌∷◌, ◌++◌, drop, length, get_or, sym, ap, ◌∙◌, arith, rules, true}
 use Rattle.std.proofs.lemmas.Bool.{ltb-true, ltb-false}
 use Rattle.plan.specs.PlanModel.{option_count}
 use Rattle.sql_model.specs.Beginning.{rows_of_step}

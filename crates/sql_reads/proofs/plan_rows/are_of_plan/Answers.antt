@@ -1,9 +1,9 @@
 -- The rows are those of the plan, step by step.
-use Rattle.std.proofs.Common.{◌≡◌, ◌<◌, ◌+◌, ◌∙◌, sym, rules, true, false, eqb-true}
+use Rattle.std.proofs.Common.{◌<◌, ◌+◌, ◌∙◌, rules, eqb-true}
 use Rattle.plan.specs.PlanModel.{step_count}
 use Rattle.sql_reads.specs.PlanRows.{steps_after}
 use Rattle.sql_reads.proofs.ReadPlans.{step_more, plan_whole}
-use Rattle.sql_reads.proofs.GoodPlans.{steps_left, steps_next, none_left}
+use Rattle.sql_reads.proofs.GoodPlans.{steps_left, steps_next}
 use Rattle.sql_reads.proofs.plan_rows.are_of_plan.Goals as goal
 
 pub loop-step-preserved : goal.loop-step-preserved

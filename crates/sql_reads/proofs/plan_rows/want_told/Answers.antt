@@ -1,10 +1,8 @@
 -- The row of a want that keeps its limits gives that want.
-use Rattle.std.proofs.Common.{◌≡◌, sym, ◌∙◌, ap, rules, Ok, Err, false, true, Result, subst}
+use Rattle.std.proofs.Common.{◌≡◌, sym, rules, Ok, true, subst}
 use Rattle.std.specs.Prelude.{string_bytes, Some}
 use Rattle.allotment.specs.Limits.{is_night}
 use Rattle.allotment.specs.Texts.{kind_of_number}
-use Rattle.allotment.specs.Want.{Wanted}
-use Rattle.allotment.specs.declared.wants.Bad.{Bad}
 use Rattle.allotment.proofs.LawLemmas.{number_read}
 use Rattle.sql_reads.specs.PlanRows.{TellsWant}
 use Rattle.sql_reads.proofs.GoodPlans.{want_good, kept_is, not_both}

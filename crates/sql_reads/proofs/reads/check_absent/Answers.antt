@@ -1,5 +1,5 @@
 -- The row of meta counts the journeys, and a read changes nothing.
-use Rattle.std.proofs.Common.{◌≡◌, length, arith, ◌≤◌}
+use Rattle.std.proofs.Common.{◌≡◌, length, arith}
 use Rattle.desk_sql.specs.FoundRows.{IsMeta}
 use Rattle.ledger.specs.Ledger.{journeys}
 use Rattle.sql_model.proofs.Readings.{meta_read}

@@ -1,5 +1,5 @@
 -- The row with the least number is that of the first journey, and a read changes nothing.
-use Rattle.std.proofs.Common.{◌≡◌, ◌≤◌, None, Some, sym, subst, ap, ◌∙◌, rules, true, false, arith, ◌<◌}
+use Rattle.std.proofs.Common.{◌≡◌, ◌≤◌, None, Some, sym, subst, ap, ◌∙◌, rules, true, false, arith}
 use Rattle.std.specs.Prelude.{option_map}
 use Rattle.desk_sql.specs.FoundRows.{FindsUnfinished, journey_of}
 use Rattle.saga_core.specs.Views.{first_unfinished as first_shown}

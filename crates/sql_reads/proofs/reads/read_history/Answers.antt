@@ -1,6 +1,5 @@
 -- The items behind the event that began the journey are its history, and a journey that does not exist has none.
 use Rattle.std.proofs.Common.{◌≡◌, ◌∙◌}
-use Rattle.commands.specs.declared.replies.Fault.TheVariants.{Store}
 use Rattle.desk_sql.specs.declared.versions.Version.TheVariants.{Two}
 use Rattle.ledger.specs.Ledger.{history}
 use Rattle.sql_model.specs.Staying.{sees_twice}

@@ -1,5 +1,5 @@
 -- The row of a journey gives its brief and the event that began it, and reads change nothing.
-use Rattle.std.proofs.Common.{◌≡◌, ◌∙◌, subst, true, false, arith, ap, sym}
+use Rattle.std.proofs.Common.{◌≡◌, subst, true, false, arith, ap, sym}
 use Rattle.std.specs.Prelude.{option_map}
 use Rattle.sqlite.specs.Held.{state}
 use Rattle.commands.specs.declared.replies.Fault.TheVariants.{Store}
@@ -11,7 +11,7 @@ use Rattle.ledger.specs.Ledger.{journey_at, history}
 use Rattle.saga_core.specs.Views.{brief_of_journey}
 use Rattle.sql_model.specs.Reading.{Tells, IsJourneyOf}
 use Rattle.sql_model.proofs.Readings.{begins_read, journey_read}
-use Rattle.sql_model.proofs.Staying.{of_error, sees_again, stays_up}
+use Rattle.sql_model.proofs.Staying.{of_error}
 use Rattle.sql_reads.proofs.ReadJourneys.{brief_none, brief_shown}
 use Rattle.sql_reads.proofs.ReadLemmas.{keeps_on, has_found}
 use Rattle.sql_reads.proofs.ReadReasons.{found_there, has_text, row_agent, row_cursor, row_number, sql_reason}

@@ -1,9 +1,8 @@
 -- One more journey is counted, or none is left.
-use Rattle.std.proofs.Common.{◌≡◌, ◌+◌, ◌∙◌, sym, ap, suc, arith, rules}
+use Rattle.std.proofs.Common.{◌≡◌, ◌∙◌, sym, arith, rules}
 use Rattle.std.specs.Prelude.{Some, None, Err}
 use Rattle.commands.specs.declared.replies.Fault.TheVariants.{Store}
 use Rattle.saga_core.specs.Views.{first_unfinished}
-use Rattle.tables.specs.UnfinishedCount.{unfinished_above}
 use Rattle.sql_model.specs.Staying.{sees_alone, sees_twice}
 use Rattle.sql_model.proofs.Staying.{fails_twice, stays_twice}
 use Rattle.tables.proofs.LookLemmas.{stays_alone}

@@ -8,7 +8,7 @@ use Rattle.desk_sql.specs.Versions.{number_of, AreOfVersion}
 use Rattle.tables.proofs.OpenKept.{has_version, has_number, keeps_named, still_found}
 use Rattle.commands.specs.declared.replies.Fault.TheVariants.{Store as FaultStore}
 use Rattle.desk_sql.specs.Readable.{HasMeta}
-use Rattle.sql_model.proofs.Staying.{of_error, stays_up}
+use Rattle.sql_model.proofs.Staying.{of_error, sees_again, stays_up}
 use Rattle.sql_reads.proofs.ReadReasons.{meta_there, sql_reason}
 use Rattle.tables.proofs.opening.read_version.Goals as goal
 
@@ -76,3 +76,13 @@ returns-in-Err-clause-store g c clean v s keeps up store =
 -- a read leaves the store up
 pub returns-in-Some-clause-up : goal.returns-in-Some-clause-up
 returns-in-Some-clause-up g c = stays_up g.S.Store c.args.conn.now c.read_meta.new.conn c.read_meta.ensures.survives
+
+-- and sees what it saw
+pub returns-in-Some-clause-sees : goal.returns-in-Some-clause-sees
+returns-in-Some-clause-sees g c = sees_again g.S.Store c.args.conn.now c.read_meta.new.conn c.read_meta.ensures.quiet
+
+pub returns-in-None-clause-sees : goal.returns-in-None-clause-sees
+returns-in-None-clause-sees g c = sees_again g.S.Store c.args.conn.now c.read_meta.new.conn c.read_meta.ensures.quiet
+
+pub returns-in-Err-clause-sees : goal.returns-in-Err-clause-sees
+returns-in-Err-clause-sees g c = sees_again g.S.Store c.args.conn.now c.read_meta.new.conn c.read_meta.ensures.quiet

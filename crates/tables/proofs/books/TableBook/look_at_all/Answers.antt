@@ -1,10 +1,8 @@
 -- The list that was read is that of the unfinished journeys, and the journeys before its first have finished, or all have.
-use Rattle.std.proofs.Common.{◌≡◌, ◌≤◌, List, [], sym, ap, subst, ◌∙◌, rules}
+use Rattle.std.proofs.Common.{◌≡◌, ◌≤◌, sym, ap, subst, ◌∙◌, rules}
 use Rattle.std.specs.Prelude.{Err, Some, None, slice_get}
 use Rattle.sqlite.specs.Held.{state}
-use Rattle.sqlite.specs.State.{HasCleanDisk}
 use Rattle.commands.specs.declared.replies.Fault.TheVariants.{Store}
-use Rattle.saga_core.specs.declared.records.Brief.{Brief}
 use Rattle.sql_model.specs.Staying.{sees_twice}
 use Rattle.sql_model.proofs.Staying.{fails_twice, stays_twice}
 use Rattle.tables.specs.FinishedJourneys.{AreFinishedTo}
