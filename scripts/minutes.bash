@@ -11,14 +11,22 @@ lanes_of() {
   printf '%s\n' "$lanes"
 }
 
+# the beginning of an awk program that reads docs/minutes.tsv, crates.txt and then its own lines: what each crate stands on
+# (uses), its minutes (proof, tests, edits), and proof_minutes(NAME), two for a crate without a row
+minutes_tables='
+    function had(value, instead) { return value == "" || value == "-" ? instead : value }
+    function proof_minutes(name) { return name in proof ? had(proof[name], 0) : 2 }
+    FILENAME ~ /minutes\.tsv$/ { if (!/^#/) { proof[$1] = $2; tests[$1] = $3; edits[$1] = $4 }; next }
+    FILENAME ~ /crates\.txt$/ { sub(/#.*/, ""); if (split($0, half, ":") > 1) { split(half[1], w, " "); uses[w[1]] = half[2] }; next }
+'
+
 # minutes_reckoned LANES: reads lines "CRATE TESTS EDITS ALL PART": TESTS is 1 if its tests are run, else 0; EDITS is how many
 # of its ALL edits are tried; PART is the part of its proof that is left, 1 if absent. Prints how many minutes that takes on
 # so many processors: all work, divided among them, or the longest chain of crates that wait for each other, whichever is
 # longer. A crate without a row counts as one of two minutes, and an edit of which nothing was seen as a fifth of a minute.
 minutes_reckoned() {
-  awk -v lanes="$1" -v top="$top" '
-    function had(value, instead) { return value == "" || value == "-" ? instead : value }
-    function proof_of(name) { return part[name] * (name in proof ? had(proof[name], 0) : 2) }
+  awk -v lanes="$1" "$minutes_tables"'
+    function proof_of(name) { return part[name] * proof_minutes(name) }
     function later(name,    word, i, at) {
       if (name in ready) return ready[name]
       ready[name] = 0
@@ -27,8 +35,6 @@ minutes_reckoned() {
       }
       return ready[name] = at + proof_of(name)
     }
-    FILENAME ~ /minutes\.tsv$/ { if (!/^#/) { proof[$1] = $2; tests[$1] = $3; edits[$1] = $4 }; next }
-    FILENAME ~ /crates\.txt$/ { sub(/#.*/, ""); if (split($0, half, ":") > 1) { split(half[1], w, " "); uses[w[1]] = half[2] }; next }
     { asked[$1] = 1; tested[$1] = $2; tried[$1] = $3; all[$1] = $4; part[$1] = NF > 4 ? $5 : 1 }
     END {
       for (name in asked) {
@@ -46,16 +52,14 @@ minutes_reckoned() {
 # longest_first: reads names of crates, one a line, and prints them in the order in which they best begin: those first on which
 # the longest chain of crates waits that are proved one after another, by minutes. Of two alike the first stays first.
 longest_first() {
-  awk -v top="$top" '
+  awk "$minutes_tables"'
     function chain(name,    word, i, longest) {
       if (name in known) return known[name]
       for (i = split(users[name], word, " "); i > 0; i--) {
         if (chain(word[i]) > longest) longest = chain(word[i])
       }
-      return known[name] = longest + (name in proof ? proof[name] + 0 : 2)
+      return known[name] = longest + proof_minutes(name)
     }
-    FILENAME ~ /minutes\.tsv$/ { if (!/^#/) proof[$1] = $2; next }
-    FILENAME ~ /crates\.txt$/ { sub(/#.*/, ""); if (split($0, half, ":") > 1) { split(half[1], w, " "); uses[w[1]] = half[2] }; next }
     { asked[++count] = $1 }
     END {
       for (at = 1; at <= count; at++) {

@@ -94,7 +94,7 @@ mkdir -p "$work/chain/docs"
 printf 'first:\nsecond:\nover: second sqlite\nlast: first over\nnext: first\n' >"$work/chain/crates.txt"
 printf '# names\ncrate\tproof\nfirst\t1.5\nnext\t-\n' >"$work/chain/docs/minutes.tsv"
 same "which crates begin first" "second over first last next" \
-  "$(top=$work/chain && . scripts/minutes.bash && crates=$(sed 's/:.*//' "$top/crates.txt") && longest_first <<<"$crates" | xargs)"
+  "$(sed 's/:.*//' "$work/chain/crates.txt" | (top=$work/chain && . scripts/minutes.bash && longest_first) | xargs)"
 
 # a build that is stopped goes on with what was kept
 touch crates/low/src/lib.rt

@@ -73,6 +73,8 @@ tried() { cut -d/ -f2 "$FAKE/edits" | sort | uniq -c | awk '{ printf "%s%s %d", 
 # says WHAT TEXT: it was said
 says() { same "$1: '$2' is said" yes "$(grep -qF -- "$2" "$work/said" && echo yes)"; }
 
+same "a crate with two rows of minutes" "" "$(grep -v '^#' docs/minutes.tsv | cut -f1 | sort | uniq -d)"
+
 gate 0
 same "no history" "desk 8, high 8, low 8, mid 8, other 8" "$(tried)"
 git init -q .
