@@ -1,7 +1,8 @@
-//! A law of the holders of a cell.
+//! A law of the holders of a cell, and its use on an example.
 //!
 //! A law is the contract of a function that does nothing: a caller of it may use the law.
 ghost use Rattle.std.specs.Prelude.{List};
+ghost use Rattle.holder_reports.specs.Examples.{two_stays};
 ghost use Rattle.holder_reports.specs.Holders.{HoldAllThatIsHeld};
 ghost use Rattle.ledger.specs.Ledger.{Event};
 
@@ -9,3 +10,12 @@ ghost use Rattle.ledger.specs.Ledger.{Event};
 pub fn places_of_holders()
     ensures held { (l : List Event) → HoldAllThatIsHeld l }
 {}
+
+/// The law, applied to a room whose first night two steps of a journey hold.
+///
+/// The proof applies the law to this ledger. A law with one more premise, which it does not meet, is refused here.
+pub fn places_of_two_stays()
+    ensures held { HoldAllThatIsHeld two_stays.ledger }
+{
+    places_of_holders();
+}

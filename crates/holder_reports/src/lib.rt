@@ -12,5 +12,5 @@ mod layouts;
 mod writing;
 
 pub use holders::Holder;
-pub use laws::places_of_holders;
+pub use laws::{places_of_holders, places_of_two_stays};
 pub use writing::holders_text;

@@ -4,4 +4,5 @@ pub mod Examples
 pub mod Talks
 pub mod Leading
 pub mod Conversations
+pub mod Dates
 pub mod Serving

@@ -1,4 +1,5 @@
 //! A conversation, with no socket of its own.
+ghost use Rattle.http_conversations.specs.Dates.{IsDated};
 ghost use Rattle.http_conversations.specs.Exchanges.{StopAtLast, since};
 ghost use Rattle.http_conversations.specs.History.{AnswersOne, GivesGoOn, HasNoGoOn, HasNoTurn, IsServed, Passes, TakesFirst, WantsRead, after_received, after_sent, new_history, stops_by};
 ghost use Rattle.http_conversations.specs.Leading.{GoesOn, has_broken};
@@ -6,7 +7,7 @@ ghost use Rattle.http_conversations.specs.Talks.{history_of};
 ghost use Rattle.http_conversations.specs.declared.conversation.TheConstants.{MOST_READ, MOST_WAITING};
 ghost use Rattle.saga_core.specs.Books.{LeavesNoMore};
 ghost use Rattle.std.specs.Io.KnownBytes.{Appends, Consumes, IsAtEnd, Keeps};
-ghost use Rattle.std.specs.Prelude.{◌≡◌, ◌≢◌, ◌+◌, ◌<◌, ◌≤◌, ◌↔◌, ℕ, [], List, length, take, Ok, true, false, IfOk, OnErr, IsErrOf, IsTrue};
+ghost use Rattle.std.specs.Prelude.{◌≡◌, ◌≢◌, ◌+◌, ◌<◌, ◌≤◌, ◌↔◌, ℕ, [], List, length, take, None, Ok, true, false, IfOk, OnErr, IsErrOf, IsTrue};
 
 use crate::talk::Talk;
 use commands::{Fault, MOST_BYTES};
@@ -55,14 +56,15 @@ impl Conversation {
     /// Nothing was received at this door, where messages are read by this way. It allocates nothing.
     pub fn new(alloc: Global, door: Door, way: Way) -> Conversation
         ensures none { history result ≡ new_history door way }
+        ensures second { second_of result ≡ None }
     {
         Conversation {
             talk: Talk::new(alloc, door, way),
         }
     }
 
-    /// Reads once, by way of a buffer that many conversations may share. What comes behind a closing page is counted and
-    /// forgotten.
+    /// Reads once, by way of a buffer that many conversations may share, and returns how many bytes came. What comes behind a
+    /// closing page is counted and forgotten.
     pub fn receive<R: Read>(&mut self, buffer: &mut [u8], reader: &mut R) -> io::Result<usize>
         requires wants { WantsRead (history self.old) }
         requires small { length buffer.old ≤ MOST_READ }
@@ -70,15 +72,19 @@ impl Conversation {
         ensures ok { IfOk result (λ count. (more : List ℕ) × (length more ≡ count)
             × Consumes (R.remaining reader.old) (R.remaining reader.new) more
             × (history self.new ≡ after_received (history self.old) more)) }
+        ensures few { IfOk result (λ count. count ≤ length buffer.old) }
         ensures end { result ≡ Ok 0 → 0 < length buffer.old → IsAtEnd (R.remaining reader.new) }
 
         ensures err { OnErr result ((history self.new ≡ history self.old)
             × Keeps (R.remaining reader.old) (R.remaining reader.new)) }
+
+        ensures second { second_of self.new ≡ second_of self.old }
     {
         self.talk.receive(buffer, reader)
     }
 
-    /// Answers the first message that waits, unless a page waits or the conversation is over, and reports whether it did.
+    /// Answers the first message that waits, unless a page waits or the conversation is over, and reports whether it did. By
+    /// the wide way the page has the date of the second that was set last, if one was.
     ///
     /// Out of memory, the message was carried out or not, and its page is lost. Then, and where the store failed, the
     /// conversation has failed.
@@ -93,6 +99,8 @@ impl Conversation {
         ensures at_most_one { length (history self.new).exchanges
             ≤ length (history self.old).exchanges + 1 }
         ensures one { result ≡ Ok true → AnswersOne (history self.old) (history self.new) }
+        ensures dated { result ≡ Ok true → IsDated (B.is_sound book.new) (B.stands book.old)
+            (second_of self.old) (history self.old) (history self.new) }
         ensures stopping { StopAtLast (stops_by result (history self.new))
             (since (history self.old).exchanges (history self.new).exchanges) }
         ensures none { result ≡ Ok false → HasNoTurn (history self.old)
@@ -104,6 +112,7 @@ impl Conversation {
         ensures stays_left { IsTrue (B.has_failed book.old) →
             LeavesNoMore (B.leaves book.old) (B.leaves book.new) }
 
+        ensures second { second_of self.new ≡ second_of self.old }
         ensures sound { B.is_sound book.new → B.is_sound book.old }
     {
         self.talk.answer(paths, book)
@@ -128,18 +137,23 @@ impl Conversation {
         ensures kept { (history self.new).exchanges ≡ (history self.old).exchanges }
 
         ensures memory { OnErr result (history self.new ≡ history self.old) }
+
+        ensures second { second_of self.new ≡ second_of self.old }
     {
         self.talk.go_on()
     }
 
-    /// Writes once what is pending.
+    /// Writes once what is pending, and returns how many of its bytes were written.
     pub fn send<W: Write>(&mut self, writer: &mut W) -> io::Result<usize>
         ensures ok { IfOk result (λ count. (history self.new ≡ after_sent (history self.old) count)
             × Appends (W.contents writer.old) (W.contents writer.new)
             (take count (history self.old).pending)) }
+        ensures few { IfOk result (λ count. count ≤ length (history self.old).pending) }
 
         ensures err { OnErr result ((history self.new ≡ history self.old)
             × Keeps (W.contents writer.old) (W.contents writer.new)) }
+
+        ensures second { second_of self.new ≡ second_of self.old }
     {
         self.talk.send(writer)
     }

@@ -1,8 +1,9 @@
 //! What a conversation holds, and each step of it.
-ghost use Rattle.std.specs.Prelude.{◌≡◌, ◌≢◌, ◌+◌, ◌<◌, ◌≤◌, ℕ, [], List, length, take, drop, vec_capacity, Ok, true, false, IfOk, OnErr, IsErrOf, IsTrue};
+ghost use Rattle.std.specs.Prelude.{◌≡◌, ◌≢◌, ◌+◌, ◌<◌, ◌≤◌, ℕ, [], List, length, take, drop, vec_capacity, None, Ok, true, false, IfOk, OnErr, IsErrOf, IsTrue};
 ghost use Rattle.std.specs.Io.KnownBytes.{Appends, Consumes, IsAtEnd, Keeps};
 ghost use Rattle.saga_core.specs.Books.{LeavesNoMore};
 ghost use Rattle.http_ways.specs.Reading.{IsFirstOfBy};
+ghost use Rattle.http_conversations.specs.Dates.{IsDated};
 ghost use Rattle.http_conversations.specs.Leading.{GoesOn, fault_by, has_broken};
 ghost use Rattle.http_conversations.specs.History.{GivesGoOn, HasNoGoOn, HasNoTurn, TakesFirst, after_answer, after_failure, after_loss, after_received, after_sent, kept, moved_on, new_history};
 ghost use Rattle.http_conversations.specs.Talks.{history_of};
@@ -57,6 +58,7 @@ impl Talk {
     /// Nothing was received at this door, where messages are read by this way. It allocates nothing.
     pub(crate) fn new(alloc: Global, door: Door, way: Way) -> Talk
         ensures none { history_of result ≡ new_history door way }
+        ensures second { result.second ≡ None }
     {
         Talk {
             alloc,
@@ -84,10 +86,13 @@ impl Talk {
             (λ count. (more : List ℕ) × (length more ≡ count) × (count ≤ length buffer.old)
             × Consumes (R.remaining reader.old) (R.remaining reader.new) more
             × (history_of self.new ≡ after_received (history_of self.old) more)) }
+        ensures few { IfOk result (λ count. count ≤ length buffer.old) }
         ensures end { result ≡ Ok 0 → 0 < length buffer.old → IsAtEnd (R.remaining reader.new) }
 
         ensures err { OnErr result ((history_of self.new ≡ history_of self.old)
             × Keeps (R.remaining reader.old) (R.remaining reader.new)) }
+
+        ensures second { self.new.second ≡ self.old.second }
     {
         self.waiting.reserve(buffer.len())?;
         let count = reader.read(buffer)?;
@@ -102,6 +107,7 @@ impl Talk {
     fn settle(&mut self)
         ensures settled { history_of self.new ≡ record (history_of self.old)
             { waiting = kept self.old.stage self.old.waiting.items } }
+        ensures second { self.new.second ≡ self.old.second }
     {
         if !matches!(self.stage, Stage::Open) {
             self.waiting = Vec::new(self.alloc);
@@ -114,6 +120,8 @@ impl Talk {
             (B.leaves book.new)
             (has_broken result) (history_of self.old).exchanges (history_of self.new).exchanges }
         ensures takes { TakesFirst result (history_of self.old) (history_of self.new) }
+        ensures dated { result ≡ Ok true → IsDated (B.is_sound book.new) (B.stands book.old)
+            self.old.second (history_of self.old) (history_of self.new) }
         ensures none { result ≡ Ok false → HasNoTurn (history_of self.old)
             × (history_of self.new ≡ history_of self.old) × (book.new ≡ book.old) }
 
@@ -122,6 +130,7 @@ impl Talk {
         ensures stays_left { IsTrue (B.has_failed book.old) →
             LeavesNoMore (B.leaves book.old) (B.leaves book.new) }
 
+        ensures second { self.new.second ≡ self.old.second }
         ensures sound { B.is_sound book.new → B.is_sound book.old }
     {
         if !matches!(self.stage, Stage::Open) || !self.pending.is_empty() {
@@ -153,6 +162,8 @@ impl Talk {
             (B.leaves book.new)
             (has_broken result) (history_of self.old).exchanges (history_of self.new).exchanges }
         ensures takes { TakesFirst result (history_of self.old) (history_of self.new) }
+        ensures dated { result ≡ Ok true → IsDated (B.is_sound book.new) (B.stands book.old)
+            self.old.second (history_of self.old) (history_of self.new) }
         ensures some { result ≢ Ok false }
 
         ensures failed { IsErrOf result Fault.Store → IsTrue (B.has_failed book.new) }
@@ -160,6 +171,7 @@ impl Talk {
         ensures stays_left { IsTrue (B.has_failed book.old) →
             LeavesNoMore (B.leaves book.old) (B.leaves book.new) }
 
+        ensures second { self.new.second ≡ self.old.second }
         ensures sound { B.is_sound book.new → B.is_sound book.old }
     {
         match answer_by(self.alloc, paths, self.door, self.second, arrived, book) {
@@ -181,6 +193,7 @@ impl Talk {
         ensures answered { history_of self.new
             ≡ after_answer
             (history_of self.old) count answer.bytes.items answer.closes answer.stops }
+        ensures second { self.new.second ≡ self.old.second }
     {
         let closes = answer.closes;
         self.stops = answer.stops;
@@ -202,6 +215,7 @@ impl Talk {
         requires is_open { self.old.stage ≡ Stage.Open }
 
         ensures moved { history_of self.new ≡ moved_on (history_of self.old) count closes }
+        ensures second { self.new.second ≡ self.old.second }
     {
         if closes {
             self.stage = Stage::Closing;
@@ -214,6 +228,7 @@ impl Talk {
     /// The first bytes were a message, whose page was lost.
     pub(crate) fn lose(&mut self, count: usize)
         ensures lost { history_of self.new ≡ after_loss (history_of self.old) count }
+        ensures second { self.new.second ≡ self.old.second }
     {
         let taken = Taken {
             count,
@@ -229,6 +244,7 @@ impl Talk {
     /// Memory ran out before a message was taken.
     pub(crate) fn fail(&mut self)
         ensures failed { history_of self.new ≡ after_failure (history_of self.old) }
+        ensures second { self.new.second ≡ self.old.second }
     {
         self.stage = Stage::Failed;
         self.stops = false;
@@ -243,6 +259,8 @@ impl Talk {
             × (history_of self.new ≡ history_of self.old) }
 
         ensures memory { OnErr result (history_of self.new ≡ history_of self.old) }
+
+        ensures second { self.new.second ≡ self.old.second }
     {
         if !matches!(self.stage, Stage::Open) || !self.pending.is_empty() {
             return Ok(false);
@@ -261,9 +279,12 @@ impl Talk {
             (λ count. (history_of self.new ≡ after_sent (history_of self.old) count)
             × Appends (W.contents writer.old) (W.contents writer.new)
             (take count (history_of self.old).pending)) }
+        ensures few { IfOk result (λ count. count ≤ length (history_of self.old).pending) }
 
         ensures err { OnErr result ((history_of self.new ≡ history_of self.old)
             × Keeps (W.contents writer.old) (W.contents writer.new)) }
+
+        ensures second { self.new.second ≡ self.old.second }
     {
         let count = writer.write(&self.pending)?;
         self.writes = self.writes.and(&self.pending, &count);

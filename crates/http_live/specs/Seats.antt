@@ -53,3 +53,11 @@ module _ {R W : Type 0} {r : Read.Ghosts R} {w : Write.Ghosts W} where
   -- and of the one that is there
   abbrev pub exchanges_at : Seat R W r w → List Exchange
   exchanges_at s = exchanges_before s ++ exchanges_now s.connection
+
+  -- what a connection received
+  abbrev pub received_with : Connection R W r w → List ℕ
+  received_with c = (history c.conversation).received
+
+  -- what each connection of a seat received, in order
+  abbrev pub received_at : Seat R W r w → List (List ℕ)
+  received_at s = map received_with (connections_at s)

@@ -33,7 +33,7 @@ pub struct Connection<R: Read + Drop, W: Write + Drop> {
 
 impl<R: Read + Drop, W: Write + Drop> Connection<R, W> {
     ghost use Rattle.http_live.specs.Arrivals.{arrival, arrival_of};
-    ghost use Rattle.http_live.specs.Seats.{exchanges_with};
+    ghost use Rattle.http_live.specs.Seats.{exchanges_with, received_with};
     ghost use Rattle.http_live.specs.Resting.{IsUsedUp, Rests};
 
     /// Nothing was read or written. Its messages come in at this door, and are read by this way.
@@ -216,6 +216,7 @@ impl<R: Read + Drop, W: Write + Drop> Connection<R, W> {
     fn write(&mut self) -> io::Result<usize>
         ensures kept { exchanges_with self.new ≡ exchanges_with self.old }
         ensures arrival { arrival_of self.new ≡ arrival_of self.old }
+        ensures unread { received_with self.new ≡ received_with self.old }
         ensures err { OnErr result (history self.new.conversation ≡ history self.old.conversation) }
     {
         self.conversation.send(&mut self.writer)
@@ -246,6 +247,7 @@ impl<R: Read + Drop, W: Write + Drop> Connection<R, W> {
     pub(crate) fn hand_out(&mut self) -> Standing
         ensures kept { exchanges_with self.new ≡ exchanges_with self.old }
         ensures arrival { arrival_of self.new ≡ arrival_of self.old }
+        ensures unread { received_with self.new ≡ received_with self.old }
     {
         if !self.conversation.wants_write() {
             return Standing::Over;

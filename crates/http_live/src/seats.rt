@@ -5,7 +5,7 @@ ghost use Rattle.http_conversations.specs.Leading.{GoesOn, has_broken};
 ghost use Rattle.http_live.specs.Arrivals.{arrival, arrivals_at};
 ghost use Rattle.http_live.specs.Endings.{turn_stops};
 ghost use Rattle.http_live.specs.Resting.{Rests};
-ghost use Rattle.http_live.specs.Seats.{HasDoor, HasStopAt, connections_at, exchanges_at};
+ghost use Rattle.http_live.specs.Seats.{HasDoor, HasStopAt, connections_at, exchanges_at, received_at};
 ghost use Rattle.saga_core.specs.Books.{LeavesNoMore};
 ghost use Rattle.std.specs.Prelude.{◌≡◌, ◌∷◌, ◌++◌, ◌+◌, ◌≤◌, [], All, length, map, Ok, IfErr, IfOk, IfSome, IsErrOf, IsTrue};
 
@@ -59,6 +59,7 @@ impl<R: Read + Drop, W: Write + Drop> Seat<R, W> {
         ensures kept { exchanges_at self.new ≡ exchanges_at self.old }
         ensures none { self.new.connection ≡ None }
         ensures arrivals { arrivals_at self.new ≡ arrivals_at self.old }
+        ensures unread { received_at self.new ≡ received_at self.old }
     {
         if let Some(connection) = self.connection.take() {
             self.left = self.left.and(&connection, &());
@@ -93,6 +94,7 @@ impl<R: Read + Drop, W: Write + Drop> Seat<R, W> {
     pub(crate) fn hand_out(&mut self) -> Standing
         ensures kept { exchanges_at self.new ≡ exchanges_at self.old }
         ensures arrivals { arrivals_at self.new ≡ arrivals_at self.old }
+        ensures unread { received_at self.new ≡ received_at self.old }
     {
         let Some(connection) = &mut self.connection else {
             return Standing::Over;

@@ -4,10 +4,10 @@ ghost use Rattle.http_conversations.specs.Leading.{has_broken};
 ghost use Rattle.http_live.specs.Arrivals.{AreAtTheirDoors, AreReadByTheirWays, arrivals_at};
 ghost use Rattle.http_live.specs.Endings.{ends_stopped, has_stopped, ending_after};
 ghost use Rattle.http_live.specs.Merging.{Merges};
-ghost use Rattle.http_live.specs.Seats.{HasStopAmong, IsTaken, exchanges_at};
+ghost use Rattle.http_live.specs.Seats.{HasStopAmong, IsTaken, exchanges_at, received_at};
 ghost use Rattle.http_live.specs.Worlds.{WorldsGoOn};
 ghost use Rattle.saga_core.specs.Books.{LeavesNoMore};
-ghost use Rattle.std.specs.Prelude.{◌≡◌, ◌<◌, ◌≤◌, [], length, map, false, Ok, Some, IfErr, IsErrOf, IsTrue};
+ghost use Rattle.std.specs.Prelude.{◌≡◌, ◌<◌, ◌≤◌, [], length, map, false, Ok, Err, Some, IfErr, IsErrOf, IsTrue};
 ghost use Rattle.desk_http.specs.declared.doors.Door.{Door};
 ghost use Rattle.http_live.specs.Doors.{ComesByItsDoor, ComesByItsWay};
 ghost use Rattle.http_ways.specs.declared.ways.Way.{Way};
@@ -43,6 +43,8 @@ pub fn serve_many<T: Turns, B: Book>(
     ensures doors { AreAtTheirDoors T.is_at seats.old → AreAtTheirDoors T.is_at seats.new }
     ensures ways { AreReadByTheirWays T.is_by seats.old → AreReadByTheirWays T.is_by seats.new }
 
+    ensures memory { result ≡ Err Fault.Memory →
+        (seats.new ≡ seats.old) × (turns.new ≡ turns.old) × (book.new ≡ book.old) }
     ensures failed { IsErrOf result Fault.Store → IsTrue (B.has_failed book.new) }
     ensures stays_failed { IsTrue (B.has_failed book.old) → IsTrue (B.has_failed book.new) }
     ensures stays_left { IsTrue (B.has_failed book.old) →
@@ -77,6 +79,7 @@ fn serve_turns<T: Turns, B: Book>(
     ensures doors { AreAtTheirDoors T.is_at seats.old → AreAtTheirDoors T.is_at seats.new }
     ensures ways { AreReadByTheirWays T.is_by seats.old → AreReadByTheirWays T.is_by seats.new }
 
+    ensures broken { IfErr result (λ fault. fault ≡ Fault.Store) }
     ensures failed { IsErrOf result Fault.Store → IsTrue (B.has_failed book.new) }
     ensures stays_failed { IsTrue (B.has_failed book.old) → IsTrue (B.has_failed book.new) }
     ensures stays_left { IsTrue (B.has_failed book.old) →
@@ -112,6 +115,7 @@ fn take_turn<T: Turns, B: Book>(
     ensures doors { AreAtTheirDoors T.is_at seats.old → AreAtTheirDoors T.is_at seats.new }
     ensures ways { AreReadByTheirWays T.is_by seats.old → AreReadByTheirWays T.is_by seats.new }
 
+    ensures broken { IfErr result (λ fault. fault ≡ Fault.Store) }
     ensures failed { IsErrOf result Fault.Store → IsTrue (B.has_failed book.new) }
     ensures stays_failed { IsTrue (B.has_failed book.old) → IsTrue (B.has_failed book.new) }
     ensures stays_left { IsTrue (B.has_failed book.old) →
@@ -192,6 +196,7 @@ fn welcome<T: Turns>(
 pub fn finish_many<T: Turns>(seats: &mut [Seat<T::Reader, T::Writer>], turns: &mut T)
     ensures kept { map exchanges_at seats.new ≡ map exchanges_at seats.old }
     ensures arrivals { map arrivals_at seats.new ≡ map arrivals_at seats.old }
+    ensures unread { map received_at seats.new ≡ map received_at seats.old }
 {
     for _ in 0..u64::MAX {
         if !finish_turn(seats, turns) {
@@ -204,6 +209,7 @@ pub fn finish_many<T: Turns>(seats: &mut [Seat<T::Reader, T::Writer>], turns: &m
 fn finish_turn<T: Turns>(seats: &mut [Seat<T::Reader, T::Writer>], turns: &mut T) -> bool
     ensures kept { map exchanges_at seats.new ≡ map exchanges_at seats.old }
     ensures arrivals { map arrivals_at seats.new ≡ map arrivals_at seats.old }
+    ensures unread { map received_at seats.new ≡ map received_at seats.old }
 {
     match turns.next_turn() {
         Turn::Comes(_, _, _, _, _) => true,
@@ -223,6 +229,7 @@ fn finish_turn<T: Turns>(seats: &mut [Seat<T::Reader, T::Writer>], turns: &mut T
 fn hand_out_at<T: Turns>(seats: &mut [Seat<T::Reader, T::Writer>], turns: &mut T, at: usize)
     ensures kept { map exchanges_at seats.new ≡ map exchanges_at seats.old }
     ensures arrivals { map arrivals_at seats.new ≡ map arrivals_at seats.old }
+    ensures unread { map received_at seats.new ≡ map received_at seats.old }
 {
     if at >= seats.len() {
         return;
@@ -235,6 +242,7 @@ fn hand_out_at<T: Turns>(seats: &mut [Seat<T::Reader, T::Writer>], turns: &mut T
 fn clear_at<R: Read + Drop, W: Write + Drop>(seats: &mut [Seat<R, W>], at: usize)
     ensures kept { map exchanges_at seats.new ≡ map exchanges_at seats.old }
     ensures arrivals { map arrivals_at seats.new ≡ map arrivals_at seats.old }
+    ensures unread { map received_at seats.new ≡ map received_at seats.old }
 {
     if at >= seats.len() {
         return;

@@ -1,7 +1,8 @@
 -- By which door the messages of a socket come in, and by which way they are read.
-use Rattle.std.specs.Prelude.{◌≡◌, ◌≢◌, ⊤, Option}
+use Rattle.std.specs.Prelude.{◌≡◌, ◌≢◌, ⊤, Option, Some, None}
 use Rattle.desk_http.specs.declared.doors.Door.{Door}
 use Rattle.desk_http.specs.declared.doors.Door.TheVariants.{House}
+use Rattle.desk_http.specs.declared.doors.Door.TheVariants as doors
 use Rattle.desk_http.specs.declared.doors.Site.{Site}
 use Rattle.http_ways.specs.declared.ways.Way.{Way}
 use Rattle.http_live.specs.declared.serving.Turn.{Turn}
@@ -20,9 +21,22 @@ IsDoorOf (Port stream) door = door ≢ House
 abbrev pub IsAt : ReadEnd → Door → Type 0
 IsAt end door = IsDoorOf end.0.value door
 
+-- the door of a socket, where this page is served at the port, if one is
+abbrev pub door_of : Socket → Option Site → Door
+door_of (Path stream) page = House
+door_of (Port stream) (Some site) = doors.Page site
+door_of (Port stream) None = doors.Port
+
 -- the page that who comes to the port is served too
 abbrev pub page_at_port : Sockets → Option Site
 page_at_port sockets = sockets.page
+
+-- who comes in this turn, if anybody does, comes by the door of its socket, where this page is served at the port
+abbrev pub ComesAt : {W : Type 0} → Option Site → Turn ReadEnd W → Type 0
+ComesAt page (Comes at door way reader writer) = door ≡ door_of reader.0.value page
+ComesAt page (Ready at) = ⊤
+ComesAt page (Leaves at) = ⊤
+ComesAt page End = ⊤
 
 -- what the end of a socket gives is read by its way
 abbrev pub IsReadBy : ReadEnd → Way → Type 0

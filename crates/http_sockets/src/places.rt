@@ -206,7 +206,7 @@ pub struct ReadEnd(Rc<Socket>, Way);
 pub struct WriteEnd(Rc<Socket>);
 
 impl Socket {
-    ghost use Rattle.http_sockets.specs.Doors.{IsDoorOf};
+    ghost use Rattle.http_sockets.specs.Doors.{IsDoorOf, door_of};
 
     /// What the system reports of it is told under this token.
     pub(crate) fn register(&mut self, registry: &Registry, token: Token) -> io::Result<()> {
@@ -220,6 +220,7 @@ impl Socket {
     /// By which door its requests come in: at the port by the one with a page, if it is served there.
     pub(crate) fn door(&self, page: Option<Site>) -> Door
         ensures door { IsDoorOf self.now result }
+        ensures page { result ≡ door_of self.now page }
     {
         match (self, page) {
             (Socket::Port(_), Some(site)) => Door::Page(site),

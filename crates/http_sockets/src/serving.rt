@@ -2,7 +2,7 @@
 ghost use Rattle.http_conversations.specs.Leading.{has_broken};
 ghost use Rattle.http_sockets.specs.Going.{GoOnBySockets, GoOnBySome};
 ghost use Rattle.saga_core.specs.Books.{LeavesNoMore};
-ghost use Rattle.std.specs.Prelude.{◌≡◌, IsErrOf, IsTrue};
+ghost use Rattle.std.specs.Prelude.{◌≡◌, Err, IsErrOf, IsTrue};
 
 use crate::places::{ReadEnd, WriteEnd};
 use crate::sockets::Sockets;
@@ -37,6 +37,8 @@ pub fn serve_sockets<B: Book>(
     ensures doors { GoOnBySockets ⟦<ReadEnd as Read>⟧ ⟦<WriteEnd as Write>⟧ (B.is_sound book.new)
         (B.stands book.old) (B.stands book.new) (B.leaves book.new) (has_broken result) }
 
+    ensures memory { result ≡ Err Fault.Memory →
+        (sockets.new ≡ sockets.old) × (book.new ≡ book.old) }
     ensures failed { IsErrOf result Fault.Store → IsTrue (B.has_failed book.new) }
     ensures stays_failed { IsTrue (B.has_failed book.old) → IsTrue (B.has_failed book.new) }
     ensures stays_left { IsTrue (B.has_failed book.old) →

@@ -70,9 +70,11 @@ pub struct Sockets<'a> {
 }
 
 impl<'a> Sockets<'a> {
-    ghost use Rattle.http_sockets.specs.Doors.{ComesBy, page_at_port, way_to_come};
+    ghost use Rattle.http_sockets.specs.Doors.{ComesAt, ComesBy, page_at_port, way_to_come};
+    ghost use Rattle.http_sockets.specs.Limits.{patience_of, still_to_come};
 
-    /// Listens on a port of 127.0.0.1, and on a path if there is one, which its owner alone may open.
+    /// Listens on a port of 127.0.0.1, and on a path if there is one, which its owner alone may open. Who comes is served
+    /// within these limits.
     pub fn bind(
         rt: &'a HostRuntime,
         alloc: Global,
@@ -82,6 +84,9 @@ impl<'a> Sockets<'a> {
     ) -> io::Result<Sockets<'a>>
         ensures no_page { IfOk result (λ sockets. page_at_port sockets ≡ None) }
         ensures way { IfOk result (λ sockets. way_to_come sockets ≡ Way.Profile) }
+        ensures connections { IfOk result
+            (λ sockets. still_to_come sockets ≡ limits.connections) }
+        ensures patience { IfOk result (λ sockets. patience_of sockets ≡ limits.patience) }
     {
         let poll = Poll::new(rt)?;
         let events = Events::with_capacity(alloc, EVENTS)?;
@@ -114,8 +119,13 @@ impl<'a> Sockets<'a> {
         })
     }
 
-    /// Writes a line on standard error for each request and for each connection that ended, from now on.
-    pub fn log(&mut self) -> Result<(), AllocError> {
+    /// Writes a line on standard error for each request and for each connection that ended, from now on. Nothing else changes.
+    pub fn log(&mut self) -> Result<(), AllocError>
+        ensures page { page_at_port self.new ≡ page_at_port self.old }
+        ensures way { way_to_come self.new ≡ way_to_come self.old }
+        ensures limits { (still_to_come self.new ≡ still_to_come self.old)
+            × (patience_of self.new ≡ patience_of self.old) }
+    {
         self.journal = Some(Journal::new(self.rt, self.alloc, SEATS)?);
         Ok(())
     }
@@ -137,6 +147,8 @@ impl<'a> Sockets<'a> {
         ensures shown { OnOk result (IfSome (page_at_port self.new) (λ site. site.page ≡ page)) }
         ensures some { OnOk result (IsSome (page_at_port self.new)) }
         ensures way { way_to_come self.new ≡ way_to_come self.old }
+        ensures limits { (still_to_come self.new ≡ still_to_come self.old)
+            × (patience_of self.new ≡ patience_of self.old) }
 
         ensures err { OnErr result (page_at_port self.new ≡ page_at_port self.old) }
     {
@@ -149,6 +161,8 @@ impl<'a> Sockets<'a> {
     pub fn widen(&mut self)
         ensures way { way_to_come self.new ≡ Way.Wide }
         ensures page { page_at_port self.new ≡ page_at_port self.old }
+        ensures limits { (still_to_come self.new ≡ still_to_come self.old)
+            × (patience_of self.new ≡ patience_of self.old) }
     {
         self.way = Way::Wide;
     }
@@ -240,11 +254,13 @@ impl<'a> Sockets<'a> {
         self.to_come = self.to_come.map(|count| count.saturating_sub(1));
     }
 
-    /// A peer takes a seat, by the door of its socket, and is read by the way that is now.
+    /// A peer takes a seat, by the door of its socket, at the port by that with the page that is served now, if one is. It
+    /// is read by the way that is now.
     fn seated(&mut self, socket: Socket, at: usize) -> io::Result<Turn<ReadEnd, WriteEnd>>
         ensures door { IfOk result (ComesByItsDoor IsAt) }
         ensures way { IfOk result (ComesByItsWay IsReadBy) }
         ensures now { IfOk result (ComesBy (way_to_come self.old)) }
+        ensures page { IfOk result (ComesAt (page_at_port self.old)) }
     {
         let mut socket = socket;
         socket.register(self.poll.registry(), Token(at.saturating_add(FIRST)))?;

@@ -1,5 +1,5 @@
 //! What is free of each night of a want.
-ghost use Rattle.std.specs.Prelude.{◌≡◌, [], ◌∷◌, ◌++◌, List, Some, IfOk, OnOk, find};
+ghost use Rattle.std.specs.Prelude.{◌≡◌, ◌≢◌, [], ◌∷◌, ◌++◌, List, Some, IfErr, IfOk, OnOk, find};
 ghost use Rattle.std.specs.List.{list_all};
 ghost use Rattle.std.specs.Option.{option_copied};
 ghost use Rattle.allotment.specs.Cells.{is_cell};
@@ -75,6 +75,8 @@ pub fn read_nights<R: RowSource<(Cell, Held)>>(
 ) -> Result<Vec<FreeNight>, ReportFault>
     ensures nights { R.is_sound rows.new → (all : List (Cell × Held)) → R.rests rows.old all →
         IfOk result (λ nights. nights.items ≡ nights_in all want.now) }
+
+    ensures no_write { IfErr result (λ fault. fault ≢ ReportFault.Write) }
 
     ensures kept { R.becomes rows.old rows.new }
     ensures sound { R.is_sound rows.new → R.is_sound rows.old }

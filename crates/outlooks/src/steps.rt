@@ -1,5 +1,5 @@
 //! The next step of a journey, and what a step makes of it now.
-ghost use Rattle.std.specs.Prelude.{◌≡◌, ◌+◌, ◌<◌, ℕ, List, [], IfOk, IfSome, IsOk, IsSome, OnOk, option_map};
+ghost use Rattle.std.specs.Prelude.{◌≡◌, ◌+◌, ◌<◌, ℕ, List, [], IfErr, IfOk, IfSome, IsOk, IsSome, OnOk, option_map};
 ghost use Rattle.commands.specs.declared.items.Phase.TheVariants.{Run};
 ghost use Rattle.ledger.specs.Ledger.{Event, history, IsLegal};
 ghost use Rattle.ledger_transitions.specs.JourneyChanges.{newer};
@@ -71,7 +71,7 @@ pub fn latest_option<R: RowSource<Item>>(rows: &mut R, step: usize) -> Result<Op
 }
 
 /// The next step of a journey with its want. `taken` is the option with which the step at its position was done last, if
-/// it goes back. A position or an option that the plan does not have is a fault of the store.
+/// it goes back. A position or an option that the plan does not have is a fault of the store, and there is no other.
 pub fn next_step(journey: &Record, taken: Option<usize>) -> Result<Option<NextStep>, Fault>
     ensures next { (l : List Event) (j : ℕ) → IsJourneyOf l j journey.now →
         IsTaken l j journey.now taken →
@@ -81,6 +81,8 @@ pub fn next_step(journey: &Record, taken: Option<usize>) -> Result<Option<NextSt
         IsOk result }
     ensures short { OnOk result (journey.now.cursor.phase ≡ Run →
         journey.now.cursor.pos < step_count journey.now.plan) }
+
+    ensures fault { IfErr result (λ fault. fault ≡ Fault.Store) }
 {
     let Cursor { pos, phase, used } = journey.cursor;
     match phase {
@@ -95,6 +97,8 @@ fn step_up(plan: &Plan, pos: usize, used: usize) -> Result<NextStep, Fault>
     ensures up { IfOk result (IsStepUp plan.now pos used) }
     ensures there { pos < step_count plan.now → IsOk result }
     ensures short { OnOk result (pos < step_count plan.now) }
+
+    ensures fault { IfErr result (λ fault. fault ≡ Fault.Store) }
 {
     if pos >= plan.steps() {
         return Err(Fault::Store);
@@ -112,6 +116,8 @@ fn step_down(plan: &Plan, step: usize, taken: Option<usize>) -> Result<NextStep,
     ensures down { IfOk result
         (λ next. IfSome taken (λ option. IsStepDown plan.now step option next)) }
     ensures there { IfSome taken (HasOption plan.now step) → IsSome taken → IsOk result }
+
+    ensures fault { IfErr result (λ fault. fault ≡ Fault.Store) }
 {
     let Some(option) = taken else {
         return Err(Fault::Store);

@@ -1,5 +1,5 @@
 //! The report of an outlook.
-ghost use Rattle.std.specs.Prelude.{◌≡◌, ◌++◌, IfOk, OnOk};
+ghost use Rattle.std.specs.Prelude.{◌≡◌, ◌≢◌, ◌++◌, IfErr, IfOk, OnOk};
 ghost use Rattle.std.specs.Io.KnownBytes.{Appends};
 ghost use Rattle.streams.specs.Written.{WroteFront};
 ghost use Rattle.outlooks.specs.Layouts.{why_ending, why_head, why_in, why_row};
@@ -33,6 +33,7 @@ pub fn why_text<W: Write>(
 
     ensures front { WroteFront (W.contents out.old) (W.contents out.new)
         (why_in format outlook.now nights.now) }
+    ensures no_store { IfErr result (λ fault. fault ≢ ReportFault.Store) }
 {
     let bytes = why_bytes(alloc, format, outlook, nights)?;
     send_all(out, bytes.as_slice())?;

@@ -1,7 +1,7 @@
 -- The connection of a seat ends, with its exchanges kept.
 use Rattle.std.proofs.Math.Seq.{map-set_same}
 use Rattle.http_live.specs.Arrivals.{arrivals_at}
-use Rattle.http_live.specs.Seats.{exchanges_at}
+use Rattle.http_live.specs.Seats.{exchanges_at, received_at}
 use Rattle.http_live.proofs.serving.clear_at.Goals as goal
 
 pub returns : goal.returns
@@ -9,4 +9,5 @@ returns g c =
     let seats = c.args.seats.now in record {
       kept = map-set_same exchanges_at seats c.args.at _ c.index-seats-at.result c.clear.ensures.kept;
       arrivals = map-set_same arrivals_at seats c.args.at _ c.index-seats-at.result c.clear.ensures.arrivals;
+      unread = map-set_same received_at seats c.args.at _ c.index-seats-at.result c.clear.ensures.unread;
     }

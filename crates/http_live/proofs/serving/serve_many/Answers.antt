@@ -1,5 +1,8 @@
 -- What was served is how each world goes on.
-use Rattle.std.proofs.Common.{false, refl}
+use Rattle.std.proofs.Common.{◌≡◌, Result, Ok, Err, false, refl}
+use Rattle.std.specs.Prelude.{IfErr}
+use Rattle.commands.specs.declared.replies.Fault.{Fault}
+use Rattle.commands.specs.declared.replies.Fault.TheVariants.{Memory, Store}
 use Rattle.http_conversations.specs.Leading.{has_broken}
 use Rattle.http_live.specs.Endings.{has_stopped}
 use Rattle.http_live.proofs.Merged.{merges_none}
@@ -40,3 +43,12 @@ returns-clause-worlds g c =
     let new = c.serve_turns.new.book in
     worlds_go_on (has_broken c.serve_turns.result) (has_stopped c.serve_turns.result) (book.is_sound new) (book.stands c.args.book.now) (book.stands new) (book.leaves new) _ _
     (g.met.B.Book.settled new) c.serve_turns.ensures.served
+
+-- where the only fault is that of the store, memory did not run out
+never_memory : {T : Type 0} (r : Result T Fault) → IfErr r (λ fault. fault ≡ Store) → r ≡ Err Memory → ⊥
+never_memory (Ok value) broken is = cc
+never_memory (Err Memory) broken is = let bad : Memory ≡ Store = broken in cc
+never_memory (Err Store) broken is = cc
+
+pub returns-clause-memory : goal.returns-clause-memory
+returns-clause-memory g c = λ is. absurd (never_memory c.serve_turns.result c.serve_turns.ensures.broken is)

@@ -1,7 +1,8 @@
 -- What came over the sockets is how each world goes on.
-use Rattle.std.proofs.Common.{◌≡◌, [], All, false, map, refl, subst, sym}
+use Rattle.std.proofs.Common.{◌≡◌, ◌∙◌, [], All, Err, ap, false, map, refl, subst, sym}
 use Rattle.std.proofs.lemmas.List.Elements.{All-nil}
 use Rattle.std.proofs.lemmas.Result.{err_from_is_err_and}
+use Rattle.commands.specs.declared.replies.Fault.TheVariants.{Memory}
 use Rattle.http_live.specs.Merging.{exchange_of}
 use Rattle.http_live.specs.Seats.{connections_at, exchanges_at}
 use Rattle.http_live.proofs.Merged.{merges_none}
@@ -80,3 +81,12 @@ returns-clause-doors g c =
       is_merged = m.is_merged;
       worlds = m.worlds;
     }
+
+-- where memory ran out, no turn was taken
+pub returns-in_err-ending-clause-memory : goal.returns-in_err-ending-clause-memory
+returns-in_err-ending-clause-memory g c is =
+    let failed = err_from_is_err_and c.from_residual.result c.from_residual.ensures.1 in
+    let both = sym failed.1 ∙ is in
+    let out : failed.0 ≡ Memory = cc in
+    let same = c.in_err-ending.ensures.memory (ap Err (sym failed.2 ∙ out)) in
+    (same.1, same.2)

@@ -1,8 +1,13 @@
 -- The cells are read to the last one.
-use Rattle.std.proofs.Common.{◌≡◌, ◌+◌, [], arith, rules, subst, sym}
+use Rattle.std.proofs.Common.{◌≡◌, ◌∙◌, ◌+◌, [], arith, rules, subst, sym}
 use Rattle.std.specs.Prelude.{Option}
+use Rattle.std.proofs.lemmas.Result.{err_from_is_err_and}
 use Rattle.allotment.specs.declared.cells.Cell.{Cell}
 use Rattle.allotment.specs.declared.places.Held.{Held}
+use Rattle.commands.specs.declared.replies.Fault.{Fault}
+use Rattle.commands.specs.declared.replies.Fault.TheVariants.{Memory, Store}
+use Rattle.reports.specs.Faults.{report_fault}
+use Rattle.reports.specs.declared.faults.ReportFault.TheVariants.{Write}
 use Rattle.saga_core.specs.RowSources.{count_of, Hands}
 use Rattle.outlooks.proofs.ReadLemmas.{Collected, collects_more, collects_none}
 use Rattle.outlooks.proofs.nights.read_nights.Goals as goal
@@ -38,3 +43,14 @@ loop-cells-preserved g c =
       kept = search rules;
       sound = λ sound. at.invariant.sound (c.next_row.ensures.sound sound);
     }
+
+-- a source does not fail to write
+never_writes : (f : Fault) → report_fault f ≡ Write → ⊥
+never_writes Memory is = cc
+never_writes Store is = cc
+
+-- the source failed
+pub returns-in_err-row-clause-no_write : goal.returns-in_err-row-clause-no_write
+returns-in_err-row-clause-no_write g c =
+    let failed = err_from_is_err_and c.from_residual.result c.from_residual.ensures.1 in
+    rw (failed.1) (λ is. never_writes c.in_err-row.field-0.0 (sym failed.2 ∙ is))
