@@ -4,10 +4,9 @@ pub mod Beginning
 pub mod Changing
 pub mod ChangedRows
 pub mod Causing
-pub mod Creating
 pub mod CreateReasons
+pub mod Creating
 pub mod Finding
-pub mod FirstRow
 pub mod Framing
 pub mod InsertReasons
 pub mod Inserting
@@ -35,6 +34,7 @@ pub mod Replacing
 pub mod Selecting
 pub mod StockQueries
 pub mod Storing
+pub mod TableReasons
 pub mod Tables
 pub mod Taking
 pub mod Testing

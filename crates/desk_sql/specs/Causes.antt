@@ -11,7 +11,7 @@ use Rattle.sqlite.specs.declared.error.ErrorCode.TheVariants.{OutOfMemory}
 use Rattle.desk_sql.specs.declared.versions.Version.{Version}
 use Rattle.desk_sql.specs.declared.versions.Version.TheVariants.{Two}
 use Rattle.sqlite_schema.specs.declared.schema.Schema.{Schema}
-use Rattle.desk_sql.specs.Calls.{MaySeeIn, MayRun, MayBuild}
+use Rattle.desk_sql.specs.Calls.{MayBuild, MaySeeIn, MayRun}
 use Rattle.desk_sql.specs.Writable.{HasRowids}
 use Rattle.desk_sql.specs.Rows.{Tables}
 
@@ -62,7 +62,7 @@ module _ {S : Type 0} (g : Ghosts S) (old new : Held S) where
   abbrev pub FailsToAdd : {V : Type 0} → Result V Error → (Tables → Type 0) → Type 0
   FailsToAdd result Fits = HasRowids 1 (state g old).now.trees → FailsToWrite result Fits
 
-  -- Texts that create tables, in a transaction of a store that is up: beside these tables, without rows, they fail only out of
+  -- Texts that create tables, in a transaction of a store that is up: on these tables, without rows, they fail only out of
   -- memory, or where the disk failed or refused.
   abbrev pub FailsToBuild : Schema → {V : Type 0} → Result V Error → Type 0
   FailsToBuild before result =
