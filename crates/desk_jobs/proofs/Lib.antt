@@ -3,4 +3,3 @@ pub mod AnswerLemmas
 pub mod LoadLemmas
 pub mod RecoveredLemmas
 pub mod ReasonLemmas
-pub mod EndLemmas

@@ -1,12 +1,12 @@
 -- Why each INSERT of a row fails. For the functions that write.
-use Rattle.std.proofs.Common.{◌≡◌, ◌<◌, ◌≤◌, ◌^◌, ◌==◌, ℕ, List, length, slice_get, inl, inr, Some, Ok, Err, Result, IfOk, true, false, refl, sym, ap, subst, ◌∙◌, arith}
+use Rattle.std.proofs.Common.{◌≡◌, ◌<◌, ◌≤◌, ◌^◌, ◌==◌, ℕ, List, length, slice_get, inl, inr, Some, Err, true, false, refl, sym, subst, arith}
 use Rattle.sqlite.specs.declared.types.Value.TheVariants.{Null, Int}
 use Rattle.sqlite.specs.declared.error.Error.{Error}
 use Rattle.sqlite.specs.Order.{Row}
 use Rattle.sqlite.specs.Table.{Table}
 use Rattle.sqlite.specs.Term.{Term}
 use Rattle.sqlite.specs.Tree.{Trees}
-use Rattle.sqlite.specs.Edit.{Edit, next_rowid}
+use Rattle.sqlite.specs.Edit.{next_rowid}
 use Rattle.sqlite.specs.Rows.{stamped}
 use Rattle.sqlite.specs.Listing.{understood}
 use Rattle.sqlite.specs.State.{State, ExecutesInside}
@@ -31,8 +31,7 @@ use Rattle.desk_sql.proofs.Meaning.{Means, insert, insert_batch_means, insert_jo
 use Rattle.desk_sql.proofs.Causing.{takes}
 use Rattle.desk_sql.proofs.Refusing.{write_reason, insert_goes, IsSafe}
 use Rattle.desk_sql.proofs.NewRow.{put_edit, put_safe, IsFit}
-use Rattle.desk_sql.proofs.Writing.{insert_counts, source_edit, cast_null}
-use Rattle.desk_sql.proofs.Framing.{ready_of}
+use Rattle.desk_sql.proofs.Writing.{source_edit, cast_null}
 use Rattle.desk_sql.proofs.Inserting.{cast_int, batch_params, journey_params, step_params, untouched, item_params, answer_params, mark_params}
 use Rattle.desk_sql.proofs.Testing.{and_true}
 use Rattle.desk_sql.proofs.Storing.{storable, held_from, fits_whole, next_fits, chosen_free, number_free, table_of, table_numbered, rows_all, numbered_all, key_text, key_whole, parent_first, parent_second, bit_holds, range_holds}
@@ -46,7 +45,7 @@ module _ (text : List ℕ) (at : ℕ) (table : Table) (terms : List Term) (width
     (whole_text : takes (length text) (length params) (understood desk_schema text) ≡ true)
     (there : slice_get desk_schema.tables at ≡ Some table) (uncounted : table.is_counted ≡ false) (unstamped : stamped table params ≡ params)
     (typed : accepts_terms terms params ≡ true) where
-  pub put_reason : (old after : State) → IsUp old → old.now.schema ≡ desk_schema
+  put_reason : (old after : State) → IsUp old → old.now.schema ≡ desk_schema
       → source_edit table terms width params old.now.trees ≡ put_edit table new → IsSafe old.now.trees (put_edit table new)
       → (e : Error) → ExecutesInside 0 text params old after (Err e) → HasReason old after e
   put_reason old after up has edit safe =
@@ -96,15 +95,6 @@ answer_reason old new t a e rowids may fits up =
           (λ p apart. simp key_text (simp and_true apart)) fits.unkept,
       tt,
     ) refl tt) e
-
--- one row is counted
-pub answer_counted : (old new : State) (t : Tables) (a : AnswerRow) (r : Result ℕ Error) → MayRun old t
-    → ExecutesInside 0 insert_answer_text (answer_params a) old new r → IfOk r (λ n. n ≡ 1)
-answer_counted old new t a (Err e) may ran = tt
-answer_counted old new t a (Ok n) may ran =
-    insert_counts insert_answer_text (answer_params a) old new 6 (answer_at 11) insert_answer_terms 5 n insert_answer_means.is
-    insert_answer_means.plain refl refl refl (ready_of old t may ran.1.was_open) ran.0
-    ∙ ap (λ (e : Edit). length e.news) (answer_edit old.now.trees a)
 
 -- Batches.
 

@@ -4,7 +4,6 @@ pub mod Beginning
 pub mod Changing
 pub mod ChangedRows
 pub mod Causing
-pub mod CreateReasons
 pub mod Creating
 pub mod Finding
 pub mod Framing
@@ -34,7 +33,6 @@ pub mod Replacing
 pub mod Selecting
 pub mod StockQueries
 pub mod Storing
-pub mod TableReasons
 pub mod Tables
 pub mod Taking
 pub mod Testing

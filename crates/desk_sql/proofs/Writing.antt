@@ -1,5 +1,5 @@
 -- The effect of a statement that writes on the desk's tables, by its meaning. For the lemmas of each statement.
-use Rattle.std.proofs.Common.{◌≡◌, ◌<◌, ◌^◌, pos, to_z, w64, fold, MatchBool, if◌then◌else◌, subst₂, ◌⊎◌, inl, inr, ℕ, ◌/◌, List, [], length, slice_get, unwrap_or, Bool, true, false, cond, Some, None, Ok, Err, Result, refl, sym, ap, subst, ◌∙◌, arith}
+use Rattle.std.proofs.Common.{◌≡◌, ◌<◌, ◌^◌, pos, to_z, w64, fold, MatchBool, if◌then◌else◌, subst₂, ◌⊎◌, inl, inr, ℕ, ◌/◌, List, [], length, slice_get, Bool, true, false, cond, Some, None, Ok, Err, Result, refl, sym, ap, subst, ◌∙◌, arith}
 use Rattle.sqlite.specs.declared.types.Value.{Value}
 use Rattle.sqlite.specs.declared.types.Value.TheVariants.{Null}
 use Rattle.std.proofs.lemmas.Int.{ints}
@@ -111,41 +111,6 @@ inserts sql params old new at table terms width count is plain there uncounted u
       shown = subst (λ b. Shows old new new.now (if b then old.committed else new.now) b) ready.inside w.shown;
       sound = w.sound;
     }
-
--- A statement on the rows of a table counts the rows that it writes; an INSERT of VALUES writes those of its edit.
-
-counted_rows : (old : State) (params : Row) (table : Table) (tally : Tally) (after : Database) (command : Command)
-    → OnRows (task_for old table params) (mode_of old) None command old.now.trees (Ok (tally, after))
-    → (w : Written) × WritesRows (task_for old table params) old.now.trees command (Ok w) × (unwrap_or tally.rows 0 ≡ length w.rows)
-counted_rows old params table tally after command h =
-    let all = went h in
-    let told = went (went all.2).2 in
-    let tallied : tally.rows ≡ Some (length all.0.rows) = ap (λ (p : Tally × Database). p.0.rows) (same_value told.2) in
-    (all.0, all.1, ap (λ n. unwrap_or n 0) tallied)
-
-insert_news : (task : Task) (terms : List Term) (width : ℕ) (db : Trees) (w : Written) → task.table.is_counted ≡ false → stamped task.table task.params ≡ task.params
-    → Inserts task (Values terms width) db (Ok w) → w.rows ≡ (source_edit task.table terms width task.params db).news
-insert_news task terms width db w uncounted unstamped h =
-    let given = went h in
-    let counted = went given.2 in
-    let written = went counted.2 in
-    let done = went written.2 in
-    let first : given.0 ≡ value_rows task.params width (length terms / width) terms = given.1.1 ∙ ap (λ ps. value_rows ps width (length terms / width) terms) unstamped in
-    let edit : edit_of db task.table [] (rowids_for task.table (count_of counted.0)) 0 given.0 ≡ source_edit task.table terms width task.params db
-    = ap (λ b. edit_of db task.table [] (if b then Above (count_of counted.0) else Chosen) 0 given.0) uncounted ∙ ap (λ rows. edit_of db task.table [] Chosen 0 rows) first in
-    ap (λ (it : Written). it.rows) (same_value done.2) ∙ ap (λ (e : Edit). e.news) edit
-
-pub insert_counts : (sql : List ℕ) (params : Row) (old new : State) (at : ℕ) (table : Table) (terms : List Term) (width count : ℕ)
-    → command_of (understood desk_schema sql) ≡ Insert at (Values terms width) → IsPlain (understood desk_schema sql)
-    → slice_get desk_schema.tables at ≡ Some table → table.is_counted ≡ false → stamped table params ≡ params
-    → IsReady old → Executes sql params old new (Ok count) → count ≡ length (source_edit table terms width params old.now.trees).news
-insert_counts sql params old new at table terms width count is plain there uncounted unstamped ready h =
-    let w = runs_as sql params old new desk_schema ready.schema (Insert at (Values terms width)) is plain count h in
-    let text = statement_of sql (understood desk_schema sql) in
-    let all : Does old.step_limit (mode_of old) params (record { schema = desk_schema; trees = old.now.trees }) text None (Insert at (Values terms width)) (Ok (w.tally, new.now))
-    = subst (λ s. Does old.step_limit (mode_of old) params (record old.now { schema = s }) text None (Insert at (Values terms width)) (Ok (w.tally, new.now))) ready.schema w.changed in
-    let it = counted_rows old params table w.tally new.now (Insert at (Values terms width)) (rw there at all) in
-    w.counted ∙ it.2 ∙ ap length (insert_news (task_for old table params) terms width old.now.trees it.0 uncounted unstamped it.1)
 
 no_action : (b : Bool) → (if b then NoAction else NoAction) ≡ NoAction
 no_action true = refl

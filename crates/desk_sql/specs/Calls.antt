@@ -77,11 +77,6 @@ module _ {S : Type 0} (g : Ghosts S) (old new : Held S) where
   abbrev pub Writes : Result ℕ Error → (Tables → Tables) → Type 0
   Writes result after = WritesWhere (λ _. ⊤) result after
 
-  -- a success returns 1, for one row
-  abbrev pub ReturnsOne : Result ℕ Error → Type 0
-  ReturnsOne result =
-      HasCleanDisk (state g new) → (t : Tables) → MayRun (state g old) t → IfOk result (λ n. n ≡ 1)
-
   -- texts that create tables: from these tables, without rows, a success leads to those, without rows
   abbrev pub BuildsOn : Schema → {V : Type 0} → Result V Error → Schema → Type 0
   BuildsOn before result after =

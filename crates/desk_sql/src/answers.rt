@@ -1,7 +1,7 @@
 //! Replies that are kept under an agent's key.
 
 ghost use Rattle.std.specs.Prelude.{◌≡◌, false, IfOk, IfErr, ⊤};
-ghost use Rattle.desk_sql.specs.Calls.{Writes, ReturnsOne, StaysInside, WasOpen, CommitsNothing, LeavesNoMore, Reads, ChangesNothing};
+ghost use Rattle.desk_sql.specs.Calls.{Writes, StaysInside, WasOpen, CommitsNothing, LeavesNoMore, Reads, ChangesNothing};
 ghost use Rattle.desk_sql.specs.Changes.{adds_answer, kept};
 ghost use Rattle.desk_sql.specs.FoundRows.{FindsAnswer, shows_answer, two_of};
 ghost use Rattle.desk_sql.specs.Causes.{FailsForReason, FailsToAdd, IsMemory};
@@ -73,7 +73,6 @@ pub fn insert_answer<'x, S: Alter>(
     ensures same_reference { tx.new.conn.ghost_name ≡ tx.old.conn.ghost_name }
     ensures made { Writes S.Store tx.old.conn.now tx.new.conn.now result
         (adds_answer (kept agent.now mark.now ask.now reply.now)) }
-    ensures count { ReturnsOne S.Store tx.old.conn.now tx.new.conn.now result }
     ensures reason { FailsToAdd S.Store tx.old.conn.now tx.new.conn.now result
         (MayKeep (kept agent.now mark.now ask.now reply.now)) }
     ensures rowids { TakesRowid S.Store tx.old.conn.now tx.new.conn.now result (λ _. ⊤) }

@@ -1,4 +1,3 @@
 pub mod Statements
 pub mod Copying
 pub mod Migrating
-pub mod Reasons

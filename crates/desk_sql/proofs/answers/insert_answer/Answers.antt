@@ -7,7 +7,7 @@ use Rattle.desk_sql.specs.Texts.{insert_answer_text}
 use Rattle.desk_sql.proofs.Inserting.{inserts_answer, answer_params}
 use Rattle.desk_sql.proofs.RowidsTaken.{answer_rowids}
 use Rattle.desk_sql.proofs.Refusing.{if_failed}
-use Rattle.desk_sql.proofs.InsertReasons.{answer_counted, answer_reason}
+use Rattle.desk_sql.proofs.InsertReasons.{answer_reason}
 use Rattle.desk_sql.proofs.answers.insert_answer.Goals as goal
 
 pub returns-clause-made : goal.returns-clause-made
@@ -32,11 +32,3 @@ pub returns-clause-rowids : goal.returns-clause-rowids
 returns-clause-rowids g c clean t may fits n has =
     answer_rowids (state g.S.Store c.args.tx.now.conn.now) (state g.S.Store c.execute.new.self.conn.now) t (kept c.args.agent.now c.args.mark.now c.args.ask.now c.args.reply.now) c.execute.result may
     (simp (c.as_bytes.ensures.value, c.as_bytes-2.ensures.value, c.as_bytes-3.ensures.value) at (c.execute.ensures.runs clean may.inside)) n has
-
--- the row is counted
-pub returns-clause-count : goal.returns-clause-count
-returns-clause-count g c clean t may =
-    answer_counted (state g.S.Store c.args.tx.now.conn.now) (state g.S.Store c.execute.new.self.conn.now) t
-    (kept c.args.agent.now c.args.mark.now c.args.ask.now c.args.reply.now) c.execute.result may
-    (simp (c.as_bytes.ensures.value, c.as_bytes-2.ensures.value, c.as_bytes-3.ensures.value) at
-    (c.execute.ensures.runs clean may.inside))

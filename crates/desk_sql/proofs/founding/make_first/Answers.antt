@@ -4,9 +4,6 @@ use Rattle.sqlite.specs.State.{HasCleanDisk}
 use Rattle.sqlite.specs.Held.{state}
 use Rattle.desk_sql.specs.Schema.{first_schema}
 use Rattle.desk_sql.proofs.Making.{makes_meta, makes_stock, makes_batch, makes_journey, builds_then, then_build, schema_1, schema_2, schema_3}
-use Rattle.desk_sql.specs.Causes.{HasReason}
-use Rattle.desk_sql.proofs.CreateReasons.{since, still_up}
-use Rattle.desk_sql.proofs.TableReasons.{meta_fails, stock_fails, batch_fails, journey_fails}
 use Rattle.desk_sql.proofs.founding.make_first.Goals as goal
 
 pub returns-clause-made : goal.returns-clause-made
@@ -27,68 +24,3 @@ returns-clause-made g c clean start =
     let four = makes_journey e f (Ok c.in_ok-execute-4.field-0) (then_build d e schema_3 three)
     (c.in_ok-execute-4.ensures.runs clean three.inside) in
     builds_then a b f schema_1 first_schema one (builds_then b d f schema_2 first_schema two (builds_then d e f schema_3 first_schema three four))
-
--- Each text fails for a reason, and what has one later has it since the first.
-
-pub returns-in_err-execute-clause-reason : goal.returns-in_err-execute-clause-reason
-returns-in_err-execute-clause-reason g c clean start up =
-    let a = state g.S.Store c.args.tx.now.conn.now in
-    let b = state g.S.Store c.execute.new.self.conn.now in
-    let reason : HasReason a b c.in_err-execute.field-0.0
-    = meta_fails a b _ start up (c.in_err-execute.ensures.runs clean start.inside) in
-    search rules
-
-pub returns-in_err-execute-2-clause-reason : goal.returns-in_err-execute-2-clause-reason
-returns-in_err-execute-2-clause-reason g c clean start up =
-    let a = state g.S.Store c.args.tx.now.conn.now in
-    let b = state g.S.Store c.execute.new.self.conn.now in
-    let d = state g.S.Store c.execute-2.new.self.conn.now in
-    let at_b : HasCleanDisk b = omega (arith, c.execute-2.ensures.survives.clean) in
-    let one = makes_meta a b (Ok c.in_ok-execute.field-0) start (c.in_ok-execute.ensures.runs at_b start.inside) in
-    let up_b = still_up a b schema_1 one c.execute.ensures.survives.limit up in
-    let reason : HasReason a d c.in_err-execute-2.field-0.0
-    = since a b d _ c.execute.ensures.survives.counts (stock_fails b d _ (then_build a b schema_1 one) up_b
-    (c.in_err-execute-2.ensures.runs clean one.inside)) in
-    search rules
-
-pub returns-in_err-execute-3-clause-reason : goal.returns-in_err-execute-3-clause-reason
-returns-in_err-execute-3-clause-reason g c clean start up =
-    let a = state g.S.Store c.args.tx.now.conn.now in
-    let b = state g.S.Store c.execute.new.self.conn.now in
-    let d = state g.S.Store c.execute-2.new.self.conn.now in
-    let e = state g.S.Store c.execute-3.new.self.conn.now in
-    let at_d : HasCleanDisk d = omega (arith, c.execute-3.ensures.survives.clean) in
-    let at_b : HasCleanDisk b = omega (arith, c.execute-2.ensures.survives.clean) in
-    let one = makes_meta a b (Ok c.in_ok-execute.field-0) start (c.in_ok-execute.ensures.runs at_b start.inside) in
-    let two = makes_stock b d (Ok c.in_ok-execute-2.field-0) (then_build a b schema_1 one)
-    (c.in_ok-execute-2.ensures.runs at_d one.inside) in
-    let up_b = still_up a b schema_1 one c.execute.ensures.survives.limit up in
-    let up_d = still_up b d schema_2 two c.execute-2.ensures.survives.limit up_b in
-    let reason : HasReason a e c.in_err-execute-3.field-0.0
-    = since a b e _ c.execute.ensures.survives.counts (since b d e _ c.execute-2.ensures.survives.counts
-    (batch_fails d e _ (then_build b d schema_2 two) up_d (c.in_err-execute-3.ensures.runs clean two.inside))) in
-    search rules
-
-pub returns-in_err-execute-4-clause-reason : goal.returns-in_err-execute-4-clause-reason
-returns-in_err-execute-4-clause-reason g c clean start up =
-    let a = state g.S.Store c.args.tx.now.conn.now in
-    let b = state g.S.Store c.execute.new.self.conn.now in
-    let d = state g.S.Store c.execute-2.new.self.conn.now in
-    let e = state g.S.Store c.execute-3.new.self.conn.now in
-    let f = state g.S.Store c.execute-4.new.self.conn.now in
-    let at_e : HasCleanDisk e = omega (arith, c.execute-4.ensures.survives.clean) in
-    let at_d : HasCleanDisk d = omega (arith, c.execute-3.ensures.survives.clean) in
-    let at_b : HasCleanDisk b = omega (arith, c.execute-2.ensures.survives.clean) in
-    let one = makes_meta a b (Ok c.in_ok-execute.field-0) start (c.in_ok-execute.ensures.runs at_b start.inside) in
-    let two = makes_stock b d (Ok c.in_ok-execute-2.field-0) (then_build a b schema_1 one)
-    (c.in_ok-execute-2.ensures.runs at_d one.inside) in
-    let three = makes_batch d e (Ok c.in_ok-execute-3.field-0) (then_build b d schema_2 two)
-    (c.in_ok-execute-3.ensures.runs at_e two.inside) in
-    let up_b = still_up a b schema_1 one c.execute.ensures.survives.limit up in
-    let up_d = still_up b d schema_2 two c.execute-2.ensures.survives.limit up_b in
-    let up_e = still_up d e schema_3 three c.execute-3.ensures.survives.limit up_d in
-    let reason : HasReason a f c.in_err-execute-4.field-0.0
-    = since a b f _ c.execute.ensures.survives.counts (since b d f _ c.execute-2.ensures.survives.counts
-    (since d e f _ c.execute-3.ensures.survives.counts
-    (journey_fails e f _ (then_build d e schema_3 three) up_e (c.in_err-execute-4.ensures.runs clean three.inside)))) in
-    search rules

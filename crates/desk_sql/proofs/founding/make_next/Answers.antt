@@ -4,9 +4,6 @@ use Rattle.sqlite.specs.State.{HasCleanDisk}
 use Rattle.sqlite.specs.Held.{state}
 use Rattle.desk_sql.specs.Schema.{seven_schema}
 use Rattle.desk_sql.proofs.Making.{makes_step, makes_entry, makes_answer, builds_then, then_build, schema_5, schema_6}
-use Rattle.desk_sql.specs.Causes.{HasReason}
-use Rattle.desk_sql.proofs.CreateReasons.{since, still_up}
-use Rattle.desk_sql.proofs.TableReasons.{step_fails, entry_fails, answer_fails}
 use Rattle.desk_sql.proofs.founding.make_next.Goals as goal
 
 pub returns-clause-made : goal.returns-clause-made
@@ -23,44 +20,3 @@ returns-clause-made g c clean start =
     let three = makes_answer d e (Ok c.in_ok-execute-3.field-0) (then_build b d schema_6 two)
     (c.in_ok-execute-3.ensures.runs clean two.inside) in
     builds_then a b e schema_5 seven_schema one (builds_then b d e schema_6 seven_schema two three)
-
--- Each text fails for a reason, and what has one later has it since the first.
-
-pub returns-in_err-execute-clause-reason : goal.returns-in_err-execute-clause-reason
-returns-in_err-execute-clause-reason g c clean start up =
-    let a = state g.S.Store c.args.tx.now.conn.now in
-    let b = state g.S.Store c.execute.new.self.conn.now in
-    let reason : HasReason a b c.in_err-execute.field-0.0
-    = step_fails a b _ start up (c.in_err-execute.ensures.runs clean start.inside) in
-    search rules
-
-pub returns-in_err-execute-2-clause-reason : goal.returns-in_err-execute-2-clause-reason
-returns-in_err-execute-2-clause-reason g c clean start up =
-    let a = state g.S.Store c.args.tx.now.conn.now in
-    let b = state g.S.Store c.execute.new.self.conn.now in
-    let d = state g.S.Store c.execute-2.new.self.conn.now in
-    let at_b : HasCleanDisk b = omega (arith, c.execute-2.ensures.survives.clean) in
-    let one = makes_step a b (Ok c.in_ok-execute.field-0) start (c.in_ok-execute.ensures.runs at_b start.inside) in
-    let up_b = still_up a b schema_5 one c.execute.ensures.survives.limit up in
-    let reason : HasReason a d c.in_err-execute-2.field-0.0
-    = since a b d _ c.execute.ensures.survives.counts (entry_fails b d _ (then_build a b schema_5 one) up_b
-    (c.in_err-execute-2.ensures.runs clean one.inside)) in
-    search rules
-
-pub returns-in_err-execute-3-clause-reason : goal.returns-in_err-execute-3-clause-reason
-returns-in_err-execute-3-clause-reason g c clean start up =
-    let a = state g.S.Store c.args.tx.now.conn.now in
-    let b = state g.S.Store c.execute.new.self.conn.now in
-    let d = state g.S.Store c.execute-2.new.self.conn.now in
-    let e = state g.S.Store c.execute-3.new.self.conn.now in
-    let at_d : HasCleanDisk d = omega (arith, c.execute-3.ensures.survives.clean) in
-    let at_b : HasCleanDisk b = omega (arith, c.execute-2.ensures.survives.clean) in
-    let one = makes_step a b (Ok c.in_ok-execute.field-0) start (c.in_ok-execute.ensures.runs at_b start.inside) in
-    let two = makes_entry b d (Ok c.in_ok-execute-2.field-0) (then_build a b schema_5 one)
-    (c.in_ok-execute-2.ensures.runs at_d one.inside) in
-    let up_b = still_up a b schema_5 one c.execute.ensures.survives.limit up in
-    let up_d = still_up b d schema_6 two c.execute-2.ensures.survives.limit up_b in
-    let reason : HasReason a e c.in_err-execute-3.field-0.0
-    = since a b e _ c.execute.ensures.survives.counts (since b d e _ c.execute-2.ensures.survives.counts
-    (answer_fails d e _ (then_build b d schema_6 two) up_d (c.in_err-execute-3.ensures.runs clean two.inside))) in
-    search rules
