@@ -8,7 +8,7 @@
 : "${top:?the top of the repository}"
 
 # how many minutes of one processor, as docs/minutes.tsv reckons, the edits of a gate may take
-edit_minutes=50
+edit_minutes=80
 
 # in_history WORD ..: git over this repository, whoever owns it
 in_history() { git -c safe.directory="$top" -C "$top" "$@"; }
