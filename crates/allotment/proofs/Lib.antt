@@ -3,6 +3,7 @@ pub mod ShortLemmas
 pub mod CodeLemmas
 pub mod NightLemmas
 pub mod JiffLemmas
+pub mod DateLemmas
 pub mod MakingLemmas
 pub mod RangeLemmas
 pub mod CutLemmas

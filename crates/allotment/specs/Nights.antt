@@ -47,9 +47,13 @@ four_digits n = two_digits (n / 100) ++ two_digits (n % 100)
 abbrev pub text_of : ℕ × (ℕ × ℕ) → List ℕ
 text_of date = four_digits (2000 + date.0) ++ 45 ∷ two_digits date.1.0 ++ 45 ∷ two_digits date.1.1
 
+-- the date of a night: the year from 0 on at 2000, the month, and the day in it
+abbrev pub date_of : ℕ → ℕ × (ℕ × ℕ)
+date_of night = civil (night - first_night)
+
 -- the text of a night: its date as `YYYY-MM-DD`
 abbrev pub night_text : ℕ → List ℕ
-night_text night = text_of (civil (night - first_night))
+night_text night = text_of (date_of night)
 
 -- the night that the digits of a text name, where the text is the text of a night
 abbrev pub named_night : List ℕ → ℕ

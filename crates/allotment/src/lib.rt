@@ -23,7 +23,7 @@ pub use cells::{Cell, Row};
 pub use codes::{Code, Kind, Short};
 pub use laws::{texts_of_a_room, values_have_one_text};
 pub use limits::MOST_PLACES;
-pub use nights::Night;
+pub use nights::{Night, NightDate};
 pub use places::Held;
 pub use sums::{BelowHeld, fits, give, set, take};
 pub use wants::{Bad, Want, WantCells};

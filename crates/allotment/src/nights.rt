@@ -1,6 +1,8 @@
 //! Nights, as days of the Gregorian calendar, and their texts.
-ghost use Rattle.std.specs.Prelude.{◌≡◌, MatchOption};
-ghost use Rattle.allotment.specs.Nights.{night_in};
+ghost use Rattle.std.specs.Prelude.{◌≡◌, ◌≤◌, pos, IsTrue, MatchOption};
+ghost use Rattle.jiff_core.specs.Date.{epoch_day};
+ghost use Rattle.allotment.specs.Limits.{is_night};
+ghost use Rattle.allotment.specs.Nights.{date_of, night_in};
 ghost use Rattle.allotment.specs.Dates.{IsNoPair, IsPair, IsNoDate, IsDateText};
 
 use crate::wants::Bad;
@@ -15,6 +17,17 @@ const FIRST: i32 = 10957;
 
 /// 2099-12-31.
 const LAST: i32 = 47481;
+
+/// The date of a night.
+#[derive(Clone, Copy, Debug, PartialEq, Eq)]
+pub struct NightDate {
+    /// From 0 on at 2000.
+    pub year: u8,
+    /// 1 to 12.
+    pub month: u8,
+    /// 1 to 31.
+    pub day: u8,
+}
 
 /// A night: a day from 2000-01-01 to 2099-12-31. To a contract it is the number of the day, from 1970-01-01 as 0.
 #[derive(Clone, Copy, Debug, PartialEq, Eq)]
@@ -37,10 +50,10 @@ impl Model for Night {
 }
 
 impl Night {
-    ghost use Rattle.std.specs.Prelude.{◌≡◌, IfOk, IsTrue, string_bytes};
+    ghost use Rattle.std.specs.Prelude.{◌≡◌, ◌≤◌, IfOk, IsTrue, string_bytes};
     ghost use Rattle.std.specs.Option.{ok_or};
     ghost use Rattle.allotment.specs.Limits.{is_night};
-    ghost use Rattle.allotment.specs.Nights.{night_in, night_text};
+    ghost use Rattle.allotment.specs.Nights.{date_of, night_in, night_text};
     ghost use Rattle.allotment.specs.Texts.{keep_if};
 
     /// Reads a night from `YYYY-MM-DD` (ISO 8601, calendar date). The fault is always `Bad::Night`.
@@ -80,6 +93,19 @@ impl Night {
         self.day
     }
 
+    /// The date of the night.
+    pub fn date(&self) -> NightDate
+        ensures year { result.year ≡ (date_of self.now).0 }
+        ensures month { result.month ≡ (date_of self.now).1.0 }
+        ensures day { result.day ≡ (date_of self.now).1.1 }
+        ensures century { result.year ≤ 99 }
+        ensures year_long { result.month ≤ 12 }
+        ensures from_one { 1 ≤ result.day }
+        ensures month_long { result.day ≤ 31 }
+    {
+        date_of(*self)
+    }
+
     /// The text of the night, `YYYY-MM-DD`. The only fault is out of memory.
     pub fn text(&self, alloc: Global) -> Result<String, AllocError>
         ensures { IfOk result (λ text. string_bytes text ≡ night_text self.now) }
@@ -95,10 +121,40 @@ impl fmt::Display for Night {
     ghost output = { λ night. Some (night_text night) };
 
     fn fmt<W: fmt::Write>(&self, f: &mut fmt::Formatter<W>) -> fmt::Result {
-        match Date::from_unix_epoch_day(self.day as i64) {
-            Ok(date) => f.write_str(DateTimePrinter::new().date_text(date).as_str()),
-            Err(_) => unreachable!(),
-        }
+        f.write_str(
+            DateTimePrinter::new()
+                .date_text(calendar_date(*self))
+                .as_str(),
+        )
+    }
+}
+
+/// The date that the calendar has for a night.
+fn calendar_date(night: Night) -> Date
+    ensures day { epoch_day result ≡ pos night }
+    ensures night { IsTrue (is_night night) }
+{
+    match Date::from_unix_epoch_day(i64::from(night.day())) {
+        Ok(date) => date,
+        Err(_) => unreachable!(),
+    }
+}
+
+/// The date of a night.
+fn date_of(night: Night) -> NightDate
+    ensures year { result.year ≡ (date_of night).0 }
+    ensures month { result.month ≡ (date_of night).1.0 }
+    ensures day { result.day ≡ (date_of night).1.1 }
+    ensures century { result.year ≤ 99 }
+    ensures year_long { result.month ≤ 12 }
+    ensures from_one { 1 ≤ result.day }
+    ensures month_long { result.day ≤ 31 }
+{
+    let date = calendar_date(night);
+    NightDate {
+        year: (date.year - 2000) as u8,
+        month: date.month,
+        day: date.day,
     }
 }
 

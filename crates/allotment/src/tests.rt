@@ -4,7 +4,7 @@ ghost use Rattle.std.specs.Prelude.{IsTrue};
 mod places;
 mod wants;
 
-use crate::{Bad, Cell, Code, Kind, Night, Row, Short, values_have_one_text};
+use crate::{Bad, Cell, Code, Kind, Night, NightDate, Row, Short, values_have_one_text};
 use std::alloc::AllocError;
 use std::process::Abort;
 
@@ -145,6 +145,25 @@ fn a_night_is_read_as_it_is_written(rt: HostRuntime) {
         holds(&rt, text, night.day() == day);
         is_written(&rt, text, night.text(rt.alloc()), text);
         holds(&rt, text, Night::parse(text) == Ok(night));
+    }
+}
+
+// the year from 0 on at 2000, the month and the day of some of them
+#[rattlefmt::skip]
+const DATES: [(u32, (u8, u8, u8)); 5] = [
+    (10957, (0,  1,  1)),
+    (11016, (0,  2,  29)),
+    (22066, (30, 6,  1)),
+    (22704, (32, 2,  29)),
+    (47481, (99, 12, 31)),
+];
+
+#[test]
+fn a_night_has_its_date(rt: HostRuntime) {
+    for &(number, (year, month, day)) in &DATES {
+        let night = Night::from_day(number).expect(&rt, "a night");
+        let date = NightDate { year, month, day };
+        holds(&rt, "its date", night.date() == date);
     }
 }
 

@@ -2,11 +2,12 @@
 use Rattle.std.proofs.Common.{◌≡◌, ◌∙◌, ap, sym, subst, refl, ℕ, ◌+◌, ◌≤◌, true, false, cond, List, [], ◌∷◌, ◌++◌, append_assoc, arith}
 use Rattle.std.specs.Prelude.{Option, Some, None, if◌then◌else◌, nat_lt, ◌==◌, ◌&&◌}
 use Rattle.std.proofs.lemmas.Bool.{and_parts, ltb-true}
+use Rattle.allotment.specs.Nights.{date_of}
 use Rattle.allotment.specs.declared.cells.Cell.{Cell}
 use Rattle.saga_core.specs.RowSources.{Hands, HandsFirst}
 use Rattle.filters.specs.CellFilters.{is_cell_asked}
 use Rattle.filters.specs.declared.cells.CellFilter.{CellFilter}
-use Rattle.month_reports.specs.Months.{asked_of, AskedRest, before_first, date_of, goes_on, is_followed, is_later_day, is_product, months_of, MonthsRest, Places}
+use Rattle.month_reports.specs.Months.{asked_of, AskedRest, before_first, goes_on, is_followed, is_later_day, is_product, months_of, MonthsRest, Places}
 
 -- these cells are in the first of these months, before its other cells
 abbrev pub before : List Places → List (List Places) → List (List Places)

@@ -10,12 +10,12 @@ use Rattle.std.proofs.lemmas.Bool.{and_from, and_parts, both_ways, eq-eqb, eqb-t
 use Rattle.std.proofs.lemmas.Cmp.{alike_right, nat_cmp_total, nat_list_cmp_total, on_total, then_total}
 use Rattle.allotment.specs.Cells.{kind_number}
 use Rattle.allotment.specs.Limits.{first_night, is_night}
-use Rattle.allotment.specs.Nights.{days_before, month_and_day, months, year_of}
+use Rattle.allotment.specs.Nights.{date_of, days_before, month_and_day, months, year_of}
 use Rattle.allotment.specs.declared.cells.Cell.{Cell}
 use Rattle.allotment.proofs.NightLemmas.{is_civil, night_range}
 use Rattle.saga_core.specs.Views.{cell_cmp}
 use Rattle.month_reports.specs.Laws.{is_same_month}
-use Rattle.month_reports.specs.Months.{date_of, goes_on, is_later_day, is_product}
+use Rattle.month_reports.specs.Months.{goes_on, is_later_day, is_product}
 
 -- Products.
 

@@ -1,12 +1,13 @@
 -- The calendar of a month: its days from 1 to 31 in a row, each with a mark that says how full the night is.
 use Rattle.std.specs.Prelude.{ℕ, ◌+◌, ◌*◌, ◌/◌, ◌==◌, List, [], ◌∷◌, ◌++◌, map, max, codes, if◌then◌else◌}
+use Rattle.allotment.specs.Nights.{date_of}
 use Rattle.allotment.specs.Cells.{numbers_from}
 use Rattle.allotment.specs.Places.{held_of}
 use Rattle.allotment.specs.Texts.{bar, blank}
 use Rattle.allotment.specs.declared.cells.Cell.{Cell}
 use Rattle.allotment.specs.declared.places.Held.{Held}
 use Rattle.reports.specs.Columns.{left, line}
-use Rattle.month_reports.specs.Months.{date_of, Places}
+use Rattle.month_reports.specs.Months.{Places}
 use Rattle.month_reports.specs.Summaries.{month_text, product_columns}
 
 -- the marks of a night with no place that is held, with no place that is free, and with no place at all: `.`, `#` and `-`

@@ -1,9 +1,10 @@
 -- That each month of a product is one run, where cells come in the order of the stock.
 use Rattle.std.specs.Prelude.{◌==◌, ◌&&◌, not, Bool, true, List, [], ◌∷◌}
 use Rattle.std.specs.List.{flat_map, list_all}
+use Rattle.allotment.specs.Nights.{date_of}
 use Rattle.allotment.specs.Limits.{is_night}
 use Rattle.allotment.specs.declared.cells.Cell.{Cell}
-use Rattle.month_reports.specs.Months.{date_of, is_product, Places}
+use Rattle.month_reports.specs.Months.{is_product, Places}
 
 -- two cells are of one product, and their nights are in one month of the calendar
 abbrev pub is_same_month : Cell → Cell → Bool

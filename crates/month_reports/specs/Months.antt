@@ -1,8 +1,7 @@
 -- The months of a list of cells: adjacent cells of one product, each of a later night of the same month.
-use Rattle.std.specs.Prelude.{◌≡◌, ℕ, ◌-◌, ◌==◌, ◌&&◌, Bool, false, List, [], ◌∷◌, filter, bytes_eq, nat_lt, if◌then◌else◌, Option, None, Some}
+use Rattle.std.specs.Prelude.{◌≡◌, ℕ, ◌==◌, ◌&&◌, Bool, false, List, [], ◌∷◌, filter, bytes_eq, nat_lt, if◌then◌else◌, Option, None, Some}
 use Rattle.allotment.specs.Cells.{kind_number}
-use Rattle.allotment.specs.Limits.{first_night}
-use Rattle.allotment.specs.Nights.{civil}
+use Rattle.allotment.specs.Nights.{date_of}
 use Rattle.allotment.specs.declared.cells.Cell.{Cell}
 use Rattle.allotment.specs.declared.places.Held.{Held}
 use Rattle.filters.specs.CellFilters.{is_cell_asked}
@@ -11,10 +10,6 @@ use Rattle.filters.specs.declared.cells.CellFilter.{CellFilter}
 -- a cell and its places
 abbrev pub Places : Type 0
 Places = Cell × Held
-
--- the date of a night: the year from 0 on at 2000, the month, and the day in it
-abbrev pub date_of : ℕ → ℕ × (ℕ × ℕ)
-date_of night = civil (night - first_night)
 
 -- two cells are of one product
 abbrev pub is_product : Cell → Cell → Bool

@@ -2,7 +2,6 @@
 ghost use Rattle.std.specs.Prelude.{◌≡◌, ◌≤◌, ◌<◌, IfOk};
 ghost use Rattle.month_reports.specs.Calendars.{calendar_head, calendar_line, calendar_row, mark_of, marks_of, tenths_of};
 
-use crate::days::day_of;
 use crate::summaries::{month_text, product_columns};
 use crate::sums::MOST_NIGHTS;
 use allotment::{Cell, Held};
@@ -49,7 +48,7 @@ fn marks_of(month: &[(Cell, Held)]) -> [u8; MOST_NIGHTS]
 {
     let mut marks = [b' '; MOST_NIGHTS];
     for row in month.iter().rev() {
-        let day = day_of(row.0.night).day;
+        let day = row.0.night.date().day;
         marks[usize::from(day) - 1] = mark_of(&row.1);
     }
     marks

@@ -1,11 +1,10 @@
 //! The columns of the line of a cell. Each is written over the blanks that the line has after the columns before it.
-ghost use Rattle.std.specs.Prelude.{◌≡◌, ◌+◌, ◌<◌, ◌≤◌, length, decimal};
-ghost use Rattle.allotment.specs.Nights.{night_text, text_of};
+ghost use Rattle.std.specs.Prelude.{◌≡◌, ◌+◌, ◌≤◌, length, decimal};
+ghost use Rattle.allotment.specs.Nights.{night_text};
 ghost use Rattle.reports.specs.Columns.{PutsDigits, PutsText};
 
-use allotment::Night;
+use allotment::{Night, NightDate};
 use itoa::write_digits;
-use jiff_core::civil::Date;
 
 /// Writes a text that begins at this place.
 pub(crate) fn put_text(line: &mut [u8], at: usize, text: &[u8])
@@ -34,7 +33,7 @@ pub(crate) fn put_number(line: &mut [u8], end: usize, number: u32)
 pub(crate) fn night_digits(night: Night) -> [u8; 10]
     ensures text { result ≡ night_text night }
 {
-    let (year, month, day) = date_of(night);
+    let NightDate { year, month, day } = night.date();
     [
         b'2',
         b'0',
@@ -47,17 +46,4 @@ pub(crate) fn night_digits(night: Night) -> [u8; 10]
         b'0' + day / 10,
         b'0' + day % 10,
     ]
-}
-
-/// The year of a night, from 0 on at 2000, its month and its day.
-fn date_of(night: Night) -> (u8, u8, u8)
-    ensures text { night_text night ≡ text_of (result.0, (result.1, result.2)) }
-    ensures year { result.0 < 100 }
-    ensures month { result.1 < 100 }
-    ensures day { result.2 < 100 }
-{
-    match Date::from_unix_epoch_day(i64::from(night.day())) {
-        Ok(date) => ((date.year - 2000) as u8, date.month, date.day),
-        Err(_) => unreachable!(),
-    }
 }

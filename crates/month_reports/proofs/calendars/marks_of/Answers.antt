@@ -20,8 +20,8 @@ loop-row-preserved c =
     let place = c.from.result - 1 in
     let day : c.from.result ≡ day_in_month row.0 = search rules in
     let mark : c.mark_of.result ≡ mark_of row.1 = search rules in
-    let inside : place < 31 = omega (arith, day, c.day_of-day.ensures.short) in
-    let is : day_in_month row.0 ≡ place + 1 = omega (arith, day, c.day_of-day.ensures.from_one) in
+    let inside : place < 31 = omega (arith, day, c.date-day.ensures.day, c.date-day.ensures.month_long) in
+    let is : day_in_month row.0 ≡ place + 1 = omega (arith, day, c.date-day.ensures.day, c.date-day.ensures.from_one) in
     let shown = shows_more at.marks (reverse (map (λ row. row.now) at.yielded)) row place at.invariant.long inside is at.invariant.shown in
     record {
       long = length-set at.marks place c.mark_of.result ∙ at.invariant.long;

@@ -1,9 +1,9 @@
 -- Cells are read while each goes on with the month of the one before it.
 use Rattle.std.proofs.Common.{◌≡◌, ◌∙◌, ◌+◌, ◌-◌, ◌≤◌, ◌++◌, ◌∷◌, [], List, ap, arith, false, length, length-append, rules, subst, sym, true}
 use Rattle.allotment.specs.Limits.{first_night}
-use Rattle.allotment.specs.Nights.{days_before, months, year_of}
+use Rattle.allotment.specs.Nights.{date_of, days_before, months, year_of}
 use Rattle.saga_core.specs.RowSources.{Hands}
-use Rattle.month_reports.specs.Months.{AskedRest, date_of, goes_on, Places}
+use Rattle.month_reports.specs.Months.{AskedRest, goes_on, Places}
 use Rattle.month_reports.proofs.DayLemmas.{day_from_one}
 use Rattle.month_reports.proofs.MonthLemmas.{at_most, Begins, begins_more, begins_one, hands_last, hands_month, later_day, Reading, reads_more, reads_one}
 use Rattle.month_reports.proofs.months.read_month.Goals as goal

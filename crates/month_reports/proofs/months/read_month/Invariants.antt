@@ -1,5 +1,6 @@
 use Rattle.std.proofs.Common.{◌-◌, ◌^◌, ◌≤◌, length}
-use Rattle.month_reports.specs.Months.{AskedRest, date_of}
+use Rattle.allotment.specs.Nights.{date_of}
+use Rattle.month_reports.specs.Months.{AskedRest}
 use Rattle.month_reports.proofs.MonthLemmas.{Begins, Reading}
 use Rattle.month_reports.proofs.months.read_month.Given as goal
 
