@@ -6,7 +6,7 @@ ghost use Rattle.std.specs.Prelude.{◌≡◌, ◌≤◌, IfSome, map};
 ghost use Rattle.json.specs.Value.{members_view};
 ghost use Rattle.serde_json.specs.Data.{Data, no_members, number, object, put, unsigned};
 ghost use Rattle.serde_json.specs.Read.{of_members};
-ghost use Rattle.plan.specs.PlanData.{plan_data, step_data, want_data};
+ghost use Rattle.plan.specs.PlanData.{step_data, want_data};
 ghost use Rattle.plan.specs.PlanModel.{step_said};
 ghost use Rattle.desk_http.specs.PlanTexts.{AreData, AreInOrder, IsData, IsPlanText, IsPlanValue, PairsAs, parts_data};
 
@@ -55,6 +55,7 @@ fn plan_of(alloc: Global, value: &Value<'_>) -> Option<Plan>
     let Ok(plan) = Plan::from_steps(steps, tries as u8) else {
         return None;
     };
+    // Called for what it says: the plan keeps the limits.
     let _steps = plan.steps();
     Some(plan)
 }

@@ -3,3 +3,4 @@ pub mod AnswerLemmas
 pub mod LoadLemmas
 pub mod RecoveredLemmas
 pub mod ReasonLemmas
+pub mod EndLemmas

@@ -30,14 +30,12 @@ use Rattle.desk_jobs.specs.Ends.{end_of_open}
 use Rattle.recovery.specs.Growing.{Grew, room_of, with_events}
 use Rattle.recovery.specs.Reasons.{AreMoves, IsStepOrStop, MayActThen, MayRecover, NoState}
 use Rattle.recovery.specs.Recovers.{AreRecovery, RecoversSome}
-use Rattle.saga_core.specs.Reasons.{HasReasonAmong}
 use Rattle.saga_core.specs.Reasons as reasons
 use Rattle.saga_core.specs.Runs.{Asks, state_after}
 use Rattle.sql_commands.specs.Failing.{RanOutOf, asked_rowids}
 use Rattle.sql_model.specs.Staying.{SeesAsBefore, StaysUp}
 use Rattle.tables.specs.Acting.{AreShort, HasReasonSince, MayAct, MayActSince, NewDeskMayAct, rowids_for}
 use Rattle.tables.specs.BookTerms.{StandsBook}
-use Rattle.tables.specs.Opening.{FailsToOpen}
 use Rattle.tables.specs.declared.books.TableBook.{TableBook}
 use Rattle.tables.proofs.OpenKept.{not_bare}
 use Rattle.desk_jobs.specs.Reasons.{FailsAmongFrom, FailsToLoad, FailsToLoadFor, FailsToRecover, FailsToRun, HasReasonFrom, MayActFrom, MayStart, ask_of_batch, rowids_of_job}
@@ -66,10 +64,9 @@ open_store (opening.UnknownSchema version) is = cc
 open_store opening.Store is = refl
 open_store opening.Memory is = cc
 
--- a fault of an opening had a reason
-pub opening_fails : {S : Type 0} (g : Ghosts S) (old new : Held S) (f : OpenFault) → end_of_open f ≡ finish.Fault fault.OpeningStore
-    → FailsToOpen g old new f → FailsToOpen g old new opening.Store
-opening_fails g old new f is fails = subst (FailsToOpen g old new) (open_store f is) fails
+-- so what is said of the fault is said of Store
+pub opening_fails : (Fails : OpenFault → Type 0) (f : OpenFault) → end_of_open f ≡ finish.Fault fault.OpeningStore → Fails f → Fails opening.Store
+opening_fails Fails f is fails = subst Fails (open_store f is) fails
 
 -- Moves of the house.
 

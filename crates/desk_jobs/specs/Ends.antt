@@ -12,6 +12,7 @@ use Rattle.protocols.specs.declared.faults.ServeFault.{ServeFault}
 use Rattle.protocols.specs.declared.faults.ServeFault.TheVariants as serve
 use Rattle.program_ends.specs.declared.ends.End.{End}
 use Rattle.program_ends.specs.declared.ends.End.TheVariants as finish
+use Rattle.program_ends.specs.declared.faults.ProgramFault.{ProgramFault}
 use Rattle.program_ends.specs.declared.faults.ProgramFault.TheVariants as fault
 
 -- the end if a store cannot be opened as a desk: a store of another version is refused
@@ -34,11 +35,40 @@ abbrev pub TellsAccepted : Option (List ℕ) → Option (List ℕ) → Type 0
 TellsAccepted held holds =
     (told : Reply) × IsAccepted told × Appends held holds (ended (reply_line told))
 
+-- memory ran out, or the store failed
+abbrev pub IsOfBook : ServeFault → Type 0
+IsOfBook serve.Memory = ⊤
+IsOfBook serve.Store = ⊤
+IsOfBook _ = ⊥
+
 -- memory ran out, or the output failed
 abbrev pub IsOfWriting : ServeFault → Type 0
 IsOfWriting serve.Memory = ⊤
 IsOfWriting serve.Write = ⊤
 IsOfWriting _ = ⊥
+
+-- The faults of jobs.
+
+-- the fault of a desk that was opened and recovered: of memory or the store, or of these while it was opened
+abbrev pub IsFaultOfRecovery : ProgramFault → Type 0
+IsFaultOfRecovery fault.Memory = ⊤
+IsFaultOfRecovery fault.Store = ⊤
+IsFaultOfRecovery fault.OpeningStore = ⊤
+IsFaultOfRecovery fault.OpeningMemory = ⊤
+IsFaultOfRecovery _ = ⊥
+
+-- the fault of a run: one of recovery, or of the input or the output
+abbrev pub IsFaultOfRun : ProgramFault → Type 0
+IsFaultOfRun fault.Read = ⊤
+IsFaultOfRun fault.Write = ⊤
+IsFaultOfRun f = IsFaultOfRecovery f
+
+-- the fault of a load into a recovered desk: of memory, the store or the output
+abbrev pub IsFaultOfLoad : ProgramFault → Type 0
+IsFaultOfLoad fault.Memory = ⊤
+IsFaultOfLoad fault.Store = ⊤
+IsFaultOfLoad fault.Write = ⊤
+IsFaultOfLoad _ = ⊥
 
 -- a text was written, or memory ran out, or the output failed
 abbrev pub EndsWriting : End → Type 0

@@ -9,9 +9,9 @@ ghost use Rattle.ledger.specs.Answer.{State};
 ghost use Rattle.streams.specs.Written.{WroteFront};
 ghost use Rattle.protocols.specs.Scenes.{ended};
 ghost use Rattle.tables.specs.BookTerms.{StandsBook};
-ghost use Rattle.program_ends.specs.Ends.{EndsJob, IfDone};
+ghost use Rattle.program_ends.specs.Ends.{EndsJob, IfDone, IfFault};
 ghost use Rattle.desk_jobs.specs.Connections.{Represents, MayBeLeft};
-ghost use Rattle.desk_jobs.specs.Ends.{TellsAccepted};
+ghost use Rattle.desk_jobs.specs.Ends.{IsFaultOfLoad, IsOfBook, IsOfWriting, TellsAccepted};
 ghost use Rattle.desk_jobs.specs.Loading.{EndsLoad, LoadsFile, TellsLoaded};
 ghost use Rattle.desk_jobs.specs.Reasons.{FailsToLoad, FailsToLoadFor};
 
@@ -47,6 +47,7 @@ pub fn load_over<S: Alter + Drop, O: Write>(
         result.1 ≡ End.Fault ProgramFault.Store →
         FailsToLoadFor S.Store desk result.0 (batch_of name.now bytes.now) }
     ensures opened { result.1 ≢ End.Fault ProgramFault.OpeningStore }
+    ensures fault { IfFault result.1 IsFaultOfLoad }
 
     ensures outside { result.0.in_transaction ≡ false }
     ensures unlimited { result.0.step_limit ≡ None }
@@ -75,6 +76,7 @@ fn load_into<B: Book, O: Write>(
         FailsToLoad (B.may_act first book.old) (B.has_reason first book.new)
         (batch_of name.now bytes.now) }
     ensures opened { result ≢ End.Fault ProgramFault.OpeningStore }
+    ensures fault { IfFault result IsFaultOfLoad }
 
     ensures sound { B.is_sound book.new → B.is_sound book.old }
 {
@@ -92,6 +94,7 @@ fn load<B: Book>(alloc: Global, name: &str, bytes: &[u8], book: &mut B) -> Resul
     ensures reason { B.is_sound book.new → (first : B) → IsErrOf result ServeFault.Store →
         FailsToLoad (B.may_act first book.old) (B.has_reason first book.new)
         (batch_of name.now bytes.now) }
+    ensures fault { IfErr result IsOfBook }
     ensures sound { B.is_sound book.new → B.is_sound book.old }
 {
     let batch = match read_batch(alloc, name, bytes) {
@@ -114,6 +117,7 @@ fn tell_loaded<O: Write>(alloc: Global, reply: Reply, out: &mut O) -> End
     ensures end { EndsJob result }
     ensures no_store { result ≢ End.Fault ProgramFault.Store }
     ensures opened { result ≢ End.Fault ProgramFault.OpeningStore }
+    ensures fault { IfFault result IsFaultOfLoad }
 {
     match reply {
         Reply::Refused(refusal) => End::Refused(refusal),
@@ -131,6 +135,7 @@ fn send_reply<O: Write>(alloc: Global, reply: &Reply, out: &mut O) -> Result<(),
     ensures front { WroteFront (O.contents out.old) (O.contents out.new)
         (ended (reply_line reply.now)) }
     ensures no_store { IfErr result (λ fault. fault ≢ ServeFault.Store) }
+    ensures fault { IfErr result IsOfWriting }
 {
     let mut line = reply.line(alloc)?;
     line.push('\n')?;

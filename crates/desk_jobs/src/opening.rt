@@ -8,10 +8,10 @@ ghost use Rattle.saga_core.specs.Runs.{Asks};
 ghost use Rattle.sql_model.specs.Staying.{StaysUp};
 ghost use Rattle.sql_reads.specs.Reading.{WasClean};
 ghost use Rattle.tables.specs.BookTerms.{StandsBook};
-ghost use Rattle.tables.specs.Opening.{FailsToOpen};
-ghost use Rattle.program_ends.specs.Ends.{EndsBadly};
-ghost use Rattle.desk_jobs.specs.Connections.{Represents};
-ghost use Rattle.desk_jobs.specs.Ends.{end_of_open};
+ghost use Rattle.tables.specs.Opening.{FailsToOpen, FailsToFound};
+ghost use Rattle.program_ends.specs.Ends.{EndsBadly, IfFault, IfRefused};
+ghost use Rattle.desk_jobs.specs.Connections.{RefusesOtherTables, Represents};
+ghost use Rattle.desk_jobs.specs.Ends.{IsFaultOfRecovery, end_of_open};
 ghost use Rattle.desk_jobs.specs.Reasons.{FailsToRecover, MayActOnceOpened, RecoversToAct};
 
 use commands::Refusal;
@@ -24,7 +24,8 @@ use std::alloc::Global;
 use tables::{OpenFault, TableBook, new_desk_may_act, open_from};
 
 /// Opens the desk of a connection and recovers it. Returns the recovered desk, and how many events recovery made; if
-/// that fails, the connection and the end.
+/// that fails, the connection and the end. It is refused only for tables of a version other than the newest; any other end
+/// is a fault of memory or of the store.
 pub fn ready_over<S: Alter + Drop>(
     alloc: Global,
     conn: Connection<S>,
@@ -43,7 +44,11 @@ pub fn ready_over<S: Alter + Drop>(
         e.1 ≡ End.Fault ProgramFault.Store → FailsToRecover S.Store conn e.0) }
     ensures opening { IfErr result (λ e. e.1 ≡ End.Fault ProgramFault.OpeningStore →
         FailsToOpen S.Store conn e.0 OpenFault.Store) }
+    ensures founding { IfErr result (λ e. e.1 ≡ End.Fault ProgramFault.OpeningStore →
+        FailsToFound S.Store conn e.0 OpenFault.Store) }
 
+    ensures refused { IfErr result (λ e. IfRefused e.1 (RefusesOtherTables S.Store conn e.0)) }
+    ensures fault { IfErr result (λ e. IfFault e.1 IsFaultOfRecovery) }
     ensures end { IfErr result (λ e. EndsBadly e.1) }
     ensures outside { IfErr result (λ e. e.0.in_transaction ≡ false) }
     ensures unlimited { IfErr result (λ e. e.0.step_limit ≡ None) }
@@ -79,7 +84,11 @@ fn book_over<S: Alter + Drop>(
 
     ensures opening { IfErr result (λ e. e.1 ≡ End.Fault ProgramFault.OpeningStore →
         FailsToOpen S.Store conn e.0 OpenFault.Store) }
+    ensures founding { IfErr result (λ e. e.1 ≡ End.Fault ProgramFault.OpeningStore →
+        FailsToFound S.Store conn e.0 OpenFault.Store) }
     ensures closed { IfErr result (λ e. e.1 ≢ End.Fault ProgramFault.Store) }
+    ensures refused { IfErr result (λ e. IfRefused e.1 (RefusesOtherTables S.Store conn e.0)) }
+    ensures fault { IfErr result (λ e. IfFault e.1 IsFaultOfRecovery) }
     ensures end { IfErr result (λ e. EndsBadly e.1) }
     ensures outside { IfErr result (λ e. e.0.in_transaction ≡ false) }
     ensures unlimited { IfErr result (λ e. e.0.step_limit ≡ None) }

@@ -6,11 +6,11 @@ ghost use Rattle.sqlite.specs.State.{HasCleanDisk};
 ghost use Rattle.streams.specs.Written.{WroteFront};
 ghost use Rattle.recovery.specs.Recovers.{Recovers};
 ghost use Rattle.sql_reads.specs.Reading.{WasClean};
-ghost use Rattle.program_ends.specs.Ends.{EndsBadly, EndsJob, IfDone};
-ghost use Rattle.desk_jobs.specs.Connections.{Represents};
-ghost use Rattle.desk_jobs.specs.Ends.{EndsWriting, IsOfWriting, recovered_line};
+ghost use Rattle.program_ends.specs.Ends.{EndsBadly, EndsJob, IfDone, IfFault, IfRefused};
+ghost use Rattle.desk_jobs.specs.Connections.{RefusesOtherTables, Represents};
+ghost use Rattle.desk_jobs.specs.Ends.{EndsWriting, IsFaultOfRecovery, IsOfWriting, recovered_line};
 ghost use Rattle.desk_jobs.specs.Reasons.{FailsToRecover};
-ghost use Rattle.tables.specs.Opening.{FailsToOpen};
+ghost use Rattle.tables.specs.Opening.{FailsToFound, FailsToOpen};
 
 use crate::opening::ready_over;
 use program_ends::{End, ProgramFault};
@@ -64,12 +64,17 @@ pub fn recover_over<S: Alter + Drop>(
 
     ensures recovered { HasCleanDisk (state S.Store result.0) → IfOk result.1 (λ made.
         Recovers (Represents S.Store conn) (Represents S.Store result.0) made) }
+    ensures refused { IfErr result.1 (λ end.
+        IfRefused end (RefusesOtherTables S.Store conn result.0)) }
+    ensures fault { IfErr result.1 (λ end. IfFault end IsFaultOfRecovery) }
     ensures end { IfErr result.1 EndsBadly }
 
     ensures reason { HasCleanDisk (state S.Store result.0) → IfErr result.1 (λ end.
         end ≡ End.Fault ProgramFault.Store → FailsToRecover S.Store conn result.0) }
     ensures opening { IfErr result.1 (λ end. end ≡ End.Fault ProgramFault.OpeningStore →
         FailsToOpen S.Store conn result.0 OpenFault.Store) }
+    ensures founding { IfErr result.1 (λ end. end ≡ End.Fault ProgramFault.OpeningStore →
+        FailsToFound S.Store conn result.0 OpenFault.Store) }
 
     ensures outside { result.0.in_transaction ≡ false }
     ensures unlimited { result.0.step_limit ≡ None }

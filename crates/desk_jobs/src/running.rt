@@ -6,13 +6,14 @@ ghost use Rattle.sqlite.specs.State.{HasCleanDisk};
 ghost use Rattle.ledger.specs.Answer.{State};
 ghost use Rattle.sql_reads.specs.Reading.{WasClean};
 ghost use Rattle.tables.specs.BookTerms.{StandsBook};
-ghost use Rattle.program_ends.specs.Ends.{EndsJob, IfDone};
-ghost use Rattle.desk_jobs.specs.Connections.{Represents};
+ghost use Rattle.program_ends.specs.Ends.{EndsJob, IfDone, IfFault, IfRefused, IsNotRefused};
+ghost use Rattle.desk_jobs.specs.Connections.{RefusesOtherTables, Represents};
+ghost use Rattle.desk_jobs.specs.Ends.{IsFaultOfRun};
 ghost use Rattle.desk_jobs.specs.Notes.{MayNote};
 ghost use Rattle.desk_jobs.specs.Reasons.{FailsAmongFrom, FailsToRun};
 ghost use Rattle.desk_lines.specs.Lines.{lines};
 ghost use Rattle.desk_lines.specs.Worlds.{asks_in};
-ghost use Rattle.tables.specs.Opening.{FailsToOpen};
+ghost use Rattle.tables.specs.Opening.{FailsToFound, FailsToOpen};
 ghost use Rattle.desk_jobs.specs.Running.{NotesRecovery, Answers, AnswersAfterRecovery, AnswersFront, AnswersFrontAfterRecovery};
 
 use crate::notes::note_recovered;
@@ -27,7 +28,7 @@ use std::io::{Read, Write};
 use tables::{OpenFault, TableBook};
 
 /// Recovers the desk of a connection, and answers the lines of a reader. Returns the connection, and the end. If recovery
-/// made events, a note says so first.
+/// made events, a note says so first. It is refused only for tables of a version other than the newest.
 pub fn run_over<S: Alter + Drop, R: Read, O: Write, N: Write>(
     alloc: Global,
     conn: Connection<S>,
@@ -59,7 +60,11 @@ pub fn run_over<S: Alter + Drop, R: Read, O: Write, N: Write>(
         FailsToRun S.Store conn result.0 (asks_in (lines input))) }
     ensures opening { result.1 ≡ End.Fault ProgramFault.OpeningStore →
         FailsToOpen S.Store conn result.0 OpenFault.Store }
+    ensures founding { result.1 ≡ End.Fault ProgramFault.OpeningStore →
+        FailsToFound S.Store conn result.0 OpenFault.Store }
 
+    ensures refused { IfRefused result.1 (RefusesOtherTables S.Store conn result.0) }
+    ensures fault { IfFault result.1 IsFaultOfRun }
     ensures outside { result.0.in_transaction ≡ false }
     ensures unlimited { result.0.step_limit ≡ None }
     ensures sound { WasClean S.Store conn result.0 }
@@ -96,6 +101,8 @@ fn run_desk<S: Alter + Drop, R: Read, O: Write>(
         IfSome (R.remaining reader.old) (λ input.
         FailsAmongFrom S.Store desk result.0 (asks_in (lines input))) }
     ensures opened { result.1 ≢ End.Fault ProgramFault.OpeningStore }
+    ensures taken { IsNotRefused result.1 }
+    ensures fault { IfFault result.1 IsFaultOfRun }
 
     ensures outside { result.0.in_transaction ≡ false }
     ensures unlimited { result.0.step_limit ≡ None }

@@ -1,5 +1,5 @@
 //! Input that was read and is buffered.
-ghost use Rattle.std.specs.Prelude.{◌≡◌, ◌<◌, [], position, true, false, IfOk, IfErr, OnOk};
+ghost use Rattle.std.specs.Prelude.{◌≡◌, ◌<◌, ◌-◌, ◌^◌, [], position, true, false, IfOk, IfErr, OnOk};
 ghost use Rattle.std.specs.Io.KnownBytes.{Consumes, IsAtEnd};
 ghost use Rattle.desk_lines.specs.Reading.{is_line_feed, TakesLine, TakesPiece, to_come};
 ghost use Rattle.protocols.specs.Faults.{IsOfReading};
@@ -41,7 +41,8 @@ impl Model for Unread {
 impl Unread {
     /// Nothing is buffered, and 2^64 - 1 bytes may be read.
     pub(crate) fn new(alloc: Global) -> Result<Unread, AllocError>
-        ensures { IfOk result (λ unread. unread.waiting ≡ []) }
+        ensures empty { IfOk result (λ unread. unread.waiting ≡ []) }
+        ensures left { IfOk result (λ unread. unread.left ≡ 2 ^ 64 - 1) }
     {
         Ok(Unread {
             chunk: vec![in alloc; 0u8; CHUNK]?,

@@ -45,7 +45,7 @@ module _ (text : List ℕ) (at : ℕ) (table : Table) (terms : List Term) (width
     (whole_text : takes (length text) (length params) (understood desk_schema text) ≡ true)
     (there : slice_get desk_schema.tables at ≡ Some table) (uncounted : table.is_counted ≡ false) (unstamped : stamped table params ≡ params)
     (typed : accepts_terms terms params ≡ true) where
-  put_reason : (old after : State) → IsUp old → old.now.schema ≡ desk_schema
+  pub put_reason : (old after : State) → IsUp old → old.now.schema ≡ desk_schema
       → source_edit table terms width params old.now.trees ≡ put_edit table new → IsSafe old.now.trees (put_edit table new)
       → (e : Error) → ExecutesInside 0 text params old after (Err e) → HasReason old after e
   put_reason old after up has edit safe =

@@ -5,7 +5,9 @@ pub mod Changing
 pub mod ChangedRows
 pub mod Causing
 pub mod Creating
+pub mod CreateReasons
 pub mod Finding
+pub mod FirstRow
 pub mod Framing
 pub mod InsertReasons
 pub mod Inserting

@@ -101,11 +101,6 @@ pub find_nights_means : MeansQuery Texts.find_nights_text Meanings.find_nights_q
 unfolding understood everything
 find_nights_means = record { is = refl; plain = (refl, refl); unlisted = refl; selects = refl }
 
-pub find_stock_means : MeansEach Texts.find_stock_text Meanings.find_stock_query Meanings.find_stock_names
-unfolding understood everything
-find_stock_means One = record { is = refl; plain = (refl, refl); unlisted = refl; selects = refl }
-find_stock_means Two = record { is = refl; plain = (refl, refl); unlisted = refl; selects = refl }
-
 pub move_journey_means : Means Texts.move_journey_text (Meanings.update 3 Meanings.move_journey_query)
 unfolding understood everything
 move_journey_means = record { is = refl; plain = (refl, refl) }

@@ -131,7 +131,7 @@ meta_there v old new t sees has given =
 
 -- The first row.
 
-abbrev first_params : ℕ → Row
+abbrev pub first_params : ℕ → Row
 first_params version = whole version ∷ []
 
 meta_put : (db : Trees) (version : ℕ)

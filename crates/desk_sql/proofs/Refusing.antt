@@ -24,7 +24,7 @@ use Rattle.sqlite.specs.Query.{IsAnswer}
 use Rattle.sqlite.specs.Program.{overlay}
 use Rattle.sqlite.specs.Source.TheVariants.{Values}
 use Rattle.sqlite.specs.Command.{Command}
-use Rattle.sqlite.specs.Command.TheVariants.{Insert, InsertOr, Update, Delete}
+use Rattle.sqlite.specs.Command.TheVariants.{Insert, InsertOr, Update, Delete, CreateTable}
 use Rattle.sqlite.specs.Edit.{Edit, edit_of, taken_by, Applies}
 use Rattle.sqlite.specs.Rowids.TheVariants.{Chosen, Above, Given}
 use Rattle.sqlite.specs.Rows.{Outcome, Written, Inserts, Updates, Deletes, Edited, Sourced, Queried, Counter, Counts, stamped, count_of, rowids_for}
@@ -33,9 +33,10 @@ use Rattle.sqlite.specs.Effect.{Database, is_query, value_rows}
 use Rattle.sqlite.specs.Listing.{understood}
 use Rattle.sqlite.specs.Clock.{timed}
 use Rattle.sqlite.specs.State as store
-use Rattle.sqlite.specs.State.{State, mode_of, IsMisplaced, Escapes, EndsScope, ExecutesIn, ExecutesInside, IsNotRun, RunsAlone, is_pragma, shows_rows, text_of}
-use Rattle.sqlite.proofs.Callers.{command_of, one_step}
+use Rattle.sqlite.specs.State.{State, mode_of, IsMisplaced, Escapes, EndsScope, ExecutesIn, ExecutesInside, RunsAlone, is_pragma, shows_rows, text_of}
+use Rattle.sqlite.proofs.Callers.{IsPlain, command_of, statement_of, one_step}
 use Rattle.sqlite_schema.specs.declared.program.Program.{Program}
+use Rattle.sqlite_schema.specs.declared.schema.Schema.{Schema}
 use Rattle.desk_sql.specs.Schema.{desk_schema}
 use Rattle.desk_sql.specs.Causes.{IsUp, HasReason}
 use Rattle.desk_sql.proofs.Meaning.{Means}
@@ -43,12 +44,13 @@ use Rattle.desk_sql.specs.Meanings.{sorted_rows}
 use Rattle.desk_sql.proofs.Causing.{takes, plain_at, not_run, of_store, one_table}
 use Rattle.desk_sql.proofs.Writing.{went, same_value, idle, source_edit, task_for, insert_edits}
 
--- the command changes rows
+-- the command changes rows, or creates a table
 abbrev pub is_change : Command → Bool
 is_change (Insert at from) = true
 is_change (InsertOr at way from clauses) = true
 is_change (Update at q) = true
 is_change (Delete at q) = true
+is_change CreateTable = true
 is_change _ = false
 
 -- a change is in its place in each transaction, and does not end it
@@ -65,34 +67,41 @@ stays_in held s k change (inl (inr h)) = let bad = rw h at change in cc
 stays_in held s k change (inr (name, inl h, at)) = let bad = rw h at change in cc
 stays_in held s k change (inr (name, inr h, at)) = let bad = rw h at change in cc
 
--- the database that the transaction sees, with the desk's schema
-abbrev pub desk_at : State → Database
-desk_at s = record { schema = desk_schema; trees = s.now.trees }
+-- the database that the transaction sees, with this schema
+abbrev pub seen_with : Schema → State → Database
+seen_with schema s = record { schema = schema; trees = s.now.trees }
 
-module _ (text : List ℕ) (command : Command) (params : Row) (m : Means text command)
-    (whole : takes (length text) (length params) (understood desk_schema text) ≡ true)
+-- the same, with the desk's schema
+abbrev pub desk_at : State → Database
+desk_at s = seen_with desk_schema s
+
+-- A statement that changes rows or creates a table, under any schema.
+module _ {schema : Schema} (text : List ℕ) (command : Command) (params : Row) (meant : command_of (understood schema text) ≡ command)
+    (plain : IsPlain (understood schema text)) (whole : takes (length text) (length params) (understood schema text) ≡ true)
     (change : is_change command ≡ true) (silent : (is_query command || (is_pragma command || false)) ≡ false)
-    (old new : State) (up : IsUp old) (has : old.now.schema ≡ desk_schema)
+    (old new : State) (up : IsUp old) (has : old.now.schema ≡ schema)
     -- the rules of SQL allow it
-    (allowed : (t : List ℕ) (stop : Option Error) → ¬ Does old.step_limit (mode_of old) params (desk_at old) t None command (Err stop)) where
+    (allowed : (stop : Option Error)
+    → ¬ Does old.step_limit (mode_of old) params (seen_with schema old) (statement_of text (understood schema text)) None command (Err stop)) where
   known : (c : Compiled) → understood old.now.schema text ≡ Ok c → c.command ≡ command
-  known c is = ap command_of (sym is ∙ ap (λ s. understood s text) has) ∙ m.is
+  known c is = ap command_of (sym is ∙ ap (λ s. understood s text) has) ∙ meant
 
   ran : (c : Compiled) → understood old.now.schema text ≡ Ok c → (now : ℕ) (stop : Option Error)
       → ¬ Does old.step_limit (mode_of old) (timed params c.formats now) old.now (text_of text c) c.returning c.command (Err stop)
   ran c is now stop does =
-      let bare = plain_at text params m.plain whole old new up has c is in
+      let bare = plain_at text params plain whole old new up has c is in
       let given : timed params c.formats now ≡ params = ap (λ f. timed params f now) bare.1 ∙ append-nil params in
       let one = subst (λ p. Does old.step_limit (mode_of old) p old.now (text_of text c) c.returning c.command (Err stop)) given does in
       let two = subst (λ r. Does old.step_limit (mode_of old) params old.now (text_of text c) r c.command (Err stop)) bare.0 one in
       let three = subst (λ k. Does old.step_limit (mode_of old) params old.now (text_of text c) None k (Err stop)) (known c is) two in
-      allowed (text_of text c) stop
-      (subst (λ s. Does old.step_limit (mode_of old) params (record old.now { schema = s }) (text_of text c) None command (Err stop)) has three)
+      let four = subst (λ s. Does old.step_limit (mode_of old) params (record old.now { schema = s }) (text_of text c) None command (Err stop)) has three in
+      let same : text_of text c ≡ statement_of text (understood schema text) = ap (statement_of text) (sym is ∙ ap (λ s. understood s text) has) in
+      allowed stop (subst (λ t. Does old.step_limit (mode_of old) params (seen_with schema old) t None command (Err stop)) same four)
 
   alone : (c : Compiled) → understood old.now.schema text ≡ Ok c → (now : ℕ) (e : Error)
       → RunsAlone false old new text c (timed params c.formats now) (Err e) → HasReason old new e
   alone c is now e h =
-      let bare = plain_at text params m.plain whole old new up has c is in
+      let bare = plain_at text params plain whole old new up has c is in
       let quiet : shows_rows false c ≡ false = rw (known c is, bare.0) silent in
       elim (rw quiet at h) as (λ _. HasReason old new e) [
         | inl refused ↦ elim refused.0 [
@@ -112,13 +121,24 @@ module _ (text : List ℕ) (command : Command) (params : Row) (m : Means text co
       of_failure Broken same why = of_store old new up Broken e same why
       of_failure Unstorable same why = absurd (ran c is now None why)
 
-  -- a write of the desk's tables fails out of memory, or where the disk failed or refused
-  pub write_reason : (e : Error) → ExecutesInside 0 text params old new (Err e) → HasReason old new e
+  -- it fails out of memory, or where the disk failed or refused
+  pub statement_reason : (e : Error) → ExecutesInside 0 text params old new (Err e) → HasReason old new e
   unfolding ExecutesIn EndsScope
-  write_reason e (inl (inl h, how)) = not_run text params m.plain whole old new up has e h
-  write_reason e (inl (inr (c, it, h), how)) = alone c it.is it.now e h
-  write_reason e (inr (ends, is, same)) =
+  statement_reason e (inl (inl h, how)) = not_run text params plain whole old new up has e h
+  statement_reason e (inl (inr (c, it, h), how)) = alone c it.is it.now e h
+  statement_reason e (inr (ends, is, same)) =
       absurd (stays_in 0 old command change (subst (Escapes 0 old) (known ends.0 ends.1.is) ends.2))
+
+-- a write of the desk's tables that the rules of SQL allow fails out of memory, or where the disk failed or refused
+pub write_reason : (text : List ℕ) (command : Command) (params : Row) → Means text command
+    → takes (length text) (length params) (understood desk_schema text) ≡ true
+    → is_change command ≡ true → (is_query command || (is_pragma command || false)) ≡ false
+    → (old new : State) → IsUp old → old.now.schema ≡ desk_schema
+    → ((t : List ℕ) (stop : Option Error) → ¬ Does old.step_limit (mode_of old) params (desk_at old) t None command (Err stop))
+    → (e : Error) → ExecutesInside 0 text params old new (Err e) → HasReason old new e
+write_reason text command params m whole change silent old new up has allowed e ran =
+    statement_reason text command params m.is m.plain whole change silent old new up has
+    (allowed (statement_of text (understood desk_schema text))) e ran
 
 -- what holds of each error holds of a result
 pub if_failed : (P : Error → Type 0) (Ran : Result ℕ Error → Type 0) (r : Result ℕ Error) → Ran r → ((e : Error) → Ran (Err e) → P e) → IfErr r P

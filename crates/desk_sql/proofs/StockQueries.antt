@@ -1,34 +1,26 @@
--- The queries on cells. For `find_nights` and `find_stock`.
-use Rattle.std.proofs.Common.{◌≡◌, ℕ, ℤ, eqb-true, pos, List, [], ◌∷◌, map, filter, true, false, is_lt, nat_cmp, refl, ap, subst, ◌∙◌, arith}
-use Rattle.std.specs.Prelude.{string_bytes, ⊤}
+-- The query on the nights of a range. For `find_nights`.
+use Rattle.std.proofs.Common.{◌≡◌, ℤ, eqb-true, List, [], ◌∷◌, map, filter, true, refl}
+use Rattle.std.specs.Prelude.{⊤}
 use Rattle.std.specs.List.{AllByRecursion}
-use Rattle.std.specs.Ordering.{int_cmp}
-use Rattle.std.proofs.lemmas.Int.{ints}
 use Rattle.std.proofs.lemmas.Bool.{and_parts}
-use Rattle.std.proofs.lemmas.Bool.Decides.{nat_tests}
 use Rattle.std.proofs.lemmas.Slice.Eq.{bytes_eq-Decides}
 use Rattle.sqlite.specs.declared.types.Value.TheVariants.{Text}
-use Rattle.sqlite.specs.Order.{Row, value_cmp}
-use Rattle.sqlite.specs.Query.{Output, output_cmp}
+use Rattle.sqlite.specs.Order.{Row}
+use Rattle.sqlite.specs.Query.{Output}
 use Rattle.sqlite.specs.State.{State, IsUnchanged}
-use Rattle.sqlite_value.proofs.OrderLemmas.{value_cmp-Int, value_cmp-Text, then-Equal}
-use Rattle.sqlite_rules.specs.Lists.{Has}
 use Rattle.sqlite_rules.proofs.ListLemmas.{has_filtered}
-use Rattle.desk_sql.specs.Lists.{numbered_row, IsListed}
+use Rattle.desk_sql.specs.Lists.{numbered_row}
 use Rattle.desk_sql.specs.Rows.{whole, Tables, StockRow, stock_columns}
 use Rattle.desk_sql.specs.Calls.{MaySee}
 use Rattle.desk_sql.specs.Queries.{GivesRows}
-use Rattle.desk_sql.specs.FoundRows.{three_of, six_of}
-use Rattle.desk_sql.specs.Stock.{is_within, night_of, IsByNight, FindsNights, shows_night, stock_of, cell_cmp, IsByCell, FindsStock, shows_cell}
-use Rattle.desk_sql.specs.Readable.{ShowsOne, AreCellTexts, HaveCellTexts, night_shown}
-use Rattle.desk_sql.specs.RemainingRows.{stock_shown}
-use Rattle.desk_sql.specs.Texts.{find_nights_text, find_stock_text}
-use Rattle.desk_sql.specs.Meanings.{find_nights_query, find_nights_names, find_stock_query, find_stock_names}
+use Rattle.desk_sql.specs.FoundRows.{three_of}
+use Rattle.desk_sql.specs.Stock.{is_within, night_of, IsByNight, FindsNights, shows_night}
+use Rattle.desk_sql.specs.Readable.{ShowsOne, night_shown}
+use Rattle.desk_sql.specs.Texts.{find_nights_text}
+use Rattle.desk_sql.specs.Meanings.{find_nights_query, find_nights_names}
 use Rattle.desk_sql.specs.declared.stock.NightRange.{NightRange}
 use Rattle.desk_sql.specs.declared.stock.NightFound.{NightFound}
-use Rattle.desk_sql.specs.declared.stock.CellFound.{CellFound}
-use Rattle.desk_sql.specs.declared.versions.Version.TheVariants.{Two}
-use Rattle.desk_sql.proofs.Meaning.{find_nights_means, find_stock_means}
+use Rattle.desk_sql.proofs.Meaning.{find_nights_means}
 use Rattle.desk_sql.proofs.Testing.{eq_whole, eq_text, ge_whole, le_whole, and_true}
 use Rattle.desk_sql.proofs.Ordered.{whole_last}
 use Rattle.desk_sql.proofs.Reading.{passes}
@@ -59,36 +51,6 @@ same_night r n s is e =
     let free : n.free ≡ s.free = cc in
     rw (← kind, ← supplier, ← product, night, allot, free) refl
 
-abbrev cell_out : StockRow → Output
-cell_out s = (
-  whole s.kind ∷ Text s.supplier ∷ Text s.product ∷ whole s.night ∷ [],
-  whole s.kind ∷ Text s.supplier ∷ Text s.product ∷ whole s.night ∷ whole s.allot ∷ whole s.free ∷ [],
-)
-
-same_cell : (c : CellFound) (s : StockRow) → shows_cell c ≡ (cell_out s).1 → stock_of c ≡ s
-same_cell c s e =
-    let kind : c.kind ≡ s.kind = cc in
-    let supplier : string_bytes c.supplier ≡ s.supplier = cc in
-    let product : string_bytes c.product ≡ s.product = cc in
-    let night : c.night ≡ s.night = cc in
-    let allot : c.allot ≡ s.allot = cc in
-    let free : c.free ≡ s.free = cc in
-    rw (kind, supplier, product, night, allot, free) refl
-
-number_cmp : (a b : ℕ) → value_cmp (whole a) (whole b) ≡ nat_cmp a b
-number_cmp a b = value_cmp-Int (pos a) (pos b) ∙ same a b
-  where
-    same : (a b : ℕ) → int_cmp (pos a) (pos b) ≡ nat_cmp a b
-    same a b = grind (arith, ints, nat_tests)
-
--- the order of the query is that of the cells
-order_is : (a b : StockRow) → output_cmp find_stock_query (cell_out a) (cell_out b) ≡ cell_cmp a b
-order_is a b = simp (number_cmp, value_cmp-Text, then-Equal)
-
-all_pass : (xs : List StockRow) → filter (λ _. true) xs ≡ xs
-all_pass [] = refl
-all_pass (x ∷ xs) = ap (λ rest. x ∷ rest) (all_pass xs)
-
 module _ (old new : State) (t : Tables) (sees : MaySee old t) (rows : List Row) where
   nights_answered : (r : NightRange) → GivesRows find_nights_text (range_params r) old new rows
       → Answers find_nights_query night_out (filter (is_within r) t.stock) rows
@@ -105,20 +67,6 @@ module _ (old new : State) (t : Tables) (sees : MaySee old t) (rows : List Row) 
       all_shown find_nights_query night_out (filter (is_within r) t.stock) rows (nights_answered r given)
       (ShowsOne night_shown (λ _. ⊤)) (λ s h. (s, refl, tt))
 
-  stock_answered : GivesRows find_stock_text [] old new rows → Answers find_stock_query cell_out (filter (λ _. true) t.stock) rows
-  stock_answered given =
-      let got = whole_answer find_stock_text find_stock_query find_stock_names (find_stock_means Two) [] old new
-      (λ h. (sees h).schema) rows given.1 in
-      table_answers 1 [] find_stock_query.project find_stock_query.order old.now.trees
-      [] rows got.1 refl stock_columns t.stock (sees given.0.0.was_open).rows.stock cell_out (λ _. refl)
-      (λ _. true) (λ _. refl)
-
-  pub stock_given : HaveCellTexts t → GivesRows find_stock_text [] old new rows
-      → AllByRecursion (ShowsOne stock_shown AreCellTexts) rows
-  stock_given fits given =
-      all_shown find_stock_query cell_out (filter (λ _. true) t.stock) rows (stock_answered given)
-      (ShowsOne stock_shown AreCellTexts) (λ s h. (s, refl, fits s (subst (λ xs. Has xs s) (all_pass t.stock) h)))
-
   pub finds_nights : (r : NightRange) (found : List NightFound) → map shows_night found ≡ map three_of rows
       → GivesRows find_nights_text (range_params r) old new rows → IsUnchanged old new × FindsNights r t found
   finds_nights r found was given =
@@ -128,14 +76,4 @@ module _ (old new : State) (t : Tables) (sees : MaySee old t) (rows : List Row) 
         listed find_nights_query night_out some rows it (night_of r) shows_night three_of found was
             (λ n s h e. same_night r n s (has_filtered (is_within r) t.stock s h).1 e)
             IsByNight (λ a b up. whole_last a.night b.night up),
-      )
-
-  pub finds_stock : (found : List CellFound) → map shows_cell found ≡ map six_of rows
-      → GivesRows find_stock_text [] old new rows → IsUnchanged old new × FindsStock t found
-  finds_stock found was given =
-      let it = stock_answered given in (
-        given.0,
-        subst (λ xs. IsListed IsByCell xs (map stock_of found)) (all_pass t.stock)
-            (listed find_stock_query cell_out (filter (λ _. true) t.stock) rows it stock_of shows_cell six_of found was
-            (λ c s h e. same_cell c s e) IsByCell (λ a b up. subst (λ o. is_lt o ≡ false) (order_is b a) up)),
       )

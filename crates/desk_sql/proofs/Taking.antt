@@ -36,11 +36,6 @@ unfolding understood everything
 find_steps_takes One journey = record { whole = refl; typed = refl }
 find_steps_takes Two journey = record { whole = refl; typed = refl }
 
-pub find_stock_takes : (v : Version) → Takes v Texts.find_stock_text Meanings.find_stock_query []
-unfolding understood everything
-find_stock_takes One = record { whole = refl; typed = refl }
-find_stock_takes Two = record { whole = refl; typed = refl }
-
 pub find_options_takes : (journey place : ℕ)
     → Takes Two Texts.find_options_text Meanings.find_options_query (whole journey ∷ whole place ∷ [])
 unfolding understood everything

@@ -111,7 +111,8 @@ meta_one : passes Check desk_schema (λ _. []) (meta_at 0) (meta_row (record { v
 unfolding binary Rattle.sqlite_value.specs.Order.value_cmp lib.Ieee.is_nan lib.Ieee.lt
 meta_one = refl
 
-meta_fit : (db : Trees) (m : MetaRow) → IsFit (meta_at 0) db (meta_row m)
+-- a row of meta obeys each rule on a row alone
+pub meta_fit : (db : Trees) (m : MetaRow) → IsFit (meta_at 0) db (meta_row m)
 meta_fit db m = record {
   typed = refl;
   present = refl;

@@ -10,7 +10,8 @@ use Rattle.sqlite.specs.declared.error.Error.TheVariants.{SqliteFailure}
 use Rattle.sqlite.specs.declared.error.ErrorCode.TheVariants.{OutOfMemory}
 use Rattle.desk_sql.specs.declared.versions.Version.{Version}
 use Rattle.desk_sql.specs.declared.versions.Version.TheVariants.{Two}
-use Rattle.desk_sql.specs.Calls.{MaySeeIn, MayRun}
+use Rattle.sqlite_schema.specs.declared.schema.Schema.{Schema}
+use Rattle.desk_sql.specs.Calls.{MaySeeIn, MayRun, MayBuild}
 use Rattle.desk_sql.specs.Writable.{HasRowids}
 use Rattle.desk_sql.specs.Rows.{Tables}
 
@@ -60,3 +61,10 @@ module _ {S : Type 0} (g : Ghosts S) (old new : Held S) where
   -- the same, for a row whose rowid the store chooses
   abbrev pub FailsToAdd : {V : Type 0} → Result V Error → (Tables → Type 0) → Type 0
   FailsToAdd result Fits = HasRowids 1 (state g old).now.trees → FailsToWrite result Fits
+
+  -- Texts that create tables, in a transaction of a store that is up: beside these tables, without rows, they fail only out of
+  -- memory, or where the disk failed or refused.
+  abbrev pub FailsToBuild : Schema → {V : Type 0} → Result V Error → Type 0
+  FailsToBuild before result =
+      HasCleanDisk (state g new) → MayBuild before (state g old) → IsUp (state g old)
+      → IfErr result (HasReason (state g old) (state g new))

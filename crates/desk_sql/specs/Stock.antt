@@ -68,10 +68,6 @@ cell_cmp a b =
 abbrev pub IsByCell : StockRow → StockRow → Type 0
 IsByCell a b = is_lt (cell_cmp b a) ≡ false
 
--- all cells, in order
-abbrev pub FindsStock : Tables → List CellFound → Type 0
-FindsStock t found = IsListed IsByCell t.stock (map stock_of found)
-
 -- a query shows a cell in this order
 abbrev pub shows_cell : CellFound → Row
 shows_cell c =

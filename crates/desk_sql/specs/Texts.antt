@@ -103,8 +103,5 @@ find_marks_text = codes "SELECT pos FROM mark WHERE journey = ?1 ORDER BY pos"
 abbrev pub find_nights_text : List ℕ
 find_nights_text = codes "SELECT night, allot, free FROM stock WHERE kind = ?1 AND supplier = ?2 AND product = ?3 AND night BETWEEN ?4 AND ?5 ORDER BY night"
 
-abbrev pub find_stock_text : List ℕ
-find_stock_text = codes "SELECT kind, supplier, product, night, allot, free FROM stock ORDER BY kind, supplier, product, night"
-
 abbrev pub find_batch_text : List ℕ
 find_batch_text = codes "SELECT num, content FROM batch WHERE name = ?1"

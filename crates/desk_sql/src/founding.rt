@@ -2,6 +2,7 @@
 
 ghost use Rattle.std.specs.Prelude.{◌≡◌, ◌↔◌, IsTrue};
 ghost use Rattle.desk_sql.specs.Calls.{BuildsOn, Founds, StaysInside, WasOpen, CommitsNothing, LeavesNoMore};
+ghost use Rattle.desk_sql.specs.Causes.{FailsToBuild};
 ghost use Rattle.desk_sql.specs.Changes.{founded};
 ghost use Rattle.desk_sql.specs.Schema.{no_schema, first_schema, seven_schema, desk_schema};
 
@@ -20,6 +21,7 @@ pub fn has_no_tables(schema: &Schema) -> bool
 pub fn make_tables<S: Alter>(tx: &mut Transaction<'_, S>) -> Result<(), Error>
     ensures same_reference { tx.new.conn.ghost_name ≡ tx.old.conn.ghost_name }
     ensures made { Founds S.Store tx.old.conn.now tx.new.conn.now result founded }
+    ensures reason { FailsToBuild S.Store tx.old.conn.now tx.new.conn.now no_schema result }
     ensures inside { StaysInside S.Store tx.old.conn.now tx.new.conn.now result }
     ensures live { WasOpen S.Store tx.old.conn.now tx.new.conn.now result }
     ensures commit { CommitsNothing S.Store tx.old.conn.now tx.new.conn.now }
@@ -36,6 +38,7 @@ pub fn make_tables<S: Alter>(tx: &mut Transaction<'_, S>) -> Result<(), Error>
 fn make_first<S: Alter>(tx: &mut Transaction<'_, S>) -> Result<(), Error>
     ensures same_reference { tx.new.conn.ghost_name ≡ tx.old.conn.ghost_name }
     ensures made { BuildsOn S.Store tx.old.conn.now tx.new.conn.now no_schema result first_schema }
+    ensures reason { FailsToBuild S.Store tx.old.conn.now tx.new.conn.now no_schema result }
     ensures inside { StaysInside S.Store tx.old.conn.now tx.new.conn.now result }
     ensures live { WasOpen S.Store tx.old.conn.now tx.new.conn.now result }
     ensures commit { CommitsNothing S.Store tx.old.conn.now tx.new.conn.now }
@@ -65,6 +68,7 @@ fn make_next<S: Alter>(tx: &mut Transaction<'_, S>) -> Result<(), Error>
     ensures same_reference { tx.new.conn.ghost_name ≡ tx.old.conn.ghost_name }
     ensures made { BuildsOn S.Store tx.old.conn.now tx.new.conn.now
         first_schema result seven_schema }
+    ensures reason { FailsToBuild S.Store tx.old.conn.now tx.new.conn.now first_schema result }
     ensures inside { StaysInside S.Store tx.old.conn.now tx.new.conn.now result }
     ensures live { WasOpen S.Store tx.old.conn.now tx.new.conn.now result }
     ensures commit { CommitsNothing S.Store tx.old.conn.now tx.new.conn.now }
@@ -90,6 +94,7 @@ fn make_last<S: Alter>(tx: &mut Transaction<'_, S>) -> Result<(), Error>
     ensures same_reference { tx.new.conn.ghost_name ≡ tx.old.conn.ghost_name }
     ensures made { BuildsOn S.Store tx.old.conn.now tx.new.conn.now
         seven_schema result desk_schema }
+    ensures reason { FailsToBuild S.Store tx.old.conn.now tx.new.conn.now seven_schema result }
     ensures inside { StaysInside S.Store tx.old.conn.now tx.new.conn.now result }
     ensures live { WasOpen S.Store tx.old.conn.now tx.new.conn.now result }
     ensures commit { CommitsNothing S.Store tx.old.conn.now tx.new.conn.now }

@@ -29,7 +29,7 @@ pub use meta::{Meta, read_meta, update_meta};
 pub use queries::first_row;
 pub use steps::{StepFound, StepOption, find_options, find_steps, insert_step, mark_step};
 pub use stock::{
-    CellFound, CellPlaces, NightFound, NightRange, find_nights, find_stock, give_nights, put_cell,
-    read_cell, take_nights,
+    CellFound, CellPlaces, NightFound, NightRange, find_nights, give_nights, put_cell, read_cell,
+    take_nights,
 };
 pub use versions::Version;

@@ -67,6 +67,7 @@ pub(crate) fn insert_meta<S: Alter>(
     ensures same_reference { tx.new.conn.ghost_name ≡ tx.old.conn.ghost_name }
     ensures made { WritesWhere S.Store tx.old.conn.now tx.new.conn.now LacksMeta result
         (adds_meta (at_first version)) }
+    ensures reason { FailsToWrite S.Store tx.old.conn.now tx.new.conn.now result LacksMeta }
     ensures inside { StaysInside S.Store tx.old.conn.now tx.new.conn.now result }
     ensures live { WasOpen S.Store tx.old.conn.now tx.new.conn.now result }
     ensures commit { CommitsNothing S.Store tx.old.conn.now tx.new.conn.now }

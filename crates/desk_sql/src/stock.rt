@@ -2,12 +2,12 @@
 
 ghost use Rattle.std.specs.Prelude.{◌≡◌, ◌<◌, ◌^◌, false, map, pos, neg_ℤ, IfOk, IfErr, ⊤};
 ghost use Rattle.desk_sql.specs.Calls.{WritesWhere, StaysInside, WasOpen, CommitsNothing, LeavesNoMore, Reads, ChangesNothing};
-ghost use Rattle.desk_sql.specs.Stock.{IsSmallRange, FindsNights, FindsStock, shows_night, shows_cell, HaveFree, HaveRoom, takes_nights, gives_nights, IsSmallCell, AreApart, placed, puts_cell};
+ghost use Rattle.desk_sql.specs.Stock.{IsSmallRange, FindsNights, shows_night, shows_cell, HaveFree, HaveRoom, takes_nights, gives_nights, IsSmallCell, AreApart, placed, puts_cell};
 ghost use Rattle.desk_sql.specs.FoundRows.{three_of, six_of};
 ghost use Rattle.std.specs.List.{AllByRecursion};
 ghost use Rattle.desk_sql.specs.Causes.{FailsForReason, IsMemory, FailsToChange, FailsToAdd};
 ghost use Rattle.desk_sql.specs.Writable.{MayPut, MayTakeNights, MayGiveNights, KeepsRowids, TakesRowid};
-ghost use Rattle.desk_sql.specs.Readable.{Any, AreCellTexts, HaveCellTexts, ShowsOne, night_shown};
+ghost use Rattle.desk_sql.specs.Readable.{Any, AreCellTexts, ShowsOne, night_shown};
 ghost use Rattle.desk_sql.specs.RemainingRows.{stock_shown};
 ghost use Rattle.desk_sql.specs.Rows.{StockRow};
 
@@ -125,40 +125,6 @@ pub fn read_cell(row: &Row) -> Result<CellFound, Error>
         allot,
         free,
     })
-}
-
-fn read_cells(alloc: Global, rows: &[Row]) -> Result<Vec<CellFound>, Error>
-    ensures shown { IfOk result (λ cells. map shows_cell cells.items ≡ map six_of rows.now) }
-
-    ensures reason { AllByRecursion (ShowsOne stock_shown AreCellTexts) rows.now
-        → IfErr result IsMemory }
-{
-    let mut cells = Vec::new(alloc);
-    for row in rows {
-        let cell = read_cell(row)?;
-        cells.push(cell)?;
-    }
-    Ok(cells)
-}
-
-/// Returns all cells, in order of kind, supplier, product and night.
-pub fn find_stock<S: Alter>(
-    alloc: Global,
-    conn: &mut Connection<S>,
-) -> Result<Vec<CellFound>, Error>
-    ensures found { Reads S.Store conn.old conn.new result (λ t found. FindsStock t found.items) }
-    ensures quiet { ChangesNothing S.Store conn.old conn.new }
-    ensures reason { FailsForReason S.Store conn.old conn.new result HaveCellTexts }
-    ensures mode { conn.old.in_transaction ≡ false → conn.new.in_transaction ≡ false }
-    ensures survives { LeavesNoMore S.Store conn.old conn.new }
-{
-    let rows = all_rows(
-        conn,
-        "SELECT kind, supplier, product, night, allot, free FROM stock ORDER BY kind, supplier, product, night",
-        &[],
-    )?;
-    let cells = read_cells(alloc, rows.as_slice())?;
-    Ok(cells)
 }
 
 /// Takes so many places of each night of a range that has a row.

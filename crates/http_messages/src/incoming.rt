@@ -1,5 +1,5 @@
 //! The buffer of a stream: what was read and is not yet used.
-ghost use Rattle.std.specs.Prelude.{◌≡◌, ◌≤◌, ◌<◌, [], length, drop, true, false, IfOk, IsNone, IsSome, OnErr};
+ghost use Rattle.std.specs.Prelude.{◌≡◌, ◌≤◌, ◌<◌, ◌-◌, ◌^◌, [], length, drop, true, false, IfOk, IsNone, IsSome, OnErr};
 ghost use Rattle.std.specs.Io.KnownBytes.{IsAtEnd, Keeps};
 ghost use Rattle.http_messages.specs.Messages.{first_told};
 ghost use Rattle.http_messages.specs.Reading.{FindsTold, HasCount, HasMessage, IsNext, ReadsOn, to_come};
@@ -42,6 +42,7 @@ impl Incoming {
     /// An empty buffer. It reads at most 2^64 - 1 bytes. The only fault is out of memory.
     pub fn new(alloc: Global) -> Result<Incoming, AllocError>
         ensures empty { IfOk result (λ incoming. incoming.waiting ≡ []) }
+        ensures left { IfOk result (λ incoming. incoming.left ≡ 2 ^ 64 - 1) }
     {
         Ok(Incoming {
             waiting: Vec::new(alloc),

@@ -71,7 +71,7 @@ pub struct Sockets<'a> {
 
 impl<'a> Sockets<'a> {
     ghost use Rattle.http_sockets.specs.Doors.{ComesAt, ComesBy, page_at_port, way_to_come};
-    ghost use Rattle.http_sockets.specs.Limits.{patience_of, still_to_come};
+    ghost use Rattle.http_sockets.specs.Limits.{KeepsLimits, patience_of, still_to_come};
 
     /// Listens on a port of 127.0.0.1, and on a path if there is one, which its owner alone may open. Who comes is served
     /// within these limits.
@@ -123,8 +123,7 @@ impl<'a> Sockets<'a> {
     pub fn log(&mut self) -> Result<(), AllocError>
         ensures page { page_at_port self.new ≡ page_at_port self.old }
         ensures way { way_to_come self.new ≡ way_to_come self.old }
-        ensures limits { (still_to_come self.new ≡ still_to_come self.old)
-            × (patience_of self.new ≡ patience_of self.old) }
+        ensures limits { KeepsLimits self.old self.new }
     {
         self.journal = Some(Journal::new(self.rt, self.alloc, SEATS)?);
         Ok(())
@@ -147,8 +146,7 @@ impl<'a> Sockets<'a> {
         ensures shown { OnOk result (IfSome (page_at_port self.new) (λ site. site.page ≡ page)) }
         ensures some { OnOk result (IsSome (page_at_port self.new)) }
         ensures way { way_to_come self.new ≡ way_to_come self.old }
-        ensures limits { (still_to_come self.new ≡ still_to_come self.old)
-            × (patience_of self.new ≡ patience_of self.old) }
+        ensures limits { KeepsLimits self.old self.new }
 
         ensures err { OnErr result (page_at_port self.new ≡ page_at_port self.old) }
     {
@@ -161,8 +159,7 @@ impl<'a> Sockets<'a> {
     pub fn widen(&mut self)
         ensures way { way_to_come self.new ≡ Way.Wide }
         ensures page { page_at_port self.new ≡ page_at_port self.old }
-        ensures limits { (still_to_come self.new ≡ still_to_come self.old)
-            × (patience_of self.new ≡ patience_of self.old) }
+        ensures limits { KeepsLimits self.old self.new }
     {
         self.way = Way::Wide;
     }

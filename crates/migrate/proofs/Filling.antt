@@ -47,21 +47,21 @@ use Rattle.migrate.proofs.Ranges.{is_between, Rises, items_below-next}
 
 -- The text.
 
-copy_items_is : command_of (understood desk_schema copy_items_text) ≡ copy_items_command
+pub copy_items_is : command_of (understood desk_schema copy_items_text) ≡ copy_items_command
 unfolding understood everything
 copy_items_is = refl
 
-copy_items_plain : IsPlain (understood desk_schema copy_items_text)
+pub copy_items_plain : IsPlain (understood desk_schema copy_items_text)
 unfolding understood everything
 copy_items_plain = (refl, refl)
 
 -- The edit.
 
-abbrev program_edit : Table → Trees → List Row → Edit
+abbrev pub program_edit : Table → Trees → List Row → Edit
 program_edit table db rows = edit_of db table [] Chosen 0 rows
 
 -- one edit inserts all rows of a query
-query_edits : (task : Task) (q : Query) (db : Trees) (w : Written) → task.table.is_counted ≡ false → stamped task.table task.params ≡ task.params
+pub query_edits : (task : Task) (q : Query) (db : Trees) (w : Written) → task.table.is_counted ≡ false → stamped task.table task.params ≡ task.params
     → Inserts task (source.Query (record { lets = []; body = q })) db (Ok w)
     → (rows : List Row) × IsAnswer q (overlay db []) task.params rows × Edited task.schema task.keys db (program_edit task.table db rows) (Ok w.trees)
 query_edits task q db w uncounted unstamped h =
@@ -103,10 +103,10 @@ copies_rows params old new count unstamped ready h =
 
 -- The rows.
 
-abbrev range_params : ℕ → ℕ → Row
+abbrev pub range_params : ℕ → ℕ → Row
 range_params first last = whole first ∷ whole last ∷ []
 
-abbrev item_out : EntryRow → Output
+abbrev pub item_out : EntryRow → Output
 item_out e = (whole e.num ∷ [], whole e.num ∷ Null ∷ whole e.journey ∷ whole e.item ∷ whole e.a ∷ whole e.b ∷ [])
 
 range_test : (first last : ℕ) (e : EntryRow) → passes range_query.filter (range_params first last) (entry_row e) ≡ is_between first last e
@@ -125,7 +125,7 @@ as_plain db params rows a = record {
 }
 
 -- the rows of the query are the items of the range, in their order
-range_rows : (first last : ℕ) (db : Trees) (items : List EntryRow) (rows : List Row) → IsNumbered (λ (e : EntryRow). e.num) entry_row (db 10) items
+pub range_rows : (first last : ℕ) (db : Trees) (items : List EntryRow) (rows : List Row) → IsNumbered (λ (e : EntryRow). e.num) entry_row (db 10) items
     → IsAnswer copy_items_query (overlay db []) (range_params first last) rows
     → rows ≡ map (λ e. (item_out e).1) (filter (is_between first last) items)
 range_rows first last db items rows table answer =
@@ -139,17 +139,17 @@ range_rows first last db items rows table answer =
     it.rows_are ∙ ap (map (λ e. (item_out e).1)) one
 
 -- a row of the query is stored as the item's own
-stored : (items : List EntryRow) → map (λ s. cast_row (entry2_at 13) (drop 0 s)) (map (λ e. (item_out e).1) items) ≡ map entry_row items
+pub stored : (items : List EntryRow) → map (λ s. cast_row (entry2_at 13) (drop 0 s)) (map (λ e. (item_out e).1) items) ≡ map entry_row items
 stored [] = refl
 stored (e ∷ items) = rw (stored items) (ap (λ r. r ∷ map entry_row items) (let one : cast_row (entry2_at 13) ((item_out e).1) ≡ entry_row e = simp (cast_int, cast_null) in one))
 
 -- each row has its own rowid
-own_rowids : (rows : List Row) (items : List EntryRow) → numbered Chosen rows (map entry_row items) ≡ map entry_row items
+pub own_rowids : (rows : List Row) (items : List EntryRow) → numbered Chosen rows (map entry_row items) ≡ map entry_row items
 own_rowids rows [] = refl
 own_rowids rows (e ∷ items) = ap (λ r. entry_row e ∷ r) (own_rowids (put_row (entry_row e) rows) items)
 
 -- in a rising list the first elements are below the later ones
-first_below : (xs : List EntryRow) (y : EntryRow) (ys : List EntryRow) → Rises (xs ++ y ∷ ys) → AllByRecursion (λ (x : EntryRow). pos x.num <ℤ pos y.num) xs
+pub first_below : (xs : List EntryRow) (y : EntryRow) (ys : List EntryRow) → Rises (xs ++ y ∷ ys) → AllByRecursion (λ (x : EntryRow). pos x.num <ℤ pos y.num) xs
 first_below [] y ys rise = tt
 first_below (x ∷ xs) y ys rise =
     (let low = all_has (λ (z : EntryRow). x.num < z.num) (xs ++ y ∷ ys) y rise.0 (has_mid xs) in omega (arith, ints, low), first_below xs y ys rise.1)
@@ -158,7 +158,7 @@ first_below (x ∷ xs) y ys rise =
     has_mid [] = inl refl
     has_mid (z ∷ zs) = inr (has_mid zs)
 
-together : (xs : List EntryRow) (y : EntryRow) (ys : List EntryRow) → (xs ++ y ∷ []) ++ ys ≡ xs ++ y ∷ ys
+pub together : (xs : List EntryRow) (y : EntryRow) (ys : List EntryRow) → (xs ++ y ∷ []) ++ ys ≡ xs ++ y ∷ ys
 together [] y ys = refl
 together (x ∷ xs) y ys = ap (λ r. x ∷ r) (together xs y ys)
 

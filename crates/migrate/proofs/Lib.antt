@@ -7,3 +7,6 @@ pub mod Telling
 pub mod Standing
 pub mod CommitLemmas
 pub mod Stopping
+pub mod NewItems
+pub mod CopyReasons
+pub mod FailLemmas

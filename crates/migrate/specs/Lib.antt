@@ -1,3 +1,4 @@
 pub mod Statements
 pub mod Copying
 pub mod Migrating
+pub mod Reasons

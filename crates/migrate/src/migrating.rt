@@ -3,13 +3,15 @@
 //! Every refusal comes before the transaction begins. Until the commit, which is the last call of the store, the disk
 //! has only the old tables.
 
-ghost use Rattle.std.specs.Prelude.{◌≡◌, ◌≢◌, ◌<◌, ◌^◌, ℕ, false, None, Err, IfOk, IfErr, OnOk, OnErr};
+ghost use Rattle.std.specs.Prelude.{◌≡◌, ◌<◌, ◌^◌, ℕ, false, None, Err, IfOk, IfErr, OnOk, OnErr};
 ghost use Rattle.sqlite.specs.Held.{state};
 ghost use Rattle.desk_sql.specs.Schema.{no_schema};
 ghost use Rattle.desk_sql.specs.Calls.{StaysInside, WasOpen, CommitsNothing, LeavesNoMore};
 ghost use Rattle.desk_sql.specs.Versions.{SawVersion};
 ghost use Rattle.sql_model.specs.Keeping.{WasClean};
+ghost use Rattle.sql_model.specs.Staying.{StaysUp};
 ghost use Rattle.migrate.specs.Migrating.{BringsOver, CountsEvents, IsAsBefore, LeavesNew, LeavesEither, ShowsAsBefore, WasNotOld, SawUnknown, Tells, WritesNew, BringsAll, LeavesNewOf, LeavesOneOf, ShowsOld, NumbersOld, RefusesNumbers, IsFault, IsRefusal};
+ghost use Rattle.migrate.specs.Reasons.{FailsForReason, FailsOnOld, FailsToBringOver, FailsToRead};
 
 use crate::faults::{MigrateFault, fault_of};
 use crate::statements::{add_tables, copy_all};
@@ -37,7 +39,9 @@ fn read_old<S: Alter>(conn: &mut Connection<S>) -> Result<Meta, MigrateFault>
 
     ensures told { IfErr result (Tells S.Store conn.old conn.new) }
     ensures bare { conn.old.schema ≡ no_schema → result ≡ Err (MigrateFault.UnknownSchema 0) }
+    ensures store { IfErr result (FailsToRead S.Store conn.old conn.new) }
 
+    ensures up { OnOk result (StaysUp S.Store conn.old conn.new) }
     ensures same { IsAsBefore S.Store conn.old conn.new }
     ensures outside { conn.new.in_transaction ≡ false }
 {
@@ -72,6 +76,7 @@ fn write_new<S: Alter>(tx: &mut Transaction<'_, S>, meta: Meta) -> Result<(), Er
 
     ensures same_reference { tx.new.conn.ghost_name ≡ tx.old.conn.ghost_name }
     ensures made { WritesNew S.Store tx.old.conn.now tx.new.conn.now result meta }
+    ensures reason { FailsOnOld S.Store tx.old.conn.now tx.new.conn.now result }
     ensures inside { StaysInside S.Store tx.old.conn.now tx.new.conn.now result }
     ensures live { WasOpen S.Store tx.old.conn.now tx.new.conn.now result }
     ensures commit { CommitsNothing S.Store tx.old.conn.now tx.new.conn.now }
@@ -93,6 +98,8 @@ fn bring_over<S: Alter>(conn: &mut Connection<S>, meta: Meta) -> Result<(), Migr
 
     ensures fault { IfErr result IsFault }
     ensures memory { result ≡ Err MigrateFault.Memory → IsAsBefore S.Store conn.old conn.new }
+    ensures store { IfErr result (FailsToBringOver S.Store conn.old conn.new meta) }
+    ensures up { OnErr result (StaysUp S.Store conn.old conn.new) }
 
     ensures left { OnOk result (LeavesNewOf S.Store conn.old conn.new meta) }
     ensures stop { OnErr result (LeavesOneOf S.Store conn.old conn.new meta) }
@@ -116,7 +123,9 @@ fn bring_over<S: Alter>(conn: &mut Connection<S>, meta: Meta) -> Result<(), Migr
 /// table `entry` stays in the file, and is no longer read.
 ///
 /// A store without tables and tables of another version are refused, and nothing changes. After a fault a crash leaves
-/// the old tables or the new ones; the connection itself, if it is open, still shows the old ones.
+/// the old tables or the new ones; the connection itself, if it is open, still shows the old ones. Over a store that is
+/// up, whose tables of version 1 represent a state, `Store` has a reason: the disk failed or refused, the commit ran out
+/// of memory, or the ledger has 2^62 or more events.
 pub fn migrate<S: Alter>(conn: &mut Connection<S>) -> Result<Migrated, MigrateFault>
     requires outside { conn.old.in_transaction ≡ false }
     requires unlimited { conn.old.step_limit ≡ None }
@@ -134,6 +143,7 @@ pub fn migrate<S: Alter>(conn: &mut Connection<S>) -> Result<Migrated, MigrateFa
     ensures refused { IfErr result (λ why. IsRefusal why → IsAsBefore S.Store conn.old conn.new) }
 
     ensures memory { result ≡ Err MigrateFault.Memory → IsAsBefore S.Store conn.old conn.new }
+    ensures reason { IfErr result (FailsForReason S.Store conn.old conn.new) }
 
     ensures left { OnOk result (LeavesNew S.Store conn.old conn.new) }
     ensures stop { OnErr result (LeavesEither S.Store conn.old conn.new) }

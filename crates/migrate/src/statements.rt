@@ -3,6 +3,7 @@
 ghost use Rattle.std.specs.Prelude.{◌≡◌, ◌+◌, ◌≤◌, ◌<◌, ◌^◌};
 ghost use Rattle.desk_sql.specs.Calls.{StaysInside, WasOpen, CommitsNothing, LeavesNoMore};
 ghost use Rattle.migrate.specs.Copying.{AddsTables, CopiesItems};
+ghost use Rattle.migrate.specs.Reasons.{FailsOnOld, FailsToCopy};
 
 use sqlite::types::ValueRef;
 use sqlite::{Alter, Error, Transaction};
@@ -14,6 +15,7 @@ const RANGE: u64 = 4096;
 pub(crate) fn add_tables<S: Alter>(tx: &mut Transaction<'_, S>) -> Result<(), Error>
     ensures same_reference { tx.new.conn.ghost_name ≡ tx.old.conn.ghost_name }
     ensures made { AddsTables S.Store tx.old.conn.now tx.new.conn.now result }
+    ensures reason { FailsOnOld S.Store tx.old.conn.now tx.new.conn.now result }
     ensures inside { StaysInside S.Store tx.old.conn.now tx.new.conn.now result }
     ensures live { WasOpen S.Store tx.old.conn.now tx.new.conn.now result }
     ensures commit { CommitsNothing S.Store tx.old.conn.now tx.new.conn.now }
@@ -37,6 +39,7 @@ fn copy_items<S: Alter>(tx: &mut Transaction<'_, S>, first: u64, last: u64) -> R
 
     ensures same_reference { tx.new.conn.ghost_name ≡ tx.old.conn.ghost_name }
     ensures made { CopiesItems S.Store tx.old.conn.now tx.new.conn.now result first (last + 1) }
+    ensures reason { FailsToCopy S.Store tx.old.conn.now tx.new.conn.now result first }
     ensures inside { StaysInside S.Store tx.old.conn.now tx.new.conn.now result }
     ensures commit { CommitsNothing S.Store tx.old.conn.now tx.new.conn.now }
     ensures survives { LeavesNoMore S.Store tx.old.conn.now tx.new.conn.now }
@@ -54,6 +57,7 @@ pub(crate) fn copy_all<S: Alter>(tx: &mut Transaction<'_, S>, events: u64) -> Re
 
     ensures same_reference { tx.new.conn.ghost_name ≡ tx.old.conn.ghost_name }
     ensures made { CopiesItems S.Store tx.old.conn.now tx.new.conn.now result 0 (events + 1) }
+    ensures reason { FailsToCopy S.Store tx.old.conn.now tx.new.conn.now result 0 }
     ensures inside { StaysInside S.Store tx.old.conn.now tx.new.conn.now result }
     ensures commit { CommitsNothing S.Store tx.old.conn.now tx.new.conn.now }
     ensures survives { LeavesNoMore S.Store tx.old.conn.now tx.new.conn.now }

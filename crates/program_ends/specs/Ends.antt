@@ -4,6 +4,7 @@ use Rattle.std.specs.String.{string_bytes}
 use Rattle.std.specs.Io.KnownBytes.{Keeps}
 use Rattle.streams.specs.Written.{WroteFront}
 use Rattle.commands.specs.Texts.{refusal_line, sentence}
+use Rattle.commands.specs.declared.replies.Refusal.{Refusal}
 use Rattle.reports.specs.declared.faults.ReportFault.{ReportFault}
 use Rattle.reports.specs.declared.faults.ReportFault.TheVariants as report
 use Rattle.protocols.specs.Scenes.{ended}
@@ -97,6 +98,21 @@ EndsJob _ = ⊤
 abbrev pub EndsBadly : End → Type 0
 EndsBadly finish.Done = ⊥
 EndsBadly e = EndsJob e
+
+-- an end that is no refusal
+abbrev pub IsNotRefused : End → Type 0
+IsNotRefused (finish.Refused why) = ⊥
+IsNotRefused _ = ⊤
+
+-- this holds of the refusal, if the end is one
+abbrev pub IfRefused : End → (Refusal → Type 0) → Type 0
+IfRefused (finish.Refused why) So = So why
+IfRefused _ So = ⊤
+
+-- this holds of the fault, if the end is one
+abbrev pub IfFault : End → (ProgramFault → Type 0) → Type 0
+IfFault (finish.Fault f) So = So f
+IfFault _ So = ⊤
 
 -- this holds if all was done
 abbrev pub IfDone : End → Type 0 → Type 0

@@ -2,30 +2,22 @@
 use Rattle.std.proofs.Common.{◌≡◌, sym, subst}
 use Rattle.sqlite.specs.Store.{Ghosts}
 use Rattle.sqlite.specs.Held.{Held}
-use Rattle.commands.specs.declared.replies.Refusal.{Refusal}
 use Rattle.reports.specs.declared.faults.ReportFault.{ReportFault}
 use Rattle.reports.specs.declared.faults.ReportFault.TheVariants as report
 use Rattle.tables.specs.Opening.{Tells}
 use Rattle.tables.specs.declared.faults.OpenFault.{OpenFault}
 use Rattle.tables.specs.declared.faults.OpenFault.TheVariants as opening
-use Rattle.program_ends.specs.Ends.{fault_of_report}
+use Rattle.program_ends.specs.Ends.{IfFault, IfRefused, fault_of_report}
 use Rattle.program_ends.specs.declared.ends.End.{End}
 use Rattle.program_ends.specs.declared.ends.End.TheVariants as finish
 use Rattle.desk_jobs.specs.Ends.{end_of_open}
-use Rattle.report_jobs.specs.Reporting.{IfFault, IfRefused, IsFaultOfReport, IsNoJourney, IsNotRefused, RefusesToShow, RefusesVersion}
+use Rattle.report_jobs.specs.Reporting.{IsFaultOfReport, IsNoJourney, RefusesToShow, RefusesVersion}
 
 -- a fault of a report that was begun is one of a report
 pub begun_fault : (f : ReportFault) → IsFaultOfReport (fault_of_report f)
 begun_fault report.Memory = tt
 begun_fault report.Store = tt
 begun_fault report.Write = tt
-
--- no refusal is any refusal
-pub unrefused : (So : Refusal → Type 0) (e : End) → IsNotRefused e → IfRefused e So
-unrefused So finish.Done taken = tt
-unrefused So (finish.Refused why) taken = absurd taken
-unrefused So (finish.Fault f) taken = tt
-unrefused So (finish.Usage text) taken = tt
 
 module _ {S : Type 0} (g : Ghosts S) (old new : Held S) where
   -- an absent journey may be refused

@@ -21,12 +21,12 @@ use Rattle.tables.specs.Keeping.{StoodFor}
 use Rattle.tables.specs.Opening.{Tells}
 use Rattle.tables.specs.declared.faults.OpenFault.{OpenFault}
 use Rattle.tables.specs.declared.faults.OpenFault.TheVariants as opening
-use Rattle.program_ends.specs.Ends.{EndsBadly, IfDone}
+use Rattle.program_ends.specs.Ends.{EndsBadly, IfDone, IsNotRefused}
 use Rattle.program_ends.specs.declared.ends.End.{End}
 use Rattle.program_ends.specs.declared.ends.End.TheVariants as finish
 use Rattle.program_ends.specs.declared.faults.ProgramFault.{ProgramFault}
 use Rattle.desk_jobs.specs.Ends.{end_of_open}
-use Rattle.report_jobs.specs.Reporting.{IsNotRefused, ReportsHistory, ReportsJourney, ReportsText, WritesText, end_of_report}
+use Rattle.report_jobs.specs.Reporting.{ReportsHistory, ReportsJourney, ReportsText, WritesText, end_of_report}
 
 -- what holds, holds where there was no fault
 on_ok : {T E P : Type 0} (r : Result T E) → P → OnOk r P

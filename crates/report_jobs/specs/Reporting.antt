@@ -36,28 +36,13 @@ use Rattle.program_ends.specs.declared.ends.End.{End}
 use Rattle.program_ends.specs.declared.ends.End.TheVariants as finish
 use Rattle.program_ends.specs.declared.faults.ProgramFault.{ProgramFault}
 use Rattle.program_ends.specs.declared.faults.ProgramFault.TheVariants as fault
-use Rattle.program_ends.specs.Ends.{IfDone, fault_of_report}
+use Rattle.program_ends.specs.Ends.{IfDone, IsNotRefused, fault_of_report}
 
 module _ {S : Type 0} (g : Ghosts S) where
   -- what was opened keeps this state of a desk
   pub record IsDeskIn (o : Opened S) (s : State) : Type 0 where
     pub desk : IsDesk s
     pub keeps : OpenedKeeps g o s
-
--- a journey that is there is not refused
-abbrev pub IsNotRefused : End → Type 0
-IsNotRefused (finish.Refused why) = ⊥
-IsNotRefused _ = ⊤
-
--- this holds of the refusal, if the report was refused
-abbrev pub IfRefused : End → (Refusal → Type 0) → Type 0
-IfRefused (finish.Refused why) So = So why
-IfRefused _ So = ⊤
-
--- this holds of the fault, if one came
-abbrev pub IfFault : End → (ProgramFault → Type 0) → Type 0
-IfFault (finish.Fault f) So = So f
-IfFault _ So = ⊤
 
 -- the refusal is that there is no such journey
 abbrev pub IsNoJourney : Refusal → Type 0

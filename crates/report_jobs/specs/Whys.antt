@@ -11,11 +11,12 @@ use Rattle.ledger.specs.Answer.{State}
 use Rattle.ledger.specs.Ledger.{Event}
 use Rattle.outlooks.specs.Layouts.{why_of}
 use Rattle.outlooks.specs.Outlooks.{begun_as, nights_ahead, outlook_of}
+use Rattle.program_ends.specs.Ends.{IsNotRefused}
 use Rattle.program_ends.specs.declared.ends.End.{End}
 use Rattle.reports.specs.declared.formats.Format.{Format}
 use Rattle.saga_core.specs.Views.{IsStock, record_of}
 use Rattle.saga_core.specs.declared.records.Record.{Record}
-use Rattle.report_jobs.specs.Reporting.{IsNotRefused, ReportsNone, ReportsText}
+use Rattle.report_jobs.specs.Reporting.{ReportsNone, ReportsText}
 use Rattle.report_jobs.specs.declared.whys.Seen.{Seen}
 
 module _ (held holds : Option (List ℕ)) where

@@ -14,10 +14,10 @@ ghost use Rattle.sql_reads.specs.RemainingRows.{StaysUnder};
 ghost use Rattle.report_rows.specs.HoldersLeft.{HoldersLeft};
 ghost use Rattle.tables.specs.Keeping.{KeepsIn};
 ghost use Rattle.tables.specs.Lending.{IsOnlyRead};
-ghost use Rattle.program_ends.specs.Ends.{EndsJob};
+ghost use Rattle.program_ends.specs.Ends.{EndsJob, IfFault, IfRefused, IsNotRefused};
 ghost use Rattle.desk_jobs.specs.Connections.{RepresentsIn, StillRepresents};
 ghost use Rattle.report_jobs.specs.Holding.{ReportsHolders};
-ghost use Rattle.report_jobs.specs.Reporting.{IfFault, IfRefused, IsDeskIn, IsFaultOfReport, IsNotRefused, RefusesVersion, WritesText};
+ghost use Rattle.report_jobs.specs.Reporting.{IsDeskIn, IsFaultOfReport, RefusesVersion, WritesText};
 
 use crate::reporting::{end_of_report, flush};
 use allotment::Cell;

@@ -14,9 +14,9 @@ ghost use Rattle.sql_reads.specs.RemainingRows.{StaysUnder};
 ghost use Rattle.sql_reads.specs.RemainingRows.{StockRests};
 ghost use Rattle.tables.specs.Keeping.{KeepsIn};
 ghost use Rattle.tables.specs.Lending.{IsOnlyRead};
-ghost use Rattle.program_ends.specs.Ends.{EndsJob};
+ghost use Rattle.program_ends.specs.Ends.{EndsJob, IfFault, IfRefused, IsNotRefused};
 ghost use Rattle.desk_jobs.specs.Connections.{RepresentsIn, StillRepresents};
-ghost use Rattle.report_jobs.specs.Reporting.{IfFault, IfRefused, IsDeskIn, IsFaultOfReport, IsNotRefused, RefusesVersion};
+ghost use Rattle.report_jobs.specs.Reporting.{IsDeskIn, IsFaultOfReport, RefusesVersion};
 ghost use Rattle.report_jobs.specs.Reporting.{ReportsMonths, WritesText};
 
 use crate::reporting::{end_of_report, flush};

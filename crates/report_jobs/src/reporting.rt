@@ -13,14 +13,14 @@ ghost use Rattle.sql_reads.specs.Reading.{WasClean};
 ghost use Rattle.sql_reads.specs.RemainingRows.{IsLeftAsItWas};
 ghost use Rattle.tables.specs.Keeping.{KeepsIn};
 ghost use Rattle.tables.specs.Lending.{IsOnlyRead};
-ghost use Rattle.program_ends.specs.Ends.{EndsJob};
+ghost use Rattle.program_ends.specs.Ends.{EndsJob, IfFault, IfRefused, IsNotRefused};
 ghost use Rattle.desk_jobs.specs.Connections.{RepresentsIn, StillRepresents};
 ghost use Rattle.filters.specs.CellFilters.{is_cell_asked};
 ghost use Rattle.filters.specs.JourneyFilters.{asked_of};
 ghost use Rattle.ledger.specs.Ledger.{Event};
 ghost use Rattle.reports.specs.declared.formats.JourneyReport.TheVariants.{Unfinished};
 ghost use Rattle.saga_core.specs.Views.{unfinished_of};
-ghost use Rattle.report_jobs.specs.Reporting.{IfFault, IfRefused, IsFaultOfReport, IsNoJourney, IsNotRefused, RefusesToShow, RefusesVersion};
+ghost use Rattle.report_jobs.specs.Reporting.{IsFaultOfReport, IsNoJourney, RefusesToShow, RefusesVersion};
 ghost use Rattle.report_jobs.specs.Reporting.{asked_cells, end_of_report, IsDeskIn, ReportsHistory, ReportsJourneys, ReportsStock, WritesJourneys, WritesText};
 
 use crate::asked_reports::{write_asked, write_kinds};

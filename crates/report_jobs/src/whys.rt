@@ -18,9 +18,9 @@ ghost use Rattle.allotment.specs.declared.places.Held.{Held};
 ghost use Rattle.outlooks.specs.Layouts.{why_in, why_of};
 ghost use Rattle.outlooks.specs.Nights.{nights_in, nights_of};
 ghost use Rattle.outlooks.specs.Outlooks.{begun_as, latest_option as latest_option_of, nights_ahead, IsTaken};
-ghost use Rattle.program_ends.specs.Ends.{EndsJob};
+ghost use Rattle.program_ends.specs.Ends.{EndsJob, IfFault, IfRefused};
 ghost use Rattle.desk_jobs.specs.Connections.{RepresentsIn, StillRepresents};
-ghost use Rattle.report_jobs.specs.Reporting.{IfFault, IfRefused, IsDeskIn, IsFaultOfReport, IsNoJourney, RefusesToShow, WritesText};
+ghost use Rattle.report_jobs.specs.Reporting.{IsDeskIn, IsFaultOfReport, IsNoJourney, RefusesToShow, WritesText};
 ghost use Rattle.report_jobs.specs.Whys.{IsSeenOf, LetsCellsOf, ReportsWhy};
 
 use crate::reporting::{end_of_report, flush};

@@ -88,6 +88,7 @@ impl<S: Alter> RowSource<(Cell, Held)> for CellRows<'_, '_, S> {
             × StockRests S.Store self.new.rows.now.conn.now rows)) }
         ensures counted { IfOk result (λ found.
             self.new.progress.given ≡ count_of found + self.old.progress.given) }
+        ensures uncounted { OnErr result (self.new.progress.given ≡ self.old.progress.given) }
         ensures few { self.new.progress.given < 2 ^ 64 }
 
         ensures kept { RowsStay S.Store self.old.rows self.new.rows }

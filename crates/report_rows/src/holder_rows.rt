@@ -82,6 +82,7 @@ impl<S: Alter> RowSource<Holder> for HolderRows<'_, '_, S> {
             × HoldersLeft S.Store self.new.rows.now.conn.now rows)) }
         ensures counted { IfOk result (λ found.
             self.new.progress.given ≡ count_of found + self.old.progress.given) }
+        ensures uncounted { OnErr result (self.new.progress.given ≡ self.old.progress.given) }
         ensures few { self.new.progress.given < 2 ^ 64 }
 
         ensures kept { RowsStay S.Store self.old.rows self.new.rows }

@@ -302,6 +302,7 @@ pub fn read_counts<S: Alter>(conn: &mut Connection<S>) -> Result<Meta, Fault>
 
     ensures outside { conn.new.in_transaction ≡ false }
     ensures counts { ShowsKept S.Store conn.old conn.new result Counts }
+    ensures version { ShowsKept S.Store conn.old conn.new result (λ _ meta. meta.version ≡ 2) }
     ensures small { IfOk result IsCounted }
     ensures same { KeepsOn S.Store conn.old conn.new result }
     ensures memory { KeepsAtMemory S.Store conn.old conn.new result }

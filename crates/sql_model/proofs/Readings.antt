@@ -3,23 +3,20 @@ use Rattle.std.proofs.Common.{◌≡◌, ℕ, ◌+◌, ◌≤◌, ◌==◌, List
 use Rattle.std.specs.Prelude.{option_map, bytes_eq, nat_le, ◌&&◌}
 use Rattle.std.specs.List.{list_any}
 use Rattle.std.specs.List.Sorted.{IsPermutation}
-use Rattle.sqlite_trees.specs.Tree.{IsAscending}
 use Rattle.sqlite_trees.proofs.ListLemmas.{filter_same, all_of}
 use Rattle.allotment.specs.Want.{Wanted}
 use Rattle.allotment.specs.Cells.{kind_number}
-use Rattle.allotment.specs.declared.cells.Cell.{Cell}
-use Rattle.allotment.specs.declared.places.Held.{Held}
 use Rattle.plan.specs.PlanModel.{Planned, StepPlan, numbered, is_plan}
 use Rattle.ledger.specs.History.{is_taken}
 use Rattle.ledger.specs.Ledger.{Journey, journeys, journey_at, history}
 use Rattle.ledger.specs.Answer.{State}
-use Rattle.saga_core.specs.Views.{first_owned, first_unfinished, places_shown, IsStock}
+use Rattle.saga_core.specs.Views.{first_owned, first_unfinished, places_shown}
 use Rattle.desk_sql.specs.declared.versions.Version.{Version}
 use Rattle.desk_sql.specs.Versions.{number_of}
 use Rattle.desk_sql.specs.Rows.{Tables, MetaRow, StockRow, JourneyRow, EntryRow}
 use Rattle.desk_sql.specs.Changes.{AreJourneysBelow}
 use Rattle.desk_sql.specs.FoundRows.{meta_of, IsMeta, answer_of, FindsAnswer, journey_of, FindsJourney, FindsOwned, FindsUnfinished, step_of, FindsSteps, FindsOptions, item_of, FindsItems, FindsNextItem, FindsMarks}
-use Rattle.desk_sql.specs.Stock.{is_within, night_of, FindsNights, stock_of, IsByCell, FindsStock}
+use Rattle.desk_sql.specs.Stock.{is_within, night_of, FindsNights}
 use Rattle.desk_sql.specs.declared.meta.Meta.{Meta}
 use Rattle.desk_sql.specs.declared.answers.KeptAnswer.{KeptAnswer}
 use Rattle.desk_sql.specs.declared.journeys.JourneyFound.{JourneyFound}
@@ -27,10 +24,9 @@ use Rattle.desk_sql.specs.declared.steps.StepFound.{StepFound}
 use Rattle.desk_sql.specs.declared.journeys.ItemFound.{ItemFound}
 use Rattle.desk_sql.specs.declared.stock.NightRange.{NightRange}
 use Rattle.desk_sql.specs.declared.stock.NightFound.{NightFound}
-use Rattle.desk_sql.specs.declared.stock.CellFound.{CellFound}
 use Rattle.sql_model.specs.ExpectedRows.{is_standing, option_rows, step_rows, step_rows_of}
 use Rattle.sql_model.specs.Standing.{StandsIn, IsDesk}
-use Rattle.sql_model.specs.Reading.{Tells, IsAnswerOf, IsJourneyOf, IsBriefOf, item_in, not_taken, IsRangeOf, is_wanted_row, night_told, night_seen, stock_row_of}
+use Rattle.sql_model.specs.Reading.{Tells, IsAnswerOf, IsJourneyOf, IsBriefOf, item_in, not_taken, IsRangeOf, is_wanted_row, night_told, night_seen}
 use Rattle.sql_model.proofs.Orders.{Rises}
 use Rattle.sql_model.proofs.Answered.{answer_found}
 use Rattle.sql_model.proofs.FirstItems.{no_item_before}
@@ -40,7 +36,7 @@ use Rattle.sql_model.proofs.PlanRows.{steps_found_in_order}
 use Rattle.sql_model.proofs.OptionRows.{is_at, step_rows_at, options_found_in_order}
 use Rattle.sql_model.proofs.ItemRows.{items_found, marks_found}
 use Rattle.sql_model.proofs.NextItems.{TellsIfNext, next_found}
-use Rattle.sql_model.proofs.StockRows.{nights_found, stock_found}
+use Rattle.sql_model.proofs.StockRows.{nights_found}
 use Rattle.sql_model.proofs.RecordRows.{plan_good, plan_told}
 
 module _ {v : Version} (t : Tables) (s : State) (st : StandsIn v t s) (desk : IsDesk s) where
@@ -174,11 +170,3 @@ module _ {v : Version} (t : Tables) (s : State) (st : StandsIn v t s) (desk : Is
           (λ n. (x.kind == kind_number w.kind) && (bytes_eq x.supplier w.supplier && (bytes_eq x.product w.product && (nat_le n x.night && nat_le x.night r.last)))) is.first
           ∙ ap
           (λ n. (x.kind == kind_number w.kind) && (bytes_eq x.supplier w.supplier && (bytes_eq x.product w.product && (nat_le w.first x.night && nat_le x.night n)))) is.last
-
-  -- the cells found, with their places, are the stock
-  pub stock_read : (found : List CellFound) (cells : List (Cell × Held)) → FindsStock t found
-      → map stock_row_of cells ≡ map stock_of found → IsStock s.ledger cells
-  stock_read found cells finds rows =
-      stock_found s.ledger t.stock cells st.stock
-      (subst (IsPermutation t.stock) (sym rows) finds.same)
-      (subst (IsAscending IsByCell) (sym rows) finds.rising)

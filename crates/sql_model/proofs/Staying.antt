@@ -1,14 +1,16 @@
 -- A store that stays up and sees what it saw, and the fault that a failed call is. For the functions of `sql_reads`,
 -- `sql_writes` and above.
-use Rattle.std.proofs.Common.{◌≡◌, ◌≤◌, ◌⊎◌, ℕ, inl, inr, sym, subst, IsTrue, ◌∙◌, arith}
+use Rattle.std.proofs.Common.{◌≡◌, ◌≤◌, ◌⊎◌, ℕ, inl, inr, true, false, sym, subst, IsTrue, ◌∙◌, arith}
 use Rattle.std.specs.Prelude.{◌↔◌, min, ◌^◌, ◌+◌, ◌-◌}
 use Rattle.sqlite.specs.Store.{Ghosts}
 use Rattle.sqlite.specs.State.{State as Connected, HasCleanDisk, IsRolledBack, IsUnchanged, KeepsCommit, Survives}
 use Rattle.sqlite.specs.Effect.{Database}
+use Rattle.sqlite.specs.Steps.{FailsToCommit}
+use Rattle.sqlite_trees.specs.declared.error.StoreError.TheVariants.{OutOfMemory, Io, Corrupt, Full, Broken, Unstorable}
 use Rattle.sqlite.specs.Held.{Held, state}
 use Rattle.sqlite.specs.declared.error.Error.{Error}
 use Rattle.sqlite.specs.declared.error.Error.TheVariants.{SqliteFailure}
-use Rattle.sqlite.specs.declared.error.ErrorCode.TheVariants.{OutOfMemory}
+use Rattle.sqlite.specs.declared.error.ErrorCode.TheVariants.{OutOfMemory as RanShort}
 use Rattle.sqlite.specs.Tree.{Trees}
 use Rattle.commands.specs.declared.replies.Fault.{Fault}
 use Rattle.commands.specs.declared.replies.Fault.TheVariants.{Memory, Store}
@@ -22,9 +24,20 @@ use Rattle.sql_model.specs.Staying.{SeesAsBefore, StaysUp}
 
 -- a fault that an error of the store was turned into
 pub of_error : (old new : Connected) (e : Error) (f : Fault)
-    → (f ≡ Memory ↔ e ≡ SqliteFailure OutOfMemory) → HasReason old new e → f ≡ Store → HasFaulted old new
+    → (f ≡ Memory ↔ e ≡ SqliteFailure RanShort) → HasReason old new e → f ≡ Store → HasFaulted old new
 of_error old new e f memory (inl is) store = absurd (let ran : Memory ≡ Store = sym (memory.1 is) ∙ store in cc)
 of_error old new e f memory (inr faulted) store = faulted
+
+-- why a commit failed in an open transaction: the disk failed or refused, or it ran out of memory
+pub commit_why : (late end : Connected) (e : Error) → IsTrue late.is_open → IsTrue late.in_transaction → FailsToCommit late end e
+    → HasFaulted late end ⊎ (e ≡ SqliteFailure RanShort)
+commit_why late end e live inside (inl (OutOfMemory, is, why, back, told)) = inr is
+commit_why late end e live inside (inl (Io, is, why, back, told)) = inl why
+commit_why late end e live inside (inl (Corrupt, is, why, back, told)) = inl why
+commit_why late end e live inside (inl (Full, is, why, back, told)) = inl why
+commit_why late end e live inside (inl (Broken, is, why, back, told)) = absurd (let no : true ≡ false = sym live ∙ why in cc)
+commit_why late end e live inside (inl (Unstorable, is, why, back, told)) = absurd why
+commit_why late end e live inside (inr (is, out, same)) = absurd (let no : true ≡ false = sym inside ∙ out in cc)
 
 module _ {S : Type 0} (g : Ghosts S) (old new : Held S) where
   -- a call counts on, and stays up, whatever it commits
@@ -55,6 +68,13 @@ faulted_later a b c low faulted = later a.faults b.faults c.faults low faulted
 
 pub faulted_earlier : (a b c : Connected) → HasFaulted a b → b.faults ≤ c.faults → HasFaulted a c
 faulted_earlier a b c faulted low = earlier a.faults b.faults c.faults faulted low
+
+-- a connection is as much up once a transaction has begun
+pub stays_begun : {S : Type 0} (g : Ghosts S) (old new : Held S) → StaysUp g (record old { in_transaction = true }) new → StaysUp g old new
+stays_begun g old new it = record {
+  counts = it.counts;
+  up = λ clean up. it.up clean (record { is_open = up.is_open; unlimited = up.unlimited });
+}
 
 module _ {S : Type 0} (g : Ghosts S) (a b c : Held S) where
   pub stays_twice : StaysUp g a b → StaysUp g b c → WasClean g b c → StaysUp g a c

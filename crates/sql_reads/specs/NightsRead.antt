@@ -1,5 +1,5 @@
 -- Nights of a product that were read together, and the cells among them.
-use Rattle.std.specs.Prelude.{◌≡◌, ◌<◌, ◌+◌, ◌==◌, ℕ, List, find, option_map, unwrap_or}
+use Rattle.std.specs.Prelude.{◌≡◌, ◌<◌, ◌≤◌, ◌+◌, ◌==◌, ℕ, List, find, option_map, unwrap_or}
 use Rattle.allotment.specs.Cells.{kind_number}
 use Rattle.allotment.specs.Places.{held_of}
 use Rattle.allotment.specs.Want.{Wanted, wanted}
@@ -23,6 +23,10 @@ pub record IsLater (first : Cell) (nights : ℕ) (x : Cell) : Type 0 where
 -- the cell is one of these nights
 abbrev pub IsAmong : NightsRead → Cell → Type 0
 IsAmong read x = (nights : ℕ) × IsLater read.first nights x × (nights < read.count)
+
+-- 1 to 64 nights were asked for
+abbrev pub AreFew : NightsRead → Type 0
+AreFew read = (1 ≤ read.count) × (read.count ≤ 64)
 
 -- the places are those that the ledger shows of these nights
 abbrev pub AreRead : State → NightsRead → Type 0

@@ -4,7 +4,7 @@
 //! journey. So the store reads no further than the next item. After the item that finishes the journey there is no
 //! further query.
 
-ghost use Rattle.std.specs.Prelude.{◌≡◌, ◌+◌, ◌-◌, ◌<◌, ◌^◌, false, IfOk};
+ghost use Rattle.std.specs.Prelude.{◌≡◌, ◌+◌, ◌-◌, ◌<◌, ◌^◌, true, false, Err, IfOk, OnErr};
 ghost use Rattle.sqlite.specs.Held.{state};
 ghost use Rattle.sqlite.specs.State.{HasCleanDisk};
 ghost use Rattle.ledger.specs.Ledger.{history};
@@ -76,13 +76,18 @@ impl ItemCursor {
         ensures next { HasCleanDisk (state S.Store conn.new) → IfOk result
             (Hands (ItemsRest S.Store conn.old self.old) (ItemsRest S.Store conn.new self.new)) }
         ensures counted { IfOk result (λ found. self.new.given ≡ count_of found + self.old.given) }
+        ensures uncounted { OnErr result (self.new.given ≡ self.old.given) }
         ensures few { self.new.given < 2 ^ 64 }
         ensures kept { IsLeftAsItWas S.Store conn.old conn.new }
+        ensures no_query { self.old.finished ≡ true → conn.new ≡ conn.old }
 
         ensures low { IsLow self.old.sought → IsLow self.new.sought }
+        ensures version { self.new.version ≡ self.old.version }
         ensures store { IsLow self.old.sought → self.old.failed ≡ false
             → self.old.given < 2 ^ 64 - 1
             → FailsForReasonIn S.Store conn.old conn.new self.old.version result }
+        ensures failed { OnErr result (self.new.failed ≡ true) }
+        ensures stays_failed { self.old.failed ≡ true → result ≡ Err Fault.Store }
         ensures up { StaysUp S.Store conn.old conn.new }
     {
         let given = self.given;

@@ -2,7 +2,7 @@
 ghost use Rattle.std.specs.Prelude.{◌≡◌, ◌≤◌, false, true, IfOk, IfSome};
 ghost use Rattle.sql_model.specs.Staying.{SeesAsBefore, StaysUp};
 ghost use Rattle.sql_reads.specs.Causes.{FailsForReason};
-ghost use Rattle.sql_reads.specs.NightsRead.{AreRead, IsAmong, IsLater, held_at};
+ghost use Rattle.sql_reads.specs.NightsRead.{AreFew, AreRead, IsAmong, IsLater, held_at};
 ghost use Rattle.sql_reads.specs.Reading.{KeepsEach, LeavesAsBefore, ShowsKept, WasClean};
 
 use crate::telling::nights_told;
@@ -118,6 +118,7 @@ pub fn nights_with<S: Alter>(
 
     ensures outside { conn.new.in_transaction ≡ false }
     ensures among { IfOk result (λ nights. IsAmong nights cell.now) }
+    ensures few { IfOk result (λ nights. IfSome read AreFew → AreFew nights) }
     ensures places { ShowsKept S.Store conn.old conn.new result
         (λ s nights. IfSome read (AreRead s) → AreRead s nights) }
     ensures same { KeepsEach S.Store conn.old conn.new }

@@ -1,5 +1,5 @@
 -- Why an event is not committed, and what is left of the rowids. For the functions of `committing`.
-use Rattle.std.proofs.Common.{◌≡◌, ◌⊎◌, ◌+◌, inl, inr, ℕ, true, false, IsTrue, refl, sym, ap, subst, ◌∙◌, arith}
+use Rattle.std.proofs.Common.{◌≡◌, ◌⊎◌, ◌+◌, inl, inr, ℕ, true, false, IsTrue, refl, sym, subst, ◌∙◌, arith}
 use Rattle.std.specs.Prelude.{◌↔◌}
 use Rattle.sqlite.specs.Tree.{Trees}
 use Rattle.sqlite.specs.Store.{Ghosts}
@@ -10,19 +10,17 @@ use Rattle.sqlite.specs.Held.{Held, state}
 use Rattle.sqlite.specs.declared.error.Error.{Error}
 use Rattle.sqlite.specs.declared.error.Error.TheVariants.{SqliteFailure}
 use Rattle.sqlite.specs.declared.error.ErrorCode.TheVariants.{OutOfMemory as RanShort}
-use Rattle.sqlite_trees.specs.declared.error.StoreError.TheVariants.{OutOfMemory, Io, Corrupt, Full, Broken, Unstorable}
 use Rattle.commands.specs.declared.replies.Fault.{Fault}
 use Rattle.commands.specs.declared.replies.Fault.TheVariants.{Memory, Store}
-use Rattle.desk_sql.specs.Calls.{MayRun, Makes}
+use Rattle.desk_sql.specs.Calls.{MayRun}
 use Rattle.desk_sql.specs.Causes.{IsUp, HasFaulted, HasReason}
 use Rattle.desk_sql.specs.Rows.{Tables}
 use Rattle.desk_sql.specs.Writable.{HasRowids}
 use Rattle.desk_sql.proofs.Rowids.{rowids_fewer}
 use Rattle.ledger.specs.Answer.{State}
-use Rattle.sql_model.specs.Keeping.{Keeps, IsKept, SeesDesk}
+use Rattle.sql_model.specs.Keeping.{Keeps, SeesDesk}
 use Rattle.sql_model.specs.Standing.{StandsFor}
-use Rattle.sql_model.specs.Staying.{StaysUp}
-use Rattle.sql_model.proofs.Staying.{faulted_earlier, faulted_later, of_error}
+use Rattle.sql_model.proofs.Staying.{commit_why, faulted_earlier, faulted_later, of_error}
 use Rattle.sql_writes.specs.Commits.{RanOut}
 use Rattle.sql_writes.proofs.CommitLemmas.{Wrote}
 
@@ -35,17 +33,6 @@ pub record Failed {S : Type 0} (g : Ghosts S) (start late : Held S) (needed : �
 pub record Took {S : Type 0} (g : Ghosts S) (start late : Held S) (taken : ℕ) (Fits : Tables → Type 0) : Type 0 where
   pub left : HasCleanDisk (state g late) → (t : Tables) → MayRun (state g start) t → IsTrue (state g start).is_open
       → Fits t → (n : ℕ) → HasRowids (taken + n) (state g start).now.trees → HasRowids n (state g late).now.trees
-
--- why a commit failed
-commit_why : (late end : Connected) (e : Error) → IsTrue late.is_open → IsTrue late.in_transaction → FailsToCommit late end e
-    → HasFaulted late end ⊎ (e ≡ SqliteFailure RanShort)
-commit_why late end e live inside (inl (OutOfMemory, is, why, back, told)) = inr is
-commit_why late end e live inside (inl (Io, is, why, back, told)) = inl why
-commit_why late end e live inside (inl (Corrupt, is, why, back, told)) = inl why
-commit_why late end e live inside (inl (Full, is, why, back, told)) = inl why
-commit_why late end e live inside (inl (Broken, is, why, back, told)) = absurd (let no : true ≡ false = sym live ∙ why in cc)
-commit_why late end e live inside (inl (Unstorable, is, why, back, told)) = absurd why
-commit_why late end e live inside (inr (is, out, same)) = absurd (let no : true ≡ false = sym inside ∙ out in cc)
 
 -- a commit that failed in a transaction was rolled back
 back_of : (late end : Connected) (e : Error) → IsTrue late.in_transaction → FailsToCommit late end e → IsRolledBack late end
@@ -121,10 +108,3 @@ module _ {S : Type 0} (g : Ghosts S) (old late end : Held S) (s : State) (keeps 
         → HasRowids (taken + m) (state g old).now.trees → IsTrue (state g end).is_open → HasRowids m (state g end).now.trees
     failed_rowids taken e at_late kept inside failed m has live =
         back_rowids taken at_late kept (back_of (state g late) (state g end) e inside failed) m has live
-
--- a connection is as much up once a transaction has begun
-pub stays_begun : {S : Type 0} (g : Ghosts S) (old new : Held S) → StaysUp g (record old { in_transaction = true }) new → StaysUp g old new
-stays_begun g old new it = record {
-  counts = it.counts;
-  up = λ clean up. it.up clean (record { is_open = up.is_open; unlimited = up.unlimited });
-}

@@ -3,6 +3,7 @@ pub mod FinishedLemmas
 pub mod ListedLemmas
 pub mod LookLemmas
 pub mod OpenKept
+pub mod FoundingReasons
 pub mod NumberLemmas
 pub mod CountLemmas
 pub mod WalkLemmas
@@ -10,3 +11,4 @@ pub mod SpelledLemmas
 pub mod NewDesks
 pub mod ActingLemmas
 pub mod SinceLemmas
+pub mod OtherTables

@@ -211,10 +211,15 @@ module _ (old new : Connected) (m : Meta) (seen : (v : Version) (t : Tables) →
           leaves = λ db may. found.leaves db (less db may);
         }
 
-    -- the connection keeps the state in tables of the version whose number was read
+    -- the version whose number was read is that of the tables
+    pub is_named : (now : Version) → ((w : Version) → Some now ≡ Some w ↔ m.version ≡ number_of w) → v ≡ now
+    is_named now named =
+        let both : Some now ≡ Some v = (named v).1 has_number in
+        let same : now ≡ v = cc in
+        sym same
+
+    -- the connection keeps the state in tables of that version
     pub keeps_named : (now : Version) → ((w : Version) → Some now ≡ Some w ↔ m.version ≡ number_of w)
         → ((db : Trees) → new.may_leave db → old.may_leave db) → IsKeptIn now new s
     keeps_named now named less =
-        let both : Some now ≡ Some v = (named v).1 has_number in
-        let same : now ≡ v = cc in
-        subst (λ w. IsKeptIn w new s) (sym same) (keeps_read less)
+        subst (λ w. IsKeptIn w new s) (is_named now named) (keeps_read less)

@@ -1,12 +1,18 @@
 -- What the opening of a store finds.
-use Rattle.std.specs.Prelude.{◌≡◌, ◌≢◌, ⊤}
+use Rattle.std.specs.Prelude.{◌≡◌, ◌≢◌, ⊤, ℕ, ◌⊎◌, true}
 use Rattle.sqlite.specs.Store.{Ghosts}
 use Rattle.sqlite.specs.Held.{Held, state}
 use Rattle.sqlite.specs.State.{HasCleanDisk}
+use Rattle.sqlite.specs.Steps.{FailsToCommit}
+use Rattle.sqlite.specs.declared.error.Error.TheVariants.{SqliteFailure}
+use Rattle.sqlite.specs.declared.error.ErrorCode.TheVariants.{OutOfMemory}
 use Rattle.desk_sql.specs.declared.versions.Version.{Version}
+use Rattle.desk_sql.specs.declared.versions.Version.TheVariants.{Two}
 use Rattle.desk_sql.specs.Versions.{number_of, SawVersion}
-use Rattle.desk_sql.specs.Calls.{LeavesNoMore}
+use Rattle.desk_sql.specs.Calls.{LeavesNoMore, Makes}
 use Rattle.desk_sql.specs.Causes.{IsUp, HasFaulted}
+use Rattle.desk_sql.specs.Changes.{founded}
+use Rattle.desk_sql.specs.Schema.{no_schema}
 use Rattle.ledger.specs.Answer.{State}
 use Rattle.tables.specs.declared.faults.OpenFault.{OpenFault}
 use Rattle.tables.specs.declared.faults.OpenFault.TheVariants.{UnknownSchema, Store, Memory}
@@ -23,6 +29,11 @@ module _ {S : Type 0} (g : Ghosts S) (old new : Held S) where
   abbrev pub StandsOn : Type 0
   StandsOn = (v : Version) (s : State) → StoodFor v (state g old) s → StoodFor v (state g new) s
 
+  -- the connection represented states in tables of this version alone
+  abbrev pub StoodOnlyIn : Version → Type 0
+  StoodOnlyIn now =
+      HasCleanDisk (state g new) → (v : Version) (s : State) → StoodFor v (state g old) s → v ≡ now
+
   -- the connection represented no state
   abbrev pub StoodForNone : Type 0
   StoodForNone =
@@ -34,6 +45,32 @@ module _ {S : Type 0} (g : Ghosts S) (old new : Held S) where
   FailsToOpen fault =
       HasCleanDisk (state g new) → (v : Version) (s : State) → KeepsIn v (state g old) s → IsUp (state g old)
       → fault ≡ Store → HasFaulted (state g old) (state g new)
+
+  -- the tables have this version, which is not the newest, and the connection represented no state in tables of the newest
+  abbrev pub SawOther : ℕ → Type 0
+  SawOther n =
+      (n ≢ 2) × SawVersion g old new n
+      × (HasCleanDisk (state g new) → (s : State) → StoodFor Two (state g old) s → ⊥)
+
+  -- What the fault of a book that was not made implies: only other tables are refused. Out of memory: a crash leaves
+  -- nothing new.
+  abbrev pub TellsUnmade : OpenFault → Type 0
+  TellsUnmade (UnknownSchema n) = SawOther n
+  TellsUnmade Store = ⊤
+  TellsUnmade Memory = LeavesNoMore g old new
+
+  -- a transaction that began here created the tables of a new desk, and its commit ran out of memory
+  pub record FoundingRanOut : Type 0 where
+    pub late : Held S
+    pub founds : Makes (state g (record old { in_transaction = true })) (state g late) founded
+    pub failed : FailsToCommit (state g late) (state g new) (SqliteFailure OutOfMemory)
+
+  -- While the store returns what was written, and the connection had no tables: a fault of a store that was up says that its
+  -- disk failed or refused meanwhile, or that the commit of the new tables ran out of memory.
+  abbrev pub FailsToFound : OpenFault → Type 0
+  FailsToFound fault =
+      HasCleanDisk (state g new) → (state g old).now.schema ≡ no_schema → IsUp (state g old)
+      → fault ≡ Store → HasFaulted (state g old) (state g new) ⊎ FoundingRanOut
 
   -- What a fault implies. An unknown version: the tables have it, and represented no state. Out of memory: a
   -- crash leaves nothing new.

@@ -3,7 +3,7 @@
 //! The rows borrow what was opened, and query it for each item. Once the rows are dropped, the caller has what was
 //! opened again: it was only read, even if the rows could not be started.
 
-ghost use Rattle.std.specs.Prelude.{◌≡◌, ◌<◌, ◌+◌, ◌-◌, ◌^◌, false, IfOk};
+ghost use Rattle.std.specs.Prelude.{◌≡◌, ◌<◌, ◌+◌, ◌-◌, ◌^◌, true, false, Err, IfOk, OnErr};
 ghost use Rattle.sqlite.specs.Held.{state};
 ghost use Rattle.sqlite.specs.State.{HasCleanDisk};
 ghost use Rattle.saga_core.specs.RowSources.{count_of, Hands};
@@ -103,6 +103,7 @@ impl<S: Alter> RowSource<Item> for ItemRows<'_, S> {
             (ItemsRest S.Store self.new.opened.now.conn self.new.cursor)) }
         ensures counted { IfOk result
             (λ found. self.new.cursor.given ≡ count_of found + self.old.cursor.given) }
+        ensures uncounted { OnErr result (self.new.cursor.given ≡ self.old.cursor.given) }
         ensures few { self.new.cursor.given < 2 ^ 64 }
 
         ensures kept { StaysUnder S.Store self.old.opened self.new.opened }
@@ -110,10 +111,13 @@ impl<S: Alter> RowSource<Item> for ItemRows<'_, S> {
             → HasCleanDisk (state S.Store self.old.opened.now.conn) }
 
         ensures low { IsLow self.old.cursor.sought → IsLow self.new.cursor.sought }
+        ensures version { self.new.cursor.version ≡ self.old.cursor.version }
         ensures store { IsLow self.old.cursor.sought → self.old.cursor.failed ≡ false
             → self.old.cursor.given < 2 ^ 64 - 1
             → FailsForReasonIn S.Store self.old.opened.now.conn self.new.opened.now.conn
             self.old.cursor.version result }
+        ensures failed { OnErr result (self.new.cursor.failed ≡ true) }
+        ensures stays_failed { self.old.cursor.failed ≡ true → result ≡ Err Fault.Store }
         ensures up { StaysUp S.Store self.old.opened.now.conn self.new.opened.now.conn }
     {
         self.cursor.next_item(&mut self.opened.conn)

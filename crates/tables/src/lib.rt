@@ -2,7 +2,7 @@
 //!
 //! `open_from` finds the state that a store represents, and creates the tables if there are none. `TableBook` is the
 //! book over the tables: `sql_commands` executes its commands, and `sql_reads` its reads. `act_all` executes commands one
-//! after another, so that a fault of the store has a reason.
+//! after another: it says which replies came before a fault, and why the store failed.
 //!
 //! Words: a connection *keeps* a state if its tables represent the state and a crash leaves just that state. A book *may act*
 //! if its store is up, its agents have their form, and enough rowids are left.

@@ -7,13 +7,12 @@
 //! store without tables represents a new desk.
 
 ghost use Rattle.std.specs.Prelude.{◌≡◌, ◌≢◌, ◌↔◌, false, None, IsTrue, IfOk, IfErr, OnOk, OnErr};
-ghost use Rattle.sqlite.specs.State.{HasCleanDisk};
 ghost use Rattle.sqlite.specs.Held.{state};
 ghost use Rattle.desk_sql.specs.Schema.{no_schema};
 ghost use Rattle.desk_sql.specs.Versions.{number_of, SawVersion};
 ghost use Rattle.desk_sql.specs.declared.versions.Version.{Version};
 ghost use Rattle.ledger.specs.Answer.{State};
-ghost use Rattle.tables.specs.Opening.{FailsToOpen, KeepsIt, StandsOn, Tells};
+ghost use Rattle.tables.specs.Opening.{FailsToOpen, KeepsIt, StandsOn, StoodOnlyIn, Tells, FailsToFound};
 ghost use Rattle.sql_model.specs.Staying.{SeesAsBefore, StaysUp};
 ghost use Rattle.sql_reads.specs.Reading.{WasClean};
 
@@ -133,10 +132,12 @@ fn found_tables<S: Alter>(conn: &mut Connection<S>) -> Result<(), OpenFault>
     ensures limit { conn.new.step_limit ≡ conn.old.step_limit }
     ensures sound { WasClean S.Store conn.old conn.new }
     ensures finds { OnOk result (KeepsIt S.Store conn.old conn.new Version.Two) }
+    ensures only { OnOk result (StoodOnlyIn S.Store conn.old conn.new Version.Two) }
     ensures stands { OnErr result (StandsOn S.Store conn.old conn.new) }
     ensures version { OnOk result (SawVersion S.Store conn.old conn.new 2) }
     ensures up { OnOk result (StaysUp S.Store conn.old conn.new) }
     ensures told { IfErr result (Tells S.Store conn.old conn.new) }
+    ensures founds { IfErr result (FailsToFound S.Store conn.old conn.new) }
 {
     let mut tx = conn.transaction();
     if let Err(error) = make_tables(&mut tx) {
@@ -158,6 +159,7 @@ fn read_version<S: Alter>(conn: &mut Connection<S>) -> Result<Version, OpenFault
     ensures limit { conn.new.step_limit ≡ conn.old.step_limit }
     ensures sound { WasClean S.Store conn.old conn.new }
     ensures finds { IfOk result (KeepsIt S.Store conn.old conn.new) }
+    ensures only { IfOk result (StoodOnlyIn S.Store conn.old conn.new) }
     ensures stands { OnErr result (StandsOn S.Store conn.old conn.new) }
     ensures version { IfOk result (λ v. SawVersion S.Store conn.old conn.new (number_of v)) }
     ensures up { OnOk result (StaysUp S.Store conn.old conn.new) }
@@ -176,11 +178,15 @@ fn read_version<S: Alter>(conn: &mut Connection<S>) -> Result<Version, OpenFault
 
 /// Finds the state that the store of a connection represents: a desk with its tables, or a new desk, which gets its
 /// tables. Tables of version 1 are only read; no book is made of them.
+///
+/// Over a store that is up, and that has no tables or keeps a desk, `Store` has a reason: the disk failed or refused, or
+/// the commit of new tables ran out of memory.
 pub fn open_from<S: Alter>(mut conn: Connection<S>) -> Result<Opened<S>, (Connection<S>, OpenFault)>
     requires outside { conn.in_transaction ≡ false }
     requires unlimited { conn.step_limit ≡ None }
 
     ensures finds { IfOk result (λ o. KeepsIt S.Store conn o.conn o.version) }
+    ensures only { IfOk result (λ o. StoodOnlyIn S.Store conn o.conn o.version) }
     ensures version { IfOk result (λ o. SawVersion S.Store conn o.conn (number_of o.version)) }
     ensures ready { IfOk result (λ o. o.conn.in_transaction ≡ false) }
     ensures unlimited { IfOk result (λ o. o.conn.step_limit ≡ None) }
@@ -191,6 +197,7 @@ pub fn open_from<S: Alter>(mut conn: Connection<S>) -> Result<Opened<S>, (Connec
     ensures stands { IfErr result (λ e. StandsOn S.Store conn e.0) }
     ensures told { IfErr result (λ e. Tells S.Store conn e.0 e.1) }
     ensures store { IfErr result (λ e. FailsToOpen S.Store conn e.0 e.1) }
+    ensures founds { IfErr result (λ e. FailsToFound S.Store conn e.0 e.1) }
     ensures unharmed { IfErr result (λ e. WasClean S.Store conn e.0) }
     ensures limit { IfErr result (λ e. e.0.step_limit ≡ None) }
 {

@@ -1,5 +1,6 @@
 -- The book over a connection from which a job may start may recover, and what is said of it is said of the connection.
 use Rattle.std.proofs.Common.{[]}
+use Rattle.desk_jobs.proofs.EndLemmas.{book_fault}
 use Rattle.desk_jobs.proofs.ReasonLemmas.{acts_from, book_store, fails_as, may_recover, reason_from, run_store}
 use Rattle.desk_jobs.proofs.opening.ready_over.Goals as goal
 
@@ -25,3 +26,8 @@ returns-in-Err-recover-clause-reason g c clean is =
     (reason_from store first left c.into_store.result c.into_store.ensures.same)
     (c.in-Err-recover.ensures.reason sound first []
     (book_store c.in-Err-recover.fault c.from.result c.from.ensures (run_store c.from.result c.into.result c.into.ensures is)))
+
+-- and its fault is that of the book
+pub returns-in-Err-recover-clause-fault : goal.returns-in-Err-recover-clause-fault
+returns-in-Err-recover-clause-fault g c =
+    book_fault c.in-Err-recover.fault c.from.result c.into.result c.from.ensures c.into.ensures

@@ -7,6 +7,7 @@ use Rattle.tables.specs.BookTerms.{LeavesBook, StandsBook}
 use Rattle.desk_jobs.proofs.AnswerLemmas.{front_for_all, front_for_some}
 use Rattle.desk_lines.specs.Lines.{lines}
 use Rattle.desk_lines.specs.Worlds.{asks_in}
+use Rattle.desk_jobs.proofs.EndLemmas.{run_fault}
 use Rattle.desk_jobs.proofs.ReasonLemmas.{fails_among_known, run_fails}
 use Rattle.desk_jobs.proofs.running.run_desk.Goals as goal
 
@@ -41,3 +42,6 @@ returns-in-Err-clause-reason g c clean is =
     (subst (λ b. c.into_store-conn.result ≡ record b.conn { step_limit = None }) same c.into_store-conn.ensures.same)
     (g.R.Read.remaining c.args.reader.now) (λ input. asks_in (lines input))
     (λ first. c.in-Err.ensures.reason sound first (run_fails {T = ℕ} c.in-Err.fault c.into.result c.into.ensures is))
+
+pub returns-in-Err-clause-fault : goal.returns-in-Err-clause-fault
+returns-in-Err-clause-fault g c = run_fault c.in-Err.fault c.into.result c.into.ensures

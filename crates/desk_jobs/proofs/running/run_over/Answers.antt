@@ -2,6 +2,7 @@
 use Rattle.desk_jobs.proofs.RecoveredLemmas.{all_after_recovery, front_after_recovery, front_without_recovery, note_of_recovery}
 use Rattle.desk_lines.specs.Lines.{lines}
 use Rattle.desk_lines.specs.Worlds.{asks_in}
+use Rattle.desk_jobs.proofs.EndLemmas.{recovery_fault, unrefused}
 use Rattle.desk_jobs.proofs.ReasonLemmas.{fails_after, fails_before}
 use Rattle.desk_jobs.proofs.running.run_over.Goals as goal
 
@@ -36,3 +37,10 @@ pub returns-in-Err-clause-reason : goal.returns-in-Err-clause-reason
 returns-in-Err-clause-reason g c clean is =
     fails_before g.S.Store c.args.conn _ (λ input. asks_in (lines input)) (g.R.Read.remaining c.args.reader.now)
     (c.in-Err.ensures.reason clean is)
+
+-- a run refuses what its opening refuses, and nothing else
+pub returns-in-Ok-clause-refused : goal.returns-in-Ok-clause-refused
+returns-in-Ok-clause-refused g c = unrefused _ _ c.run_desk.ensures.taken
+
+pub returns-in-Err-clause-fault : goal.returns-in-Err-clause-fault
+returns-in-Err-clause-fault g c = recovery_fault c.in-Err.end c.in-Err.ensures.fault

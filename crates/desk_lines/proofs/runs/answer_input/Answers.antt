@@ -22,10 +22,10 @@ loop-answered-init g c = record {
   stays_left = λ failed s t leaves. leaves;
   so_far = λ sound s stood input is.
       starts (g.W.Write.contents c.args.writer.now) (g.B.Book.stands c.args.book.now) (g.B.Book.leaves c.args.book.now) s input
-      c.in_ok-unread.unread (g.R.Read.remaining c.args.reader.now) c.in_ok-unread.ensures is stood;
+      c.in_ok-unread.unread (g.R.Read.remaining c.args.reader.now) c.in_ok-unread.ensures.empty is stood;
   may_act = λ sound first s later input is may.
       may_at_first (g.B.Book.may_act first c.args.book.now) s input later c.in_ok-unread.unread (g.R.Read.remaining c.args.reader.now)
-      c.in_ok-unread.ensures is may;
+      c.in_ok-unread.ensures.empty is may;
 }
 
 -- one more line was answered

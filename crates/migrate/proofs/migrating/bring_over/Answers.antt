@@ -1,7 +1,12 @@
-use Rattle.std.proofs.Common.{◌≡◌, true, arith, rules}
+use Rattle.std.proofs.Common.{◌≡◌, inl, true, IsTrue, refl, arith, rules}
 use Rattle.sqlite.specs.State.{HasCleanDisk}
 use Rattle.sqlite.specs.Held.{state}
+use Rattle.desk_sql.specs.Calls.{LeavesNoMore}
+use Rattle.desk_sql.specs.Causes.{HasReason, IsUp}
+use Rattle.desk_sql.specs.Rows.{Tables}
+use Rattle.migrate.specs.Copying.{MayAdd}
 use Rattle.migrate.proofs.CommitLemmas.{Wrote, wrote_from, keeps_new, leaves_new, either_left}
+use Rattle.migrate.proofs.FailLemmas.{not_written, not_committed, stays_through}
 use Rattle.migrate.proofs.migrating.bring_over.Goals as goal
 
 -- the commit succeeded: the connection keeps the same state in the new tables
@@ -45,3 +50,63 @@ returns-in-Err-commit-clause-stop g c clean s numbers keeps =
     = wrote_from g.S.Store old c.transaction-tx.result.conn.now late c.args.meta c.transaction-tx.ensures.begun
     c.write_new.ensures.survives c.in_default.ensures.live c.in_default.ensures.made in
     rw (← same) (λ db left. either_left g.S.Store old late c.args.meta s wrote numbers keeps at_late db (c.commit.ensures.survives.crash at_end db left))
+
+-- Store only for a reason.
+
+-- the new tables were not written because the disk failed or refused
+pub returns-in-Err-clause-store : goal.returns-in-Err-clause-store
+returns-in-Err-clause-store g c clean s numbers keeps up store =
+    let old = c.args.conn.now in
+    let late = c.write_new.new.tx.conn.now in
+    let end = c.rollback.new.self.0 in
+    let same : end ≡ c.conn-1.given.0 = search rules in
+    let at_end : HasCleanDisk (state g.S.Store end) = search rules in
+    let at_late : HasCleanDisk (state g.S.Store late) = omega (arith, c.rollback.ensures.survives.clean) in
+    let from : c.transaction-tx.result.conn.now ≡ record old { in_transaction = true } = c.transaction-tx.ensures.begun in
+    let less : LeavesNoMore g.S.Store (record old { in_transaction = true }) late = rw from at c.write_new.ensures.survives in
+    let begun = state g.S.Store (record old { in_transaction = true }) in
+    let fails : HasCleanDisk (state g.S.Store late) → (t : Tables) → MayAdd begun t → IsUp begun → HasReason begun (state g.S.Store late) c.in-Err.error
+    = rw from at c.in-Err.ensures.reason in
+    rw (← same) (inl (not_written g.S.Store old late end s keeps up at_late less (λ _. ⊥) c.rollback.ensures.survives c.in-Err.error c.fault_of.result
+    fails c.fault_of.ensures.store store))
+
+-- the new tables were not committed because the disk failed or refused, or out of memory
+pub returns-in-Err-commit-clause-store : goal.returns-in-Err-commit-clause-store
+returns-in-Err-commit-clause-store g c clean s numbers keeps up store =
+    let old = c.args.conn.now in
+    let late = c.write_new.new.tx.conn.now in
+    let end = c.commit.new.self.0 in
+    let same : end ≡ c.conn-2-1.given.0 = search rules in
+    let at_end : HasCleanDisk (state g.S.Store end) = search rules in
+    let at_late : HasCleanDisk (state g.S.Store late) = omega (arith, c.commit.ensures.survives.clean) in
+    let from : c.transaction-tx.result.conn.now ≡ record old { in_transaction = true } = c.transaction-tx.ensures.begun in
+    let less : LeavesNoMore g.S.Store (record old { in_transaction = true }) late = rw from at c.write_new.ensures.survives in
+    let wrote : Wrote g.S.Store (record old { in_transaction = true }) late c.args.meta
+    = wrote_from g.S.Store old c.transaction-tx.result.conn.now late c.args.meta c.transaction-tx.ensures.begun
+    c.write_new.ensures.survives c.in_default.ensures.live c.in_default.ensures.made in
+    let begun_inside : IsTrue (state g.S.Store c.transaction-tx.result.conn.now).in_transaction = rw from refl in
+    let inside : IsTrue (state g.S.Store late).in_transaction = c.in_default.ensures.inside at_late begun_inside in
+    rw (← same) (not_committed g.S.Store old late end s keeps up at_late less _ c.commit.ensures.survives c.args.meta numbers wrote inside _
+    (c.in-Err-commit.ensures.err at_end))
+
+-- The store stays up.
+
+pub returns-in-Err-clause-up : goal.returns-in-Err-clause-up
+returns-in-Err-clause-up g c =
+    let old = c.args.conn.now in
+    let late = c.write_new.new.tx.conn.now in
+    let end = c.rollback.new.self.0 in
+    let same : end ≡ c.conn-1.given.0 = search rules in
+    let from : c.transaction-tx.result.conn.now ≡ record old { in_transaction = true } = c.transaction-tx.ensures.begun in
+    let less : LeavesNoMore g.S.Store (record old { in_transaction = true }) late = rw from at c.write_new.ensures.survives in
+    rw (← same) (stays_through g.S.Store old late end (λ _. ⊥) less c.rollback.ensures.survives)
+
+pub returns-in-Err-commit-clause-up : goal.returns-in-Err-commit-clause-up
+returns-in-Err-commit-clause-up g c =
+    let old = c.args.conn.now in
+    let late = c.write_new.new.tx.conn.now in
+    let end = c.commit.new.self.0 in
+    let same : end ≡ c.conn-2-1.given.0 = search rules in
+    let from : c.transaction-tx.result.conn.now ≡ record old { in_transaction = true } = c.transaction-tx.ensures.begun in
+    let less : LeavesNoMore g.S.Store (record old { in_transaction = true }) late = rw from at c.write_new.ensures.survives in
+    rw (← same) (stays_through g.S.Store old late end _ less c.commit.ensures.survives)

@@ -1,9 +1,11 @@
 -- What a crash leaves, and what the connection shows, if the migration did not complete.
-use Rattle.std.proofs.Common.{◌≡◌, Ok, Err, sym, ◌∙◌, rules}
+use Rattle.std.proofs.Common.{◌≡◌, inl, inr, Ok, Err, sym, ◌∙◌, rules}
 use Rattle.desk_sql.specs.declared.versions.Version.TheVariants.{One}
 use Rattle.migrate.specs.Migrating.{LeavesEither, ShowsAsBefore}
 use Rattle.migrate.specs.declared.faults.MigrateFault.TheVariants.{UnknownSchema}
 use Rattle.sqlite.specs.Held.{state}
+use Rattle.migrate.specs.Reasons.{HasTooMany}
+use Rattle.migrate.proofs.FailLemmas.{fails_later}
 use Rattle.migrate.proofs.Reading.{on_err, found_keeps}
 use Rattle.migrate.proofs.Stopping.{left_as_before, shows_as_before, refuses_others, left_either, shows_either}
 use Rattle.migrate.proofs.migrating.migrate.Goals as goal
@@ -56,3 +58,25 @@ returns-clause-left g c clean s stood db may =
     let at_mid = c.bring_over.ensures.sound clean in
     c.in_ok-bring_over.ensures.left clean s (c.in_ok-meta.ensures.numbers at_mid s stood)
     (λ still. found_keeps (state g.S.Store c.read_old.new.conn) s (c.read_old.ensures.same.stands One s stood still)) db may
+
+-- Store only for a reason: the numbers were not read
+pub returns-in_err-meta-clause-reason : goal.returns-in_err-meta-clause-reason
+returns-in_err-meta-clause-reason g c =
+    let why = c.in_err-meta.field-0.0 in
+    let same : c.from_residual.result ≡ Err why = search rules in
+    rw same (λ clean s stood up store. elim (c.in_err-meta.ensures.store clean s stood up store) [
+      | inl faulted ↦ inl faulted
+      | inr many ↦ inr (inr many)
+    ])
+
+-- or the tables were not brought over
+pub returns-in_err-bring_over-clause-reason : goal.returns-in_err-bring_over-clause-reason
+returns-in_err-bring_over-clause-reason g c =
+    let why = c.in_err-bring_over.field-0.0 in
+    let same : c.from_residual-in_err-bring_over.result ≡ Err why = search rules in
+    rw same (λ clean s stood up store. (
+    let at_mid = c.bring_over.ensures.sound clean in
+    fails_later g.S.Store c.args.conn.now c.read_old.new.conn c.bring_over.new.conn s c.in_ok-meta.ensures.up c.in_err-bring_over.ensures.up at_mid up
+    {Q = HasTooMany s}
+    (λ still. c.in_err-bring_over.ensures.store clean s (c.in_ok-meta.ensures.numbers at_mid s stood)
+    (λ was. found_keeps (state g.S.Store c.read_old.new.conn) s (c.read_old.ensures.same.stands One s stood was)) still store)))

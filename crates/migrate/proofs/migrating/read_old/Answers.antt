@@ -1,11 +1,16 @@
 -- The version that was read is that of the tables; a read changes nothing.
-use Rattle.std.proofs.Common.{◌≡◌, sym, ap, subst, ◌∙◌, arith}
+use Rattle.std.proofs.Common.{◌≡◌, inl, inr, sym, ap, subst, ◌∙◌, arith}
 use Rattle.sqlite.specs.State.{HasCleanDisk}
 use Rattle.sqlite.specs.Held.{state}
 use Rattle.desk_sql.proofs.Selecting.{ok_then}
 use Rattle.desk_sql.specs.Versions.{SawVersion}
 use Rattle.desk_sql.specs.declared.meta.Meta.{Meta}
+use Rattle.desk_sql.specs.declared.versions.Version.TheVariants.{One}
+use Rattle.sql_model.specs.Staying.{StaysUp}
+use Rattle.sql_model.proofs.Staying.{stays_up}
 use Rattle.migrate.specs.Migrating.{IsAsBefore, NumbersOld, RefusesNumbers, Tells}
+use Rattle.migrate.specs.Reasons.{FailsToRead}
+use Rattle.migrate.proofs.FailLemmas.{meta_fails, not_memory, too_many_events}
 use Rattle.migrate.proofs.Quiet.{as_before, quiet_same}
 use Rattle.migrate.proofs.Reading.{numbers_read}
 use Rattle.migrate.proofs.Telling.{on_ok, on_errors, saw_read, tells_numbers, tells_fault}
@@ -60,3 +65,31 @@ returns-in-Err-clause-told g c =
     let same : IsAsBefore g.S.Store old new = as_before g.S.Store old new c.read_meta.ensures.survives
     (λ clean. quiet_same _ _ (c.read_meta.ensures.quiet clean)) in
     tells_fault g.S.Store old new c.fault_of.result _ c.fault_of.ensures.memory c.fault_of.ensures.store same
+
+-- Store of numbers that were read says that there are too many events
+pub returns-in-Ok-clause-store : goal.returns-in-Ok-clause-store
+returns-in-Ok-clause-store g c =
+    let old = c.args.conn.now in
+    let new = c.read_meta.new.conn in
+    let meta = c.in-Ok.meta in
+    on_errors (RefusesNumbers meta) (FailsToRead g.S.Store old new) c.old_only.result
+    (λ why is clean s stood up store. (
+    let at_old : HasCleanDisk (state g.S.Store old) = omega (arith, c.read_meta.ensures.survives.clean) in
+    let numbers = numbers_read (state g.S.Store old) (state g.S.Store new) meta (λ v t sees. c.in-Ok.ensures.found v clean t sees) s (stood at_old) in
+    inr (too_many_events meta s numbers (subst (RefusesNumbers meta) store is))))
+    c.old_only.ensures.refused
+
+-- and Store of a reading that failed, that the disk failed or refused
+pub returns-in-Err-clause-store : goal.returns-in-Err-clause-store
+returns-in-Err-clause-store g c clean s stood up store =
+    let old = state g.S.Store c.args.conn.now in
+    let new = state g.S.Store c.read_meta.new.conn in
+    let at_old : HasCleanDisk old = omega (arith, c.read_meta.ensures.survives.clean) in
+    let reason = meta_fails old new s c.in-Err.error (stood at_old) up (λ t sees has. c.in-Err.ensures.reason One clean t sees has up) in
+    inl (not_memory old new c.in-Err.error c.fault_of.result c.fault_of.ensures.store reason store)
+
+-- a read leaves the store up
+pub returns-in-Ok-clause-up : goal.returns-in-Ok-clause-up
+returns-in-Ok-clause-up g c =
+    on_ok (StaysUp g.S.Store c.args.conn.now c.read_meta.new.conn) _ c.old_only.result
+    (λ m is. stays_up g.S.Store c.args.conn.now c.read_meta.new.conn c.read_meta.ensures.survives) c.old_only.ensures.ok

@@ -21,6 +21,15 @@ returns-in-Ok-clause-counts g c clean s desk keeps =
     let told = meta_read seen.tables s (seen.stands found.0.0.was_open) desk c.in-Ok.meta found.1 in
     record { events = told.1; journeys_are = told.2 }
 
+-- and has the version of the tables
+pub returns-in-Ok-clause-version : goal.returns-in-Ok-clause-version
+returns-in-Ok-clause-version g c clean s desk keeps =
+    let old = state g.S.Store c.args.conn.now in
+    let at_old : HasCleanDisk old = omega (arith, c.read_meta.ensures.survives.clean) in
+    let seen = seen_by old s (keeps at_old) in
+    let found = c.in-Ok.ensures.found Two clean seen.tables seen.may in
+    (meta_read seen.tables s (seen.stands found.0.0.was_open) desk c.in-Ok.meta found.1).0
+
 -- the connection keeps that state
 pub returns-in-Ok-clause-same : goal.returns-in-Ok-clause-same
 returns-in-Ok-clause-same g c s keeps clean =

@@ -1,8 +1,9 @@
 -- The cell is the first of the nights that are read from it on.
-use Rattle.std.proofs.Common.{◌≡◌, ◌<◌, refl, sym, subst, arith}
-use Rattle.sql_reads.specs.NightsRead.{IsAmong, IsLater}
+use Rattle.std.proofs.Common.{◌≡◌, ◌<◌, ◌≤◌, refl, sym, subst, arith}
+use Rattle.std.specs.Prelude.{IfSome}
+use Rattle.sql_reads.specs.NightsRead.{AreFew, IsAmong, IsLater}
 use Rattle.sql_reads.specs.declared.nights_read.NightsRead.{NightsRead}
-use Rattle.sql_reads.proofs.ReadLemmas.{both_ok}
+use Rattle.sql_reads.proofs.ReadLemmas.{also_ok, both_ok}
 use Rattle.sql_reads.proofs.nights_read.nights_with.Goals as goal
 
 pub returns-in_default-clause-among : goal.returns-in_default-clause-among
@@ -16,3 +17,16 @@ returns-in_default-clause-among g c =
     let within : 0 < read.count = omega arith in
     (0, subst (λ y. IsLater y 0 x) (sym first) here, within))
     c.read_nights.ensures.first c.read_nights.ensures.count c.read_nights.ensures.first
+
+-- as many nights are read as belong together
+pub returns-in_default-clause-few : goal.returns-in_default-clause-few
+returns-in_default-clause-few g c =
+    let some = c.nights_together.ensures.some in
+    let most = c.nights_together.ensures.few in
+    also_ok c.read_nights.result (λ (read : NightsRead). read.count ≡ c.nights_together.result)
+    (λ (read : NightsRead). IfSome c.args.read AreFew → AreFew read)
+    (λ read count _.
+    let low : 1 ≤ read.count = omega arith in
+    let high : read.count ≤ 64 = omega arith in
+    (low, high))
+    c.read_nights.ensures.count

@@ -1,11 +1,11 @@
-use Rattle.std.proofs.Common.{◌≡◌, inl, inr, true, IsTrue, refl, sym, subst, arith, rules}
+use Rattle.std.proofs.Common.{◌≡◌, inr, true, IsTrue, refl, sym, subst, arith, rules}
 use Rattle.sqlite.specs.State.{HasCleanDisk, KeepsCommit, Survives}
 use Rattle.sqlite.specs.Held.{Held, state}
-use Rattle.sql_model.proofs.Staying.{stays_committing, stays_twice, stays_up}
+use Rattle.sql_model.proofs.Staying.{stays_begun, stays_committing, stays_twice, stays_up}
 use Rattle.sql_writes.specs.Kinds.{Fits, event_rows}
-use Rattle.sql_writes.specs.Permits.{PermitsEvent, event_rowids}
+use Rattle.sql_writes.specs.Permits.{event_rowids}
 use Rattle.sql_writes.proofs.CommitLemmas.{Wrote, keeps_next, either_left}
-use Rattle.sql_writes.proofs.CommitReasons.{Failed, Took, back_rowids, commit_rowids, commit_store, failed_rowids, stays_begun, write_store}
+use Rattle.sql_writes.proofs.CommitReasons.{Took, back_rowids, commit_rowids, commit_store, failed_rowids}
 use Rattle.sql_writes.proofs.EventLemmas.{event_fits}
 use Rattle.sql_writes.proofs.committing.commit_event.Goals as goal
 

@@ -5,10 +5,10 @@ use Rattle.std.specs.Option.{option_copied}
 use Rattle.sqlite.specs.Held.{state}
 use Rattle.desk_sql.specs.Causes.{HasFaulted}
 use Rattle.saga_core.specs.Runs.{asked_by, asks_of, replies_to, state_after}
-use Rattle.saga_core.proofs.RunLemmas.{is_at, replies_to-more, state_after-more}
+use Rattle.saga_core.proofs.RunLemmas.{is_at, replies_to-more, state_after-more, stops}
 use Rattle.sql_model.proofs.Staying.{stays_twice}
 use Rattle.tables.specs.Acting.{AreShort, MayAct, rowids_for}
-use Rattle.tables.specs.BookTerms.{StandsBook}
+use Rattle.tables.specs.BookTerms.{LeavesBook, StandsBook}
 use Rattle.tables.proofs.ActingLemmas.{acts_more, fails_among, next_ask}
 use Rattle.tables.proofs.LookLemmas.{stays_alone}
 use Rattle.tables.proofs.chains.act_all.Goals as goal
@@ -39,6 +39,20 @@ returns-in-Err-act-clause-store g c clean s may short store =
     c.act.ensures.up clean s 0 (c.loop-command.invariant.acts was s 0 (subst (MayAct g.S.Store c.args.book.now s) all may))
     c.in-Err-act.fault c.in-Err-act.ensures.reason (c.loop-command.invariant.short short) store
 
+-- it is the one after those whose replies are returned; memory that ran out before the first leaves all as it was
+pub returns-in-Err-act-clause-fault : goal.returns-in-Err-act-clause-fault
+returns-in-Err-act-clause-fault g c clean s st =
+    let i = c.loop-command.command-index in
+    let was = c.act.ensures.sound clean in
+    let at = is_at c.args.commands.now i c.loop-command-item.result (option_copied c.as_ref.result)
+    c.loop-command-test.true c.loop-command-item.is c.as_ref.ensures.value in
+    stops (StandsBook g.S.Store c.loop-command.book) (StandsBook g.S.Store c.act.new.self) (LeavesBook g.S.Store c.act.new.self) s
+    c.loop-command.replies.items c.in-Err-act.fault at (c.loop-command.invariant.replied was s st)
+    (c.loop-command.invariant.stands was s st) (c.in-Err-act.ensures.memory clean) (c.in-Err-act.ensures.store clean)
+
+pub returns-in-Err-clause-fault : goal.returns-in-Err-clause-fault
+returns-in-Err-clause-fault g c clean s st = record { count = 0; within = omega arith; replied = c.new.ensures.items; left = st }
+
 -- the store stays up
 pub returns-in-Err-act-clause-up : goal.returns-in-Err-act-clause-up
 returns-in-Err-act-clause-up g c =
@@ -60,6 +74,16 @@ returns-clause-acts g c clean s m may =
     let there = subst (λ x. MayAct g.S.Store now (state_after s x) (rowids_for (drop i asks) + m) ⊎ Faulted) all here in
     let left : rowids_for (drop i asks) + m ≡ m = (let all_taken : rowids_for (drop i asks) ≡ 0 = ap rowids_for none in omega (arith, all_taken)) in
     subst (λ x. MayAct g.S.Store now (state_after s asks) x ⊎ Faulted) left there
+
+-- and the book represents the state after them
+pub returns-clause-after : goal.returns-clause-after
+returns-clause-after g c clean s st =
+    let asks = asks_of c.args.commands.now in
+    let i = c.loop-command.command-index in
+    let past = c.loop-command-test.false in
+    let longer = length-map c.args.commands.now asked_by in
+    let all : take i asks ≡ asks = take_all i asks (omega (arith, past, longer)) in
+    subst (λ cs. StandsBook g.S.Store c.loop-command.book (state_after s cs)) all (c.loop-command.invariant.stands clean s st)
 
 -- one more command was answered and executed
 pub loop-command-preserved : goal.loop-command-preserved

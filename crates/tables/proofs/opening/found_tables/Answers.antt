@@ -4,11 +4,13 @@ use Rattle.sqlite.specs.State.{HasCleanDisk, IsRolledBack, KeepsCommit, Survives
 use Rattle.sqlite.specs.Held.{Held, state}
 use Rattle.sqlite.proofs.StateLemmas.{survives_then}
 use Rattle.sqlite.proofs.Callers.{survives_begin}
-use Rattle.desk_sql.specs.Calls.{LeavesNoMore}
+use Rattle.desk_sql.specs.Calls.{LeavesNoMore, MayBuild}
+use Rattle.desk_sql.specs.Causes.{HasReason, IsUp}
+use Rattle.desk_sql.specs.Schema.{no_schema}
 use Rattle.ledger.specs.Answer.{State}
-use Rattle.sql_model.proofs.Staying.{stays_committing, stays_twice, stays_up}
-use Rattle.sql_writes.proofs.CommitReasons.{stays_begun}
+use Rattle.sql_model.proofs.Staying.{stays_begun, stays_committing, stays_twice, stays_up}
 use Rattle.tables.specs.Keeping.{IsKept, IsFound}
+use Rattle.tables.proofs.FoundingReasons.{not_created, not_committed}
 use Rattle.tables.proofs.OpenKept.{HasGoneBack, gone_back, rolled_back, still_bare, was_new, has_founded, keeps_founded, either_means, tells_fault}
 use Rattle.tables.proofs.opening.found_tables.Goals as goal
 
@@ -29,6 +31,23 @@ returns-in-Ok-clause-finds g c clean v s stood =
     let new = was_new v (state g.S.Store old) s found c.requires.bare has.0 in
     let kept = keeps_founded g.S.Store old late g.met.S.Store.settled end has.1 (c.in-Ok.ensures.ok at_end).1 in
     rw (← same) (subst (λ (x : State). IsKept (state g.S.Store end) x) (sym new.1) kept)
+
+-- a store without tables counts as one of the newest version
+pub returns-in-Ok-clause-only : goal.returns-in-Ok-clause-only
+returns-in-Ok-clause-only g c clean v s stood =
+    let old = c.args.conn.now in
+    let begun = c.transaction-tx.result.conn.now in
+    let late = c.make_tables.new.tx.conn.now in
+    let end = c.commit.new.self.0 in
+    let same : end ≡ c.conn-2-1.given.0 = search rules in
+    let at_end : HasCleanDisk (state g.S.Store end) = search rules in
+    let at_late : HasCleanDisk (state g.S.Store late) = omega (arith, c.commit.ensures.survives.clean) in
+    let at_begun : HasCleanDisk (state g.S.Store begun) = omega (arith, c.make_tables.ensures.survives.clean) in
+    let from : begun ≡ record old { in_transaction = true } = c.transaction-tx.ensures.begun in
+    let at_old : HasCleanDisk (state g.S.Store old) = rw from at at_begun in
+    let found : IsFound v (state g.S.Store old) s = stood at_old in
+    let has = has_founded g.S.Store old late c.requires.bare at_late (rw from at c.in_default.ensures.made) (rw from at c.in_default.ensures.live) in
+    (was_new v (state g.S.Store old) s found c.requires.bare has.0).0
 
 pub returns-in-Err-clause-told : goal.returns-in-Err-clause-told
 returns-in-Err-clause-told g c =
@@ -108,3 +127,32 @@ returns-in-Ok-clause-up g c =
     let less = subst (λ (h : Held g.row.S.Denot). Survives (state g.S.Store h) (state g.S.Store late) (λ _. ⊥)) c.transaction-tx.ensures.begun c.make_tables.ensures.survives in
     rw (← same) (stays_begun g.S.Store old end (stays_twice g.S.Store start late end (stays_up g.S.Store start late less)
     (stays_committing g.S.Store late end _ c.commit.ensures.survives) (λ clean. omega (arith, c.commit.ensures.survives.clean))))
+
+-- the tables were not created because the disk failed or refused
+pub returns-in-Err-clause-founds : goal.returns-in-Err-clause-founds
+returns-in-Err-clause-founds g c clean bare up store =
+    let old = c.args.conn.now in
+    let late = c.make_tables.new.tx.conn.now in
+    let end = c.rollback.new.self.0 in
+    let same : end ≡ c.conn-1.given.0 = search rules in
+    let at_end : HasCleanDisk (state g.S.Store end) = search rules in
+    let at_late : HasCleanDisk (state g.S.Store late) = omega (arith, c.rollback.ensures.survives.clean) in
+    let from : c.transaction-tx.result.conn.now ≡ record old { in_transaction = true } = c.transaction-tx.ensures.begun in
+    let begun = state g.S.Store (record old { in_transaction = true }) in
+    let fails : HasCleanDisk (state g.S.Store late) → MayBuild no_schema begun → IsUp begun → HasReason begun (state g.S.Store late) c.in-Err.error
+    = rw from at c.in-Err.ensures.reason in
+    rw (← same) (inl (not_created g.S.Store old late end bare up at_late (λ _. ⊥) c.rollback.ensures.survives c.in-Err.error c.fault_of.result
+    fails c.fault_of.ensures.memory (c.opening_fault.ensures.store.0 store)))
+
+-- the tables were not committed because the disk failed or refused, or out of memory
+pub returns-in-Err-commit-clause-founds : goal.returns-in-Err-commit-clause-founds
+returns-in-Err-commit-clause-founds g c clean bare up store =
+    let old = c.args.conn.now in
+    let late = c.make_tables.new.tx.conn.now in
+    let end = c.commit.new.self.0 in
+    let same : end ≡ c.conn-2-1.given.0 = search rules in
+    let at_end : HasCleanDisk (state g.S.Store end) = search rules in
+    let at_late : HasCleanDisk (state g.S.Store late) = omega (arith, c.commit.ensures.survives.clean) in
+    let from : c.transaction-tx.result.conn.now ≡ record old { in_transaction = true } = c.transaction-tx.ensures.begun in
+    let less : LeavesNoMore g.S.Store (record old { in_transaction = true }) late = rw from at c.make_tables.ensures.survives in
+    rw (← same) (not_committed g.S.Store old late end bare up at_late less (rw from at c.in_default.ensures.made) _ (c.in-Err-commit.ensures.err at_end))

@@ -5,7 +5,7 @@ use Rattle.sqlite.specs.State.{HasCleanDisk}
 use Rattle.sqlite.specs.Held.{state}
 use Rattle.desk_sql.specs.declared.versions.Version.{Version}
 use Rattle.desk_sql.specs.Versions.{number_of, AreOfVersion}
-use Rattle.tables.proofs.OpenKept.{has_version, has_number, keeps_named, still_found}
+use Rattle.tables.proofs.OpenKept.{has_version, has_number, is_named, keeps_named, still_found}
 use Rattle.commands.specs.declared.replies.Fault.TheVariants.{Store as FaultStore}
 use Rattle.desk_sql.specs.Readable.{HasMeta}
 use Rattle.sql_model.proofs.Staying.{of_error, sees_again, stays_up}
@@ -22,6 +22,17 @@ returns-in-Some-clause-finds g c clean v s stood =
     = subst (λ (o : Option Version). (w : Version) → o ≡ Some w ↔ m.version ≡ number_of w) c.in-Some.is c.from_number.ensures in
     keeps_named old new m (λ w t sees. c.in-Ok.ensures.found w clean t sees) v s (stood at_old) c.requires.filled c.in-Some.version named
     (λ db may. elim (c.read_meta.ensures.survives.crash clean db may) [ inl before ↦ before | inr none ↦ absurd none ])
+
+-- the connection represented states in tables of that version alone
+pub returns-in-Some-clause-only : goal.returns-in-Some-clause-only
+returns-in-Some-clause-only g c clean v s stood =
+    let old = state g.S.Store c.args.conn.now in
+    let new = state g.S.Store c.read_meta.new.conn in
+    let at_old : HasCleanDisk old = omega (arith, c.read_meta.ensures.survives.clean) in
+    let m = c.in-Ok.meta in
+    let named : (w : Version) → Some c.in-Some.version ≡ Some w ↔ m.version ≡ number_of w
+    = subst (λ (o : Option Version). (w : Version) → o ≡ Some w ↔ m.version ≡ number_of w) c.in-Some.is c.from_number.ensures in
+    is_named old new m (λ w t sees. c.in-Ok.ensures.found w clean t sees) v s (stood at_old) c.requires.filled c.in-Some.version named
 
 pub returns-in-Some-clause-version : goal.returns-in-Some-clause-version
 returns-in-Some-clause-version g c clean v t sees =

@@ -1,0 +1,355 @@
+-- Why a text that creates a table fails: out of memory, or the disk failed. No rule refuses a text whose names are new and which the
+-- list of objects can hold. For `founding`, and for the migration of older tables.
+use Rattle.std.proofs.Common.{◌≡◌, ◌<◌, ◌≤◌, ◌+◌, ◌-◌, ◌*◌, ◌^◌, ◌∙◌, ℕ, zero, suc, min, inl, inr, List, [], ◌∷◌, length, codes, Option, None, Some, Ok, Err, Bool, true, false, nat_lt, IsUtf8, IsAscii, refl, sym, ap, subst, arith}
+use Rattle.std.specs.List.{AllByRecursion, list_all}
+use Rattle.std.proofs.lemmas.Bool.{and_parts}
+use Rattle.std.proofs.lemmas.Bool.Decides.{nat_tests}
+use Rattle.std.proofs.lemmas.Str.{IsUtf8-from_ascii}
+use Rattle.sqlite_value.specs.declared.value.Value.TheVariants.{Text}
+use Rattle.sqlite_value.specs.Order.{value_cmp}
+use Rattle.sqlite_trees.specs.Sound.{fits_kind, is_free_name, same_name, begins}
+use Rattle.sqlite_schema.specs.declared.schema.Index.{Index}
+use Rattle.sqlite_schema.specs.declared.schema.Schema.{Schema}
+use Rattle.sqlite_schema.specs.Rules.{table_reals, index_reals}
+use Rattle.sqlite_rules.specs.Lists.{Has}
+use Rattle.sqlite_rules.proofs.ListLemmas.{all_has}
+use Rattle.sqlite_catalog.specs.declared.error.Refusal.{Refusal}
+use Rattle.sqlite_catalog.specs.declared.error.Refusal.TheVariants.{Invalid, NameTaken, BadName, TooBig, BadKey, BadText, Violates}
+use Rattle.sqlite_catalog.specs.Listing.{is_formed, is_fit}
+use Rattle.sqlite_catalog.specs.Calls.{RefusesTable}
+use Rattle.sqlite.specs.Table.{Table}
+use Rattle.sqlite.specs.Tree.{Trees}
+use Rattle.sqlite.specs.Command.TheVariants.{CreateTable}
+use Rattle.sqlite.specs.Compile.{table_defined_by}
+use Rattle.sqlite.specs.Change.{created, next_tree, is_used, is_reserved, automatics}
+use Rattle.sqlite.specs.Rows.{Then}
+use Rattle.sqlite.specs.Does.{Does, Defines, MakesTable, MakesSequence, lacks_sequence}
+use Rattle.sqlite.specs.declared.error.Error.{Error}
+use Rattle.sqlite.specs.Listing.{understood}
+use Rattle.sqlite.specs.State.{State, mode_of, ExecutesInside, Survives}
+use Rattle.sqlite.proofs.Callers.{IsPlain, command_of, statement_of}
+use Rattle.sqlite_tied.specs.Compute.{everything}
+use Rattle.desk_sql.specs.Schema.{meta_at, stock_at, batch_at, journey_at, step_at, entry_at, answer_at, entry2_at, mark_at, no_schema, first_schema, seven_schema}
+use Rattle.desk_sql.specs.Texts.{meta_text, stock_text, batch_text, step_text, journey_text, entry_text, answer_text, entry2_text, mark_text}
+use Rattle.desk_sql.specs.Calls.{Builds}
+use Rattle.desk_sql.specs.Causes.{IsUp, HasReason}
+use Rattle.desk_sql.proofs.Causing.{takes}
+use Rattle.desk_sql.proofs.Making.{schema_1, schema_2, schema_3, schema_5, schema_6, schema_8}
+use Rattle.desk_sql.proofs.Refusing.{gives_on, seen_with, statement_reason}
+use Rattle.desk_sql.proofs.Writing.{same_value}
+
+-- each byte is ASCII
+abbrev pub is_ascii : List ℕ → Bool
+is_ascii bytes = list_all (λ b. nat_lt b 128) bytes
+
+-- Beside this schema the text creates this table: its name and those of its indexes are new, and it meets no limit of the store.
+pub record IsNewTable (schema : Schema) (sql : List ℕ) (table : Table) : Type 0 where
+  -- the text is one statement without parameters
+  pub meant : command_of (understood schema sql) ≡ CreateTable
+  pub plain : IsPlain (understood schema sql)
+  pub alone : statement_of sql (understood schema sql) ≡ sql
+  pub whole : takes (length sql) 0 (understood schema sql) ≡ true
+  pub defined : table_defined_by sql ≡ Ok table
+  -- its letters and its names
+  pub letters : is_ascii sql ≡ true
+  pub name_letters : is_ascii table.name ≡ true
+  pub unused : is_used schema table.name ≡ false
+  pub unused_indexes : AllByRecursion (λ (i : Index). is_used schema i.name ≡ false) (automatics table 0 0 table.uniques)
+  pub unreserved : is_reserved table.name ≡ false
+  -- the limits of the store
+  pub few : nat_lt (next_tree schema + length table.uniques) 65536 ≡ true
+  pub reals : table_reals table ≡ 0
+  pub key_reals : AllByRecursion (λ (key : List ℕ). index_reals (table_reals table) key ≡ 0) table.uniques
+  pub short : nat_lt (2 * length table.name + length sql + 200) 65536 ≡ true
+  -- its key, its row in the list of objects, and that it needs no counter
+  pub formed : is_formed table ≡ true
+  pub listed : is_fit (Text (codes "table")) (Text table.name) (Text table.name) (Text sql) ≡ true
+  pub uncounted : lacks_sequence (created schema table) ≡ false
+
+under : (a b : ℕ) → nat_lt a b ≡ true → a < b
+under a b less = grind (arith, nat_tests)
+
+no_reals : (n : ℕ) → n ≡ 0 → 2 ^ 64 ≤ n → ⊥
+no_reals n none big = omega (arith, none, big)
+
+ascii : (bytes : List ℕ) → is_ascii bytes ≡ true → IsAscii bytes
+ascii [] all i = omega arith
+ascii (b ∷ bytes) all zero = under b 128 (and_parts (nat_lt b 128) (is_ascii bytes) all).0
+ascii (b ∷ bytes) all (suc i) = ascii bytes (and_parts (nat_lt b 128) (is_ascii bytes) all).1 i
+
+-- bytes of ASCII are a text
+as_text : (bytes : List ℕ) → is_ascii bytes ≡ true → IsUtf8 bytes
+as_text bytes all = IsUtf8-from_ascii bytes (ascii bytes all)
+
+module _ (schema : Schema) (sql : List ℕ) (table : Table) (it : IsNewTable schema sql table) where
+  -- the text defines no other table
+  only : (made : Table) → table_defined_by sql ≡ Ok made → made ≡ table
+  only made defined =
+      let both : Ok made ≡ Ok table = sym defined ∙ it.defined in
+      same_value both
+
+  -- no rule refuses it
+  unrefused : (why : Refusal) → ¬ RefusesTable schema sql why
+  unrefused (Invalid e) wrong = let no = sym it.defined ∙ wrong in cc
+  unrefused NameTaken (made, defined, inl used) =
+      let no = sym used ∙ ap (λ (t : Table). is_used schema t.name) (only made defined) ∙ it.unused in cc
+  unrefused NameTaken (made, defined, inr (index, among, used)) =
+      let here = subst (λ (t : Table). Has (automatics t 0 0 t.uniques) index) (only made defined) among in
+      let free = all_has (λ (i : Index). is_used schema i.name ≡ false) (automatics table 0 0 table.uniques) index it.unused_indexes here in
+      let no = sym used ∙ free in cc
+  unrefused BadName (made, defined, inl no_text) =
+      no_text (subst (λ (t : Table). IsUtf8 t.name) (sym (only made defined)) (as_text table.name it.name_letters))
+  unrefused BadName (made, defined, inr (reserved, own)) =
+      let no = sym reserved ∙ ap (λ (t : Table). is_reserved t.name) (only made defined) ∙ it.unreserved in cc
+  unrefused TooBig (made, defined, inl many) =
+      let low : next_tree schema + length table.uniques < 65536 = under (next_tree schema + length table.uniques) 65536 it.few in
+      let high = subst (λ (t : Table). 65536 ≤ next_tree schema + length t.uniques) (only made defined) many in
+      omega (arith, low, high)
+  unrefused TooBig (made, defined, inr (inl big)) =
+      no_reals (table_reals table) it.reals (subst (λ (t : Table). 2 ^ 64 ≤ table_reals t) (only made defined) big)
+  unrefused TooBig (made, defined, inr (inr (key, among, big))) =
+      let here = subst (λ (t : Table). Has t.uniques key) (only made defined) among in
+      let none = all_has (λ (k : List ℕ). index_reals (table_reals table) k ≡ 0) table.uniques key it.key_reals here in
+      no_reals (index_reals (table_reals table) key) none (subst (λ (t : Table). 2 ^ 64 ≤ index_reals (table_reals t) key) (only made defined) big)
+  unrefused BadKey (made, defined, unformed) = let no = sym unformed ∙ ap is_formed (only made defined) ∙ it.formed in cc
+  unrefused BadText (made, defined, unfit) =
+      let no = sym unfit ∙ ap (λ (t : Table). is_fit (Text (codes "table")) (Text t.name) (Text t.name) (Text sql)) (only made defined) ∙ it.listed in cc
+  unrefused (Violates rule) none = none
+
+  -- and its row fits the list of objects, whatever the trees are
+  unstopped : (db : Trees) (stop : Option Error) → ¬ MakesTable sql (record { schema = schema; trees = db }) (Err stop)
+  unstopped db None (made, defined, long) =
+      let low : 2 * length table.name + length sql + 200 < 65536 = under (2 * length table.name + length sql + 200) 65536 it.short in
+      let high = subst (λ (t : Table). 10 ^ 9 ≤ 2 * length t.name + length sql + 200) (only made defined) long in
+      omega (arith, low, high)
+  unstopped db (Some e) (inl no_text) = no_text.0 (as_text sql it.letters)
+  unstopped db (Some e) (inr refused) = unrefused refused.0 refused.1
+
+  goes : (old : State) (stop : Option Error) → ¬ Defines (mode_of old) (Then (MakesTable sql (seen_with schema old)) MakesSequence) (Err stop)
+  goes old stop (inl (first, inl (stopped, unmade, same), is)) = unstopped old.now.trees stopped unmade
+  goes old stop (inl (first, inr (after, made, sequence), is)) =
+      let schema_is = made.is ∙ ap (created schema) (only made.table made.defined) in
+      let plainly : lacks_sequence after.schema ≡ false = ap lacks_sequence schema_is ∙ it.uncounted in
+      gives_on first (rw plainly at sequence)
+  goes old stop (inr (after, made, gives)) = gives_on stop gives
+
+  -- so it fails out of memory, or where the disk failed or refused
+  pub create_reason : (old new : State) (e : Error) → IsUp old → old.now.schema ≡ schema → ExecutesInside 0 sql [] old new (Err e) → HasReason old new e
+  create_reason old new e up has ran =
+      statement_reason sql CreateTable [] it.meant it.plain it.whole refl refl old new up has
+      (λ stop does. goes old stop (subst (λ t. Does old.step_limit (mode_of old) [] (seen_with schema old) t None CreateTable (Err stop)) it.alone does))
+      e ran
+
+-- One text after another.
+
+-- a store that was up is so once a table was created
+pub up_built : (a b : State) (s : Schema) → Survives a b (λ _. ⊥) → Builds a b s → IsUp a → IsUp b
+up_built a b s survives built up = record { is_open = built.is_open; unlimited = survives.limit ∙ up.unlimited }
+
+later : (a b c : ℕ) → a ≤ b → min (b + 1) (2 ^ 64 - 1) ≤ c → min (a + 1) (2 ^ 64 - 1) ≤ c
+later a b c low more = omega (arith, low, more)
+
+-- a reason of a later statement is one of all
+pub reason_since : (a b c : State) (e : Error) → a.faults ≤ b.faults → HasReason b c e → HasReason a c e
+reason_since a b c e low (inl memory) = inl memory
+reason_since a b c e low (inr faulted) = inr (later a.faults b.faults c.faults low faulted)
+
+-- The texts, each beside the tables that those before it created.
+
+pub meta_is_new : IsNewTable no_schema meta_text (meta_at 0)
+unfolding understood everything value_cmp fits_kind is_free_name same_name begins lib.Ieee.is_nan lib.Ieee.lt
+meta_is_new = record {
+  meant = refl;
+  plain = (refl, refl);
+  alone = refl;
+  whole = refl;
+  defined = refl;
+  letters = refl;
+  name_letters = refl;
+  unused = refl;
+  unused_indexes = tt;
+  unreserved = refl;
+  few = refl;
+  reals = refl;
+  key_reals = tt;
+  short = refl;
+  formed = refl;
+  listed = refl;
+  uncounted = refl;
+}
+
+pub stock_is_new : IsNewTable schema_1 stock_text (stock_at 0)
+unfolding understood everything value_cmp fits_kind is_free_name same_name begins lib.Ieee.is_nan lib.Ieee.lt
+stock_is_new = record {
+  meant = refl;
+  plain = (refl, refl);
+  alone = refl;
+  whole = refl;
+  defined = refl;
+  letters = refl;
+  name_letters = refl;
+  unused = refl;
+  unused_indexes = (refl, tt);
+  unreserved = refl;
+  few = refl;
+  reals = refl;
+  key_reals = (refl, tt);
+  short = refl;
+  formed = refl;
+  listed = refl;
+  uncounted = refl;
+}
+
+pub batch_is_new : IsNewTable schema_2 batch_text (batch_at 0)
+unfolding understood everything value_cmp fits_kind is_free_name same_name begins lib.Ieee.is_nan lib.Ieee.lt
+batch_is_new = record {
+  meant = refl;
+  plain = (refl, refl);
+  alone = refl;
+  whole = refl;
+  defined = refl;
+  letters = refl;
+  name_letters = refl;
+  unused = refl;
+  unused_indexes = (refl, (refl, tt));
+  unreserved = refl;
+  few = refl;
+  reals = refl;
+  key_reals = (refl, (refl, tt));
+  short = refl;
+  formed = refl;
+  listed = refl;
+  uncounted = refl;
+}
+
+pub journey_is_new : IsNewTable schema_3 journey_text (journey_at 0)
+unfolding understood everything value_cmp fits_kind is_free_name same_name begins lib.Ieee.is_nan lib.Ieee.lt
+journey_is_new = record {
+  meant = refl;
+  plain = (refl, refl);
+  alone = refl;
+  whole = refl;
+  defined = refl;
+  letters = refl;
+  name_letters = refl;
+  unused = refl;
+  unused_indexes = (refl, tt);
+  unreserved = refl;
+  few = refl;
+  reals = refl;
+  key_reals = (refl, tt);
+  short = refl;
+  formed = refl;
+  listed = refl;
+  uncounted = refl;
+}
+
+pub step_is_new : IsNewTable first_schema step_text (step_at 0)
+unfolding understood everything value_cmp fits_kind is_free_name same_name begins lib.Ieee.is_nan lib.Ieee.lt
+step_is_new = record {
+  meant = refl;
+  plain = (refl, refl);
+  alone = refl;
+  whole = refl;
+  defined = refl;
+  letters = refl;
+  name_letters = refl;
+  unused = refl;
+  unused_indexes = (refl, tt);
+  unreserved = refl;
+  few = refl;
+  reals = refl;
+  key_reals = (refl, tt);
+  short = refl;
+  formed = refl;
+  listed = refl;
+  uncounted = refl;
+}
+
+pub entry_is_new : IsNewTable schema_5 entry_text (entry_at 0)
+unfolding understood everything value_cmp fits_kind is_free_name same_name begins lib.Ieee.is_nan lib.Ieee.lt
+entry_is_new = record {
+  meant = refl;
+  plain = (refl, refl);
+  alone = refl;
+  whole = refl;
+  defined = refl;
+  letters = refl;
+  name_letters = refl;
+  unused = refl;
+  unused_indexes = tt;
+  unreserved = refl;
+  few = refl;
+  reals = refl;
+  key_reals = tt;
+  short = refl;
+  formed = refl;
+  listed = refl;
+  uncounted = refl;
+}
+
+pub answer_is_new : IsNewTable schema_6 answer_text (answer_at 0)
+unfolding understood everything value_cmp fits_kind is_free_name same_name begins lib.Ieee.is_nan lib.Ieee.lt
+answer_is_new = record {
+  meant = refl;
+  plain = (refl, refl);
+  alone = refl;
+  whole = refl;
+  defined = refl;
+  letters = refl;
+  name_letters = refl;
+  unused = refl;
+  unused_indexes = (refl, tt);
+  unreserved = refl;
+  few = refl;
+  reals = refl;
+  key_reals = (refl, tt);
+  short = refl;
+  formed = refl;
+  listed = refl;
+  uncounted = refl;
+}
+
+pub entry2_is_new : IsNewTable seven_schema entry2_text (entry2_at 0)
+unfolding understood everything value_cmp fits_kind is_free_name same_name begins lib.Ieee.is_nan lib.Ieee.lt
+entry2_is_new = record {
+  meant = refl;
+  plain = (refl, refl);
+  alone = refl;
+  whole = refl;
+  defined = refl;
+  letters = refl;
+  name_letters = refl;
+  unused = refl;
+  unused_indexes = tt;
+  unreserved = refl;
+  few = refl;
+  reals = refl;
+  key_reals = tt;
+  short = refl;
+  formed = refl;
+  listed = refl;
+  uncounted = refl;
+}
+
+pub mark_is_new : IsNewTable schema_8 mark_text (mark_at 0)
+unfolding understood everything value_cmp fits_kind is_free_name same_name begins lib.Ieee.is_nan lib.Ieee.lt
+mark_is_new = record {
+  meant = refl;
+  plain = (refl, refl);
+  alone = refl;
+  whole = refl;
+  defined = refl;
+  letters = refl;
+  name_letters = refl;
+  unused = refl;
+  unused_indexes = (refl, tt);
+  unreserved = refl;
+  few = refl;
+  reals = refl;
+  key_reals = (refl, tt);
+  short = refl;
+  formed = refl;
+  listed = refl;
+  uncounted = refl;
+}

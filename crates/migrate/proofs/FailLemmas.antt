@@ -1,0 +1,126 @@
+-- Why a migration failed, from call to call. For the functions of `migrating`.
+use Rattle.std.proofs.Common.{◌≡◌, ◌≢◌, ◌⊎◌, ◌↔◌, ◌≤◌, inl, inr, List, [], ◌∷◌, length, true, IsTrue, refl, ap, subst, arith}
+use Rattle.sqlite.specs.Tree.{Trees}
+use Rattle.sqlite.specs.Store.{Ghosts}
+use Rattle.sqlite.specs.Held.{Held, state}
+use Rattle.sqlite.specs.State.{State as Connected, HasCleanDisk, Survives}
+use Rattle.sqlite.specs.Steps.{FailsToCommit}
+use Rattle.sqlite.specs.declared.error.Error.{Error}
+use Rattle.sqlite.specs.declared.error.Error.TheVariants.{SqliteFailure}
+use Rattle.sqlite.specs.declared.error.ErrorCode.TheVariants.{OutOfMemory}
+use Rattle.desk_sql.specs.declared.meta.Meta.{Meta}
+use Rattle.desk_sql.specs.declared.versions.Version.TheVariants.{One}
+use Rattle.desk_sql.specs.Calls.{MaySeeIn}
+use Rattle.desk_sql.specs.Causes.{HasFaulted, HasReason, IsUp}
+use Rattle.desk_sql.specs.Readable.{HasMeta}
+use Rattle.desk_sql.specs.Rows.{Tables, MetaRow}
+use Rattle.ledger.specs.Answer.{State}
+use Rattle.ledger.specs.Ledger.{Event, Loaded, Began, Did, journeys}
+use Rattle.sql_model.specs.ExpectedRows.{meta_in}
+use Rattle.sql_model.specs.Keeping.{IsFound, KeepsIn, SeesOf}
+use Rattle.sql_model.specs.Staying.{StaysUp}
+use Rattle.sql_model.proofs.Staying.{commit_why, faulted_earlier, faulted_later, stays_begun, stays_committing, stays_twice, stays_up}
+use Rattle.migrate.specs.Copying.{MayAdd}
+use Rattle.migrate.specs.Migrating.{AreNumbersOf, RefusesNumbers}
+use Rattle.migrate.specs.Reasons.{MigrationRanOut, HasTooMany}
+use Rattle.migrate.specs.declared.faults.MigrateFault.{MigrateFault}
+use Rattle.migrate.specs.declared.faults.MigrateFault.TheVariants.{Store}
+use Rattle.migrate.proofs.CommitLemmas.{Wrote}
+
+-- an error that was told as Store was the store's own
+pub not_memory : (old new : Connected) (e : Error) (why : MigrateFault) → (why ≡ Store ↔ (e ≢ SqliteFailure OutOfMemory)) → HasReason old new e
+    → why ≡ Store → HasFaulted old new
+not_memory old new e why store (inl memory) is = absurd (store.0 is memory)
+not_memory old new e why store (inr faulted) is = faulted
+
+-- there are no more journeys than events
+few_journeys : (l : List Event) → length (journeys l) ≤ length l
+few_journeys [] = omega arith
+few_journeys (Loaded name rows ∷ l) = omega (arith, few_journeys l)
+few_journeys (Began agent plan ∷ l) = omega (arith, few_journeys l)
+few_journeys (Did journey item ∷ l) = omega (arith, few_journeys l)
+
+-- numbers of version 1 that are refused as the store's are those of a ledger with too many events
+pub too_many_events : (m : Meta) (s : State) → AreNumbersOf m s → RefusesNumbers m Store → HasTooMany s
+too_many_events m s numbers refused =
+    let events : m.events ≡ length s.ledger = ap (λ (r : MetaRow). r.events) numbers in
+    let count : m.journeys ≡ length (journeys s.ledger) = ap (λ (r : MetaRow). r.journeys) numbers in
+    let few = few_journeys s.ledger in
+    elim refused.1 [
+      | inl many ↦ omega (arith, events, many)
+      | inr many ↦ omega (arith, count, few, many)
+    ]
+
+-- a reading of meta of a desk of version 1 fails for a reason
+pub meta_fails : (old new : Connected) (s : State) (e : Error) → IsFound One old s → IsUp old
+    → ((t : Tables) → MaySeeIn One old t → HasMeta t → HasReason old new e) → HasReason old new e
+meta_fails old new s e found up fails =
+    let desk : SeesOf One old s = found.sees up.is_open in
+    fails desk.tables (λ _. record { schema = desk.schema; rows = desk.shown; sound = desk.sound }) (meta_in One s.ledger, desk.stands.meta)
+
+-- A transaction over tables of version 1 that a connection kept.
+module _ {S : Type 0} (g : Ghosts S) (old late end : Held S) (s : State) (keeps : KeepsIn One (state g old) s) (up : IsUp (state g old))
+    (clean : HasCleanDisk (state g late)) (less : Survives (state g (record old { in_transaction = true })) (state g late) (λ _. ⊥)) where
+  abbrev begun : Held S
+  begun = record old { in_transaction = true }
+
+  -- the tables that it saw
+  saw : SeesOf One (state g old) s
+  saw = (keeps (omega (arith, less.clean))).sees up.is_open
+
+  may_add : MayAdd (state g begun) saw.tables
+  may_add = record { inside = refl; sees = λ _. record { schema = saw.schema; rows = saw.shown; sound = saw.sound } }
+
+  up_begun : IsUp (state g begun)
+  up_begun = record { is_open = up.is_open; unlimited = up.unlimited }
+
+  -- tables that were not written are Store only where the disk failed or refused
+  pub not_written : (Ends : Trees → Type 0) → Survives (state g late) (state g end) Ends → (e : Error) (why : MigrateFault)
+      → (HasCleanDisk (state g late) → (t : Tables) → MayAdd (state g begun) t → IsUp (state g begun) → HasReason (state g begun) (state g late) e)
+      → (why ≡ Store ↔ (e ≢ SqliteFailure OutOfMemory)) → why ≡ Store → HasFaulted (state g old) (state g end)
+  not_written Ends back e why fails store is =
+      let faulted : HasFaulted (state g begun) (state g late)
+      = not_memory (state g begun) (state g late) e why store (fails clean saw.tables may_add up_begun) is in
+      faulted_earlier (state g begun) (state g late) (state g end) faulted back.counts
+
+  -- tables that were not committed are Store only there, or where the commit ran out of memory
+  pub not_committed : (Ends : Trees → Type 0) → Survives (state g late) (state g end) Ends → (m : Meta) → AreNumbersOf m s → Wrote g begun late m
+      → IsTrue (state g late).in_transaction → (e : Error) → FailsToCommit (state g late) (state g end) e
+      → HasFaulted (state g old) (state g end) ⊎ MigrationRanOut g end s
+  not_committed Ends back m numbers wrote inside e failed = elim (less.closes clean up.is_open) [
+    | inr faulted ↦ inl (faulted_earlier (state g begun) (state g late) (state g end) faulted back.counts)
+    | inl live ↦ elim (commit_why (state g late) (state g end) e live inside failed) [
+      | inl faulted ↦ inl (faulted_later (state g begun) (state g late) (state g end) less.counts faulted)
+      | inr is ↦ inr (record {
+        numbers = m;
+        are = numbers;
+        tables = saw.tables;
+        stands = saw.stands;
+        late = late;
+        wrote = wrote.made clean saw.tables may_add;
+        failed = subst (λ x. FailsToCommit (state g late) (state g end) x) is failed;
+      })
+    ]
+  ]
+
+-- a store stays up through a transaction, however it ends
+pub stays_through : {S : Type 0} (g : Ghosts S) (old late end : Held S) (Ends : Trees → Type 0)
+    → Survives (state g (record old { in_transaction = true })) (state g late) (λ _. ⊥) → Survives (state g late) (state g end) Ends → StaysUp g old end
+stays_through g old late end Ends less ended =
+    let begun = record old { in_transaction = true } in
+    stays_begun g old end (stays_twice g begun late end (stays_up g begun late less) (stays_committing g late end Ends ended)
+    (λ clean. omega (arith, ended.clean)))
+
+-- A fault after the numbers were read.
+module _ {S : Type 0} (g : Ghosts S) (old mid new : Held S) (s : State) (read : StaysUp g old mid) (brought : StaysUp g mid new)
+    (clean : HasCleanDisk (state g mid)) (up : IsUp (state g old)) where
+  -- what failed then failed for a reason since the beginning
+  pub fails_later : {Q : Type 0} → (IsUp (state g mid) → HasFaulted (state g mid) (state g new) ⊎ MigrationRanOut g new s)
+      → HasFaulted (state g old) (state g new) ⊎ (MigrationRanOut g new s ⊎ Q)
+  fails_later fails = elim (read.up clean up) [
+    | inr faulted ↦ inl (faulted_earlier (state g old) (state g mid) (state g new) faulted brought.counts)
+    | inl still ↦ elim (fails still) [
+      | inl faulted ↦ inl (faulted_later (state g old) (state g mid) (state g new) read.counts faulted)
+      | inr ran ↦ inr (inl ran)
+    ]
+  ]
