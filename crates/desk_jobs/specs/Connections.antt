@@ -29,7 +29,7 @@ module _ {S : Type 0} (g : Ghosts S) (h : Held S) where
   StillRepresents s = (v : Version) × RepresentsIn v s
 
 module _ {S : Type 0} (g : Ghosts S) (old new : Held S) where
-  -- the refusal names the version of the tables, which is not the newest; so the connection represented no state
+  -- the refusal names the version of the tables, which is not the newest; in tables of the newest nothing was represented
   abbrev pub RefusesOtherTables : Refusal → Type 0
   RefusesOtherTables (UnknownSchema n) = SawOther g old new n
   RefusesOtherTables _ = ⊥

@@ -71,9 +71,6 @@ HaveWantTexts journey t = Each AreWantTexts (filter (is_step_of journey) t.step)
 abbrev pub HaveOptionTexts : ℕ → ℕ → Tables → Type 0
 HaveOptionTexts journey place t = Each AreWantTexts (filter (is_option_of journey place) t.step)
 
-abbrev pub HaveCellTexts : Tables → Type 0
-HaveCellTexts t = Each AreCellTexts t.stock
-
 abbrev pub HasReplyText : List ℕ → List ℕ → Tables → Type 0
 HasReplyText agent mark t = Each IsReplyText (filter (is_for agent mark) t.answer)
 

@@ -1,33 +1,22 @@
 -- Why an event is not committed, and what is left of the rowids. For the functions of `committing`.
 use Rattle.std.proofs.Common.{◌≡◌, ◌⊎◌, ◌+◌, inl, inr, ℕ, true, false, IsTrue, refl, sym, subst, ◌∙◌, arith}
-use Rattle.std.specs.Prelude.{◌↔◌}
-use Rattle.sqlite.specs.Tree.{Trees}
 use Rattle.sqlite.specs.Store.{Ghosts}
 use Rattle.sqlite.specs.Effect.{Database}
-use Rattle.sqlite.specs.State.{State as Connected, HasCleanDisk, IsRolledBack, KeepsCommit, Survives, Shows as Sees2}
+use Rattle.sqlite.specs.State.{State as Connected, HasCleanDisk, IsRolledBack, KeepsCommit, Survives}
 use Rattle.sqlite.specs.Steps.{FailsToCommit}
 use Rattle.sqlite.specs.Held.{Held, state}
 use Rattle.sqlite.specs.declared.error.Error.{Error}
-use Rattle.sqlite.specs.declared.error.Error.TheVariants.{SqliteFailure}
-use Rattle.sqlite.specs.declared.error.ErrorCode.TheVariants.{OutOfMemory as RanShort}
-use Rattle.commands.specs.declared.replies.Fault.{Fault}
-use Rattle.commands.specs.declared.replies.Fault.TheVariants.{Memory, Store}
 use Rattle.desk_sql.specs.Calls.{MayRun}
-use Rattle.desk_sql.specs.Causes.{IsUp, HasFaulted, HasReason}
+use Rattle.desk_sql.specs.Causes.{IsUp, HasFaulted}
 use Rattle.desk_sql.specs.Rows.{Tables}
 use Rattle.desk_sql.specs.Writable.{HasRowids}
 use Rattle.desk_sql.proofs.Rowids.{rowids_fewer}
 use Rattle.ledger.specs.Answer.{State}
 use Rattle.sql_model.specs.Keeping.{Keeps, SeesDesk}
 use Rattle.sql_model.specs.Standing.{StandsFor}
-use Rattle.sql_model.proofs.Staying.{commit_why, faulted_earlier, faulted_later, of_error}
+use Rattle.sql_model.proofs.Staying.{commit_why, faulted_later}
 use Rattle.sql_writes.specs.Commits.{RanOut}
 use Rattle.sql_writes.proofs.CommitLemmas.{Wrote}
-
--- a transaction that began here failed to write, for a reason
-pub record Failed {S : Type 0} (g : Ghosts S) (start late : Held S) (needed : ℕ) (Permits : Tables → Type 0) (e : Error) : Type 0 where
-  pub why : HasCleanDisk (state g late) → (t : Tables) → MayRun (state g start) t → Permits t
-      → HasRowids needed (state g start).now.trees → IsUp (state g start) → HasReason (state g start) (state g late) e
 
 -- a transaction that began here took so many rowids
 pub record Took {S : Type 0} (g : Ghosts S) (start late : Held S) (taken : ℕ) (Fits : Tables → Type 0) : Type 0 where
@@ -52,20 +41,7 @@ module _ {S : Type 0} (g : Ghosts S) (old late end : Held S) (s : State) (keeps 
     saw_of : HasCleanDisk (state g late) → IsTrue (state g old).is_open → SeesDesk (state g old) s
     saw_of clean live = (keeps (omega (arith, less.clean))).sees live
 
-    -- an event that was not written is `Store` only where the disk failed or refused
-    pub write_store : (Ends : Trees → Type 0) → Survives (state g late) (state g end) Ends → HasCleanDisk (state g end)
-        → (needed : ℕ) (Permits : Tables → Type 0) (e : Error) (f : Fault) → Failed g (record old { in_transaction = true }) late needed Permits e
-        → ((t : Tables) → StandsFor t s → Permits t) → HasRowids needed (state g old).now.trees → IsUp (state g old)
-        → (f ≡ Memory ↔ e ≡ SqliteFailure RanShort) → f ≡ Store → HasFaulted (state g old) (state g end)
-    write_store Ends back clean needed Permits e f failed permits has up memory store =
-        let at_late : HasCleanDisk (state g late) = omega (arith, back.clean) in
-        let saw = saw_of at_late up.is_open in
-        let reason = failed.why at_late saw.tables (run_of saw) (permits saw.tables saw.stands) has (record { is_open = up.is_open; unlimited = up.unlimited }) in
-        let begun = state g (record old { in_transaction = true }) in
-        let faulted : HasFaulted begun (state g late) = of_error begun (state g late) e f memory reason store in
-        faulted_earlier begun (state g late) (state g end) faulted back.counts
-
-    -- an event that was not committed is `Store` only where it did, or where the commit ran out of memory
+    -- an event that was not committed is `Store` only where the disk failed or refused, or where the commit ran out of memory
     pub commit_store : (Fits : Tables → Type 0) (after : Tables → Tables) → Wrote g (record old { in_transaction = true }) late Fits after
         → HasCleanDisk (state g late) → ((t : Tables) → StandsFor t s → Fits t) → IsUp (state g old) → (e : Error)
         → FailsToCommit (state g late) (state g end) e → HasFaulted (state g old) (state g end) ⊎ RanOut g old end s after
