@@ -32,6 +32,10 @@ book() {
 }
 
 serves 23 || { echo "http.sh: no desk" >&2; exit 1; }
+for host in 127.0.0.2 '[::1]'; do
+  curl -s -o got --max-time 5 "http://$host:$port/health"
+  same "no connection but at 127.0.0.1: $host" 7 $?
+done
 get "a new desk" 200 'kind     supplier product  night       allot   held   free
 cells 0' ann /stock
 book "a booking"
