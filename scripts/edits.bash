@@ -7,8 +7,7 @@
 # that has changed, then those of the crates above, then the others; of each the fourth first whose turn it is, and of this a fourth first.
 : "${top:?the top of the repository}"
 
-# how many minutes of one processor, as docs/minutes.tsv reckons, the edits of a gate may take: twenty of each
-edit_minutes=$((20 * $(nproc)))
+# edit_minutes, which the caller sets: how many minutes of one processor, as docs/minutes.tsv reckons, the edits may take
 
 # in_history WORD ..: git over this repository, whoever owns it
 in_history() { git -c safe.directory="$top" -C "$top" "$@"; }

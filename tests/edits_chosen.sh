@@ -143,6 +143,7 @@ echo "kit 1" >"$FAKE/version"
 # on four days in turn each edit is tried once
 . scripts/crates.bash
 . scripts/edits.bash
+edit_minutes=80
 for day in 20000 20001 20002 20003; do
   all_edits | edits_left_out "$day" "" "" ""
 done | sort | uniq -c | awk '{ print $1 }' | uniq -c | awk '{ print $1, $2 }' >"$work/turns"
