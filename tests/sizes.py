@@ -7,7 +7,7 @@ import json
 import os
 import sys
 
-from driving import Server, desk, opened, request
+from driving import Client, Server, desk, request
 
 DAY = "2030-06-01"
 MOST_PLACES, MOST_STEPS, MOST_OPTIONS, MOST_TRIES, MOST_COUNT = 100_000, 24, 8, 9, 50
@@ -23,8 +23,8 @@ def same(what, expected, found):
     if expected != found:
         parts = (n for n, pair in enumerate(zip(expected, found)) if pair[0] != pair[1])
         at = next(parts, min(len(expected), len(found)))
-        print(f"sizes.sh: {what}\n  expected: {len(expected)} long, from {at} on {expected[at:at + 120]!r}\n"
-              f"  found:    {len(found)} long, from {at} on {found[at:at + 120]!r}", file=sys.stderr)
+        print(f"sizes.sh: {what}\n  expected: {len(expected)} long, from {at} on {expected[at:at + 120]!r:.300}\n"
+              f"  found:    {len(found)} long, from {at} on {found[at:at + 120]!r:.300}", file=sys.stderr)
         wrong += 1
 
 
@@ -151,31 +151,18 @@ def asked(what, file, requests):
     """The pages of these requests over one connection, each its status and body; a request is sent once the page before it
     has come."""
     server = Server(file)
-    stream = opened(server.port)
-    pages = []
-    text = b""
-    for one in requests:
-        stream.sendall(one)
-        while b"\r\n\r\n" not in text:
-            text += some_of(stream)
-        head, _, text = text.partition(b"\r\n\r\n")
-        fields = dict(line.split(b": ", 1) for line in head.split(b"\r\n")[1:])
-        length = int(fields[b"Content-Length"])
-        while len(text) < length:
-            text += some_of(stream)
-        pages.append((int(head.split(b" ")[1]), text[:length].decode()))
-        text = text[length:]
-    stream.close()
+    client = Client(server.port)
+    pages = [status_and_body(client.ask(one)) for one in requests]
+    client.close()
     ended = server.end()
     same(f"{what}: the end", f"status 0, ready {server.port}\n", f"status {ended.status}, {ended.out}{ended.err}")
     return pages
 
 
-def some_of(stream):
-    piece = stream.recv(1 << 16)
-    if not piece:
-        raise ConnectionError("the desk ended the connection")
-    return piece
+def status_and_body(text):
+    """Of a page; None where none has come."""
+    head, end, body = text.partition(b"\r\n\r\n")
+    return (int(head.split(b" ")[1]), body.decode()) if end else None
 
 
 def page(**members):
