@@ -9,7 +9,8 @@ cp -r "$tests/../build" "$tests/../desk" "$tests/../scripts" "$top"
 cp "$tests/../docs/minutes.tsv" "$top/docs"
 cd "$top" || exit 2
 
-# 'rt lib' takes a moment, and fails where a library below is absent; what it keeps is good for the next call
+# 'rt lib' takes a moment, and fails where a library below is absent; what it keeps is good for the next call. While meet
+# stands, left and right end only once both have begun, or ten seconds have passed.
 cat >"$FAKE/rt" <<'RT'
 #!/usr/bin/env bash
 name=$(basename "$PWD")
@@ -27,6 +28,12 @@ mkdir -p out/incremental
 echo kept >out/incremental/work
 echo "so far: 1 of 2 functions checked; the verdict comes last"
 while [ -e "$FAKE/hold" ]; do sleep 0.1; done
+if [ -e "$FAKE/meet" ] && [[ $name =~ ^(left|right)$ ]]; then
+  for _ in {1..100}; do
+    [ "$(grep -c '^begins \(left\|right\)' "$FAKE/log")" -lt 2 ] || break
+    sleep 0.1
+  done
+fi
 sleep 0.3
 echo "ends $name" >>"$FAKE/log"
 mkdir -p out/rlib
@@ -75,7 +82,9 @@ until_begun() {
 
 mkdir -p crates/desk/out/trial
 touch crates/desk/out/trial/lock crates/desk/out/trial/desk-0
+touch "$FAKE/meet"
 builds 0
+rm "$FAKE/meet"
 case $(order) in
   "begins low ends low begins left begins right ends "*" begins desk ends desk ") ;;
   *) same "the order" "low, then left and right side by side, then desk" "$(order)" ;;
