@@ -94,15 +94,24 @@ haproxy_starts() {
   starts haproxy haproxy -f haproxy/haproxy.cfg
 }
 
-# haproxy_finds: what haproxy found of the desk by its last check, as status, result and code
+# haproxy_finds: what haproxy found of the desk by its last check, as status, result and code. While a check runs, haproxy shows a
+# star before the last result, and no code; then it is asked again, for ten seconds at most.
 haproxy_finds() {
   python3 - "$work/haproxy/socket" <<'END'
-import csv, socket, sys
-stream = socket.socket(socket.AF_UNIX)
-stream.connect(sys.argv[1])
-stream.sendall(b"show stat\n")
-rows = csv.DictReader(stream.makefile())
-print(next(f"{row['status']} {row['check_status']} {row['check_code']}" for row in rows if row["svname"] == "desk"))
+import csv, socket, sys, time
+
+def found():
+    with socket.socket(socket.AF_UNIX) as stream:
+        stream.connect(sys.argv[1])
+        stream.sendall(b"show stat\n")
+        return next(row for row in csv.DictReader(stream.makefile()) if row["svname"] == "desk")
+
+row = found()
+end = time.monotonic() + 10
+while row["check_status"].startswith("*") and time.monotonic() < end:
+    time.sleep(0.01)
+    row = found()
+print(row["status"], row["check_status"], row["check_code"])
 END
 }
 
