@@ -4,7 +4,8 @@
 # Whether an edit is refused depends on nothing but the sources of its crate, of those below, and the toolchain. So the
 # edits of a crate are tried where any of these has changed since a revision, and of the others every fourth, by turns of
 # a day, as far as edit_minutes go: first the edits that have changed themselves, then those of a crate with a source
-# that has changed, then those of the crates above, then the others; of each the fourth first whose turn it is, and of this a fourth first.
+# that has changed, then those of the crates above, then the others. Of each of these the fourth of that day comes first, and
+# of this fourth a fifth, so that each edit is among the first once in twenty days.
 : "${top:?the top of the repository}"
 
 # edit_minutes, which the caller sets: how many minutes of one processor, as docs/minutes.tsv reckons, the edits may take
@@ -81,11 +82,11 @@ edits_left_out() {
       at++
       turn = (at + day) % 4
       rank = ($0 in is_changed) ? 0 : (crate in has_changed) ? 1 : (crate in is_above) ? 2 : 3
-      place = 16 * rank + 4 * turn + int((at + day) / 4) % 4
+      place = 20 * rank + 5 * turn + int((at + day) / 4) % 5
       if (rank < 3 || turn == 0) queue[place] = queue[place] $0 "\n"
     }
     END {
-      for (place = 0; place < 64; place++) {
+      for (place = 0; place < 80; place++) {
         last = split(queue[place], waits, "\n") - 1
         for (i = 1; i <= last; i++) {
           crate = crate_of[waits[i]]

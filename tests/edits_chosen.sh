@@ -168,6 +168,18 @@ for day in {20000..20015}; do
 done | sort | uniq -c | awk '{ print $1 }' | uniq -c | awk '{ print $1, $2 }' >turns
 same "each edit of a crate gets its turn" "8 12" "$(cat turns)"
 
+# a gate on two processors: each edit of the repository itself has its turn within twenty days
+(
+  top=$tests/..
+  edit_minutes=40
+  all_edits >all
+  for day in {20000..20019}; do
+    edits_left_out "$day" "" "" "" <all
+  done | sort | uniq -c | awk '$1 == 20 { print $2 }' >turns
+)
+same "the edits of the repository are found" yes "$([ -s all ] && echo yes)"
+same "edits of the repository that have no turn" "" "$(cat turns)"
+
 # ends_gate WHAT FILE: a gate that is ended once this file has something leaves nothing
 ends_gate() {
   local check
