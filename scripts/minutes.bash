@@ -1,11 +1,12 @@
 # How long the gate and the build are likely to take, by docs/minutes.tsv. For scripts that have set top.
 : "${top:?the top of the repository}"
 
-# lanes_of MEGABYTES: how many checks of that much memory run side by side: one a processor, as many as memory holds
+# lanes_of MEGABYTES: how many checks of that much memory run side by side: one a processor, as many as the free memory holds.
+# A test sets MEMINFO to a file in place of the kernel's.
 lanes_of() {
   local lanes free
   lanes=$(nproc)
-  free=$(awk -v each="$1" '/^MemAvailable:/ { print int($2 / 1000 / each) }' /proc/meminfo)
+  free=$(awk -v each="$1" '/^MemAvailable:/ { print int($2 / 1000 / each) }' "${MEMINFO:-/proc/meminfo}")
   [ "$lanes" -le "${free:-1}" ] || lanes=$free
   [ "$lanes" -ge 1 ] || lanes=1
   printf '%s\n' "$lanes"

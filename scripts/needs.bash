@@ -33,7 +33,7 @@ install_absent() {
     say "installing ${absent[*]}"
     # The update fails where one source of several does not answer; what is absent may come from another one.
     as_root apt-get update -qq >/dev/null
-    if as_root env DEBIAN_FRONTEND=noninteractive apt-get install -y -qq "${absent[@]}" >/dev/null; then
+    if as_root env DEBIAN_FRONTEND=noninteractive apt-get install -o DPkg::Lock::Timeout=300 -y -qq "${absent[@]}" >/dev/null; then
       absent=()
       return 0
     fi

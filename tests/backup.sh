@@ -187,10 +187,10 @@ for _ in {1..500}; do
   sleep 0.01
 done
 rm -rf .desk-backup.*
-begins --seconds 1 trips.db b.db
+begins --seconds 4 trips.db b.db
 asks "while a copy takes too long" "step 0" "refused 4 BadBody"
 wait "$backup"
-has_said "a copy that takes too long" 1 "backup: the copy takes more than 1 seconds, and the desk goes on: see --seconds" $?
+has_said "a copy that takes too long" 1 "backup: the copy takes more than 4 seconds, and the desk goes on: see --seconds" $?
 begins trips.db b.db
 kill -CONT "$desk"
 ends "a desk that another one continues" 1 "backup: the process that held the file was continued or has ended while it was copied; *"
@@ -209,6 +209,10 @@ if mount -t tmpfs -o size=64k tmpfs full 2>/dev/null; then
   umount full
 fi
 kill -STOP "$desk"
+for _ in {1..1000}; do
+  [ "$(state)" != T ] || break
+  sleep 0.01
+done
 backs_up "a desk that was stopped before" 0 "saved b5.db"$'\n'"backup: process $desk was stopped before; it is continued after this" trips.db b5.db
 asks "it is continued" "step 0" "refused 4 BadBody"
 backs_up "a backup in use" 1 "backup: trips.db is in use, by process $desk" --replace b5.db trips.db

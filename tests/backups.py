@@ -21,7 +21,8 @@ from shown import Events, look, read_files
 
 QUICK = 100
 # a cp that waits after the file before it copies the log, so long that a desk at work would begin the log anew; where
-# CONTINUED is a process, this goes on until it has done so
+# CONTINUED is a process, this goes on until it has done so while the file is another one than its copy: a file that had all
+# of the former log is as good with the new one
 APART = f"""#!/bin/sh
 [ $# -gt 3 ] || exec {shutil.which("cp")} "$@"
 {shutil.which("cp")} -- "$2" "$4" || exit
@@ -31,7 +32,12 @@ else
   before=$(head -c 32 "$3" | cksum)
   tries=0
   kill -CONT "$CONTINUED"
-  while [ "$before" = "$(head -c 32 "$3" | cksum)" ] && [ $tries -lt 1000 ]; do
+  while [ $tries -lt 4000 ]; do
+    now=$(head -c 32 "$3" | cksum)
+    if [ "$now" != "$before" ]; then
+      before=$now
+      cmp -s "$2" "$4/${{2##*/}}" || break
+    fi
     sleep 0.01
     tries=$((tries + 1))
   done
@@ -138,11 +144,11 @@ class Backup:
         self.name, self.least, self.most, self.done = name, least, most, done
 
 
-def back_up(tool, work, names, env):
-    """Makes backups at once, with these names, in this environment."""
+def back_up(call, work, names, env):
+    """Makes backups at once by this call, with these names, in this environment."""
     least = work.base + work.answered
     pipe = {"stdout": subprocess.PIPE, "stderr": subprocess.STDOUT, "env": {**os.environ, **env}}
-    calls = [subprocess.Popen([tool, "trips.db", name], **pipe) for name in names]
+    calls = [subprocess.Popen([*call, "trips.db", name], **pipe) for name in names]
     said = [call.communicate(timeout=5 * PATIENCE)[0].decode() for call in calls]
     most = work.base + work.asked
     return [Backup(name, least, most, (call.returncode, text)) for name, call, text in zip(names, calls, said)]
@@ -161,7 +167,7 @@ def back_up_apart(tool, work):
     """Makes a backup while the desk goes on between the copies of its two files."""
     work.hurry(5000)
     env = {"PATH": f"{os.path.abspath('apart')}:{os.environ['PATH']}", "CONTINUED": str(work.process.process.pid)}
-    return back_up(tool, work, [f"apart-{type(work).__name__}.db"], env)[0]
+    return back_up([tool, "--seconds", "120"], work, [f"apart-{type(work).__name__}.db"], env)[0]
 
 
 def back_up_while(tool, work, chance, names):
@@ -174,10 +180,10 @@ def back_up_while(tool, work, chance, names):
         time.sleep(chance.random() / 5)
         now = [names.pop() for _ in range(min(len(names), 2 if chance.random() < 0.3 else 1))]
         if made:
-            made += back_up(tool, work, now, {})
+            made += back_up([tool], work, now, {})
         else:
             work.hurry(1000)
-            made += back_up(tool, work, now, {"PATH": path, "CONTINUED": ""})
+            made += back_up([tool], work, now, {"PATH": path, "CONTINUED": ""})
         if not goes_on(work):
             wrong.append(f"{now}: after this the desk did not answer {work.lost}")
     return made, wrong

@@ -27,7 +27,7 @@ echo "begins $name$([ -d out/incremental ] && echo ' again')" >>"$FAKE/log"
 mkdir -p out/incremental
 echo kept >out/incremental/work
 echo "so far: 1 of 2 functions checked; the verdict comes last"
-while [ -e "$FAKE/hold" ]; do sleep 0.1; done
+while [ -e "$FAKE/hold" ] || [ -e "$FAKE/hold.$name" ]; do sleep 0.1; done
 if [ -e "$FAKE/meet" ] && [[ $name =~ ^(left|right)$ ]]; then
   for _ in {1..100}; do
     [ "$(grep -c '^begins \(left\|right\)' "$FAKE/log")" -lt 2 ] || break
@@ -44,6 +44,8 @@ chmod +x out/desk
 exit 2
 RT
 printf '#!/bin/sh\necho 2\n' >"$FAKE/nproc"
+printf 'MemAvailable: 20000000 kB\n' >"$FAKE/memory"
+export MEMINFO=$FAKE/memory
 printf '#!/bin/sh\nexit 0\n' >"$FAKE/python3"
 chmod +x "$FAKE"/*
 PATH=$FAKE:$PATH
@@ -87,6 +89,7 @@ builds 0
 rm "$FAKE/meet"
 case $(order) in
   "begins low ends low begins left begins right ends "*" begins desk ends desk ") ;;
+  "begins low ends low begins right begins left ends "*" begins desk ends desk ") ;;
   *) same "the order" "low, then left and right side by side, then desk" "$(order)" ;;
 esac
 says "a build" "proving 4 crates, 2 side by side"
@@ -105,6 +108,12 @@ printf '# names\ncrate\tproof\nfirst\t1.5\nnext\t-\n' >"$work/chain/docs/minutes
 same "which crates begin first" "second over first last next" \
   "$(sed 's/:.*//' "$work/chain/crates.txt" | (top=$work/chain && . scripts/minutes.bash && longest_first) | xargs)"
 
+# as many checks side by side as memory holds
+for memory in 8:1 20:2; do
+  printf 'MemAvailable: %s000000 kB\n' "${memory%:*}" >"$FAKE/memory"
+  same "checks of 5 GB in ${memory%:*}" "${memory#*:}" "$(. scripts/minutes.bash && lanes_of 5000)"
+done
+
 # a build that is stopped goes on with what was kept
 touch crates/low/src/lib.rt
 touch "$FAKE/hold"
@@ -115,13 +124,13 @@ until_begun low
 ./build >"$work/second" 2>&1
 same "a second call: the status" 1 $?
 same "a second call" "build: another ./build runs here" "$(cat "$work/second")"
+touch "$FAKE/hold.left"
 rm "$FAKE/hold"
 until_begun left
-touch "$FAKE/hold"
 kill "$build"
 { wait "$build"; } 2>/dev/null
 same "a build that is ended: the status" 143 $?
-rm "$FAKE/hold"
+rm "$FAKE/hold.left"
 same "a build that is ended: no room is left" "" "$(find out -mindepth 1 ! -name 'build.*')"
 same "what it has proved is kept" "low" "$(cat crates/low/out/rlib/stamp)"
 : >"$FAKE/log"
@@ -132,7 +141,7 @@ until_begun low
 kill -9 "$build"
 { wait "$build"; } 2>/dev/null
 rm "$FAKE/hold"
-sleep 1
+flock -w 20 out/build.lock true # what it has left running holds its lock
 builds 0
 same "what was kept is used" yes "$([[ $(order) == *"begins low again"*"begins left again"* ]] && echo yes)"
 same "a build that went on keeps the program alone" "desk" "$(find crates -path '*/out/*' -type f -printf '%f\n')"

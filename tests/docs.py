@@ -10,7 +10,6 @@ A block that begins with ```console TOOL needs this tool: a command, or what NEE
 block are skipped, which the last line says. A tool that goes on in the background is a proxy, which listens at port 8081.
 """
 import os
-import random
 import re
 import shutil
 import signal
@@ -19,6 +18,8 @@ import subprocess
 import sys
 import tempfile
 import time
+
+from ports import free_port
 
 # commands that are not run here, by how they begin, and why
 NOT_RUN = {
@@ -59,6 +60,10 @@ class Command:
 
     def is_background(self):
         return re.search(r"(?<!&)&\s*(#.*)?$", self.text[-1]) is not None
+
+    def ends_background(self):
+        """Whether it ends the last command of the background: by a signal, or as the house stops the desk."""
+        return re.match(r"kill\b|curl .*/stop$", self.text[0]) is not None
 
 
 def commands_of(block, first, tool):
@@ -126,18 +131,6 @@ def check_links(page, lines):
                 raise Wrong(f"line {number}: {path} is absent")
 
 
-def free_port():
-    """A port that is free, and below those that the system gives to clients."""
-    while True:
-        port = random.randrange(10240, 32768)
-        with socket.socket() as s:
-            try:
-                s.bind(("127.0.0.1", port))
-                return str(port)
-            except OSError:
-                pass
-
-
 def accepts(port):
     """Whether somebody listens on this port."""
     with socket.socket() as s:
@@ -190,7 +183,7 @@ class Shell:
             raise Wrong(f"line {command.line}: the shell has ended")
         if command.is_background():
             self.background.append(said[1])
-        elif re.match(r"kill\b", command.text[0]) and self.background:
+        elif command.ends_background() and self.background:
             wait_until(lambda: not os.path.exists(f"/proc/{self.background[-1]}"))
         return output
 
@@ -235,7 +228,10 @@ def make_folder(desk, room):
 
 def run_commands(desk, folder, commands):
     """Runs these commands in this folder."""
-    ports = (free_port(), free_port())
+    ports = set()
+    while len(ports) < 2:
+        ports.add(str(free_port()))
+    ports = tuple(ports)
     shell = Shell(folder, desk)
     try:
         background = []

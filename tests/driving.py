@@ -4,6 +4,8 @@ import signal
 import socket
 import subprocess
 
+from ports import free_port
+
 DESK = os.environ["DESK"]
 PATIENCE = float(os.environ.get("PATIENCE", "60"))
 NAMED_FAULTS = {
@@ -68,12 +70,6 @@ class Lines:
         self.process.stdin.close()
         self.process.stdout.close()
         self.process.wait()
-
-
-def free_port():
-    with socket.socket() as probe:
-        probe.bind(("127.0.0.1", 0))
-        return probe.getsockname()[1]
 
 
 class Server:

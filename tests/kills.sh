@@ -7,8 +7,10 @@ line="begin F/AL/A1/2030-06-01/1/1!0"
 yes "$line" | head -n 20000 >lines
 all=0
 
-# kill_after MILLISECONDS: lines are answered until the program is killed
+# kill_after MILLISECONDS: lines are answered until the program is killed; it may be killed before it has opened its files
 kill_after() {
+  : >out
+  : >err
   "$DESK" run trips.db <lines >out 2>err &
   local desk=$!
   sleep "$(printf '%d.%03d' $(($1 / 1000)) $(($1 % 1000)))"

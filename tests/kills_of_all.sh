@@ -88,6 +88,9 @@ done
 all=0
 for round in {1..20}; do
   rm -f trips.db trips.db-*
+  # it may be killed before it has opened its files
+  : >out
+  : >err
   "$DESK" run trips.db <lines >out 2>err &
   desk=$!
   ms=$((RANDOM % span))

@@ -46,7 +46,7 @@ class Desk:
             if self.said:
                 return
             self.process.communicate()
-        raise SystemExit(f"no desk over {file}")
+        raise RuntimeError(f"no desk over {file}")
 
     def signal(self, number):
         self.process.send_signal(number)
@@ -91,7 +91,15 @@ def is_served(what, port):
 def sockets_of(served):
     """How many sockets a desk has, of those that listen and those of connections."""
     folder = f"/proc/{served.process.pid}/fd"
-    return sum(os.readlink(f"{folder}/{name}").startswith("socket:") for name in os.listdir(folder))
+    return sum(is_socket(f"{folder}/{name}") for name in os.listdir(folder))
+
+
+def is_socket(path):
+    """Whether this descriptor is a socket; one that was closed meanwhile is none."""
+    try:
+        return os.readlink(path).startswith("socket:")
+    except FileNotFoundError:
+        return False
 
 
 def seconds_until(is_so, most, begun):
@@ -120,9 +128,9 @@ def loads(port):
 # ---- what waits
 
 def half_a_head(port):
+    begun = time.monotonic()
     stream = opened(port)
     stream.sendall(STOCK[:20])
-    begun = time.monotonic()
     is_served("half a head", port)
     took = seconds_to_end(stream, begun)
     holds(f"half a head: ended after 30 seconds, {took:.1f}", 29.5 < took < 45)
@@ -130,9 +138,9 @@ def half_a_head(port):
 
 def byte_by_byte(port):
     """A byte each half second: it is never silent, and its request is never whole."""
+    begun = time.monotonic()
     stream = opened(port)
     stream.setblocking(False)
-    begun = time.monotonic()
     ended = None
     for at in range(80):
         try:

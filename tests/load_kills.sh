@@ -23,11 +23,16 @@ stands() {
   return $((1 - kept))
 }
 
+# as long as the program runs at most: the milliseconds of the quickest of three loads, and ten more
 rows_of 1 >places.csv
-started=$(date +%s%N)
-load first
-span=$((($(date +%s%N) - started) / 1000000 + 10))
-same "the first load" "loaded first 2000" "$(cat out)"
+span=1000000
+for name in first second third; do
+  started=$(date +%s%N)
+  load "$name"
+  took=$((($(date +%s%N) - started) / 1000000 + 10))
+  [ "$took" -ge "$span" ] || span=$took
+  same "the $name load" "loaded $name 2000" "$(cat out)"
+done
 
 whole=0
 for round in {1..40}; do
@@ -35,7 +40,8 @@ for round in {1..40}; do
   rows_of "$places" >places.csv
   "$DESK" load trips.db places.csv --batch "b$round" >out 2>err &
   desk=$!
-  sleep "0.$(printf '%03d' $((RANDOM % span)))"
+  ms=$((RANDOM % span))
+  sleep "$(printf '%d.%03d' $((ms / 1000)) $((ms % 1000)))"
   kill -9 "$desk" 2>/dev/null
   wait "$desk" 2>/dev/null
   stands "kill $round" "b$round" "$places" && whole=$((whole + 1))

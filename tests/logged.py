@@ -43,7 +43,7 @@ class Desk:
             if self.process.stdout.readline():
                 return
             self.process.wait()
-        raise SystemExit(f"no desk over {file}")
+        raise RuntimeError(f"no desk over {file}")
 
     def log(self):
         """The lines so far, each without its head."""
@@ -188,6 +188,7 @@ def odd_bytes():
         stream = opened(served.port)
         ask(stream, b"GET " + odd + b" HTTP/1.1\r\nHost: d\r\nDesk-Agent: a\nb\r\nDesk-Key: \x01\r\n\r\n")
         stream.close()
+    served.has("the end of the last one", "ended connection=10 door=port requests=1 why=closed")
     time.sleep(0.5)
     lines = served.log()
     same("a line for each request, and one for each end", (10, 10), tuple(

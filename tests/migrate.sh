@@ -250,6 +250,9 @@ same "what the long file holds" "$new" "$(holds trips.db)"
 begins_migration() {
   rm -f trips.db trips.db-*
   cp old.db trips.db
+  # it may be killed before it has opened its files
+  : >out
+  : >err
   "$DESK" migrate trips.db >out 2>err &
   desk=$!
 }

@@ -4,7 +4,6 @@ import json
 import os
 import shutil
 import signal
-import socket
 import subprocess
 import time
 
@@ -18,6 +17,8 @@ from selenium.webdriver.common.action_chains import ActionChains
 from selenium.webdriver.common.keys import Keys
 from selenium.webdriver.support.ui import Select
 
+from ports import free_port
+
 DESK = os.environ["DESK"]
 PATIENCE = float(os.environ.get("PATIENCE", "60"))
 SEEN = """const isSeen = one => one.checkVisibility({visibilityProperty: true});
@@ -25,12 +26,6 @@ const seen = css => [...document.querySelectorAll(css)].filter(isSeen);
 const named = one => one.getAttribute('aria-label') || one.innerText.trim();
 """
 CHROMIUM, DRIVER = shutil.which("chromium"), shutil.which("chromedriver")
-
-
-def free_port():
-    with socket.socket() as probe:
-        probe.bind(("127.0.0.1", 0))
-        return probe.getsockname()[1]
 
 
 def wait_until(holds, what):
@@ -62,7 +57,7 @@ class Desk:
         )
         said = self.process.stdout.readline()
         if said != f"ready {self.port}\n".encode():
-            raise SystemExit(f"no desk at {self.port}: {said!r} {self.process.communicate()}")
+            raise RuntimeError(f"no desk at {self.port}: {said!r} {self.process.communicate()}")
 
     def kill(self):
         self.process.send_signal(signal.SIGKILL)

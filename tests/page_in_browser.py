@@ -1,6 +1,7 @@
 """Runs the scenes of the page in headless Chromium; prints those that went wrong. With names, only those scenes.
 
 Then each of SPOILED is put into the page on its way to the browser, one at a time, and the scene has to find it."""
+import os
 import sys
 import tempfile
 import time
@@ -80,7 +81,8 @@ SPOILED = (
 
 def failure_of(act, spoil=None):
     """What went wrong with a scene, or nothing."""
-    with tempfile.TemporaryDirectory() as folder:
+    # a process of the browser may still write there when the others have ended
+    with tempfile.TemporaryDirectory(dir=os.environ["HOME"], ignore_cleanup_errors=True) as folder:
         scene = None
         try:
             scene = Scene(folder, spoil, agent="" if getattr(act, "without_agent", False) else "ann")

@@ -82,14 +82,42 @@ def spoiled(fields, page, old, new):
     return fields, changed
 
 
+class Gets:
+    """The way to the desk for GETs, which can be closed: `with` it a GET is under way there."""
+
+    def __init__(self):
+        self.changed, self.is_open, self.under_way = threading.Condition(), True, 0
+
+    def __enter__(self):
+        with self.changed:
+            self.changed.wait_for(lambda: self.is_open, SECONDS)
+            self.under_way += 1
+
+    def __exit__(self, *_):
+        with self.changed:
+            self.under_way -= 1
+            self.changed.notify_all()
+
+    def hold(self):
+        """Lets no more pass, and waits until none is under way."""
+        with self.changed:
+            self.is_open = False
+            self.changed.wait_for(lambda: self.under_way == 0, SECONDS)
+
+    def release(self):
+        with self.changed:
+            self.is_open = True
+            self.changed.notify_all()
+
+
 class Network:
     """`mode` says what becomes of POSTs: each is passed on; or its page is lost once it was carried out; or it is held until it
-    is let go, and then lost. `instead` is the status and the page that the next POST gets in the place of the desk's. With
-    `holds_gets` each GET waits until they are released. With `spoil`, an old and a new text, the desk's page is spoiled."""
+    is let go, and then lost. `instead` is the status and the page that the next POST gets in the place of the desk's. `gets` holds
+    GETs back, where that is asked for. With `spoil`, an old and a new text, the desk's page is spoiled."""
 
     def __init__(self, spoil=None):
-        self.mode, self.posts, self.paths, self.instead, self.holds_gets = "pass", [], [], None, False
-        self.spoil, self.let_go, self.lets_get = spoil, threading.Event(), threading.Event()
+        self.mode, self.posts, self.paths, self.instead = "pass", [], [], None
+        self.spoil, self.let_go, self.gets = spoil, threading.Event(), Gets()
         self.socket = socket.create_server(("127.0.0.1", 0), backlog=64)
         self.port = self.socket.getsockname()[1]
         threading.Thread(target=self.accept, daemon=True).start()
@@ -115,9 +143,10 @@ class Network:
         path = request.where.path
         self.paths.append((request.method, path, request.field("host")))
         if request.method != "POST":
-            if self.holds_gets and path != "/":
-                self.lets_get.wait(SECONDS)
-            return self.passed_on(request)
+            if path == "/":
+                return self.passed_on(request)
+            with self.gets:
+                return self.passed_on(request)
         mode, instead = self.mode, self.instead
         self.posts.append((path, request.field("desk-agent"), request.field("desk-key"), request.body))
         if mode == "hold":
@@ -139,12 +168,7 @@ class Network:
             fields, text = spoiled(fields, text, *self.spoil)
         return page_of(status, reason, fields, text)
 
-    def release_gets(self):
-        self.holds_gets = False
-        self.lets_get.set()
-        self.lets_get = threading.Event()
-
     def end(self):
         self.socket.close()
         self.let_go.set()
-        self.lets_get.set()
+        self.gets.release()

@@ -194,12 +194,15 @@ def large(scene):
         if n % 10 < 9:
             desk.post(f"/journeys/{n + 1}/abort/0", f"undo-{n}")
     same("the cells", 2000, len(desk.ask("GET", "/stock")[1].splitlines()) - 2)
-    before = len(scene.network.paths)
-    browser.driver.refresh()
+    here = browser.driver.current_url
+    # the page as it is would go on asking until it is loaded anew
+    browser.open("about:blank")
+    browser.open(here)
     comes("the nights", 2000, lambda: browser.script("return document.querySelectorAll('.night').length"))
     browser.press("My journeys (100)")
     browser.shows("all (1000)", "#list")
-    pages = [path for _, path, _ in scene.network.paths[before:] if path.startswith("/mine")]
+    paths = [path for _, path, _ in scene.network.paths]
+    pages = [path for path in paths[len(paths) - paths[::-1].index("/") :] if path.startswith("/mine")]
     same("each page of own journeys is read once", ["/mine", *(f"/mine/{n}" for n in range(100, 1001, 100))], pages[:11])
     same("and then what may be new", {"/mine/1000"}, {"/mine/1000", *pages[11:]})
     same("the newest is first", "Journey 1000", browser.names("#list tbody a")[0])

@@ -1,6 +1,5 @@
 """What agents do at the page, as scenes over a new desk: each tells what went wrong by an AssertionError."""
 import json
-import time
 
 from selenium.webdriver.common.keys import Keys
 
@@ -298,15 +297,14 @@ def refused_by_the_desk(scene):
             scene.desk.post(f"/journeys/{identity}/{word}", f"b{n}-{k}")
         scene.shows_journey(identity)
         browser.named(button, ".acts")
-        scene.network.holds_gets = True
-        time.sleep(0.3)
+        scene.network.gets.hold()
         for k, word in enumerate(meanwhile.split()):
             scene.desk.post(f"/journeys/{identity}/{word}", f"m{n}-{k}")
         browser.press(button, ".acts")
         if browser.all("dialog[open]"):
             browser.click_on("#sure-yes")
         scene.note(words)
-        scene.network.release_gets()
+        scene.network.gets.release()
         comes("what may be done then", False, lambda: button in browser.names(".acts button"))
 
 

@@ -1,9 +1,7 @@
 # What the scripts share that drive the desk over HTTP. The desk serves trips.db.
 
 # a port that is free now; another try is made where it is not free any more
-free_port() {
-  python3 -c 'import socket; s = socket.socket(); s.bind(("127.0.0.1", 0)); print(s.getsockname()[1])'
-}
+free_port() { python3 "$tests/ports.py"; }
 
 # serves_with [WORD ..]: the desk serves with these words, as process $desk, on $port; what it tells goes to told and desk_err
 serves_with() {

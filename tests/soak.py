@@ -151,8 +151,11 @@ class Planner:
         elif roll < 0.47 and not self.has_cuts:
             life["env"] = {"REFUSE": self.place_in(life, 6300 + 200 * recovered, 200)}
         elif roll < 0.57 and life["do"] in ("run", "serve"):
-            # a kill that waits for a time may come between a call and its note
-            life["end"] = "kill" if self.has_cuts else self.chance.choice(("kill", self.chance.random() / 300))
+            # a kill that waits for a time, or for no answer, may come between a call and its note
+            if not self.has_cuts:
+                life["end"] = self.chance.choice(("kill", self.chance.random() / 300))
+            elif life.get("connections", [{"end": "close"}])[-1]["end"] != "reset":
+                life["end"] = "kill"
 
     def place_in(self, life, opening, each):
         """The number of a call or an allocation, of which an opening makes about so many, and each saying so many."""
@@ -328,7 +331,7 @@ def is_slow(folder):
         began = time.monotonic()
         subprocess.run([DESK, "recover", f"{folder}/slow.db"], capture_output=True, check=False)
         return time.monotonic() - began
-    return opening() > 0.5 and opening() > 0.5
+    return all(opening() > 0.5 for _ in range(5))
 
 
 def words_of():

@@ -17,7 +17,7 @@ from driving import DESK
 LINES = [f"set b{n} F/AL/A{n}/2030-06-01 9\n" for n in range(1, 9)]
 ANSWERS = "".join(f"loaded b{n} 1\n" for n in range(1, 9))
 ROWS = ["kind,supplier,product,night,places\n"] + [f"flight,AL,B{n},2030-06-01,9\n" for n in range(1, 8)]
-PAUSE = 0.4
+PAUSE = 0.6
 AWAY = " " * 48 + "\r"
 wrong = 0
 
@@ -42,6 +42,19 @@ def all_of(descriptor):
         shown += more
 
 
+def take_all(stream, pieces):
+    """Takes what comes from a stream, to its end, in pieces as they come."""
+    while piece := stream.read1():
+        pieces.append(piece.decode())
+
+
+def has_lines(pieces, count):
+    """Waits until these pieces have so many lines, for half a minute."""
+    begun = time.monotonic()
+    while "".join(pieces).count("\n") < count and time.monotonic() - begun < 30:
+        time.sleep(0.02)
+
+
 def run(words, lines, pause, at_terminal=("err",)):
     """The status, the output and what the terminal was shown, of a run whose input comes line by line."""
     outer, inner = pty.openpty()
@@ -52,7 +65,7 @@ def run(words, lines, pause, at_terminal=("err",)):
     shown, output = [], []
     readers = [threading.Thread(target=lambda: shown.append(all_of(outer)))]
     if desk.stdout:
-        readers.append(threading.Thread(target=lambda: output.append(desk.stdout.read().decode())))
+        readers.append(threading.Thread(target=take_all, args=(desk.stdout, output)))
     for reader in readers:
         reader.start()
     for line in lines:
@@ -65,6 +78,7 @@ def run(words, lines, pause, at_terminal=("err",)):
     if desk.stdin:
         desk.stdin.close()
     else:
+        has_lines(output, len(lines))
         time.sleep(0.5)
         desk.kill()
     status = desk.wait()

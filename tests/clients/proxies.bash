@@ -8,18 +8,9 @@ declare -A origins=()
 # on Debian the proxies are not on every user's path
 PATH=$PATH:${SBIN-/usr/sbin}
 
-# new_origin WAY: sets $at to a free port, at which this way is asked; it is below those that the system gives to clients
+# new_origin WAY: sets $at to a free port, at which this way is asked
 new_origin() {
-  at=$(python3 - <<'END'
-import random, socket
-while True:
-    port = random.randrange(10240, 32768)
-    with socket.socket() as s:
-        if s.connect_ex(("127.0.0.1", port)) != 0:
-            print(port)
-            break
-END
-  )
+  at=$(free_port)
   origins[$1]=http://127.0.0.1:$at
 }
 

@@ -1,0 +1,20 @@
+"""Free ports for tests: below those that the system gives to clients and to whoever asks for any port, so that nothing else on the
+machine takes one between two lives of a desk. As a script, prints one."""
+import random
+import socket
+
+
+def free_port():
+    """A port of 127.0.0.1 that is free now."""
+    while True:
+        port = random.randrange(10240, 32768)
+        with socket.socket() as probe:
+            try:
+                probe.bind(("127.0.0.1", port))
+                return port
+            except OSError:
+                pass
+
+
+if __name__ == "__main__":
+    print(free_port())
