@@ -259,7 +259,7 @@ def late():
 
 def displaced():
     """The connection that was silent for longest, where all places are taken."""
-    served = Desk("full.db", "--log")
+    served = Desk("displaced.db", "--log")
     clients = []
     for _ in range(256):
         clients.append(opened(served.port))
