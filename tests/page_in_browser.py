@@ -76,6 +76,8 @@ SPOILED = (
      ":focus-visible { outline: 0 solid var(--accent);", page_rules.focus_order, "one sees that the focus is at"),
     ("own journeys end with a page", "if (page.length < PAGE) return true;", "return true;", page_rules.large,
      "'all (1000)' in #list"),
+    ("a list that is left without its plans", "  delete $('list').dataset.key;\n  drawList();\n", "  drawList();\n", page_rules.large,
+     "the plans"),
 )
 
 

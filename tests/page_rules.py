@@ -186,6 +186,11 @@ first_visit.without_agent = True
 def large(scene):
     """1,000 journeys of an agent, and 2,000 cells in a month: all are there, and nothing becomes too wide."""
     browser, desk = scene.browser, scene.desk
+
+    def has_plans(count):
+        """So many journeys of the list have their plans, so that nothing below them moves any more."""
+        comes("the plans", count, lambda: len(browser.all("#list tbody .plan")))
+
     have = len(desk.ask("GET", "/stock")[1].splitlines()) - 2
     june = [f"room,S{n:03},DBL,{night},{n + 1}" for n in range(66) for night in JUNE][:2000 - have]
     desk.load("large", june)
@@ -208,12 +213,17 @@ def large(scene):
     same("the newest is first", "Journey 1000", browser.names("#list tbody a")[0])
     browser.picks('[data-f="list.state"]', "open")
     browser.shows("not finished (100)", "#list")
-    same("those under way", ["Journey 1000", "Journey 990"], browser.names("#list tbody a")[:2])
+    comes("those under way", ["Journey 1000", "Journey 990"], lambda: browser.names("#list tbody a")[:2])
+    has_plans(50)
     browser.press("Show 50 more of 100")
     comes("all of them", "Journey 10", lambda: browser.names("#list tbody a")[-1])
+    # others are listed while the plans of the first ones are still to come
+    scene.network.gets.hold()
     browser.picks('[data-f="list.state"]', "")
     browser.types('[data-f="list.text"]', "77")
     comes("those of a number", 11, lambda: len(browser.all("#list tbody tr")))
+    scene.network.gets.release()
+    has_plans(11)
     browser.press("Journey 77")
     browser.shows("undone", "#one")
     browser.open(desk.url("#/stock"))

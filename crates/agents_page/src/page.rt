@@ -2,7 +2,7 @@
 
 /// What the page may load and do: its own style and script, and requests to the desk that served it.
 pub const POLICY: &str =
-    r#"default-src 'none'; script-src 'sha256-BMrr0VCW4CLlXzMtP007m881Fx4LXeYfbGLYM+fl3Jg='; style-src 'sha256-bbvFO2V/nRRXjDXkhnhMW8AlP1SCRZEWsCrtSytBsKQ='; connect-src 'self'; frame-ancestors 'none'; base-uri 'none'; form-action 'none'"#;
+    r#"default-src 'none'; script-src 'sha256-TkaaUZYzsPEzzO8bKAQVfXE+UUk98nJmUkKBiHvrous='; style-src 'sha256-bbvFO2V/nRRXjDXkhnhMW8AlP1SCRZEWsCrtSytBsKQ='; connect-src 'self'; frame-ancestors 'none'; base-uri 'none'; form-action 'none'"#;
 
 /// The page, in HTML.
 pub const PAGE: &str = r##"<!doctype html>
@@ -1384,18 +1384,21 @@ async function fillPlans(rows) {
   if (filling) return;
   filling = true;
   const mine = turn;
-  let asked = 0, more = false;
+  let asked = 0;
   try {
     for (const one of rows) {
       if (plans.get(one.journey) || document.hidden) continue;
       if (mine !== turn || (view !== 'list' && view !== 'journey')) break;
       const plan = await get(`/journeys/${one.journey}/plan`);
       if (mine === turn) plans.set(one.journey, plan);
-      if (++asked === ROWS) { more = true; break; }
+      if (++asked === ROWS) break;
     }
   } catch { /* the news say that the desk is not reached */ }
   filling = false;
-  if (asked || more) drawList();
+  if (!asked) return;
+  // others may be listed by now than those that were asked for
+  delete $('list').dataset.key;
+  drawList();
 }
 
 // ---- one journey
