@@ -44,8 +44,8 @@ is_whole() {
   same "$1: each event is a begin or a turn" "$(rows 'SELECT events FROM meta')" \
     "$(rows 'SELECT (SELECT count(*) FROM journey) + (SELECT count(*) FROM entry2)')"
   same "$1: the turns" "0" "$(rows 'SELECT count(*) FROM entry2 WHERE (item, a, b) <> (2, 0, 0)')"
-  same "$1: who was turned is undone, once" "0" "$(rows 'SELECT count(*) FROM journey WHERE
-    (phase = 3) <> (SELECT count(*) FROM entry2 WHERE entry2.journey = journey.id)')"
+  same "$1: who was turned is undone, once" "0" "$(rows 'SELECT count(*) FROM journey LEFT JOIN
+    (SELECT journey AS id, count(*) AS turns FROM entry2 GROUP BY journey) USING (id) WHERE (phase = 3) <> coalesce(turns, 0)')"
   same "$1: the journeys" "$2|1|$2" "$(rows 'SELECT count(*), min(id), max(id) FROM journey')"
   same "$1: their steps" "$2|$2" "$(rows 'SELECT count(*), count(DISTINCT journey) FROM step')"
   same "$1: the file is sound" "ok" "$(rows 'PRAGMA integrity_check')"
@@ -63,12 +63,17 @@ begins_next() {
   is_whole "$1, and one more" "$next"
 }
 
+# how many milliseconds it takes to open the file, answer a line and look, at best: so long the program runs, at most
+next=0 span=1000000
+for round in 1 2 3; do
+  least=$next most=$next
+  started=$(date +%s%N)
+  begins_next "before the kills, $round"
+  took=$((($(date +%s%N) - started) / 1000000 + 50))
+  [ "$took" -ge "$span" ] || span=$took
+done
+
 # a file that grows; every second time sqlite3 opens it before the program does
-least=0 most=0
-started=$(date +%s%N)
-begins_next "before the kills"
-# how many milliseconds it took to open the file, answer a line and look: so long the program runs, at most
-span=$(((($(date +%s%N) - started) / 1000000) + 50))
 for round in {1..40}; do
   kill_after $((RANDOM % span))
   answers_go_on "kill $round" "$next"
