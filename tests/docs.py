@@ -184,7 +184,8 @@ class Shell:
         if command.is_background():
             self.background.append(said[1])
         elif command.ends_background() and self.background:
-            wait_until(lambda: not os.path.exists(f"/proc/{self.background[-1]}"))
+            # a process that a proxy has started may listen for longer than the proxy itself
+            wait_until(lambda: not os.path.exists(f"/proc/{self.background[-1]}") and not (command.tool and accepts(ports[1])))
         return output
 
     def end(self):
