@@ -2,7 +2,7 @@
 
 /// What the page may load and do: its own style and script, and requests to the desk that served it.
 pub const POLICY: &str =
-    r#"default-src 'none'; script-src 'sha256-TkaaUZYzsPEzzO8bKAQVfXE+UUk98nJmUkKBiHvrous='; style-src 'sha256-bbvFO2V/nRRXjDXkhnhMW8AlP1SCRZEWsCrtSytBsKQ='; connect-src 'self'; frame-ancestors 'none'; base-uri 'none'; form-action 'none'"#;
+    r#"default-src 'none'; script-src 'sha256-w8zAyPlh/Q6TG+R+1NY/MhuUc9MrCottge3YdYvShgs='; style-src 'sha256-bbvFO2V/nRRXjDXkhnhMW8AlP1SCRZEWsCrtSytBsKQ='; connect-src 'self'; frame-ancestors 'none'; base-uri 'none'; form-action 'none'"#;
 
 /// The page, in HTML.
 pub const PAGE: &str = r##"<!doctype html>
@@ -1103,8 +1103,8 @@ function choose(at, isLonger, byKey) {
   if (isOn) chosen.nights = nights;
   else if (!isIn && (!isLonger || !same)) chosen = { count: places, first: when, kind, nights: 1, product, supplier };
   paintChosen();
+  entersBar = byKey;
   drawBar();
-  if (byKey) $('bar').querySelector('[data-f="bar.step"]').focus();
 }
 function unchoose() {
   const back = chosen && $('cals').querySelector(`[data-f="${productOf(chosen)} ${chosen.first}"]`);
@@ -1132,7 +1132,7 @@ function drawBar() {
   document.body.classList.toggle('chosen', Boolean(is));
   if (!is) { bar.replaceChildren(); delete bar.dataset.key; return; }
   const key = JSON.stringify([chosen, draft.steps.map(step => step.options.length), fits(chosen)]);
-  if (bar.dataset.key === key) return;
+  if (bar.dataset.key === key) { enterBar(bar); return; }
   bar.dataset.key = key;
   const most = MOST[chosen.kind], steps = draft.steps.length;
   const set = name => value => {
@@ -1156,6 +1156,14 @@ function drawBar() {
           onchange: event => { into = +event.target.value; },
         }, draft.steps.map((step, n) => h('option', { value: n + 1, selected: n + 1 === into }, `step ${n + 1}`)))),
       button('Drop', 'bar.drop', unchoose, { class: 'flat', 'aria-label': 'Drop the choice' })));
+  enterBar(bar);
+}
+// enterBar(bar): where a key has chosen, the focus goes on to the bar, once that is drawn
+let entersBar = false;
+function enterBar(bar) {
+  if (!entersBar || !bar.dataset.key) return;
+  entersBar = false;
+  (bar.querySelector('[data-f="bar.step"]') || bar.querySelector('button')).focus();
 }
 $('bar').addEventListener('keydown', event => { if (event.key === 'Escape') { event.preventDefault(); unchoose(); } });
 
