@@ -91,7 +91,7 @@ def failure_of(act, spoil=None):
             act(scene)
             return ""
         except AssertionError as wrong:
-            return str(wrong)
+            return str(wrong) or traceback.format_exc(limit=-4)
         except Exception:  # whatever else stops a scene is wrong too
             return traceback.format_exc(limit=-4)
         finally:

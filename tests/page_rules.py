@@ -49,7 +49,8 @@ def names_of(browser):
 
 def look_at(browser, what, widths=(360, 1280, 1920)):
     """No rule is broken by what is shown."""
-    same(f"{what}: names", [], names_of(browser))
+    # the browser completes its tree a while after the page
+    comes(f"{what}: names", [], lambda: names_of(browser))
     for scheme in ("dark", "light"):
         browser.scheme(scheme)
         for width in widths:
