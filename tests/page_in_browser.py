@@ -20,8 +20,9 @@ SCENES = {
     scene.__name__: scene for scene in (
         page_lost.nothing_twice, page_rules.large, page_rules.rules, page_scenes.by_clicks, page_scenes.by_keys,
         page_views.not_while_hidden, page_lost.many_wait, page_lost.hang_and_kill, page_scenes.last_place,
-        page_foreign.foreign_pages, page_scenes.refused_by_the_desk, page_scenes.refusals_in_words, page_views.draft_is_changed,
-        page_views.agents_are_apart, page_views.another_file, page_views.filters, page_rules.focus_order, page_rules.first_visit,
+        page_foreign.foreign_pages, page_scenes.refused_by_the_desk, page_scenes.refusals_in_words, page_scenes.asked_twice,
+        page_views.draft_is_changed, page_views.agents_are_apart, page_views.another_file, page_views.filters,
+        page_rules.focus_order, page_rules.first_visit,
     )
 }
 
@@ -76,6 +77,7 @@ SPOILED = (
      ":focus-visible { outline: 0 solid var(--accent);", page_rules.focus_order, "one sees that the focus is at"),
     ("own journeys end with a page", "if (page.length < PAGE) return true;", "return true;", page_rules.large,
      "'all (1000)' in #list"),
+    ("an answer that an older question gets", "if (!box.open) then(is);", "then(is);", page_scenes.asked_twice, "the item"),
     ("a list that is left without its plans", "  delete $('list').dataset.key;\n  drawList();\n", "  drawList();\n", page_rules.large,
      "the plans"),
 )

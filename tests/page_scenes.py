@@ -308,6 +308,17 @@ def refused_by_the_desk(scene):
         comes("what may be done then", False, lambda: button in browser.names(".acts button"))
 
 
+def asked_twice(scene):
+    """A question that is answered by no, and at once asked again, takes the second answer."""
+    browser = scene.browser
+    scene.begins(steps=1)
+    scene.shows_journey(1)
+    browser.script(
+        "arguments[0].click(); document.getElementById('sure-no').click(); arguments[0].click()", browser.named(START, ".acts")
+    )
+    scene.does_yes("B0a")
+
+
 def last_place(scene):
     """Two agents in two windows want the last place: one has it, the other is told, and both see that it is gone."""
     browser, driver = scene.browser, scene.browser.driver

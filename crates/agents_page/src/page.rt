@@ -2,7 +2,7 @@
 
 /// What the page may load and do: its own style and script, and requests to the desk that served it.
 pub const POLICY: &str =
-    r#"default-src 'none'; script-src 'sha256-w8zAyPlh/Q6TG+R+1NY/MhuUc9MrCottge3YdYvShgs='; style-src 'sha256-bbvFO2V/nRRXjDXkhnhMW8AlP1SCRZEWsCrtSytBsKQ='; connect-src 'self'; frame-ancestors 'none'; base-uri 'none'; form-action 'none'"#;
+    r#"default-src 'none'; script-src 'sha256-Dgkhq4CBFO28OW032klh0wEQWt/PAMnRZEo7LaMYE9w='; style-src 'sha256-bbvFO2V/nRRXjDXkhnhMW8AlP1SCRZEWsCrtSytBsKQ='; connect-src 'self'; frame-ancestors 'none'; base-uri 'none'; form-action 'none'"#;
 
 /// The page, in HTML.
 pub const PAGE: &str = r##"<!doctype html>
@@ -842,7 +842,8 @@ function sure(title, text, yes) {
     let is = false;
     $('sure-yes').onclick = () => { is = true; box.close(); };
     $('sure-no').onclick = () => box.close();
-    box.onclose = () => then(is);
+    // the box may be open again by the time that this is told
+    box.onclose = () => { if (!box.open) then(is); };
     box.showModal();
     $('sure-no').focus();
   });
