@@ -1,5 +1,4 @@
 """A headless Chromium beside another client of one desk. Prints what went wrong, and nothing else."""
-import os
 import signal
 import subprocess
 import time
@@ -7,10 +6,10 @@ import time
 from selenium import webdriver
 from selenium.webdriver.chrome.service import Service
 
-from driving import DESK, Client, free_port, is_whole, request
+from driving import DESK, Client, free_port, is_whole, request, sockets_of
 
 STOCK = request("GET", "/stock")
-AT_ONCE = 20  # seconds: the most that anybody waits beside silent connections
+AT_ONCE = 5  # seconds: the most that anybody waits
 wrong = []
 
 # Asks for the stock so many times at once, and returns each status and body.
@@ -60,16 +59,7 @@ def browser():
 
 def connections(served):
     """How many connections the desk has: its sockets but the one that listens."""
-    folder = f"/proc/{served.pid}/fd"
-    return sum(is_socket(f"{folder}/{name}") for name in os.listdir(folder)) - 1
-
-
-def is_socket(path):
-    """Whether this descriptor is a socket; one that was closed meanwhile is none."""
-    try:
-        return os.readlink(path).startswith("socket:")
-    except FileNotFoundError:
-        return False
+    return sockets_of(served) - 1
 
 
 def timed(what, call):
@@ -108,7 +98,9 @@ def main():
     driver = browser()
     try:
         driver.set_script_timeout(60)
+        # the first time the browser itself takes a while
         driver.get(f"http://127.0.0.1:{port}/stock")
+        timed("the first page, once more", lambda: driver.get(f"http://127.0.0.1:{port}/stock"))
         holds("the first page", '{"name":"NoAgent","refused":2}' in driver.page_source)
         look(served, port, driver)
     finally:

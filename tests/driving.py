@@ -103,6 +103,20 @@ class Server:
         self.process.communicate()
 
 
+def sockets_of(process):
+    """How many sockets a process has, of those that listen and those of connections."""
+    folder = f"/proc/{process.pid}/fd"
+    return sum(is_socket(f"{folder}/{name}") for name in os.listdir(folder))
+
+
+def is_socket(path):
+    """Whether this descriptor is a socket; one that was closed meanwhile is none."""
+    try:
+        return os.readlink(path).startswith("socket:")
+    except FileNotFoundError:
+        return False
+
+
 def request(method, path, key="", body=b""):
     """The bytes of a request of ann's."""
     fields = ["Host: d", "Desk-Agent: ann"]

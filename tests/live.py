@@ -9,7 +9,7 @@ import subprocess
 import threading
 import time
 
-from driving import DESK, Client, desk, free_port, is_whole, request
+from driving import DESK, Client, desk, free_port, is_whole, request, sockets_of
 
 FLIGHT = b'{"count":1,"first":"2030-06-01","kind":"flight","nights":1,"product":"A1","supplier":"AL"}'
 PLAN = b'{"steps":[{"options":[' + FLIGHT + b'],"save":false}],"tries":0}'
@@ -86,20 +86,6 @@ def is_served(what, port):
     holds(f"{what}: another one is served", body_of(client.ask(STOCK)).rstrip().endswith(b"cells 1"))
     holds(f"{what}: and at once", time.monotonic() - begun < MEANWHILE)
     client.close()
-
-
-def sockets_of(served):
-    """How many sockets a desk has, of those that listen and those of connections."""
-    folder = f"/proc/{served.process.pid}/fd"
-    return sum(is_socket(f"{folder}/{name}") for name in os.listdir(folder))
-
-
-def is_socket(path):
-    """Whether this descriptor is a socket; one that was closed meanwhile is none."""
-    try:
-        return os.readlink(path).startswith("socket:")
-    except FileNotFoundError:
-        return False
 
 
 def seconds_until(is_so, most, begun):
@@ -180,7 +166,7 @@ def never_reads():
     begun = time.monotonic()
     holds("never reads: another one is served", is_whole(Client(greedy.port).ask(UNFINISHED)))
     holds("never reads: and at once", time.monotonic() - begun < MEANWHILE)
-    took = seconds_until(lambda: sockets_of(greedy) == 1, 200, started)
+    took = seconds_until(lambda: sockets_of(greedy.process) == 1, 200, started)
     holds(f"never reads: it is ended 30 seconds after it took no more, {took:.1f}", 29.5 < took < 200)
     seconds_to_end(stream, begun)
     with open(f"/proc/{greedy.process.pid}/status", encoding="ascii") as lines:
@@ -436,7 +422,7 @@ def resets():
     begun = {body_of(client.ask(post("/journeys", f"k{number}", PLAN, "rex"))) for number in range(400) if number % 4 > 1}
     same("after resets: a journey for each that began one", 200, len(begun))
     same("after resets: no journey more", b'{"journey":201}', body_of(client.ask(post("/journeys", "last", PLAN, "rex"))))
-    took = seconds_until(lambda: sockets_of(torn) == 2, 20, time.monotonic())
+    took = seconds_until(lambda: sockets_of(torn.process) == 2, 20, time.monotonic())
     holds(f"after resets: no connection is left, {took:.1f}", took < 20)
     client.close()
     torn.kill()

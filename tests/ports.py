@@ -1,5 +1,5 @@
-"""Free ports for tests: below those that the system gives to clients and to whoever asks for any port, so that nothing else on the
-machine takes one between two lives of a desk. As a script, prints one."""
+"""Free ports for tests: below those that the system gives out, so that no client, and nobody who asks for any port, takes one
+between two lives of a desk. As a script, prints one."""
 import random
 import socket
 

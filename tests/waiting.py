@@ -92,7 +92,7 @@ def run(words, lines, pause, at_terminal=("err",)):
 def shows_numbers(what, shown, most):
     """The terminal was shown rising numbers of lines, at most `most`, and they were taken away again."""
     numbers = [int(number) for number in re.findall(r"desk: lines read: (\d+)\r", shown)]
-    same(f"{what}: some number is shown", True, len(numbers) >= 2)
+    same(f"{what}: some numbers are shown", True, len(numbers) >= 3)
     same(f"{what}: the numbers rise", sorted(set(numbers)), numbers)
     same(f"{what}: the last number", True, bool(numbers) and 0 < numbers[-1] <= most)
     same(f"{what}: nothing else is shown", "".join(f"desk: lines read: {n}\r" for n in numbers) + AWAY, shown)
