@@ -51,5 +51,5 @@ close_rooms() {
 # copy_sources: copies the sources once, so that all rooms have the same, whatever changes meanwhile
 copy_sources() {
   mkdir -p "$rooms/sources" && : >"$rooms/began" &&
-    tar -C "$top" --exclude=out --exclude=must-fail -cf - crates crates.txt HANDLES | tar -C "$rooms/sources" -xf -
+    tar -C "$top" --exclude=out --exclude=must-fail --exclude=mutants -cf - crates crates.txt HANDLES | tar -C "$rooms/sources" -xf -
 }
