@@ -1,4 +1,4 @@
-# How long the gate and the build are likely to take, by docs/minutes.tsv. For scripts that have set top.
+# How long the build is likely to take, by docs/minutes.tsv. For scripts that have set top.
 : "${top:?the top of the repository}"
 
 # lanes_of MEGABYTES: how many checks of that much memory run side by side: one a processor, as many as the free memory holds.
@@ -13,37 +13,31 @@ lanes_of() {
 }
 
 # the beginning of an awk program that reads docs/minutes.tsv, crates.txt and then its own lines: what each crate stands on
-# (uses), its minutes (proof, tests, edits), and proof_minutes(NAME), two for a crate without a row
+# (uses), the minutes of its proof, and proof_minutes(NAME), two for a crate without a row
 minutes_tables='
-    function had(value, instead) { return value == "" || value == "-" ? instead : value }
-    function proof_minutes(name) { return name in proof ? had(proof[name], 0) : 2 }
-    FILENAME ~ /minutes\.tsv$/ { if (!/^#/) { proof[$1] = $2; tests[$1] = $3; edits[$1] = $4 }; next }
+    function proof_minutes(name) { return !(name in proof) ? 2 : proof[name] == "-" ? 0 : proof[name] }
+    FILENAME ~ /minutes\.tsv$/ { if (!/^#/) proof[$1] = $2; next }
     FILENAME ~ /crates\.txt$/ { sub(/#.*/, ""); if (split($0, half, ":") > 1) { split(half[1], w, " "); uses[w[1]] = half[2] }; next }
 '
 
-# minutes_reckoned LANES: reads lines "CRATE TESTS EDITS ALL PART": TESTS is 1 if its tests are run, else 0; EDITS is how many
-# of its ALL edits are tried; PART is the part of its proof that is left, 1 if absent. Prints how many minutes that takes on
-# so many processors: all work, divided among them, or the longest chain of crates that wait for each other, whichever is
-# longer. A crate without a row counts as one of two minutes, and an edit of which nothing was seen as a fifth of a minute.
+# minutes_reckoned LANES: reads lines "CRATE PART", where PART is the part of its proof that is left. Prints how many minutes
+# that takes on so many processors: all work, divided among them, or the longest chain of crates that wait for each other,
+# whichever is longer.
 minutes_reckoned() {
   awk -v lanes="$1" "$minutes_tables"'
     function proof_of(name) { return part[name] * proof_minutes(name) }
-    function later(name,    word, i, at) {
-      if (name in ready) return ready[name]
-      ready[name] = 0
+    function ended(name,    word, i, at) {
+      if (name in known) return known[name]
       for (i = split(uses[name], word, " "); i > 0; i--) {
-        if (word[i] in asked && later(word[i]) > at) at = later(word[i])
+        if (word[i] in part && ended(word[i]) > at) at = ended(word[i])
       }
-      return ready[name] = at + proof_of(name)
+      return known[name] = at + proof_of(name)
     }
-    { asked[$1] = 1; tested[$1] = $2; tried[$1] = $3; all[$1] = $4; part[$1] = NF > 4 ? $5 : 1 }
+    { part[$1] = $2 }
     END {
-      for (name in asked) {
-        own = tested[name] * had(tests[name], 0)
-        own += tried[name] * (all[name] && had(edits[name], 0) ? edits[name] / all[name] : 0.2)
-        end = later(name) + own
-        if (end > longest) longest = end
-        sum += own + proof_of(name)
+      for (name in part) {
+        if (ended(name) > longest) longest = ended(name)
+        sum += proof_of(name)
       }
       wall = sum / lanes > longest ? sum / lanes : longest
       printf "%d\n", wall + 0.999

@@ -1,0 +1,163 @@
+"""The gate: proves all that it chooses by `rt ci`, tries mutants and runs the scripts beside it, and counts what passed.
+
+python3 scripts/gate LANES [--since REVISION | --all | --quick | --turns | --landing]
+
+LANES is the number of checks side by side. docs/GATE.md says what is chosen. Exit status: 0 all has passed, 1 something failed,
+2 wrong words, or another gate runs here.
+"""
+
+import fcntl
+import os
+import shutil
+import signal
+import sys
+import time
+from pathlib import Path
+
+from changes import Unknown, revision_of
+from choice import everything, first_look, of_landing
+from landings import add_landing, this_landing
+from lanes import Fillers, end_group, reckoned
+from proving import Proving, make_copy, wrongly_laid_out
+from tables import Tables
+from tasks import Results, all_tasks
+from telling import tell_choice, tell_first_look, tell_minutes, tell_turns
+
+TOP = Path(__file__).resolve().parents[2]
+# For how many seconds a processor is idle before a task fills it.
+PAUSE = 3
+USAGE = "usage: ./check [--since REVISION | --all | --quick | --turns | --landing]"
+
+
+def say(text):
+    print(f"check: {text}", flush=True)
+
+
+class Gate:
+    """One run of the gate."""
+
+    def __init__(self, tables, lanes):
+        self.tables, self.lanes = tables, lanes
+        self.copy, self.heard = TOP / "out/gate", TOP / "out/gate.said"
+        self.began = time.time()
+        self.results = Results(say)
+        self.proving = self.fillers = None
+        self.kept = set()
+
+    def run(self, choice):
+        """Tries all that was chosen, and returns whether everything passed."""
+        tasks = all_tasks(self, choice, self.results)
+        minutes = reckoned(tasks, self.lanes)
+        say(f"this takes about {minutes:.0f} minutes, with {self.lanes} checks side by side")
+        make_copy(self.tables, choice.crates, self.copy)
+        odd = wrongly_laid_out(self.tables, choice.crates, self.copy, self.lanes)
+        for file in odd:
+            say(f"rt fmt lays out {file} differently")
+        if odd:
+            return False
+        self.heard.mkdir(exist_ok=True)
+        self.proving = Proving(self.copy, self.lanes)
+        self.fillers = Fillers([it for it in tasks if it.fills], self.heard, self.lanes)
+        self.wait()
+        tell_minutes(self.proving.minutes(), say)
+        say(f"this took {(time.time() - self.began) / 60:.0f} minutes, and was reckoned {minutes:.0f}")
+        passed = self.results.tell(self.fillers.waiting)
+        if choice.over_trial:
+            tell_first_look(self.tables, choice, self.results, say)
+        return self.proving.status() == 0 and passed
+
+    def wait(self):
+        """Waits until all has ended, and begins what fills the processors that `rt ci` leaves free."""
+        busy_at = 0.0
+        while True:
+            has_ended, busy = self.proving.has_ended(), self.proving.look()
+            done = self.done(has_ended)
+            if busy + len(self.fillers.running) >= self.lanes:
+                busy_at = time.monotonic()
+            # between two checks `rt ci` works for a moment by itself
+            is_idle = has_ended or time.monotonic() - busy_at > PAUSE
+            self.fillers.look(done, self.lanes - busy if is_idle else 0)
+            if has_ended and not self.fillers.running:
+                return
+            time.sleep(0.5)
+
+    def done(self, has_ended):
+        """Returns what `rt ci` has done, once the programs that it built stand where the scripts look for them."""
+        done = {*self.proving.done}
+        if has_ended and self.proving.status() == 0:
+            # it does not say of tests that they were proved by an earlier run
+            done |= {(name, kind) for name in self.tables.uses for kind in ("proof", "tests")}
+        for name, kind in done - self.kept:
+            self.keep_program(name, name if kind == "proof" else f"{name}_tests")
+        self.kept |= done
+        return done
+
+    def keep_program(self, name, program):
+        """Copies a program that `rt ci` built to where the scripts look for it, as old as the sources that it was built from."""
+        made, to = self.copy / "crates" / name / "out" / program, TOP / "crates" / name / "out"
+        if made.is_file():
+            to.mkdir(exist_ok=True)
+            shutil.copy2(made, to / f".{program}")
+            os.utime(to / f".{program}", (self.began, self.began))
+            (to / f".{program}").replace(to / program)
+
+    def end(self):
+        """Ends what runs, and removes what this run has made."""
+        if self.fillers:
+            self.fillers.end()
+        if self.proving and not self.proving.has_ended():
+            end_group(self.proving.process)
+        shutil.rmtree(self.copy, ignore_errors=True)
+        shutil.rmtree(self.heard, ignore_errors=True)
+
+
+def choose(tables, lanes, words):
+    """Returns what a run with these words tries."""
+    if words == ["--all"]:
+        return everything(tables)
+    if words == ["--quick"]:
+        return first_look(tables)
+    number, since = this_landing(TOP, say)
+    if words:
+        since = revision_of(TOP, words[1])
+    choice = of_landing(tables, lanes, number, since)
+    tell_choice(tables, lanes, number, since, choice, say)
+    return choice
+
+
+def stop(number, _frame):
+    """Ends the run at a signal, with the status of a shell."""
+    sys.exit(128 + number)
+
+
+def main(words):
+    lanes, words = int(words[0]), words[1:]
+    tables = Tables(TOP)
+    if words == ["--turns"]:
+        return tell_turns(tables, lanes, this_landing(TOP, say)[0], say)
+    if words == ["--landing"]:
+        return add_landing(TOP, say)
+    if words[:1] not in ([], ["--all"], ["--quick"], ["--since"]) or len(words) != (2 if words[:1] == ["--since"] else len(words[:1])):
+        print(USAGE, file=sys.stderr)
+        return 2
+    (TOP / "out").mkdir(exist_ok=True)
+    with open(TOP / "out/gate.lock", "w", encoding="ascii") as lock:
+        try:
+            fcntl.flock(lock, fcntl.LOCK_EX | fcntl.LOCK_NB)
+        except BlockingIOError:
+            say("another ./check runs here")
+            return 2
+        for number in (signal.SIGHUP, signal.SIGINT, signal.SIGTERM):
+            signal.signal(number, stop)
+        gate = Gate(tables, lanes)
+        try:
+            return 0 if gate.run(choose(tables, lanes, words)) else 1
+        except Unknown as error:
+            say(f"git cannot tell: {error}")
+            return 2
+        finally:
+            gate.end()
+
+
+if __name__ == "__main__":
+    sys.exit(main(sys.argv[1:]))

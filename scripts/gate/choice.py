@@ -1,0 +1,112 @@
+"""What one gate tries: every proof of the program, and of the tests, the mutants and the long scripts what has changed and
+whose turn it is.
+
+Whether a mutant is refused, and whether a test is proved, depends on nothing but the sources of its crate, of those below,
+and the toolchain. So what has changed comes first, and everything else comes by turns of landings.
+"""
+
+from dataclasses import dataclass, field
+
+from changes import Unknown, changed_crates, changed_mutants
+from tables import LAST_CHECK
+from turns import mutant_turns, mutants_in, part_of_script, share_of, test_turns
+
+# The minutes of each processor that mutants, and crates of tests, of what has changed may take beyond the turn's share.
+CHANGED_MINUTES = 4
+# The crate up to which a first look proves, and the minutes below which it takes a script.
+CORE, SHORT = "saga_core", 0.9
+
+
+@dataclass
+class Choice:
+    """What a gate tries."""
+
+    # the crates that are proved, and whose tests are
+    crates: list = field(default_factory=list)
+    # of each crate the paths of the mutants
+    mutants: dict = field(default_factory=dict)
+    # of each script its part (K, N)
+    scripts: dict = field(default_factory=dict)
+    # the crates with a source that has changed, and how many steps the others are above one
+    changed: set = field(default_factory=set)
+    above: dict = field(default_factory=dict)
+    # whether this is the whole run, which goes on where one before was ended
+    is_whole: bool = False
+    # whether the scripts run over a trial program, which is compiled without its proofs
+    over_trial: bool = False
+
+
+def everything(tables):
+    """Returns the choice of the whole run."""
+    scripts = {name: (1, 1) for name in tables.scripts}
+    mutants = {name: found for name, found in tables.mutants.items() if found}
+    return Choice([*tables.uses], mutants, scripts, is_whole=True)
+
+
+def first_look(tables):
+    """Returns the choice of a first look: the core with its tests, and the short scripts over a trial program."""
+    core = tables.below(CORE)
+    tests = [name for name in tables.by_turns() if {*tables.uses[name]} <= {*core}]
+    scripts = {name: (1, 1) for name in tables.scripts if tables.script(name) < SHORT}
+    return Choice(core + tests, scripts=scripts, over_trial=True)
+
+
+def of_landing(tables, lanes, landing, since):
+    """Returns what a gate with so many checks side by side tries at a landing, whose changes are those since a revision."""
+    choice = Choice()
+    choice.changed, changed = changed_since(tables, since)
+    choice.above = tables.above(choice.changed)
+    choice.crates = crates_of(tables, lanes, landing, choice)
+    for part in share_of(mutant_turns(tables, lanes), landing):
+        choice.mutants.setdefault(part[0], []).extend(mutants_in(tables, part))
+    add_changed_mutants(tables, lanes, landing, choice, changed)
+    for name in tables.scripts:
+        parts = tables.script_parts(name)
+        choice.scripts[name] = (part_of_script(parts, landing), parts)
+    return choice
+
+
+def changed_since(tables, since):
+    """Returns the crates and the mutants that have changed since a revision: none without one, all crates where history lacks it."""
+    try:
+        return (changed_crates(tables, since), changed_mutants(tables.top, since)) if since else (set(), set())
+    except Unknown:
+        return {*tables.uses}, set()
+
+
+def nearest_first(choice, names):
+    """Returns the names that have changed or stand above such a crate, the changed ones first and then the nearest."""
+    steps = {**choice.above, **{name: 0 for name in choice.changed}}
+    return sorted((name for name in names if name in steps), key=lambda it: steps[it])
+
+
+def crates_of(tables, lanes, landing, choice):
+    """Returns the crates that are proved: all but those by turns whose turn it is not, and that a change does not bring."""
+    by_turns = tables.by_turns()
+    taken, left = set(share_of(test_turns(tables, lanes), landing)), CHANGED_MINUTES * lanes
+    for name in nearest_first(choice, by_turns):
+        minutes = tables.proof(name) + tables.tests(name)
+        if name not in taken and minutes <= left:
+            left -= minutes
+            taken.add(name)
+    return [name for name in tables.uses if name not in by_turns or name in taken]
+
+
+def add_changed_mutants(tables, lanes, landing, choice, changed):
+    """Adds the mutants that have changed, those of crates that have, and those of the crates above, as far as their minutes go."""
+    left = CHANGED_MINUTES * lanes
+    own = [(name, [it for it in found if it in changed]) for name, found in tables.mutants.items()]
+    for name, wanted in own + [(name, tables.mutants[name]) for name in nearest_first(choice, tables.uses)]:
+        tried = choice.mutants.get(name, [])
+        wanted = [it for it in rotated(wanted, landing) if it not in tried]
+        begin = 0 if tried else tables.proof(name) + LAST_CHECK
+        count = min(len(wanted), int((left - begin) / (tables.mutant(name) or 1)))
+        if count > 0:
+            left -= begin + count * tables.mutant(name)
+            choice.mutants[name] = tried + wanted[:count]
+
+
+def rotated(things, by):
+    """Returns a list that begins elsewhere at each landing."""
+    at = 7 * by % len(things) if things else 0
+    return things[at:] + things[:at]

@@ -1,0 +1,198 @@
+"""Mutants of a crate: which function's body each changes, which functions reach which, and which mutants may share a check."""
+
+import os
+import re
+from collections import namedtuple
+
+# A mutant, with its pairs of a file, an old text and a new one.
+Edit = namedtuple("Edit", "name path pairs")
+# A function: its file, impl and path, the start of its closures' paths, the folders of their proofs, its line and those of its body
+Function = namedtuple("Function", "file owner path closures folders head first last")
+HEAD = re.compile(r"( *)(?:pub(?:\([^)]*\))? )?fn (\w+)")
+ITEM = re.compile(r"^\s*(?:#!?\[|(?:pub\b.*? )?(?:unsafe |const )*(?:fn|impl|struct|enum|trait|mod|static|const|type|use)\b)|\bmacro_rules\b", re.M)
+
+
+class Stopped(Exception):
+    """Nothing can be tried, for the reason that it holds."""
+
+
+def text_of(path):
+    """The text of a file."""
+    with open(path, encoding="utf-8") as it:
+        return it.read()
+
+
+def read_edit(path):
+    """An edit with its pairs, each a file, an old text and a new one."""
+    file, old, pairs = "", None, []
+    for line in text_of(path).split("\n"):
+        if line.startswith("file: "):
+            file = line[6:].strip()
+        elif line.startswith("old: "):
+            old = line[5:]
+        elif line.startswith("new:") and old is not None:
+            pairs.append((file, old, line[4:].removeprefix(" ")))
+            old = None
+    return Edit(os.path.basename(path), path, pairs)
+
+
+def edits_of(crate, names):
+    """The edits of both folders, or those of these names."""
+    folders = [f"{crate}/{it}" for it in ("must-fail", "mutants") if os.path.isdir(f"{crate}/{it}")]
+    paths = [f"{folder}/{it}" for folder in folders for it in sorted(os.listdir(folder)) if it.endswith(".edit")]
+    found = [read_edit(it) for it in paths if not names or os.path.basename(it) in names]
+    lacking = set(names) - {it.name for it in found}
+    if lacking or len({it.name for it in found}) < len(found):
+        raise Stopped(f"no such edit: {', '.join(sorted(lacking))}" if lacking else "an edit's name stands in both folders")
+    return found
+
+
+def texts_of(edit, crate):
+    """The whole texts that the edit makes of the files that it names; nothing where it cannot be applied, or changes nothing."""
+    texts, were = {}, {}
+    for file, old, new in edit.pairs:
+        if file not in texts:
+            if not re.match(r"(src|specs|proofs)/", file) or not os.path.isfile(f"{crate}/{file}"):
+                return {}
+            texts[file] = were[file] = text_of(f"{crate}/{file}")
+        if texts[file].count(old) != 1:
+            return {}
+        texts[file] = texts[file].replace(old, new)
+    return {file: text for file, text in texts.items() if text != were[file]}
+
+
+def sources_of(crate):
+    """The lines of each source of a crate, by its path in it."""
+    found = [f"{at}/{name}" for at, _, names in os.walk(f"{crate}/src") for name in names if name.endswith(".rt")]
+    return {os.path.relpath(it, crate): text_of(it).split("\n") for it in sorted(found)}
+
+
+def changes(edit, sources):
+    """The lines that the edit makes, by file and number from 1; nothing where it cannot be applied to sources alone."""
+    texts = {file: "\n".join(lines) for file, lines in sources.items()}
+    for file, old, new in edit.pairs:
+        if texts.get(file, "").count(old) != 1:
+            return {}
+        texts[file] = texts[file].replace(old, new)
+    return {(file, at): line for file, lines in sources.items() for at, line in enumerate(texts[file].split("\n"), 1) if line != lines[at - 1]}
+
+
+def without_arguments(words):
+    """What stands outside angle brackets."""
+    words, before = words.replace("->", ""), None
+    while words != before:
+        words, before = re.sub(r"<[^<>]*>", "", words), words
+    return words
+
+
+def names_of_impl(header):
+    """The names by which rattle may call an impl: by its type, its type and trait, and the trait's argument."""
+    header = re.sub(r"^impl\b", "", header.split(" where ")[0]).rstrip(" {")
+    names = [it.strip().split("::")[-1] for it in without_arguments(header).split(" for ")]
+    argument = re.search(r"\w<(?:\w+::)*(\w+)[^,]*> for ", header)
+    base = "".join(reversed(names))
+    return [base, base + argument[1]] if argument and len(names) == 2 else [base]
+
+
+def impls_in(lines):
+    """The impls of a file: the numbers of their first and last lines, and their names."""
+    for at, line in enumerate(lines, 1):
+        if re.match(r"impl\b", line):
+            opens = next((it for it in range(at, len(lines) + 1) if lines[it - 1].endswith("{")), at)
+            ends = next((it for it in range(opens, len(lines) + 1) if lines[it - 1] == "}"), at)
+            yield at, ends, names_of_impl(" ".join(it.strip() for it in lines[at - 1 : opens]))
+
+
+def body_after(lines, at, indent):
+    """The numbers of the first and the last line of the body whose function begins at this line, or None."""
+    level = [it for it in range(at, len(lines) + 1) if re.match(indent + r"\S", lines[it - 1])]
+    opens = next((it for it in level if lines[it - 1].endswith(("{", ";", "}"))), None)
+    ends = next((it for it in level if opens and it > opens and lines[it - 1] == indent + "}"), None)
+    return (opens + 1, ends - 1) if ends and lines[opens - 1].endswith("{") else None
+
+
+def functions_in(name, file, lines):
+    """The functions of a file, which `rt fmt` has laid out, free ones and those of impls. One of an impl may have two names."""
+    module = [it for it in re.sub(r"(^|/)(lib|main|mod)$", "", file[4:-3]).split("/") if it]
+    impls = list(impls_in(lines))
+    for at, line in enumerate(lines, 1):
+        head = HEAD.match(line)
+        span = head and len(head[1]) in (0, 4) and body_after(lines, at, head[1])
+        owners = [of for first, last, names in impls if first < at < last for of in names] if head and head[1] else [""]
+        for owner in owners if span else []:
+            rest = [it for it in (owner, head[2]) if it]
+            folders = tuple("/".join(["proofs", *module, *it, ""]) for it in (rest, ["fn", *rest]))
+            yield Function(file, owner, "::".join([name, *module, *rest]), "::".join([name, *module, "fn", *rest, ""]), folders, at, *span)
+
+
+def functions_of(name, sources, proved):
+    """The functions of a crate by their paths, where these are certain: rattle proved one of that path, and no other has it or its lines."""
+    every = [it for file, lines in sources.items() for it in functions_in(name, file, lines) if it.path in proved]
+    is_one = lambda it: sum(it.path == other.path or it.file == other.file and it.first <= other.last and other.first <= it.last for other in every) == 1
+    return {it.path: it for it in every if is_one(it)}
+
+
+def body(function, sources, changed={}):
+    """The text of a function's body, with these lines changed."""
+    lines = enumerate(sources[function.file][function.first - 1 : function.last], function.first)
+    return "\n".join(changed.get((function.file, at), line) for at, line in lines)
+
+
+def function_of(edit, functions, sources):
+    """The one function whose body the edit changes, or None: then it is tried alone."""
+    changed = changes(edit, sources)
+    found = {of for file, at in changed for of in [next((it for it in functions.values() if file == it.file and it.first <= at <= it.last), None)]}
+    of = found.pop() if len(found) == 1 else None
+    return of if of and not ITEM.search(body(of, sources) + "\n" + body(of, sources, changed)) else None
+
+
+def proofs_named(crate, function):
+    """The modules below proofs/ that the function's proof files name, also through lemmas."""
+    todo = [f"{at}/{it}" for part in function.folders for at, _, names in os.walk(f"{crate}/{part}") for it in names if it.endswith(".antt")]
+    seen = set()
+    while todo:
+        for named in set(re.findall(r"\bproofs\.([\w.+]*\w)", text_of(todo.pop()))) - seen:
+            seen.add(named)
+            todo += [it for it in [f"{crate}/proofs/{named.replace('.', '/')}.antt"] if os.path.isfile(it)]
+    return {f"{it}." for it in seen}
+
+
+def calls(of, text, functions):
+    """The functions that a text in the place of this one's body may call, by their names and by the type before the name."""
+    words = set(re.findall(r"(\w+::|\.|)\b(\w+)\b(?=(\(|::<)?)", text))
+    for it in functions.values():
+        name = it.path.split("::")[-1]
+        for before, word, after in words:
+            of_type = before[:-2].replace("Self", of.owner) if before.endswith("::") else ""
+            fits = len(of_type) == 1 or it.owner.startswith(of_type) or it.owner.endswith(of_type)
+            if word == name and (before and fits and (after or before != ".") if it.owner else before != "."):
+                yield it.path
+
+
+def reached(crate, functions, sources, fit):
+    """Of each function those that it reaches, by the names in its body, in those that edits make of it, and in its proof files."""
+    reach = {}
+    for path, of in functions.items():
+        texts = [body(of, sources), *[body(of, sources, changes(edit, sources)) for edit, its in fit if its == of]]
+        named = proofs_named(crate, of)
+        by_proof = {it for it in functions if any(one.startswith(it.split("::", 1)[1].replace("::", ".") + ".") for one in named)}
+        reach[path] = set(calls(of, "\n".join(texts), functions)) | by_proof - {path}
+    for middle in functions:
+        for path in functions:
+            if middle in reach[path]:
+                reach[path] |= reach[middle]
+    return reach
+
+
+def packed(fit, reach):
+    """Batches of edits, each with its function, of which no function is another one or reaches it."""
+    meet = lambda one, other: one == other or one.path in reach[other.path] or other.path in reach[one.path]
+    batches = []
+    for edit, of in sorted(fit, key=lambda it: -sum(meet(it[1], other) for _, other in fit)):
+        batch = next((it for it in batches if not any(meet(of, other) for _, other in it)), None)
+        if batch is None:
+            batches.append(batch := [])
+        batch.append((edit, of))
+    return batches
+
+

@@ -1,0 +1,120 @@
+"""Tasks side by side: how long they are likely to take, and how those that fill what `rt ci` leaves free are run."""
+
+import heapq
+import os
+import signal
+import subprocess
+import time
+from dataclasses import dataclass, field
+
+# The memory in kB that must be free before a task that proves begins.
+MEMORY = 5_000_000
+
+
+@dataclass(eq=False)
+class Task:
+    """Something that takes minutes, once what it waits for has ended."""
+
+    name: tuple
+    minutes: float
+    waits: list = field(default_factory=list)
+    # those of `rt ci` come first; the others fill the processors that it leaves free
+    fills: bool = False
+    # what runs it, and what is told of its end: (status, output, seconds)
+    words: list = field(default_factory=list)
+    environment: dict = field(default_factory=dict)
+    ended: object = None
+    proves: bool = False
+
+
+def chains(tasks):
+    """Returns of each task the minutes of the longest chain that begins with it."""
+    after = {}
+    for task in tasks:
+        for name in task.waits:
+            after.setdefault(name, []).append(task)
+    known = {}
+
+    def chain(task):
+        if task.name not in known:
+            known[task.name] = task.minutes + max((chain(it) for it in after.get(task.name, [])), default=0)
+        return known[task.name]
+
+    return {task.name: chain(task) for task in tasks}
+
+
+def reckoned(tasks, lanes):
+    """Returns the minutes that the tasks take, so many side by side: of those that can begin, those of `rt ci` first, and then those
+    on which the longest chain waits."""
+    longest = chains(tasks)
+    waiting = sorted(tasks, key=lambda it: (it.fills, -longest[it.name]))
+    now, running, done = 0.0, [], set()
+    while waiting or running:
+        for task in [it for it in waiting if done.issuperset(it.waits)][: lanes - len(running)]:
+            waiting.remove(task)
+            heapq.heappush(running, (now + task.minutes, task.name))
+        now, name = heapq.heappop(running)
+        done.add(name)
+    return now
+
+
+def free_memory():
+    """Returns how many kB of memory are free."""
+    with open("/proc/meminfo", encoding="ascii") as file:
+        return next(int(line.split()[1]) for line in file if line.startswith("MemAvailable:"))
+
+
+class Fillers:
+    """Runs tasks on the processors that others leave free, those that take longest first."""
+
+    def __init__(self, tasks, folder, lanes):
+        self.lanes = lanes
+        self.waiting = sorted(tasks, key=lambda it: -it.minutes)
+        self.folder = folder
+        self.running, self.done = {}, set()
+
+    def look(self, done, left):
+        """Takes in what has ended, and begins tasks on the processors that `rt ci` has left; one that proves only where memory is free, or
+        where nothing else runs."""
+        for task in [task for task, (process, _, _) in self.running.items() if process.poll() is not None]:
+            self._take_in(task)
+        done = done | self.done
+        idle = max(0, left - len(self.running))
+        for task in [it for it in self.waiting if done.issuperset(it.waits)][:idle]:
+            if not task.proves or free_memory() > MEMORY or not self.running and left == self.lanes:
+                self._begin(task)
+
+    def _begin(self, task):
+        self.waiting.remove(task)
+        heard = open(self.folder / "-".join(map(str, task.name)).replace("/", "_"), "w+", encoding="utf-8", errors="replace")
+        how = {"stdin": subprocess.DEVNULL, "stdout": heard, "stderr": subprocess.STDOUT, "process_group": 0}
+        nice = ["nice", "-n", "10"] if task.proves else []
+        process = subprocess.Popen([*nice, *task.words], env={**os.environ, **task.environment}, **how)
+        self.running[task] = process, heard, time.monotonic()
+
+    def _take_in(self, task):
+        process, heard, began = self.running.pop(task)
+        heard.seek(0)
+        task.ended(process.returncode, heard.read(), time.monotonic() - began)
+        heard.close()
+        if process.returncode == 0:
+            self.done.add(task.name)
+
+    def end(self):
+        """Ends what runs."""
+        for process, _, _ in self.running.values():
+            end_group(process)
+
+
+def end_group(process):
+    """Ends a process and all that it started in its group: asked to first, and made to after five seconds."""
+    for sent, seconds in ((signal.SIGTERM, 5), (signal.SIGKILL, None)):
+        try:
+            os.killpg(process.pid, sent)
+        except ProcessLookupError:
+            pass
+        try:
+            process.wait(seconds)
+            return
+        except subprocess.TimeoutExpired:
+            pass

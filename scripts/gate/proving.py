@@ -1,0 +1,98 @@
+"""`rt ci` in a copy of the repository: which crates it has proved so far, how many checks it runs, and how long each takes."""
+
+import os
+import re
+import shutil
+import subprocess
+import threading
+import time
+from concurrent.futures import ThreadPoolExecutor
+from pathlib import Path
+
+PROVED = re.compile(r"rt: (\w+)(: its tests are)? (?:proved|is kept: .*)$")
+
+
+def make_copy(tables, crates, copy):
+    """Makes a copy of the repository, which is one of its own to `rt`, with these crates alone and without their mutants."""
+    left_out = {(): {".git", "out"}, ("crates",): {*tables.uses} - {*crates}}
+
+    def leave(folder, names):
+        inside = Path(folder).relative_to(tables.top).parts
+        of_crate = {"out", "must-fail", "mutants"} if len(inside) == 2 and inside[0] == "crates" else set()
+        return left_out.get(inside, of_crate) & {*names}
+
+    shutil.rmtree(copy, ignore_errors=True)
+    shutil.copytree(tables.top, copy, ignore=leave, symlinks=True)
+    (copy / ".git").mkdir()
+    lines = [f"{name}: {' '.join(tables.depends[name])}\n" for name in crates]
+    (copy / "crates.txt").write_text("".join(lines), encoding="utf-8")
+
+
+def wrongly_laid_out(tables, crates, copy, lanes):
+    """Returns the sources that `rt fmt` lays out differently; it changes them in the copy. `rt ci` finds the same, late."""
+
+    def lay_out(name):
+        ran = subprocess.run(["rt", "fmt"], cwd=copy / "crates" / name, capture_output=True, text=True, check=False)
+        files = [it for it in (copy / "crates" / name).rglob("*.rt")]
+        odd = [it.relative_to(copy).as_posix() for it in files if it.read_bytes() != (tables.top / it.relative_to(copy)).read_bytes()]
+        return odd or ([f"crates/{name} ({ran.stdout}{ran.stderr})"] if ran.returncode else [])
+
+    with ThreadPoolExecutor(lanes) as pool:
+        return [file for files in pool.map(lay_out, crates) for file in files]
+
+
+class Proving:
+    """A run of `rt ci`."""
+
+    def __init__(self, copy, lanes):
+        environment = {**os.environ, **({"RT_JOBS": str(lanes)} if lanes > 1 else {})}
+        how = {"cwd": copy, "stdout": subprocess.PIPE, "stderr": subprocess.STDOUT, "stdin": subprocess.DEVNULL, "process_group": 0}
+        self.process = subprocess.Popen(["rt", "ci"], env=environment, text=True, errors="replace", **how)
+        self.done, self.seen = set(), {}
+        self.reader = threading.Thread(target=self._read, daemon=True)
+        self.reader.start()
+
+    def _read(self):
+        """Prints what `rt ci` says, and notes what is proved."""
+        for line in self.process.stdout:
+            print(line, end="", flush=True)
+            found = PROVED.match(line)
+            if found:
+                self.done.add((found[1], "tests" if found[2] else "proof"))
+
+    def has_ended(self):
+        return self.process.poll() is not None
+
+    def status(self):
+        """Returns its exit status, once all that it said is printed."""
+        self.reader.join()
+        return self.process.wait()
+
+    def look(self):
+        """Returns how many checks run now, and notes how long each has run."""
+        count = 0
+        for words in commands_of_children(self.process.pid) if not self.has_ended() else []:
+            if words[:1] != ["sh"]:
+                count += 1
+            if "--crate-name" in words:
+                name = words[words.index("--crate-name") + 1], "tests" if "--test" in words else "proof"
+                first, _ = self.seen.get(name, (time.monotonic(), 0))
+                self.seen[name] = first, time.monotonic()
+        return count
+
+    def minutes(self):
+        """Returns the minutes of each check that was seen."""
+        return {name: (last - first) / 60 for name, (first, last) in self.seen.items()}
+
+
+def commands_of_children(process):
+    """Returns the command lines of the processes that this one has begun."""
+    found = []
+    for entry in os.scandir("/proc"):
+        try:
+            if entry.name.isdigit() and int(Path(entry.path, "stat").read_text().rpartition(")")[2].split()[1]) == process:
+                found.append(Path(entry.path, "cmdline").read_bytes().decode(errors="replace").split("\0"))
+        except OSError:
+            # it has ended meanwhile
+            pass
+    return found

@@ -1,0 +1,160 @@
+"""The tasks of a gate: the proofs and tests that `rt ci` makes, and the mutants and scripts that are tried beside it."""
+
+import subprocess
+import sys
+from pathlib import Path
+
+from lanes import Task
+from tables import LAST_CHECK
+from tried import Tried
+
+# The script that runs the programs of the crates' tests, those that this gate has built.
+OVER_TESTS = "memory_of_crates.sh"
+# The part of a shell's script that knows trial programs; its first argument is the top of the repository.
+TRIAL = """
+top=$1
+say() { printf 'check: %s\\n' "$*"; }
+for file in program needs trial; do . "$top/scripts/$file.bash"; done
+trap 'exit 143' TERM
+"""
+# How much longer a script takes over a trial program.
+SLOWER = 1.7
+# The rows of docs/minutes.tsv for what `rt ci` does before its first proof, and for its runs of programs and tests at its end.
+READING, RUNNING = "(reading)", "(running)"
+
+
+def all_tasks(gate, choice, results):
+    """Returns the tasks of a choice."""
+    proofs = proving_tasks(gate.tables, choice)
+    trial = [trial_task(gate.tables, results)] if choice.over_trial else []
+    return proofs + trial + mutant_tasks(gate, choice, results) + script_tasks(gate, choice, results)
+
+
+def proving_tasks(tables, choice):
+    """Returns what `rt ci` does."""
+    tasks = [Task(("rt", "reading"), tables.number(READING, 0, 1.0))]
+    for name in choice.crates:
+        waits = [("rt", "reading")] + [(used, "proof") for used in tables.uses[name]]
+        tasks.append(Task((name, "proof"), tables.proof(name), waits))
+        if tables.tests(name):
+            tasks.append(Task((name, "tests"), tables.tests(name), waits))
+    return tasks + [Task(("rt", "running"), tables.number(RUNNING, 0, 1.0), [it.name for it in tasks])]
+
+
+def trial_task(tables, results):
+    """Returns what makes the trial program."""
+    task = Task(("trial", "program"), tables.number("(trial)", 0, 4.0), fills=True)
+    task.words, task.ended = ["bash", "-c", f"{TRIAL} trial_program", "", str(tables.top)], results.of_trial()
+    return task
+
+
+def trial_file(tables):
+    """Returns where the trial program of these sources stands."""
+    words = ["bash", "-c", f"{TRIAL} trial_file", "", str(tables.top)]
+    return subprocess.run(words, capture_output=True, text=True, check=True).stdout.strip()
+
+
+def mutant_tasks(gate, choice, results):
+    """Returns the tries of mutants, each once its crate is proved."""
+    tables, tasks = gate.tables, []
+    tried = Tried(tables, tables.top / "out/tried") if choice.is_whole else None
+    for name, mutants in choice.mutants.items():
+        if tried and tried.has(name, mutants):
+            results.of_earlier_mutants(name, len(mutants))
+            continue
+        minutes = tables.proof(name) + LAST_CHECK + len(mutants) * tables.mutant(name)
+        script = [sys.executable, "-B", str(tables.top / "scripts/mutants.py"), "--libraries", str(gate.copy), name]
+        task = Task((name, "mutants"), minutes, [(name, "proof")], fills=True, proves=True)
+        task.words, task.ended = script + [Path(it).name for it in mutants], results.of_mutants(name, mutants, tried)
+        tasks.append(task)
+    return tasks
+
+
+def script_tasks(gate, choice, results):
+    """Returns the runs of the scripts, each once the program is built."""
+    tables, tasks = gate.tables, []
+    tested = [name for name in choice.crates if tables.tests(name)]
+    share = sum(map(tables.tests, tested)) / (sum(map(tables.tests, tables.uses)) or 1)
+    program, ready, slower = tables.top / "crates/desk/out/desk", ("desk", "proof"), 1
+    if choice.over_trial:
+        program, ready, slower = trial_file(tables), ("trial", "program"), SLOWER
+    for name, (part, parts) in choice.scripts.items():
+        task = Task((name, "script"), tables.script(name) / parts * slower, [ready], fills=True)
+        if name == OVER_TESTS:
+            task.minutes, task.waits = tables.script(name) * share, [ready, *((it, "tests") for it in tested)]
+        task.words, task.ended = ["bash", str(tables.top / "tests" / name)], results.of_script(name)
+        task.environment = {"DESK": str(program), "TESTED": " ".join(tested)}
+        if parts > 1:
+            task.environment["PART"] = f"{part}/{parts}"
+        tasks.append(task)
+    return tasks
+
+
+class Results:
+    """What the mutants and the scripts came to, told as it comes and counted at the end."""
+
+    def __init__(self, say):
+        self.say = say
+        self.rejected, self.failed_mutants = 0, []
+        self.passed, self.failed, self.skipped, self.left_out = [], [], [], []
+
+    def of_mutants(self, name, mutants, tried):
+        """Returns what takes in the end of a try of mutants of a crate, and notes it where a whole run is to go on."""
+
+        def ended(status, heard, seconds):
+            print(heard, end="", flush=True)
+            self.say(f"{len(mutants)} mutants of {name}: {'each rejected' if status == 0 else 'FAILED'}, {seconds / 60:.1f} minutes")
+            if status != 0:
+                self.failed_mutants.append(name)
+                return
+            self.rejected += len(mutants)
+            if tried:
+                tried.add(name, mutants)
+
+        return ended
+
+    def of_earlier_mutants(self, name, count):
+        """Takes in that an earlier run had each of so many mutants rejected."""
+        self.say(f"{count} mutants of {name}: each rejected by an earlier run over the same sources")
+        self.rejected += count
+
+    def of_trial(self):
+        """Returns what takes in the end of making the trial program."""
+
+        def ended(status, heard, seconds):
+            print(heard, end="", flush=True)
+            self.say(f"the trial program {'is made' if status == 0 else 'FAILED'}, {seconds / 60:.1f} minutes")
+
+        return ended
+
+    def of_script(self, name):
+        """Returns what takes in the end of a script. One that lacks a tool, or whose turn it is not, says so in a line of its own."""
+
+        def ended(status, heard, seconds):
+            print(heard, end="", flush=True)
+            lines = heard.splitlines()
+            is_said = lambda word: any(line.startswith(f"{name}: {word}") for line in lines)
+            if status != 0:
+                self.failed.append(name)
+                self.say(f"tests/{name} FAILED")
+            elif is_said("skipped"):
+                self.skipped.append(name)
+                self.say(f"tests/{name} was skipped")
+            elif is_said("left out until its turn"):
+                self.left_out.append(name)
+            else:
+                self.passed.append(name)
+            self.say(f"tests/{name} took {seconds:.0f} s")
+
+        return ended
+
+    def tell(self, not_begun):
+        """Says what all came to, and returns whether everything passed."""
+        for task in not_begun:
+            self.say(f"{' '.join(task.name)} could not begin")
+        told = f"mutants: {self.rejected} rejected"
+        self.say(told + (f", FAILED: {' '.join(self.failed_mutants)}" if self.failed_mutants else ""))
+        if self.left_out:
+            self.say(f"scripts left out until their turn: {' '.join(self.left_out)}")
+        print(f"{len(self.passed)} passed, {len(self.failed)} failed, {len(self.skipped)} skipped", flush=True)
+        return not (not_begun or self.failed_mutants or self.failed)

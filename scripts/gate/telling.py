@@ -1,0 +1,45 @@
+"""What a gate says beforehand: what it tries, and when what it leaves out has its turn."""
+
+from turns import landing_of, mutant_turns, test_turns
+
+
+def counted(tables, mutants):
+    """Returns of each crate how many of its mutants these are, as words."""
+    return ", ".join(f"{name} {len(found)} of {len(tables.mutants[name])}" for name, found in mutants.items()) or "none"
+
+
+def tell_choice(tables, lanes, number, since, choice, say):
+    """Says what a landing tries, and of what it leaves out when that has its turn."""
+    changed = " ".join(name for name in tables.uses if name in choice.changed) or "no crate"
+    say(f"landing {number}, compared with {since[:8] or 'nothing'}: sources changed in {changed}")
+    say(f"mutants: {sum(map(len, choice.mutants.values()))} of {sum(map(len, tables.mutants.values()))}: {counted(tables, choice.mutants)}")
+    left_out = [name for name in tables.uses if name not in choice.crates]
+    turns = test_turns(tables, lanes)
+    say("left out until their turn: " + (", ".join(f"{name} (landing {landing_of(turns, name, number)})" for name in left_out) or "no crate"))
+    parts = {name: part for name, part in choice.scripts.items() if part[1] > 1}
+    say("scripts in part: " + (", ".join(f"{name} {k} of {n}" for name, (k, n) in parts.items()) or "none"))
+
+
+def tell_turns(tables, lanes, number, say):
+    """Says when each crate has its turn, from a landing on."""
+    mutants, tests = mutant_turns(tables, lanes), test_turns(tables, lanes)
+    say(f"with {lanes} checks side by side a round of mutants takes {len(mutants)} landings, one of tests {len(tests)}")
+    for at in range(number, number + max(len(mutants), len(tests))):
+        tried = ", ".join(name if n == 1 else f"{name} ({k} of {n})" for name, k, n in mutants[(at - 1) % len(mutants)])
+        say(f"landing {at}: mutants of {tried or 'no crate'}; {' '.join(tests[(at - 1) % len(tests)])}")
+    return 0
+
+
+def tell_minutes(minutes, say):
+    """Says how many minutes each check of `rt ci` took, for docs/minutes.tsv."""
+    told = sorted((name, kind, f"{taken:.1f}") for (name, kind), taken in minutes.items())
+    say("minutes by the clock: " + ", ".join(f"{name} {kind} {taken}" for name, kind, taken in told))
+
+
+def tell_first_look(tables, choice, results, say):
+    """Says what a first look has proved, and what only ran."""
+    ran = len(results.passed) + len(results.failed)
+    say(
+        f"proved, where nothing failed: {' '.join(choice.crates)}, with their tests. Only run, over a program without proofs: {ran} scripts. "
+        f"Not tried: {len(tables.uses) - len(choice.crates)} crates, all mutants, {len(tables.scripts) - len(choice.scripts)} scripts. ./check is the gate"
+    )

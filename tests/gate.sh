@@ -1,0 +1,322 @@
+#!/usr/bin/env bash
+# ./check proves every crate but those of tests whose turn it is not, tries the mutants that have changed and those whose turn
+# it is, runs the scripts beside `rt ci` once the program stands, and fails where anything fails. Over the repository as it is,
+# nothing is without a turn for more than 30 landings on two processors. In place of `rt` and of scripts/mutants.py stand
+# scripts that note what they are given.
+. "$(dirname "${BASH_SOURCE[0]}")/helping.bash"
+if ! command -v git >/dev/null 2>&1; then
+  echo "gate.sh: skipped, there is no git" >&2
+  exit 0
+fi
+top=$work/repo
+mkdir -p "$top/docs" "$top/tests" "$top/scripts" fake
+cp -r "$tests/../check" "$top"
+cp -r "$tests"/../scripts/{gate,needs.bash,minutes.bash,program.bash,crates.bash,trial.bash} "$top/scripts"
+cd "$top" || exit 2
+export FAKE=$work/fake
+
+# a toolchain, and none of what ./check would install. FAKE/wait: crates whose proof waits until a file of that name is gone
+cat >"$FAKE/rt" <<'RT'
+#!/usr/bin/env bash
+if [ "$1" = version ]; then cat "$FAKE/version"; exit; fi
+if [ "$1" = fmt ]; then [ ! -e src/lib.rt ] || sed -i 's/  */ /g' src/lib.rt; exit; fi
+[ "$1" = ci ] && [ -d .git ] || exit 2
+echo "${RT_JOBS:-none}" >"$FAKE/jobs"
+find . -type f | sort >"$FAKE/files"
+sed 's/:.*//' crates.txt >"$FAKE/crates"
+while [ -e "$FAKE/hold" ]; do sleep 0.1; done
+for name in $(cat "$FAKE/crates"); do
+  mkdir -p crates/$name/out
+  case $name in
+    desk) printf 'built' >crates/desk/out/desk ;;
+    *_tests) printf 'built' >crates/$name/out/${name}_tests; echo "rt: $name: its tests are proved" ;;
+  esac
+  echo "rt: $name proved"
+done
+while [ -e "$FAKE/linger" ]; do sleep 0.1; done
+[ ! -e "$FAKE/fails" ]
+RT
+cat >scripts/mutants.py <<'PY'
+import os, sys
+print("mutants:", *sys.argv[3:])
+with open(os.environ["FAKE"] + "/mutants", "a") as it:
+    it.writelines(f"{sys.argv[3]}/{edit}\n" for edit in sys.argv[4:])
+sys.exit(os.path.exists(os.environ["FAKE"] + "/accepts"))
+PY
+printf '#!/bin/sh\nexit %d\n' 0 >"$FAKE/perl"
+printf '#!/bin/sh\nexit %d\n' 1 >"$FAKE/apt-get"
+for name in sqlite3 cc curl; do ln -s perl "$FAKE/$name"; done
+chmod +x "$FAKE"/*
+echo "kit 1" >"$FAKE/version"
+PATH=$FAKE:$PATH
+export RT_JOBS=2
+
+# crates: low, then mid on low and high on mid, and apart other; each with eight mutants, of which two tell most
+printf '# names\nlow:\nmid: low sqlite\nhigh: mid\nother: streams_of_the_kit\ndesk: high other\n' >crates.txt
+printf 'low_tests: low\nhigh_tests: high\nbench: desk_of_the_kit\n' >>crates.txt
+echo 'Proved with `kit 1`.' >docs/RUNNING.md
+printf '# numbers\n7\t2026-01-01\tnothing\n' >docs/landings.tsv
+echo out/ >.gitignore
+echo "Handles allowed: none." >HANDLES
+for name in low mid high other desk low_tests high_tests bench; do
+  mkdir -p crates/$name/src
+  echo one >crates/$name/src/lib.rt
+done
+for name in low mid high other desk; do
+  mkdir crates/$name/must-fail crates/$name/mutants
+  for n in {1..8}; do echo "$n" >"crates/$name/$([ "$n" -gt 2 ] && echo mutants || echo must-fail)/$n.edit"; done
+done
+# minutes EACH: the table where a crate is proved in half a minute, and its eight mutants take EACH minutes together
+minutes() {
+  for name in low mid high other desk; do printf '%s\t0.5\t-\t%s\n' $name "$1"; done
+  printf 'low_tests\t-\t12\t-\nhigh_tests\t-\t7\t-\nbench\t10\t-\t-\nlong.sh\t4\t3\t-\n'
+}
+minutes 1 >docs/minutes.tsv
+cat >tests/good.sh <<'SH'
+[ "$(cat "$DESK")" = built ] && echo "good: ${PART-whole} $TESTED"
+SH
+cat >tests/lacks.sh <<'SH'
+echo "lacks.sh: skipped, there is no tool" >&2
+SH
+cat >tests/long.sh <<'SH'
+echo "long: ${PART-whole}"
+[ "$PART" != 3/3 ] || echo "long.sh: left out until its turn" >&2
+SH
+
+# commit HOURS: all is committed, as of so many hours ago
+commit() {
+  git add -A
+  GIT_AUTHOR_DATE="$(($(date +%s) - $1 * 3600)) +0000" GIT_COMMITTER_DATE="$(($(date +%s) - $1 * 3600)) +0000" \
+    git -c user.name=desk -c user.email=desk@localhost commit -q --allow-empty -m now
+}
+
+# land N BEFORE: the landing of this number has its line
+land() { printf '%s\t2026-01-02\t%s\n' "$1" "$2" >>docs/landings.tsv; }
+
+# gate STATUS WORDS ..: ./check with these words ends so; what it says goes to said
+gate() {
+  local expected=$1
+  shift
+  rm -f "$FAKE"/{mutants,crates,files,jobs}
+  ./check "$@" >"$work/said" 2>&1
+  same "./check $*: the status" "$expected" $?
+}
+
+# tried: of each crate how many mutants were tried
+tried() { cut -d/ -f1 "$FAKE/mutants" 2>/dev/null | sort | uniq -c | awk '{ printf "%s%s %d", (NR > 1 ? ", " : ""), $2, $1 }'; }
+
+# proved: the crates that rt was given
+proved() { tr '\n' ' ' <"$FAKE/crates" | sed 's/ $//'; }
+
+# says WHAT TEXT: it was said
+says() { same "$1: '$2' is said" yes "$(grep -qF -- "$2" "$work/said" && echo yes)"; }
+
+same "a crate with two rows of minutes" "" "$(grep -v '^#' "$tests/../docs/minutes.tsv" | cut -f1 | sort | uniq -d)"
+
+git init -q .
+commit 30
+landed=$(git rev-parse --short=8 HEAD)
+land 8 "$landed"
+commit 1
+
+# nothing has changed: all crates but those of tests, and by turns some of these and some mutants
+gate 0
+same "the processors" 2 "$(cat "$FAKE/jobs")"
+says "landing 8" "landing 8, compared with $landed: sources changed in no crate"
+same "the crates of the program are proved" "low mid high other desk" "$(proved | sed 's/ [a-z]*_tests//g; s/ bench//')"
+says "the scripts" "2 passed, 0 failed, 1 skipped"
+says "a part of a long script" "long: 2/3"
+says "a short script" "good: whole"
+says "what is left out" "left out until their turn:"
+same "no mutant stands in the copy" "" "$(grep '\.edit$' "$FAKE/files")"
+find . -type f ! -path './*/out/*' ! -path './out/*' ! -path './.git/*' ! -name '*.edit' ! -name '*.pyc' | sort >"$work/files"
+left=$(sed -n 's/.*left out until their turn: //p' "$work/said" | tr -d '(),' | tr ' ' '\n' | grep -E '^(bench|[a-z]+_tests)$')
+same "each other file stands in the copy" "" "$(grep -vFf <(sed 's,.*,crates/&/,' <<<"${left:-none}") "$work/files" | diff - "$FAKE/files")"
+same "nothing of the run is left" "gate.lock" "$(ls out)"
+
+# the next landing takes the next part
+land 9 "$landed"
+gate 0
+says "the next landing" "landing 9, compared with $landed"
+says "a script whose turn it is not" "scripts left out until their turn: long.sh"
+says "a script whose turn it is not" "1 passed, 0 failed, 1 skipped"
+commit 1
+
+touch "$FAKE/accepts"
+gate 1 --all
+rm "$FAKE/accepts"
+gate 0 --all
+same "all that there are" "desk 8, high 8, low 8, mid 8, other 8" "$(tried)"
+same "every crate" "low mid high other desk low_tests high_tests bench" "$(proved)"
+says "a script in the whole run" "long: whole"
+echo changed >crates/high/mutants/8.edit
+gate 0 --all
+same "a whole run goes on: what has changed since" "high 8" "$(tried)"
+says "a whole run goes on" "mutants: 40 rejected"
+git checkout -q crates
+rm -r out/tried
+
+# what has changed comes first
+echo two >crates/mid/src/lib.rt
+gate 0
+says "a file that is not committed" "sources changed in mid"
+same "a file that is not committed: the crate, and those above it" "desk 8, high 8, mid 8" "$(tried | tr ',' '\n' | grep -E 'mid|high|desk' | sed 's/^ //' | paste -sd, | sed 's/,/, /g')"
+same "its tests" yes "$(proved | grep -q high_tests && echo yes)"
+commit 1
+gate 0
+says "a file that is committed" "sources changed in mid"
+gate 0 --since HEAD
+says "since the last commit" "sources changed in no crate"
+gate 0 --since HEAD~1
+says "since the one before" "sources changed in mid"
+
+echo "one  two" >crates/low/src/lib.rt
+gate 1
+says "a source that is not laid out" "rt fmt lays out crates/low/src/lib.rt differently"
+same "a source that is not laid out: nothing is tried" absent "$([ -e "$FAKE/crates" ] || echo absent)"
+git checkout -q crates/low
+mkdir crates/other/proofs
+echo new >crates/other/proofs/New.antt
+gate 0 --since HEAD
+says "a new file" "sources changed in other"
+rm -r crates/other/proofs
+git rm -q -f crates/high/src/lib.rt
+gate 0 --since HEAD
+says "a file that is gone" "sources changed in high"
+git reset -q --hard
+sed -i 's/^high:.*/high: mid other/' crates.txt
+gate 0 --since HEAD
+says "a crate that stands on another" "sources changed in high"
+git checkout -q crates.txt
+echo "kit 2" >"$FAKE/version"
+gate 0 --since HEAD
+says "another toolchain" "sources changed in low mid high other desk low_tests high_tests bench"
+echo "kit 1" >"$FAKE/version"
+
+# choose LANES SINCE: which mutants a landing tries where each takes so long that a landing has room for few
+choose() {
+  python3 -B - "$1" "$2" <<'PY'
+import sys
+sys.path.insert(0, "scripts/gate")
+from choice import of_landing
+from tables import Tables
+tables = Tables(".")
+choice = of_landing(tables, int(sys.argv[1]), 9, sys.argv[2])
+own = of_landing(tables, int(sys.argv[1]), 9, "")
+for name, found in choice.mutants.items():
+    new = [it for it in found if it not in own.mutants.get(name, [])]
+    if new:
+        print(name, len(new), "changed" if "crates/other/must-fail/2.edit" in new else "")
+PY
+}
+# a processor has four minutes for what has changed, of which a crate takes 0.8 before its first mutant
+minutes 24 >docs/minutes.tsv
+echo changed >crates/other/must-fail/2.edit
+echo three >crates/low/src/lib.rt
+same "a changed mutant, which takes three minutes, and nothing else" "other 1 changed" "$(choose 1 HEAD)"
+minutes 4 >docs/minutes.tsv
+same "a changed crate comes before those above it" "low 8;mid 2;other 1 changed" "$(choose 2 HEAD | sed 's/ $//' | sort | paste -sd ';')"
+git checkout -q crates docs
+
+# a landing without a line counts as the next one
+sed -i '/2026-01-02/d' docs/landings.tsv
+land 9 "$landed"
+commit 20
+gate 0
+says "no line" "has no line for this landing"
+says "no line" "landing 10, compared with $(git rev-parse --short=8 HEAD)"
+./check --landing >"$work/said" 2>&1
+says "a line is added" "landing 10 stands in docs/landings.tsv now"
+same "the line" "$(printf '10\t%s\t%s' "$(date +%F)" "$(git rev-parse --short=8 HEAD)")" "$(tail -n 1 docs/landings.tsv)"
+./check --landing >"$work/said" 2>&1
+says "a line is added once" "landing 10 stands in docs/landings.tsv"
+same "a line is added once" 1 "$(grep -c '^10' docs/landings.tsv)"
+commit 1
+
+# a line that names a commit which history lacks: every crate counts as changed
+sed -i '/2026-01-02/d' docs/landings.tsv
+land 11 0123abcd
+gate 0
+says "history is short" "landing 11, compared with 0123abcd: sources changed in low mid high other desk low_tests high_tests bench"
+git checkout -q docs
+
+# scripts run beside rt once the program stands, the longest first; each of these two waits for the other
+waits='touch "$FAKE/$(basename "$0")"; for _ in {1..100}; do [ ! -e "$FAKE/${OTHER[$(basename "$0")]}" ] || exit 0; sleep 0.1; done; exit 1'
+printf 'declare -A OTHER=([left.sh]=right.sh [right.sh]=left.sh)\n%s\n' "$waits" | tee tests/left.sh >tests/right.sh
+RT_JOBS=3 gate 0
+says "scripts side by side" "4 passed, 0 failed, 1 skipped"
+rm tests/left.sh tests/right.sh
+touch "$FAKE/linger"
+echo 'rm "$FAKE/linger"' >tests/ends.sh
+gate 0
+says "a script runs while rt does" "3 passed, 0 failed, 1 skipped"
+rm tests/ends.sh
+
+# ends_gate WHAT FILE: a gate that is ended once this file has something leaves nothing
+ends_gate() {
+  local check
+  rm -f "$2"
+  ./check >"$work/said" 2>&1 &
+  check=$!
+  for _ in {1..200}; do
+    [ ! -s "$2" ] || break
+    sleep 0.1
+  done
+  kill "$check"
+  { wait "$check"; } 2>/dev/null
+  same "$1: the status" 143 $?
+  same "$1: what is left" "gate.lock" "$(ls out)"
+}
+touch "$FAKE/hold"
+ends_gate "a gate that is ended" "$FAKE/crates"
+rm "$FAKE/hold"
+echo 'echo $$ >"$FAKE/script"; sleep 100' >tests/good.sh
+ends_gate "a gate that is ended amid scripts" "$FAKE/script"
+same "a gate that is ended amid scripts: the script" gone "$(kill -0 "$(cat "$FAKE/script")" 2>/dev/null || echo gone)"
+git checkout -q tests
+
+# what fails
+gate 2 --since nowhere
+gate 2 --most
+gate 2 --since
+touch "$FAKE/fails"
+gate 1
+rm "$FAKE/fails"
+touch "$FAKE/accepts"
+gate 1
+says "a mutant that is accepted" "mutants: 0 rejected, FAILED:"
+rm "$FAKE/accepts"
+echo 'exit 1' >tests/bad.sh
+gate 1
+says "a script that fails" "check: tests/bad.sh FAILED"
+says "a script that fails" "2 passed, 1 failed, 1 skipped"
+rm tests/bad.sh
+
+# the repository as it is: on one to eight processors everything has its turn, on two within 30 landings
+python3 -B - "$tests/.." >turns 2>&1 <<'PY'
+import sys
+sys.path.insert(0, sys.argv[1] + "/scripts/gate")
+from tables import Tables
+from turns import landing_of, mutant_turns, mutants_in, part_of_script, share_of, test_turns
+tables = Tables(sys.argv[1])
+every = sorted(path for found in tables.mutants.values() for path in found)
+for lanes in range(1, 9):
+    shares, parts = mutant_turns(tables, lanes), {part_of_script(3, number) for number in (7, 8, 9)}
+    if parts != {1, 2, 3}:
+        print("three landings in a row do not take the three parts of a script:", *parts)
+    tried = sorted(path for share in shares for part in share for path in mutants_in(tables, part))
+    if tried != every:
+        print(f"on {lanes} processors mutants have no turn, or two:", *({*every} ^ {*tried}))
+    turns = test_turns(tables, lanes)
+    if sorted(name for share in turns for name in share) != sorted(tables.by_turns()):
+        print(f"on {lanes} processors crates of tests have no turn, or two")
+    for number in (1, 30, 31, 1000):
+        late = [it for share in shares for it in share if it not in share_of(shares, landing_of(shares, it, number))]
+        if late:
+            print(f"on {lanes} processors, from landing {number} on, the turn that is said is not the one that is taken:", *late)
+    if lanes >= 2 and max(len(shares), len(turns)) > 30:
+        print(f"on {lanes} processors a round takes {len(shares)} and {len(turns)} landings")
+PY
+same "turns of the repository" "" "$(cat turns)"
+same "mutants of the repository are found" yes "$([ "$(find "$tests"/../crates -name '*.edit' | wc -l)" -gt 1000 ] && echo yes)"
+finish
