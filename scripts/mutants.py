@@ -7,12 +7,14 @@ An EDIT is a file name in crates/NAME/must-fail or crates/NAME/mutants; none giv
 repository in which the libraries below the crate are built, this one by default (`./build --keep`). --alone tries each
 alone, --results appends a line for each. The status is 0 if every mutant is rejected, 1 if not, 2 if nothing was tried.
 
-Mutants share a check if each changes the body of one function in src/ and nothing else, and if no function of one reaches
-that of another by the names in bodies and proof files. A mutant counts as rejected there only if its own function fails with
-an error of its own, not because of a function that it calls, and if nothing that was not changed fails by itself. This is
-sound since a proof sees of other functions their contracts alone, which no such mutant changes. Everything else is tried alone:
-contracts, types, constants, attributes, specs/ and proofs/, bodies that hold items, `const fn`, methods that a trait gives, and
-each mutant that a shared check does not reject. One that is accepted over kept work is tried once more from nothing.
+Mutants share a check if each changes the body of one function in src/ and nothing else, and no two the same one. The prover
+goes past failures there (`--allow-holes`): it checks a function against the contracts of those that it calls, whether these
+are proved or not, and its line says what failed of its own. A mutant counts as rejected only if its function has an open goal or
+a refused proof file of its own, and if nothing that was not changed fails by itself. This is sound since a proof sees of other
+functions their contracts alone, which no such mutant changes. Everything else is tried alone: contracts, types, constants,
+attributes, specs/ and proofs/, bodies that hold items, `const fn`, methods that a trait gives, bodies that name a further function
+of the crate, functions that may call themselves through others, those whose proof files name another one's, and each mutant
+that a shared check does not reject. One that is accepted over kept work is tried once more from nothing.
 """
 
 import argparse
@@ -25,13 +27,13 @@ from pathlib import Path
 TOP = Path(__file__).resolve().parents[1]
 sys.path.insert(0, str(TOP / "scripts/gate"))
 
-from edits import Stopped, changes, edits_of, function_of, functions_of, packed, reached, sources_of, texts_of  # noqa: E402
+from edits import Stopped, changes, edits_of, function_of, functions_of, in_cycles, packed, rests_on_others, sources_of, texts_of  # noqa: E402
 from prover import LOST_NAME, PLACE, Prover, is_proved, verdict  # noqa: E402
 from tables import Tables  # noqa: E402
 
-# A line of what fails only with something else, and of a function that fails by itself.
-WAITS = re.compile(r"it (calls|passes|waits)|which (is|are) not")
-OWN = re.compile(r"not proved$|no proof: (expected|it has) ")
+# What the line of a function says of others.
+OF_OTHERS = re.compile(r"it (calls|passes|waits)\b|depends on a hole in ")
+STANDS_ON = re.compile(r"it stands on `Rattle\.\w+\.(proofs\.[^`]*)`.*, which antt refuses")
 VERDICTS = ("refused", "NOT REFUSED", "BAD MUTANT", "NOT TRIED")
 
 
@@ -40,14 +42,31 @@ def note(said):
     print(f"mutants: {said}", file=sys.stderr, flush=True)
 
 
+def failing(said):
+    """Returns of each function, impl and type that fails by itself what its line says, without what it says of others."""
+    found = {}
+    for path, why in re.findall(r"^(?:fn|impl|struct|enum|trait|law) (\S+): (?!(?:proved|no holes)$)(.*)$", said, re.M):
+        own = [it for it in re.sub(r"^(not proved; |no proof: )", "", why).split("; ") if not OF_OTHERS.match(it)]
+        if own:
+            found[path] = "; ".join(own)
+    return found
+
+
+def is_clear(of, why):
+    """Returns whether a function fails for a goal of its own, or for a proof file of its own."""
+    if why == "not proved" or "`search` did not prove" in why:
+        return True
+    stands = STANDS_ON.search(why)
+    return bool(stands) and stands[1].replace(".", "/").startswith(of.folders)
+
+
 def judged(batch, functions, status, said, usual):
     """Returns why mutants of a batch are rejected, by their names: the first error of the function of each that fails by itself."""
-    failed = dict(re.findall(r"^(?:fn|impl|struct|enum|trait|law) (\S+): (?!proved$)(.*)$", said, re.M))
-    alone = {it for it, why in failed.items() if not WAITS.search(why)}
-    own = {it: of for _, of in batch for it in alone if it == of.path or it.startswith(of.closures)}
-    clear = {of for it, of in own.items() if OWN.match(failed[it])}
-    if status != 1 or "\nlogic=not-proved" not in said or alone != own.keys():
+    failed = failing(said)
+    own = {it: of for _, of in batch for it in failed if it == of.path or it.startswith(of.closures)}
+    if status != 1 or "\nholes=" not in said or failed.keys() != own.keys():
         return {}
+    clear = {of for it, of in own.items() if is_clear(of, failed[it])}
     errors = {}
     for place in [PLACE.match(it) for it in said.split("\n") if it not in usual and (it.startswith("note: ") or ": error" in it)]:
         if not place:
@@ -65,14 +84,15 @@ def try_together(prover, said, edits):
     sources, usual, reasons = sources_of(prover.crate), set(said.split("\n")), {}
     functions = functions_of(prover.name, sources, set(re.findall(r"^fn (\S+): proved$", said, re.M)))
     fit = [(edit, of) for edit in edits for of in [function_of(edit, functions, sources)] if of]
-    batches = packed(fit, reached(prover.crate, functions, sources, fit))
+    apart = in_cycles(functions, sources) | {it.path for it in functions.values() if rests_on_others(prover.crate, it, functions)}
+    batches = packed([(edit, of) for edit, of in fit if of.path not in apart])
     for batch in batches:
         began, texts = time.time(), {file: [*lines] for file, lines in sources.items()}
         for edit, _ in batch:
             for (file, at), line in changes(edit, sources).items():
                 texts[file][at - 1] = line
         changed = {file: "\n".join(lines) for file, lines in texts.items() if lines != sources[file]}
-        found = judged(batch, functions, *prover.check(changed), usual)
+        found = judged(batch, functions, *prover.check(changed, past_failures=True), usual)
         note(f"{prover.name}: {len(found)} of {len(batch)} rejected in one check, {time.time() - began:.0f} s")
         reasons.update(found)
     return len(batches), reasons

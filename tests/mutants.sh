@@ -98,10 +98,11 @@ ANTT
 # mutant FOLDER/NAME FILE OLD NEW: makes one
 mutant() { printf 'file: %s\nold: %s\nnew: %s\n' "$2" "$3" "$4" >"$crate/$1.edit"; }
 
-# wrong, in functions of which none calls another by name
+# wrong; the last two change one function
 mutant must-fail/names_another_fault src/faults.rt 'Fault::Large' 'Fault::Unknown'
 mutant must-fail/returns_the_number src/sums.rt 'Ok(x + x)' 'Ok(x)'
-# the same as before; this function calls the first one, by its `?`
+mutant mutants/adds_one src/sums.rt 'Ok(x + x)' 'Ok(x + x + 1)'
+# the same as before; this function calls the two that are wrong
 mutant must-fail/keeps_the_sum_for_a_moment src/sums.rt '    Ok(whole)' '    let sum = whole; Ok(sum)'
 # the same as before
 mutant mutants/takes_either_of_equals src/sums.rt 'if a < b {' 'if a <= b {'
@@ -132,6 +133,7 @@ same "each mutant, and how it was tried" "\
 small keeps_the_sum_for_a_moment.edit NOT REFUSED alone
 small names_another_fault.edit refused together
 small returns_the_number.edit refused together
+small adds_one.edit refused together
 small has_a_greater_limit.edit refused alone
 small names_no_line.edit BAD MUTANT alone
 small takes_either_of_equals.edit NOT REFUSED alone" "$(cut -f1-4 "$work/results" | tr '\t' ' ')"
@@ -139,13 +141,14 @@ same "the lines" "\
 small/keeps_the_sum_for_a_moment.edit: NOT REFUSED
 small/names_another_fault.edit: refused
 small/returns_the_number.edit: refused
+small/adds_one.edit: refused
 small/has_a_greater_limit.edit: refused
 small/names_no_line.edit: BAD MUTANT
 small/takes_either_of_equals.edit: NOT REFUSED
-small: 3 refused, 2 not refused, 1 bad mutant, 0 not tried; 2 checks of many, 4 tried alone" \
+small: 4 refused, 2 not refused, 1 bad mutant, 0 not tried; 2 checks of many, 4 tried alone" \
   "$(sed 's/^mutants: //; s/, [0-9]* s$//; s,^\(small/[^:]*: [^:]*\): .*,\1,' "$work/said")"
-# of three in one check, one is rejected: the one that keeps the sum cannot share a check with a mutant of `twice`
-same "three share a check" yes "$(grep -q '1 of 3 rejected in one check' "$work/notes" && echo yes)"
+# the one that keeps the sum shares its check with both mutants of what its function calls, and is not rejected there
+same "the shared checks" "2 of 4, 1 of 1" "$(sed -n 's/.*small: \([0-9]* of [0-9]*\) rejected.*/\1/p' "$work/notes" | paste -sd, | sed 's/,/, /')"
 # `twice` stands in the lines 8 to 16
 same "the reason" yes "$(grep -qE 'returns_the_number.edit: refused: .*src/sums.rt:([89]|1[0-6]):' "$work/said" && echo yes)"
 

@@ -139,22 +139,14 @@ def body(function, sources, changed={}):
 
 
 def function_of(edit, functions, sources):
-    """The one function whose body the edit changes, or None: then it is tried alone."""
+    """The one function whose body the edit changes, or None: then it is tried alone. So is one that names a function which the body did not name."""
     changed = changes(edit, sources)
     found = {of for file, at in changed for of in [next((it for it in functions.values() if file == it.file and it.first <= at <= it.last), None)]}
     of = found.pop() if len(found) == 1 else None
-    return of if of and not ITEM.search(body(of, sources) + "\n" + body(of, sources, changed)) else None
-
-
-def proofs_named(crate, function):
-    """The modules below proofs/ that the function's proof files name, also through lemmas."""
-    todo = [f"{at}/{it}" for part in function.folders for at, _, names in os.walk(f"{crate}/{part}") for it in names if it.endswith(".antt")]
-    seen = set()
-    while todo:
-        for named in set(re.findall(r"\bproofs\.([\w.+]*\w)", text_of(todo.pop()))) - seen:
-            seen.add(named)
-            todo += [it for it in [f"{crate}/proofs/{named.replace('.', '/')}.antt"] if os.path.isfile(it)]
-    return {f"{it}." for it in seen}
+    if not of or ITEM.search(body(of, sources) + "\n" + body(of, sources, changed)):
+        return None
+    words, were = (set(re.findall(r"\w+", body(of, sources, lines))) for lines in (changed, {}))
+    return None if any(it.path.split("::")[-1] in words - were for it in functions.values()) else of
 
 
 def calls(of, text, functions):
@@ -169,30 +161,34 @@ def calls(of, text, functions):
                 yield it.path
 
 
-def reached(crate, functions, sources, fit):
-    """Of each function those that it reaches, by the names in its body, in those that edits make of it, and in its proof files."""
-    reach = {}
-    for path, of in functions.items():
-        texts = [body(of, sources), *[body(of, sources, changes(edit, sources)) for edit, its in fit if its == of]]
-        named = proofs_named(crate, of)
-        by_proof = {it for it in functions if any(one.startswith(it.split("::", 1)[1].replace("::", ".") + ".") for one in named)}
-        reach[path] = set(calls(of, "\n".join(texts), functions)) | by_proof - {path}
+def in_cycles(functions, sources):
+    """The functions that may call themselves through another one, so that their proofs that they end may rest on one another's bodies."""
+    reach = {path: set(calls(of, body(of, sources), functions)) - {path} for path, of in functions.items()}
+    direct = {path: set(found) for path, found in reach.items()}
     for middle in functions:
         for path in functions:
             if middle in reach[path]:
                 reach[path] |= reach[middle]
-    return reach
+    return {path for path in functions if any(path in reach[it] for it in direct[path])}
 
 
-def packed(fit, reach):
-    """Batches of edits, each with its function, of which no function is another one or reaches it."""
-    meet = lambda one, other: one == other or one.path in reach[other.path] or other.path in reach[one.path]
+def rests_on_others(crate, of, functions):
+    """Whether the proof files of a function, its own and those of the lemmas that they name, name modules of another function."""
+    todo = [f"{at}/{it}" for part in of.folders for at, _, names in os.walk(f"{crate}/{part}") for it in names if it.endswith(".antt")]
+    seen, others = set(), tuple(part for it in functions.values() if it != of for part in it.folders)
+    while todo:
+        for named in {it.replace(".", "/") for it in re.findall(r"\bproofs\.[\w.+]*\w", text_of(todo.pop()))} - seen:
+            seen.add(named)
+            todo += [it for it in [f"{crate}/{named}.antt"] if os.path.isfile(it)]
+    return any(f"{it}/".startswith(others) for it in seen)
+
+
+def packed(fit):
+    """Batches of edits, each with its function, of which no two change the same one."""
     batches = []
-    for edit, of in sorted(fit, key=lambda it: -sum(meet(it[1], other) for _, other in fit)):
-        batch = next((it for it in batches if not any(meet(of, other) for _, other in it)), None)
+    for edit, of in fit:
+        batch = next((it for it in batches if of not in [other for _, other in it]), None)
         if batch is None:
             batches.append(batch := [])
         batch.append((edit, of))
     return batches
-
-

@@ -43,8 +43,9 @@ class Prover:
             shutil.copytree(kept, self.seed, copy_function=linked)
         return self._run(self.seed)
 
-    def check(self, texts, from_nothing=False):
-        """Checks the crate with these texts in place of its own, by their paths in it. Returns the status and what the prover said."""
+    def check(self, texts, from_nothing=False, past_failures=False):
+        """Checks the crate with these texts in place of its own, by their paths in it; if asked, also functions that call one which fails.
+        Returns the status and what the prover said."""
         were = {path: (self.room / path).read_bytes() for path in texts}
         try:
             for path, text in texts.items():
@@ -52,7 +53,7 @@ class Prover:
             if from_nothing:
                 return self._run(None)
             shutil.copytree(self.seed, self.over, copy_function=linked)
-            return self._run(self.over)
+            return self._run(self.over, ["--allow-holes"] if past_failures else [])
         finally:
             for path, was in were.items():
                 (self.room / path).write_bytes(was)
@@ -67,9 +68,9 @@ class Prover:
         files = [path for path in self.seed.rglob("*") if path.is_file()]
         return {path: (found.st_ino, found.st_size, found.st_mtime_ns) for path in files for found in [path.stat()]}
 
-    def _run(self, kept):
+    def _run(self, kept, flags=()):
         """Runs the prover, and once more where it was killed, most likely for memory."""
-        words = self.words + (["--incremental", str(kept)] if kept else [])
+        words = [*self.words, *flags, *(["--incremental", str(kept)] if kept else [])]
         how = {"stdin": subprocess.DEVNULL, "stdout": subprocess.PIPE, "stderr": subprocess.STDOUT, "text": True, "errors": "replace"}
         for _ in range(2):
             self.child = subprocess.Popen(words, cwd=self.room, **how)
