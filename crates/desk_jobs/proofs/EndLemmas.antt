@@ -1,11 +1,10 @@
--- Which refusals and faults a job ends with. For the jobs that act, and for the reports.
+-- Which refusals and faults a job ends with. For the jobs that act.
 use Rattle.std.proofs.Common.{◌≡◌, sym, subst}
 use Rattle.sqlite.specs.Store.{Ghosts}
 use Rattle.sqlite.specs.Held.{Held}
 use Rattle.commands.specs.declared.replies.Fault.{Fault}
 use Rattle.commands.specs.declared.replies.Fault.TheVariants.{Memory, Store}
-use Rattle.commands.specs.declared.replies.Refusal.{Refusal}
-use Rattle.program_ends.specs.Ends.{IfFault, IfRefused, IsNotRefused, fault_of_run}
+use Rattle.program_ends.specs.Ends.{IfFault, IfRefused, fault_of_run}
 use Rattle.program_ends.specs.declared.ends.End.{End}
 use Rattle.program_ends.specs.declared.ends.End.TheVariants as finish
 use Rattle.program_ends.specs.declared.faults.ProgramFault.{ProgramFault}
@@ -16,8 +15,9 @@ use Rattle.protocols.specs.declared.faults.ServeFault.TheVariants as serve
 use Rattle.tables.specs.Opening.{TellsUnmade}
 use Rattle.tables.specs.declared.faults.OpenFault.{OpenFault}
 use Rattle.tables.specs.declared.faults.OpenFault.TheVariants as opening
-use Rattle.desk_jobs.specs.Connections.{RefusesOtherTables}
-use Rattle.desk_jobs.specs.Ends.{IsFaultOfLoad, IsFaultOfRecovery, IsFaultOfRun, IsOfBook, IsOfWriting, end_of_open}
+use Rattle.openings.specs.Connections.{RefusesOtherTables}
+use Rattle.openings.specs.Ends.{end_of_open}
+use Rattle.desk_jobs.specs.Ends.{IsFaultOfLoad, IsFaultOfRecovery, IsFaultOfRun, IsOfBook, IsOfWriting}
 
 -- Faults.
 
@@ -80,13 +80,6 @@ pub reply_fault : (f : ServeFault) (told : ProgramFault) → told ≡ fault_of_r
 reply_fault f told into is = subst IsFaultOfLoad (sym into) (writing_loads f is)
 
 -- Refusals.
-
--- no refusal is any refusal
-pub unrefused : (So : Refusal → Type 0) (e : End) → IsNotRefused e → IfRefused e So
-unrefused So finish.Done taken = tt
-unrefused So (finish.Refused why) taken = absurd taken
-unrefused So (finish.Fault f) taken = tt
-unrefused So (finish.Usage text) taken = tt
 
 module _ {S : Type 0} (g : Ghosts S) (old new : Held S) where
   -- where no book was made, other tables alone are refused

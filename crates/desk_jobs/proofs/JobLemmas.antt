@@ -10,7 +10,7 @@ use Rattle.recovery.specs.Recovers.{Recovers}
 use Rattle.tables.specs.BookTerms.{StandsBook}
 use Rattle.tables.specs.Keeping.{StoodFor}
 use Rattle.tables.specs.declared.books.TableBook.{TableBook}
-use Rattle.desk_jobs.specs.Connections.{Represents}
+use Rattle.openings.specs.Connections.{Represents}
 
 -- what recovery made of some states it made of fewer, and so of what follows from the new ones
 pub recovers_as : {stood before stands after : State → Type 0} (made : ℕ)

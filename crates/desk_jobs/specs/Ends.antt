@@ -2,11 +2,8 @@
 use Rattle.std.specs.Prelude.{⊤, ℕ, List, [], ◌∷◌, codes, decimal, Option}
 use Rattle.std.specs.Io.KnownBytes.{Appends}
 use Rattle.commands.specs.Texts.{reply_line, sentence}
-use Rattle.commands.specs.declared.replies.Refusal.TheVariants as refusal
 use Rattle.commands.specs.declared.replies.Reply.{Reply}
 use Rattle.commands.specs.declared.replies.Reply.TheVariants as reply
-use Rattle.tables.specs.declared.faults.OpenFault.{OpenFault}
-use Rattle.tables.specs.declared.faults.OpenFault.TheVariants as opening
 use Rattle.protocols.specs.Scenes.{ended}
 use Rattle.protocols.specs.declared.faults.ServeFault.{ServeFault}
 use Rattle.protocols.specs.declared.faults.ServeFault.TheVariants as serve
@@ -14,12 +11,6 @@ use Rattle.program_ends.specs.declared.ends.End.{End}
 use Rattle.program_ends.specs.declared.ends.End.TheVariants as finish
 use Rattle.program_ends.specs.declared.faults.ProgramFault.{ProgramFault}
 use Rattle.program_ends.specs.declared.faults.ProgramFault.TheVariants as fault
-
--- the end if a store cannot be opened as a desk: a store of another version is refused
-abbrev pub end_of_open : OpenFault → End
-end_of_open (opening.UnknownSchema version) = finish.Refused (refusal.UnknownSchema version)
-end_of_open opening.Store = finish.Fault fault.OpeningStore
-end_of_open opening.Memory = finish.Fault fault.OpeningMemory
 
 -- the line with the number of recovery's events: `recovered 3`
 abbrev pub recovered_line : ℕ → List ℕ

@@ -2,8 +2,7 @@
 //! after it.
 //!
 //! A job takes a connection that is in no transaction and has no limit of steps, and returns it so, to be closed, with
-//! its end. `ready_over` opens and recovers the desk for a job that goes on with it; `end_of_opening` is the end of a job,
-//! also of one that only shows the desk, whose store could not be opened.
+//! its end. `ready_over` opens and recovers the desk for a job that goes on with it.
 //!
 //! Words: a connection *represents* a state where an opening finds that state in it; a store without tables represents
 //! a new desk.
@@ -19,6 +18,6 @@ mod running;
 pub use field_notes::note_wrong_field;
 pub use loading::load_over;
 pub use notes::note_recovered;
-pub use opening::{end_of_opening, ready_over};
+pub use opening::ready_over;
 pub use recovering::{Recovered, recover_over};
 pub use running::run_over;

@@ -10,7 +10,7 @@ ghost use Rattle.streams.specs.Written.{WroteFront};
 ghost use Rattle.protocols.specs.Scenes.{ended};
 ghost use Rattle.tables.specs.BookTerms.{StandsBook};
 ghost use Rattle.program_ends.specs.Ends.{EndsJob, IfDone, IfFault};
-ghost use Rattle.desk_jobs.specs.Connections.{Represents, MayBeLeft};
+ghost use Rattle.openings.specs.Connections.{Represents, MayBeLeft};
 ghost use Rattle.desk_jobs.specs.Ends.{IsFaultOfLoad, IsOfBook, IsOfWriting, TellsAccepted};
 ghost use Rattle.desk_jobs.specs.Loading.{EndsLoad, LoadsFile, TellsLoaded};
 ghost use Rattle.desk_jobs.specs.Reasons.{FailsToLoad, FailsToLoadFor};

@@ -10,11 +10,11 @@ ghost use Rattle.sql_reads.specs.Reading.{WasClean};
 ghost use Rattle.tables.specs.BookTerms.{StandsBook};
 ghost use Rattle.tables.specs.Opening.{FailsToOpen, FailsToFound};
 ghost use Rattle.program_ends.specs.Ends.{EndsBadly, IfFault, IfRefused};
-ghost use Rattle.desk_jobs.specs.Connections.{RefusesOtherTables, Represents};
-ghost use Rattle.desk_jobs.specs.Ends.{IsFaultOfRecovery, end_of_open};
+ghost use Rattle.openings.specs.Connections.{RefusesOtherTables, Represents};
+ghost use Rattle.desk_jobs.specs.Ends.{IsFaultOfRecovery};
 ghost use Rattle.desk_jobs.specs.Reasons.{FailsToRecover, MayActOnceOpened, RecoversToAct};
 
-use commands::Refusal;
+use openings::end_of_opening;
 use program_ends::{End, ProgramFault};
 use protocols::ServeFault;
 use recovery::{Ready, recover};
@@ -104,17 +104,5 @@ fn book_over<S: Alter + Drop>(
             Ok(book)
         }
         Err((opened, fault)) => Err((opened.into_store(), end_of_opening(fault))),
-    }
-}
-
-/// The end if a store could not be opened as a desk.
-pub fn end_of_opening(fault: OpenFault) -> End
-    ensures end { result ≡ end_of_open fault }
-    ensures bad { EndsBadly result }
-{
-    match fault {
-        OpenFault::UnknownSchema(version) => End::Refused(Refusal::UnknownSchema { version }),
-        OpenFault::Store => End::Fault(ProgramFault::OpeningStore),
-        OpenFault::Memory => End::Fault(ProgramFault::OpeningMemory),
     }
 }

@@ -7,7 +7,7 @@ ghost use Rattle.streams.specs.Written.{WroteFront};
 ghost use Rattle.recovery.specs.Recovers.{Recovers};
 ghost use Rattle.sql_reads.specs.Reading.{WasClean};
 ghost use Rattle.program_ends.specs.Ends.{EndsBadly, EndsJob, IfDone, IfFault, IfRefused};
-ghost use Rattle.desk_jobs.specs.Connections.{RefusesOtherTables, Represents};
+ghost use Rattle.openings.specs.Connections.{RefusesOtherTables, Represents};
 ghost use Rattle.desk_jobs.specs.Ends.{EndsWriting, IsFaultOfRecovery, IsOfWriting, recovered_line};
 ghost use Rattle.desk_jobs.specs.Reasons.{FailsToRecover};
 ghost use Rattle.tables.specs.Opening.{FailsToFound, FailsToOpen};

@@ -7,7 +7,7 @@ ghost use Rattle.ledger.specs.Answer.{State};
 ghost use Rattle.sql_reads.specs.Reading.{WasClean};
 ghost use Rattle.tables.specs.BookTerms.{StandsBook};
 ghost use Rattle.program_ends.specs.Ends.{EndsJob, IfDone, IfFault, IfRefused, IsNotRefused};
-ghost use Rattle.desk_jobs.specs.Connections.{RefusesOtherTables, Represents};
+ghost use Rattle.openings.specs.Connections.{RefusesOtherTables, Represents};
 ghost use Rattle.desk_jobs.specs.Ends.{IsFaultOfRun};
 ghost use Rattle.desk_jobs.specs.Notes.{MayNote};
 ghost use Rattle.desk_jobs.specs.Reasons.{FailsAmongFrom, FailsToRun};

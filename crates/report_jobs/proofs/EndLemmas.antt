@@ -10,7 +10,7 @@ use Rattle.tables.specs.declared.faults.OpenFault.TheVariants as opening
 use Rattle.program_ends.specs.Ends.{IfFault, IfRefused, fault_of_report}
 use Rattle.program_ends.specs.declared.ends.End.{End}
 use Rattle.program_ends.specs.declared.ends.End.TheVariants as finish
-use Rattle.desk_jobs.specs.Ends.{end_of_open}
+use Rattle.openings.specs.Ends.{end_of_open}
 use Rattle.report_jobs.specs.Reporting.{IsFaultOfReport, IsNoJourney, RefusesToShow, RefusesVersion}
 
 -- a fault of a report that was begun is one of a report

@@ -25,7 +25,7 @@ use Rattle.program_ends.specs.Ends.{EndsBadly, IfDone, IsNotRefused}
 use Rattle.program_ends.specs.declared.ends.End.{End}
 use Rattle.program_ends.specs.declared.ends.End.TheVariants as finish
 use Rattle.program_ends.specs.declared.faults.ProgramFault.{ProgramFault}
-use Rattle.desk_jobs.specs.Ends.{end_of_open}
+use Rattle.openings.specs.Ends.{end_of_open}
 use Rattle.report_jobs.specs.Reporting.{ReportsHistory, ReportsJourney, ReportsText, WritesText, end_of_report}
 
 -- what holds, holds where there was no fault

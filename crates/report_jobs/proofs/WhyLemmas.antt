@@ -38,7 +38,7 @@ use Rattle.tables.specs.Opening.{Tells}
 use Rattle.tables.specs.declared.faults.OpenFault.{OpenFault}
 use Rattle.tables.specs.declared.faults.OpenFault.TheVariants as opening
 use Rattle.program_ends.specs.Ends.{IsNotRefused}
-use Rattle.desk_jobs.specs.Ends.{end_of_open}
+use Rattle.openings.specs.Ends.{end_of_open}
 use Rattle.report_jobs.specs.Reporting.{WritesText, end_of_report}
 use Rattle.report_jobs.specs.Whys.{LetsCellsOf, ReportsOutlook, ReportsWhy}
 use Rattle.report_jobs.proofs.ReportLemmas.{not_refused, reported, reported_none}

@@ -15,14 +15,14 @@ ghost use Rattle.report_rows.specs.HoldersLeft.{HoldersLeft};
 ghost use Rattle.tables.specs.Keeping.{KeepsIn};
 ghost use Rattle.tables.specs.Lending.{IsOnlyRead};
 ghost use Rattle.program_ends.specs.Ends.{EndsJob, IfFault, IfRefused, IsNotRefused};
-ghost use Rattle.desk_jobs.specs.Connections.{RepresentsIn, StillRepresents};
+ghost use Rattle.openings.specs.Connections.{RepresentsIn, StillRepresents};
 ghost use Rattle.report_jobs.specs.Holding.{ReportsHolders};
 ghost use Rattle.report_jobs.specs.Reporting.{IsDeskIn, IsFaultOfReport, RefusesVersion, WritesText};
 
 use crate::reporting::{end_of_report, flush};
 use allotment::Cell;
-use desk_jobs::end_of_opening;
 use holder_reports::{Holder, holders_text};
+use openings::end_of_opening;
 use program_ends::End;
 use report_rows::{HolderRows, Progress, start_holders};
 use reports::{Format, ReportFault};

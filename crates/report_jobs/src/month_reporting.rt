@@ -15,15 +15,15 @@ ghost use Rattle.sql_reads.specs.RemainingRows.{StockRests};
 ghost use Rattle.tables.specs.Keeping.{KeepsIn};
 ghost use Rattle.tables.specs.Lending.{IsOnlyRead};
 ghost use Rattle.program_ends.specs.Ends.{EndsJob, IfFault, IfRefused, IsNotRefused};
-ghost use Rattle.desk_jobs.specs.Connections.{RepresentsIn, StillRepresents};
+ghost use Rattle.openings.specs.Connections.{RepresentsIn, StillRepresents};
 ghost use Rattle.report_jobs.specs.Reporting.{IsDeskIn, IsFaultOfReport, RefusesVersion};
 ghost use Rattle.report_jobs.specs.Reporting.{ReportsMonths, WritesText};
 
 use crate::reporting::{end_of_report, flush};
 use allotment::{Cell, Held};
-use desk_jobs::end_of_opening;
 use filters::CellFilter;
 use month_reports::{MonthReport, months_text};
+use openings::end_of_opening;
 use program_ends::End;
 use report_rows::{CellRows, Progress, start_stock};
 use reports::ReportFault;

@@ -19,15 +19,15 @@ ghost use Rattle.outlooks.specs.Layouts.{why_in, why_of};
 ghost use Rattle.outlooks.specs.Nights.{nights_in, nights_of};
 ghost use Rattle.outlooks.specs.Outlooks.{begun_as, latest_option as latest_option_of, nights_ahead, IsTaken};
 ghost use Rattle.program_ends.specs.Ends.{EndsJob, IfFault, IfRefused};
-ghost use Rattle.desk_jobs.specs.Connections.{RepresentsIn, StillRepresents};
+ghost use Rattle.openings.specs.Connections.{RepresentsIn, StillRepresents};
 ghost use Rattle.report_jobs.specs.Reporting.{IsDeskIn, IsFaultOfReport, IsNoJourney, RefusesToShow, WritesText};
 ghost use Rattle.report_jobs.specs.Whys.{IsSeenOf, LetsCellsOf, ReportsWhy};
 
 use crate::reporting::{end_of_report, flush};
 use allotment::{Night, Want};
 use commands::{Fault, Phase, Refusal};
-use desk_jobs::end_of_opening;
 use filters::CellFilter;
+use openings::end_of_opening;
 use outlooks::{
     FreeNight, NextStep, Outlook, latest_option, look_ahead, next_step, read_nights, why_text,
 };

@@ -5,7 +5,7 @@ use Rattle.sqlite.specs.State.{HasCleanDisk}
 use Rattle.desk_sql.specs.declared.versions.Version.TheVariants.{Two}
 use Rattle.sql_model.specs.Staying.{SeesAsBefore, StaysUp}
 use Rattle.program_ends.specs.Ends.{IfRefused}
-use Rattle.desk_jobs.specs.Connections.{RefusesOtherTables}
+use Rattle.openings.specs.Connections.{RefusesOtherTables}
 use Rattle.tables.proofs.OtherTables.{tells_old, tells_unmade}
 use Rattle.desk_jobs.proofs.EndLemmas.{opening_fault, refuses_unmade}
 use Rattle.tables.specs.Opening.{FailsToFound, FailsToOpen}

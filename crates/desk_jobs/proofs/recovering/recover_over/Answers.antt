@@ -3,7 +3,7 @@ use Rattle.std.proofs.Common.{sym, subst}
 use Rattle.sqlite.specs.Held.{state}
 use Rattle.sqlite.specs.State.{HasCleanDisk}
 use Rattle.tables.specs.BookTerms.{StandsBook}
-use Rattle.desk_jobs.specs.Connections.{Represents}
+use Rattle.openings.specs.Connections.{Represents}
 use Rattle.desk_jobs.proofs.JobLemmas.{recovers_as, represented}
 use Rattle.desk_jobs.proofs.recovering.recover_over.Goals as goal
 

@@ -2,7 +2,8 @@
 use Rattle.desk_jobs.proofs.RecoveredLemmas.{all_after_recovery, front_after_recovery, front_without_recovery, note_of_recovery}
 use Rattle.desk_lines.specs.Lines.{lines}
 use Rattle.desk_lines.specs.Worlds.{asks_in}
-use Rattle.desk_jobs.proofs.EndLemmas.{recovery_fault, unrefused}
+use Rattle.program_ends.proofs.EndLemmas.{unrefused}
+use Rattle.desk_jobs.proofs.EndLemmas.{recovery_fault}
 use Rattle.desk_jobs.proofs.ReasonLemmas.{fails_after, fails_before}
 use Rattle.desk_jobs.proofs.running.run_over.Goals as goal
 

@@ -1,6 +1,6 @@
 -- An opening that failed wrote nothing.
 use Rattle.report_jobs.proofs.ReportLemmas.{reported_none}
-use Rattle.desk_jobs.proofs.EndLemmas.{unrefused}
+use Rattle.program_ends.proofs.EndLemmas.{unrefused}
 use Rattle.report_jobs.proofs.EndLemmas.{unopened, unopened_fault}
 use Rattle.report_jobs.proofs.reporting.journeys_over.Goals as goal
 

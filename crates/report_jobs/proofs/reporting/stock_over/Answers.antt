@@ -1,7 +1,7 @@
 -- An opening that failed wrote nothing; one that did not found the state that was represented.
 use Rattle.report_jobs.specs.Reporting.{IsDeskIn}
 use Rattle.report_jobs.proofs.ReportLemmas.{reported_none}
-use Rattle.desk_jobs.proofs.EndLemmas.{unrefused}
+use Rattle.program_ends.proofs.EndLemmas.{unrefused}
 use Rattle.report_jobs.proofs.EndLemmas.{unopened, unopened_fault}
 use Rattle.report_jobs.proofs.reporting.stock_over.Goals as goal
 
