@@ -12,7 +12,7 @@ ghost use Rattle.sql_model.specs.Standing.{IsDesk};
 ghost use Rattle.sql_reads.specs.RemainingRows.{IsLeftAsItWas};
 ghost use Rattle.sql_reads.specs.RemainingRows.{StaysUnder};
 ghost use Rattle.report_rows.specs.RowsLeft.{AreCellsOf};
-ghost use Rattle.sql_reads.specs.RemainingRows.{BriefsRest, StockRests};
+ghost use Rattle.sql_lists.specs.ListedRows.{BriefsRest, StockRests};
 ghost use Rattle.tables.specs.Keeping.{KeepsIn};
 ghost use Rattle.report_jobs.specs.Reporting.{asked_cells, cells_of_kind, WritesCells, WritesJourneys, WritesText};
 

@@ -11,7 +11,7 @@ ghost use Rattle.sql_model.specs.Standing.{IsDesk};
 ghost use Rattle.sql_reads.specs.Reading.{WasClean};
 ghost use Rattle.sql_reads.specs.RemainingRows.{IsLeftAsItWas};
 ghost use Rattle.sql_reads.specs.RemainingRows.{StaysUnder};
-ghost use Rattle.sql_reads.specs.RemainingRows.{StockRests};
+ghost use Rattle.sql_lists.specs.ListedRows.{StockRests};
 ghost use Rattle.tables.specs.Keeping.{KeepsIn};
 ghost use Rattle.tables.specs.Lending.{IsOnlyRead};
 ghost use Rattle.program_ends.specs.Ends.{EndsJob, IfFault, IfRefused, IsNotRefused};

@@ -9,7 +9,7 @@ ghost use Rattle.saga_core.specs.Views.{IsStock, unfinished_of};
 ghost use Rattle.sql_model.specs.Standing.{IsDesk};
 ghost use Rattle.sql_reads.specs.RemainingRows.{IsLeftAsItWas};
 ghost use Rattle.sql_reads.specs.RemainingRows.{StaysUnder};
-ghost use Rattle.sql_reads.specs.RemainingRows.{BriefsRest, StockRests};
+ghost use Rattle.sql_lists.specs.ListedRows.{BriefsRest, StockRests};
 ghost use Rattle.tables.specs.Keeping.{KeepsIn};
 ghost use Rattle.report_jobs.specs.Reporting.{WritesText};
 

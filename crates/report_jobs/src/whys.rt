@@ -10,7 +10,7 @@ ghost use Rattle.sql_model.specs.Standing.{IsDesk};
 ghost use Rattle.sql_reads.specs.Reading.{WasClean};
 ghost use Rattle.sql_reads.specs.RemainingRows.{IsLeftAsItWas};
 ghost use Rattle.sql_reads.specs.RemainingRows.{StaysUnder};
-ghost use Rattle.sql_reads.specs.RemainingRows.{StockRests};
+ghost use Rattle.sql_lists.specs.ListedRows.{StockRests};
 ghost use Rattle.tables.specs.Keeping.{KeepsIn};
 ghost use Rattle.tables.specs.Lending.{IsOnlyRead};
 ghost use Rattle.allotment.specs.declared.cells.Cell.{Cell};

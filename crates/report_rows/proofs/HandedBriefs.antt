@@ -29,7 +29,7 @@ use Rattle.desk_sql.specs.FoundRows.{journey_of}
 use Rattle.desk_sql.specs.declared.journeys.JourneyFound.{JourneyFound}
 use Rattle.sql_reads.specs.Reading.{TellsBrief}
 use Rattle.sql_reads.proofs.ReadJourneys.{brief_told}
-use Rattle.sql_reads.specs.RemainingRows.{short_of, short_told, TellBriefs}
+use Rattle.sql_model.specs.Briefs.{short_of, short_told, TellBriefs}
 use Rattle.sql_reads.proofs.HandedBriefs.{brief_in, briefs, kept_alike}
 
 -- a phase is in the range of numbers where it is asked for

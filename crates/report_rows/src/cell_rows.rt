@@ -9,7 +9,7 @@ ghost use Rattle.desk_sql.specs.declared.versions.Version.{Version};
 ghost use Rattle.sql_reads.specs.Lending.{LeavesIfErr};
 ghost use Rattle.sql_reads.specs.RemainingRows.{RowsStay};
 ghost use Rattle.report_rows.specs.RowsLeft.{AreCellsOf};
-ghost use Rattle.sql_reads.specs.RemainingRows.{AreGoodCellsRest, StockRests};
+ghost use Rattle.sql_lists.specs.ListedRows.{AreGoodCellsRest, StockRests};
 ghost use Rattle.sql_reads.specs.RemainingRows.{BeginsKept, IsLeftAsItWas};
 ghost use Rattle.saga_core.specs.RowSources.{count_of, Hands};
 ghost use Rattle.desk_sql.specs.Causes.{HasFaulted, IsUp};

@@ -5,6 +5,5 @@ pub mod HandedCells
 pub mod HandedJourneys
 pub mod CellAnswers
 pub mod JourneyAnswers
-pub mod NextItems
 pub mod Handed
 pub mod HolderAnswers

@@ -6,12 +6,11 @@ use Rattle.sqlite.specs.Listing.{understood}
 use Rattle.sqlite_tied.specs.Compute.{everything}
 use Rattle.desk_sql.specs.declared.versions.Version.{Version}
 use Rattle.desk_sql.specs.declared.versions.Version.TheVariants.{One, Two}
-use Rattle.desk_sql.specs.Meanings.{find_items_in, find_items_names, find_stock_names, find_stock_query, first_unfinished_query, journey_names}
+use Rattle.desk_sql.specs.Meanings.{find_stock_names, find_stock_query, first_unfinished_query, journey_names}
 use Rattle.desk_sql.specs.Rows.{whole}
 use Rattle.desk_sql.proofs.Causing.{Takes}
-use Rattle.desk_sql.proofs.Meaning.{MeansEach, MeansIn}
+use Rattle.desk_sql.proofs.Meaning.{MeansEach}
 use Rattle.sql_lists.specs.CellLists.{cell_list_query, cell_list_text, cells_query, cells_text, stock_text}
-use Rattle.sql_lists.specs.ItemLists.{next_item_text}
 use Rattle.sql_lists.specs.JourneyLists.{journey_list_query, journey_list_text, journeys_query, journeys_text, unfinished_text}
 
 pub cells_means : (s p : Bool) → MeansEach (cells_text s p) (cells_query s p) find_stock_names
@@ -96,14 +95,3 @@ module _ (least most : ℕ) where
   unfolding understood everything
   agent_takes agent One = record { whole = refl; typed = refl }
   agent_takes agent Two = record { whole = refl; typed = refl }
-
-pub next_item_means : (v : Version) → MeansIn v (next_item_text v) (find_items_in v) find_items_names
-unfolding understood everything
-next_item_means One = record { is = refl; plain = (refl, refl); unlisted = refl; selects = refl }
-next_item_means Two = record { is = refl; plain = (refl, refl); unlisted = refl; selects = refl }
-
-pub next_item_takes : (v : Version) (journey after : ℕ)
-    → Takes v (next_item_text v) (find_items_in v) (whole journey ∷ whole after ∷ [])
-unfolding understood everything
-next_item_takes One journey after = record { whole = refl; typed = refl }
-next_item_takes Two journey after = record { whole = refl; typed = refl }

@@ -1,4 +1,4 @@
 pub mod CellLists
-pub mod ItemLists
 pub mod JourneyLists
 pub mod HolderLists
+pub mod ListedRows

@@ -1,5 +1,4 @@
-//! The SQL statements of reports: cells, journeys, the items of a journey, and the options that hold places of a cell, read
-//! one at a time.
+//! The SQL statements of reports: cells, journeys, and the options that hold places of a cell, read one at a time.
 //!
 //! A filter stands in its statement, so that rows outside of the range that it names in a key are not read. The
 //! remaining rows are a fixed list of the tables, in order, and nothing changes while they are read. After an error
@@ -11,12 +10,8 @@
 
 mod cells;
 mod holders;
-mod items;
 mod journeys;
-mod old_items;
 
 pub use cells::{hand_cells, hand_stock, next_cell};
 pub use holders::{HolderFound, hand_holders, next_holder};
-pub use items::next_item;
 pub use journeys::{hand_journeys, hand_unfinished, next_journey};
-pub use old_items::next_old_item;

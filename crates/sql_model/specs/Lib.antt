@@ -2,6 +2,7 @@ pub mod ExpectedRows
 pub mod Standing
 pub mod Beginning
 pub mod Reading
+pub mod Briefs
 pub mod Keeping
 pub mod Staying
 pub mod Worlds

@@ -23,7 +23,7 @@ use Rattle.sql_model.proofs.Events.{length-begun}
 use Rattle.sql_model.proofs.JourneyRows.{row_in, begun_there, called_rises}
 use Rattle.sql_model.proofs.Orders.{Rises, one_order}
 use Rattle.sql_reads.specs.Reading.{TellsBrief}
-use Rattle.sql_reads.specs.RemainingRows.{Short, short_of, short_told, TellBriefs}
+use Rattle.sql_model.specs.Briefs.{Short, short_of, short_told, TellBriefs}
 use Rattle.sql_reads.proofs.ReadJourneys.{brief_told}
 
 -- the brief of a journey with its number

@@ -14,9 +14,9 @@ use Rattle.desk_sql.specs.Rows.{JourneyRow, StockRow}
 use Rattle.saga_core.specs.declared.records.Brief.{Brief}
 use Rattle.sql_model.specs.ExpectedRows.{cursor_row}
 use Rattle.sql_model.specs.Reading.{cursor_in, stock_row_of}
+use Rattle.sql_model.specs.Briefs.{Short, short_of, short_told, TellBriefs}
 use Rattle.sql_model.proofs.Cursors.{cursor_back}
 use Rattle.sql_reads.specs.GoodRows.{IsGoodStock}
-use Rattle.sql_reads.specs.RemainingRows.{Short, short_of, short_told, TellBriefs}
 use Rattle.sql_reads.proofs.GoodStock.{code_text}
 use Rattle.sql_reads.proofs.ReadReasons.{agent_text}
 

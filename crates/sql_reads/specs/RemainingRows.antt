@@ -1,29 +1,17 @@
--- The rows that remain in a source, and what the source leaves of its connection.
-use Rattle.std.specs.Prelude.{◌≡◌, ℕ, Bool, List, [], ◌++◌, map, drop, true, false, refl, IsTrue}
-use Rattle.std.specs.List.{AllByRecursion}
+-- The items of a journey that remain in a source, and what a source of rows leaves of its connection.
+use Rattle.std.specs.Prelude.{◌≡◌, ℕ, Bool, List, [], ◌++◌, drop, true, false, refl}
 use Rattle.std.specs.Borrow.{MutBor}
 use Rattle.std.proofs.Common.{◌∙◌}
-use Rattle.allotment.specs.declared.cells.Cell.{Cell}
-use Rattle.allotment.specs.declared.places.Held.{Held as HeldPlaces}
-use Rattle.allotment.specs.Limits.{is_good_cell}
-use Rattle.commands.specs.Names.{is_agent}
 use Rattle.commands.specs.declared.items.Item.{Item}
 use Rattle.ledger.specs.Answer.{State}
 use Rattle.ledger.specs.History.{position_of}
 use Rattle.ledger.specs.Ledger.{history}
-use Rattle.saga_core.specs.declared.records.Brief.{Brief}
 use Rattle.sqlite.specs.Store.{Ghosts}
 use Rattle.sqlite.specs.Held.{Held, state}
 use Rattle.sqlite.specs.declared.rows.stream.Rows.{Rows}
 use Rattle.sqlite.specs.State.{HasCleanDisk}
-use Rattle.desk_sql.specs.Rows.{JourneyRow, CursorRow}
-use Rattle.sql_lists.specs.CellLists.{CellsRest}
-use Rattle.sql_lists.specs.JourneyLists.{JourneysRest}
-use Rattle.sql_model.specs.ExpectedRows.{cursor_row}
 use Rattle.desk_sql.specs.declared.versions.Version.{Version}
 use Rattle.sql_model.specs.Keeping.{KeepsIn}
-use Rattle.sql_model.specs.Reading.{stock_row_of}
-use Rattle.sql_model.specs.Spelling.{IsSpelled}
 use Rattle.sql_model.specs.Standing.{IsDesk}
 use Rattle.sql_model.specs.Staying.{sees_alone, sees_twice}
 use Rattle.sql_reads.specs.Reading.{OnlyReads}
@@ -31,43 +19,7 @@ use Rattle.sql_reads.specs.ItemSearch.{HasSteps}
 use Rattle.sql_reads.specs.declared.history_rows.ItemCursor.{ItemCursor}
 use Rattle.sql_reads.specs.declared.item_search.Sought.{Sought}
 
--- the columns of a journey's brief
-pub record Short : Type 0 where
-  pub id : ℕ
-  pub agent : List ℕ
-  pub cursor : CursorRow
-
-abbrev pub short_of : JourneyRow → Short
-short_of r = record { id = r.id; agent = r.agent; cursor = r.cursor }
-
--- the columns of a brief, as they are stored
-abbrev pub short_told : Brief → Short
-short_told b = record { id = b.id; agent = b.agent; cursor = cursor_row b.cursor }
-
--- the rows are those of these briefs
-abbrev pub TellBriefs : List JourneyRow → List Brief → Type 0
-TellBriefs rows briefs = map short_of rows ≡ map short_told briefs
-
 module _ {S : Type 0} (g : Ghosts S) where
-  -- these rows of the desk remain
-
-  abbrev pub StockRests : Held S → List (Cell × HeldPlaces) → Type 0
-  StockRests h rows = CellsRest g h (map stock_row_of rows)
-
-  abbrev pub BriefsRest : Held S → List Brief → Type 0
-  BriefsRest h briefs = (rows : List JourneyRow) × JourneysRest g h rows × TellBriefs rows briefs
-
-  -- such rows are, and each is of a cell, or of an agent, that keeps its limits
-  abbrev pub AreGoodCellsRest : Held S → Type 0
-  AreGoodCellsRest h =
-      (rows : List (Cell × HeldPlaces)) × StockRests h rows
-      × AllByRecursion (λ (c : Cell × HeldPlaces). IsTrue (is_good_cell c.0)) rows
-
-  abbrev pub AreGoodBriefsRest : Held S → Type 0
-  AreGoodBriefsRest h =
-      (briefs : List Brief) × BriefsRest h briefs
-      × AllByRecursion (λ (b : Brief). IsTrue (is_agent b.agent)) briefs
-
   -- the connection keeps a journey, in tables of this version, that has come to this position; these are its
   -- items after an event, and all of its items from this position on
   pub record AreBehind (v : Version) (h : Held S) (w : Sought) (pos : ℕ) (items : List Item) : Type 0 where
@@ -102,13 +54,6 @@ module _ {S : Type 0} (g : Ghosts S) where
     BeginsKept v {X} IsList Rests =
         HasCleanDisk (state g new) → (s : State) → IsDesk s → KeepsIn v (state g old) s
         → (rows : List X) → IsList s rows → Rests rows
-
-    -- while the store returns what was written, good rows remain of each desk that the connection kept in tables of this
-    -- version, and whose agents have the form of one
-    abbrev pub BeginsGood : Version → Type 0
-    BeginsGood v =
-        HasCleanDisk (state g new) → (s : State) → IsDesk s → IsSpelled s.ledger → KeepsIn v (state g old) s
-        → AreGoodBriefsRest new
 
   -- the reference is the same, and its connection is left as it was
   pub record StaysUnder (a b : MutBor (Held S)) : Type 0 where

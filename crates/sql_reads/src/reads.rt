@@ -28,7 +28,7 @@ use desk_sql::{
 use plan::Plan;
 use saga_core::{Brief, Record};
 use savepoints::Marks;
-use sql_lists::{next_item, next_old_item};
+use sql_items::{next_item, next_old_item};
 use sql_model::fault_of;
 use sqlite::{Alter, Connection, Error};
 use std::alloc::Global;

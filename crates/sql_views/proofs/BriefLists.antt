@@ -24,12 +24,14 @@ use Rattle.desk_sql.specs.declared.journeys.JourneyFound.{JourneyFound}
 use Rattle.sql_model.specs.ExpectedRows.{counted_from, Begun, begun, journeys_called}
 use Rattle.sql_lists.specs.JourneyLists.{JourneysRest}
 use Rattle.sql_model.specs.Reading.{cursor_in}
+use Rattle.sql_model.specs.Briefs.{Short, short_of, short_told, TellBriefs}
 use Rattle.sql_model.specs.Staying.{StaysUp}
 use Rattle.sql_model.proofs.JourneyRows.{row_in, called_rises}
 use Rattle.sql_model.proofs.Orders.{Rises, one_order}
 use Rattle.sql_model.proofs.Staying.{fails_twice, stays_twice as up_twice, stays_up}
 use Rattle.sql_reads.specs.Reading.{TellsBrief, row_of}
-use Rattle.sql_reads.specs.RemainingRows.{AreGoodBriefsRest, BriefsRest, Short, StaysUnder, short_of, short_told, stays_alone, stays_twice, TellBriefs}
+use Rattle.sql_reads.specs.RemainingRows.{StaysUnder, stays_alone, stays_twice}
+use Rattle.sql_lists.specs.ListedRows.{AreGoodBriefsRest, BriefsRest}
 use Rattle.sql_reads.proofs.HandedBriefs.{brief_in, brief_same, briefs, kept_alike, unfinished_phase}
 use Rattle.sql_reads.proofs.HandedGood.{brief_good, briefs_text}
 use Rattle.sql_reads.proofs.HandedTold.{Told, left_by, told_first, told_none}

@@ -11,7 +11,8 @@ ghost use Rattle.sql_model.specs.Spelling.{IsSpelled};
 ghost use Rattle.sql_reads.specs.Causes.{FailsForReason};
 ghost use Rattle.sql_reads.specs.Lending.{LeavesIfErr};
 ghost use Rattle.sql_reads.specs.Reading.{AreUnfinishedAbove, KeepsOn, LeavesAsBefore, ShowsKept, WasClean};
-ghost use Rattle.sql_reads.specs.RemainingRows.{AreGoodBriefsRest, BeginsGood, BeginsKept, BriefsRest, IsLeftAsItWas, StaysUnder};
+ghost use Rattle.sql_reads.specs.RemainingRows.{BeginsKept, IsLeftAsItWas, StaysUnder};
+ghost use Rattle.sql_lists.specs.ListedRows.{AreGoodBriefsRest, BeginsGood, BriefsRest};
 
 use commands::Fault;
 use saga_core::Brief;

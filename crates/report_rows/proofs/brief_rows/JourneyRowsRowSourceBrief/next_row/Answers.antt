@@ -4,7 +4,7 @@ use Rattle.std.specs.Prelude.{option_map}
 use Rattle.desk_sql.specs.FoundRows.{journey_of}
 use Rattle.desk_sql.specs.RemainingRows.{Hands}
 use Rattle.sql_lists.specs.JourneyLists.{JourneysRest}
-use Rattle.sql_reads.specs.RemainingRows.{short_of, short_told}
+use Rattle.sql_model.specs.Briefs.{short_of, short_told}
 use Rattle.sql_reads.proofs.HandedTold.{told_first, told_none}
 use Rattle.sql_reads.proofs.HandedBriefs.{brief_same}
 use Rattle.commands.specs.declared.replies.Fault.TheVariants.{Store}

@@ -4,12 +4,12 @@ use Rattle.sqlite.specs.Held.{state}
 use Rattle.desk_sql.specs.declared.versions.Version.TheVariants.{One}
 use Rattle.desk_sql.proofs.Writing.{pos_is}
 use Rattle.desk_sql.proofs.Selecting.{given_as}
-use Rattle.sql_lists.proofs.NextItems.{finds_next, finds_no_next, next_given}
+use Rattle.sql_items.proofs.NextItems.{finds_next, finds_no_next, next_given}
 use Rattle.desk_sql.specs.Causes.{HasReason}
 use Rattle.desk_sql.proofs.Causing.{query_reason}
-use Rattle.sql_lists.specs.ItemLists.{next_item_text}
-use Rattle.sql_lists.proofs.ListMeanings.{next_item_means, next_item_takes}
-use Rattle.sql_lists.proofs.old_items.next_old_item.Goals as goal
+use Rattle.sql_items.specs.ItemTexts.{next_item_text}
+use Rattle.sql_items.proofs.ItemMeanings.{next_item_means, next_item_takes}
+use Rattle.sql_items.proofs.old_items.next_old_item.Goals as goal
 
 pub first_row-requires : goal.first_row-requires
 first_row-requires g c = (next_item_means One).selects

@@ -1,0 +1,2 @@
+pub mod ItemMeanings
+pub mod NextItems
