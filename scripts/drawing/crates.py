@@ -75,7 +75,7 @@ class Lanes:
         return self.crates.layer[node] if isinstance(node, str) else node[1]
 
     def width(self, node):
-        return width_of(node, SIZE, True) + 14 if isinstance(node, str) else 0
+        return 2 * round(width_of(node, SIZE, True) / 2) + 14 if isinstance(node, str) else 0
 
     def apart(self, left, right):
         """How far the middles of two neighbours are apart at least."""
@@ -132,7 +132,7 @@ class Lanes:
         self.layers = kept
 
     def placed(self):
-        """The middle of each node: near the middles of its neighbours, in the order of the layers, and apart."""
+        """The middle of each node, in whole pixels: near the middles of its neighbours, in the order of the layers, and apart."""
         at = {}
         for layer in self.layers:
             x = 0
@@ -151,7 +151,7 @@ class Lanes:
                 at.update(zip(layer, self.spaced(layer, wished, weights)))
         self.straighten(at)
         least = min(at[node] - self.width(node) / 2 for node in at)
-        return {node: at[node] - least for node in at}
+        return {node: round(at[node] - least) for node in at}
 
     def straighten(self, at):
         """Moves the points of a line to one upright where the neighbours leave room for it."""
@@ -216,7 +216,7 @@ def draw_lanes(picture, crates, lanes, top):
         below = sorted(lanes.down[upper], key=at.get)
         if isinstance(upper, str) and len(below) > 1:
             room = min(lanes.width(upper) - 24, 22 * (len(below) - 1))
-            x += room * (below.index(lower) / (len(below) - 1) - 0.5)
+            x += round(room * (below.index(lower) / (len(below) - 1) - 0.5))
         y, to_y = y + HIGH / 2, to_y - HIGH / 2
         half = (y + to_y) / 2
         end = [] if isinstance(lower, str) or lower in passed else ["V", to_y + HIGH]
@@ -236,18 +236,22 @@ def draw_apart(picture, crates, names, left, top, width):
     """Draws the crates beside the program, each with what it stands on; gives the bottom."""
     wide = max(width_of(name, SIZE, True) for name in names) + 14
     columns = 2 if width > 2 * (wide + 200) else 1
-    room, y, bottom = width / columns, top, top
+    room, y, bottom, placed = width / columns, top, top, []
     for group in [name for name in names if not name.endswith("_tests")], [name for name in names if name.endswith("_tests")]:
         for n, name in enumerate(group):
             x = left + room * (n % columns)
             y = bottom if n % columns == 0 else y
             lines = wrapped(", ".join(crates.reduced(name)), room - wide - 34, 11, True)
-            picture.box(x, y, wide, HIGH, look_of(crates, name))
-            picture.text(x + wide / 2, y + HIGH / 2, name, size=SIZE, code=True)
-            if lines:
-                picture.text(x + wide + 8, y + HIGH / 2, "on", "soft", 11, anchor="start")
-            end = picture.texts(x + wide + 26, y + HIGH / 2, lines, look="soft", size=11, code=True, anchor="start")
-            bottom = max(bottom, y + HIGH + 8, end)
+            placed.append((x, y, name, lines))
+            bottom = max(bottom, y + HIGH + 8, y + HIGH / 2 + len(lines) * 1.3 * 11)
+    for x, y, name, _ in placed:
+        picture.box(x, y, wide, HIGH, look_of(crates, name))
+        picture.text(x + wide / 2, y + HIGH / 2, name, size=SIZE, code=True)
+    for x, y, _, lines in placed:
+        if lines:
+            picture.text(x + wide + 8, y + HIGH / 2, "on", "soft", 11, anchor="start")
+    for x, y, _, lines in placed:
+        picture.texts(x + wide + 26, y + HIGH / 2, lines, look="soft", size=11, code=True, anchor="start")
     return bottom
 
 

@@ -62,21 +62,22 @@ def wrapped(text, width, size, code=False):
 
 
 class Picture:
-    """A picture that grows by its calls. What is drawn later lies on top."""
+    """A picture that grows by its calls. What is drawn later lies on top. A part is a pair: the class of a text, or nothing, and
+    the element, which of a text lacks that class."""
 
     def __init__(self, title, about):
         self.title, self.about, self.parts, self.looks, self.sizes = title, about, [], {"ground"}, set()
 
-    def add(self, look, element):
+    def add(self, look, element, of_text=None):
         self.looks.update(look.split())
-        self.parts.append(element)
+        self.parts.append((of_text, element))
 
     def text(self, x, y, text, look="text", size=13, code=False, anchor="middle", bold=False):
         """A line of text; y is the middle of its small letters."""
         words = [look, f"s{size}", "code" * code, "bold" * bold, "" if anchor == "start" else anchor]
         self.sizes.add(size)
         place = f'x="{number(x)}" y="{number(y + 0.34 * size)}"'
-        self.add(look, f'<text class="{" ".join(filter(None, words))}" {place}>{escape(text, False)}</text>')
+        self.add(look, f"<text {place}>{escape(text, False)}</text>", " ".join(filter(None, words)))
 
     def texts(self, x, y, lines, **how):
         """Lines of text, of which the first is at y; gives where the next one would be."""
@@ -108,8 +109,25 @@ class Picture:
         corners = [(x, y), (back[0] + side[0], back[1] + side[1]), (back[0] - side[0], back[1] - side[1])]
         self.path([word for n, point in enumerate(corners) for word in ("L" if n else "M", *point)] + ["Z"], head)
 
+    def grouped(self):
+        """The elements in order. Texts of one class, with nothing but shapes between them, are in one group that has it."""
+        runs = [[]]
+        for part in self.parts:
+            if part[0] and any(of_text not in (None, part[0]) for of_text, _ in runs[-1]):
+                runs.append([])
+            runs[-1].append(part)
+        return [line for run in runs for line in self.group(run)]
+
+    @staticmethod
+    def group(run):
+        """The elements of one run, in a group with the class of its texts; one text alone has the class itself."""
+        elements, classes = [element for _, element in run], [of_text for of_text, _ in run if of_text]
+        if len(classes) > 1:
+            return [f'<g class="{classes[0]}">', *elements, "</g>"]
+        return [element.replace("<text", f'<text class="{classes[0]}"', 1) if of_text else element for of_text, element in run]
+
     def style(self):
-        light, dark = [f"text{{font-family:{FONT}}}.code{{font-family:{CODE}}}", ANCHORS], []
+        light, dark = [f"svg{{font-family:{FONT}}}.code{{font-family:{CODE}}}", ANCHORS], []
         light.append("".join(f".s{size}{{font-size:{size}px}}" for size in sorted(self.sizes)))
         for look, (fill, line, more) in LOOKS.items():
             if look in self.looks:
@@ -130,6 +148,6 @@ class Picture:
             f'<desc id="desc">{escape(self.about, False)}</desc>',
             f"<style>\n{self.style()}\n</style>",
             f'<rect class="ground" {size}/>',
-            *self.parts,
+            *self.grouped(),
             "</svg>",
         ]) + "\n"
