@@ -6,9 +6,9 @@ ghost use Rattle.program_ends.specs.Ends.{EndsJob, IfDone};
 ghost use Rattle.desk_jobs.specs.Notes.{MayNote};
 ghost use Rattle.cli.specs.Ends.{TellsReady};
 
-use crate::desks::{close_after, connect};
 use agents_page::{PAGE, POLICY};
 use commands::Fault;
+use desk_files::{close_after, connect};
 use desk_jobs::{note_recovered, ready_over};
 use http_pages::HtmlPage;
 use http_sockets::{Limits, PATIENCE, Sockets, log_opening, serve_sockets};

@@ -5,8 +5,8 @@ ghost use Rattle.desk_jobs.specs.Ends.{TellsAccepted};
 ghost use Rattle.desk_jobs.specs.Notes.{MayNoteAll, NotesSome};
 ghost use Rattle.cli.specs.Ends.{ReadsOnlyInput};
 
-use crate::desks::{close_after, connect};
 use commands::MOST_BYTES;
+use desk_files::{close_after, connect};
 use desk_jobs::{load_over, note_recovered, note_wrong_field, ready_over};
 use program_ends::{End, Ended, ProgramFault};
 use recovery::Ready;

@@ -4,8 +4,8 @@ ghost use Rattle.std.specs.Io.KnownBytes.{Appends};
 ghost use Rattle.program_ends.specs.Ends.{EndsBadly, EndsJob, IfDone};
 ghost use Rattle.cli.specs.Ends.{end_of_migration, migrated_line, TellsMigrated};
 
-use crate::desks::{close_after, connect_there};
 use commands::Refusal;
+use desk_files::{close_after, connect_there};
 use migrate::{MigrateFault, migrate};
 use program_ends::{End, Ended, ProgramFault};
 use protocols::ServeFault;

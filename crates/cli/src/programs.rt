@@ -10,13 +10,13 @@ ghost use Rattle.desk_jobs.specs.Notes.{MayNote, MayNoteAll};
 ghost use Rattle.cli.specs.Explaining.{TellsExplained};
 ghost use Rattle.cli.specs.Ends.{HasBadId, ReadsFor, TellsOf, TellsRecovered};
 
-use crate::desks::{close_after, connect};
 use crate::listening::{Served, serve_file};
 use crate::loads::load_file;
 use crate::migrations::migrate_file;
 use crate::telling::{Report, Shown, history_file, report_file};
 use command_line::{Job, version_line};
 use commands::Refusal;
+use desk_files::{close_after, connect};
 use desk_jobs::{recover_over, run_over};
 use program_ends::{End, Ended, ProgramFault};
 use reports::{Format, JourneyReport};

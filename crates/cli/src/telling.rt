@@ -4,10 +4,9 @@ ghost use Rattle.std.specs.Io.KnownBytes.{Keeps};
 ghost use Rattle.desk_lines.specs.Lines.{journey_in as journey_of};
 ghost use Rattle.program_ends.specs.Ends.{EndsJob};
 
-use crate::desks::{FileConnection, close_after, connect_there};
-use crate::files::NewLog;
 use allotment::Cell;
 use commands::Refusal;
+use desk_files::{FileConnection, NewLog, close_after, connect_there};
 use desk_lines::journey_in;
 use filters::{CellFilter, JourneyFilter};
 use month_reports::MonthReport;

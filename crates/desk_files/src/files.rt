@@ -11,7 +11,7 @@ const FIRST_BYTES: &[u8] = b"SQLite format 3\0";
 
 /// The log beside a database file, by its path, where none stood there before the file was opened.
 #[derive(Drop)]
-pub(crate) struct NewLog {
+pub struct NewLog {
     path: Option<String>,
 }
 

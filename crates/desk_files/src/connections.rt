@@ -11,11 +11,11 @@ use sqlite_schema::schema::{Schema, Table};
 use std::fs;
 
 /// A connection to the database in a file.
-pub(crate) type FileConnection = Connection<FileStore<File>>;
+pub type FileConnection = Connection<FileStore<File>>;
 
 /// A connection to the database in a file, of any contents, and the log that this made beside it. An absent file is a
 /// fault, and is not made.
-pub(crate) fn connect_there(rt: &HostRuntime, file: &str) -> Result<(FileConnection, NewLog), Ended>
+pub fn connect_there(rt: &HostRuntime, file: &str) -> Result<(FileConnection, NewLog), Ended>
     ensures outside { IfOk result (λ opened. opened.0.in_transaction ≡ false) }
     ensures unlimited { IfOk result (λ opened. opened.0.step_limit ≡ None) }
     ensures end { IfErr result (λ ended. EndsBadly ended.end) }
@@ -41,7 +41,7 @@ fn check_there(rt: &HostRuntime, file: &str) -> Result<(), Ended>
 
 /// A connection to the database in a file, of any contents, and the log that this made beside it. An absent file is made.
 /// A file that is no database is left as it was, without a log.
-pub(crate) fn connect(rt: &HostRuntime, file: &str) -> Result<(FileConnection, NewLog), Ended>
+pub fn connect(rt: &HostRuntime, file: &str) -> Result<(FileConnection, NewLog), Ended>
     ensures outside { IfOk result (λ opened. opened.0.in_transaction ≡ false) }
     ensures unlimited { IfOk result (λ opened. opened.0.step_limit ≡ None) }
     ensures end { IfErr result (λ ended. EndsBadly ended.end) }
@@ -83,7 +83,7 @@ fn drop_log(rt: &HostRuntime, log: NewLog, left: Option<Leftover<File>>) {
 
 /// Closes a connection after a job that ended so, so that the file has the whole database. The end is that of the closing.
 /// A database with other tables than the desk's is left as it was, without a log.
-pub(crate) fn close_after(rt: &HostRuntime, conn: FileConnection, log: NewLog, job: &End) -> Ended
+pub fn close_after(rt: &HostRuntime, conn: FileConnection, log: NewLog, job: &End) -> Ended
     ensures job { EndsJob result.end }
 {
     if is_unopened(job) && has_other_tables(conn.schema()) {
