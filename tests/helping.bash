@@ -2,6 +2,32 @@
 # is the file system in memory that has this folder.
 set -u
 : "${DESK:?the program to drive}"
+
+# The gate calls a long script with PART=K/N, and the script then does the K-th of N parts of its cases. N calls, with K from 1
+# to N, do each case once. What many cases stand on is done in every part. Without PART a script does all.
+part=1 parts=1 cases=0
+
+# in_part: what the last line of a script ends with, which says what was done: nothing where it was all
+in_part=""
+
+# read_part: takes in PART, and ends the script with 2 where it has another form
+read_part() {
+  if ! [[ $PART =~ ^([1-9][0-9]?[0-9]?)/([1-9][0-9]?[0-9]?)$ ]] || [ "${BASH_REMATCH[1]}" -gt "${BASH_REMATCH[2]}" ]; then
+    echo "$(basename "$0"): PART=$PART is not K/N, with K from 1 to N" >&2
+    exit 2
+  fi
+  part=${BASH_REMATCH[1]} parts=${BASH_REMATCH[2]}
+  in_part=", part $part of $parts"
+}
+[ -z "${PART:-}" ] || read_part
+
+# is_mine [NUMBER]: whether this part has the case of this number, from 1; without a number whether it has the next case, which
+# each such call counts. The cases are dealt out in turn, so that each part takes about as long.
+is_mine() {
+  [ $# -gt 0 ] || cases=$((cases + 1))
+  [ $((${1:-$cases} % parts)) -eq $((part % parts)) ]
+}
+
 tests=$(cd "$(dirname "${BASH_SOURCE[0]}")" && pwd)
 work=$(mktemp -d ${in_memory:+-p "$in_memory"})
 trap 'rm -rf "$work"' EXIT

@@ -64,7 +64,7 @@ begins_next() {
 }
 
 # how many milliseconds it takes to open the file, answer a line and look, at best: so long the program runs, at most
-next=0 span=1000000
+next=0 span=1000000 kills=0
 for round in 1 2 3; do
   least=$next most=$next
   started=$(date +%s%N)
@@ -73,26 +73,45 @@ for round in 1 2 3; do
   [ "$took" -ge "$span" ] || span=$took
 done
 
-# a file that grows; every second time sqlite3 opens it before the program does
-for round in {1..40}; do
-  kill_after $((RANDOM % span))
-  answers_go_on "kill $round" "$next"
-  if [ $((round % 2)) -eq 0 ]; then
+# kills_growing ROUND MILLISECONDS: one kill of a file that grows; every second time sqlite3 opens it before the program does
+kills_growing() {
+  local now
+  kills=$((kills + 1))
+  kill_after "$2"
+  answers_go_on "kill $1" "$next"
+  if [ $(($1 % 2)) -eq 0 ]; then
     now=$(rows 'SELECT journeys FROM meta')
-    stand "kill $round" "$now"
-    is_whole "kill $round" "$now"
+    stand "kill $1" "$now"
+    is_whole "kill $1" "$now"
   fi
-  begins_next "kill $round"
+  begins_next "kill $1"
+}
+
+# are_answered: lines were answered before the kills, which so came in the midst of the work
+are_answered() { [ $((all * parts)) -gt 40 ]; }
+
+for round in {1..40}; do
+  chance=$RANDOM
+  is_mine || continue
+  kills_growing "$round" $((chance % span))
+done
+# on a machine that is slower than it was, a few kills may all come before the first answer
+for ((round = 41; round <= 60; round++)); do
+  if are_answered; then break; fi
+  kills_growing "$round" $((RANDOM % (4 * span)))
 done
 
 # a new file each time
 for round in {1..20}; do
+  chance=$RANDOM
+  is_mine || continue
+  kills=$((kills + 1))
   rm -f trips.db trips.db-*
-  kill_after $((RANDOM % (span / 4)))
+  kill_after $((chance % (span / 4)))
   answers_go_on "kill $round of a new file" 0
   begins_next "kill $round of a new file"
 done
 
-# the kills came in the midst of the work
-same "lines were answered before the kills" yes "$([ "$all" -gt 40 ] && echo yes)"
+same "lines were answered before the kills" yes "$(are_answered && echo yes)"
+[ -z "$in_part" ] || echo "$kills kills, before which $all lines were answered$in_part"
 finish

@@ -31,13 +31,15 @@ looks_at() {
   esac
 }
 
-faults=0
+faults=0 refusals=0
 for ((n = 1; ; n++)); do
+  is_mine "$n" || continue
   rm -f trips.db* refused
   REFUSE=$n LD_PRELOAD=./refuse.so "$DESK" run trips.db <lines >out 2>err
   looks_at "$n" $?
   [ -e refused ] && [ "$wrong" -eq 0 ] || break
+  refusals=$((refusals + 1))
 done
-same "$n allocations, $faults of them missed" yes "$([ "$n" -gt 100 ] && [ "$faults" -gt 100 ] && echo yes)"
-echo "$((n - 1)) allocations refused to a run of two lines, of which $faults ended in a fault"
+same "$n allocations, $faults of them missed" yes "$([ "$n" -gt 100 ] && [ $((faults * parts)) -gt 100 ] && echo yes)"
+echo "$refusals allocations refused to a run of two lines, of which $faults ended in a fault$in_part"
 finish

@@ -9,6 +9,7 @@
 # with EACH=1 every one. Each fifth takes 40 seconds of one processor, by a program with checks at run time.
 #
 # MEMORY_TESTS=FOLDER: takes the programs of the tests, CRATE_tests, from there, and not from where ./check leaves them
+# TESTED="CRATE ..":   leaves out the crates that are not among these, whose tests the gate has built; these have to be there
 [ -w /dev/shm ] && in_memory=/dev/shm
 . "$(dirname "${BASH_SOURCE[0]}")/helping.bash"
 
@@ -17,7 +18,8 @@ cc -O1 -shared -fPIC -o refuse.so "$tests/refuse.c" || exit 1
 # a test that does one thing again at each byte, and how many of its allocations are refused
 at_each_byte='anywhere|cut|a_writer_that_fails_has_a_prefix|a_failed_read_leaves_the_lines|a_failed_write_leaves_a_beginning_of_the_answers'
 few=10
-today=$(($(date +%s) / 86400))
+# as many days as there are parts count as one, so that all parts are of the same allocations
+today=$(($(date +%s) / 86400 / parts))
 
 # the fault as a test prints it; how it ends where that is its own result; and where a check stops it at the value of a call
 fault='(AllocError|AllocFailed \{ \.\. \}|Kind\(OutOfMemory\)|Memory|(Some|Err)\(Memory\)|Error\(out of memory\)|"out of memory")'
@@ -25,6 +27,18 @@ by_result=$'^[Ee]rror: '$fault$'\nthe test failed: its result gives status 1$'
 stopped=$'\n\ntest stopped at src/[a-z_/]+\\.rt:[0-9]+:[0-9]+$'
 by_check=$'(^|: |;)'$fault$stopped
 by_comparison=$'\n  left: '$fault$'\n right: [^\n]*'$stopped
+
+# has_turn CRATE: whether the gate has built the tests of this crate, or should have; adds it to taken or to left_out
+taken=() left_out=()
+read -r -d '' -a tested <<<"${TESTED:-}"
+has_turn() {
+  if [ -z "${TESTED+set}" ] || [[ " ${tested[*]} " == *" $1 "* ]]; then
+    taken+=("$1")
+  else
+    left_out+=("$1")
+    false
+  fi
+}
 
 # program_of CRATE: sets program to the tests of a crate, where they are built
 program_of() {
@@ -72,6 +86,7 @@ names_each() {
     first=$((today * 7919 % step + 1))
   fi
   for ((n = first; n <= count; n += step)); do
+    is_mine || continue
     refuses "$1" "$2" "$n"
     runs=$((runs + 1))
     if passes "$status" "$told"; then
@@ -89,10 +104,16 @@ passes_at_each() {
   local n count
   count_allocations "$1" "$2"
   for ((n = $3; n <= count; n += $4)); do
+    is_mine || continue
     refuses "$1" "$2" "$n"
     kept=$((kept + 1))
     passes "$status" "$told" || same "$2, allocation $n" "0: test result: ok" "$status: $told"
   done
+}
+
+# is_enough WHAT REFUSED ALL: of so many allocations this part refused its share
+is_enough() {
+  same "$1: of $3 allocations $2 were refused" yes "$([ "$3" -gt 0 ] && [ "$2" -ge $(($3 / parts)) ] && echo yes)"
 }
 
 # judges STATUS TEXT EXPECTED: what this script makes of such an end of a test
@@ -124,21 +145,25 @@ judges 139 "a plan: Memory$at" wrong
 runs=0 passed=0 named=0
 for crate in ${CRATES:-streams allotment plan savepoints commands saga_core memory_book allotment_csv recovery_tests \
   message_tests line_tests http_pages report_tests http_tests}; do
+  has_turn "$crate" || continue
   program_of "$crate" || continue
+  before=$runs dealt=$cases
   for test in $(tests_of "$program"); do
     names_each "$program" "$test"
   done
+  is_enough "the tests of $crate" $((runs - before)) $((cases - dealt))
 done
-same "$runs allocations were refused" yes "$([ "$runs" -gt 100 ] || [ -n "${CRATES:-}" ] && echo yes)"
+same "$runs allocations were refused" yes "$([ $((runs * parts)) -gt 100 ] || [ -n "${CRATES:-}${TESTED+set}" ] && echo yes)"
 
 kept=0
 step=5 first=$((today % 5 + 1))
 [ "${EACH:-}" != 1 ] || step=1 first=1
-if [ -z "${CRATES:-}" ] && program_of fault_tests; then
+if [ -z "${CRATES:-}" ] && has_turn fault_tests && program_of fault_tests; then
   for test in $(tests_of "$program" | grep '::memory::'); do
     passes_at_each "$program" "$test" "$first" "$step"
   done
-  same "$kept allocations were refused to commands, loads and recovery" yes "$([ "$kept" -gt 1000 ] && echo yes)"
+  same "$kept allocations were refused to commands, loads and recovery" yes "$([ $((kept * parts)) -gt 1000 ] && echo yes)"
 fi
-echo "$runs allocations refused to tests, of which $passed passed still, and $named named the fault; $kept to commands, loads and recovery"
+[ -z "${TESTED+set}" ] || echo "tests with their turn: ${taken[*]:-none}; left out until theirs: ${left_out[*]:-none}"
+echo "$runs allocations refused to tests, of which $passed passed still, and $named named the fault; $kept to commands, loads and recovery$in_part"
 finish
