@@ -182,7 +182,7 @@ begins trips.db b.db
 { kill -9 "$backup"; wait "$backup"; } 2>/dev/null
 asks "after a kill" "step 0" "refused 4 BadBody"
 rm -f hold copied
-for _ in {1..500}; do
+for _ in {1..3000}; do
   [ ! -e copied ] || break
   sleep 0.01
 done

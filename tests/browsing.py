@@ -9,7 +9,7 @@ from selenium.webdriver.chrome.service import Service
 from driving import DESK, Client, free_port, is_whole, request, sockets_of
 
 STOCK = request("GET", "/stock")
-AT_ONCE = 5  # seconds: the most that anybody waits
+AT_ONCE = 15  # seconds: the most that anybody waits; a desk that waited for a silent connection would take longer
 wrong = []
 
 # Asks for the stock so many times at once, and returns each status and body.
@@ -79,6 +79,9 @@ def look(served, port, driver):
     holds(f"twelve pages: {pages}", len(pages) == 12 and all(p.startswith("200 ") and p.rstrip().endswith("cells 0") for p in pages))
     for crossed in ("anonymous", "use-credentials"):
         driver.execute_script(AHEAD, crossed)
+    begun = time.monotonic()
+    while connections(served) < 4 and time.monotonic() - begun < 30:
+        time.sleep(0.1)
     time.sleep(1)
     count = connections(served)
     holds(f"connections that are left silent: {count}", count >= 4)

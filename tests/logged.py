@@ -54,7 +54,7 @@ class Desk:
             same("a line of the log", True, LINE.fullmatch(line) is not None or line)
         return [line.removeprefix(HEAD) for line in found[:-1]]
 
-    def has(self, what, line, within=5):
+    def has(self, what, line, within=30):
         """A line is in the log, or soon comes."""
         begun = time.monotonic()
         while line not in self.log() and time.monotonic() - begun < within:

@@ -59,7 +59,7 @@ def not_while_hidden(scene):
     browser.script("document.addEventListener('visibilitychange', () => document.title = `hidden ${document.hidden}`)")
     driver.switch_to.new_window("tab")
     wait_until(lambda: "hidden true" in titles(scene), "the page is hidden")
-    time.sleep(1)
+    time.sleep(3)  # what was asked for before may come a while later
     before = asked()
     time.sleep(9)
     same("requests of a hidden page", [], scene.network.paths[before:])

@@ -2,12 +2,15 @@
 
 Standard error is a terminal of this script's own (a pseudo-terminal); the input comes through a pipe, or from that terminal.
 """
+import array
+import fcntl
 import os
 import pty
 import re
 import subprocess
 import sys
 import tempfile
+import termios
 import threading
 import time
 import tty
@@ -55,6 +58,14 @@ def has_lines(pieces, count):
         time.sleep(0.02)
 
 
+def is_taken_in(stream):
+    """Waits until nothing is left in this pipe, for half a minute: a desk that is slow reads it later."""
+    left, begun = array.array("i", [1]), time.monotonic()
+    while left[0] and time.monotonic() - begun < 30:
+        time.sleep(0.02)
+        fcntl.ioctl(stream, termios.FIONREAD, left)
+
+
 def run(words, lines, pause, at_terminal=("err",)):
     """The status, the output and what the terminal was shown, of a run whose input comes line by line."""
     outer, inner = pty.openpty()
@@ -73,6 +84,8 @@ def run(words, lines, pause, at_terminal=("err",)):
         if desk.stdin:
             desk.stdin.write(line.encode())
             desk.stdin.flush()
+            if pause:
+                is_taken_in(desk.stdin)
         else:
             os.write(outer, line.encode())
     if desk.stdin:
