@@ -5,12 +5,12 @@ showed in spite of the damage is counted: the right rows, those of an older ledg
 damage.py COUNT [SEED]    so many damages of each sort; COUNT=all: each byte, each pair of pages, each length
 """
 import collections
-import random
 import sqlite3
 import sys
 
 from driving import Client, Lines, Server, desk, request
 from ledger import Ledger, history_report, stock_report, tables_of, unfinished_report
+from parts import IN_PART, PARTS, Deal, chances
 from scenes import FIRST, FLIGHT, JUNE, PLANS, SECOND
 from shown import lay, look, old_file, read_files
 
@@ -121,7 +121,7 @@ class Trial:
     WRITERS = ("run", "recover", "load", "migrate", "serve")
 
     def __init__(self, chance):
-        self.chance, self.turn, self.runs = chance, 0, 0
+        self.chance, self.deal, self.turn, self.runs = chance, Deal(), 0, 0
         self.wrong, self.examples = [], []
 
     def ended(self, what, ended):
@@ -178,22 +178,27 @@ class Trial:
         return server.end()
 
     def run(self, name, base, disks):
-        """Tries the damages of a sort, and prints what came of them."""
-        sorts = collections.Counter()
-        for n, files in enumerate(disks):
-            what = f"{name}, {n + 1}"
+        """Tries the damages of a sort that this part has, and prints what came of them."""
+        sorts, made = collections.Counter(), 0
+        for made, files in enumerate(disks, 1):
+            if not self.deal.is_mine():
+                continue
+            what = f"{name}, {made}"
             sort = self.sort(base, files, what)
             sorts[sort] += 1
             if "wrong" in sort and len(self.examples) < 5:
                 self.examples.append(f"{what}: {sort}")
             self.writes(base, files, what)
-        print(f"{name}: {sum(sorts.values())}; " + ", ".join(f"{s}: {c}" for s, c in sorts.most_common()), flush=True)
+        tried = sum(sorts.values())
+        if not made or tried < made // PARTS:
+            self.wrong.append(f"{name}: of {made} damages {tried} were tried")
+        print(f"{name}: {tried}; " + ", ".join(f"{s}: {c}" for s, c in sorts.most_common()), flush=True)
         return sorts
 
 
 def main():
     count = None if sys.argv[1] == "all" else int(sys.argv[1])
-    chance = random.Random(int(sys.argv[2]) if len(sys.argv) > 2 else 1987)
+    same, own = chances(int(sys.argv[2]) if len(sys.argv) > 2 else 1987)
     with open("june.csv", "w", encoding="ascii") as file:
         file.write(JUNE)
     closed = make_disk(FIRST)
@@ -201,7 +206,7 @@ def main():
     others = [make_disk(FIRST[:8], kill=SECOND[:3])[LOG], make_disk(FIRST, kill=SECOND[:2])[LOG]]
     old = old_file(closed)
     sound, logged, older = Base(closed), Base(killed), Base(old, is_old=True)
-    damages, trial = Damages(count, chance), Trial(chance)
+    damages, trial = Damages(count, same), Trial(own)
     size = used(killed[LOG])
     trial.run("a byte of the file", sound, damages.flips(closed, DB, len(closed[DB])))
     trial.run("a byte of the file beside its log", logged, damages.flips(killed, DB, len(killed[DB])))
@@ -216,7 +221,7 @@ def main():
     trial.run("another log", logged, damages.logs(killed, others))
     for text in trial.examples:
         print(f"  {text}")
-    print(f"{trial.runs} runs, {len(trial.wrong)} that did not end as they should")
+    print(f"{trial.runs} runs, {len(trial.wrong)} that did not end as they should{IN_PART}")
     for text in trial.wrong[:10]:
         print(f"damage.py: {text}", file=sys.stderr)
     sys.exit(1 if trial.wrong else 0)

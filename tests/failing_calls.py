@@ -8,10 +8,10 @@ failing_calls.py CALLS.so MORE EACH [SEED [SCENE ..]]    after each failure so m
 import collections
 import errno
 import os
-import random
 import sys
 
 from driving import Client, Lines, Server, desk, is_whole
+from parts import IN_PART, PARTS, Deal, chances
 from scenes import FIRST, JUNE, PLANS, SECOND, http_requests
 from shown import Events, Migration, Shown, lay, look, old_file, read_files
 
@@ -206,20 +206,23 @@ class Trial:
         if isinstance(tables, str) or self.scene.measure(tables) < least:
             self.wrong.append(f"{what}: {tables if isinstance(tables, str) else 'events are lost'}")
 
-    def run(self, more, each):
-        """Each call fails, with each error; then so often a second one after it. Answers how many calls there are."""
+    def run(self, more, each, same, deal):
+        """Each call of this part fails, with each error; then so often a second one after it. The first call is chosen by a
+        chance that gives every part the same."""
         for error in ERRORS:
-            call = self.chance.randrange(1, each + 1)
-            while self.fails(FAIL=call, ERROR=error) and len(self.wrong) < 10:
+            for call in deal.mine_from(same.randrange(1, each + 1), each):
+                if not self.fails(FAIL=call, ERROR=error) or len(self.wrong) >= 10:
+                    break
                 for _ in range(more):
                     self.fails(FAIL=call, ERROR=error, THEN=self.chance.choice(THEN))
                 self.calls.add(call)
-                call += each
 
-    def in_pieces(self, size):
+    def in_pieces(self, size, deal):
         """With writes, and reads of streams, of so few bytes all is as ever. A page that a read gives in parts is a fault
         to the library `sqlite`, which loses nothing."""
         for env in ({"PIECES": str(size)}, {"PARTS": str(size)}):
+            if not deal.is_mine():
+                continue
             ended = self.scene.run({**self.library, **env})
             fault = self.scene.fault(ended)
             if not fault and "PIECES" in env and ended.status != 0:
@@ -263,22 +266,28 @@ def scenes():
 
 def main():
     library, more, each = os.path.abspath(sys.argv[1]), int(sys.argv[2]), int(sys.argv[3])
-    chance = random.Random(int(sys.argv[4]) if len(sys.argv) > 4 else 1987)
-    wrong, named = 0, sys.argv[5:]
+    same, own = chances(int(sys.argv[4]) if len(sys.argv) > 4 else 1987)
+    deal, wrong, runs, named = Deal(), 0, 0, sys.argv[5:]
     for scene in scenes():
         if named and scene.name not in named:
             continue
         book = Migration(scene) if scene.name == "migrate" else Events(scene)
-        trial = Trial(scene, book, chance, library)
-        trial.run(more, each * scene.stride)
+        trial = Trial(scene, book, own, library)
+        trial.run(more, each * scene.stride, same, deal)
         for size in (7, 509):
-            trial.in_pieces(size)
+            trial.in_pieces(size, deal)
         ends = ", ".join(f"{end}: {count}" for end, count in sorted(trial.ends.items()))
         print(f"{scene.name}: {len(trial.calls)} calls, {sum(trial.names.values())} runs, {len(trial.wrong)} wrong; {ends}")
         print(f"  what failed first: {', '.join(f'{n} {c}' for n, c in trial.names.most_common())}", flush=True)
         for text in trial.wrong[:10]:
             print(f"failing_calls.py: {text}", file=sys.stderr)
         wrong += len(trial.wrong)
+        runs += sum(trial.names.values())
+    if not named and runs < 2000 * (1 + more) // (each * PARTS):
+        print(f"failing_calls.py: {runs} runs with a failure, which are too few", file=sys.stderr)
+        wrong += 1
+    if IN_PART:
+        print(f"{runs} runs with a failure{IN_PART}")
     sys.exit(1 if wrong else 0)
 
 
