@@ -15,6 +15,7 @@ import page_rules
 import page_scenes
 import page_views
 from page_scenes import Scene
+from parts import IN_PART, PARTS, Deal
 
 SCENES = {
     scene.__name__: scene for scene in (
@@ -116,15 +117,20 @@ def run_spoiled(row):
 
 
 def main(names):
+    deal = Deal()
     with ThreadPoolExecutor(3) as runs:
-        outcomes = list(runs.map(run_scene, [name for name in SCENES if not names or name in names]))
+        outcomes = list(runs.map(run_scene, deal.mine(name for name in SCENES if not names or name in names)))
         if not names or "spoiled" in names:
             page_driving.PATIENCE = min(page_driving.PATIENCE, 12)
-            outcomes += runs.map(run_spoiled, SPOILED)
+            outcomes += runs.map(run_spoiled, deal.mine(SPOILED))
     for wrong, took in outcomes:
         print(took, file=sys.stderr)
         if wrong:
             print(wrong)
+    if len(outcomes) < max(deal.dealt // PARTS, 1):
+        print(f"of {deal.dealt} scenes and spoiled pages {len(outcomes)} were tried")
+    if IN_PART:
+        print(f"{len(outcomes)} of {deal.dealt} scenes and spoiled pages{IN_PART}", file=sys.stderr)
 
 
 if __name__ == "__main__":

@@ -14,4 +14,5 @@ HOME=$work PYTHONDONTWRITEBYTECODE=1 "$python" "$tests/page_in_browser.py" "$@" 
 same "the status" 0 "$?"
 same "what went wrong" "" "$(cat out)"
 [ "$wrong" -eq 0 ] || cat err >&2
+[ -z "$in_part" ] || tail -n 1 err
 finish
