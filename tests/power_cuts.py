@@ -6,12 +6,12 @@ power_cuts.py CALLS.so DISKS [SEED]    tries about so many disks; says what it f
 """
 import collections
 import os
-import random
 import shutil
 import sys
 
 from disks import Disk, Part, notes_in
 from driving import Client, Lines, Server, desk, is_whole, page_size
+from parts import IN_PART, PARTS, Deal, chances
 from scenes import BUS, FIRST, FLIGHT, JUNE, LARGE, PLANS, SECOND, http_requests
 from shown import Events, Migration, Shown, lay, look, old_file, read_files
 
@@ -88,6 +88,8 @@ class Record:
 
 
 Cut = collections.namedtuple("Cut", "disk least where is_log_sync")
+# what the last sync of the log covered: after how many events at least, the files, and whether this part tries them
+Synced = collections.namedtuple("Synced", "least files is_mine")
 
 
 def cuts_of(record, has_syncs=True):
@@ -146,25 +148,28 @@ class Trial:
         return found
 
     def run(self, disks, copying=1):
-        """Cuts the power at each moment, so often that about so many disks are tried; where the log is being copied into
-        the file, so many times as often."""
+        """Cuts the power at each moment of this part, so often that all parts try about so many disks; where the log is being
+        copied into the file, so many times as often. The moments at which the files are the same are one case."""
         share = disks / max(sum(weight(cut, copying) for cut in cuts_of(self.record)), 1)
-        synced = (0, None)
+        deal, synced, files, is_mine = Deal(), None, None, False
         for place, cut in enumerate(cuts_of(self.record)):
+            now = cut.disk.whole()
+            if now != files:
+                files, is_mine = now, deal.is_mine()
             if cut.is_log_sync:
-                synced = (cut.least, cut.disk.whole())
-            if place % EACH:
+                synced = Synced(cut.least, files, is_mine)
+            if place % EACH or not is_mine:
                 continue
             self.cuts += 1
-            durable = self.whole(synced[1], synced[0], self.record.count, cut) if synced[1] else 0
+            durable = self.whole(synced.files, synced.least, self.record.count, cut, synced.is_mine) if synced else 0
             least = max(cut.least, durable)
-            most = self.whole(cut.disk.whole(), least, least + 1, cut)
+            most = self.whole(files, least, least + 1, cut)
             for _ in range(int(share * weight(cut, copying) * EACH + self.chance.random())):
                 self.cut(cut, least, most)
 
-    def whole(self, files, least, most, cut):
+    def whole(self, files, least, most, cut, goes_on=True):
         """After how many events a disk is that lost nothing."""
-        found = self.judge(files, least, most, f"{cut.where}: nothing lost")
+        found = self.judge(files, least, most, f"{cut.where}: nothing lost", goes_on)
         return least if found is None else found
 
     def cut(self, cut, least, most):
@@ -219,11 +224,12 @@ def migrating(library, start):
     return record
 
 
-def without_syncs(record, book, chance, count):
-    """How many of so many disks are wrong where the syncs are left out of the record: the check of this trial."""
+def without_syncs(record, book, same, chance, count):
+    """How many of so many disks are wrong where the syncs are left out of the record: the check of this trial. Of the moments
+    that are chosen for every part, this part takes its own."""
     trial = Trial(record, book, chance)
     moments = [cut for cut in range(sum(1 for _ in cuts_of(record)))]
-    chosen = set(chance.sample(moments, min(count, len(moments))))
+    chosen = set(Deal().mine(same.sample(moments, min(count, len(moments)))))
     for place, cut in enumerate(cuts_of(record, has_syncs=False)):
         if place in chosen:
             files = cut.disk.cut(Part(chance.choice(("sectors", "calls", "one lost")), chance, cut.disk))
@@ -246,39 +252,49 @@ def cut_again(trial, chance, records, disks):
 
 
 def tell(name, trials):
-    """Says what was tried, and of what is wrong the first."""
+    """Says what was tried, and of what is wrong the first. Returns how many cuts there were, and how much is wrong."""
     kinds = sum((trial.kinds for trial in trials), collections.Counter())
     wrong = [text for trial in trials for text in trial.wrong]
     tried, cuts = sum(t.shown.tried for t in trials), sum(t.cuts for t in trials)
     print(f"{name}: {cuts} moments, {sum(kinds.values())} cuts, {tried} disks, {len(wrong)} wrong", flush=True)
     for text in wrong[:10]:
         print(f"power_cuts.py: {text}", file=sys.stderr)
-    return len(wrong)
+    return collections.Counter(cuts=sum(kinds.values()), wrong=len(wrong))
 
 
-def main():
-    library, disks = os.path.abspath(sys.argv[1]), int(sys.argv[2])
-    chance = random.Random(int(sys.argv[3]) if len(sys.argv) > 3 else 1987)
+def tries_all(library, disks, same, chance):
+    """Makes the records and tries what cuts of them leave; returns how many cuts there were, and how much is wrong."""
     record = booking(library)
     book = Events(record)
     trial = Trial(record, book, chance)
     trial.run(disks * 6 // 10)
-    wrong = tell("a file's life", [trial])
-    wrong += tell("cut again while recovered", cut_again(trial, chance, max(2, disks // 400), disks // 50))
+    told = tell("a file's life", [trial])
+    told += tell("cut again while recovered", cut_again(trial, chance, max(2, disks // 400), disks // 50))
     grown = growing(library)
     trial = Trial(grown, Events(grown), chance)
     trial.run(disks // 10, copying=20)
-    wrong += tell("a log that is copied on the way", [trial])
+    told += tell("a log that is copied on the way", [trial])
     moved = migrating(library, old_file(read_files(record.folder)))
     trial = Trial(moved, Migration(moved), chance)
     trial.run(disks // 10)
-    wrong += tell("a migration", [trial])
-    bad, all_disks = without_syncs(record, book, chance, max(20, disks // 10))
+    told += tell("a migration", [trial])
+    bad, all_disks = without_syncs(record, book, same, chance, max(20, disks // 10))
     print(f"without the syncs: {all_disks} disks, {bad} wrong")
-    if bad * 3 < all_disks:
+    if not all_disks or bad * 3 < all_disks:
         print("power_cuts.py: without the syncs too few disks are wrong, so this trial finds nothing", file=sys.stderr)
-        wrong += 1
-    sys.exit(1 if wrong else 0)
+        told["wrong"] += 1
+    return told
+
+
+def main():
+    library, disks = os.path.abspath(sys.argv[1]), int(sys.argv[2])
+    told = tries_all(library, disks, *chances(int(sys.argv[3]) if len(sys.argv) > 3 else 1987))
+    if told["cuts"] * PARTS * 2 < disks:
+        print(f"power_cuts.py: {told['cuts']} cuts, which are too few", file=sys.stderr)
+        told["wrong"] += 1
+    if IN_PART:
+        print(f"{told['cuts']} cuts{IN_PART}")
+    sys.exit(1 if told["wrong"] else 0)
 
 
 main()
