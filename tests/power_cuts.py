@@ -112,6 +112,19 @@ def cuts_of(record, has_syncs=True):
                 yield Cut(disk, least, f"{record.name}, session {number + 1}, after call {place + 1}", is_log_sync)
 
 
+def dealt_out(cuts):
+    """Each moment with the files as they are then, and whether this part has it. The moments at which the files are the same
+    are one, and eight such are a case, as most of them need the same look at what was synced before."""
+    deal, last, count, is_mine = Deal(), None, 0, False
+    for cut in cuts:
+        files = cut.disk.whole()
+        if files != last:
+            if count % 8 == 0:
+                is_mine = deal.is_mine()
+            last, count = files, count + 1
+        yield cut, files, is_mine
+
+
 def weight(cut, copying):
     """How often the power is cut at a moment, beside others: never where all is synced."""
     file = cut.disk.files.get("trips.db")
@@ -149,13 +162,10 @@ class Trial:
 
     def run(self, disks, copying=1):
         """Cuts the power at each moment of this part, so often that all parts try about so many disks; where the log is being
-        copied into the file, so many times as often. The moments at which the files are the same are one case."""
+        copied into the file, so many times as often."""
         share = disks / max(sum(weight(cut, copying) for cut in cuts_of(self.record)), 1)
-        deal, synced, files, is_mine = Deal(), None, None, False
-        for place, cut in enumerate(cuts_of(self.record)):
-            now = cut.disk.whole()
-            if now != files:
-                files, is_mine = now, deal.is_mine()
+        synced = None
+        for place, (cut, files, is_mine) in enumerate(dealt_out(cuts_of(self.record))):
             if cut.is_log_sync:
                 synced = Synced(cut.least, files, is_mine)
             if place % EACH or not is_mine:
