@@ -236,15 +236,18 @@ journey $new T3.1 ended 3"
 }
 is_used "a new file" 8
 
-# the program is killed while it migrates a file of 30,000 items
-makes_old old.db 5000
-old=$(holds old.db)
-new=$(new_of old.db)
-cp old.db trips.db
-started=$(date +%s%N)
-tells "a long file" 0 "migrated 1 to 2 events 50001" "" migrate trips.db
-span=$((($(date +%s%N) - started) / 1000000))
-same "what the long file holds" "$new" "$(holds trips.db)"
+# migrates_long: a file of 30,000 items, in $span milliseconds
+migrates_long() {
+  local started
+  makes_old old.db 5000
+  old=$(holds old.db)
+  new=$(new_of old.db)
+  cp old.db trips.db
+  started=$(date +%s%N)
+  tells "a long file" 0 "migrated 1 to 2 events 50001" "" migrate trips.db
+  span=$((($(date +%s%N) - started) / 1000000))
+  same "what the long file holds" "$new" "$(holds trips.db)"
+}
 
 # begins_migration: the program migrates a copy of the old file, as process $desk
 begins_migration() {
@@ -298,22 +301,31 @@ looks() {
   same "$1: what it holds in the end" "$new" "$(holds trips.db)"
 }
 
+# kills_many: the program is killed while it migrates the long file. All kills come in one part: of a few of them, each may
+# come after the commit
+kills_many() {
+  local round bytes
+  for round in {1..10}; do
+    kills_after $((RANDOM % span))
+    looks "kill $round"
+  done
+  # later ones: the commit comes in the end
+  for round in {11..14}; do
+    kills_after $((span * 3 / 4 + RANDOM % (span / 4 + 1)))
+    looks "kill $round"
+  done
+  for bytes in 100 5000 100000 300000 500000; do
+    kills_behind "$bytes"
+    looks "kill behind $bytes bytes of the log"
+  done
+  same "$olds old files and $news new ones were left" yes "$([ "$olds" -gt 0 ] && echo yes)"
+  is_used "after the kills" 20000
+}
 olds=0 news=0
-for round in {1..10}; do
-  kills_after $((RANDOM % span))
-  looks "kill $round"
-done
-# later ones: the commit comes in the end
-for round in {11..14}; do
-  kills_after $((span * 3 / 4 + RANDOM % (span / 4 + 1)))
-  looks "kill $round"
-done
-for bytes in 100 5000 100000 300000 500000; do
-  kills_behind "$bytes"
-  looks "kill behind $bytes bytes of the log"
-done
-same "$olds old files and $news new ones were left" yes "$([ "$olds" -gt 0 ] && echo yes)"
-is_used "after the kills" 20000
+if is_mine; then
+  migrates_long
+  kills_many
+fi
 
 # each allocation is refused in turn, of a file of schema 1 and of one of schema 2
 cc -O1 -shared -fPIC -o refuse.so "$tests/refuse.c" || exit 1
@@ -328,12 +340,24 @@ is_as_it_was() {
   cmp -s "$1" trips.db && [ "$(stat -c %s trips.db-wal 2>/dev/null || echo 0)" -le 41 ]
 }
 
+# has_turn FILE N: whether this part refuses the N-th allocation. The kills take about as long as 2,000 refusals, so as many of
+# old.db are dealt out to each other part before the first part, which has the kills, gets one
+has_turn() {
+  local others=$((parts - 1))
+  if [ "$1" = old.db ] && [ "$2" -le $((2000 * others)) ]; then
+    [ "$part" -gt 1 ] && [ $(($2 % others)) -eq $((part - 2)) ]
+  else
+    is_mine "$2"
+  fi
+}
+
 # refuses_each FILE ANSWER: the allocations of a migration of this file, one after another, until it makes no such one; with
 # all of them it gives this answer. A file whose bytes have changed is looked at, and migrated once more
 refuses_each() {
   local n told before left
   before=$(holds "$1")
   for ((n = 1; ; n++)); do
+    has_turn "$1" "$n" || continue
     rm -f trips.db trips.db-* refused
     cp "$1" trips.db
     told=$(REFUSE=$n LD_PRELOAD=./refuse.so "$DESK" migrate trips.db 2>&1)
@@ -358,6 +382,6 @@ refuses_each() {
 refusals=0
 refuses_each old.db "migrated 1 to 2 events 11"
 refuses_each new.db "refused 23 AlreadyNew"
-same "$refusals allocations were refused" yes "$([ "$refusals" -gt 100 ] && echo yes)"
-echo "kills left $olds old files and $news new ones; $refusals allocations refused to migrations"
+same "$refusals allocations were refused" yes "$([ $((refusals * parts)) -gt 100 ] && echo yes)"
+echo "kills left $olds old files and $news new ones; $refusals allocations refused to migrations$in_part"
 finish
