@@ -21,11 +21,14 @@ read_part() {
 }
 [ -z "${PART:-}" ] || read_part
 
-# is_mine [NUMBER]: whether this part has the case of this number, from 1; without a number whether it has the next case, which
-# each such call counts. The cases are dealt out in turn, so that each part takes about as long.
+# has_case NUMBER: whether this part has the case of this number, from 1. The cases are dealt out in turn, so that each part
+# takes about as long.
+has_case() { [ $(($1 % parts)) -eq $((part % parts)) ]; }
+
+# is_mine: whether this part has the next case; each call counts one
 is_mine() {
-  [ $# -gt 0 ] || cases=$((cases + 1))
-  [ $((${1:-$cases} % parts)) -eq $((part % parts)) ]
+  cases=$((cases + 1))
+  has_case "$cases"
 }
 
 tests=$(cd "$(dirname "${BASH_SOURCE[0]}")" && pwd)

@@ -33,7 +33,7 @@ looks_at() {
 
 faults=0 refusals=0
 for ((n = 1; ; n++)); do
-  is_mine "$n" || continue
+  has_case "$n" || continue
   rm -f trips.db* refused
   REFUSE=$n LD_PRELOAD=./refuse.so "$DESK" run trips.db <lines >out 2>err
   looks_at "$n" $?

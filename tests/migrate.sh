@@ -347,7 +347,7 @@ has_turn() {
   if [ "$1" = old.db ] && [ "$2" -le $((2000 * others)) ]; then
     [ "$part" -gt 1 ] && [ $(($2 % others)) -eq $((part - 2)) ]
   else
-    is_mine "$2"
+    has_case "$2"
   fi
 }
 

@@ -13,7 +13,7 @@ cat >deals.sh <<'SH'
 for name in one two; do
   for n in {1..25}; do if is_mine; then echo "$name $n"; fi; done
 done
-for n in {1..25}; do if is_mine "$n"; then echo "by_number $n"; fi; done
+for n in {1..25}; do if has_case "$n"; then echo "by_number $n"; fi; done
 echo "last$in_part"
 SH
 
