@@ -13,8 +13,8 @@ from turns import mutant_turns, mutants_in, part_of_script, share_of, test_turns
 
 # The minutes of each processor that mutants, and crates of tests, of what has changed may take beyond the turn's share.
 CHANGED_MINUTES = 4
-# The crate up to which a first look proves, and the minutes below which it takes a script.
-CORE, SHORT = "saga_core", 0.9
+# The crates up to which a first look proves, the core and its tests; and the minutes below which it takes a script.
+CORE, SHORT = ("saga_core", "plan_tests", "command_tests", "book_tests"), 0.9
 
 
 @dataclass
@@ -45,10 +45,8 @@ def everything(tables):
 
 def first_look(tables):
     """Returns the choice of a first look: the core with its tests, and the short scripts over a trial program."""
-    core = tables.below(CORE)
-    tests = [name for name in tables.by_turns() if {*tables.uses[name]} <= {*core}]
     scripts = {name: (1, 1) for name in tables.scripts if tables.script(name) < SHORT}
-    return Choice(core + tests, scripts=scripts, over_trial=True)
+    return Choice(tables.below(*(name for name in CORE if name in tables.uses)), scripts=scripts, over_trial=True)
 
 
 def of_landing(tables, lanes, landing, since):

@@ -10,6 +10,8 @@ from tables import LAST_CHECK
 
 # On two processors each mutant has its turn within so many landings; on four within half as many.
 ROUND = 30
+# The minutes that one part of a crate's mutants takes at most, so that no gate ends with one.
+LONGEST = 12
 # The minutes of each processor that the crates of tests may take at a landing.
 TEST_MINUTES = 5
 
@@ -32,14 +34,14 @@ def mutant_landings(lanes):
 
 def mutant_parts(tables, lanes):
     """Returns the minutes of each part (NAME, K, N) of the crates' mutants: the K-th of N parts of a crate whose mutants
-    would take longer than a landing's share. Each part proves the crate once more, as that is what its mutants begin with."""
+    would take longer than a landing's share, or than one part may. Each part proves the crate once more, as that is what its mutants begin with."""
     counts = {name: 1 for name, mutants in tables.mutants.items() if mutants}
     own = {name: len(tables.mutants[name]) * tables.mutant(name) for name in counts}
     begin = {name: tables.proof(name) + LAST_CHECK for name in counts}
     for _ in range(4):
         share = sum(counts[name] * begin[name] + own[name] for name in counts) / mutant_landings(lanes)
         for name in counts:
-            room = max(share - begin[name], share / 4)
+            room = max(min(share, LONGEST) - begin[name], 2)
             counts[name] = min(ceil(own[name] / room), len(tables.mutants[name])) or 1
     return {(name, k, n): begin[name] + own[name] / n for name, n in counts.items() for k in range(1, n + 1)}
 
