@@ -14,7 +14,7 @@ from turns import mutant_turns, mutants_in, part_of_script, share_of, test_turns
 # The minutes of each processor that mutants, and crates of tests, of what has changed may take beyond the turn's share.
 CHANGED_MINUTES = 4
 # The crates up to which a first look proves, the core and its tests; and the minutes below which it takes a script.
-CORE, SHORT = ("saga_core", "plan_tests", "command_tests", "book_tests"), 0.9
+CORE, SHORT = ("saga_core", "plan_tests", "command_tests"), 0.9
 
 
 @dataclass

@@ -43,17 +43,19 @@ def chains(tasks):
     return {task.name: chain(task) for task in tasks}
 
 
-def reckoned(tasks, lanes):
-    """Returns the minutes that the tasks take, so many side by side: of those that can begin, those of `rt ci` first, and then those
-    on which the longest chain waits."""
+def reckoned(tasks, lanes, proving):
+    """Returns the minutes that the tasks take, so many side by side, of which `rt ci` may have `proving`: of those that can begin, those of
+    `rt ci` first, and then those on which the longest chain waits."""
     longest = chains(tasks)
     waiting = sorted(tasks, key=lambda it: (it.fills, -longest[it.name]))
     now, running, done = 0.0, [], set()
     while waiting or running:
-        for task in [it for it in waiting if done.issuperset(it.waits)][: lanes - len(running)]:
-            waiting.remove(task)
-            heapq.heappush(running, (now + task.minutes, task.name))
-        now, name = heapq.heappop(running)
+        for task in [it for it in waiting if done.issuperset(it.waits)]:
+            proves = sum(not fills for _, _, fills in running)
+            if len(running) < lanes and (task.fills or proves < proving):
+                waiting.remove(task)
+                heapq.heappush(running, (now + task.minutes, task.name, task.fills))
+        now, name, _ = heapq.heappop(running)
         done.add(name)
     return now
 
