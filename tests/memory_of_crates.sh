@@ -77,16 +77,21 @@ refuses() {
   [ -e refused ] || same "$2, allocation $3" "refused" "not made"
 }
 
-# names_each PROGRAM TEST: it passes, or names the fault, at each of its allocations, or at a few of them
+# names_each PROGRAM TEST: it passes, or names the fault, at each of its allocations; or at a few of them, and then the test is
+# one case, since counting its allocations takes about as long as refusing one
 names_each() {
-  local n step=1 first=1 count
+  local n step=1 first=1 count has=is_mine
+  if [[ $2 =~ $at_each_byte ]]; then
+    is_mine || return
+    has=true
+  fi
   count_allocations "$1" "$2"
-  if [[ $2 =~ $at_each_byte ]] && [ "$count" -gt "$few" ]; then
+  if [ "$has" = true ] && [ "$count" -gt "$few" ]; then
     step=$((count / few))
     first=$((today * 7919 % step + 1))
   fi
   for ((n = first; n <= count; n += step)); do
-    is_mine || continue
+    "$has" || continue
     refuses "$1" "$2" "$n"
     runs=$((runs + 1))
     if passes "$status" "$told"; then

@@ -6,8 +6,8 @@ export PYTHONDONTWRITEBYTECODE=1 PYTHONPATH=$tests
 unset PART TESTED
 bad=(0/3 4/3 x 1 1/ /3 0/0 01/3 1/03 -1/3 +1/3 1/3/5 ' 1/3' '1/3 ' 1.0/3 1/x 1/1000 $'1/3\n' '1,3' '1/3;')
 
-# prints a line "NAME CASE" for each case that the helpers in bash give a part: of two lists of 25 cases, which they count, and of
-# cases by their numbers; and what the last line of a script ends with
+# prints a line "NAME CASE" for each case that helping.bash gives a part: of two lists of 25 cases, which it counts, and of cases
+# by their numbers; and what the last line of a script ends with
 cat >deals.sh <<'SH'
 . "$TESTS/helping.bash"
 for name in one two; do
@@ -105,7 +105,8 @@ same "trial.sh in another part" "0: trial.sh: left out until its turn" \
 PART=5/4 bash "$tests/trial.sh" >out 2>&1
 same "trial.sh in a part of another form" 2 $?
 
-# programs of two tests, which allocate five and four times, and note what is refused to them; to note it allocates nothing
+# programs of three tests, which allocate five, four and four times, and note what is refused to them; to note it allocates
+# nothing. The last test is done again at each byte, by its name
 cat >fake.c <<'C'
 #include <fcntl.h>
 #include <stdio.h>
@@ -115,7 +116,7 @@ cat >fake.c <<'C'
 int main(int count, char **words) {
   char line[200];
   if (count > 1 && strcmp(words[1], "--list") == 0)
-    return puts("tests::five: test\ntests::four: test") < 0;
+    return puts("tests::five: test\ntests::four: test\ntests::cut: test") < 0;
   snprintf(line, sizeof line, "%s %s %s\n", strrchr(words[0], '/') + 1, words[1], getenv("REFUSE"));
   if (write(open(getenv("NOTES"), O_CREAT | O_WRONLY | O_APPEND, 0600), line, strlen(line)) < 0)
     return 1;
@@ -137,13 +138,20 @@ refuses() {
     bash "$tests/memory_of_crates.sh" >out 2>err
   status=$?
 }
-{ for name in one_tests two_tests; do all_of "$name tests::five" 1 5 && all_of "$name tests::four" 1 4; done; } | sort >all
+for name in one_tests two_tests; do
+  all_of "$name tests::five" 1 5
+  all_of "$name tests::four" 1 4
+  all_of "$name tests::cut" 1 4
+done | sort >all
+# of the ten cases of each program the last one is the test that is done again at each byte
+shares=("" 10 10 6) cuts=("" 4 4 0)
 for n in {1..3}; do
   refuses "$n/3" "one two"
   same "part $n: the status and standard error" "0 " "$status $(cat err)"
   same "part $n: what has its turn" "tests with their turn: one two; left out until theirs: three" "$(head -n 1 out)"
   same "part $n: the last line" ", part $n of 3" "$(tail -n 1 out | grep -o ', part.*')"
-  same "part $n: six of 18 allocations" "6 " "$(grep -vc none notes) $(grep -v none notes | sort | comm -23 - all)"
+  same "part $n: its share of 26 allocations" "${shares[n]} ${cuts[n]} " \
+    "$(grep -vc none notes) $(grep -v none notes | grep -c cut) $(grep -v none notes | sort | comm -23 - all)"
   grep -v none notes >>together
 done
 same "all allocations in three parts" "$(cat all)" "$(sort together)"
