@@ -148,8 +148,8 @@ judges 134 $'assertion failed: a cell\n  left: Some(Twice)\n right: Some(Memory)
 judges 139 "a plan: Memory$at" wrong
 
 runs=0 passed=0 named=0
-for crate in ${CRATES:-streams allotment plan savepoints commands saga_core memory_book allotment_csv recovery_tests \
-  message_tests line_tests http_pages report_tests http_tests}; do
+for crate in ${CRATES:-plan_tests command_tests book_tests page_tests recovery_tests message_tests line_tests \
+  report_tests http_tests}; do
   has_turn "$crate" || continue
   program_of "$crate" || continue
   before=$runs dealt=$cases

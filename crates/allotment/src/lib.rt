@@ -15,8 +15,6 @@ mod limits;
 mod nights;
 mod places;
 mod sums;
-#[cfg(test)]
-mod tests;
 mod wants;
 
 pub use cells::{Cell, Row};

@@ -16,8 +16,6 @@ mod files;
 mod fronts;
 mod records;
 mod rows;
-#[cfg(test)]
-mod tests;
 mod wrong_fields;
 
 pub use faults::CsvFault;

@@ -13,8 +13,6 @@ mod limits;
 mod names;
 mod readings;
 mod replies;
-#[cfg(test)]
-mod tests;
 mod texts;
 
 pub use asks::{Ask, Command};

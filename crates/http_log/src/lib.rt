@@ -12,8 +12,6 @@ mod endings;
 mod escaping;
 mod lines;
 mod recent;
-#[cfg(test)]
-mod tests;
 
 pub use endings::Why;
 pub use escaping::shown;

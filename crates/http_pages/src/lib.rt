@@ -13,8 +13,6 @@ mod bodies;
 mod heads;
 mod plans;
 mod routes;
-#[cfg(test)]
-mod tests;
 mod values;
 
 pub use answers::{Body, HtmlPage, Page, denied_page, refused_page, reply_page, shown_page};

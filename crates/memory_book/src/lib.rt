@@ -11,7 +11,5 @@ mod keys;
 mod mem_book;
 mod next;
 mod stock;
-#[cfg(test)]
-mod tests;
 
 pub use mem_book::MemBook;

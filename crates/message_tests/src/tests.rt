@@ -1,5 +1,6 @@
 //! Which messages are read from streams, however they arrive.
 mod hosts;
+mod interruptions;
 mod texts;
 
 use failing_streams::Pieces;

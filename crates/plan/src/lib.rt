@@ -27,8 +27,3 @@ pub use laws::{json_is_read_back, one_spelling, texts_of_a_plan};
 pub use limits::{MOST_OPTIONS, MOST_STEPS, MOST_TRIES};
 pub use plans::Plan;
 pub use steps::PlanStep;
-
-#[cfg(test)]
-mod json_tests;
-#[cfg(test)]
-mod tests;

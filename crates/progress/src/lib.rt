@@ -6,7 +6,6 @@
 #![tactic(auto)]
 
 mod meters;
-mod tests;
 mod watched;
 
 pub use meters::Meter;

@@ -13,9 +13,6 @@ use commands::{Cursor, Phase};
 use plan::Plan;
 use savepoints::{Marks, Turn, option_at, target};
 
-#[cfg(test)]
-mod tests;
-
 /// What a step does. Steps and their options are numbered from 1.
 #[derive(Clone, Copy, Debug, PartialEq, Eq)]
 pub enum Move {

@@ -10,8 +10,6 @@
 mod marks;
 mod options;
 mod save_points;
-#[cfg(test)]
-mod tests;
 mod turns;
 
 pub use marks::{LAST_MARK, Marks};

@@ -6,8 +6,6 @@
 
 mod faults;
 mod reading;
-#[cfg(test)]
-mod tests;
 mod writing;
 
 pub use faults::{ReadFailed, WriteFailed};

@@ -1,6 +1,6 @@
 // Values from outside: plans in JSON as the format has them, and the fault that each wrong one gets.
-use crate::tests::{is_told, reads, repeated};
-use crate::{Plan, PlanCause, PlanFault};
+use crate::tests::lines::{is_told, reads, repeated};
+use plan::{Plan, PlanCause, PlanFault};
 use serde_json::{Error, Value};
 use std::alloc::{AllocError, Global};
 use std::process::Abort;

@@ -6,8 +6,8 @@
 //! many events, journeys and unfinished journeys there are, `free CELL` for the free places of a cell, `cells WANT` for those of a want's
 //! nights, and `stock` for all cells. `@` and a letter or digit represents the cell, or the first five parts of a want,
 //! that `NAMES` has.
-use crate::MemBook;
 use allotment::{Cell, Row};
+use memory_book::MemBook;
 use plan::Plan;
 use saga_core::{Agent, Ask, Batch, Book, Brief, Command, Counts, Fault, Name, Reply};
 use std::alloc::Global;

@@ -1,12 +1,12 @@
 // Values from outside: the tables of routes and codes, and bodies and pages as the formats give them.
 mod shown;
 
-use crate::{
+use commands::{Agent, Cause, CsvCause, Cursor, Item, Name, Phase, Refusal, Reply};
+use http_pages::{
     Body, Denied, Owners, Page, Paths, Route, Status, Unrouted, Verb, admit, denied_page,
     journey_body, page_bytes, plan_body, refusal_body, refused_page, reply_body, reply_page,
     shown_page, stopping_body, unfinished_body,
 };
-use commands::{Agent, Cause, CsvCause, Cursor, Item, Name, Phase, Refusal, Reply};
 use plan::{BadPlan, Plan, PlanCause};
 use saga_core::Brief;
 use std::alloc::{AllocError, Global};

@@ -1,12 +1,7 @@
-mod agents;
-mod lines;
-mod rows;
-mod save_points;
-
 // What no clause says: each call succeeds given enough memory. The expected values are computed by hand from the rules.
 ghost use Rattle.std.specs.Prelude.{IsTrue};
 
-use crate::MemBook;
+use memory_book::MemBook;
 use plan::Plan;
 use saga_core::{Agent, Ask, Book, Command, Cursor, Fault, Key, Phase, Refusal, Reply, run};
 use std::alloc::Global;

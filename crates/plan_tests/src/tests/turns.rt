@@ -1,11 +1,9 @@
 //! What the rules mean, by tables. Plans are given by their lines, without the tries.
 ghost use Rattle.std.specs.Prelude.{◌≡◌, ◌<◌, IfSome, IsTrue};
 
-use crate::marks::Marks;
-use crate::options::option_at;
-use crate::save_points::{is_save_point, last_save};
-use crate::turns::{NoSavePoint, Turn, target};
+use crate::tests::texts::holds;
 use plan::Plan;
+use savepoints::{Marks, NoSavePoint, Turn, is_save_point, last_save, option_at, target};
 use std::alloc::Global;
 use std::process::Abort;
 
@@ -24,13 +22,6 @@ const THREE: &str = "F/AL/A1/2030-06-01/1/1;F/AL/X/2030-06-01/1/1;R/INN/R/2030-0
 const EIGHT: &str = "F/AL/A1/2030-06-01/1/1|F/AL/A2/2030-06-01/1/1|F/AL/A3/2030-06-01/1/1|\
     F/AL/A4/2030-06-01/1/1|F/AL/A5/2030-06-01/1/1|F/AL/A6/2030-06-01/1/1|\
     F/AL/A7/2030-06-01/1/1|F/AL/A8/2030-06-01/1/1";
-
-// stops the test where this is false
-fn holds(rt: &impl Abort, case: &str, is_so: bool)
-    ensures { IsTrue is_so }
-{
-    assert!(rt; is_so, "{case}");
-}
 
 // stops the test where another number was found
 fn counts(rt: &impl Abort, case: &str, found: usize, expected: usize)

@@ -1,7 +1,7 @@
 //! Worked rows of two agents and their keys, on one desk.
-use crate::MemBook;
-use crate::tests::ask;
+use crate::tests::calls::ask;
 use crate::tests::lines::{command_of, goes_on, reads, reply};
+use memory_book::MemBook;
 use std::alloc::Global;
 use std::test::Fail;
 

@@ -1,7 +1,7 @@
 //! What is shown of own journeys, of how the desk fares, and to browsers.
 use super::{AT_ONE, AT_THE_END, goes_out, reads};
-use crate::{Body, HtmlPage, Owners, Page, health_body, mine_body, shown_page};
 use commands::{Agent, Cursor};
+use http_pages::{Body, HtmlPage, Owners, Page, health_body, mine_body, shown_page};
 use saga_core::{Brief, Counts};
 use std::alloc::AllocError;
 

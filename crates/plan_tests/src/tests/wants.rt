@@ -1,6 +1,6 @@
 //! Wants: their limits, the order of their faults, and their cells.
-use super::{holds, is_written, reads};
-use crate::{Bad, Kind, Night, Want, WantCells};
+use crate::tests::texts::{holds, is_written, reads};
+use allotment::{Bad, Kind, Night, Want, WantCells};
 use std::alloc::{AllocError, Global};
 
 // the parts of a want, and its text

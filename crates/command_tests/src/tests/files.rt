@@ -1,6 +1,6 @@
 // Values from outside: the files and their answers of the formats and of the worked rows.
-use crate::{Column, CsvFault, read_batch, wrong_field};
 use allotment::{Cell, Night, Row};
+use allotment_csv::{Column, CsvFault, read_batch, wrong_field};
 use commands::CsvCause;
 use std::alloc::Global;
 use std::fmt::Write;

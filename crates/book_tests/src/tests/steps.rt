@@ -1,8 +1,7 @@
 // The next step of a journey, by a table. The tries of the plan are a column of their own.
-ghost use Rattle.std.specs.Prelude.{IsTrue};
-
-use crate::{Cursor, Move, Phase, decide};
+use crate::tests::calls::holds;
 use plan::Plan;
+use saga_core::{Cursor, Move, Phase, decide};
 use savepoints::Marks;
 use std::process::Abort;
 use std::test::Fail;
@@ -33,13 +32,6 @@ const MOVES: [(&str, u8, &[usize], usize, Phase, usize, bool, Move); 15] = [
     ("at the end it does nothing",             2, &[1, 2], 3, Phase::Ended,   1, true,  Move::Nothing),
     ("nor once it is undone",                  2, &[],     0, Phase::Undone,  1, true,  Move::Nothing),
 ];
-
-/// Stops the test if this does not hold.
-fn holds(rt: &impl Abort, case: &str, is_so: bool)
-    ensures { IsTrue is_so }
-{
-    assert!(rt; is_so, "{case}");
-}
 
 /// Save-points at these positions.
 fn marks_at(rt: &impl Abort, positions: &[usize]) -> Marks {

@@ -1,6 +1,6 @@
 //! Places: what stays held, what is taken and given back, and which wants fit.
-use super::holds;
-use crate::{BelowHeld, Held, Kind, Night, Want, fits, give, set, take};
+use crate::tests::texts::holds;
+use allotment::{BelowHeld, Held, Kind, Night, Want, fits, give, set, take};
 use std::alloc::{AllocError, Global};
 
 // places allotted and free; how many are asked for; what is free then, or that it is below what is held

@@ -1,27 +1,29 @@
 //! Texts. Values from outside: dates of the calendar, and texts as the formats have them.
 ghost use Rattle.std.specs.Prelude.{IsTrue};
 
-mod places;
-mod wants;
-
-use crate::{Bad, Cell, Code, Kind, Night, NightDate, Row, Short, values_have_one_text};
+use allotment::{Bad, Cell, Code, Kind, Night, NightDate, Row, Short, values_have_one_text};
 use std::alloc::AllocError;
 use std::process::Abort;
 
-// stops the test where this is false
-fn holds(rt: &impl Abort, case: &str, is_so: bool)
+/// Stops the test where this is false.
+pub fn holds(rt: &impl Abort, case: &str, is_so: bool)
     ensures { IsTrue is_so }
 {
     assert!(rt; is_so, "{case}");
 }
 
-// stops the test where another text was found
-fn reads(rt: &impl Abort, case: &str, found: &str, expected: &str) {
+/// Stops the test where another text was found.
+pub fn reads(rt: &impl Abort, case: &str, found: &str, expected: &str) {
     assert_eq!(rt; found, expected, "{case}");
 }
 
-// stops the test where another text was written, or where it was out of memory
-fn is_written(rt: &impl Abort, case: &str, written: Result<String, AllocError>, expected: &str) {
+/// Stops the test where another text was written, or where it was out of memory.
+pub fn is_written(
+    rt: &impl Abort,
+    case: &str,
+    written: Result<String, AllocError>,
+    expected: &str,
+) {
     reads(rt, case, written.expect(rt, case).as_str(), expected);
 }
 

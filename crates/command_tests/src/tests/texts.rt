@@ -1,9 +1,9 @@
 // Values from outside: the tables of refusals, items, states and lines in the formats.
-use crate::{
+use allotment::{Cell, Night, Row};
+use commands::{
     Agent, Ask, BadBatch, Batch, Cause, CsvCause, Cursor, Item, Key, Name, Phase, Refusal, Reply,
     first_repeat, replies_have_one_line,
 };
-use allotment::{Cell, Night, Row};
 use plan::{BadPlan, PlanCause};
 use std::alloc::{AllocError, Global};
 use std::process::Abort;

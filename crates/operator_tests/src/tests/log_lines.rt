@@ -1,6 +1,8 @@
 //! The lines of the log, and how the bytes of a peer are shown.
-use crate::{Asked, MOST_RECENT, Peer, Recent, Why, ended_line, opened_line, request_line, shown};
 use commands::{Agent, Key};
+use http_log::{
+    Asked, MOST_RECENT, Peer, Recent, Why, ended_line, opened_line, request_line, shown,
+};
 use std::test::Fail;
 
 // what the row shows, the bytes, how many are shown, and their text

@@ -1,6 +1,6 @@
 // Values from outside: lines as the format has them, and the fault that each wrong line gets.
-use crate::{BadPlan, Plan, PlanCause, PlanFault, PlanStep};
 use allotment::{Kind, Want};
+use plan::{BadPlan, Plan, PlanCause, PlanFault, PlanStep};
 use std::alloc::{AllocError, Global};
 use std::process::Abort;
 use std::test::Fail;

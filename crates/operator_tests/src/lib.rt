@@ -1,0 +1,5 @@
+//! Tests of `http_log` and `progress`: the lines of the log, and what a terminal is shown of an input.
+#![tactic(auto)]
+
+#[cfg(test)]
+mod tests;

@@ -1,0 +1,6 @@
+//! Tests of `allotment`, `plan` and `savepoints`: wants and plans with their texts, places, and where a journey turns, with
+//! values from outside.
+#![tactic(auto)]
+
+#[cfg(test)]
+mod tests;

@@ -1,0 +1,6 @@
+mod json;
+mod lines;
+mod places;
+mod texts;
+mod turns;
+mod wants;
