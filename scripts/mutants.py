@@ -33,7 +33,7 @@ from tables import Tables  # noqa: E402
 
 # What the line of a function says of others.
 OF_OTHERS = re.compile(r"it (calls|passes|waits)\b|depends on a hole in ")
-STANDS_ON = re.compile(r"it stands on `Rattle\.\w+\.(proofs\.[^`]*)`.*, which antt refuses")
+STANDS_ON = re.compile(r"it stands on `.*, which antt refuses")
 VERDICTS = ("refused", "NOT REFUSED", "BAD MUTANT", "NOT TRIED")
 
 
@@ -42,22 +42,26 @@ def note(said):
     print(f"mutants: {said}", file=sys.stderr, flush=True)
 
 
+def is_of_others(path, part):
+    """Returns whether this part of a function's line speaks of others: of one that it calls, or of refused proof files of theirs."""
+    crate, _, rest = path.replace("::", ".").partition(".")
+    stands = STANDS_ON.match(part)
+    return f"`Rattle.{crate}.proofs.{rest}." not in part if stands else bool(OF_OTHERS.match(part))
+
+
 def failing(said):
     """Returns of each function, impl and type that fails by itself what its line says, without what it says of others."""
     found = {}
     for path, why in re.findall(r"^(?:fn|impl|struct|enum|trait|law) (\S+): (?!(?:proved|no holes)$)(.*)$", said, re.M):
-        own = [it for it in re.sub(r"^(not proved; |no proof: )", "", why).split("; ") if not OF_OTHERS.match(it)]
+        own = [it for it in re.sub(r"^(not proved; |no proof: )", "", why).split("; ") if not is_of_others(path, it)]
         if own:
             found[path] = "; ".join(own)
     return found
 
 
-def is_clear(of, why):
+def is_clear(why):
     """Returns whether a function fails for a goal of its own, or for a proof file of its own."""
-    if why == "not proved" or "`search` did not prove" in why:
-        return True
-    stands = STANDS_ON.search(why)
-    return bool(stands) and stands[1].replace(".", "/").startswith(of.folders)
+    return why == "not proved" or "`search` did not prove" in why or bool(STANDS_ON.search(why))
 
 
 def judged(batch, functions, status, said, usual):
@@ -66,7 +70,7 @@ def judged(batch, functions, status, said, usual):
     own = {it: of for _, of in batch for it in failed if it == of.path or it.startswith(of.closures)}
     if status != 1 or "\nholes=" not in said or failed.keys() != own.keys():
         return {}
-    clear = {of for it, of in own.items() if is_clear(of, failed[it])}
+    clear = {of for it, of in own.items() if is_clear(failed[it])}
     errors = {}
     for place in [PLACE.match(it) for it in said.split("\n") if it not in usual and (it.startswith("note: ") or ": error" in it)]:
         if not place:

@@ -24,7 +24,8 @@ class Tried:
 
     def _note(self, name, mutants):
         """Returns where the note on these mutants stands."""
-        found = hashlib.sha256(self.version + (self.tables.top / "scripts/mutants.py").read_bytes())
+        scripts = ("mutants.py", "gate/edits.py", "gate/prover.py")
+        found = hashlib.sha256(self.version + b"".join((self.tables.top / "scripts" / it).read_bytes() for it in scripts))
         for below in self.tables.below(name):
             found.update(self._sum(below).encode())
         for path in mutants:
