@@ -8,8 +8,8 @@ from lanes import Task
 from tables import LAST_CHECK
 from tried import Tried
 
-# The script that runs the programs of the crates' tests, those that this gate has built.
-OVER_TESTS = "memory_of_crates.sh"
+# The scripts that run programs of the crates' tests, and the crate, or none where they take all that this gate has built.
+OVER_TESTS = {"memory_of_crates.sh": None, "spoiled.sh": "fault_tests"}
 # The part of a shell's script that knows trial programs; its first argument is the top of the repository.
 TRIAL = """
 top=$1
@@ -80,8 +80,9 @@ def script_tasks(gate, choice, results):
         program, ready, slower = trial_file(tables), ("trial", "program"), SLOWER
     for name, (part, parts) in choice.scripts.items():
         task = Task((name, "script"), tables.script(name) / parts * slower, [ready], fills=True)
-        if name == OVER_TESTS:
-            task.minutes, task.waits = tables.script(name) * share, [ready, *((it, "tests") for it in tested)]
+        if name in OVER_TESTS:
+            task.minutes *= share if OVER_TESTS[name] is None else OVER_TESTS[name] in tested
+            task.waits += [(it, "tests") for it in tested if OVER_TESTS[name] in (None, it)]
         task.words, task.ended = ["bash", str(tables.top / "tests" / name)], results.of_script(name)
         task.environment = {"DESK": str(program), "TESTED": " ".join(tested)}
         if parts > 1:
