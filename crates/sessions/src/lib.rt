@@ -20,6 +20,3 @@ pub use laws::{promises, session_that_crashes_keeps_it};
 pub use power::{Power, Steady};
 pub use running::{Session, run_sessions};
 pub use visiting::run_session;
-
-#[cfg(test)]
-mod tests;

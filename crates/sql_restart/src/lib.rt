@@ -8,8 +8,6 @@
 
 mod laws;
 mod restarting;
-#[cfg(test)]
-mod tests;
 
 pub use laws::{schema_of_notes, schemas};
 pub use restarting::restart;

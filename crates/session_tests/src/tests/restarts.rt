@@ -1,6 +1,6 @@
 //! A restart in memory succeeds, and shows what was committed and no more.
 
-use crate::restarting::restart;
+use sql_restart::restart;
 use sqlite::Connection;
 use std::process::Abort;
 use std::test::Fail;

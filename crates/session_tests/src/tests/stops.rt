@@ -3,10 +3,10 @@ ghost use Rattle.std.specs.Prelude.{◌≡◌};
 ghost use Rattle.http_ways.specs.declared.ways.Way.TheVariants.{Profile};
 ghost use Rattle.desk_http.specs.declared.doors.Door.TheVariants.{Port};
 
-use crate::{Power, Session, Steady, run_sessions};
 use desk_http::Door;
 use http_live::{Seat, Standing, Turn, Turns};
 use http_ways::Way;
+use sessions::{Power, Session, Steady, run_sessions};
 use sqlite::Connection;
 use std::alloc::Global;
 use std::cell::RefCell;

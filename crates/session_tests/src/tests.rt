@@ -1,0 +1,2 @@
+mod restarts;
+mod stops;
