@@ -193,20 +193,18 @@ gate 0 --since HEAD
 says "another toolchain" "sources changed in low mid high other desk low_tests high_tests bench"
 echo "kit 1" >"$FAKE/version"
 
-# choose LANES SINCE: which mutants a landing tries where each takes so long that a landing has room for few
+# choose LANES SINCE: which mutants a landing tries that has no turn of any, where each takes so long that there is room for few
 choose() {
   python3 -B - "$1" "$2" <<'PY'
 import sys
 sys.path.insert(0, "scripts/gate")
 from choice import of_landing
 from tables import Tables
-tables = Tables(".")
-choice = of_landing(tables, int(sys.argv[1]), 9, sys.argv[2])
-own = of_landing(tables, int(sys.argv[1]), 9, "")
+from turns import mutant_turns
+tables, lanes = Tables("."), int(sys.argv[1])
+choice = of_landing(tables, lanes, mutant_turns(tables, lanes).index([]) + 1, sys.argv[2])
 for name, found in choice.mutants.items():
-    new = [it for it in found if it not in own.mutants.get(name, [])]
-    if new:
-        print(name, len(new), "changed" if "crates/other/must-fail/2.edit" in new else "")
+    print(name, len(found), "changed" if "crates/other/must-fail/2.edit" in found else "")
 PY
 }
 # a processor has four minutes for what has changed, of which a crate takes 0.8 before its first mutant
@@ -283,9 +281,11 @@ touch "$FAKE/fails"
 gate 1
 rm "$FAKE/fails"
 touch "$FAKE/accepts"
+echo changed >crates/low/must-fail/1.edit
 gate 1
 says "a mutant that is accepted" "mutants: 0 rejected, FAILED:"
 rm "$FAKE/accepts"
+git checkout -q crates
 echo 'exit 1' >tests/bad.sh
 gate 1
 says "a script that fails" "check: tests/bad.sh FAILED"
