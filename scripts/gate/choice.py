@@ -13,8 +13,8 @@ from turns import mutant_turns, mutants_in, part_of_script, share_of, test_turns
 
 # The minutes of each processor that mutants, and crates of tests, of what has changed may take beyond the turn's share.
 CHANGED_MINUTES = 4
-# The crates up to which a first look proves, the core and its tests; and the minutes below which it takes a script.
-CORE, SHORT = ("saga_core", "plan_tests", "command_tests"), 0.9
+# The crates up to which a first look proves, the core and its tests; and the minutes over a trial program below which it takes a script.
+CORE, SHORT = ("saga_core", "plan_tests", "command_tests"), 1.5
 
 
 @dataclass
@@ -45,7 +45,7 @@ def everything(tables):
 
 def first_look(tables):
     """Returns the choice of a first look: the core with its tests, and the short scripts over a trial program."""
-    scripts = {name: (1, 1) for name in tables.scripts if tables.script(name) < SHORT}
+    scripts = {name: (1, 1) for name in tables.scripts if tables.script_over_trial(name) < SHORT}
     return Choice(tables.below(*(name for name in CORE if name in tables.uses)), scripts=scripts, over_trial=True)
 
 

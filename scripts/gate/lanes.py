@@ -7,8 +7,8 @@ import subprocess
 import time
 from dataclasses import dataclass, field
 
-# The memory in kB that must be free before a task that proves begins.
-MEMORY = 5_000_000
+# The memory in kB that must be free before a task that proves begins: the mutants of some crates take as much.
+MEMORY = 9_000_000
 
 
 @dataclass(eq=False)

@@ -6,6 +6,8 @@ from pathlib import Path
 PROOF, MUTANT, SCRIPT = 2.0, 0.1, 0.1
 # The check of the unedited crate after its mutants, in minutes.
 LAST_CHECK = 0.3
+# How much longer a script takes over a trial program, where that was not seen.
+SLOWER = 1.7
 
 
 class Tables:
@@ -73,6 +75,9 @@ class Tables:
 
     def script(self, name):
         return self.number(name, 0, SCRIPT)
+
+    def script_over_trial(self, name):
+        return self.number(name, 2, 0.0) or SLOWER * self.script(name)
 
     def script_parts(self, name):
         """Returns in how many parts gates take a script, one at each landing."""

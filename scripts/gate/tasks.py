@@ -17,8 +17,6 @@ say() { printf 'check: %s\\n' "$*"; }
 for file in program needs trial; do . "$top/scripts/$file.bash"; done
 trap 'exit 143' TERM
 """
-# How much longer a script takes over a trial program.
-SLOWER = 1.7
 # The rows of docs/minutes.tsv for what `rt ci` does before its first proof, and for its runs of programs and tests at its end.
 READING, RUNNING = "(reading)", "(running)"
 
@@ -75,11 +73,11 @@ def script_tasks(gate, choice, results):
     tables, tasks = gate.tables, []
     tested = [name for name in choice.crates if tables.tests(name)]
     share = sum(map(tables.tests, tested)) / (sum(map(tables.tests, tables.uses)) or 1)
-    program, ready, slower = tables.top / "crates/desk/out/desk", ("desk", "proof"), 1
+    program, ready, minutes = tables.top / "crates/desk/out/desk", ("desk", "proof"), tables.script
     if choice.over_trial:
-        program, ready, slower = trial_file(tables), ("trial", "program"), SLOWER
+        program, ready, minutes = trial_file(tables), ("trial", "program"), tables.script_over_trial
     for name, (part, parts) in choice.scripts.items():
-        task = Task((name, "script"), tables.script(name) / parts * slower, [ready], fills=True)
+        task = Task((name, "script"), minutes(name) / parts, [ready], fills=True)
         if name in OVER_TESTS:
             task.minutes *= share if OVER_TESTS[name] is None else OVER_TESTS[name] in tested
             task.waits += [(it, "tests") for it in tested if OVER_TESTS[name] in (None, it)]
