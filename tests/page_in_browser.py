@@ -11,6 +11,7 @@ from concurrent.futures import ThreadPoolExecutor
 import page_driving
 import page_foreign
 import page_lost
+import page_office
 import page_rules
 import page_scenes
 import page_views
@@ -18,17 +19,34 @@ from page_scenes import Scene
 
 SCENES = {
     scene.__name__: scene for scene in (
-        page_lost.nothing_twice, page_rules.large, page_rules.rules, page_scenes.by_clicks, page_scenes.by_keys,
+        page_lost.nothing_twice, page_office.signed_out, page_rules.large, page_rules.rules, page_scenes.by_clicks, page_scenes.by_keys,
         page_views.not_while_hidden, page_lost.many_wait, page_lost.hang_and_kill, page_scenes.last_place,
         page_foreign.foreign_pages, page_scenes.refused_by_the_desk, page_scenes.refusals_in_words, page_scenes.asked_twice,
         page_views.draft_is_changed, page_views.agents_are_apart, page_views.another_file, page_views.filters,
-        page_rules.focus_order, page_rules.first_visit,
+        page_rules.focus_order, page_rules.first_visit, page_office.one_question, page_office.two_windows, page_office.away_by_status,
+        page_office.part_is_barred, page_office.turned_away, page_office.not_found, page_office.moved_elsewhere,
+        page_office.signed_out_in_windows, page_office.behind_a_password,
     )
 }
 
 
 def one_row(mode, events):
     return lambda scene: page_lost.nothing_twice(scene, ((mode, events),))
+
+
+def signed_out_by(row):
+    return lambda scene: page_office.signed_out(scene, (page_office.SIGNED_OUT[row],))
+
+
+def away_by(status):
+    return lambda scene: page_office.away_by_status(scene, (status,))
+
+
+def below_a_folder(scene):
+    page_office.behind_a_password(scene)
+
+
+below_a_folder.without_agent = True
 
 
 # what is spoiled; the old and the new text of the page; the scene that finds it, and what it then says
@@ -78,6 +96,27 @@ SPOILED = (
     ("own journeys end with a page", "if (page.length < PAGE) return true;", "return true;", page_rules.large,
      "'all (1000)' in #list"),
     ("an answer that an older question gets", "if (!box.open) then(is);", "then(is);", page_scenes.asked_twice, "the item"),
+    ("a login page that is taken for a stock", "get('/stock', isStock)", "get('/stock', () => true)", signed_out_by(1),
+     "a login page: the stock"),
+    ("a login page that is barred", "status < 400 ||", "", signed_out_by(1), "'You are signed out' in #away"),
+    ("a redirect that is followed", "redirect: 'manual'", "redirect: 'follow'", signed_out_by(2), "'You are signed out' in #away"),
+    ("a login in JSON that is taken for a stock", "answer.status === 200 && is(Object(page))", "answer.status === 200", signed_out_by(4),
+     "'You are signed out' in #away"),
+    ("a page that goes on asking", "if (reached === 'out') throw new Failed('out');", "", signed_out_by(0), "requests meanwhile"),
+    ("a question that is taken away and asked again", "PATIENCE = 120000", "PATIENCE = 16000", page_office.one_question, "questions"),
+    ("windows that each ask for a password", "if (event.newValue) { isReached('out'); draw(); }", "if (event.newValue) draw();",
+     page_office.signed_out_in_windows, "'Signed out' in #state"),
+    ("a request that blocks all others", "else if (why.why === 'barred') {", "else if (why.why === 'blocked') {",
+     page_office.turned_away, "Set aside"),
+    ("a stock that hides own journeys", "if (met !== 'barred') break;", "break;", page_office.part_is_barred, "'My journeys (1)'"),
+    ("a gateway that is taken for a refusal", "status > 499 || ", "", away_by(503), "'The desk cannot be reached' in #away"),
+    ("what moved is done", ".history.join() !== seen", ".history.join() === null", page_office.moved_elsewhere, "not done"),
+    ("windows that do not take turns", "return navigator.locks && seen !== undefined ?", "return false ?", page_office.two_windows,
+     "the history"),
+    ("requests without a password", "credentials: 'same-origin'", "credentials: 'omit'", below_a_folder, "'Up to date' in #state"),
+    ("relative addresses", "await fetch(HOME + path, {", "await fetch(path.slice(1), {", below_a_folder, "'Up to date' in #state"),
+    ("a page at the root alone", "location.origin + FOLDER.slice(0, -1)", "location.origin", below_a_folder, "'Up to date' in #state"),
+    ("one store for all desks of an origin", "FOLDER === '/' ? 'desk.' : `desk${FOLDER}.`", "'desk.'", below_a_folder, "#agent"),
     ("a list that is left without its plans", "  delete $('list').dataset.key;\n  drawList();\n", "  drawList();\n", page_rules.large,
      "the plans"),
 )

@@ -1,4 +1,5 @@
-"""A proxy between a browser and desks: it may lose a page, hold a request, answer in the desk's place, or spoil the page."""
+"""A proxy between a browser and desks: it may lose a page, hold a request, answer in the desk's place, serve the desk below a folder,
+or spoil the page."""
 import base64
 import hashlib
 import http.client
@@ -46,6 +47,11 @@ def page_of(status, reason, fields, text):
     """The bytes of a page."""
     head = [f"HTTP/1.1 {status} {reason}", f"Content-Length: {len(text)}", *(f"{name}: {value}" for name, value in fields)]
     return "\r\n".join([*head, "", ""]).encode() + text
+
+
+def html_page(status, text="<!doctype html><title>Login</title><h1>Sign in</h1>", fields=()):
+    """The bytes of a page that is no page of a desk, as proxies and login services have them."""
+    return page_of(status, "Elsewhere", [("Content-Type", "text/html"), *fields], text.encode())
 
 
 def answer_to(request):
@@ -113,10 +119,13 @@ class Gets:
 class Network:
     """`mode` says what becomes of POSTs: each is passed on; or its page is lost once it was carried out; or it is held until it
     is let go, and then lost. `instead` is the status and the page that the next POST gets in the place of the desk's. `gets` holds
-    GETs back, where that is asked for. With `spoil`, an old and a new text, the desk's page is spoiled."""
+    GETs back, where that is asked for. `front` is called with each request, and may return the bytes of a page in the desk's place;
+    `before` is called once, before the next POST is passed on. The desk is served below `folder`, where that is given. With `spoil`,
+    an old and a new text, the desk's page is spoiled."""
 
     def __init__(self, spoil=None):
         self.mode, self.posts, self.paths, self.instead = "pass", [], [], None
+        self.front, self.before, self.folder = None, None, ""
         self.spoil, self.let_go, self.gets = spoil, threading.Event(), Gets()
         self.socket = socket.create_server(("127.0.0.1", 0), backlog=64)
         self.port = self.socket.getsockname()[1]
@@ -142,6 +151,12 @@ class Network:
         """A request comes: the bytes of its page; nothing where the connection ends instead."""
         path = request.where.path
         self.paths.append((request.method, path, request.field("host")))
+        if self.front and (page := self.front(request)):
+            return page
+        if not path.startswith(self.folder + "/"):
+            return html_page(404)
+        path = path[len(self.folder):]
+        request = request._replace(where=request.where._replace(path=path))
         if request.method != "POST":
             if path == "/":
                 return self.passed_on(request)
@@ -155,6 +170,9 @@ class Network:
         if instead:
             self.instead = None
             return page_of(instead[0], "Instead", [("Content-Type", "application/json")], json.dumps(instead[1]).encode())
+        before, self.before = self.before, None
+        if before:
+            before()
         page = self.passed_on(request)
         return None if mode == "lose" else page
 

@@ -282,7 +282,7 @@ def refusals_in_words(scene):
 
 
 def refused_by_the_desk(scene):
-    """What another window did meanwhile makes the desk refuse; the page says why, and then shows what is."""
+    """What another client did after the page's last look makes the desk refuse; the page says why, and then shows what is."""
     browser = scene.browser
     rows = (
         (["step"], "Take save-point 1", "save", "No save-point can be taken here"),
@@ -297,14 +297,15 @@ def refused_by_the_desk(scene):
             scene.desk.post(f"/journeys/{identity}/{word}", f"b{n}-{k}")
         scene.shows_journey(identity)
         browser.named(button, ".acts")
-        scene.network.gets.hold()
-        for k, word in enumerate(meanwhile.split()):
-            scene.desk.post(f"/journeys/{identity}/{word}", f"m{n}-{k}")
+
+        def does_meanwhile(identity=identity, words=meanwhile.split(), key=f"m{n}"):
+            for k, word in enumerate(words):
+                scene.desk.post(f"/journeys/{identity}/{word}", f"{key}-{k}")
+        scene.network.before = does_meanwhile
         browser.press(button, ".acts")
         if browser.all("dialog[open]"):
             browser.click_on("#sure-yes")
         scene.note(words)
-        scene.network.gets.release()
         comes("what may be done then", False, lambda: button in browser.names(".acts button"))
 
 

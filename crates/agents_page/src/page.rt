@@ -2,7 +2,7 @@
 
 /// What the page may load and do: its own style and script, and requests to the desk that served it.
 pub const POLICY: &str =
-    r#"default-src 'none'; script-src 'sha256-Dgkhq4CBFO28OW032klh0wEQWt/PAMnRZEo7LaMYE9w='; style-src 'sha256-bbvFO2V/nRRXjDXkhnhMW8AlP1SCRZEWsCrtSytBsKQ='; connect-src 'self'; frame-ancestors 'none'; base-uri 'none'; form-action 'none'"#;
+    r#"default-src 'none'; script-src 'sha256-YwPEulAwqJSfU7eMwf45Cg7+anoD/ZJ9kCFfjL6R4YA='; style-src 'sha256-bbvFO2V/nRRXjDXkhnhMW8AlP1SCRZEWsCrtSytBsKQ='; connect-src 'self'; frame-ancestors 'none'; base-uri 'none'; form-action 'none'"#;
 
 /// The page, in HTML.
 pub const PAGE: &str = r##"<!doctype html>
@@ -341,7 +341,11 @@ const LETTER = { flight: 'F', room: 'R', transfer: 'T', cover: 'C' };
 const MONTHS = 'January February March April May June July August September October November December'.split(' ');
 const DAYS = 'Monday Tuesday Wednesday Thursday Friday Saturday Sunday'.split(' ');
 const FIRST = '2000-01-01', LAST = '2099-12-31';
-const PATIENCE = 15000, NEWS = 4000, AGAIN = 2000, PAGE = 100, ROWS = 50;
+const SLOW = 15000, PATIENCE = 120000, NEWS = 4000, AGAIN = 2000, PAGE = 100, ROWS = 50;
+// the address of the desk names the origin, since a browser takes no relative one where a name and a password stand in its own
+const FOLDER = location.pathname.replace(/[^/]*$/, ''), HOME = location.origin + FOLDER.slice(0, -1);
+// what the browser keeps for this desk; another desk of the origin has another folder
+const MARK = FOLDER === '/' ? 'desk.' : `desk${FOLDER}.`;
 
 const $ = id => document.getElementById(id);
 const night = time => new Date(time).toISOString().slice(0, 10);
@@ -495,12 +499,12 @@ const local = storage('localStorage'), session = storage('sessionStorage');
 
 function kept(store, name, otherwise) {
   try {
-    const text = store.getItem('desk.' + name);
+    const text = store.getItem(MARK + name);
     return text === null ? otherwise : JSON.parse(text);
   } catch { return otherwise; }
 }
 function keep(store, name, value) {
-  try { store.setItem('desk.' + name, JSON.stringify(value)); return true; } catch { return false; }
+  try { store.setItem(MARK + name, JSON.stringify(value)); return true; } catch { return false; }
 }
 const hex = bytes => [...crypto.getRandomValues(new Uint8Array(bytes))].map(byte => byte.toString(16).padStart(2, '0')).join('');
 // a UUID of version 4 without its hyphens
@@ -516,7 +520,8 @@ let own = new Map(), histories = new Map(), plans = new Map(), complete = false;
 let draft = null, chosen = null, into = 0, badStep = 0, places = 1;
 // journeys of which a page came, until it is known how they are now
 let settling = new Map();
-let reached = null, timer = 0, looking = false, lookAgain = false;
+// reached: 'here', 'slow', 'away', 'out' (signed out), 'barred' (not allowed); null until this is known
+let reached = null, status = 0, timer = 0, looking = false, lookAgain = false, line = new AbortController();
 let filter = kept(session, 'filter', { kind: '', supplier: '', product: '', month: '' });
 let sought = { state: '', text: '', ...kept(session, 'sought', {}), rows: ROWS };
 
@@ -527,20 +532,41 @@ const isOpen = journey => journey.state === 'run' || journey.state === 'back';
 class Refused extends Error {
   constructor(page) { super(page.name); this.page = page; }
 }
-
-async function get(path, isText) {
-  const answer = await fetch(
-    path,
-    { headers: { 'Desk-Agent': agent }, cache: 'no-store', credentials: 'omit', signal: AbortSignal.timeout(PATIENCE) }
-  );
-  const text = await answer.text();
-  if (answer.ok && isText) return text;
-  const page = JSON.parse(text);
-  if (page.refused) throw new Refused(page);
-  if (!answer.ok) throw new Error(text);
-  return page;
+// Failed: no page of the desk came; `why` is a word of `reached`
+class Failed extends Error {
+  constructor(why, status) { super(why); this.why = why; this.status = status; }
 }
-const listIn = page => Object.values(page).find(Array.isArray);
+// whyOf(status): what an answer means that is no page of the desk. A redirect that is not followed has the status 0
+const whyOf = status => status < 400 || [401, 407, 511].includes(status) ? 'out'
+  : status > 499 || [408, 425, 429].includes(status) ? 'away' : 'barred';
+
+// ask(path, is, options): the page of the desk, which `is` knows by its form. Nothing is asked for while the browser is signed out,
+// and a request is let wait, since the browser may be asking for a password meanwhile
+async function ask(path, is, options) {
+  if (reached === 'out') throw new Failed('out');
+  const slow = setTimeout(() => { isReached('slow'); draw(); }, SLOW);
+  let answer, page;
+  try {
+    answer = await fetch(HOME + path, {
+      cache: 'no-store', credentials: 'same-origin', redirect: 'manual',
+      signal: AbortSignal.any([line.signal, AbortSignal.timeout(PATIENCE)]), ...options,
+    });
+    page = await answer.text();
+  } catch { throw new Failed('away'); } finally { clearTimeout(slow); }
+  try { page = JSON.parse(page); } catch { /* a report */ }
+  if (answer.status > 399 && Object(page).refused && page.name) throw new Refused(page);
+  if (answer.status === 200 && is(Object(page))) return page;
+  const failed = new Failed(whyOf(answer.status), answer.status);
+  if (failed.why === 'out') { keep(local, 'out', true); isReached('out'); draw(); }
+  throw failed;
+}
+const get = (path, is, whose = agent) => ask(path, is, { headers: { 'Desk-Agent': whose } });
+// a report of the stock is whole: it has as many lines as it says
+const isStock = text => {
+  const found = /^kind [^\n]*\n([^]*)cells (\d+)\n$/.exec(text);
+  return found && found[1].split('\n').length - 1 === +found[2];
+};
+const isPlan = page => Array.isArray(page.steps), isJourney = page => Array.isArray(page.history);
 
 // look(): asks what is new, and draws it; goes on every few seconds while the page can be seen
 async function look() {
@@ -549,23 +575,29 @@ async function look() {
   if (document.hidden || !agent) return;
   looking = true;
   const mine = turn;
-  try {
-    if (view !== 'list' || stockText === null) await lookAtStock(mine);
-    await lookAtOwn(mine);
-    if (view === 'journey' && mine === turn) await lookAtOne(number, mine);
-    isReached(true);
-  } catch (why) {
-    if (why instanceof Refused) { isReached(true); say('bad', refusalText(why.page)); } else isReached(false);
+  let met = 'here';
+  for (const part of [
+    () => (view !== 'list' || stockText === null) && lookAtStock(mine), () => lookAtOwn(mine),
+    () => view === 'journey' && mine === turn && lookAtOne(number, mine),
+  ]) {
+    try { await part(); } catch (why) {
+      if (why instanceof Refused) { say('bad', refusalText(why.page)); break; }
+      met = why.why || 'away';
+      status = why.status;
+      // what is not allowed leaves the other parts
+      if (met !== 'barred') break;
+    }
   }
+  isReached(met);
   looking = false;
   if (mine === turn) draw();
   if (waiting().length && !isLost) flush();
   if (lookAgain || mine !== turn) { lookAgain = false; look(); return; }
-  timer = setTimeout(look, reached ? NEWS : AGAIN);
+  timer = setTimeout(look, reached === 'away' ? AGAIN : NEWS);
 }
 
 async function lookAtStock(mine) {
-  const text = await get('/stock', true);
+  const text = await get('/stock', isStock);
   if (mine !== turn || text === stockText) return;
   stockText = text;
   stock = new Map();
@@ -590,7 +622,8 @@ async function lookAtOwn(mine) {
     if (await readMine(0, all, mine)) { own = all; complete = true; }
     return;
   }
-  const open = listIn(await get('/unfinished')), now = new Set(open.map(one => one.journey));
+  const { unfinished: open } = await get('/unfinished', page => Array.isArray(page.unfinished));
+  const now = new Set(open.map(one => one.journey));
   if (mine !== turn) return;
   const most = Math.max(0, ...own.keys());
   if (open.some(one => one.journey <= most && !isOpen(own.get(one.journey) || { state: '' }))) return lookAnew(mine);
@@ -598,7 +631,7 @@ async function lookAtOwn(mine) {
   const gone = [...own.values()].filter(one => isOpen(one) && !now.has(one.journey)).map(one => one.journey);
   if (gone.length > 8) await readMine(Math.min(...gone) - 1, own, mine);
   else for (const id of gone) {
-    const one = await unlessAbsent(get('/journeys/' + id));
+    const one = await unlessAbsent(get('/journeys/' + id, isJourney));
     if (mine !== turn) return;
     if (one) take(id, one);
   }
@@ -621,7 +654,7 @@ const unlessAbsent = page => page.catch(why => {
 // readMine(after, into): all own journeys above this number; whether they are still asked for
 async function readMine(after, into, mine) {
   for (;;) {
-    const page = listIn(await get('/mine' + (after ? '/' + after : '')));
+    const { mine: page } = await get('/mine' + (after ? '/' + after : ''), page => Array.isArray(page.mine));
     if (mine !== turn) return false;
     for (const one of page) into.set(one.journey, one);
     if (page.length < PAGE) return true;
@@ -636,14 +669,14 @@ function take(id, { history, ...where }) {
 
 async function lookAtOne(id, mine) {
   if (!plans.get(id)) {
-    const plan = await unlessAbsent(get(`/journeys/${id}/plan`));
+    const plan = await unlessAbsent(get(`/journeys/${id}/plan`, isPlan));
     if (mine !== turn) return;
     plans.set(id, plan);
     if (!plan) return;
   }
   const known = histories.has(id) && own.get(id), was = settling.get(id);
   if (known && !isOpen(known) && !was) return;
-  const one = await unlessAbsent(get('/journeys/' + id));
+  const one = await unlessAbsent(get('/journeys/' + id, isJourney));
   if (mine !== turn) return;
   if (one) take(id, one); else plans.set(id, null);
   if (settling.get(id) === was) settling.delete(id);
@@ -651,7 +684,7 @@ async function lookAtOne(id, mine) {
 
 // ---- sending: each request is kept with its key until its page came, and retried as it was
 
-const TAB = 'desk.tab.', POST = 'desk.post.';
+const TAB = MARK + 'tab.', POST = MARK + 'post.';
 let tab = kept(session, 'tab', '') || hex(8), sending = false, resend = 0, sent = 0, isLost = false;
 
 // a window has a name of its own, which it holds while it is open; one that was copied from another takes a new one
@@ -674,22 +707,24 @@ function waiting() {
   const found = [];
   for (let n = 0; local && n < local.length; n++) {
     const name = local.key(n);
-    if (name.startsWith(POST)) found.push(kept(local, name.slice(5), null));
+    if (name.startsWith(POST)) found.push(kept(local, name.slice(MARK.length), null));
   }
   return found.filter(Boolean).sort((a, b) => a.at - b.at || a.turn - b.turn);
 }
 
-// those of this window, and of windows that are closed
+// those of this window, and of windows that are closed, but for those that were set aside
+const isDue = one => !one.aside;
 async function ownWaiting() {
   const held = navigator.locks ? new Set((await navigator.locks.query()).held.map(lock => lock.name)) : new Set();
-  return waiting().filter(
+  return waiting().filter(isDue).filter(
     one => one.tab === tab || (navigator.locks ? !held.has(TAB + one.tab) : Date.now() - one.at > 2 * PATIENCE)
   );
 }
 
-async function send(path, body, what, about) {
+// send(.., seen): with `seen`, what is shown of the journey
+async function send(path, body, what, about, seen) {
   await named;
-  const request = { key: newKey(), tab, at: Date.now(), turn: sent++, agent, path, body, what, about };
+  const request = { key: newKey(), tab, at: Date.now(), turn: sent++, agent, path, body, what, about, seen };
   if (!keep(local, 'post.' + request.key, request)) {
     say('bad', 'This browser cannot keep the request, so it was not sent. Allow this page to store data, or free some space.');
     return;
@@ -715,30 +750,56 @@ async function sendKept(request) {
     if (!lock) return false;
     if (!kept(local, 'post.' + request.key, null)) return true;
     let page;
-    try { page = await pageOf(request); } catch { isLost = true; draw(); look(); return false; }
+    try { page = await pageOf(request); } catch (why) {
+      if (why instanceof Refused) page = why.page;
+      else if (why.why === 'barred') {
+        keep(local, 'post.' + request.key, { ...request, aside: why.status });
+        draw();
+        return true;
+      } else {
+        isLost = why.why !== 'out';
+        draw();
+        look();
+        return false;
+      }
+    }
     local.removeItem(POST + request.key);
     isLost = false;
-    isReached(true);
+    isReached('here');
     hear(request, page);
     return true;
   };
   return navigator.locks ? navigator.locks.request(POST + request.key, { ifAvailable: true }, go) : go(true);
 }
 
-async function pageOf({ path, key, agent, body }) {
-  const answer = await fetch(path, {
-    method: 'POST', body, cache: 'no-store', credentials: 'omit', signal: AbortSignal.timeout(PATIENCE),
-    headers: { 'Desk-Agent': agent, 'Desk-Key': key, 'Content-Type': 'application/json' },
-  });
-  const page = JSON.parse(await answer.text());
-  if (!(page.refused || (answer.ok && page.journey))) throw new Error('no page of the desk');
-  return page;
+// pageOf(request): what the desk answers to it; nothing where its journey has moved since it was shown. A request that was sent
+// before is not held back: only the desk knows whether it was done. The windows of this browser take turns at a journey
+async function pageOf(request) {
+  const { path, key, agent, body, about, seen, isTried } = request;
+  const tried = is => { request.isTried = is; keep(local, 'post.' + key, request); };
+  const go = async () => {
+    if (seen !== undefined && !isTried && (await get('/journeys/' + about, isJourney, agent)).history.join() !== seen) return null;
+    tried(true);
+    try {
+      return await ask(path, page => page.journey, {
+        method: 'POST', body, headers: { 'Desk-Agent': agent, 'Desk-Key': key, 'Content-Type': 'application/json' },
+      });
+    } catch (why) {
+      // what never came to the desk was not done
+      if (why.why === 'out' || why.why === 'barred') tried(isTried);
+      throw why;
+    }
+  };
+  return navigator.locks && seen !== undefined ? navigator.locks.request(`${MARK}journey.${about}`, go) : go();
 }
 
 // hear(request, page): what the desk answered
 function hear(request, page) {
   const isOwn = request.agent === agent, whose = isOwn ? '' : ` (for ${request.agent})`;
-  if (page.refused) {
+  if (!page) {
+    if (isOwn) settling.set(request.about, request.key);
+    say('warn', `${request.what}${whose}: not done, since journey ${request.about} has moved since it was shown.`);
+  } else if (page.refused) {
     if (isOwn && request.about === 'new' && page.step) badStep = page.step;
     say('bad', `${request.what}${whose}: ${refusalText(page)}`);
   } else if (request.about === 'new') {
@@ -799,37 +860,62 @@ function drop(note) {
 }
 
 function isReached(now) {
-  if (reached !== now) {
-    const was = reached;
-    reached = now;
-    if (now && was === false) { say('good', 'The desk can be reached again.'); look(); }
-  }
+  // who is signed out is so until the page is loaded again
+  if (reached === now || reached === 'out') return;
+  const was = reached;
+  reached = now;
+  if (now === 'here' && was) { say('good', 'The desk can be reached again.'); look(); }
+}
+// isSignedIn(): this page was loaded, here or in another window, so the browser is signed in
+function isSignedIn() {
+  reached = null;
+  look();
+  flush();
 }
 
+const REACH = {
+  slow: ['No answer yet', 'The desk has not answered yet. If the browser asks for your name and password, sign in.'],
+  away: ['Not reached', 'The desk cannot be reached. This page tries again every two seconds. What you see may be old.'],
+  out: ['Signed out', 'You are signed out. Nothing is sent until you sign in again. What you see may be old.'],
+  barred: ['Not allowed', 'The server in front of the desk does not allow you to see this. What you see may be old.'],
+  gone: ['Not found', 'The server in front of the desk does not find it at this address. What you see may be old.'],
+  lost: ['Not reached', 'A request got no answer. This page retries it every two seconds.'],
+};
 function drawState() {
-  const list = waiting().filter(one => one.tab === tab || one.agent === agent);
-  const isAway = reached === false || (isLost && list.length);
-  $('state').className = isAway ? 'off' : '';
-  const text = !agent ? ''
-    : isAway ? 'Not reached'
-      : reached === null ? 'Looking for the desk'
-        : list.length ? 'Sending' : 'Up to date';
+  const all = waiting().filter(one => one.tab === tab || one.agent === agent), list = all.filter(isDue);
+  const aside = all.filter(one => one.aside), isOut = reached === 'out';
+  const is = reached === 'barred' && status === 404 ? 'gone'
+    : (!reached || reached === 'here') && isLost && list.length ? 'lost' : reached;
+  const [word, what] = REACH[is] || [];
+  $('state').className = word ? 'off' : '';
+  const text = !agent ? '' : word || (!reached ? 'Looking for the desk' : list.length ? 'Sending' : 'Up to date');
   if ($('state').textContent !== text) $('state').textContent = text;
   $('state').hidden = !text;
-  const away = $('away'), words = isAway && agent ? [
-    reached === false
-      ? 'The desk cannot be reached. This page tries again every two seconds. What you see may be old.'
-      : 'A request got no answer. This page retries it every two seconds.',
-    list.length
-      ? `${count(list.length, 'request')} will be retried, and ${list.length === 1 ? 'takes' : 'each takes'} effect once: `
-        + list.map(one => one.what).join('; ') + '.'
-      : '',
-  ] : [];
-  if (away.dataset.words !== words.join()) {
-    away.dataset.words = words.join();
-    away.replaceChildren(...words.filter(Boolean).map(word => h('p', {}, word)));
+  const lines = agent ? [
+    what,
+    what && list.length
+      && `${count(list.length, 'request')} will be ${isOut ? 'sent then' : 'retried'}, and ${list.length === 1 ? 'takes' : 'each takes'} effect once: `
+      + list.map(one => one.what).join('; ') + '.',
+    isOut && button('Sign in again', 'in', () => location.reload()),
+    aside.length && 'Set aside, since the server in front of the desk turned it away: '
+      + aside.map(one => `${one.what} (${one.aside})`).join('; ') + '.',
+    aside.length && h('span', { class: 'row' }, button('Send again', 'aside.send', () => resume(aside)),
+      button('Drop', 'aside.drop', () => resume(aside, true), { 'aria-label': 'Drop what is set aside' })),
+  ].filter(Boolean) : [];
+  const away = $('away'), key = lines.map(one => one.textContent || one).join();
+  if (away.dataset.key !== key) {
+    away.dataset.key = key;
+    paint(away, lines.map(one => h('p', {}, one)));
   }
-  away.hidden = !words.length;
+  away.hidden = !lines.length;
+}
+// resume(aside, isDropped): what was set aside is sent again, or dropped
+function resume(aside, isDropped) {
+  for (const one of aside) {
+    if (isDropped) local.removeItem(POST + one.key); else keep(local, 'post.' + one.key, { ...one, aside: 0 });
+  }
+  draw();
+  flush();
 }
 
 // sure(title, text, yes): asks once more; whether the answer was yes
@@ -1202,7 +1288,7 @@ function setDraft(next) {
 const moved = (list, from, to) => { const all = [...list], [one] = all.splice(from, 1); all.splice(to, 0, one); return all; };
 
 function drawPlan() {
-  const isSent = waiting().some(one => one.about === 'new' && one.agent === agent);
+  const isSent = waiting().some(one => isDue(one) && one.about === 'new' && one.agent === agent);
   const key = JSON.stringify([draft, isSent, badStep, stockText && stockText.length])
     + draft.steps.map(step => step.options.map(want => fits(want).why)).join();
   $('steps-in-plan').textContent = draft.steps.length ? ` (${draft.steps.length})` : '';
@@ -1398,7 +1484,7 @@ async function fillPlans(rows) {
     for (const one of rows) {
       if (plans.get(one.journey) || document.hidden) continue;
       if (mine !== turn || (view !== 'list' && view !== 'journey')) break;
-      const plan = await get(`/journeys/${one.journey}/plan`);
+      const plan = await get(`/journeys/${one.journey}/plan`, isPlan);
       if (mine === turn) plans.set(one.journey, plan);
       if (++asked === ROWS) break;
     }
@@ -1456,7 +1542,7 @@ function itemText(one) {
 function drawOne() {
   if (view !== 'journey') { if (view === 'list') drawNone(); return; }
   const plan = plans.get(number), { history, where: one } = histories.get(number) || {};
-  const sending = waiting().filter(request => request.about === number && request.agent === agent);
+  const sending = waiting().filter(request => isDue(request) && request.about === number && request.agent === agent);
   const key = JSON.stringify(
     [number, one, history, plan && 1, plan === null, sending.map(request => request.key), settling.has(number)]
   ) + (plan && one && isOpen(one) && plan.steps.map(step => step.options.map(want => fits(want).why)).join());
@@ -1473,7 +1559,7 @@ function drawOne() {
   const steps = `${stand} of ${count(plan.steps.length, 'step')} ${stand === 1 ? 'stands' : 'stand'}${saves}`;
   paint($('one'),
     h('p', {}, stateMark(one), ' ', h('span', { class: 'soft' }, steps)),
-    actions(one, plan, way, sending),
+    actions(one, plan, way, sending, history.join()),
     h('div', {
       class: 'path drawn', tabindex: 0, role: 'region', 'data-scroll': true, 'data-f': 'path',
       'aria-label': `Path of journey ${number}, can be scrolled sideways`,
@@ -1514,7 +1600,7 @@ async function useAgain(plan) {
 }
 
 // actions: what may be done now, and nothing else
-function actions(one, plan, way, sending) {
+function actions(one, plan, way, sending, seen) {
   if (!isOpen(one)) return h('p', { class: 'acts soft', tabindex: -1, 'data-rest': true }, one.state === 'ended'
     ? 'The journey has ended: all its places stay taken, and it cannot be changed any more.'
     : 'The journey is undone: it holds nothing, and cannot be changed any more.');
@@ -1522,7 +1608,7 @@ function actions(one, plan, way, sending) {
   const off = { 'aria-disabled': wait && 'true' }, next = way.pos + 1, isBack = one.state === 'back';
   // the second click of two quick ones was not meant for what stands here since the first
   const isQuick = event => event && event.detail > 1 && performance.now() - drawnAt < 400;
-  const act = (path, what) => event => wait || isQuick(event) || send(`/journeys/${id}/${path}`, '', what, id);
+  const act = (path, what) => event => wait || isQuick(event) || send(`/journeys/${id}/${path}`, '', what, id, seen);
   const turnBack = (p, to) => async () => {
     if (wait) return;
     const is = await sure(`Turn journey ${id} back to ${to}?`, turnText(p, way.pos - p), `Turn back to ${to}`);
@@ -1686,14 +1772,21 @@ let resized = 0;
 addEventListener(
   'resize', () => { clearTimeout(resized); resized = setTimeout(() => { delete $('one').dataset.key; drawOne(); }, 150); }
 );
-addEventListener('online', () => { look(); flush(); });
+addEventListener('online', () => {
+  line.abort();
+  line = new AbortController();
+  look();
+  flush();
+});
 addEventListener('storage', event => {
-  if (event.key === 'desk.draft.' + agent) { draft = kept(local, 'draft.' + agent, draft); drawPlan(); }
+  if (event.key === MARK + 'out') if (event.newValue) { isReached('out'); draw(); } else isSignedIn();
+  if (event.key === MARK + 'draft.' + agent) { draft = kept(local, 'draft.' + agent, draft); drawPlan(); }
   if (event.key && event.key.startsWith(POST)) draw();
 });
 startAgent();
 route();
 if (view === 'who') $('agent').focus();
+if (local) local.removeItem(MARK + 'out');
 named.then(() => { flush(); look(); });
 })();
 </script>
