@@ -46,13 +46,13 @@ def wait_until(holds, what):
 class Desk:
     """The program over a file, with its page, at a port that it keeps when it is started again."""
 
-    def __init__(self, file):
-        self.file, self.port, self.process = file, free_port(), None
+    def __init__(self, file, words=()):
+        self.file, self.words, self.port, self.process = file, words, free_port(), None
         self.start()
 
     def start(self):
         self.process = subprocess.Popen(
-            [DESK, "serve", self.file, "--port", str(self.port), "--page"], stdin=subprocess.DEVNULL,
+            [DESK, "serve", self.file, "--port", str(self.port), "--page", *self.words], stdin=subprocess.DEVNULL,
             stdout=subprocess.PIPE, stderr=subprocess.PIPE,
         )
         said = self.process.stdout.readline()

@@ -1,0 +1,30 @@
+#!/usr/bin/env bash
+# The two recipes of OPERATING.md for an office, as printed but for ports, files and passwords: HAProxy and nginx with TLS and
+# passwords before a desk with its page, and headless Chromium before them. Two agents book at once, the desk is killed and started
+# again, and a password is changed. A proxy that is absent is left out.
+. "$(dirname "${BASH_SOURCE[0]}")/helping.bash"
+. "$(dirname "$tests")/scripts/needs.bash"
+
+if ! has_browser || ! command -v openssl >/dev/null 2>&1; then
+  echo "office.sh: skipped, there is no Chromium, no Python that drives it, or no openssl" >&2
+  exit 0
+fi
+PATH=$PATH:/usr/sbin
+proxies=()
+for proxy in haproxy nginx; do
+  if command -v "$proxy" >/dev/null 2>&1; then
+    proxies+=("$proxy")
+  else
+    echo "office.sh: $proxy is left out, it is absent" >&2
+  fi
+done
+
+openssl req -x509 -newkey rsa:2048 -nodes -days 2 -subj /CN=office.example -keyout key -out certificate 2>/dev/null
+cat certificate key >desk.pem
+# where root starts nginx, another user reads the passwords
+chmod 755 "$work"
+HOME=$work PYTHONDONTWRITEBYTECODE=1 "$python" "$tests/office.py" "$work" "${proxies[@]}" >out 2>err
+same "the status" 0 "$?"
+same "what went wrong" "" "$(cat out)"
+[ "$wrong" -eq 0 ] || cat err >&2
+finish
