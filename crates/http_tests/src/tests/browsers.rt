@@ -35,7 +35,7 @@ const ANN: &str = "Desk-Agent: ann\r\n";
 
 // a request, its further fields, and its page where the desk has a page; all but the first two get the same without it
 #[rattlefmt::skip]
-const AT_THE_PAGE: [(&str, &str, Page); 7] = [
+static AT_THE_PAGE: [(&str, &str, Page); 7] = [
     ("POST /",          "Content-Length: 0\r\n", ONLY_GET),
     ("DELETE /",        ANN,                     ONLY_GET),
     ("GET /unfinished", ANN,                     NOTHING_UNFINISHED),
@@ -74,7 +74,7 @@ fn without_a_page_the_path_is_unknown(rt: HostRuntime) {
 }
 
 // hosts that name this machine and the port
-const OWN_HOSTS: [&str; 4] = [
+static OWN_HOSTS: [&str; 4] = [
     OWN_HOST,
     "localhost:8080",
     "[::1]:8080",
@@ -85,7 +85,7 @@ const OWN_HOSTS: [&str; 4] = [
 fn requests_under_own_hosts_are_answered(rt: HostRuntime) {
     let alloc = rt.alloc();
     let mut talk = Talk::new(alloc);
-    for host in OWN_HOSTS {
+    for &host in &OWN_HOSTS {
         ask_under(&rt, &mut talk, host, "GET /", "");
         talk.tell(&rt, &[SHOWN]);
         ask_under(&rt, &mut talk, host, "GET /unfinished", ANN);
@@ -96,7 +96,7 @@ fn requests_under_own_hosts_are_answered(rt: HostRuntime) {
 
 // other hosts: another name or port, none, or none of these texts
 #[rattlefmt::skip]
-const OTHER_HOSTS: [&str; 18] = [
+static OTHER_HOSTS: [&str; 18] = [
     "", "d", "127.0.0.1", "localhost", "[::1]", "127.0.0.1:", "127.0.0.1:80", "127.0.0.1:808", "127.0.0.1:80800",
     "127.0.0.1:08080", "127.0.0.1: 8080", "127.0.0.2:8080", "evil.example:8080", "localhost.evil.example:8080",
     "LOCALHOST:8080", "localhost.:8080", "::1:8080", "ann@localhost:8080",
@@ -113,7 +113,7 @@ fn is_refused_under(rt: &impl Abort, alloc: Global, host: &str, asked: &str) {
 
 #[test]
 fn requests_under_other_hosts_are_refused(rt: HostRuntime) {
-    for host in OTHER_HOSTS {
+    for &host in &OTHER_HOSTS {
         for asked in ["GET /", "GET /unfinished", "GET /health"] {
             is_refused_under(&rt, rt.alloc(), host, asked);
         }
@@ -125,7 +125,7 @@ fn without_a_page_each_host_is_answered(rt: HostRuntime) {
     let alloc = rt.alloc();
     for door in [Door::Port, Door::House] {
         let mut talk = Talk::new(alloc);
-        for host in OTHER_HOSTS {
+        for &host in &OTHER_HOSTS {
             ask_under(&rt, &mut talk, host, "GET /unfinished", ANN);
             talk.page(&rt, alloc, NOTHING_UNFINISHED);
         }

@@ -53,7 +53,7 @@ const TOO_LARGE_TO_HEAD: Page = ("413 Content Too Large", "Connection: close\r\n
 
 // the request, further fields, and the page
 #[rattlefmt::skip]
-const CLOSED: [(&str, &str, Page); 8] = [
+static CLOSED: [(&str, &str, Page); 8] = [
     ("GET /unfinished",  "Connection: close\r\n",         SHOWN),
     ("GET /unfinished",  "CONNECTION:CLOSE\t\r\n",        SHOWN),
     ("PUT /stock",       "Connection: close\r\n",         NOT_PUT),
@@ -81,7 +81,7 @@ fn a_closing_request_that_is_cut_gets_no_page(rt: HostRuntime) {
 }
 
 #[rattlefmt::skip]
-const LEFT_OPEN: [(&str, &[u8]); 3] = [
+static LEFT_OPEN: [(&str, &[u8]); 3] = [
     ("another word",      b"GET /unfinished HTTP/1.1\r\nHost: d\r\nDesk-Agent: ann\r\nConnection: keep-alive\r\n\r\n"),
     ("close among words", b"GET /unfinished HTTP/1.1\r\nHost: d\r\nDesk-Agent: ann\r\nConnection: close, x\r\n\r\n"),
     ("a body of a GET",   b"GET /unfinished HTTP/1.1\r\nHost: d\r\nDesk-Agent: ann\r\nContent-Length: 000000005\r\n\r\nhello"),

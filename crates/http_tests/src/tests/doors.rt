@@ -82,7 +82,7 @@ const PLAN: Page = (
 
 // what the house asks at its own door, after ann began journey 1 and the house journey 2
 #[rattlefmt::skip]
-const OF_THE_HOUSE: [(&str, Page); 10] = [
+static OF_THE_HOUSE: [(&str, Page); 10] = [
     ("GET /unfinished",         ("200 OK", "", 117, r#"{"unfinished":[{"agent":"ann","journey":1,"pos":0,"state":"run"},{"agent":"desk","journey":2,"pos":0,"state":"run"}]}"#)),
     ("POST /journeys/1/step",   ("200 OK", "", 49,  r#"{"item":"T1.1","journey":1,"pos":1,"state":"run"}"#)),
     ("POST /journeys/1/save",   ("200 OK", "", 47,  r#"{"item":"S1","journey":1,"pos":1,"state":"run"}"#)),
@@ -97,7 +97,7 @@ const OF_THE_HOUSE: [(&str, Page); 10] = [
 
 // what agents ask there: as at the port
 #[rattlefmt::skip]
-const OF_AGENTS: [Asked; 10] = [
+static OF_AGENTS: [Asked; 10] = [
     ("GET /unfinished",         "ann", "",   "", ("200 OK", "", 52, r#"{"unfinished":[{"journey":1,"pos":1,"state":"run"}]}"#)),
     ("GET /unfinished",         "bob", "",   "", ("200 OK", "", 17, r#"{"unfinished":[]}"#)),
     ("GET /journeys/1",         "bob", "",   "", NO_JOURNEY),
@@ -142,7 +142,7 @@ fn at_its_own_door_the_house_sees_and_moves_every_journey(rt: HostRuntime) {
 
 // the same without an agent is refused at the port, where nobody stops the desk
 #[rattlefmt::skip]
-const AT_THE_PORT: [(&str, Page); 7] = [
+static AT_THE_PORT: [(&str, Page); 7] = [
     ("GET /unfinished",         NO_AGENT),
     ("GET /stock",              NO_AGENT),
     ("GET /journeys/1",         NO_AGENT),
@@ -163,7 +163,7 @@ fn at_the_port_nobody_is_the_house(rt: HostRuntime) {
 
 // nothing is kept for the house: what it sends again is carried out again
 #[rattlefmt::skip]
-const SENT_AGAIN: [(&str, Page); 2] = [
+static SENT_AGAIN: [(&str, Page); 2] = [
     ("POST /journeys", JOURNEY_1),
     ("POST /journeys", JOURNEY_2),
 ];

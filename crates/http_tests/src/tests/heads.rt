@@ -6,7 +6,7 @@ use std::alloc::{AllocError, Global};
 
 // what the row shows, and the fields of a head
 #[rattlefmt::skip]
-const FIELDS: [(&str, &[u8]); 13] = [
+static FIELDS: [(&str, &[u8]); 13] = [
     ("no host",                  b""),
     ("two hosts",                b"Host: d\r\nhost: d\r\n"),
     ("two hosts, and too large", b"Host: d\r\nHost: d\r\nContent-Length: 262145\r\n"),
@@ -51,7 +51,7 @@ fn bad_fields_that_are_cut_are_not_looked_at(rt: HostRuntime) {
 
 // what the row shows, and a whole head
 #[rattlefmt::skip]
-const HEADS: [(&str, &[u8]); 9] = [
+static HEADS: [(&str, &[u8]); 9] = [
     ("one byte in a line",       b"A\r\n\r\n"),
     ("version 1.0",              b"GET /unfinished HTTP/1.0\r\nHost: d\r\n\r\n"),
     ("version 2.0",              b"GET /unfinished HTTP/2.0\r\nHost: d\r\n\r\n"),

@@ -14,14 +14,14 @@ use std::alloc::Global;
 use std::process::Abort;
 
 #[rattlefmt::skip]
-const OF_BOTH: [Asked; 2] = [
+static OF_BOTH: [Asked; 2] = [
     ("GET /unfinished", "ann", "", "", ("200 OK", "", 52, r#"{"unfinished":[{"journey":1,"pos":0,"state":"run"}]}"#)),
     ("GET /unfinished", "bob", "", "", ("200 OK", "", 52, r#"{"unfinished":[{"journey":2,"pos":0,"state":"run"}]}"#)),
 ];
 
 // an agent, who uses one key, the steps of the plan, and the page
 #[rattlefmt::skip]
-const AGAIN: [(&str, &[Step], Page); 5] = [
+static AGAIN: [(&str, &[Step], Page); 5] = [
     ("ann", &[FLIGHT],      JOURNEY_1),
     ("ann", &[FLIGHT],      JOURNEY_1),
     ("ann", &[FLIGHT, BUS], KEY_REUSED),
@@ -46,7 +46,7 @@ const NO_SEAT: &str =
     "kind,supplier,product,night,places\nroom,INN,DBL,2030-06-01,9\nflight,AL,A1,2030-06-01,0\n";
 
 #[rattlefmt::skip]
-const FREE_KEYS: [Asked; 5] = [
+static FREE_KEYS: [Asked; 5] = [
     ("POST /batches/b1",      "ann", "k2", SEATS_AND_ROOMS, LOADED),
     ("POST /batches/b1",      "ann", "k2", ELEVEN,          ("409 Conflict", "", 36, r#"{"name":"BatchDiffers","refused":13}"#)),
     ("POST /journeys/1/step", "ann", "k2", "",              NO_JOURNEY),
@@ -55,7 +55,7 @@ const FREE_KEYS: [Asked; 5] = [
 ];
 
 #[rattlefmt::skip]
-const BELOW: [Asked; 3] = [
+static BELOW: [Asked; 3] = [
     ("POST /journeys/1/step", "ann", "k3", "",      ("200 OK", "", 51, r#"{"item":"T1.1","journey":1,"pos":1,"state":"ended"}"#)),
     ("POST /batches/b2",      "ann", "k4", NO_SEAT, ("409 Conflict", "", 41, r#"{"name":"BelowHeld","refused":12,"row":2}"#)),
     ("POST /journeys/1/step", "ann", "k4", "",      ("409 Conflict", "", 32, r#"{"name":"Finished","refused":10}"#)),
@@ -73,12 +73,12 @@ fn a_refusal_and_a_known_batch_leave_the_key_free(rt: HostRuntime) {
 }
 
 #[rattlefmt::skip]
-const STEPPED: [Asked; 1] = [
+static STEPPED: [Asked; 1] = [
     ("POST /journeys/1/step", "ann", "k1", "", ("200 OK", "", 51, r#"{"item":"T1.1","journey":1,"pos":1,"state":"ended"}"#)),
 ];
 
 #[rattlefmt::skip]
-const STEPPED_ONCE: [Asked; 3] = [
+static STEPPED_ONCE: [Asked; 3] = [
     ("POST /journeys/1/step",    "ann", "k1", "", ("200 OK", "", 51, r#"{"item":"T1.1","journey":1,"pos":1,"state":"ended"}"#)),
     ("POST /journeys/1/abort/0", "ann", "k1", "", KEY_REUSED),
     ("GET /journeys/1",          "ann", "",   "", ("200 OK", "", 56, r#"{"history":["T1.1"],"journey":1,"pos":1,"state":"ended"}"#)),

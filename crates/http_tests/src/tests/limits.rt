@@ -157,7 +157,7 @@ const LONG_KEY: &str = "abcdefghijklmnopqrstuvwxyzABC-09";
 
 // agents and keys that are not valid
 #[rattlefmt::skip]
-const TOO_LONG: [Asked; 6] = [
+static TOO_LONG: [Asked; 6] = [
     ("GET /unfinished", "abcdefghijklmnopq", "", "", NO_AGENT),
     ("GET /unfinished", "Ann",               "", "", NO_AGENT),
     ("GET /unfinished", "ann\r\nDesk-Agent: ann", "", "", NO_AGENT),

@@ -11,7 +11,7 @@ use std::slice;
 
 // the request, its agent, key and body, and its page
 #[rattlefmt::skip]
-const TURNED: [Asked; 6] = [
+static TURNED: [Asked; 6] = [
     ("POST /journeys/1/step",    "ann", "k3", "", ("200 OK", "", 49, r#"{"item":"T1.1","journey":1,"pos":1,"state":"run"}"#)),
     ("POST /journeys/1/abort/0", "ann", "k4", "", ("200 OK", "", 60, r#"{"item":"B0a","journey":1,"pos":1,"state":"back","target":0}"#)),
     ("GET /journeys/1",          "ann", "",   "", ("200 OK", "", 72, r#"{"history":["T1.1","B0a"],"journey":1,"pos":1,"state":"back","target":0}"#)),
@@ -85,7 +85,7 @@ const SIX_FLIGHTS: &str = "kind,supplier,product,night,places\n\
 const SIX_LOADED: Page = ("200 OK", "", 23, r#"{"batch":"b1","rows":6}"#);
 
 #[rattlefmt::skip]
-const SIX_STEPS: [Step; 6] = [
+static SIX_STEPS: [Step; 6] = [
     ("flight", "AL", "A1", "2030-06-01", "false"),
     ("flight", "AL", "A2", "2030-06-01", "true"),
     ("flight", "AL", "A3", "2030-06-01", "false"),
@@ -95,7 +95,7 @@ const SIX_STEPS: [Step; 6] = [
 ];
 
 #[rattlefmt::skip]
-const AT_TWO: [Asked; 6] = [
+static AT_TWO: [Asked; 6] = [
     ("POST /journeys/1/step",    "ann", "k3", "", ("200 OK", "", 49, r#"{"item":"T1.1","journey":1,"pos":1,"state":"run"}"#)),
     ("POST /journeys/1/step",    "ann", "k4", "", ("200 OK", "", 49, r#"{"item":"T2.1","journey":1,"pos":2,"state":"run"}"#)),
     ("POST /journeys/1/abort/1", "ann", "k5", "", ("409 Conflict", "", 35, r#"{"name":"NoSavePoint","refused":11}"#)),
@@ -127,7 +127,7 @@ fn a_turn_that_is_cut_is_not_made(rt: HostRuntime) {
 }
 
 #[rattlefmt::skip]
-const OF_ANN: [Asked; 9] = [
+static OF_ANN: [Asked; 9] = [
     ("POST /journeys/1/step",    "bob", "k1", "", NO_JOURNEY),
     ("POST /journeys/1/abort/0", "bob", "k1", "", NO_JOURNEY),
     ("POST /journeys/1/save",    "bob", "k1", "", NO_JOURNEY),
@@ -161,7 +161,7 @@ fn another_agents_request_that_is_cut_gets_no_page(rt: HostRuntime) {
 const NO_SAVE: Page = ("409 Conflict", "", 30, r#"{"name":"NoSave","refused":28}"#);
 
 #[rattlefmt::skip]
-const SAVED: [Asked; 4] = [
+static SAVED: [Asked; 4] = [
     ("POST /journeys/1/save", "ann", "k3", "", NO_SAVE),
     ("POST /journeys/1/step", "ann", "k4", "", ("200 OK", "", 49, r#"{"item":"T1.1","journey":1,"pos":1,"state":"run"}"#)),
     ("POST /journeys/1/save", "ann", "k5", "", ("200 OK", "", 47, r#"{"item":"S1","journey":1,"pos":1,"state":"run"}"#)),
@@ -195,7 +195,7 @@ const ONE_SEAT: &str = "HTTP/1.1 200 OK\r\nContent-Length: 126\r\nContent-Type: 
     flight   AL       A1       2030-06-01     10      1      9\ncells 1\n";
 
 #[rattlefmt::skip]
-const ONE_TAKEN: [Asked; 1] = [
+static ONE_TAKEN: [Asked; 1] = [
     ("POST /journeys/1/step", "ann", "k3", "", ("200 OK", "", 51, r#"{"item":"T1.1","journey":1,"pos":1,"state":"ended"}"#)),
 ];
 

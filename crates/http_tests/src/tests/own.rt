@@ -35,7 +35,7 @@ const OF_BOB: Page = (
 
 // ann has ended journey 1 and begun journey 3, and bob has begun journey 2
 #[rattlefmt::skip]
-const OWN: [Asked; 13] = [
+static OWN: [Asked; 13] = [
     ("POST /journeys/1/step", "ann", "k9", "", ("200 OK", "", 51, r#"{"item":"T1.1","journey":1,"pos":1,"state":"ended"}"#)),
     ("GET /mine",             "ann", "",   "", BOTH),
     ("GET /mine/0",           "ann", "",   "", BOTH),
@@ -68,7 +68,7 @@ fn an_agent_sees_its_own_journeys_ended_ones_too(rt: HostRuntime) {
 
 // the house's own are those of the agent `desk`
 #[rattlefmt::skip]
-const OF_THE_HOUSE: [(&str, Page); 3] = [
+static OF_THE_HOUSE: [(&str, Page); 3] = [
     ("GET /mine",   ("200 OK", "", 61, r#"{"mine":[{"agent":"desk","journey":2,"pos":0,"state":"run"}]}"#)),
     ("GET /mine/1", ("200 OK", "", 61, r#"{"mine":[{"agent":"desk","journey":2,"pos":0,"state":"run"}]}"#)),
     ("GET /mine/2", NONE),
@@ -145,7 +145,7 @@ const SOME: Page = (
 
 // an agent asks, one whose name is malformed, and nobody
 #[rattlefmt::skip]
-const BY_ANYBODY: [Asked; 3] = [
+static BY_ANYBODY: [Asked; 3] = [
     ("GET /health",  "ann", "", "", SOME),
     ("GET /health",  "Ann", "", "", SOME),
     ("POST /health", "Ann", "", "", ONLY_GET),

@@ -14,7 +14,7 @@ const PLAN: Page = (
 
 // bodies that are the same plan
 #[rattlefmt::skip]
-const SPELLINGS: [(&str, &str); 4] = [
+static SPELLINGS: [(&str, &str); 4] = [
     ("as the desk shows it", r#"{"steps":[{"options":[{"count":2,"first":"2030-06-01","kind":"room","nights":3,"product":"DBL","supplier":"INN"}],"save":false}],"tries":1}"#),
     ("each member at another place", r#"{"tries":1,"steps":[{"save":false,"options":[{"supplier":"INN","product":"DBL","nights":3,"kind":"room","first":"2030-06-01","count":2}]}]}"#),
     ("with blanks and escapes", r#" {"steps" : [ {"options":[{"\u0063ount":2,"first":"2030-06-01","kind":"r\u006fom","nights":3,"product":"DBL","supplier":"\u0049NN"} ], "save":false }], "tries":1 } "#),
@@ -23,7 +23,7 @@ const SPELLINGS: [(&str, &str); 4] = [
 
 // bodies that are no plan, and their pages
 #[rattlefmt::skip]
-const NO_PLANS: [(&str, &str, Page); 9] = [
+static NO_PLANS: [(&str, &str, Page); 9] = [
     ("a seventh member", r#"{"steps":[{"options":[{"count":2,"first":"2030-06-01","kind":"room","nights":3,"product":"DBL","supplier":"INN","places":2}],"save":false}],"tries":1}"#, ("400 Bad Request", "", 55, r#"{"cause":"shape","name":"BadPlan","refused":5,"step":1}"#)),
     ("a name that comes twice in place of another", r#"{"steps":[{"options":[{"nights":2,"first":"2030-06-01","kind":"room","nights":3,"product":"DBL","supplier":"INN"}],"save":false}],"tries":1}"#, ("400 Bad Request", "", 55, r#"{"cause":"shape","name":"BadPlan","refused":5,"step":1}"#)),
     ("a number with a fraction", r#"{"steps":[{"options":[{"count":2,"first":"2030-06-01","kind":"room","nights":3,"product":"DBL","supplier":"INN"}],"save":false}],"tries":1.0}"#, ("400 Bad Request", "", 55, r#"{"cause":"tries","name":"BadPlan","refused":5,"step":0}"#)),
@@ -43,7 +43,7 @@ fn begin(rt: &impl Abort, alloc: Global, talk: &mut Talk, body: &str, page: Page
 
 #[test]
 fn a_plan_is_the_same_however_it_is_spelled(rt: HostRuntime) {
-    for (case, body) in SPELLINGS {
+    for &(case, body) in &SPELLINGS {
         let mut talk = Talk::new(rt.alloc());
         begin(&rt, rt.alloc(), &mut talk, body, JOURNEY_1);
         talk.ask(&rt, rt.alloc(), "GET /journeys/1/plan", "ann", "", b"");
@@ -54,7 +54,7 @@ fn a_plan_is_the_same_however_it_is_spelled(rt: HostRuntime) {
 
 #[test]
 fn a_body_that_is_no_plan_is_refused_with_its_cause(rt: HostRuntime) {
-    for (case, body, page) in NO_PLANS {
+    for &(case, body, page) in &NO_PLANS {
         let mut talk = Talk::new(rt.alloc());
         begin(&rt, rt.alloc(), &mut talk, body, page);
         is_answered(&rt, rt.alloc(), case, &talk);

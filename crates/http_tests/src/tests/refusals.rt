@@ -22,7 +22,7 @@ const ONLY_POST: Page = (
 );
 
 #[rattlefmt::skip]
-const LED_ASTRAY: [Asked; 10] = [
+static LED_ASTRAY: [Asked; 10] = [
     ("GET /nowhere",               "",    "",   "",  UNKNOWN_PATH),
     ("POST /stock/",               "ann", "k1", "x", UNKNOWN_PATH),
     ("GET /stock?a",               "ann", "",   "",  UNKNOWN_PATH),
@@ -36,7 +36,7 @@ const LED_ASTRAY: [Asked; 10] = [
 ];
 
 #[rattlefmt::skip]
-const BADLY_SAID: [Asked; 10] = [
+static BADLY_SAID: [Asked; 10] = [
     ("POST /journeys/01/step",     "ann", "k1", "",  BAD_BODY),
     ("POST /journeys/1/abort/100", "ann", "k1", "",  BAD_BODY),
     ("POST /journeys/\u{e9}/save", "ann", "k1", "",  BAD_BODY),
@@ -50,7 +50,7 @@ const BADLY_SAID: [Asked; 10] = [
 ];
 
 #[rattlefmt::skip]
-const BAD_ORDERS: [Asked; 4] = [
+static BAD_ORDERS: [Asked; 4] = [
     ("POST /journeys",   "ann", "k1", r#"{"steps":[]}"#,            ("400 Bad Request", "", 55, r#"{"cause":"shape","name":"BadPlan","refused":5,"step":0}"#)),
     ("POST /journeys",   "ann", "k1", r#"{"steps":[],"tries":10}"#, ("400 Bad Request", "", 55, r#"{"cause":"tries","name":"BadPlan","refused":5,"step":0}"#)),
     ("POST /journeys",   "ann", "k1", r#"{"steps":[],"tries":0}"#,  ("400 Bad Request", "", 55, r#"{"cause":"steps","name":"BadPlan","refused":5,"step":0}"#)),
@@ -96,7 +96,7 @@ fn a_refused_request_that_is_cut_gets_no_page(rt: HostRuntime) {
 
 // pages for HEAD requests are sent without their bodies
 #[rattlefmt::skip]
-const HEADS: [Asked; 4] = [
+static HEADS: [Asked; 4] = [
     ("HEAD /unfinished", "ann", "", "", ("405 Method Not Allowed", "Allow: GET\r\n",  34, "")),
     ("HEAD /journeys",   "ann", "", "", ("405 Method Not Allowed", "Allow: POST\r\n", 34, "")),
     ("HEAD /nowhere",    "ann", "", "", ("404 Not Found",          "",                34, "")),
