@@ -3,7 +3,7 @@ ghost use Rattle.std.specs.Prelude.{◌≡◌, false, None, IsTrue, IfOk};
 ghost use Rattle.sqlite_disk.specs.Memory.{memory_is_usable};
 
 use crate::sessions::Session;
-use sqlite::{Connection, Error, FileStore, Files, Options};
+use sqlite::{Alter, Connection, Error, FileStore, Files, Options};
 use sqlite_disk::{Disk, Memory};
 use std::alloc::Global;
 use std::io;
@@ -33,14 +33,37 @@ fn over_files(alloc: Global, files: Files<Memory>) -> Result<Connection<FileStor
     }
 }
 
-/// The database file of a connection, which is closed.
-fn close(conn: Connection<FileStore<Memory>>) -> Result<Memory, Error>
+/// A connection over files that do not fail, which is closed.
+trait ClosesDb {
+    /// The database file after that.
+    fn close_db(self) -> Result<Memory, Error>
+        ensures { IfOk result (λ db. IsTrue (memory_is_usable db)) };
+}
+
+impl ClosesDb for Connection<FileStore<Memory>> {
+    fn close_db(self) -> Result<Memory, Error> {
+        match self.close_files() {
+            Ok(Files { log: _, db }) => Ok(db),
+            Err(failed) => Err(failed.0),
+        }
+    }
+}
+
+/// Uses what was opened for a session, and closes it. Returns the database file. It is proved for any store.
+fn db_after<R, S: Alter + Drop, T: Session<R>>(
+    rt: &R,
+    alloc: Global,
+    opened: Result<Connection<S>, Error>,
+    session: &mut T,
+) -> Result<Memory, Fail>
+where
+    Connection<S>: ClosesDb,
+    requires outside { IfOk opened (λ c. c.in_transaction ≡ false) }
+    requires unlimited { IfOk opened (λ c. c.step_limit ≡ None) }
+
     ensures { IfOk result (λ db. IsTrue (memory_is_usable db)) }
 {
-    match conn.close_files() {
-        Ok(Files { log: _, db }) => Ok(db),
-        Err(failed) => Err(failed.0),
-    }
+    Ok(session.run(rt, alloc, opened?)?.close_db()?)
 }
 
 /// The files of a database that is not open.
@@ -93,8 +116,7 @@ impl ClosedFile {
             log: self.log,
             db: self.db,
         };
-        let conn = session.run(rt, alloc, over_files(alloc, files)?)?;
-        let db = close(conn)?;
+        let db = db_after(rt, alloc, over_files(alloc, files), session)?;
         Ok(ClosedFile {
             log: Memory::new(alloc),
             db,
