@@ -128,9 +128,10 @@ says "the scripts" "2 passed, 0 failed, 1 skipped"
 says "a part of a long script" "long: 2/3"
 says "a short script" "good: whole"
 says "what is left out" "left out until their turn:"
+says "the turns" "a round of mutants takes 30 landings"
 same "no mutant stands in the copy" "" "$(grep '\.edit$' "$FAKE/files")"
 find . -type f ! -path './*/out/*' ! -path './out/*' ! -path './.git/*' ! -name '*.edit' ! -name '*.pyc' | sort >"$work/files"
-left=$(sed -n 's/.*left out until their turn: //p' "$work/said" | tr -d '(),' | tr ' ' '\n' | grep -E '^(bench|[a-z]+_tests)$')
+left=$(sed -n 's/.*left out until their turn: //p' "$work/said" | tr -d ',' | tr ' ' '\n' | grep -E '^(bench|[a-z]+_tests)$')
 same "each other file stands in the copy" "" "$(grep -vFf <(sed 's,.*,crates/&/,' <<<"${left:-none}") "$work/files" | diff - "$FAKE/files")"
 same "nothing of the run is left" "gate.lock" "$(ls out)"
 

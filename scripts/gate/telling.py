@@ -8,14 +8,23 @@ def counted(tables, mutants):
     return ", ".join(f"{name} {len(found)} of {len(tables.mutants[name])}" for name, found in mutants.items()) or "none"
 
 
+def named(part):
+    """Returns the words for a part (NAME, K, N) of a crate's mutants."""
+    name, k, n = part
+    return name if n == 1 else f"{name} ({k} of {n})"
+
+
 def tell_choice(tables, lanes, number, since, choice, say):
     """Says what a landing tries, and of what it leaves out when that has its turn."""
     changed = " ".join(name for name in tables.uses if name in choice.changed) or "no crate"
     say(f"landing {number}, compared with {since[:8] or 'nothing'}: sources changed in {changed}")
     say(f"mutants: {sum(map(len, choice.mutants.values()))} of {sum(map(len, tables.mutants.values()))}: {counted(tables, choice.mutants)}")
-    left_out = [name for name in tables.uses if name not in choice.crates]
-    turns = test_turns(tables, lanes)
-    say("left out until their turn: " + (", ".join(f"{name} (landing {landing_of(turns, name, number)})" for name in left_out) or "no crate"))
+    mutants, tests = mutant_turns(tables, lanes), test_turns(tables, lanes)
+    say(f"a round of mutants takes {len(mutants)} landings, one of tests {len(tests)}")
+    later = sorted((landing_of(mutants, part, number), named(part)) for share in mutants for part in share)
+    say("mutants by turns, with the landing: " + ", ".join(f"{name} {at}" for at, name in later))
+    left_out = [(landing_of(tests, name, number), name) for name in tables.uses if name not in choice.crates]
+    say("left out until their turn: " + (", ".join(f"{name} {at}" for at, name in sorted(left_out)) or "no crate"))
     parts = {name: part for name, part in choice.scripts.items() if part[1] > 1}
     say("scripts in part: " + (", ".join(f"{name} {k} of {n}" for name, (k, n) in parts.items()) or "none"))
 
@@ -25,7 +34,7 @@ def tell_turns(tables, lanes, number, say):
     mutants, tests = mutant_turns(tables, lanes), test_turns(tables, lanes)
     say(f"with {lanes} checks side by side a round of mutants takes {len(mutants)} landings, one of tests {len(tests)}")
     for at in range(number, number + max(len(mutants), len(tests))):
-        tried = ", ".join(name if n == 1 else f"{name} ({k} of {n})" for name, k, n in mutants[(at - 1) % len(mutants)])
+        tried = ", ".join(map(named, mutants[(at - 1) % len(mutants)]))
         say(f"landing {at}: mutants of {tried or 'no crate'}; {' '.join(tests[(at - 1) % len(tests)])}")
     return 0
 

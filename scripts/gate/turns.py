@@ -1,4 +1,4 @@
-"""Whose turn it is: what gates take in turn is dealt to as many landings as a round has, and each landing takes its share.
+"""Whose turn it is: what gates take in turn is laid out over as many landings as a round has, and each landing takes its share.
 
 Nothing here is kept between gates. The share follows from the number of the landing, the tables and the number of checks
 side by side, so who has its turn when can be computed for any landing.
@@ -16,14 +16,14 @@ LONGEST = 12
 TEST_MINUTES = 5
 
 
-def deal(minutes, count):
-    """Deals things to so many landings, those that take longest first, each to the landing that has least."""
+def lay_out(minutes, count):
+    """Lays things out over so many landings, in their order, each where the middle of its minutes falls. So minutes that change a little,
+    or a thing more, move others by a landing at most, and each still has its turn in a round, or in the next one."""
     shares = [[] for _ in range(count)]
-    spent = [0.0] * count
-    for name in sorted(minutes, key=lambda it: (-minutes[it], str(it))):
-        least = spent.index(min(spent))
-        shares[least].append(name)
-        spent[least] += minutes[name]
+    whole, at = sum(minutes.values()), 0.0
+    for name, taken in minutes.items():
+        shares[min(count - 1, int((at + taken / 2) / whole * count))].append(name)
+        at += taken
     return shares
 
 
@@ -48,13 +48,13 @@ def mutant_parts(tables, lanes):
 
 def mutant_turns(tables, lanes):
     """Returns, landing by landing of a round, the parts of mutants that have their turn."""
-    return deal(mutant_parts(tables, lanes), mutant_landings(lanes))
+    return lay_out(mutant_parts(tables, lanes), mutant_landings(lanes))
 
 
 def test_turns(tables, lanes):
     """Returns, landing by landing of a round, the crates of tests, and others of that kind, that have their turn."""
     minutes = {name: tables.proof(name) + tables.tests(name) for name in tables.by_turns()}
-    return deal(minutes, max(1, min(ROUND, ceil(sum(minutes.values()) / (TEST_MINUTES * lanes)))))
+    return lay_out(minutes, max(1, min(ROUND, ceil(sum(minutes.values()) / (TEST_MINUTES * lanes)))))
 
 
 def share_of(turns, landing):
