@@ -2,6 +2,8 @@
 
 import subprocess
 
+from tables import crate_lines
+
 
 class Unknown(Exception):
     """The revision is not known, or there is no git."""
@@ -50,11 +52,7 @@ def changed_crates(tables, since):
 
 def changed_lines(tables, since):
     """Returns the crates whose line of crates.txt is not as in the revision."""
-    old = {}
-    for line in git(tables.top, "show", f"{since}:crates.txt").splitlines():
-        head, colon, tail = line.partition("#")[0].partition(":")
-        if colon:
-            old[head.split()[0]] = tail.split()
+    old = crate_lines(git(tables.top, "show", f"{since}:crates.txt"))
     return {name for name, depends in tables.depends.items() if old.get(name) != depends}
 
 

@@ -13,7 +13,7 @@ from turns import mutant_turns, mutants_in, part_of_script, share_of, test_turns
 
 # The minutes of each processor that mutants, and crates of tests, of what has changed may take beyond the turn's share.
 CHANGED_MINUTES = 4
-# The crates up to which a first look proves, the core and its tests; and the minutes over a trial program below which it takes a script.
+# The crates up to which a first look proves, the core and the tests of its lower crates; and the minutes over a trial program below which it takes a script.
 CORE, SHORT = ("saga_core", "plan_tests", "command_tests"), 1.5
 
 
@@ -44,7 +44,7 @@ def everything(tables):
 
 
 def first_look(tables):
-    """Returns the choice of a first look: the core with its tests, and the short scripts over a trial program."""
+    """Returns the choice of a first look: the core with the tests of its lower crates, and the short scripts over a trial program."""
     scripts = {name: (1, 1) for name in tables.scripts if tables.script_over_trial(name) < SHORT}
     return Choice(tables.below(*(name for name in CORE if name in tables.uses)), scripts=scripts, over_trial=True)
 

@@ -5,7 +5,7 @@ from datetime import date
 from changes import Unknown, git, landed_before
 
 FILE = "docs/landings.tsv"
-# What a session has landed is committed at most so many hours before the gate begins.
+# The commits of a landing are at most so many hours old when its gate begins.
 HOURS = 4
 
 
@@ -16,7 +16,7 @@ def lines_of(text):
 
 
 def landed_lines(top):
-    """Returns the lines that had landed before this session, and the newest commit of then; no lines where history does not tell."""
+    """Returns the lines that had landed before these commits, and the newest commit of then; no lines where history does not tell."""
     try:
         before = landed_before(top, HOURS)
         return (lines_of(git(top, "show", f"{before}:{FILE}")) if before else []), before

@@ -84,13 +84,19 @@ class Tables:
         return max(1, int(self.number(name, 1, 1.0)))
 
 
-def read_crates(path):
-    """Reads crates.txt: returns, lowest first, what each crate stands on of this repository, and its whole line."""
+def crate_lines(text):
+    """Returns, from the text of crates.txt, what each crate stands on, of this repository and of the kit."""
     lines = {}
-    for line in path.read_text(encoding="utf-8").splitlines():
+    for line in text.splitlines():
         head, colon, tail = line.partition("#")[0].partition(":")
         if colon:
             lines[head.split()[0]] = tail.split()
+    return lines
+
+
+def read_crates(path):
+    """Reads crates.txt: returns, lowest first, what each crate stands on of this repository, and its whole line."""
+    lines = crate_lines(path.read_text(encoding="utf-8"))
     ordered = {}
 
     def visit(name):
