@@ -1,6 +1,6 @@
 //! Connections to a port of this host, and to a Unix socket, served over the database in a file.
-ghost use Rattle.std.specs.Prelude.{◌≡◌, ◌≢◌, false, None, IfErr, IsErrOf, IsTrue, OnOk};
-ghost use Rattle.saga_core.specs.Books.{LeavesNoMore};
+ghost use Rattle.std.specs.Prelude.{◌≡◌, ◌≢◌, false, None, IfErr, OnOk};
+ghost use Rattle.saga_core.specs.Calls.{Serves};
 ghost use Rattle.http_sockets.specs.Going.{GoOnBySome};
 ghost use Rattle.program_ends.specs.Ends.{EndsJob, IfDone};
 ghost use Rattle.desk_jobs.specs.Notes.{MayNote};
@@ -199,12 +199,8 @@ fn listen<B: Book, O: Write>(
 
     ensures served { OnOk result (GoOnBySome (B.is_sound book.new) (B.stands book.old)
         (B.stands book.new) (B.leaves book.new) false) }
-    ensures failed { IsErrOf result ProgramFault.Store → IsTrue (B.has_failed book.new) }
-    ensures stays_failed { IsTrue (B.has_failed book.old) → IsTrue (B.has_failed book.new) }
-    ensures stays_left { IsTrue (B.has_failed book.old) →
-        LeavesNoMore (B.leaves book.old) (B.leaves book.new) }
-
-    ensures sound { B.is_sound book.new → B.is_sound book.old }
+    ensures serves { Serves B.is_sound B.leaves B.has_failed book.old book.new
+        ProgramFault.Store result }
 {
     match send_ready(alloc, port, out) {
         Ok(()) => serve_all(alloc, sockets, book),
@@ -220,12 +216,8 @@ fn serve_all<B: Book>(
 ) -> Result<(), ProgramFault>
     ensures served { OnOk result (GoOnBySome (B.is_sound book.new) (B.stands book.old)
         (B.stands book.new) (B.leaves book.new) false) }
-    ensures failed { IsErrOf result ProgramFault.Store → IsTrue (B.has_failed book.new) }
-    ensures stays_failed { IsTrue (B.has_failed book.old) → IsTrue (B.has_failed book.new) }
-    ensures stays_left { IsTrue (B.has_failed book.old) →
-        LeavesNoMore (B.leaves book.old) (B.leaves book.new) }
-
-    ensures sound { B.is_sound book.new → B.is_sound book.old }
+    ensures serves { Serves B.is_sound B.leaves B.has_failed book.old book.new
+        ProgramFault.Store result }
 {
     match serve_sockets(alloc, sockets, book) {
         Ok(()) if sockets.has_failed() => Err(ProgramFault::Net),

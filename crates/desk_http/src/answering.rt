@@ -1,7 +1,7 @@
 //! The page of a message.
-ghost use Rattle.std.specs.Prelude.{◌≡◌, ◌&&◌, ◌||◌, not, ℕ, List, is_some, IfErr, IfOk, IsErrOf, IsTrue};
+ghost use Rattle.std.specs.Prelude.{◌≡◌, ◌&&◌, ◌||◌, not, ℕ, List, is_some, IfErr, IfOk};
 ghost use Rattle.ledger.specs.Answer.{State};
-ghost use Rattle.saga_core.specs.Books.{LeavesNoMore};
+ghost use Rattle.saga_core.specs.Calls.{Serves};
 ghost use Rattle.http_messages.specs.Requests.{IsRequest, IsTaken};
 ghost use Rattle.http_messages.specs.Heads.{Parts};
 ghost use Rattle.http_messages.specs.Messages as sent;
@@ -79,12 +79,8 @@ pub fn answer_to<B: Book>(
     ensures stops { IfOk result (λ answer. (m : sent.Message) → IsTaken message.now m →
         answer.stops ≡ stops door m) }
 
-    ensures failed { IsErrOf result ServeFault.Store → IsTrue (B.has_failed book.new) }
-    ensures stays_failed { IsTrue (B.has_failed book.old) → IsTrue (B.has_failed book.new) }
-    ensures stays_left { IsTrue (B.has_failed book.old) →
-        LeavesNoMore (B.leaves book.old) (B.leaves book.new) }
-
-    ensures sound { B.is_sound book.new → B.is_sound book.old }
+    ensures serves { Serves B.is_sound B.leaves B.has_failed book.old book.new
+        ServeFault.Store result }
 {
     match message {
         Message::NoHead => {
@@ -155,12 +151,8 @@ fn page_of<B: Book>(
         refusal ≡ refusal_at door parts →
         Tells (B.stands book.new) (B.leaves book.new) s door parts body result }
 
-    ensures failed { IsErrOf result ServeFault.Store → IsTrue (B.has_failed book.new) }
-    ensures stays_failed { IsTrue (B.has_failed book.old) → IsTrue (B.has_failed book.new) }
-    ensures stays_left { IsTrue (B.has_failed book.old) →
-        LeavesNoMore (B.leaves book.old) (B.leaves book.new) }
-
-    ensures sound { B.is_sound book.new → B.is_sound book.old }
+    ensures serves { Serves B.is_sound B.leaves B.has_failed book.old book.new
+        ServeFault.Store result }
 {
     if let Some(why) = &refusal {
         return Ok(refused_page(alloc, why)?);
@@ -177,12 +169,8 @@ fn meet<B: Book>(alloc: Global, demand: &Demand, book: &mut B) -> Result<Page, S
     ensures page { B.is_sound book.new → (s : State) → B.stands book.old s →
         Meets (B.stands book.new) (B.leaves book.new) s (demand_said demand.now) result }
 
-    ensures failed { IsErrOf result ServeFault.Store → IsTrue (B.has_failed book.new) }
-    ensures stays_failed { IsTrue (B.has_failed book.old) → IsTrue (B.has_failed book.new) }
-    ensures stays_left { IsTrue (B.has_failed book.old) →
-        LeavesNoMore (B.leaves book.old) (B.leaves book.new) }
-
-    ensures sound { B.is_sound book.new → B.is_sound book.old }
+    ensures serves { Serves B.is_sound B.leaves B.has_failed book.old book.new
+        ServeFault.Store result }
 {
     match demand {
         Demand::Carry(command, ask) => {

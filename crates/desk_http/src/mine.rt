@@ -1,9 +1,9 @@
 //! The own journeys of who asks, finished ones too. A view changes nothing.
-ghost use Rattle.std.specs.Prelude.{◌≡◌, IfOk, IsErrOf, IsTrue};
+ghost use Rattle.std.specs.Prelude.{◌≡◌, IfOk};
 ghost use Rattle.std.specs.String.{string_bytes};
 ghost use Rattle.serde_json.specs.Written.{compact_text};
 ghost use Rattle.ledger.specs.Answer.{State};
-ghost use Rattle.saga_core.specs.Books.{LeavesNoMore};
+ghost use Rattle.saga_core.specs.Calls.{Serves};
 ghost use Rattle.http_pages.specs.Pages.{page_said, value_page};
 ghost use Rattle.desk_http.specs.Answering.{Shows};
 ghost use Rattle.desk_http.specs.Pages.{mine_of, mine_shown};
@@ -29,12 +29,8 @@ pub(crate) fn see_mine<B: Book>(
         page_said page
         ≡ value_page (mine_shown asker.now (mine_of s.ledger asker.now after))) result }
 
-    ensures failed { IsErrOf result ServeFault.Store → IsTrue (B.has_failed book.new) }
-    ensures stays_failed { IsTrue (B.has_failed book.old) → IsTrue (B.has_failed book.new) }
-    ensures stays_left { IsTrue (B.has_failed book.old) →
-        LeavesNoMore (B.leaves book.old) (B.leaves book.new) }
-
-    ensures sound { B.is_sound book.new → B.is_sound book.old }
+    ensures serves { Serves B.is_sound B.leaves B.has_failed book.old book.new
+        ServeFault.Store result }
 {
     let briefs = mine_above(alloc, book, asker, after)?;
     let body = body_of(alloc, asker, &briefs)?;
@@ -63,12 +59,8 @@ fn mine_above<B: Book>(
         Shows (B.stands book.new) (B.leaves book.new) s
         (λ briefs. briefs.items ≡ mine_of s.ledger asker.now after) result }
 
-    ensures failed { IsErrOf result ServeFault.Store → IsTrue (B.has_failed book.new) }
-    ensures stays_failed { IsTrue (B.has_failed book.old) → IsTrue (B.has_failed book.new) }
-    ensures stays_left { IsTrue (B.has_failed book.old) →
-        LeavesNoMore (B.leaves book.old) (B.leaves book.new) }
-
-    ensures sound { B.is_sound book.new → B.is_sound book.old }
+    ensures serves { Serves B.is_sound B.leaves B.has_failed book.old book.new
+        ServeFault.Store result }
 {
     let owner = asker.owner();
     let mut briefs = Vec::new(alloc);

@@ -8,11 +8,11 @@ ghost use Rattle.desk_http.specs.Pages.{journey_page, plan_page, own_journey, ow
 ghost use Rattle.http_pages.specs.Bodies.{health_data};
 ghost use Rattle.http_pages.specs.Pages.{page_said, value_page};
 ghost use Rattle.ledger.specs.Answer.{State};
-ghost use Rattle.saga_core.specs.Books.{LeavesNoMore};
+ghost use Rattle.saga_core.specs.Calls.{Serves};
 ghost use Rattle.saga_core.specs.Views.{counts_of};
 ghost use Rattle.serde_json.specs.Read.{read};
 ghost use Rattle.serde_json.specs.Written.{compact_text};
-ghost use Rattle.std.specs.Prelude.{◌≡◌, IfOk, IsErrOf, IsTrue};
+ghost use Rattle.std.specs.Prelude.{◌≡◌, IfOk};
 ghost use Rattle.std.specs.String.{string_bytes};
 
 use crate::demands::Unmet;
@@ -43,12 +43,8 @@ pub(crate) fn see_journey<B: Book>(
         Shows (B.stands book.new) (B.leaves book.new) s (λ page.
         page_said page ≡ journey_page s.ledger id (own_journey s.ledger asker.now id)) result }
 
-    ensures failed { IsErrOf result ServeFault.Store → IsTrue (B.has_failed book.new) }
-    ensures stays_failed { IsTrue (B.has_failed book.old) → IsTrue (B.has_failed book.new) }
-    ensures stays_left { IsTrue (B.has_failed book.old) →
-        LeavesNoMore (B.leaves book.old) (B.leaves book.new) }
-
-    ensures sound { B.is_sound book.new → B.is_sound book.old }
+    ensures serves { Serves B.is_sound B.leaves B.has_failed book.old book.new
+        ServeFault.Store result }
 {
     match book.trace(id)? {
         Some(trace) if asker.sees(&trace.brief.agent) => {
@@ -70,12 +66,8 @@ pub(crate) fn see_plan<B: Book>(
         Shows (B.stands book.new) (B.leaves book.new) s (λ page.
         page_said page ≡ plan_page (own_journey s.ledger asker.now id)) result }
 
-    ensures failed { IsErrOf result ServeFault.Store → IsTrue (B.has_failed book.new) }
-    ensures stays_failed { IsTrue (B.has_failed book.old) → IsTrue (B.has_failed book.new) }
-    ensures stays_left { IsTrue (B.has_failed book.old) →
-        LeavesNoMore (B.leaves book.old) (B.leaves book.new) }
-
-    ensures sound { B.is_sound book.new → B.is_sound book.old }
+    ensures serves { Serves B.is_sound B.leaves B.has_failed book.old book.new
+        ServeFault.Store result }
 {
     let Some(journey) = own_journey(book, asker, id)? else {
         return Ok(refused_page(alloc, &Refusal::NoJourney)?);
@@ -90,12 +82,8 @@ fn own_journey<B: Book>(book: &mut B, asker: &Asker, id: u64) -> Result<Option<R
         Shows (B.stands book.new) (B.leaves book.new) s
         (λ found. found ≡ own_journey s.ledger asker.now id) result }
 
-    ensures failed { IsErrOf result ServeFault.Store → IsTrue (B.has_failed book.new) }
-    ensures stays_failed { IsTrue (B.has_failed book.old) → IsTrue (B.has_failed book.new) }
-    ensures stays_left { IsTrue (B.has_failed book.old) →
-        LeavesNoMore (B.leaves book.old) (B.leaves book.new) }
-
-    ensures sound { B.is_sound book.new → B.is_sound book.old }
+    ensures serves { Serves B.is_sound B.leaves B.has_failed book.old book.new
+        ServeFault.Store result }
 {
     match book.journey(id)? {
         Some(journey) if asker.sees(&journey.agent) => Ok(Some(journey)),
@@ -114,12 +102,8 @@ pub(crate) fn see_unfinished<B: Book>(
         page_said page
         ≡ value_page (unfinished_shown asker.now (own_unfinished s.ledger asker.now))) result }
 
-    ensures failed { IsErrOf result ServeFault.Store → IsTrue (B.has_failed book.new) }
-    ensures stays_failed { IsTrue (B.has_failed book.old) → IsTrue (B.has_failed book.new) }
-    ensures stays_left { IsTrue (B.has_failed book.old) →
-        LeavesNoMore (B.leaves book.old) (B.leaves book.new) }
-
-    ensures sound { B.is_sound book.new → B.is_sound book.old }
+    ensures serves { Serves B.is_sound B.leaves B.has_failed book.old book.new
+        ServeFault.Store result }
 {
     let briefs = own_unfinished(book, asker)?;
     let body = body_of(alloc, asker, &briefs)?;
@@ -143,12 +127,8 @@ fn own_unfinished<B: Book>(book: &mut B, asker: &Asker) -> Result<Vec<Brief>, Se
         Shows (B.stands book.new) (B.leaves book.new) s
         (λ briefs. briefs.items ≡ own_unfinished s.ledger asker.now) result }
 
-    ensures failed { IsErrOf result ServeFault.Store → IsTrue (B.has_failed book.new) }
-    ensures stays_failed { IsTrue (B.has_failed book.old) → IsTrue (B.has_failed book.new) }
-    ensures stays_left { IsTrue (B.has_failed book.old) →
-        LeavesNoMore (B.leaves book.old) (B.leaves book.new) }
-
-    ensures sound { B.is_sound book.new → B.is_sound book.old }
+    ensures serves { Serves B.is_sound B.leaves B.has_failed book.old book.new
+        ServeFault.Store result }
 {
     let mut briefs = book.unfinished()?;
     briefs.retain(|brief| asker.sees(&brief.agent));
@@ -161,12 +141,8 @@ pub(crate) fn see_stock<B: Book>(alloc: Global, book: &mut B) -> Result<Page, Se
         Shows (B.stands book.new) (B.leaves book.new) s
         (λ page. ShowsStock s.ledger (page_said page)) result }
 
-    ensures failed { IsErrOf result ServeFault.Store → IsTrue (B.has_failed book.new) }
-    ensures stays_failed { IsTrue (B.has_failed book.old) → IsTrue (B.has_failed book.new) }
-    ensures stays_left { IsTrue (B.has_failed book.old) →
-        LeavesNoMore (B.leaves book.old) (B.leaves book.new) }
-
-    ensures sound { B.is_sound book.new → B.is_sound book.old }
+    ensures serves { Serves B.is_sound B.leaves B.has_failed book.old book.new
+        ServeFault.Store result }
 {
     let rows = book.stock()?;
     let mut text = Vec::new(alloc);
@@ -182,12 +158,8 @@ pub(crate) fn see_health<B: Book>(alloc: Global, book: &mut B) -> Result<Page, S
         Shows (B.stands book.new) (B.leaves book.new) s
         (λ page. page_said page ≡ value_page (health_data (counts_of s.ledger))) result }
 
-    ensures failed { IsErrOf result ServeFault.Store → IsTrue (B.has_failed book.new) }
-    ensures stays_failed { IsTrue (B.has_failed book.old) → IsTrue (B.has_failed book.new) }
-    ensures stays_left { IsTrue (B.has_failed book.old) →
-        LeavesNoMore (B.leaves book.old) (B.leaves book.new) }
-
-    ensures sound { B.is_sound book.new → B.is_sound book.old }
+    ensures serves { Serves B.is_sound B.leaves B.has_failed book.old book.new
+        ServeFault.Store result }
 {
     let counts = book.counts()?;
     let body = health_body(alloc, counts)?;

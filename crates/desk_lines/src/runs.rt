@@ -7,11 +7,11 @@ ghost use Rattle.desk_lines.specs.Serving.{AnswersAll, AnswersSome};
 ghost use Rattle.desk_lines.specs.Worlds.{GoesOnAmongLines, asks_in, asks_meant};
 ghost use Rattle.ledger.specs.Answer.{State};
 ghost use Rattle.protocols.specs.Scenes.{scene};
-ghost use Rattle.saga_core.specs.Books.{LeavesNoMore};
+ghost use Rattle.saga_core.specs.Calls.{Serves};
 ghost use Rattle.saga_core.specs.Reasons.{ActsOnAfter, FailsAmong};
 ghost use Rattle.saga_core.specs.Worlds.{GoesOnWith};
 ghost use Rattle.std.specs.Io.KnownBytes.{IsAtEnd};
-ghost use Rattle.std.specs.Prelude.{◌≡◌, IfOk, IfErr, IfSome, IsErrOf, IsTrue, OnOk, List, ℕ, []};
+ghost use Rattle.std.specs.Prelude.{◌≡◌, IfOk, IfErr, IfSome, IsErrOf, OnOk, List, ℕ, []};
 
 use crate::orders::{Order, order_of};
 use crate::unread::Unread;
@@ -50,18 +50,14 @@ pub fn run_lines<R: Read, W: Write, B: Book>(
         IfErr result (GoesOnAmongLines (B.stands book.old)
         (scene (W.contents writer.old) (W.contents writer.new)
         (B.stands book.new) (B.leaves book.new)) input)) }
-    ensures failed { IsErrOf result ServeFault.Store → IsTrue (B.has_failed book.new) }
-    ensures stays_failed { IsTrue (B.has_failed book.old) → IsTrue (B.has_failed book.new) }
-    ensures stays_left { IsTrue (B.has_failed book.old) →
-        LeavesNoMore (B.leaves book.old) (B.leaves book.new) }
+    ensures serves { Serves B.is_sound B.leaves B.has_failed book.old book.new
+        ServeFault.Store result }
     ensures may_act { B.is_sound book.new → (first : B) → OnOk result
         (IfSome (R.remaining reader.old) (λ input. ActsOnAfter
         (B.may_act first book.old) (B.may_act first book.new) (asks_in (lines input)))) }
     ensures reason { B.is_sound book.new → (first : B) → IsErrOf result ServeFault.Store →
         IfSome (R.remaining reader.old) (λ input. FailsAmong
         (B.may_act first book.old) (B.has_reason first book.new) (asks_in (lines input))) }
-
-    ensures sound { B.is_sound book.new → B.is_sound book.old }
 {
     answer_input(alloc, reader, writer, book)
 }
@@ -83,18 +79,14 @@ fn answer_input<R: Read, W: Write, B: Book>(
         IfSome (R.remaining reader.old) (λ input. IfErr result (AnswersSome
         (scene (W.contents writer.old) (W.contents writer.new)
         (B.stands book.new) (B.leaves book.new)) s input)) }
-    ensures failed { IsErrOf result ServeFault.Store → IsTrue (B.has_failed book.new) }
-    ensures stays_failed { IsTrue (B.has_failed book.old) → IsTrue (B.has_failed book.new) }
-    ensures stays_left { IsTrue (B.has_failed book.old) →
-        LeavesNoMore (B.leaves book.old) (B.leaves book.new) }
+    ensures serves { Serves B.is_sound B.leaves B.has_failed book.old book.new
+        ServeFault.Store result }
     ensures may_act { B.is_sound book.new → (first : B) → OnOk result
         (IfSome (R.remaining reader.old) (λ input. ActsOnAfter
         (B.may_act first book.old) (B.may_act first book.new) (asks_in (lines input)))) }
     ensures reason { B.is_sound book.new → (first : B) → IsErrOf result ServeFault.Store →
         IfSome (R.remaining reader.old) (λ input. FailsAmong
         (B.may_act first book.old) (B.has_reason first book.new) (asks_in (lines input))) }
-
-    ensures sound { B.is_sound book.new → B.is_sound book.old }
 {
     let mut unread = Unread::new(alloc)?;
     let mut line = Line::new(alloc);
@@ -118,18 +110,14 @@ pub(crate) fn answer<B: Book>(
         (text : List ℕ) → Keeps line.now text →
         AnswersLine (B.stands book.new) (B.leaves book.new) s text result }
 
-    ensures failed { IsErrOf result ServeFault.Store → IsTrue (B.has_failed book.new) }
-    ensures stays_failed { IsTrue (B.has_failed book.old) → IsTrue (B.has_failed book.new) }
-    ensures stays_left { IsTrue (B.has_failed book.old) →
-        LeavesNoMore (B.leaves book.old) (B.leaves book.new) }
+    ensures serves { Serves B.is_sound B.leaves B.has_failed book.old book.new
+        ServeFault.Store result }
     ensures may_act { B.is_sound book.new → (first : B) → (text : List ℕ) → Keeps line.now text →
         OnOk result (ActsOnAfter (B.may_act first book.old) (B.may_act first book.new)
         (asks_meant (meaning_in text))) }
     ensures reason { B.is_sound book.new → (first : B) → (text : List ℕ) → Keeps line.now text →
         IsErrOf result ServeFault.Store → FailsAmong
         (B.may_act first book.old) (B.has_reason first book.new) (asks_meant (meaning_in text)) }
-
-    ensures sound { B.is_sound book.new → B.is_sound book.old }
 {
     let order = order_of(alloc, line)?;
     carry_out(alloc, &order, book)
@@ -140,18 +128,14 @@ fn carry_out<B: Book>(alloc: Global, order: &Order, book: &mut B) -> Result<Stri
     ensures answer { B.is_sound book.new → (s : State) → B.stands book.old s →
         AnswersOrder (B.stands book.new) (B.leaves book.new) s (meaning_of order.now) result }
 
-    ensures failed { IsErrOf result ServeFault.Store → IsTrue (B.has_failed book.new) }
-    ensures stays_failed { IsTrue (B.has_failed book.old) → IsTrue (B.has_failed book.new) }
-    ensures stays_left { IsTrue (B.has_failed book.old) →
-        LeavesNoMore (B.leaves book.old) (B.leaves book.new) }
+    ensures serves { Serves B.is_sound B.leaves B.has_failed book.old book.new
+        ServeFault.Store result }
     ensures may_act { B.is_sound book.new → (first : B) → OnOk result (ActsOnAfter
         (B.may_act first book.old) (B.may_act first book.new) (asks_meant (meaning_of order.now))) }
     ensures reason { B.is_sound book.new → (first : B) →
         IsErrOf result ServeFault.Store → FailsAmong
         (B.may_act first book.old) (B.has_reason first book.new)
         (asks_meant (meaning_of order.now)) }
-
-    ensures sound { B.is_sound book.new → B.is_sound book.old }
 {
     let mut text = match order {
         Order::Do(command) => book.act(command, None)?.line(alloc)?,

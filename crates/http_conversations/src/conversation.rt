@@ -5,9 +5,9 @@ ghost use Rattle.http_conversations.specs.History.{AnswersOne, GivesGoOn, HasNoG
 ghost use Rattle.http_conversations.specs.Leading.{GoesOn, has_broken};
 ghost use Rattle.http_conversations.specs.Talks.{history_of};
 ghost use Rattle.http_conversations.specs.declared.conversation.TheConstants.{MOST_READ, MOST_WAITING};
-ghost use Rattle.saga_core.specs.Books.{LeavesNoMore};
+ghost use Rattle.saga_core.specs.Calls.{Serves};
 ghost use Rattle.std.specs.Io.KnownBytes.{Appends, Consumes, IsAtEnd, Keeps};
-ghost use Rattle.std.specs.Prelude.{◌≡◌, ◌≢◌, ◌+◌, ◌<◌, ◌≤◌, ◌↔◌, ℕ, [], List, length, take, None, Ok, true, false, IfOk, OnErr, IsErrOf, IsTrue};
+ghost use Rattle.std.specs.Prelude.{◌≡◌, ◌≢◌, ◌+◌, ◌<◌, ◌≤◌, ◌↔◌, ℕ, [], List, length, take, None, Ok, true, false, IfOk, OnErr, IsTrue};
 
 use crate::talk::Talk;
 use commands::{Fault, MOST_BYTES};
@@ -107,13 +107,10 @@ impl Conversation {
             × (history self.new ≡ history self.old) × (book.new ≡ book.old) }
 
         ensures fault { OnErr result ((history self.new).stage ≡ Stage.Failed) }
-        ensures failed { IsErrOf result Fault.Store → IsTrue (B.has_failed book.new) }
-        ensures stays_failed { IsTrue (B.has_failed book.old) → IsTrue (B.has_failed book.new) }
-        ensures stays_left { IsTrue (B.has_failed book.old) →
-            LeavesNoMore (B.leaves book.old) (B.leaves book.new) }
+        ensures serves { Serves B.is_sound B.leaves B.has_failed book.old book.new
+            Fault.Store result }
 
         ensures second { second_of self.new ≡ second_of self.old }
-        ensures sound { B.is_sound book.new → B.is_sound book.old }
     {
         self.talk.answer(paths, book)
     }

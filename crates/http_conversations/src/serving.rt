@@ -1,8 +1,8 @@
 //! A conversation at the port with one reader and one writer, by the profile, until it is over.
-ghost use Rattle.std.specs.Prelude.{◌≡◌, ◌<◌, ◌≤◌, ◌↔◌, [], ℕ, List, length, true, Ok, IfOk, IfErr, IfSome, OnOk, IsErrOf, IsTrue};
+ghost use Rattle.std.specs.Prelude.{◌≡◌, ◌<◌, ◌≤◌, ◌↔◌, [], ℕ, List, length, true, Ok, IfOk, IfErr, IfSome, OnOk};
 ghost use Rattle.std.specs.Io.KnownBytes.{Consumes, IsAtEnd};
 ghost use Rattle.ledger.specs.Answer.{State};
-ghost use Rattle.saga_core.specs.Books.{LeavesNoMore};
+ghost use Rattle.saga_core.specs.Calls.{Serves};
 ghost use Rattle.protocols.specs.Faults.{IsOfReading};
 ghost use Rattle.protocols.specs.Scenes.{scene};
 ghost use Rattle.desk_http.specs.Serving.{ServesAll, ServesSome};
@@ -57,12 +57,8 @@ pub fn serve<R: Read, W: Write, B: Book>(
         IfErr result (GoesOnAmongMessages (B.stands book.old)
         (scene (W.contents writer.old) (W.contents writer.new)
         (B.stands book.new) (B.leaves book.new)) input)) }
-    ensures failed { IsErrOf result ServeFault.Store → IsTrue (B.has_failed book.new) }
-    ensures stays_failed { IsTrue (B.has_failed book.old) → IsTrue (B.has_failed book.new) }
-    ensures stays_left { IsTrue (B.has_failed book.old) →
-        LeavesNoMore (B.leaves book.old) (B.leaves book.new) }
-
-    ensures sound { B.is_sound book.new → B.is_sound book.old }
+    ensures serves { Serves B.is_sound B.leaves B.has_failed book.old book.new
+        ServeFault.Store result }
 {
     serve_book(alloc, reader, writer, book)
 }
@@ -83,12 +79,8 @@ fn serve_book<R: Read, W: Write, B: Book>(
         IfSome (R.remaining reader.old) (λ input. IfErr result (ServesSome
         (scene (W.contents writer.old) (W.contents writer.new)
         (B.stands book.new) (B.leaves book.new)) s input)) }
-    ensures failed { IsErrOf result ServeFault.Store → IsTrue (B.has_failed book.new) }
-    ensures stays_failed { IsTrue (B.has_failed book.old) → IsTrue (B.has_failed book.new) }
-    ensures stays_left { IsTrue (B.has_failed book.old) →
-        LeavesNoMore (B.leaves book.old) (B.leaves book.new) }
-
-    ensures sound { B.is_sound book.new → B.is_sound book.old }
+    ensures serves { Serves B.is_sound B.leaves B.has_failed book.old book.new
+        ServeFault.Store result }
 {
     let paths = Paths::new(alloc)?;
     let mut buffer = vec![in alloc; 0u8; MOST_READ]?;
@@ -116,12 +108,8 @@ fn serve_messages<R: Read, W: Write, B: Book>(
         IfSome (R.remaining reader.old) (λ input. IfErr result (ServesSome
         (scene (W.contents writer.old) (W.contents writer.new)
         (B.stands book.new) (B.leaves book.new)) s input)) }
-    ensures failed { IsErrOf result ServeFault.Store → IsTrue (B.has_failed book.new) }
-    ensures stays_failed { IsTrue (B.has_failed book.old) → IsTrue (B.has_failed book.new) }
-    ensures stays_left { IsTrue (B.has_failed book.old) →
-        LeavesNoMore (B.leaves book.old) (B.leaves book.new) }
-
-    ensures sound { B.is_sound book.new → B.is_sound book.old }
+    ensures serves { Serves B.is_sound B.leaves B.has_failed book.old book.new
+        ServeFault.Store result }
 {
     let mut conversation = Conversation::new(alloc, Door::Port, Way::Profile);
     for pages in 0..u64::MAX {
@@ -165,12 +153,8 @@ fn answer_next<R: Read, B: Book>(
     ensures door { (history conversation.new).door ≡ Door.Port }
     ensures way { (history conversation.new).way ≡ Way.Profile }
 
-    ensures failed { IsErrOf result ServeFault.Store → IsTrue (B.has_failed book.new) }
-    ensures stays_failed { IsTrue (B.has_failed book.old) → IsTrue (B.has_failed book.new) }
-    ensures stays_left { IsTrue (B.has_failed book.old) →
-        LeavesNoMore (B.leaves book.old) (B.leaves book.new) }
-
-    ensures sound { B.is_sound book.new → B.is_sound book.old }
+    ensures serves { Serves B.is_sound B.leaves B.has_failed book.old book.new
+        ServeFault.Store result }
 {
     for _ in 0..u64::MAX {
         match conversation.answer(paths, book) {

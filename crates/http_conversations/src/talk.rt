@@ -1,7 +1,7 @@
 //! What a conversation holds, and each step of it.
-ghost use Rattle.std.specs.Prelude.{◌≡◌, ◌≢◌, ◌+◌, ◌<◌, ◌≤◌, ℕ, [], List, length, take, drop, vec_capacity, None, Ok, true, false, IfOk, OnErr, IsErrOf, IsTrue};
+ghost use Rattle.std.specs.Prelude.{◌≡◌, ◌≢◌, ◌+◌, ◌<◌, ◌≤◌, ℕ, [], List, length, take, drop, vec_capacity, None, Ok, true, false, IfOk, OnErr};
 ghost use Rattle.std.specs.Io.KnownBytes.{Appends, Consumes, IsAtEnd, Keeps};
-ghost use Rattle.saga_core.specs.Books.{LeavesNoMore};
+ghost use Rattle.saga_core.specs.Calls.{Serves};
 ghost use Rattle.http_ways.specs.Reading.{IsFirstOfBy};
 ghost use Rattle.http_conversations.specs.Dates.{IsDated};
 ghost use Rattle.http_conversations.specs.Leading.{GoesOn, fault_by, has_broken};
@@ -125,13 +125,10 @@ impl Talk {
         ensures none { result ≡ Ok false → HasNoTurn (history_of self.old)
             × (history_of self.new ≡ history_of self.old) × (book.new ≡ book.old) }
 
-        ensures failed { IsErrOf result Fault.Store → IsTrue (B.has_failed book.new) }
-        ensures stays_failed { IsTrue (B.has_failed book.old) → IsTrue (B.has_failed book.new) }
-        ensures stays_left { IsTrue (B.has_failed book.old) →
-            LeavesNoMore (B.leaves book.old) (B.leaves book.new) }
+        ensures serves { Serves B.is_sound B.leaves B.has_failed book.old book.new
+            Fault.Store result }
 
         ensures second { self.new.second ≡ self.old.second }
-        ensures sound { B.is_sound book.new → B.is_sound book.old }
     {
         if !matches!(self.stage, Stage::Open) || !self.pending.is_empty() {
             return Ok(false);
@@ -166,13 +163,10 @@ impl Talk {
             self.old.second (history_of self.old) (history_of self.new) }
         ensures some { result ≢ Ok false }
 
-        ensures failed { IsErrOf result Fault.Store → IsTrue (B.has_failed book.new) }
-        ensures stays_failed { IsTrue (B.has_failed book.old) → IsTrue (B.has_failed book.new) }
-        ensures stays_left { IsTrue (B.has_failed book.old) →
-            LeavesNoMore (B.leaves book.old) (B.leaves book.new) }
+        ensures serves { Serves B.is_sound B.leaves B.has_failed book.old book.new
+            Fault.Store result }
 
         ensures second { self.new.second ≡ self.old.second }
-        ensures sound { B.is_sound book.new → B.is_sound book.old }
     {
         match answer_by(self.alloc, paths, self.door, self.second, arrived, book) {
             Ok(answer) => {

@@ -1,6 +1,6 @@
 //! A conversation over a reader and a writer of its own.
-ghost use Rattle.std.specs.Prelude.{◌≡◌, ◌≢◌, ◌+◌, ◌≤◌, [], length, IfErr, IfOk, IfSome, IsErrOf, IsTrue, OnErr, Ok, true, false};
-ghost use Rattle.saga_core.specs.Books.{LeavesNoMore};
+ghost use Rattle.std.specs.Prelude.{◌≡◌, ◌≢◌, ◌+◌, ◌≤◌, [], length, IfErr, IfOk, IfSome, OnErr, Ok, true, false};
+ghost use Rattle.saga_core.specs.Calls.{Serves};
 ghost use Rattle.http_conversations.specs.Conversations.{history};
 ghost use Rattle.http_conversations.specs.History.{HasNoTurn, IsServed, WantsRead, stops_by};
 ghost use Rattle.http_conversations.specs.Leading.{GoesOn, has_broken};
@@ -109,12 +109,8 @@ impl<R: Read + Drop, W: Write + Drop> Connection<R, W> {
             (since (exchanges_with self.old) (exchanges_with self.new)) }
 
         ensures broken { IfErr result (λ fault. fault ≡ Fault.Store) }
-        ensures failed { IsErrOf result Fault.Store → IsTrue (B.has_failed book.new) }
-        ensures stays_failed { IsTrue (B.has_failed book.old) → IsTrue (B.has_failed book.new) }
-        ensures stays_left { IsTrue (B.has_failed book.old) →
-            LeavesNoMore (B.leaves book.old) (B.leaves book.new) }
-
-        ensures sound { B.is_sound book.new → B.is_sound book.old }
+        ensures serves { Serves B.is_sound B.leaves B.has_failed book.old book.new
+            Fault.Store result }
     {
         if self.conversation.wants_write() {
             return Ok(self.push(buffer));
@@ -187,12 +183,8 @@ impl<R: Read + Drop, W: Write + Drop> Connection<R, W> {
             × (history self.new.conversation ≡ history self.old.conversation) }
         ensures arrival { arrival_of self.new ≡ arrival_of self.old }
 
-        ensures failed { IsErrOf result Fault.Store → IsTrue (B.has_failed book.new) }
-        ensures stays_failed { IsTrue (B.has_failed book.old) → IsTrue (B.has_failed book.new) }
-        ensures stays_left { IsTrue (B.has_failed book.old) →
-            LeavesNoMore (B.leaves book.old) (B.leaves book.new) }
-
-        ensures sound { B.is_sound book.new → B.is_sound book.old }
+        ensures serves { Serves B.is_sound B.leaves B.has_failed book.old book.new
+            Fault.Store result }
     {
         self.conversation.set_second(second);
         self.conversation.answer(paths, book)

@@ -6,8 +6,8 @@ ghost use Rattle.http_live.specs.Arrivals.{arrival, arrivals_at};
 ghost use Rattle.http_live.specs.Endings.{turn_stops};
 ghost use Rattle.http_live.specs.Resting.{Rests};
 ghost use Rattle.http_live.specs.Seats.{HasDoor, HasStopAt, connections_at, exchanges_at, received_at};
-ghost use Rattle.saga_core.specs.Books.{LeavesNoMore};
-ghost use Rattle.std.specs.Prelude.{◌≡◌, ◌∷◌, ◌++◌, ◌+◌, ◌≤◌, [], All, length, map, Ok, IfErr, IfOk, IfSome, IsErrOf, IsTrue};
+ghost use Rattle.saga_core.specs.Calls.{Serves};
+ghost use Rattle.std.specs.Prelude.{◌≡◌, ◌∷◌, ◌++◌, ◌+◌, ◌≤◌, [], All, length, map, Ok, IfErr, IfOk, IfSome};
 
 use crate::connection::Connection;
 use commands::Fault;
@@ -128,12 +128,8 @@ impl<R: Read + Drop, W: Write + Drop> Seat<R, W> {
             (since (exchanges_at self.old) (exchanges_at self.new)) }
 
         ensures broken { IfErr result (λ fault. fault ≡ Fault.Store) }
-        ensures failed { IsErrOf result Fault.Store → IsTrue (B.has_failed book.new) }
-        ensures stays_failed { IsTrue (B.has_failed book.old) → IsTrue (B.has_failed book.new) }
-        ensures stays_left { IsTrue (B.has_failed book.old) →
-            LeavesNoMore (B.leaves book.old) (B.leaves book.new) }
-
-        ensures sound { B.is_sound book.new → B.is_sound book.old }
+        ensures serves { Serves B.is_sound B.leaves B.has_failed book.old book.new
+            Fault.Store result }
     {
         let Some(connection) = &mut self.connection else {
             return Ok(Standing::Over);

@@ -6,8 +6,8 @@ ghost use Rattle.http_live.specs.Endings.{ends_stopped, has_stopped, ending_afte
 ghost use Rattle.http_live.specs.Merging.{Merges};
 ghost use Rattle.http_live.specs.Seats.{HasStopAmong, IsTaken, exchanges_at, received_at};
 ghost use Rattle.http_live.specs.Worlds.{WorldsGoOn};
-ghost use Rattle.saga_core.specs.Books.{LeavesNoMore};
-ghost use Rattle.std.specs.Prelude.{◌≡◌, ◌<◌, ◌≤◌, [], length, map, false, Ok, Err, Some, IfErr, IsErrOf, IsTrue};
+ghost use Rattle.saga_core.specs.Calls.{Serves};
+ghost use Rattle.std.specs.Prelude.{◌≡◌, ◌<◌, ◌≤◌, [], length, map, false, Ok, Err, Some, IfErr};
 ghost use Rattle.desk_http.specs.declared.doors.Door.{Door};
 ghost use Rattle.http_live.specs.Doors.{ComesByItsDoor, ComesByItsWay};
 ghost use Rattle.http_ways.specs.declared.ways.Way.{Way};
@@ -45,12 +45,7 @@ pub fn serve_many<T: Turns, B: Book>(
 
     ensures memory { result ≡ Err Fault.Memory →
         (seats.new ≡ seats.old) × (turns.new ≡ turns.old) × (book.new ≡ book.old) }
-    ensures failed { IsErrOf result Fault.Store → IsTrue (B.has_failed book.new) }
-    ensures stays_failed { IsTrue (B.has_failed book.old) → IsTrue (B.has_failed book.new) }
-    ensures stays_left { IsTrue (B.has_failed book.old) →
-        LeavesNoMore (B.leaves book.old) (B.leaves book.new) }
-
-    ensures sound { B.is_sound book.new → B.is_sound book.old }
+    ensures serves { Serves B.is_sound B.leaves B.has_failed book.old book.new Fault.Store result }
 {
     let Ok(paths) = Paths::new(alloc) else {
         return Err(Fault::Memory);
@@ -80,12 +75,7 @@ fn serve_turns<T: Turns, B: Book>(
     ensures ways { AreReadByTheirWays T.is_by seats.old → AreReadByTheirWays T.is_by seats.new }
 
     ensures broken { IfErr result (λ fault. fault ≡ Fault.Store) }
-    ensures failed { IsErrOf result Fault.Store → IsTrue (B.has_failed book.new) }
-    ensures stays_failed { IsTrue (B.has_failed book.old) → IsTrue (B.has_failed book.new) }
-    ensures stays_left { IsTrue (B.has_failed book.old) →
-        LeavesNoMore (B.leaves book.old) (B.leaves book.new) }
-
-    ensures sound { B.is_sound book.new → B.is_sound book.old }
+    ensures serves { Serves B.is_sound B.leaves B.has_failed book.old book.new Fault.Store result }
 {
     for _ in 0..u64::MAX {
         let ending = take_turn(alloc, paths, seats, buffer, turns, book)?;
@@ -116,12 +106,7 @@ fn take_turn<T: Turns, B: Book>(
     ensures ways { AreReadByTheirWays T.is_by seats.old → AreReadByTheirWays T.is_by seats.new }
 
     ensures broken { IfErr result (λ fault. fault ≡ Fault.Store) }
-    ensures failed { IsErrOf result Fault.Store → IsTrue (B.has_failed book.new) }
-    ensures stays_failed { IsTrue (B.has_failed book.old) → IsTrue (B.has_failed book.new) }
-    ensures stays_left { IsTrue (B.has_failed book.old) →
-        LeavesNoMore (B.leaves book.old) (B.leaves book.new) }
-
-    ensures sound { B.is_sound book.new → B.is_sound book.old }
+    ensures serves { Serves B.is_sound B.leaves B.has_failed book.old book.new Fault.Store result }
 {
     match turns.next_turn() {
         Turn::Comes(at, door, way, reader, writer) => {

@@ -1,8 +1,8 @@
 //! Serving sockets over a book, within limits.
 ghost use Rattle.http_conversations.specs.Leading.{has_broken};
 ghost use Rattle.http_sockets.specs.Going.{GoOnBySockets, GoOnBySome};
-ghost use Rattle.saga_core.specs.Books.{LeavesNoMore};
-ghost use Rattle.std.specs.Prelude.{◌≡◌, Err, IsErrOf, IsTrue};
+ghost use Rattle.saga_core.specs.Calls.{Serves};
+ghost use Rattle.std.specs.Prelude.{◌≡◌, Err};
 
 use crate::places::{ReadEnd, WriteEnd};
 use crate::sockets::Sockets;
@@ -39,12 +39,7 @@ pub fn serve_sockets<B: Book>(
 
     ensures memory { result ≡ Err Fault.Memory →
         (sockets.new ≡ sockets.old) × (book.new ≡ book.old) }
-    ensures failed { IsErrOf result Fault.Store → IsTrue (B.has_failed book.new) }
-    ensures stays_failed { IsTrue (B.has_failed book.old) → IsTrue (B.has_failed book.new) }
-    ensures stays_left { IsTrue (B.has_failed book.old) →
-        LeavesNoMore (B.leaves book.old) (B.leaves book.new) }
-
-    ensures sound { B.is_sound book.new → B.is_sound book.old }
+    ensures serves { Serves B.is_sound B.leaves B.has_failed book.old book.new Fault.Store result }
 {
     let Ok(mut seats) = empty_seats(alloc) else {
         return Err(Fault::Memory);

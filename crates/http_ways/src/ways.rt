@@ -2,12 +2,12 @@
 
 ghost use Rattle.http_ways.specs.Reading.{IsDueBy, IsFirstBy, IsFirstOfBy, IsRead};
 ghost use Rattle.http_wide_pages.specs.Pages.{go_on};
-ghost use Rattle.std.specs.Prelude.{◌≡◌, ◌↔◌, IfOk, IsTrue, ◌≤◌, length, IfErr, IsErrOf};
+ghost use Rattle.std.specs.Prelude.{◌≡◌, ◌↔◌, IfOk, IsTrue, ◌≤◌, length, IfErr};
 ghost use Rattle.http_messages.specs.Reading as profile;
 ghost use Rattle.http_wide_messages.specs.Messages.{IsFirstOf, IsOpen};
 ghost use Rattle.http_ways.specs.declared.ways.Way.TheVariants.{Profile, Wide};
 ghost use Rattle.ledger.specs.Answer.{State};
-ghost use Rattle.saga_core.specs.Books.{LeavesNoMore};
+ghost use Rattle.saga_core.specs.Calls.{Serves};
 ghost use Rattle.desk_http.specs.Pages.{closes, stops};
 ghost use Rattle.http_ways.specs.Pages.{AnswersAt, LaysOut, laid_out, shown_text};
 ghost use Rattle.http_ways.specs.Ways.{Said};
@@ -191,12 +191,8 @@ pub fn answer_by<B: Book>(
     ensures stops { IfOk result (λ answer. (x : Said) → IsRead arrived.now x →
         answer.stops ≡ stops door x.meant) }
 
-    ensures failed { IsErrOf result ServeFault.Store → IsTrue (B.has_failed book.new) }
-    ensures stays_failed { IsTrue (B.has_failed book.old) → IsTrue (B.has_failed book.new) }
-    ensures stays_left { IsTrue (B.has_failed book.old) →
-        LeavesNoMore (B.leaves book.old) (B.leaves book.new) }
-
-    ensures sound { B.is_sound book.new → B.is_sound book.old }
+    ensures serves { Serves B.is_sound B.leaves B.has_failed book.old book.new
+        ServeFault.Store result }
 {
     match answer_to(alloc, paths, door, &arrived.message, book) {
         Ok(answer) => lay_out(alloc, paths, door, second, arrived, answer),

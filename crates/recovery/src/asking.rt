@@ -1,6 +1,6 @@
 //! One command of recovery, sent by the house.
 ghost use Rattle.std.specs.Prelude.{IfOk, IfErr, ◌↔◌, ◌≡◌, IsTrue, IsErrOf, is_some};
-ghost use Rattle.saga_core.specs.Books.{LeavesNoMore};
+ghost use Rattle.saga_core.specs.Calls.{Stays};
 ghost use Rattle.saga_core.specs.Runs.{Asks};
 ghost use Rattle.recovery.specs.Asking.{phase_told, Stops, StopsOrNot, Steps, StepsOrNot};
 ghost use Rattle.recovery.specs.Reasons.{AfterMove, MayRecover, NoState};
@@ -25,9 +25,7 @@ pub fn stop<B: Book>(book: &mut B, id: u64) -> Result<bool, Fault>
     ensures fault { B.is_sound book.new →
         IfErr result (StopsOrNot (B.stands book.old) (B.stands book.new) (B.leaves book.new) id) }
     ensures failed { IsErrOf result Fault.Store ↔ IsTrue (B.has_failed book.new) }
-    ensures stays_failed { IsTrue (B.has_failed book.old) → IsTrue (B.has_failed book.new) }
-    ensures stays_left { IsTrue (B.has_failed book.old) →
-        LeavesNoMore (B.leaves book.old) (B.leaves book.new) }
+    ensures stays { Stays B.is_sound B.leaves B.has_failed book.old book.new }
     ensures may_act { B.is_sound book.new → (first : B) (later : Asks) → IfOk result (λ made. Stops
         (MayRecover (B.stands book.old) (B.may_act first book.old) later)
         (AfterMove (B.stands book.new) (B.may_act first book.new) later made) id made) }
@@ -35,7 +33,6 @@ pub fn stop<B: Book>(book: &mut B, id: u64) -> Result<bool, Fault>
         f ≡ Fault.Store →
         StopsOrNot (MayRecover (B.stands book.old) (B.may_act first book.old) later)
         NoState (B.has_reason first book.new) id Fault.Store) }
-    ensures sound { B.is_sound book.new → B.is_sound book.old }
 {
     let command = Command::Stop(id);
     match book.act(&command, None) {
@@ -52,9 +49,7 @@ pub fn step<B: Book>(book: &mut B, id: u64) -> Result<Option<Phase>, Fault>
     ensures fault { B.is_sound book.new →
         IfErr result (StepsOrNot (B.stands book.old) (B.stands book.new) (B.leaves book.new) id) }
     ensures failed { IsErrOf result Fault.Store ↔ IsTrue (B.has_failed book.new) }
-    ensures stays_failed { IsTrue (B.has_failed book.old) → IsTrue (B.has_failed book.new) }
-    ensures stays_left { IsTrue (B.has_failed book.old) →
-        LeavesNoMore (B.leaves book.old) (B.leaves book.new) }
+    ensures stays { Stays B.is_sound B.leaves B.has_failed book.old book.new }
     ensures may_act { B.is_sound book.new → (first : B) (later : Asks) → IfOk result (λ phase. Steps
         (MayRecover (B.stands book.old) (B.may_act first book.old) later)
         (AfterMove (B.stands book.new) (B.may_act first book.new) later (is_some phase)) id phase) }
@@ -62,7 +57,6 @@ pub fn step<B: Book>(book: &mut B, id: u64) -> Result<Option<Phase>, Fault>
         f ≡ Fault.Store →
         StepsOrNot (MayRecover (B.stands book.old) (B.may_act first book.old) later)
         NoState (B.has_reason first book.new) id Fault.Store) }
-    ensures sound { B.is_sound book.new → B.is_sound book.old }
 {
     let command = Command::Step(id);
     match book.act(&command, None) {

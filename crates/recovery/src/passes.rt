@@ -1,7 +1,7 @@
 //! The passes of recovery, each over the unfinished journeys by rising number.
 ghost use Rattle.std.specs.Prelude.{◌≡◌, ◌↔◌, IfOk, IfErr, IsTrue, IsErrOf};
 ghost use Rattle.ledger.specs.History.{is_running};
-ghost use Rattle.saga_core.specs.Books.{LeavesNoMore};
+ghost use Rattle.saga_core.specs.Calls.{Stays};
 ghost use Rattle.recovery.specs.Reasons.{AfterPass, MayRecover, NoState};
 ghost use Rattle.saga_core.specs.Runs.{Asks};
 ghost use Rattle.recovery.specs.Passes.{made_by, goes_on, MadeStops, MadeSomeStops, CarriedAll, CarriedSome, CarriedOne, CarriedOneSome};
@@ -68,9 +68,7 @@ pub fn turn_back<B: Book>(book: &mut B) -> Result<Came, Fault>
     ensures fault { B.is_sound book.new →
         IfErr result (MadeSomeStops (B.stands book.old) (B.stands book.new) (B.leaves book.new)) }
     ensures failed { IfErr result (λ f. f ≡ Fault.Store → IsTrue (B.has_failed book.new)) }
-    ensures stays_failed { IsTrue (B.has_failed book.old) → IsTrue (B.has_failed book.new) }
-    ensures stays_left { IsTrue (B.has_failed book.old) →
-        LeavesNoMore (B.leaves book.old) (B.leaves book.new) }
+    ensures stays { Stays B.is_sound B.leaves B.has_failed book.old book.new }
     ensures may_act { B.is_sound book.new → (first : B) (later : Asks) →
         IfOk result (λ came. MadeStops
         (MayRecover (B.stands book.old) (B.may_act first book.old) later)
@@ -79,7 +77,6 @@ pub fn turn_back<B: Book>(book: &mut B) -> Result<Came, Fault>
         f ≡ Fault.Store →
         MadeSomeStops (MayRecover (B.stands book.old) (B.may_act first book.old) later)
         NoState (B.has_reason first book.new) Fault.Store) }
-    ensures sound { B.is_sound book.new → B.is_sound book.old }
 {
     let mut after = 0;
     let mut made = 0u64;
@@ -109,9 +106,7 @@ fn carry_one<B: Book>(book: &mut B, pass: Pass, id: u64) -> Result<Came, Fault>
         IfErr result
         (CarriedOneSome (B.stands book.old) (B.stands book.new) (B.leaves book.new) pass id) }
     ensures failed { IfErr result (λ f. f ≡ Fault.Store → IsTrue (B.has_failed book.new)) }
-    ensures stays_failed { IsTrue (B.has_failed book.old) → IsTrue (B.has_failed book.new) }
-    ensures stays_left { IsTrue (B.has_failed book.old) →
-        LeavesNoMore (B.leaves book.old) (B.leaves book.new) }
+    ensures stays { Stays B.is_sound B.leaves B.has_failed book.old book.new }
     ensures may_act { B.is_sound book.new → (first : B) (later : Asks) →
         IfOk result (λ came. CarriedOne
         (MayRecover (B.stands book.old) (B.may_act first book.old) later)
@@ -120,7 +115,6 @@ fn carry_one<B: Book>(book: &mut B, pass: Pass, id: u64) -> Result<Came, Fault>
         f ≡ Fault.Store →
         CarriedOneSome (MayRecover (B.stands book.old) (B.may_act first book.old) later)
         NoState (B.has_reason first book.new) pass id Fault.Store) }
-    ensures sound { B.is_sound book.new → B.is_sound book.old }
 {
     for made in 0..u64::MAX {
         match step(book, id) {
@@ -144,9 +138,7 @@ pub fn carry<B: Book>(book: &mut B, pass: Pass) -> Result<Came, Fault>
         IfErr result
         (CarriedSome (B.stands book.old) (B.stands book.new) (B.leaves book.new) pass) }
     ensures failed { IfErr result (λ f. f ≡ Fault.Store → IsTrue (B.has_failed book.new)) }
-    ensures stays_failed { IsTrue (B.has_failed book.old) → IsTrue (B.has_failed book.new) }
-    ensures stays_left { IsTrue (B.has_failed book.old) →
-        LeavesNoMore (B.leaves book.old) (B.leaves book.new) }
+    ensures stays { Stays B.is_sound B.leaves B.has_failed book.old book.new }
     ensures may_act { B.is_sound book.new → (first : B) (later : Asks) →
         IfOk result (λ came. CarriedAll
         (MayRecover (B.stands book.old) (B.may_act first book.old) later)
@@ -155,7 +147,6 @@ pub fn carry<B: Book>(book: &mut B, pass: Pass) -> Result<Came, Fault>
         f ≡ Fault.Store →
         CarriedSome (MayRecover (B.stands book.old) (B.may_act first book.old) later)
         NoState (B.has_reason first book.new) pass Fault.Store) }
-    ensures sound { B.is_sound book.new → B.is_sound book.old }
 {
     let mut after = 0;
     let mut made = 0u64;

@@ -1,6 +1,6 @@
 //! The whole of recovery.
 ghost use Rattle.std.specs.Prelude.{◌≡◌, IfOk, IfErr, IsTrue};
-ghost use Rattle.saga_core.specs.Books.{LeavesNoMore};
+ghost use Rattle.saga_core.specs.Calls.{Stays};
 ghost use Rattle.saga_core.specs.Runs.{Asks};
 ghost use Rattle.recovery.specs.Reasons.{MayActThen, MayRecover, NoState};
 ghost use Rattle.recovery.specs.Recovers.{Recovers, Finishes, RecoversSome, IsWithinBound};
@@ -19,9 +19,7 @@ fn recover_all<B: Book>(book: &mut B) -> Result<u64, Fault>
     ensures fault { B.is_sound book.new →
         IfErr result (RecoversSome (B.stands book.old) (B.stands book.new) (B.leaves book.new)) }
     ensures failed { IfErr result (λ f. f ≡ Fault.Store → IsTrue (B.has_failed book.new)) }
-    ensures stays_failed { IsTrue (B.has_failed book.old) → IsTrue (B.has_failed book.new) }
-    ensures stays_left { IsTrue (B.has_failed book.old) →
-        LeavesNoMore (B.leaves book.old) (B.leaves book.new) }
+    ensures stays { Stays B.is_sound B.leaves B.has_failed book.old book.new }
     ensures may_act { B.is_sound book.new → (first : B) (later : Asks) →
         IfOk result (λ made. Recovers
         (MayRecover (B.stands book.old) (B.may_act first book.old) later)
@@ -30,7 +28,6 @@ fn recover_all<B: Book>(book: &mut B) -> Result<u64, Fault>
         f ≡ Fault.Store →
         RecoversSome (MayRecover (B.stands book.old) (B.may_act first book.old) later)
         NoState (B.has_reason first book.new) Fault.Store) }
-    ensures sound { B.is_sound book.new → B.is_sound book.old }
 {
     let turned = match turn_back(book) {
         Ok(Came::Through(made)) => made,
@@ -78,17 +75,9 @@ pub fn recover<B: Book>(book: B) -> Result<(Ready<B>, u64), (B, Fault)>
         RecoversSome (MayRecover (B.stands book) (B.may_act first book) later) NoState
         (B.has_reason first e.0) Fault.Store) }
 
-    ensures stays_failed { IfOk result (λ r.
-        IsTrue (B.has_failed book) → IsTrue (B.has_failed r.0)) }
-    ensures stays_failed_at_fault { IfErr result (λ e.
-        IsTrue (B.has_failed book) → IsTrue (B.has_failed e.0)) }
-    ensures stays_left { IfOk result (λ r.
-        IsTrue (B.has_failed book) → LeavesNoMore (B.leaves book) (B.leaves r.0)) }
-    ensures stays_left_at_fault { IfErr result (λ e.
-        IsTrue (B.has_failed book) → LeavesNoMore (B.leaves book) (B.leaves e.0)) }
-
-    ensures sound { IfOk result (λ r. B.is_sound r.0 → B.is_sound book) }
-    ensures sound_at_fault { IfErr result (λ e. B.is_sound e.0 → B.is_sound book) }
+    ensures stays { IfOk result (λ r. Stays B.is_sound B.leaves B.has_failed book r.0) }
+    ensures stays_at_fault { IfErr result
+        (λ e. Stays B.is_sound B.leaves B.has_failed book e.0) }
 {
     let mut book = book;
     match recover_all(&mut book) {

@@ -1,5 +1,6 @@
 pub mod DecidingLemmas
 pub mod RunLemmas
+pub mod CallLemmas
 pub mod ReasonLemmas
 pub mod WorldLemmas
 pub mod RunEndLemmas

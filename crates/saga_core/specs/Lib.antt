@@ -11,3 +11,4 @@ pub mod Deciding
 pub mod Examples
 pub mod DecidingExamples
 pub mod BookExamples
+pub mod Calls

@@ -3,13 +3,13 @@
 //! A book *represents* a state (`stands`): a ledger with kept replies, which is then also all that a crash leaves. A
 //! book is *sound* while its store has returned what was written; soundness may end at any call, and never returns. A
 //! book has *failed* once a call returned `Store`; every later call returns `Store` too.
-ghost use Rattle.std.specs.Prelude.{◌≡◌, ◌↔◌, List, Bool, Option, IsTrue, IsErrOf};
+ghost use Rattle.std.specs.Prelude.{◌≡◌, List, Bool, Option};
 ghost use Rattle.std.specs.Option.{option_copied};
 ghost use Rattle.commands.specs.Orders.{request_of};
 ghost use Rattle.ledger.specs.Ledger.{IsLegal, history};
 ghost use Rattle.ledger.specs.Answer.{State};
-ghost use Rattle.saga_core.specs.Books.{Replies, MovesOn, KeepsAtMemory, Keeps, Shows, LeavesJust, LeavesNoMore, LeavesAtStore};
-ghost use Rattle.saga_core.specs.Reasons.{ActsOn, ReadsOn};
+ghost use Rattle.saga_core.specs.Books.{Shows, LeavesJust};
+ghost use Rattle.saga_core.specs.Calls.{Acts, Reads};
 ghost use Rattle.saga_core.specs.Runs.{Asks};
 ghost use Rattle.saga_core.specs.Views.{record_of, first_unfinished, first_owned, counts_of, ShowsCells, IsStock};
 ghost use Rattle.saga_core.specs.Views.{TracesBrief, TracesItems, unfinished_of};
@@ -45,133 +45,58 @@ pub trait Book {
     /// An accepted command adds one event, and its reply is kept with it if there is an ask. A refusal changes
     /// nothing.
     fn act(&mut self, command: &Command, ask: Option<&Ask>) -> Result<Reply, Fault>
-        ensures reply { is_sound self.new →
-            Replies (stands self.old) (option_copied ask.entry) (request_of command.now) result }
-        ensures after { is_sound self.new →
-            MovesOn (stands self.old) (stands self.new) (option_copied ask.entry)
-            (request_of command.now) result }
-
-        ensures memory { is_sound self.new →
-            KeepsAtMemory (stands self.old) (stands self.new) result }
-
-        ensures store { is_sound self.new →
-            LeavesAtStore (stands self.old) (leaves self.new) (option_copied ask.entry)
-            (request_of command.now) result }
-        ensures fails { IsErrOf result Fault.Store ↔ IsTrue (has_failed self.new) }
-        ensures stays_failed { IsTrue (has_failed self.old) → IsTrue (has_failed self.new) }
-        ensures stays_left { IsTrue (has_failed self.old) →
-            LeavesNoMore (leaves self.old) (leaves self.new) }
-        ensures may_act { is_sound self.new → (first : Self) → ActsOn
-            (may_act first self.old) (may_act first self.new) (has_reason first self.new)
-            (option_copied ask.entry) (request_of command.now) result }
-
-        ensures sound { is_sound self.new → is_sound self.old };
+        ensures { Acts is_sound stands leaves has_failed may_act has_reason self.old self.new
+            (option_copied ask.entry) (request_of command.now) result };
 
     /// Returns the journey of that number, if there is one.
     fn journey(&mut self, id: u64) -> Result<Option<Record>, Fault>
         ensures journey { is_sound self.new →
             Shows (stands self.old) (λ s found. found ≡ record_of s.ledger id) result }
-        ensures same { is_sound self.new → Keeps (stands self.old) (stands self.new) result }
-        ensures stop { is_sound self.new →
-            LeavesNoMore (leaves self.old) (leaves self.new) }
-        ensures fails { IsErrOf result Fault.Store ↔ IsTrue (has_failed self.new) }
-        ensures stays_failed { IsTrue (has_failed self.old) → IsTrue (has_failed self.new) }
-        ensures stays_left { IsTrue (has_failed self.old) →
-            LeavesNoMore (leaves self.old) (leaves self.new) }
-        ensures may_act { is_sound self.new → (first : Self) → ReadsOn
-            (may_act first self.old) (may_act first self.new) (has_reason first self.new) result }
-        ensures sound { is_sound self.new → is_sound self.old };
+        ensures reads { Reads is_sound stands leaves has_failed may_act has_reason self.old self.new
+            result };
 
     /// Returns the items of the journey of that number, in order; none if there is no such journey.
     fn history(&mut self, id: u64) -> Result<Vec<Item>, Fault>
         ensures items { is_sound self.new →
             Shows (stands self.old) (λ s items. items.items ≡ history s.ledger id) result }
-        ensures same { is_sound self.new → Keeps (stands self.old) (stands self.new) result }
-        ensures stop { is_sound self.new →
-            LeavesNoMore (leaves self.old) (leaves self.new) }
-        ensures fails { IsErrOf result Fault.Store ↔ IsTrue (has_failed self.new) }
-        ensures stays_failed { IsTrue (has_failed self.old) → IsTrue (has_failed self.new) }
-        ensures stays_left { IsTrue (has_failed self.old) →
-            LeavesNoMore (leaves self.old) (leaves self.new) }
-        ensures may_act { is_sound self.new → (first : Self) → ReadsOn
-            (may_act first self.old) (may_act first self.new) (has_reason first self.new) result }
-        ensures sound { is_sound self.new → is_sound self.old };
+        ensures reads { Reads is_sound stands leaves has_failed may_act has_reason self.old self.new
+            result };
 
     /// Returns the unfinished journey with the least number above `after`.
     fn first_unfinished(&mut self, after: u64) -> Result<Option<Brief>, Fault>
         ensures first { is_sound self.new →
             Shows (stands self.old) (λ s found. found ≡ first_unfinished s.ledger after) result }
-        ensures same { is_sound self.new → Keeps (stands self.old) (stands self.new) result }
-        ensures stop { is_sound self.new →
-            LeavesNoMore (leaves self.old) (leaves self.new) }
-        ensures fails { IsErrOf result Fault.Store ↔ IsTrue (has_failed self.new) }
-        ensures stays_failed { IsTrue (has_failed self.old) → IsTrue (has_failed self.new) }
-        ensures stays_left { IsTrue (has_failed self.old) →
-            LeavesNoMore (leaves self.old) (leaves self.new) }
-        ensures may_act { is_sound self.new → (first : Self) → ReadsOn
-            (may_act first self.old) (may_act first self.new) (has_reason first self.new) result }
-        ensures sound { is_sound self.new → is_sound self.old };
+        ensures reads { Reads is_sound stands leaves has_failed may_act has_reason self.old self.new
+            result };
 
     /// Returns the journey of this agent with the least number above `after`, a finished one too.
     fn first_owned(&mut self, agent: &Agent, after: u64) -> Result<Option<Brief>, Fault>
         ensures first { is_sound self.new →
             Shows (stands self.old) (λ s found.
             found ≡ first_owned s.ledger agent.now after) result }
-        ensures same { is_sound self.new → Keeps (stands self.old) (stands self.new) result }
-        ensures stop { is_sound self.new →
-            LeavesNoMore (leaves self.old) (leaves self.new) }
-        ensures fails { IsErrOf result Fault.Store ↔ IsTrue (has_failed self.new) }
-        ensures stays_failed { IsTrue (has_failed self.old) → IsTrue (has_failed self.new) }
-        ensures stays_left { IsTrue (has_failed self.old) →
-            LeavesNoMore (leaves self.old) (leaves self.new) }
-        ensures may_act { is_sound self.new → (first : Self) → ReadsOn
-            (may_act first self.old) (may_act first self.new) (has_reason first self.new) result }
-        ensures sound { is_sound self.new → is_sound self.old };
+        ensures reads { Reads is_sound stands leaves has_failed may_act has_reason self.old self.new
+            result };
 
     /// Returns how many events, journeys and unfinished journeys there are.
     fn counts(&mut self) -> Result<Counts, Fault>
         ensures counts { is_sound self.new →
             Shows (stands self.old) (λ s counts. counts ≡ counts_of s.ledger) result }
-        ensures same { is_sound self.new → Keeps (stands self.old) (stands self.new) result }
-        ensures stop { is_sound self.new →
-            LeavesNoMore (leaves self.old) (leaves self.new) }
-        ensures fails { IsErrOf result Fault.Store ↔ IsTrue (has_failed self.new) }
-        ensures stays_failed { IsTrue (has_failed self.old) → IsTrue (has_failed self.new) }
-        ensures stays_left { IsTrue (has_failed self.old) →
-            LeavesNoMore (leaves self.old) (leaves self.new) }
-        ensures may_act { is_sound self.new → (first : Self) → ReadsOn
-            (may_act first self.old) (may_act first self.new) (has_reason first self.new) result }
-        ensures sound { is_sound self.new → is_sound self.old };
+        ensures reads { Reads is_sound stands leaves has_failed may_act has_reason self.old self.new
+            result };
 
     /// Returns the places of a want's nights, in order of night, without the nights that have no allotment.
     fn cells(&mut self, want: &Want) -> Result<Vec<(Night, Held)>, Fault>
         ensures cells { is_sound self.new →
             Shows (stands self.old) (λ s cells. ShowsCells want.now s cells.items) result }
-        ensures same { is_sound self.new → Keeps (stands self.old) (stands self.new) result }
-        ensures stop { is_sound self.new →
-            LeavesNoMore (leaves self.old) (leaves self.new) }
-        ensures fails { IsErrOf result Fault.Store ↔ IsTrue (has_failed self.new) }
-        ensures stays_failed { IsTrue (has_failed self.old) → IsTrue (has_failed self.new) }
-        ensures stays_left { IsTrue (has_failed self.old) →
-            LeavesNoMore (leaves self.old) (leaves self.new) }
-        ensures may_act { is_sound self.new → (first : Self) → ReadsOn
-            (may_act first self.old) (may_act first self.new) (has_reason first self.new) result }
-        ensures sound { is_sound self.new → is_sound self.old };
+        ensures reads { Reads is_sound stands leaves has_failed may_act has_reason self.old self.new
+            result };
 
     /// Returns the places of every cell that has an allotment, in order of kind, supplier, product and night.
     fn stock(&mut self) -> Result<Vec<(Cell, Held)>, Fault>
         ensures stock { is_sound self.new →
             Shows (stands self.old) (λ s rows. IsStock s.ledger rows.items) result }
-        ensures same { is_sound self.new → Keeps (stands self.old) (stands self.new) result }
-        ensures stop { is_sound self.new →
-            LeavesNoMore (leaves self.old) (leaves self.new) }
-        ensures fails { IsErrOf result Fault.Store ↔ IsTrue (has_failed self.new) }
-        ensures stays_failed { IsTrue (has_failed self.old) → IsTrue (has_failed self.new) }
-        ensures stays_left { IsTrue (has_failed self.old) →
-            LeavesNoMore (leaves self.old) (leaves self.new) }
-        ensures may_act { is_sound self.new → (first : Self) → ReadsOn
-            (may_act first self.old) (may_act first self.new) (has_reason first self.new) result }
-        ensures sound { is_sound self.new → is_sound self.old };
+        ensures reads { Reads is_sound stands leaves has_failed may_act has_reason self.old self.new
+            result };
 
     // What pages show of journeys, by as few looks at the store as that takes.
 
@@ -179,31 +104,15 @@ pub trait Book {
     fn trace(&mut self, id: u64) -> Result<Option<Trace>, Fault>
         ensures brief { is_sound self.new → Shows (stands self.old) (TracesBrief id) result }
         ensures items { is_sound self.new → Shows (stands self.old) (TracesItems id) result }
-        ensures same { is_sound self.new → Keeps (stands self.old) (stands self.new) result }
-        ensures stop { is_sound self.new →
-            LeavesNoMore (leaves self.old) (leaves self.new) }
-        ensures fails { IsErrOf result Fault.Store ↔ IsTrue (has_failed self.new) }
-        ensures stays_failed { IsTrue (has_failed self.old) → IsTrue (has_failed self.new) }
-        ensures stays_left { IsTrue (has_failed self.old) →
-            LeavesNoMore (leaves self.old) (leaves self.new) }
-        ensures may_act { is_sound self.new → (first : Self) → ReadsOn
-            (may_act first self.old) (may_act first self.new) (has_reason first self.new) result }
-        ensures sound { is_sound self.new → is_sound self.old };
+        ensures reads { Reads is_sound stands leaves has_failed may_act has_reason self.old self.new
+            result };
 
     /// Returns the unfinished journeys, in order of number.
     fn unfinished(&mut self) -> Result<Vec<Brief>, Fault>
         ensures briefs { is_sound self.new →
             Shows (stands self.old) (λ s briefs. briefs.items ≡ unfinished_of s.ledger) result }
-        ensures same { is_sound self.new → Keeps (stands self.old) (stands self.new) result }
-        ensures stop { is_sound self.new →
-            LeavesNoMore (leaves self.old) (leaves self.new) }
-        ensures fails { IsErrOf result Fault.Store ↔ IsTrue (has_failed self.new) }
-        ensures stays_failed { IsTrue (has_failed self.old) → IsTrue (has_failed self.new) }
-        ensures stays_left { IsTrue (has_failed self.old) →
-            LeavesNoMore (leaves self.old) (leaves self.new) }
-        ensures may_act { is_sound self.new → (first : Self) → ReadsOn
-            (may_act first self.old) (may_act first self.new) (has_reason first self.new) result }
-        ensures sound { is_sound self.new → is_sound self.old };
+        ensures reads { Reads is_sound stands leaves has_failed may_act has_reason self.old self.new
+            result };
 
     /// If a book represents a state, the ledger of that state is legal.
     ghost legal: { (book : Self) (s : State) → stands book s → IsLegal s.ledger };

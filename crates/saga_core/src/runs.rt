@@ -2,7 +2,7 @@
 ghost use Rattle.std.specs.Prelude.{◌≡◌, IfOk, OnOk, IfErr, IsTrue};
 ghost use Rattle.commands.specs.Orders.{request_of};
 ghost use Rattle.ledger.specs.Answer.{is_request};
-ghost use Rattle.saga_core.specs.Books.{LeavesNoMore};
+ghost use Rattle.saga_core.specs.Calls.{Stays};
 ghost use Rattle.saga_core.specs.Reasons.{ActsOnAfter, FailsAmong};
 ghost use Rattle.saga_core.specs.Runs.{AreReplies, MovesOnBy, Stops, asks_of};
 ghost use Rattle.saga_core.specs.Worlds.{GoesOnWith, GoesOnAmong};
@@ -56,10 +56,7 @@ pub fn run<B: Book>(
         FailsAmong (B.may_act first book.old) (B.has_reason first book.new)
         (asks_of commands.now)) }
 
-    ensures stays_failed { IsTrue (B.has_failed book.old) → IsTrue (B.has_failed book.new) }
-    ensures stays_left { IsTrue (B.has_failed book.old) →
-        LeavesNoMore (B.leaves book.old) (B.leaves book.new) }
-    ensures sound { B.is_sound book.new → B.is_sound book.old }
+    ensures stays { Stays B.is_sound B.leaves B.has_failed book.old book.new }
 {
     let mut replies = match Vec::with_capacity(alloc, commands.len()) {
         Ok(replies) => replies,

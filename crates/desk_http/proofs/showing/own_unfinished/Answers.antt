@@ -10,5 +10,5 @@ pub returns-clause-briefs : goal.returns-clause-briefs
 returns-clause-briefs g c = λ sound s stood. (
   filter_same _ _ _ (λ x b f' k. search rules) _ _ c.retain.ensures.filtered
       ∙ ap (filter (λ (b : Brief). sees c.args.asker.now b.agent)) (c.in_ok-briefs.ensures.briefs sound s stood),
-  c.in_ok-briefs.ensures.same sound s stood,
+  c.in_ok-briefs.ensures.reads.same sound s stood,
 )

@@ -14,5 +14,5 @@ returns-in-Ok-clause-page g c = λ sound s stood.
         shown = c.shown_page.ensures.page
             ∙ ap report_page (written ∙ ap (λ held. held ++ stock_report rows) c.new-text.ensures.items);
       },
-      c.in_ok-rows.ensures.same sound s stood,
+      c.in_ok-rows.ensures.reads.same sound s stood,
     )

@@ -10,6 +10,7 @@ use Rattle.protocols.specs.Scenes.{scene}
 use Rattle.protocols.specs.declared.faults.ServeFault.{ServeFault}
 use Rattle.protocols.specs.declared.faults.ServeFault.TheVariants.{Memory, Read}
 use Rattle.protocols.proofs.KnownLemmas.{for_known}
+use Rattle.saga_core.proofs.CallLemmas.{stays_alone, stays_served, stays_twice}
 use Rattle.desk_lines.proofs.ReasonLemmas.{line_fails, may_at_end, may_at_first, may_go_on, same_fault}
 use Rattle.desk_lines.proofs.ServeLemmas.{all_answered, answer_fails, goes_on, read_fails, starts, write_fails}
 use Rattle.desk_lines.proofs.runs.answer_input.Goals as goal
@@ -17,9 +18,7 @@ use Rattle.desk_lines.proofs.runs.answer_input.Goals as goal
 -- no line was answered
 pub loop-answered-init : goal.loop-answered-init
 loop-answered-init g c = record {
-  sound = λ sound. sound;
-  stays_failed = λ failed. failed;
-  stays_left = λ failed s t leaves. leaves;
+  stays = stays_alone c.args.book.now;
   so_far = λ sound s stood input is.
       starts (g.W.Write.contents c.args.writer.now) (g.B.Book.stands c.args.book.now) (g.B.Book.leaves c.args.book.now) s input
       c.in_ok-unread.unread (g.R.Read.remaining c.args.reader.now) c.in_ok-unread.ensures.empty is stood;
@@ -38,19 +37,17 @@ loop-answered-preserved g c =
     let before = to_come at.unread (left at.reader) in
     let after = to_come c.next_line.new.self (left c.next_line.new.reader) in
     record {
-      sound = λ sound. at.invariant.sound (c.answer.ensures.sound sound);
-      stays_failed = λ failed. c.answer.ensures.stays_failed (at.invariant.stays_failed failed);
-      stays_left = λ failed s t leaves. c.answer.ensures.stays_left (at.invariant.stays_failed failed) s t (at.invariant.stays_left failed s t leaves);
+      stays = stays_twice at.invariant.stays (stays_served c.answer.ensures.serves);
       so_far = λ sound s stood input is.
           goes_on (contents c.args.writer.now) (contents at.writer) (contents c.send.new.writer) (book.stands at.book) (book.stands c.answer.new.book)
           (book.leaves at.book) (book.leaves c.answer.new.book) s input before after at.answered c.next_line.new.line c.in_ok-text.text
-          (at.invariant.so_far (c.answer.ensures.sound sound) s stood input is)
+          (at.invariant.so_far (c.answer.ensures.serves.sound sound) s stood input is)
           (subst (λ found. TakesLine before after found c.next_line.new.line) c.if-not-branch.false c.in_ok-next_line.ensures.line)
           (c.in_ok-text.ensures.answer sound)
           (subst (Appends (contents at.writer) (contents c.send.new.writer)) c.as_bytes.ensures.value c.in_ok-send.ensures.sent);
       may_act = λ sound first s later input is may.
           may_go_on (book.may_act first at.book) (book.may_act first c.answer.new.book) s input before after c.next_line.new.line later
-          (at.invariant.may_act (c.answer.ensures.sound sound) first s later input is may)
+          (at.invariant.may_act (c.answer.ensures.serves.sound sound) first s later input is may)
           (subst (λ found. TakesLine before after found c.next_line.new.line) c.if-not-branch.false c.in_ok-next_line.ensures.line)
           (c.in_ok-text.ensures.may_act sound first);
     }
@@ -119,7 +116,7 @@ returns-in_err-text-clause-reason g c = λ sound first store.
     let came = same_fault c.from_residual-in_err-text.result failed.0 c.in_err-text.field-0.0 failed.1 failed.2 store in
     for_known (left c.args.reader.now) _ (λ input is s later may.
     line_fails (book.may_act first at.book) (book.has_reason first c.answer.new.book) s input before after c.next_line.new.line later
-    (at.invariant.may_act (c.answer.ensures.sound sound) first s later input is may)
+    (at.invariant.may_act (c.answer.ensures.serves.sound sound) first s later input is may)
     (subst (λ found. TakesLine before after found c.next_line.new.line) c.if-not-branch.false c.in_ok-next_line.ensures.line)
     (λ text kept. c.in_err-text.ensures.reason sound first text kept (ap (λ (f : ServeFault). Err f) came)))
 
@@ -137,7 +134,7 @@ returns-in_err-text-clause-some g c = λ sound s stood.
     rw (failed.1, failed.2)
     (answer_fails (contents c.args.writer.now) (contents at.writer) (book.stands at.book) (book.stands c.answer.new.book)
     (book.leaves at.book) (book.leaves c.answer.new.book) s input before after at.answered c.next_line.new.line c.in_err-text.field-0.0
-    (at.invariant.so_far (c.answer.ensures.sound sound) s stood input is)
+    (at.invariant.so_far (c.answer.ensures.serves.sound sound) s stood input is)
     (subst (λ found. TakesLine before after found c.next_line.new.line) c.if-not-branch.false c.in_ok-next_line.ensures.line)
     (c.in_err-text.ensures.answer sound)))
 
@@ -155,7 +152,7 @@ returns-in_err-send-clause-some g c = λ sound s stood.
     rw (failed.1, failed.2)
     (write_fails (contents c.args.writer.now) (contents at.writer) (contents c.send.new.writer) (book.stands at.book) (book.stands c.answer.new.book)
     (book.leaves at.book) (book.leaves c.answer.new.book) s input before after at.answered c.next_line.new.line c.in_ok-text.text
-    (at.invariant.so_far (c.answer.ensures.sound sound) s stood input is)
+    (at.invariant.so_far (c.answer.ensures.serves.sound sound) s stood input is)
     (subst (λ found. TakesLine before after found c.next_line.new.line) c.if-not-branch.false c.in_ok-next_line.ensures.line)
     (c.in_ok-text.ensures.answer sound)
     (subst (WroteFront (contents at.writer) (contents c.send.new.writer)) c.as_bytes.ensures.value c.in_err-send.ensures.front)))

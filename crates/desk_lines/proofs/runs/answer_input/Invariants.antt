@@ -1,7 +1,7 @@
 use Rattle.std.proofs.Common.{◌≡◌, ◌++◌, List, ℕ}
-use Rattle.std.specs.Prelude.{IsTrue, Some}
+use Rattle.std.specs.Prelude.{Some}
 use Rattle.ledger.specs.Answer.{State}
-use Rattle.saga_core.specs.Books.{LeavesNoMore}
+use Rattle.saga_core.specs.Calls.{Stays}
 use Rattle.saga_core.specs.Runs.{Asks}
 use Rattle.desk_lines.specs.Lines.{lines}
 use Rattle.desk_lines.specs.Reading.{to_come}
@@ -18,9 +18,7 @@ invariant-loop-answered g l =
     let left = g.R.Read.remaining in
     let contents = g.W.Write.contents in
     record {
-      sound : book.is_sound l.book → book.is_sound l.fn.book;
-      stays_failed : IsTrue (book.has_failed l.fn.book) → IsTrue (book.has_failed l.book);
-      stays_left : IsTrue (book.has_failed l.fn.book) → LeavesNoMore (book.leaves l.fn.book) (book.leaves l.book);
+      stays : Stays book.is_sound book.leaves book.has_failed l.fn.book l.book;
       so_far : book.is_sound l.book → (s : State) → book.stands l.fn.book s → (input : List ℕ) → left l.fn.reader ≡ Some input
           → SoFar (scene (contents l.fn.writer) (contents l.writer) (book.stands l.book) (book.leaves l.book)) s input (to_come l.unread (left l.reader)) l.answered;
       may_act : book.is_sound l.book → (first : _) (s : State) (later : Asks) (input : List ℕ) → left l.fn.reader ≡ Some input

@@ -7,6 +7,7 @@ use Rattle.protocols.proofs.KnownLemmas.{for_known}
 use Rattle.http_conversations.specs.Conversations.{history}
 use Rattle.http_conversations.specs.History.{HasNoTurn, History, TakesFirst}
 use Rattle.http_conversations.specs.Serving.{FailsAt, to_come}
+use Rattle.saga_core.proofs.CallLemmas.{stays_alone, stays_served, stays_twice}
 use Rattle.http_conversations.proofs.NextLemmas.{ends_there, fails_next, gets_next, reading_fails, reads_on}
 use Rattle.http_conversations.proofs.serving.answer_next.Goals as goal
 
@@ -19,9 +20,7 @@ loop-init g c = record {
   way = c.requires.way;
   stream = λ stream is. is;
   stands = λ sound s was. was;
-  sound = λ sound. sound;
-  stays_failed = λ failed. failed;
-  stays_left = λ failed s t left. left;
+  stays = stays_alone c.args.book.now;
 }
 
 -- the next message got its page
@@ -37,7 +36,7 @@ returns-in-Ok-true-clause-next g c =
     for_known (to_come (history c.args.conversation.now) (left c.args.reader.now)) _ (λ stream is.
     gets_next (book.is_sound new) (book.stands c.args.book.now) (book.stands at.book) (book.stands new) (book.leaves new)
     h k stream (left at.reader) at.invariant.door at.invariant.way (at.invariant.stream stream is)
-    (λ sound. at.invariant.stands (answer.sound sound))
+    (λ sound. at.invariant.stands (answer.serves.sound sound))
     (subst (λ b. TakesFirst (Ok b) h k) c.in-Ok-true.field-0-test answer.takes) answer.goes_on)
 
 -- the input has ended
@@ -55,7 +54,7 @@ returns-then-count-eq0-clause-next g c =
           (ap (λ (i : History). i.way) none.1 ∙ at.invariant.way) (subst HasNoTurn (sym none.1) none.0) (ap (λ i. to_come i (left at.reader)) none.1 ∙ at.invariant.stream stream is)
           (more.1 ∙ c.if-count-eq0.true) more.2 (c.in_ok-count-in-Ok-false.ensures.end (ap Ok c.if-count-eq0.true));
       kept = λ sound s was.
-          subst (λ b. book.stands b s) (sym none.2) (at.invariant.stands (c.in-Ok-false.ensures.sound sound) s was);
+          subst (λ b. book.stands b s) (sym none.2) (at.invariant.stands (c.in-Ok-false.ensures.serves.sound sound) s was);
     })
 
 -- more was read
@@ -77,10 +76,8 @@ loop-preserved g c =
       stream = λ stream is.
           reads_on k (history c.read_more.new.conversation) stream more.0 (left at.reader) (left c.read_more.new.reader) is_open
           (ap (λ i. to_come i (left at.reader)) none.1 ∙ at.invariant.stream stream is) more.2 more.3;
-      stands = λ sound s was. subst (λ b. book.stands b s) (sym none.2) (at.invariant.stands (answer.sound sound) s was);
-      sound = λ sound. at.invariant.sound (answer.sound sound);
-      stays_failed = λ failed. answer.stays_failed (at.invariant.stays_failed failed);
-      stays_left = λ failed s t leaves. answer.stays_left (at.invariant.stays_failed failed) s t (at.invariant.stays_left failed s t leaves);
+      stands = λ sound s was. subst (λ b. book.stands b s) (sym none.2) (at.invariant.stands (answer.serves.sound sound) s was);
+      stays = stays_twice at.invariant.stays (stays_served answer.serves);
     }
 
 -- reading failed
@@ -97,7 +94,7 @@ returns-in_err-count-in-Ok-false-clause-next g c =
     rw (failed.1)
     (reading_fails (book.is_sound new) (book.stands c.args.book.now) (book.stands new) (book.leaves new) stream failed.0
     (subst IsOfReading (sym failed.2) c.in_err-count-in-Ok-false.ensures.fault)
-    (λ sound s was. subst (λ b. book.stands b s) (sym none.2) (at.invariant.stands (answer.sound sound) s was))))
+    (λ sound s was. subst (λ b. book.stands b s) (sym none.2) (at.invariant.stands (answer.serves.sound sound) s was))))
 
 -- the answer failed
 pub returns-in-Err-clause-next : goal.returns-in-Err-clause-next
@@ -113,7 +110,7 @@ returns-in-Err-clause-next g c =
     subst (FailsAt (book.is_sound new) (book.stands c.args.book.now) (book.stands new) (book.leaves new) stream s) (sym c.from.ensures)
     (fails_next (book.is_sound new) (book.stands c.args.book.now) (book.stands at.book) (book.stands new) (book.leaves new)
     h k stream (left at.reader) at.invariant.door at.invariant.way (at.invariant.stream stream is)
-    (λ sound. at.invariant.stands (answer.sound sound)) c.in-Err.fault answer.takes answer.goes_on sound s was))
+    (λ sound. at.invariant.stands (answer.serves.sound sound)) c.in-Err.fault answer.takes answer.goes_on sound s was))
 
 -- more was read than can be counted
 pub returns-clause-next : goal.returns-clause-next

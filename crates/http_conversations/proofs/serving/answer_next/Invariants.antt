@@ -1,7 +1,7 @@
 use Rattle.std.proofs.Common.{◌≡◌, List, [], ℕ}
-use Rattle.std.specs.Prelude.{IsTrue, Some}
+use Rattle.std.specs.Prelude.{Some}
 use Rattle.ledger.specs.Answer.{State}
-use Rattle.saga_core.specs.Books.{LeavesNoMore}
+use Rattle.saga_core.specs.Calls.{Stays}
 use Rattle.desk_http.specs.declared.doors.Door.TheVariants.{Port}
 use Rattle.http_ways.specs.declared.ways.Way.TheVariants.{Profile}
 use Rattle.http_conversations.specs.Conversations.{history}
@@ -23,7 +23,5 @@ invariant-loop g l =
       stream : (stream : List ℕ) → to_come (history l.fn.conversation) (left l.fn.reader) ≡ Some stream
           → to_come h (left l.reader) ≡ Some stream;
       stands : book.is_sound l.book → (s : State) → book.stands l.fn.book s → book.stands l.book s;
-      sound : book.is_sound l.book → book.is_sound l.fn.book;
-      stays_failed : IsTrue (book.has_failed l.fn.book) → IsTrue (book.has_failed l.book);
-      stays_left : IsTrue (book.has_failed l.fn.book) → LeavesNoMore (book.leaves l.fn.book) (book.leaves l.book);
+      stays : Stays book.is_sound book.leaves book.has_failed l.fn.book l.book;
     }

@@ -7,6 +7,7 @@ use Rattle.protocols.proofs.KnownLemmas.{for_known}
 use Rattle.http_conversations.specs.Conversations.{history}
 use Rattle.http_conversations.specs.History.{History}
 use Rattle.http_conversations.specs.Serving.{FindsNext}
+use Rattle.saga_core.proofs.CallLemmas.{stays_alone, stays_served, stays_twice}
 use Rattle.http_conversations.proofs.ServeLemmas.{all_answered, answer_fails, closes_all, closing_of, open_of, rest_is, starts, stays_on, stops, write_fails}
 use Rattle.http_conversations.proofs.serving.serve_messages.Goals as goal
 
@@ -19,9 +20,7 @@ loop-pages-init g c =
       free = ap (λ (h : History). h.pending) none;
       door = ap (λ (h : History). h.door) none;
       way = ap (λ (h : History). h.way) none;
-      sound = λ sound. sound;
-      stays_failed = λ failed. failed;
-      stays_left = λ failed s t leaves. leaves;
+      stays = stays_alone c.args.book.now;
       so_far = λ sound s stood input is.
           starts (g.W.Write.contents c.args.writer.now) (g.B.Book.stands c.args.book.now) (g.B.Book.leaves c.args.book.now) s input
           (history c.new-conversation.result) (g.R.Read.remaining c.args.reader.now) (ap (λ (h : History). h.waiting) none) is stood;
@@ -38,7 +37,7 @@ returns-in_err-found-clause-some g c = λ sound s stood.
     let next = c.in_err-found.ensures in
     let failed = err_from_is_err_and c.from_residual.result c.from_residual.ensures.1 in
     for_known (left c.args.reader.now) _ (λ input is.
-    let so_far = at.invariant.so_far (next.sound sound) s stood input is in
+    let so_far = at.invariant.so_far (next.serves.sound sound) s stood input is in
     rw (failed.1, failed.2)
     (answer_fails (contents c.args.writer.now) (contents at.writer) (book.stands at.book) (book.stands new) (book.leaves at.book) (book.leaves new)
     (book.is_sound new) s input _ at.pages so_far sound c.in_err-found.field-0.0
@@ -54,7 +53,7 @@ returns-then-not-found-clause-all g c = λ sound s stood.
     let new = c.answer_next.new.book in
     let next = c.in_ok-found.ensures in
     for_known (left c.args.reader.now) _ (λ input is.
-    let so_far = at.invariant.so_far (next.sound sound) s stood input is in
+    let so_far = at.invariant.so_far (next.serves.sound sound) s stood input is in
     all_answered (contents c.args.writer.now) (contents at.writer) (book.stands at.book) (book.stands new) (book.leaves at.book) (book.leaves new)
     (book.is_sound new) s input _ at.pages so_far sound
     (subst (λ found. FindsNext (book.is_sound new) (book.stands at.book) (book.stands new) (book.leaves new) so_far.rest
@@ -73,7 +72,7 @@ returns-in_err-send_page-clause-some g c = λ sound s stood.
     let h = history c.answer_next.new.conversation in
     let failed = err_from_is_err_and c.from_residual-in_err-send_page.result c.from_residual-in_err-send_page.ensures.1 in
     for_known (left c.args.reader.now) _ (λ input is.
-    let so_far = at.invariant.so_far (next.sound sound) s stood input is in
+    let so_far = at.invariant.so_far (next.serves.sound sound) s stood input is in
     rw (failed.1, failed.2, c.in_err-send_page.ensures.fault)
     (write_fails (contents c.args.writer.now) (contents at.writer) (book.stands at.book) (book.stands new) (book.leaves at.book) (book.leaves new)
     (book.is_sound new) s input _ at.pages so_far sound (left c.answer_next.new.reader) h
@@ -95,7 +94,7 @@ returns-then-not-is_open-clause-all g c = λ sound s stood.
     let k = history c.send_page.new.conversation in
     let all = c.in_ok-send_page.ensures.all in
     for_known (left c.args.reader.now) _ (λ input is.
-    let so_far = at.invariant.so_far (next.sound sound) s stood input is in
+    let so_far = at.invariant.so_far (next.serves.sound sound) s stood input is in
     let got = subst (λ found. FindsNext (book.is_sound new) (book.stands at.book) (book.stands new) (book.leaves new) so_far.rest
     (left c.answer_next.new.reader) h (Ok found)) c.if-not-found.false
     (rest_is (contents c.args.writer.now) (contents at.writer) (book.stands at.book) (book.leaves at.book) s input _ at.pages so_far _ next.next) in
@@ -123,11 +122,9 @@ loop-pages-preserved g c =
       free = all.pending;
       door = all.door ∙ next.door;
       way = all.way ∙ next.way;
-      sound = λ sound. at.invariant.sound (next.sound sound);
-      stays_failed = λ failed. next.stays_failed (at.invariant.stays_failed failed);
-      stays_left = λ failed s t leaves. next.stays_left (at.invariant.stays_failed failed) s t (at.invariant.stays_left failed s t leaves);
+      stays = stays_twice at.invariant.stays (stays_served next.serves);
       so_far = λ sound s stood input is.
-          let so_far = at.invariant.so_far (next.sound sound) s stood input is in
+          let so_far = at.invariant.so_far (next.serves.sound sound) s stood input is in
           let got = subst (λ found. FindsNext (book.is_sound new) (book.stands at.book) (book.stands new) (book.leaves new) so_far.rest
           (left c.answer_next.new.reader) h (Ok found)) c.if-not-found.false
           (rest_is (contents c.args.writer.now) (contents at.writer) (book.stands at.book) (book.leaves at.book) s input _ at.pages so_far _ next.next) in

@@ -1,7 +1,7 @@
 use Rattle.std.proofs.Common.{◌≡◌, List, [], ℕ}
-use Rattle.std.specs.Prelude.{IsTrue, Some}
+use Rattle.std.specs.Prelude.{Some}
 use Rattle.ledger.specs.Answer.{State}
-use Rattle.saga_core.specs.Books.{LeavesNoMore}
+use Rattle.saga_core.specs.Calls.{Stays}
 use Rattle.protocols.specs.Scenes.{scene}
 use Rattle.desk_http.specs.declared.doors.Door.TheVariants.{Port}
 use Rattle.http_ways.specs.declared.ways.Way.TheVariants.{Profile}
@@ -23,9 +23,7 @@ invariant-loop-pages g l =
       free : h.pending ≡ [];
       door : h.door ≡ Port;
       way : h.way ≡ Profile;
-      sound : book.is_sound l.book → book.is_sound l.fn.book;
-      stays_failed : IsTrue (book.has_failed l.fn.book) → IsTrue (book.has_failed l.book);
-      stays_left : IsTrue (book.has_failed l.fn.book) → LeavesNoMore (book.leaves l.fn.book) (book.leaves l.book);
+      stays : Stays book.is_sound book.leaves book.has_failed l.fn.book l.book;
       so_far : book.is_sound l.book → (s : State) → book.stands l.fn.book s → (input : List ℕ) → left l.fn.reader ≡ Some input
           → SoFar (scene (contents l.fn.writer) (contents l.writer) (book.stands l.book) (book.leaves l.book)) s input (to_come h (left l.reader)) l.pages;
     }

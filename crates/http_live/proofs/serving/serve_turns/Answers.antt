@@ -1,9 +1,10 @@
 -- Turn after turn is merged.
-use Rattle.std.proofs.Common.{Ok, Err, Option, ap, false, refl}
+use Rattle.std.proofs.Common.{Ok, Err, Option, ap, false, refl, rules}
 use Rattle.std.proofs.lemmas.Result.{err_from_is_err_and}
 use Rattle.http_conversations.specs.Leading.{has_broken}
 use Rattle.http_live.specs.declared.serving.Ending.{Ending}
 use Rattle.http_live.specs.Endings.{ends_stopped, is_stopped}
+use Rattle.saga_core.proofs.CallLemmas.{stays_alone, stays_served, stays_twice}
 use Rattle.http_live.proofs.Merged.{merges_as, merges_none, merges_then}
 use Rattle.http_live.proofs.serving.serve_turns.Goals as goal
 
@@ -13,11 +14,9 @@ loop-init g c =
     let book = g.B.Book in
     let b = c.args.book.now in record {
       served = merges_none (book.is_sound b) (book.stands b) (book.leaves b) _ _ refl;
-      stays_failed = λ failed. failed;
-      stays_left = λ failed s t left. left;
+      stays = stays_alone b;
       doors = λ doors. doors;
       ways = λ ways. ways;
-      sound = λ sound. sound;
     }
 
 -- one more turn was taken
@@ -29,14 +28,12 @@ loop-preserved g c =
     let new = c.take_turn.new.book in
     let turn = c.in_ok-ending.ensures in record {
       served = merges_then false false (book.is_sound at.book) (book.is_sound new) (book.stands b) (book.stands at.book) (book.stands new) (book.leaves at.book) (book.leaves new)
-          _ _ _ turn.sound at.invariant.served
+          _ _ _ turn.serves.sound at.invariant.served
           (merges_as false (ends_stopped (Ok c.in_ok-ending.ending)) false _ _ _ _ _ _
           (ap (λ end. ends_stopped (Ok end)) c.in-None.is) turn.served);
-      stays_failed = λ failed. turn.stays_failed (at.invariant.stays_failed failed);
-      stays_left = λ failed s t left. turn.stays_left (at.invariant.stays_failed failed) s t (at.invariant.stays_left failed s t left);
+      stays = stays_twice at.invariant.stays (stays_served turn.serves);
       doors = λ doors. turn.doors (at.invariant.doors doors);
       ways = λ ways. turn.ways (at.invariant.ways ways);
-      sound = λ sound. at.invariant.sound (turn.sound sound);
     }
 
 -- the store failed
@@ -50,7 +47,7 @@ returns-in_err-ending-clause-served g c =
     let turn = c.in_err-ending.ensures in
     rw (failed.1, failed.2)
     (merges_then (has_broken {T = Option Ending} (Err c.in_err-ending.field-0.0)) false (book.is_sound at.book) (book.is_sound new) (book.stands b) (book.stands at.book) (book.stands new) (book.leaves at.book) (book.leaves new)
-    _ _ _ turn.sound at.invariant.served turn.served)
+    _ _ _ turn.serves.sound at.invariant.served turn.served)
 
 -- serving ends
 pub returns-in-Some-clause-served : goal.returns-in-Some-clause-served
@@ -61,13 +58,14 @@ returns-in-Some-clause-served g c =
     let new = c.take_turn.new.book in
     let turn = c.in_ok-ending.ensures in
     merges_then false (is_stopped c.in-Some.ending) (book.is_sound at.book) (book.is_sound new) (book.stands b) (book.stands at.book) (book.stands new) (book.leaves at.book) (book.leaves new)
-    _ _ _ turn.sound at.invariant.served
+    _ _ _ turn.serves.sound at.invariant.served
     (merges_as false (ends_stopped (Ok c.in_ok-ending.ending)) (is_stopped c.in-Some.ending) _ _ _ _ _ _
     (ap (λ end. ends_stopped (Ok end)) c.in-Some.is) turn.served)
 
-pub returns-in-Some-clause-stays_left : goal.returns-in-Some-clause-stays_left
-returns-in-Some-clause-stays_left g c = λ failed s t left.
-    c.in_ok-ending.ensures.stays_left (c.loop.invariant.stays_failed failed) s t (c.loop.invariant.stays_left failed s t left)
+pub returns-in-Some-clause-serves : goal.returns-in-Some-clause-serves
+returns-in-Some-clause-serves g c =
+    let stays = stays_twice c.loop.invariant.stays (stays_served c.in_ok-ending.ensures.serves) in
+    record { failed = search rules; stays_failed = stays.stays_failed; stays_left = stays.stays_left; sound = stays.sound }
 
 -- each connection is still at its door
 pub returns-in_err-ending-clause-doors : goal.returns-in_err-ending-clause-doors

@@ -2,7 +2,7 @@
 use Rattle.std.proofs.Common.{◌≡◌}
 use Rattle.std.specs.Prelude.{true, IsTrue}
 use Rattle.ledger.specs.Answer.{State}
-use Rattle.saga_core.specs.Books.{LeavesNoMore}
+use Rattle.saga_core.specs.Calls.{Stays}
 use Rattle.ledger.specs.Ledger.{is_in}
 use Rattle.recovery.specs.Passes.{goes_on}
 use Rattle.saga_core.specs.Runs.{Asks}
@@ -14,9 +14,7 @@ abbrev pub invariant-loop-made : goal.invariant-loop-made
 invariant-loop-made g l =
     let book = g.B.Book in
     record {
-      sound : book.is_sound l.book → book.is_sound l.fn.book;
-      stays_failed : IsTrue (book.has_failed l.fn.book) → IsTrue (book.has_failed l.book);
-      stays_left : IsTrue (book.has_failed l.fn.book) → LeavesNoMore (book.leaves l.fn.book) (book.leaves l.book);
+      stays : Stays book.is_sound book.leaves book.has_failed l.fn.book l.book;
       carried : book.is_sound l.book → (s : State) → book.stands l.fn.book s
           → is_in (goes_on l.pass) s.ledger l.id ≡ true
           → OneSoFar l.pass (book.stands l.book) s l.id l.made;

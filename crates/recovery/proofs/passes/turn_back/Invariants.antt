@@ -1,8 +1,7 @@
 -- The running journeys up to the last one that was treated have turned.
 use Rattle.std.proofs.Common.{◌≤◌}
-use Rattle.std.specs.Prelude.{IsTrue}
 use Rattle.ledger.specs.Answer.{State}
-use Rattle.saga_core.specs.Books.{LeavesNoMore}
+use Rattle.saga_core.specs.Calls.{Stays}
 use Rattle.saga_core.specs.Runs.{Asks}
 use Rattle.recovery.specs.Reasons.{MayRecover}
 use Rattle.recovery.proofs.TurnedLemmas.{TurnedSoFar}
@@ -13,9 +12,7 @@ invariant-loop-round g l =
     let book = g.B.Book in
     record {
       each_once : l.made ≤ l._round;
-      sound : book.is_sound l.book → book.is_sound l.fn.book;
-      stays_failed : IsTrue (book.has_failed l.fn.book) → IsTrue (book.has_failed l.book);
-      stays_left : IsTrue (book.has_failed l.fn.book) → LeavesNoMore (book.leaves l.fn.book) (book.leaves l.book);
+      stays : Stays book.is_sound book.leaves book.has_failed l.fn.book l.book;
       turned : book.is_sound l.book → (s : State) → book.stands l.fn.book s
           → TurnedSoFar (book.stands l.book) s l.after l.made l._round;
       may_act : book.is_sound l.book → (first : _) (later : Asks) (s : State) → MayRecover (book.stands l.fn.book) (book.may_act first l.fn.book) later s

@@ -23,7 +23,7 @@ pub returns-in-Ok-Full-carry-clause-recovered : goal.returns-in-Ok-Full-carry-cl
 returns-in-Ok-Full-carry-clause-recovered g c =
     λ sound s st.
     let stands = g.B.Book.stands in
-    let was = c.carry.ensures.sound sound in
+    let was = c.carry.ensures.stays.sound sound in
     let t = subst (MadeStops (stands c.args.book.now) (stands c.turn_back.new.book))
     c.in-Ok-Through.field-0-is (c.in-Ok-Through.ensures.ok was) s st in
     let b = subst (CarriedAll (stands c.turn_back.new.book) (stands c.carry.new.book) Back)
@@ -40,8 +40,8 @@ pub returns-in-Ok-clause-recovered : goal.returns-in-Ok-clause-recovered
 returns-in-Ok-clause-recovered g c =
     λ sound s st.
     let stands = g.B.Book.stands in
-    let on_way = c.carry-2.ensures.sound sound in
-    let was = c.carry.ensures.sound on_way in
+    let on_way = c.carry-2.ensures.stays.sound sound in
+    let was = c.carry.ensures.stays.sound on_way in
     let t = subst (MadeStops (stands c.args.book.now) (stands c.turn_back.new.book))
     c.in-Ok-Through.field-0-is (c.in-Ok-Through.ensures.ok was) s st in
     let b = subst (CarriedAll (stands c.turn_back.new.book) (stands c.carry.new.book) Back)
@@ -72,7 +72,7 @@ returns-in-Err-clause-fault g c =
 pub returns-in-Err-carry-clause-fault : goal.returns-in-Err-carry-clause-fault
 returns-in-Err-carry-clause-fault g c =
     λ sound s st.
-    let was = c.carry.ensures.sound sound in
+    let was = c.carry.ensures.stays.sound sound in
     let t = subst (MadeStops (g.B.Book.stands c.args.book.now)
     (g.B.Book.stands c.turn_back.new.book)) c.in-Ok-Through.field-0-is
     (c.in-Ok-Through.ensures.ok was) s st in
@@ -86,8 +86,8 @@ pub returns-in-Err-carry-2-clause-fault : goal.returns-in-Err-carry-2-clause-fau
 returns-in-Err-carry-2-clause-fault g c =
     λ sound s st.
     let stands = g.B.Book.stands in
-    let on_way = c.carry-2.ensures.sound sound in
-    let was = c.carry.ensures.sound on_way in
+    let on_way = c.carry-2.ensures.stays.sound sound in
+    let was = c.carry.ensures.stays.sound on_way in
     let t = subst (MadeStops (stands c.args.book.now) (stands c.turn_back.new.book))
     c.in-Ok-Through.field-0-is (c.in-Ok-Through.ensures.ok was) s st in
     let b = subst (CarriedAll (stands c.turn_back.new.book) (stands c.carry.new.book) Back)
@@ -114,7 +114,7 @@ pub returns-in-Ok-Full-carry-clause-may_act : goal.returns-in-Ok-Full-carry-clau
 returns-in-Ok-Full-carry-clause-may_act g c =
     λ sound first later s may.
     let book = g.B.Book in
-    let was = c.carry.ensures.sound sound in
+    let was = c.carry.ensures.stays.sound sound in
     let t = subst (λ r. MadeStops (MayRecover (book.stands c.args.book.now) (book.may_act first c.args.book.now) later) (AfterPass (book.stands c.turn_back.new.book) (book.may_act first c.turn_back.new.book) later r) r)
     c.in-Ok-Through.field-0-is (c.in-Ok-Through.ensures.may_act was first later) s may in
     let b = subst (λ r. CarriedAll (MayRecover (book.stands c.turn_back.new.book) (book.may_act first c.turn_back.new.book) later) (AfterPass (book.stands c.carry.new.book) (book.may_act first c.carry.new.book) later r) Back r)
@@ -130,8 +130,8 @@ pub returns-in-Ok-clause-may_act : goal.returns-in-Ok-clause-may_act
 returns-in-Ok-clause-may_act g c =
     λ sound first later s may.
     let book = g.B.Book in
-    let on_way = c.carry-2.ensures.sound sound in
-    let was = c.carry.ensures.sound on_way in
+    let on_way = c.carry-2.ensures.stays.sound sound in
+    let was = c.carry.ensures.stays.sound on_way in
     let t = subst (λ r. MadeStops (MayRecover (book.stands c.args.book.now) (book.may_act first c.args.book.now) later) (AfterPass (book.stands c.turn_back.new.book) (book.may_act first c.turn_back.new.book) later r) r)
     c.in-Ok-Through.field-0-is (c.in-Ok-Through.ensures.may_act was first later) s may in
     let b = subst (λ r. CarriedAll (MayRecover (book.stands c.turn_back.new.book) (book.may_act first c.turn_back.new.book) later) (AfterPass (book.stands c.carry.new.book) (book.may_act first c.carry.new.book) later r) Back r)
@@ -160,7 +160,7 @@ pub returns-in-Err-carry-clause-reason : goal.returns-in-Err-carry-clause-reason
 returns-in-Err-carry-clause-reason g c =
     λ sound first later store s may.
     let book = g.B.Book in
-    let was = c.carry.ensures.sound sound in
+    let was = c.carry.ensures.stays.sound sound in
     let t = subst (λ r. MadeStops (MayRecover (book.stands c.args.book.now) (book.may_act first c.args.book.now) later) (AfterPass (book.stands c.turn_back.new.book) (book.may_act first c.turn_back.new.book) later r) r)
     c.in-Ok-Through.field-0-is (c.in-Ok-Through.ensures.may_act was first later) s may in
     back-fault (MayRecover (book.stands c.turn_back.new.book) (book.may_act first c.turn_back.new.book) later) (LeavesAt Store NoState (book.has_reason first c.carry.new.book)) s
@@ -171,8 +171,8 @@ pub returns-in-Err-carry-2-clause-reason : goal.returns-in-Err-carry-2-clause-re
 returns-in-Err-carry-2-clause-reason g c =
     λ sound first later store s may.
     let book = g.B.Book in
-    let on_way = c.carry-2.ensures.sound sound in
-    let was = c.carry.ensures.sound on_way in
+    let on_way = c.carry-2.ensures.stays.sound sound in
+    let was = c.carry.ensures.stays.sound on_way in
     let t = subst (λ r. MadeStops (MayRecover (book.stands c.args.book.now) (book.may_act first c.args.book.now) later) (AfterPass (book.stands c.turn_back.new.book) (book.may_act first c.turn_back.new.book) later r) r)
     c.in-Ok-Through.field-0-is (c.in-Ok-Through.ensures.may_act was first later) s may in
     let b = subst (λ r. CarriedAll (MayRecover (book.stands c.turn_back.new.book) (book.may_act first c.turn_back.new.book) later) (AfterPass (book.stands c.carry.new.book) (book.may_act first c.carry.new.book) later r) Back r)

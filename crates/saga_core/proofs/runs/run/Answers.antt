@@ -1,11 +1,12 @@
-use Rattle.std.proofs.Common.{◌≡◌, ◌+◌, [], ◌∷◌, ◌++◌, length, take, ap, sym, ◌∙◌, subst, arith}
+use Rattle.std.proofs.Common.{◌≡◌, ◌+◌, [], ◌∷◌, ◌++◌, take, ap, sym, ◌∙◌, subst, arith}
 use Rattle.std.proofs.lemmas.List.{take_all, length-map}
 use Rattle.std.specs.Option.{option_copied}
 use Rattle.ledger.specs.Answer.{start}
 use Rattle.ledger.specs.World.{after}
 use Rattle.saga_core.specs.Runs.{asked_by, asks_of, replies_to, state_after}
 use Rattle.saga_core.specs.Worlds.{KeepLimits}
-use Rattle.saga_core.proofs.RunLemmas.{IsAt, is_at, stops, replies_to-more, state_after-more}
+use Rattle.saga_core.proofs.CallLemmas.{stays_acted, stays_twice}
+use Rattle.saga_core.proofs.RunLemmas.{is_at, stops, replies_to-more, state_after-more}
 use Rattle.saga_core.proofs.ReasonLemmas.{acts_after_all, acts_more, fails_at}
 use Rattle.saga_core.proofs.RunEndLemmas.{KeepLimits-more, none-ran, run-ends}
 use Rattle.saga_core.proofs.WorldLemmas.{ends-with}
@@ -91,10 +92,7 @@ loop-command-preserved g c =
       room = c.push_reserved.ensures.capacity ∙ c.loop-command.invariant.room;
       count = c.push_reserved.ensures.len ∙ ap (λ n. n + 1) c.loop-command.invariant.count;
       limits = KeepLimits-more at c.loop-command.invariant.limits c.keep_limits.ensures.limits;
-      sound = λ h. c.loop-command.invariant.sound (c.act.ensures.sound h);
-      stays_failed = λ failed. c.act.ensures.stays_failed (c.loop-command.invariant.stays_failed failed);
-      stays_left = λ failed s t leaves. c.act.ensures.stays_left (c.loop-command.invariant.stays_failed failed) s t
-          (c.loop-command.invariant.stays_left failed s t leaves);
+      stays = stays_twice c.loop-command.invariant.stays (stays_acted c.act.ensures);
       replied = λ sound s st.
           let was = c.act.ensures.sound sound in
           let now = c.loop-command.invariant.stands was s st in

@@ -1,8 +1,8 @@
 -- The replies so far, and the state of the book, are those of the commands so far.
 use Rattle.std.proofs.Common.{◌≡◌, ◌++◌, length, take}
-use Rattle.std.specs.Prelude.{drop, vec_len, vec_capacity, IsTrue}
+use Rattle.std.specs.Prelude.{drop, vec_len, vec_capacity}
 use Rattle.ledger.specs.Answer.{State}
-use Rattle.saga_core.specs.Books.{LeavesNoMore}
+use Rattle.saga_core.specs.Calls.{Stays}
 use Rattle.saga_core.specs.Runs.{Asks, asks_of, replies_to, state_after}
 use Rattle.saga_core.specs.Worlds.{KeepLimits}
 use Rattle.saga_core.proofs.runs.run.Given as goal
@@ -14,9 +14,7 @@ invariant-loop-command g l =
       room : vec_capacity l.replies ≡ length l.commands;
       count : vec_len l.replies ≡ l.command-index;
       limits : KeepLimits (take l.command-index (asks_of l.commands));
-      sound : book.is_sound l.book → book.is_sound l.fn.book;
-      stays_failed : IsTrue (book.has_failed l.fn.book) → IsTrue (book.has_failed l.book);
-      stays_left : IsTrue (book.has_failed l.fn.book) → LeavesNoMore (book.leaves l.fn.book) (book.leaves l.book);
+      stays : Stays book.is_sound book.leaves book.has_failed l.fn.book l.book;
       replied : book.is_sound l.book → (s : State) → book.stands l.fn.book s
           → l.replies.items ≡ replies_to s (take l.command-index (asks_of l.commands));
       stands : book.is_sound l.book → (s : State) → book.stands l.fn.book s
