@@ -14,7 +14,8 @@ use Rattle.desk_sql.specs.Lending.{IsNotBegun}
 use Rattle.desk_sql.specs.Meanings.{sorted_rows}
 use Rattle.desk_sql.proofs.Meaning.{MeansEach}
 use Rattle.desk_sql.proofs.Causing.{Takes, query_reason}
-use Rattle.desk_sql.proofs.Selecting.{fails_quietly, leaves_no_more}
+use Rattle.desk_sql.proofs.Quieting.{quiet_of}
+use Rattle.desk_sql.proofs.Selecting.{fails_quietly}
 
 pub not_begun : {S : Type 0} (g : Ghosts S) {text : List ℕ} {tree : ℕ} {filter project : List Term} {order : List (Term × Key)}
     {names : List (List ℕ)} (m : MeansEach text (sorted_rows tree filter project order) names) {params : Row}
@@ -23,9 +24,8 @@ pub not_begun : {S : Type 0} (g : Ghosts S) {text : List ℕ} {tree : ℕ} {filt
     → OnErr r (IsRefused g text params old r new) → OnErr r (IsNotBegun g r old new)
 not_begun g m fits old new (Ok it) refused = tt
 not_begun g {text = text} m {params = params} fits old new (Err e) refused = record {
-  same = λ clean. fails_quietly text (m Two).selects params (state g old) (state g new) e (refused.err clean);
+  quiet = quiet_of g old new text (m Two).selects params
+      (λ clean. fails_quietly text (m Two).selects params (state g old) (state g new) e (refused.err clean)) refused.mode refused.survives;
   reason = λ v clean t sees any up.
       query_reason (m v) (fits v) (state g old) (state g new) up (sees up.is_open).schema e (refused.err clean);
-  mode = refused.mode;
-  survives = leaves_no_more text (m Two).selects params (state g old) (state g new) refused.survives;
 }

@@ -26,6 +26,7 @@ pub mod Ordered
 pub mod Permuting
 pub mod PutReasons
 pub mod Putting
+pub mod Quieting
 pub mod Reading
 pub mod RemovedRows
 pub mod Refusing

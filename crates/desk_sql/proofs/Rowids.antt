@@ -1,20 +1,15 @@
 -- How many rowids a write leaves. For the functions that write.
-use Rattle.std.proofs.Common.{◌≡◌, ◌≢◌, ◌<◌, ◌≤◌, ◌^◌, ◌+◌, ◌+ℤ◌, ◌<ℤ◌, ◌==◌, ℕ, ℤ, suc, pos, inl, inr, List, [], ◌∷◌, map, Bool, true, false, if◌then◌else◌, fold, eqb-true, refl, sym, ap, subst, ◌∙◌, arith}
-use Rattle.std.specs.List.{AllByRecursion}
+use Rattle.std.proofs.Common.{◌≡◌, ◌≢◌, ◌<◌, ◌≤◌, ◌^◌, ◌+ℤ◌, ◌<ℤ◌, ◌==◌, ℕ, ℤ, suc, pos, inl, inr, List, [], ◌∷◌, map, Bool, true, false, if◌then◌else◌, eqb-true, sym, ap, subst, ◌∙◌, arith}
 use Rattle.std.proofs.lemmas.Int.{ints}
 use Rattle.std.proofs.lemmas.Bool.{cases_Bool, eqb-false}
 use Rattle.sqlite.specs.declared.types.Value.TheVariants.{Int}
 use Rattle.sqlite.specs.Order.{Row}
-use Rattle.sqlite.specs.Table.{Table}
-use Rattle.sqlite.specs.Edit.{Edit, edited, Applies, next_rowid}
+use Rattle.sqlite.specs.Edit.{Edit, edited, next_rowid}
 use Rattle.sqlite.specs.State.{State}
 use Rattle.sqlite_trees.specs.Tree.{Trees, rowid, put_row}
-use Rattle.sqlite_schema.specs.declared.schema.Keys.TheVariants.{Enforced}
-use Rattle.sqlite_rules.specs.Lists.{Has}
 use Rattle.sqlite_rules.specs.Edit.{id_in, without_all}
 use Rattle.sqlite_rules.proofs.ListLemmas.{all_has, all_from}
 use Rattle.sqlite_rules.proofs.TableLemmas.{put_has, without_all_has}
-use Rattle.desk_sql.specs.Schema.{desk_schema}
 use Rattle.desk_sql.specs.Lists.{changed}
 use Rattle.desk_sql.specs.Writable.{AreLow, HasRowids}
 use Rattle.desk_sql.proofs.Writing.{Edits}

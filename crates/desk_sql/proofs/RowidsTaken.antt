@@ -1,9 +1,7 @@
 -- How many rowids each statement takes. For the functions that write.
-use Rattle.std.proofs.Common.{◌≡◌, ◌<◌, ◌≤◌, ◌+◌, ◌^◌, ℕ, ℤ, suc, pos, neg_ℤ, List, [], ◌∷◌, ◌++◌, inl, inr, map, drop, Ok, Err, Result, OnOk, Bool, true, refl, sym, ap, subst, ◌∙◌, arith}
-use Rattle.std.specs.List.{AllByRecursion}
+use Rattle.std.proofs.Common.{◌≡◌, ◌<◌, ◌≤◌, ◌+◌, ◌^◌, ℕ, ℤ, suc, pos, neg_ℤ, List, [], ◌∷◌, ◌++◌, inl, inr, drop, Ok, Err, Result, OnOk, Bool, true, refl, sym, ap, subst, ◌∙◌, arith}
 use Rattle.sqlite.specs.declared.types.Value.TheVariants.{Null, Int}
 use Rattle.sqlite.specs.declared.error.Error.{Error}
-use Rattle.sqlite.specs.Order.{Row}
 use Rattle.sqlite.specs.Cast.{cast_row}
 use Rattle.desk_sql.proofs.Reading.{shown_of}
 use Rattle.sqlite.specs.Tree.{Trees, rowid}
@@ -21,7 +19,7 @@ use Rattle.sqlite.specs.Query.{IsAnswer}
 use Rattle.sqlite.specs.Program.{overlay}
 use Rattle.desk_sql.specs.Schema.{meta_at, stock_at, batch_at, journey_at, step_at, answer_at, entry2_at, mark_at}
 use Rattle.desk_sql.specs.Lists.{numbered_row, IsTableOf}
-use Rattle.desk_sql.specs.Rows.{whole, Tables, MetaRow, StockRow, stock_columns, BatchRow, batch_columns, JourneyRow, StepRow, step_columns, AnswerRow, answer_columns, mark_columns}
+use Rattle.desk_sql.specs.Rows.{Tables, MetaRow, StockRow, stock_columns, BatchRow, batch_columns, JourneyRow, StepRow, step_columns, AnswerRow, answer_columns, mark_columns}
 use Rattle.desk_sql.specs.Calls.{MayRun}
 use Rattle.desk_sql.specs.Changes.{is_option, with_taken}
 use Rattle.desk_sql.specs.Stock.{with_places, is_within, with_fewer, with_more, HaveFree, HaveRoom}

@@ -163,6 +163,12 @@ pub err_then : {V E : Type 0} (P Q : E → Type 0) (r : Result V E) → ((e : E)
 err_then P Q (Ok v) step h = h
 err_then P Q (Err e) step h = step e h
 
+-- what follows from three postconditions of a success
+pub ok_each : {V E : Type 0} (A B C D : V → Type 0) (r : Result V E) → ((v : V) → A v → B v → C v → D v)
+    → IfOk r A → IfOk r B → IfOk r C → IfOk r D
+ok_each A B C D (Ok v) step a b c = step v a b c
+ok_each A B C D (Err e) step a b c = tt
+
 -- what follows from the postcondition of a success and from that of a failure follows in each case
 pub either_way : {V E : Type 0} (C : Type 0) (P : V → Type 0) (Q : E → Type 0) (r : Result V E) → ((v : V) → P v → C) → ((e : E) → Q e → C)
     → IfOk r P → IfErr r Q → C

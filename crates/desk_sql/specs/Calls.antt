@@ -1,11 +1,12 @@
 -- What the contract of a statement may say of the connection that it ran on.
-use Rattle.std.specs.Prelude.{◌≡◌, ◌⊎◌, ℕ, [], Result, OnOk, IfOk, IsTrue, ⊤}
+use Rattle.std.specs.Prelude.{◌≡◌, ◌⊎◌, ℕ, false, [], Result, OnOk, IfOk, IsTrue, ⊤}
+use Rattle.std.specs.Borrow.{MutBor}
 use Rattle.std.specs.List.{AllByRecursion}
 use Rattle.sqlite_schema.specs.declared.schema.Schema.{Schema}
 use Rattle.sqlite.specs.Effect.{IsDatabase}
 use Rattle.sqlite.specs.Store.{Ghosts}
 use Rattle.sqlite.specs.Held.{Held, state}
-use Rattle.sqlite.specs.State.{State, HasCleanDisk, IsUnchanged, IsRolledBack, Survives, KeepsCommit}
+use Rattle.sqlite.specs.State.{State, HasCleanDisk, IsUnchanged, IsRolledBack, KeepsCounts, Survives, KeepsCommit}
 use Rattle.sqlite.specs.declared.error.Error.{Error}
 use Rattle.desk_sql.specs.declared.versions.Version.{Version}
 use Rattle.desk_sql.specs.declared.versions.Version.TheVariants.{Two}
@@ -66,6 +67,18 @@ pub record Builds (old new : State) (after : Schema) : Type 0 where
   pub sound : IsDatabase new.now
   pub committed : new.committed ≡ old.committed
 
+-- a shut connection stays as it was
+pub record StaysShut (old new : State) : Type 0 where
+  pub was_shut : old.is_open ≡ false
+  pub is_shut : new.is_open ≡ false
+  pub mode : new.in_transaction ≡ old.in_transaction
+  pub marks : new.marks ≡ old.marks
+  pub counts : KeepsCounts old new
+
+-- nothing has changed, or the transaction was rolled back
+abbrev pub ChangesNothing : State → State → Type 0
+ChangesNothing old new = IsUnchanged old new ⊎ (IsRolledBack old new ⊎ StaysShut old new)
+
 module _ {S : Type 0} (g : Ghosts S) (old new : Held S) where
   -- A write in a transaction: if the rows fit, a success changes them by `after`.
   abbrev pub WritesWhere : (Tables → Type 0) → Result ℕ Error → (Tables → Tables) → Type 0
@@ -125,8 +138,19 @@ module _ {S : Type 0} (g : Ghosts S) (old new : Held S) where
   abbrev pub ReadsEach : {V : Type 0} → Result V Error → (Tables → V → Type 0) → Type 0
   ReadsEach result Finds = (v : Version) → ReadsIn v result Finds
 
-  -- nothing changes, or the transaction of the call is rolled back
-  abbrev pub ChangesNothing : Type 0
-  ChangesNothing =
-      HasCleanDisk (state g new)
-      → IsUnchanged (state g old) (state g new) ⊎ IsRolledBack (state g old) (state g new)
+  -- A read, whatever its answer: nothing changes, or the transaction of the call is rolled back; none is begun; and a crash leaves
+  -- no more than before.
+  pub record Quiet : Type 0 where
+    pub same : HasCleanDisk (state g new) → ChangesNothing (state g old) (state g new)
+    pub mode : old.in_transaction ≡ false → new.in_transaction ≡ false
+    pub survives : LeavesNoMore
+
+module _ {S : Type 0} (g : Ghosts S) (old new : MutBor (Held S)) {V : Type 0} (result : Result V Error) where
+  -- A write, whatever its answer: the transaction is the same one, which goes on after a success; nothing is committed, and a crash
+  -- leaves no more than before.
+  pub record GoesOn : Type 0 where
+    pub same_reference : new.ghost_name ≡ old.ghost_name
+    pub inside : StaysInside g old.now new.now result
+    pub live : WasOpen g old.now new.now result
+    pub commit : CommitsNothing g old.now new.now
+    pub survives : LeavesNoMore g old.now new.now

@@ -1,21 +1,19 @@
 -- What a query leaves of its connection if its rows could not be started.
-use Rattle.std.specs.Prelude.{◌≡◌, false, Result}
+use Rattle.std.specs.Prelude.{Result}
 use Rattle.std.specs.Borrow.{Fml, MutBor, RattleType, RestsIfErr}
 use Rattle.sqlite.specs.Store.{Ghosts}
 use Rattle.sqlite.specs.Held.{Held}
 use Rattle.sqlite.specs.declared.error.Error.{Error}
 use Rattle.sqlite.specs.declared.rows.stream.Rows.{Rows}
 use Rattle.sqlite.specs.contracts.connection.Connection as connection
-use Rattle.desk_sql.specs.Calls.{ChangesNothing, LeavesNoMore}
+use Rattle.desk_sql.specs.Calls.{Quiet}
 use Rattle.desk_sql.specs.Causes.{FailsForReasonEach}
 use Rattle.desk_sql.specs.Readable.{Any}
 
--- nothing changed, a crash leaves no more, and the failure has a reason
+-- the call was quiet, and its failure has a reason
 pub record IsNotBegun {S : Type 0} (g : Ghosts S) {V : Type 0} (result : Result V Error) (old new : Held S) : Type 0 where
-  pub same : ChangesNothing g old new
+  pub quiet : Quiet g old new
   pub reason : FailsForReasonEach g old new result Any
-  pub mode : old.in_transaction ≡ false → new.in_transaction ≡ false
-  pub survives : LeavesNoMore g old new
 
 module _ (S : RattleType) (g : Ghosts S.Denot) where
   -- if the rows could not be started, that becomes of the connection; else the rows borrow it

@@ -1,5 +1,5 @@
 -- The rows of a query that remain to be returned.
-use Rattle.std.specs.Prelude.{◌≡◌, ◌⊎◌, ℕ, List, [], ◌∷◌, ◌++◌, filter, ◌≤◌, Option, Some, None}
+use Rattle.std.specs.Prelude.{◌≡◌, ◌⊎◌, ℕ, false, List, [], ◌∷◌, ◌++◌, filter, ◌≤◌, Option, Some, None}
 use Rattle.sqlite.specs.Order.{Row}
 use Rattle.sqlite.specs.Query.{Query, IsAnswer}
 use Rattle.sqlite.specs.Program.{overlay}
@@ -12,7 +12,7 @@ use Rattle.desk_sql.specs.declared.versions.Version.{Version}
 use Rattle.desk_sql.specs.Schema.{schema_of}
 use Rattle.desk_sql.specs.Lists.{IsListed}
 use Rattle.desk_sql.specs.Rows.{whole, Tables, StockRow, JourneyRow}
-use Rattle.desk_sql.specs.Calls.{MaySeeIn}
+use Rattle.desk_sql.specs.Calls.{MaySeeIn, LeavesNoMore}
 use Rattle.desk_sql.specs.FoundRows.{is_unfinished_after}
 use Rattle.desk_sql.specs.Stock.{IsByCell}
 
@@ -76,3 +76,11 @@ module _ {S : Type 0} (g : Ghosts S) where
     -- nothing changes
     abbrev pub StaysAsItIs : Type 0
     StaysAsItIs = HasCleanDisk (state g new) → IsUnchanged (state g old) (state g new)
+
+    -- Rows were started: of the tables as they are, these values remain to be returned. Nothing changes, no transaction begins, and a
+    -- crash leaves no more than before.
+    pub record Starts {X : Type 0} (IsList : Tables → List X → Type 0) (RestsOn : Held S → List X → Type 0) : Type 0 where
+      pub begun : Begins IsList RestsOn
+      pub same : StaysAsItIs
+      pub mode : old.in_transaction ≡ false → new.in_transaction ≡ false
+      pub survives : LeavesNoMore g old new

@@ -1,6 +1,6 @@
 -- What each write asks of the rows, so that no rule of the tables refuses it: keys that are new, a parent for each reference,
 -- numbers in range, and texts that a row can hold. A row may have a billion bytes.
-use Rattle.std.specs.Prelude.{◌≡◌, ◌≤◌, ◌<◌, ◌+◌, ◌^◌, ◌==◌, ◌+ℤ◌, ◌<ℤ◌, ℕ, suc, pos, List, [], ◌∷◌, length, true, false, Result, OnOk}
+use Rattle.std.specs.Prelude.{◌≡◌, ◌≤◌, ◌<◌, ◌+◌, ◌^◌, ◌==◌, ◌+ℤ◌, ◌<ℤ◌, ℕ, suc, pos, List, length, true, false, Result, OnOk}
 use Rattle.std.specs.List.{AllByRecursion}
 use Rattle.sqlite.specs.Order.{Row}
 use Rattle.sqlite.specs.Store.{Ghosts}
@@ -11,7 +11,7 @@ use Rattle.desk_sql.specs.Calls.{MayRun}
 use Rattle.sqlite_trees.specs.Tree.{Trees, rowid}
 use Rattle.sqlite_rules.specs.Edit.{id_in}
 use Rattle.sqlite_rules.specs.Lists.{Has}
-use Rattle.desk_sql.specs.Rows.{Tables, StockRow, BatchRow, JourneyRow, StepRow, MarkRow, AnswerRow}
+use Rattle.desk_sql.specs.Rows.{Tables, StockRow, BatchRow, JourneyRow, StepRow, AnswerRow}
 use Rattle.desk_sql.specs.FoundRows.{is_for, is_named, is_numbered}
 use Rattle.desk_sql.specs.Stock.{is_within, HaveFree}
 use Rattle.desk_sql.specs.declared.journeys.Cursor.{Cursor}

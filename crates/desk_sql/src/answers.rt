@@ -1,7 +1,7 @@
 //! Replies that are kept under an agent's key.
 
-ghost use Rattle.std.specs.Prelude.{◌≡◌, false, IfOk, IfErr, ⊤};
-ghost use Rattle.desk_sql.specs.Calls.{Writes, StaysInside, WasOpen, CommitsNothing, LeavesNoMore, Reads, ChangesNothing};
+ghost use Rattle.std.specs.Prelude.{◌≡◌, IfOk, IfErr, ⊤};
+ghost use Rattle.desk_sql.specs.Calls.{Writes, Reads, Quiet, GoesOn};
 ghost use Rattle.desk_sql.specs.Changes.{adds_answer, kept};
 ghost use Rattle.desk_sql.specs.FoundRows.{FindsAnswer, shows_answer, two_of};
 ghost use Rattle.desk_sql.specs.Causes.{FailsForReason, FailsToAdd, IsMemory};
@@ -40,11 +40,9 @@ pub fn find_answer<'x, S: Alter>(
     mark: &'x str,
 ) -> Result<Option<KeptAnswer>, Error>
     ensures found { Reads S.Store conn.old conn.new result (FindsAnswer agent.now mark.now) }
-    ensures quiet { ChangesNothing S.Store conn.old conn.new }
     ensures reason { FailsForReason S.Store conn.old conn.new result
         (HasReplyText agent.now mark.now) }
-    ensures mode { conn.old.in_transaction ≡ false → conn.new.in_transaction ≡ false }
-    ensures survives { LeavesNoMore S.Store conn.old conn.new }
+    ensures quiet { Quiet S.Store conn.old conn.new }
 {
     match first_row(
         conn,
@@ -70,16 +68,12 @@ pub fn insert_answer<'x, S: Alter>(
     ask: &'x [u8],
     reply: &'x str,
 ) -> Result<usize, Error>
-    ensures same_reference { tx.new.conn.ghost_name ≡ tx.old.conn.ghost_name }
+    ensures goes { GoesOn S.Store tx.old.conn tx.new.conn result }
     ensures made { Writes S.Store tx.old.conn.now tx.new.conn.now result
         (adds_answer (kept agent.now mark.now ask.now reply.now)) }
     ensures reason { FailsToAdd S.Store tx.old.conn.now tx.new.conn.now result
         (MayKeep (kept agent.now mark.now ask.now reply.now)) }
     ensures rowids { TakesRowid S.Store tx.old.conn.now tx.new.conn.now result (λ _. ⊤) }
-    ensures inside { StaysInside S.Store tx.old.conn.now tx.new.conn.now result }
-    ensures live { WasOpen S.Store tx.old.conn.now tx.new.conn.now result }
-    ensures commit { CommitsNothing S.Store tx.old.conn.now tx.new.conn.now }
-    ensures survives { LeavesNoMore S.Store tx.old.conn.now tx.new.conn.now }
 {
     tx.execute(
         "INSERT INTO answer VALUES (?1, ?2, ?3, ?4)",

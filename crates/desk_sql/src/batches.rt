@@ -1,7 +1,7 @@
 //! Loaded batches.
 
-ghost use Rattle.std.specs.Prelude.{◌≡◌, ◌<◌, ◌^◌, false, IfOk, IfErr, ⊤};
-ghost use Rattle.desk_sql.specs.Calls.{Writes, StaysInside, WasOpen, CommitsNothing, LeavesNoMore, Reads, ChangesNothing};
+ghost use Rattle.std.specs.Prelude.{◌≡◌, ◌<◌, ◌^◌, IfOk, IfErr, ⊤};
+ghost use Rattle.desk_sql.specs.Calls.{Writes, Reads, Quiet, GoesOn};
 ghost use Rattle.desk_sql.specs.Changes.{adds_batch};
 ghost use Rattle.desk_sql.specs.FoundRows.{FindsBatch, shows_batch, two_of};
 ghost use Rattle.desk_sql.specs.Causes.{FailsForReason, IsMemory, FailsToAdd};
@@ -38,10 +38,8 @@ pub fn find_batch<S: Alter>(
     name: &str,
 ) -> Result<Option<BatchFound>, Error>
     ensures found { Reads S.Store conn.old conn.new result (FindsBatch name.now) }
-    ensures quiet { ChangesNothing S.Store conn.old conn.new }
     ensures reason { FailsForReason S.Store conn.old conn.new result Any }
-    ensures mode { conn.old.in_transaction ≡ false → conn.new.in_transaction ≡ false }
-    ensures survives { LeavesNoMore S.Store conn.old conn.new }
+    ensures quiet { Quiet S.Store conn.old conn.new }
 {
     match first_row(
         conn,
@@ -65,16 +63,12 @@ pub fn insert_batch<'x, S: Alter>(
 ) -> Result<usize, Error>
     requires { num < 2 ^ 63 }
 
-    ensures same_reference { tx.new.conn.ghost_name ≡ tx.old.conn.ghost_name }
+    ensures goes { GoesOn S.Store tx.old.conn tx.new.conn result }
     ensures made { Writes S.Store tx.old.conn.now tx.new.conn.now result
         (adds_batch (record { name = name.now; num = num; content = content.now })) }
     ensures reason { FailsToAdd S.Store tx.old.conn.now tx.new.conn.now result
         (MayAddBatch (record { name = name.now; num = num; content = content.now })) }
     ensures rowids { TakesRowid S.Store tx.old.conn.now tx.new.conn.now result (λ _. ⊤) }
-    ensures inside { StaysInside S.Store tx.old.conn.now tx.new.conn.now result }
-    ensures live { WasOpen S.Store tx.old.conn.now tx.new.conn.now result }
-    ensures commit { CommitsNothing S.Store tx.old.conn.now tx.new.conn.now }
-    ensures survives { LeavesNoMore S.Store tx.old.conn.now tx.new.conn.now }
 {
     tx.execute(
         "INSERT INTO batch VALUES (?1, ?2, ?3)",

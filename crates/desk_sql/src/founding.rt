@@ -1,7 +1,7 @@
 //! The creation of the tables, in a store that has none.
 
 ghost use Rattle.std.specs.Prelude.{◌≡◌, ◌↔◌, IsTrue};
-ghost use Rattle.desk_sql.specs.Calls.{BuildsOn, Founds, StaysInside, WasOpen, CommitsNothing, LeavesNoMore};
+ghost use Rattle.desk_sql.specs.Calls.{BuildsOn, Founds, GoesOn};
 ghost use Rattle.desk_sql.specs.Causes.{FailsToBuild};
 ghost use Rattle.desk_sql.specs.Changes.{founded};
 ghost use Rattle.desk_sql.specs.Schema.{no_schema, first_schema, seven_schema, desk_schema};
@@ -19,13 +19,9 @@ pub fn has_no_tables(schema: &Schema) -> bool
 
 /// Creates all tables, with the row of `meta` of schema 2, in a store that has no table.
 pub fn make_tables<S: Alter>(tx: &mut Transaction<'_, S>) -> Result<(), Error>
-    ensures same_reference { tx.new.conn.ghost_name ≡ tx.old.conn.ghost_name }
+    ensures goes { GoesOn S.Store tx.old.conn tx.new.conn result }
     ensures made { Founds S.Store tx.old.conn.now tx.new.conn.now result founded }
     ensures reason { FailsToBuild S.Store tx.old.conn.now tx.new.conn.now no_schema result }
-    ensures inside { StaysInside S.Store tx.old.conn.now tx.new.conn.now result }
-    ensures live { WasOpen S.Store tx.old.conn.now tx.new.conn.now result }
-    ensures commit { CommitsNothing S.Store tx.old.conn.now tx.new.conn.now }
-    ensures survives { LeavesNoMore S.Store tx.old.conn.now tx.new.conn.now }
 {
     make_first(tx)?;
     make_next(tx)?;
@@ -36,13 +32,9 @@ pub fn make_tables<S: Alter>(tx: &mut Transaction<'_, S>) -> Result<(), Error>
 
 // Creates `meta`, `stock`, `batch` and `journey`.
 fn make_first<S: Alter>(tx: &mut Transaction<'_, S>) -> Result<(), Error>
-    ensures same_reference { tx.new.conn.ghost_name ≡ tx.old.conn.ghost_name }
+    ensures goes { GoesOn S.Store tx.old.conn tx.new.conn result }
     ensures made { BuildsOn S.Store tx.old.conn.now tx.new.conn.now no_schema result first_schema }
     ensures reason { FailsToBuild S.Store tx.old.conn.now tx.new.conn.now no_schema result }
-    ensures inside { StaysInside S.Store tx.old.conn.now tx.new.conn.now result }
-    ensures live { WasOpen S.Store tx.old.conn.now tx.new.conn.now result }
-    ensures commit { CommitsNothing S.Store tx.old.conn.now tx.new.conn.now }
-    ensures survives { LeavesNoMore S.Store tx.old.conn.now tx.new.conn.now }
 {
     tx.execute(
         "CREATE TABLE meta(one INTEGER PRIMARY KEY CHECK(one = 1), version INTEGER NOT NULL, events INTEGER NOT NULL, journeys INTEGER NOT NULL) STRICT",
@@ -65,14 +57,10 @@ fn make_first<S: Alter>(tx: &mut Transaction<'_, S>) -> Result<(), Error>
 
 // Creates `step`, `entry` and `answer`.
 fn make_next<S: Alter>(tx: &mut Transaction<'_, S>) -> Result<(), Error>
-    ensures same_reference { tx.new.conn.ghost_name ≡ tx.old.conn.ghost_name }
+    ensures goes { GoesOn S.Store tx.old.conn tx.new.conn result }
     ensures made { BuildsOn S.Store tx.old.conn.now tx.new.conn.now
         first_schema result seven_schema }
     ensures reason { FailsToBuild S.Store tx.old.conn.now tx.new.conn.now first_schema result }
-    ensures inside { StaysInside S.Store tx.old.conn.now tx.new.conn.now result }
-    ensures live { WasOpen S.Store tx.old.conn.now tx.new.conn.now result }
-    ensures commit { CommitsNothing S.Store tx.old.conn.now tx.new.conn.now }
-    ensures survives { LeavesNoMore S.Store tx.old.conn.now tx.new.conn.now }
 {
     tx.execute(
         "CREATE TABLE step(journey INTEGER NOT NULL REFERENCES journey(id), place INTEGER NOT NULL, opt INTEGER NOT NULL, save INTEGER NOT NULL CHECK(save IN (0, 1)), taken INTEGER NOT NULL CHECK(taken IN (0, 1)), kind INTEGER NOT NULL, supplier TEXT NOT NULL, product TEXT NOT NULL, night INTEGER NOT NULL, nights INTEGER NOT NULL, places INTEGER NOT NULL, PRIMARY KEY(journey, place, opt)) STRICT",
@@ -91,14 +79,10 @@ fn make_next<S: Alter>(tx: &mut Transaction<'_, S>) -> Result<(), Error>
 
 // Creates `entry2` and `mark`.
 fn make_last<S: Alter>(tx: &mut Transaction<'_, S>) -> Result<(), Error>
-    ensures same_reference { tx.new.conn.ghost_name ≡ tx.old.conn.ghost_name }
+    ensures goes { GoesOn S.Store tx.old.conn tx.new.conn result }
     ensures made { BuildsOn S.Store tx.old.conn.now tx.new.conn.now
         seven_schema result desk_schema }
     ensures reason { FailsToBuild S.Store tx.old.conn.now tx.new.conn.now seven_schema result }
-    ensures inside { StaysInside S.Store tx.old.conn.now tx.new.conn.now result }
-    ensures live { WasOpen S.Store tx.old.conn.now tx.new.conn.now result }
-    ensures commit { CommitsNothing S.Store tx.old.conn.now tx.new.conn.now }
-    ensures survives { LeavesNoMore S.Store tx.old.conn.now tx.new.conn.now }
 {
     tx.execute(
         "CREATE TABLE entry2(num INTEGER PRIMARY KEY, journey INTEGER NOT NULL REFERENCES journey(id), item INTEGER NOT NULL CHECK(item BETWEEN 0 AND 3), a INTEGER NOT NULL, b INTEGER NOT NULL) STRICT",

@@ -1,7 +1,7 @@
 //! Journeys, each with its cursor.
 
-ghost use Rattle.std.specs.Prelude.{◌≡◌, ◌<◌, ◌^◌, false, IfOk, IfErr, ⊤, map};
-ghost use Rattle.desk_sql.specs.Calls.{Writes, WritesWhere, StaysInside, WasOpen, CommitsNothing, LeavesNoMore, Reads, ReadsEach, ChangesNothing};
+ghost use Rattle.std.specs.Prelude.{◌≡◌, ◌<◌, ◌^◌, IfOk, IfErr, ⊤, map};
+ghost use Rattle.desk_sql.specs.Calls.{Writes, WritesWhere, Reads, ReadsEach, Quiet, GoesOn};
 ghost use Rattle.desk_sql.specs.Changes.{AreJourneysBelow, adds_journey, begun, IsSmallCursor, moves_journey, IsSmallItem, AreItemsBelow, adds_item};
 ghost use Rattle.desk_sql.specs.FoundRows.{FindsJourney, FindsOwned, FindsUnfinished, shows_cursor, cursor_of, shows_journey, nine_of, FindsItems, shows_item, four_of};
 ghost use Rattle.desk_sql.specs.Causes.{FailsForReason, FailsForReasonEach, IsMemory, FailsToWrite};
@@ -92,10 +92,8 @@ pub fn find_journey<S: Alter>(
     requires { id < 2 ^ 63 }
 
     ensures found { ReadsEach S.Store conn.old conn.new result (FindsJourney id) }
-    ensures quiet { ChangesNothing S.Store conn.old conn.new }
     ensures reason { FailsForReasonEach S.Store conn.old conn.new result (HasAgentText id) }
-    ensures mode { conn.old.in_transaction ≡ false → conn.new.in_transaction ≡ false }
-    ensures survives { LeavesNoMore S.Store conn.old conn.new }
+    ensures quiet { Quiet S.Store conn.old conn.new }
 {
     match first_row(
         conn,
@@ -118,10 +116,8 @@ pub fn first_unfinished<S: Alter>(
     requires { after < 2 ^ 63 }
 
     ensures found { Reads S.Store conn.old conn.new result (FindsUnfinished after) }
-    ensures quiet { ChangesNothing S.Store conn.old conn.new }
     ensures reason { FailsForReason S.Store conn.old conn.new result (HaveAgentTexts after) }
-    ensures mode { conn.old.in_transaction ≡ false → conn.new.in_transaction ≡ false }
-    ensures survives { LeavesNoMore S.Store conn.old conn.new }
+    ensures quiet { Quiet S.Store conn.old conn.new }
 {
     match first_row(
         conn,
@@ -146,11 +142,9 @@ pub fn first_owned<'x, S: Alter>(
     requires { after < 2 ^ 63 }
 
     ensures found { Reads S.Store conn.old conn.new result (FindsOwned agent.now after) }
-    ensures quiet { ChangesNothing S.Store conn.old conn.new }
     ensures reason { FailsForReason S.Store conn.old conn.new result
         (HaveOwnedTexts agent.now after) }
-    ensures mode { conn.old.in_transaction ≡ false → conn.new.in_transaction ≡ false }
-    ensures survives { LeavesNoMore S.Store conn.old conn.new }
+    ensures quiet { Quiet S.Store conn.old conn.new }
 {
     match first_row(
         conn,
@@ -182,16 +176,12 @@ pub fn insert_journey<S: Alter>(
     requires steps { steps < 2 ^ 63 }
     requires tries { tries < 2 ^ 63 }
 
-    ensures same_reference { tx.new.conn.ghost_name ≡ tx.old.conn.ghost_name }
+    ensures goes { GoesOn S.Store tx.old.conn tx.new.conn result }
     ensures made { WritesWhere S.Store tx.old.conn.now tx.new.conn.now (AreJourneysBelow id) result
         (adds_journey (begun id num agent.now steps tries)) }
     ensures reason { FailsToWrite S.Store tx.old.conn.now tx.new.conn.now result
         (MayAddJourney (begun id num agent.now steps tries)) }
     ensures rowids { KeepsRowids S.Store tx.old.conn.now tx.new.conn.now result (λ _. ⊤) }
-    ensures inside { StaysInside S.Store tx.old.conn.now tx.new.conn.now result }
-    ensures live { WasOpen S.Store tx.old.conn.now tx.new.conn.now result }
-    ensures commit { CommitsNothing S.Store tx.old.conn.now tx.new.conn.now }
-    ensures survives { LeavesNoMore S.Store tx.old.conn.now tx.new.conn.now }
 {
     tx.execute(
         "INSERT INTO journey VALUES (?1, ?2, ?3, ?4, ?5, ?6, ?7, ?8, ?9)",
@@ -218,15 +208,11 @@ pub fn move_journey<S: Alter>(
     requires id { id < 2 ^ 63 }
     requires cursor { IsSmallCursor cursor }
 
-    ensures same_reference { tx.new.conn.ghost_name ≡ tx.old.conn.ghost_name }
+    ensures goes { GoesOn S.Store tx.old.conn tx.new.conn result }
     ensures made { Writes S.Store tx.old.conn.now tx.new.conn.now result (moves_journey id cursor) }
     ensures reason { FailsToWrite S.Store tx.old.conn.now tx.new.conn.now result
         (MayMove id cursor) }
     ensures rowids { KeepsRowids S.Store tx.old.conn.now tx.new.conn.now result (λ _. ⊤) }
-    ensures inside { StaysInside S.Store tx.old.conn.now tx.new.conn.now result }
-    ensures live { WasOpen S.Store tx.old.conn.now tx.new.conn.now result }
-    ensures commit { CommitsNothing S.Store tx.old.conn.now tx.new.conn.now }
-    ensures survives { LeavesNoMore S.Store tx.old.conn.now tx.new.conn.now }
 {
     tx.execute(
         "UPDATE journey SET pos = ?2, phase = ?3, target = ?4, used = ?5 WHERE id = ?1",
@@ -292,10 +278,8 @@ pub fn find_items<S: Alter>(
 
     ensures found { Reads S.Store conn.old conn.new result
         (λ t found. FindsItems journey after t found.items) }
-    ensures quiet { ChangesNothing S.Store conn.old conn.new }
     ensures reason { FailsForReason S.Store conn.old conn.new result Any }
-    ensures mode { conn.old.in_transaction ≡ false → conn.new.in_transaction ≡ false }
-    ensures survives { LeavesNoMore S.Store conn.old conn.new }
+    ensures quiet { Quiet S.Store conn.old conn.new }
 {
     let rows = all_rows(
         conn,
@@ -315,17 +299,13 @@ pub fn insert_item<S: Alter>(
     requires journey { journey < 2 ^ 63 }
     requires item { IsSmallItem item }
 
-    ensures same_reference { tx.new.conn.ghost_name ≡ tx.old.conn.ghost_name }
+    ensures goes { GoesOn S.Store tx.old.conn tx.new.conn result }
     ensures made { WritesWhere S.Store tx.old.conn.now tx.new.conn.now
         (AreItemsBelow item.num) result
         (adds_item journey item) }
     ensures reason { FailsToWrite S.Store tx.old.conn.now tx.new.conn.now result
         (MayAddItem journey item) }
     ensures rowids { KeepsRowids S.Store tx.old.conn.now tx.new.conn.now result (λ _. ⊤) }
-    ensures inside { StaysInside S.Store tx.old.conn.now tx.new.conn.now result }
-    ensures live { WasOpen S.Store tx.old.conn.now tx.new.conn.now result }
-    ensures commit { CommitsNothing S.Store tx.old.conn.now tx.new.conn.now }
-    ensures survives { LeavesNoMore S.Store tx.old.conn.now tx.new.conn.now }
 {
     tx.execute(
         "INSERT INTO entry2 VALUES (?1, ?2, ?3, ?4, ?5)",

@@ -1,8 +1,8 @@
 //! Save-points that were taken at run time and still stand.
 
-ghost use Rattle.std.specs.Prelude.{◌≡◌, ◌<◌, ◌^◌, false, map, IfOk, ◌∷◌, [], IfErr, ⊤};
+ghost use Rattle.std.specs.Prelude.{◌≡◌, ◌<◌, ◌^◌, map, IfOk, [], IfErr, ⊤};
 ghost use Rattle.sqlite.specs.Order.{column};
-ghost use Rattle.desk_sql.specs.Calls.{Writes, StaysInside, WasOpen, CommitsNothing, LeavesNoMore, Reads, ChangesNothing};
+ghost use Rattle.desk_sql.specs.Calls.{Writes, Reads, Quiet, GoesOn};
 ghost use Rattle.desk_sql.specs.Changes.{adds_mark, drops_mark};
 ghost use Rattle.desk_sql.specs.FoundRows.{FindsMarks};
 ghost use Rattle.desk_sql.specs.Rows.{whole};
@@ -40,10 +40,8 @@ pub fn find_marks<S: Alter>(
 
     ensures found { Reads S.Store conn.old conn.new result
         (λ t found. FindsMarks journey t found.items) }
-    ensures quiet { ChangesNothing S.Store conn.old conn.new }
     ensures reason { FailsForReason S.Store conn.old conn.new result Any }
-    ensures mode { conn.old.in_transaction ≡ false → conn.new.in_transaction ≡ false }
-    ensures survives { LeavesNoMore S.Store conn.old conn.new }
+    ensures quiet { Quiet S.Store conn.old conn.new }
 {
     let rows = all_rows(
         conn,
@@ -63,15 +61,11 @@ pub fn insert_mark<S: Alter>(
     requires journey { journey < 2 ^ 63 }
     requires pos { pos < 2 ^ 63 }
 
-    ensures same_reference { tx.new.conn.ghost_name ≡ tx.old.conn.ghost_name }
+    ensures goes { GoesOn S.Store tx.old.conn tx.new.conn result }
     ensures made { Writes S.Store tx.old.conn.now tx.new.conn.now result (adds_mark journey pos) }
     ensures reason { FailsToAdd S.Store tx.old.conn.now tx.new.conn.now result
         (MayAddMark journey pos) }
     ensures rowids { TakesRowid S.Store tx.old.conn.now tx.new.conn.now result (λ _. ⊤) }
-    ensures inside { StaysInside S.Store tx.old.conn.now tx.new.conn.now result }
-    ensures live { WasOpen S.Store tx.old.conn.now tx.new.conn.now result }
-    ensures commit { CommitsNothing S.Store tx.old.conn.now tx.new.conn.now }
-    ensures survives { LeavesNoMore S.Store tx.old.conn.now tx.new.conn.now }
 {
     tx.execute(
         "INSERT INTO mark VALUES (?1, ?2)",
@@ -88,14 +82,10 @@ pub fn delete_mark<S: Alter>(
     requires journey { journey < 2 ^ 63 }
     requires pos { pos < 2 ^ 63 }
 
-    ensures same_reference { tx.new.conn.ghost_name ≡ tx.old.conn.ghost_name }
+    ensures goes { GoesOn S.Store tx.old.conn tx.new.conn result }
     ensures made { Writes S.Store tx.old.conn.now tx.new.conn.now result (drops_mark journey pos) }
     ensures reason { FailsToWrite S.Store tx.old.conn.now tx.new.conn.now result (λ _. ⊤) }
     ensures rowids { KeepsRowids S.Store tx.old.conn.now tx.new.conn.now result (λ _. ⊤) }
-    ensures inside { StaysInside S.Store tx.old.conn.now tx.new.conn.now result }
-    ensures live { WasOpen S.Store tx.old.conn.now tx.new.conn.now result }
-    ensures commit { CommitsNothing S.Store tx.old.conn.now tx.new.conn.now }
-    ensures survives { LeavesNoMore S.Store tx.old.conn.now tx.new.conn.now }
 {
     tx.execute(
         "DELETE FROM mark WHERE journey = ?1 AND pos = ?2",

@@ -1,7 +1,7 @@
 //! The one row of `meta`: the version of the schema, the number of events, and the number of the last journey.
 
-ghost use Rattle.std.specs.Prelude.{◌≡◌, ◌<◌, ◌^◌, false, IfOk, IfErr, ⊤};
-ghost use Rattle.desk_sql.specs.Calls.{Writes, WritesWhere, StaysInside, WasOpen, CommitsNothing, LeavesNoMore, ReadsEach, ChangesNothing};
+ghost use Rattle.std.specs.Prelude.{◌≡◌, ◌<◌, ◌^◌, IfOk, IfErr, ⊤};
+ghost use Rattle.desk_sql.specs.Calls.{Writes, WritesWhere, ReadsEach, Quiet, GoesOn};
 ghost use Rattle.desk_sql.specs.Changes.{LacksMeta, adds_meta, at_first, counts};
 ghost use Rattle.desk_sql.specs.FoundRows.{IsMeta, shows_meta, three_of};
 ghost use Rattle.desk_sql.specs.Causes.{FailsForReasonEach, IsMemory, FailsToWrite};
@@ -42,10 +42,8 @@ fn meta_of(row: &Row) -> Result<Meta, Error>
 /// Returns the numbers of the one row. A `meta` without a row is an error.
 pub fn read_meta<S: Alter>(conn: &mut Connection<S>) -> Result<Meta, Error>
     ensures found { ReadsEach S.Store conn.old conn.new result IsMeta }
-    ensures quiet { ChangesNothing S.Store conn.old conn.new }
     ensures reason { FailsForReasonEach S.Store conn.old conn.new result HasMeta }
-    ensures mode { conn.old.in_transaction ≡ false → conn.new.in_transaction ≡ false }
-    ensures survives { LeavesNoMore S.Store conn.old conn.new }
+    ensures quiet { Quiet S.Store conn.old conn.new }
 {
     match first_row(
         conn,
@@ -64,14 +62,10 @@ pub(crate) fn insert_meta<S: Alter>(
 ) -> Result<usize, Error>
     requires { version < 2 ^ 63 }
 
-    ensures same_reference { tx.new.conn.ghost_name ≡ tx.old.conn.ghost_name }
+    ensures goes { GoesOn S.Store tx.old.conn tx.new.conn result }
     ensures made { WritesWhere S.Store tx.old.conn.now tx.new.conn.now LacksMeta result
         (adds_meta (at_first version)) }
     ensures reason { FailsToWrite S.Store tx.old.conn.now tx.new.conn.now result LacksMeta }
-    ensures inside { StaysInside S.Store tx.old.conn.now tx.new.conn.now result }
-    ensures live { WasOpen S.Store tx.old.conn.now tx.new.conn.now result }
-    ensures commit { CommitsNothing S.Store tx.old.conn.now tx.new.conn.now }
-    ensures survives { LeavesNoMore S.Store tx.old.conn.now tx.new.conn.now }
 {
     tx.execute(
         "INSERT INTO meta VALUES (1, ?1, 0, 0)",
@@ -90,16 +84,12 @@ pub fn update_meta<S: Alter>(
     requires events { events < 2 ^ 63 }
     requires journeys { journeys < 2 ^ 63 }
 
-    ensures same_reference { tx.new.conn.ghost_name ≡ tx.old.conn.ghost_name }
+    ensures goes { GoesOn S.Store tx.old.conn tx.new.conn result }
     ensures made { Writes S.Store tx.old.conn.now tx.new.conn.now result
         (counts (record { version = version; events = events; journeys = journeys })) }
     ensures reason { FailsToWrite S.Store tx.old.conn.now tx.new.conn.now result
         (λ _. ⊤) }
     ensures rowids { KeepsRowids S.Store tx.old.conn.now tx.new.conn.now result (λ _. ⊤) }
-    ensures inside { StaysInside S.Store tx.old.conn.now tx.new.conn.now result }
-    ensures live { WasOpen S.Store tx.old.conn.now tx.new.conn.now result }
-    ensures commit { CommitsNothing S.Store tx.old.conn.now tx.new.conn.now }
-    ensures survives { LeavesNoMore S.Store tx.old.conn.now tx.new.conn.now }
 {
     tx.execute(
         "UPDATE meta SET version = ?1, events = ?2, journeys = ?3 WHERE one = 1",

@@ -1,10 +1,10 @@
 //! A SELECT outside of a transaction: it changes nothing, whatever the store does.
 
-ghost use Rattle.std.specs.Prelude.{◌≡◌, false, IfOk, IfErr};
+ghost use Rattle.std.specs.Prelude.{IfOk, IfErr};
 ghost use Rattle.sqlite.specs.Values.{bound};
 ghost use Rattle.sqlite.specs.Held.{state};
 ghost use Rattle.sqlite.specs.State.{HasCleanDisk, FailsToQuery};
-ghost use Rattle.desk_sql.specs.Calls.{ChangesNothing, LeavesNoMore};
+ghost use Rattle.desk_sql.specs.Calls.{Quiet};
 ghost use Rattle.desk_sql.specs.Queries.{IsSelect, GivesRow, GivesRows};
 
 use sqlite::types::ValueRef;
@@ -21,12 +21,10 @@ pub fn first_row<S: Alter>(
     ensures row { HasCleanDisk (state S.Store conn.new) → IfOk result (λ found.
         GivesRow text.now (bound params.now) (state S.Store conn.old)
         (state S.Store conn.new) found) }
-    ensures quiet { ChangesNothing S.Store conn.old conn.new }
     ensures reason { HasCleanDisk (state S.Store conn.new) → IfErr result (λ e.
         FailsToQuery text.now (bound params.now) (state S.Store conn.old)
         (state S.Store conn.new) e) }
-    ensures mode { conn.old.in_transaction ≡ false → conn.new.in_transaction ≡ false }
-    ensures survives { LeavesNoMore S.Store conn.old conn.new }
+    ensures quiet { Quiet S.Store conn.old conn.new }
 {
     match conn.query_row(text, params) {
         Ok(row) => Ok(Some(row)),
@@ -48,12 +46,10 @@ pub(crate) fn all_rows<S: Alter>(
     ensures rows { HasCleanDisk (state S.Store conn.new) → IfOk result (λ rows.
         GivesRows text.now (bound params.now) (state S.Store conn.old)
         (state S.Store conn.new) rows.items) }
-    ensures quiet { ChangesNothing S.Store conn.old conn.new }
     ensures reason { HasCleanDisk (state S.Store conn.new) → IfErr result (λ e.
         FailsToQuery text.now (bound params.now) (state S.Store conn.old)
         (state S.Store conn.new) e) }
-    ensures mode { conn.old.in_transaction ≡ false → conn.new.in_transaction ≡ false }
-    ensures survives { LeavesNoMore S.Store conn.old conn.new }
+    ensures quiet { Quiet S.Store conn.old conn.new }
 {
     conn.query_all(text, params)
 }

@@ -1,7 +1,7 @@
 //! The options of the steps of each plan.
 
-ghost use Rattle.std.specs.Prelude.{◌≡◌, ◌<◌, ◌^◌, false, map, IfOk, IfErr, ⊤};
-ghost use Rattle.desk_sql.specs.Calls.{Writes, StaysInside, WasOpen, CommitsNothing, LeavesNoMore, Reads, ReadsEach, ChangesNothing};
+ghost use Rattle.std.specs.Prelude.{◌≡◌, ◌<◌, ◌^◌, map, IfOk, IfErr, ⊤};
+ghost use Rattle.desk_sql.specs.Calls.{Writes, Reads, ReadsEach, Quiet, GoesOn};
 ghost use Rattle.desk_sql.specs.Changes.{IsSmallOption, adds_step, untaken, marks_step};
 ghost use Rattle.desk_sql.specs.FoundRows.{FindsSteps, FindsOptions, shows_step, ten_of};
 ghost use Rattle.std.specs.List.{AllByRecursion};
@@ -43,16 +43,12 @@ pub fn insert_step<S: Alter>(
 ) -> Result<usize, Error>
     requires { IsSmallOption option }
 
-    ensures same_reference { tx.new.conn.ghost_name ≡ tx.old.conn.ghost_name }
+    ensures goes { GoesOn S.Store tx.old.conn tx.new.conn result }
     ensures made { Writes S.Store tx.old.conn.now tx.new.conn.now result
         (adds_step (untaken option.entry)) }
     ensures reason { FailsToAdd S.Store tx.old.conn.now tx.new.conn.now result
         (MayAddStep (untaken option.entry)) }
     ensures rowids { TakesRowid S.Store tx.old.conn.now tx.new.conn.now result (λ _. ⊤) }
-    ensures inside { StaysInside S.Store tx.old.conn.now tx.new.conn.now result }
-    ensures live { WasOpen S.Store tx.old.conn.now tx.new.conn.now result }
-    ensures commit { CommitsNothing S.Store tx.old.conn.now tx.new.conn.now }
-    ensures survives { LeavesNoMore S.Store tx.old.conn.now tx.new.conn.now }
 {
     tx.execute(
         "INSERT INTO step VALUES (?1, ?2, ?3, ?4, 0, ?5, ?6, ?7, ?8, ?9, ?10)",
@@ -146,10 +142,8 @@ pub fn find_steps<S: Alter>(
 
     ensures found { ReadsEach S.Store conn.old conn.new result
         (λ t found. FindsSteps journey t found.items) }
-    ensures quiet { ChangesNothing S.Store conn.old conn.new }
     ensures reason { FailsForReasonEach S.Store conn.old conn.new result (HaveWantTexts journey) }
-    ensures mode { conn.old.in_transaction ≡ false → conn.new.in_transaction ≡ false }
-    ensures survives { LeavesNoMore S.Store conn.old conn.new }
+    ensures quiet { Quiet S.Store conn.old conn.new }
 {
     let rows = all_rows(
         conn,
@@ -172,11 +166,9 @@ pub fn find_options<S: Alter>(
 
     ensures found { Reads S.Store conn.old conn.new result
         (λ t found. FindsOptions journey place t found.items) }
-    ensures quiet { ChangesNothing S.Store conn.old conn.new }
     ensures reason { FailsForReason S.Store conn.old conn.new result
         (HaveOptionTexts journey place) }
-    ensures mode { conn.old.in_transaction ≡ false → conn.new.in_transaction ≡ false }
-    ensures survives { LeavesNoMore S.Store conn.old conn.new }
+    ensures quiet { Quiet S.Store conn.old conn.new }
 {
     let rows = all_rows(
         conn,
@@ -200,16 +192,12 @@ pub fn mark_step<S: Alter>(
     requires opt { opt < 2 ^ 63 }
     requires taken { taken < 2 ^ 63 }
 
-    ensures same_reference { tx.new.conn.ghost_name ≡ tx.old.conn.ghost_name }
+    ensures goes { GoesOn S.Store tx.old.conn tx.new.conn result }
     ensures made { Writes S.Store tx.old.conn.now tx.new.conn.now result
         (marks_step journey place opt taken) }
     ensures reason { FailsToChange S.Store tx.old.conn.now tx.new.conn.now result
         (MayMarkStep journey place opt taken) }
     ensures rowids { KeepsRowids S.Store tx.old.conn.now tx.new.conn.now result (λ _. ⊤) }
-    ensures inside { StaysInside S.Store tx.old.conn.now tx.new.conn.now result }
-    ensures live { WasOpen S.Store tx.old.conn.now tx.new.conn.now result }
-    ensures commit { CommitsNothing S.Store tx.old.conn.now tx.new.conn.now }
-    ensures survives { LeavesNoMore S.Store tx.old.conn.now tx.new.conn.now }
 {
     tx.execute(
         "UPDATE step SET taken = ?4 WHERE journey = ?1 AND place = ?2 AND opt = ?3",

@@ -1,7 +1,7 @@
 //! The places of each cell.
 
-ghost use Rattle.std.specs.Prelude.{◌≡◌, ◌<◌, ◌^◌, false, map, pos, neg_ℤ, IfOk, IfErr, ⊤};
-ghost use Rattle.desk_sql.specs.Calls.{WritesWhere, StaysInside, WasOpen, CommitsNothing, LeavesNoMore, Reads, ChangesNothing};
+ghost use Rattle.std.specs.Prelude.{◌≡◌, ◌<◌, ◌^◌, map, pos, neg_ℤ, IfOk, IfErr, ⊤};
+ghost use Rattle.desk_sql.specs.Calls.{WritesWhere, Reads, Quiet, GoesOn};
 ghost use Rattle.desk_sql.specs.Stock.{IsSmallRange, FindsNights, shows_night, shows_cell, HaveFree, HaveRoom, takes_nights, gives_nights, IsSmallCell, AreApart, placed, puts_cell};
 ghost use Rattle.desk_sql.specs.FoundRows.{three_of, six_of};
 ghost use Rattle.std.specs.List.{AllByRecursion};
@@ -71,10 +71,8 @@ pub fn find_nights<S: Alter>(
 
     ensures found { Reads S.Store conn.old conn.new result
         (λ t found. FindsNights range.entry t found.items) }
-    ensures quiet { ChangesNothing S.Store conn.old conn.new }
     ensures reason { FailsForReason S.Store conn.old conn.new result Any }
-    ensures mode { conn.old.in_transaction ≡ false → conn.new.in_transaction ≡ false }
-    ensures survives { LeavesNoMore S.Store conn.old conn.new }
+    ensures quiet { Quiet S.Store conn.old conn.new }
 {
     let rows = all_rows(
         conn,
@@ -136,7 +134,7 @@ pub fn take_nights<S: Alter>(
     requires range { IsSmallRange range }
     requires count { count < 2 ^ 63 }
 
-    ensures same_reference { tx.new.conn.ghost_name ≡ tx.old.conn.ghost_name }
+    ensures goes { GoesOn S.Store tx.old.conn tx.new.conn result }
     ensures made { WritesWhere S.Store tx.old.conn.now tx.new.conn.now
         (HaveFree range.entry count) result
         (takes_nights range.entry count) }
@@ -144,10 +142,6 @@ pub fn take_nights<S: Alter>(
         (MayTakeNights range.entry count) }
     ensures rowids { KeepsRowids S.Store tx.old.conn.now tx.new.conn.now result
         (HaveFree range.entry count) }
-    ensures inside { StaysInside S.Store tx.old.conn.now tx.new.conn.now result }
-    ensures live { WasOpen S.Store tx.old.conn.now tx.new.conn.now result }
-    ensures commit { CommitsNothing S.Store tx.old.conn.now tx.new.conn.now }
-    ensures survives { LeavesNoMore S.Store tx.old.conn.now tx.new.conn.now }
 {
     tx.execute(
         "UPDATE stock SET free = free - ?4 WHERE kind = ?1 AND supplier = ?2 AND product = ?3 AND night BETWEEN ?5 AND ?6",
@@ -180,7 +174,7 @@ pub fn give_nights<S: Alter>(
     requires range { IsSmallRange range }
     requires count { count < 2 ^ 63 }
 
-    ensures same_reference { tx.new.conn.ghost_name ≡ tx.old.conn.ghost_name }
+    ensures goes { GoesOn S.Store tx.old.conn tx.new.conn result }
     ensures made { WritesWhere S.Store tx.old.conn.now tx.new.conn.now
         (HaveRoom range.entry count) result
         (gives_nights range.entry count) }
@@ -188,10 +182,6 @@ pub fn give_nights<S: Alter>(
         (MayGiveNights range.entry count) }
     ensures rowids { KeepsRowids S.Store tx.old.conn.now tx.new.conn.now result
         (HaveRoom range.entry count) }
-    ensures inside { StaysInside S.Store tx.old.conn.now tx.new.conn.now result }
-    ensures live { WasOpen S.Store tx.old.conn.now tx.new.conn.now result }
-    ensures commit { CommitsNothing S.Store tx.old.conn.now tx.new.conn.now }
-    ensures survives { LeavesNoMore S.Store tx.old.conn.now tx.new.conn.now }
 {
     tx.execute(
         "UPDATE stock SET free = free - ?4 WHERE kind = ?1 AND supplier = ?2 AND product = ?3 AND night BETWEEN ?5 AND ?6",
@@ -223,16 +213,12 @@ pub struct CellPlaces<'x> {
 pub fn put_cell<S: Alter>(tx: &mut Transaction<'_, S>, cell: CellPlaces<'_>) -> Result<usize, Error>
     requires { IsSmallCell cell }
 
-    ensures same_reference { tx.new.conn.ghost_name ≡ tx.old.conn.ghost_name }
+    ensures goes { GoesOn S.Store tx.old.conn tx.new.conn result }
     ensures made { WritesWhere S.Store tx.old.conn.now tx.new.conn.now AreApart result
         (puts_cell (placed cell.entry)) }
     ensures reason { FailsToAdd S.Store tx.old.conn.now tx.new.conn.now result
         (MayPut (placed cell.entry)) }
     ensures rowids { TakesRowid S.Store tx.old.conn.now tx.new.conn.now result (λ _. ⊤) }
-    ensures inside { StaysInside S.Store tx.old.conn.now tx.new.conn.now result }
-    ensures live { WasOpen S.Store tx.old.conn.now tx.new.conn.now result }
-    ensures commit { CommitsNothing S.Store tx.old.conn.now tx.new.conn.now }
-    ensures survives { LeavesNoMore S.Store tx.old.conn.now tx.new.conn.now }
 {
     tx.execute(
         "INSERT INTO stock VALUES (?1, ?2, ?3, ?4, ?5, ?6) ON CONFLICT(kind, supplier, product, night) DO UPDATE SET allot = excluded.allot, free = excluded.free",

@@ -8,16 +8,18 @@ use Rattle.sqlite_schema.specs.declared.schema.Schema.{Schema}
 use Rattle.desk_sql.specs.declared.versions.Version.{Version}
 use Rattle.desk_sql.specs.declared.versions.Version.TheVariants.{One, Two}
 use Rattle.desk_sql.specs.declared.meta.Meta.{Meta}
+use Rattle.desk_sql.specs.Calls.{Quiet}
 use Rattle.desk_sql.specs.Rows.{Tables, MetaRow, no_rows}
 use Rattle.desk_sql.specs.Schema.{no_schema, seven_schema}
 use Rattle.desk_sql.specs.Versions.{number_of, AreOfVersion, SawVersion}
 use Rattle.ledger.specs.Answer.{State}
 use Rattle.sql_model.specs.Keeping.{SeesOf, IsFound, KeepsIn, StoodFor, WasClean}
 use Rattle.sql_model.specs.Standing.{StandsIn}
-use Rattle.sql_model.proofs.KeepLemmas.{left_before}
+use Rattle.sql_model.proofs.Quieting.{quiet_clean, quiet_leaves}
 use Rattle.migrate.specs.declared.faults.MigrateFault.{MigrateFault}
 use Rattle.migrate.specs.declared.faults.MigrateFault.TheVariants.{AlreadyNew, UnknownSchema, Store, Memory}
-use Rattle.migrate.specs.Migrating.{IsAsBefore, IsRefusal, LeavesEither, LeavesOneOf, NumbersOld, ShowsAsBefore, ShowsOld, Tells, WasNotOld}
+use Rattle.migrate.specs.Migrating.{IsRefusal, LeavesEither, LeavesOneOf, NumbersOld, ShowsAsBefore, ShowsOld, Tells, WasNotOld}
+use Rattle.migrate.proofs.Quiet.{as_before}
 use Rattle.migrate.proofs.Reading.{found_keeps}
 
 -- version 1 has tables
@@ -61,20 +63,24 @@ module _ {S : Type 0} (g : Ghosts S) (old mid : Held S) where
         | inr fresh ↦ filled fresh.schema
       ]
 
-  module _ (same : IsAsBefore g old mid) where
-    -- a disk that is clean after a call that changed nothing was clean before it
+  module _ (quiet : Quiet g old mid) where
+    -- a disk that is clean after a quiet call was clean before it
     at_first : HasCleanDisk (state g mid) → HasCleanDisk (state g old)
-    at_first clean = omega (arith, same.leaves.clean)
+    at_first = quiet_clean g old mid quiet
 
-    -- after a call that changed nothing a crash leaves what it could leave before
+    -- after a quiet call a crash leaves what it could leave before
     pub left_as_before : LeavesEither g old mid
     left_as_before clean v s stood db may =
-        let before = left_before (state g old) (state g mid) same.leaves clean db may in
+        let before = quiet_leaves g old mid quiet clean db may in
         inl (before, (stood (at_first clean)).leaves db before)
 
     -- after such a call the connection shows what it showed
     pub shows_as_before : ShowsAsBefore g old mid
-    shows_as_before clean v s stood live = (same.stands v s stood clean).sees live
+    shows_as_before clean v s stood live = ((as_before g old mid quiet).stands v s stood clean).sees live
+
+    -- and keeps what it represented in tables of version 1
+    pub kept_there : (s : State) → StoodFor One (state g old) s → KeepsIn One (state g mid) s
+    kept_there s stood still = found_keeps (state g mid) s ((as_before g old mid quiet).stands One s stood still)
 
     -- where the tables have a version other than 1, the connection represented no state in tables of version 1
     not_old : (n : ℕ) → n ≢ 1 → SawVersion g old mid n → WasNotOld g old mid
@@ -90,35 +96,31 @@ module _ {S : Type 0} (g : Ghosts S) (old mid : Held S) where
         not_bare (sym desk.schema ∙ bare)
 
   -- so no refusal comes on tables of version 1
-  pub refuses_others : (why : MigrateFault) → Tells g old mid why → IsRefusal why → WasNotOld g old mid
-  refuses_others AlreadyNew told is = not_old told.1 2 (λ e. omega (arith, e)) told.0
-  refuses_others (UnknownSchema n) told is = elim told.0.2 [
-    | inl none ↦ bare_not_old told.1 none.1
-    | inr saw ↦ not_old told.1 n told.0.0 saw
+  pub refuses_others : Quiet g old mid → (why : MigrateFault) → Tells g old mid why → IsRefusal why → WasNotOld g old mid
+  refuses_others quiet AlreadyNew told is = not_old quiet 2 (λ e. omega (arith, e)) told.0
+  refuses_others quiet (UnknownSchema n) told is = elim told.0.2 [
+    | inl none ↦ bare_not_old quiet none.1
+    | inr saw ↦ not_old quiet n told.0.0 saw
   ]
-  refuses_others Store told is = absurd is
-  refuses_others Memory told is = absurd is
+  refuses_others quiet Store told is = absurd is
+  refuses_others quiet Memory told is = absurd is
 
   -- A migration that failed after tables of version 1 were read.
-  module _ (new : Held S) (m : Meta) (same : IsAsBefore g old mid) (saw : SawVersion g old mid 1) (filled : old.schema ≡ no_schema → ⊥)
+  module _ (new : Held S) (m : Meta) (quiet : Quiet g old mid) (saw : SawVersion g old mid 1) (filled : old.schema ≡ no_schema → ⊥)
       (sound : WasClean g mid new) where
-    -- the connection kept the state when the transaction began
-    kept_there : (s : State) → StoodFor One (state g old) s → KeepsIn One (state g mid) s
-    kept_there s stood still = found_keeps (state g mid) s (same.stands One s stood still)
-
     -- a crash leaves what it could leave at first, or the new tables
     pub left_either : NumbersOld g old mid m → LeavesOneOf g mid new m → LeavesEither g old new
     left_either numbers left clean One s stood db may =
         let at_mid = sound clean in
-        elim (left clean s (numbers at_mid s stood) (kept_there s stood) db may) [
-          | inl before ↦ left_as_before same at_mid One s stood db before
+        elim (left clean s (numbers at_mid s stood) (kept_there quiet s stood) db may) [
+          | inl before ↦ left_as_before quiet at_mid One s stood db before
           | inr next ↦ inr (refl, next)
         ]
     left_either numbers left clean Two s stood db may =
-        absurd (not_new s saw filled (sound clean) (at_first same (sound clean)) stood)
+        absurd (not_new s saw filled (sound clean) (at_first quiet (sound clean)) stood)
 
     -- the connection shows the old tables
     pub shows_either : ShowsOld g mid new → ShowsAsBefore g old new
-    shows_either shows clean One s stood live = shows clean s (kept_there s stood) live
+    shows_either shows clean One s stood live = shows clean s (kept_there quiet s stood) live
     shows_either shows clean Two s stood live =
-        absurd (not_new s saw filled (sound clean) (at_first same (sound clean)) stood)
+        absurd (not_new s saw filled (sound clean) (at_first quiet (sound clean)) stood)

@@ -1,5 +1,5 @@
 -- Copying items from the old tables to the new one.
-use Rattle.std.specs.Prelude.{ℕ, List, filter, nat_lt, Result, OnOk, IsTrue}
+use Rattle.std.specs.Prelude.{◌<◌, ℕ, List, filter, nat_lt, Result, OnOk, IsTrue}
 use Rattle.sqlite.specs.Store.{Ghosts}
 use Rattle.sqlite.specs.Held.{Held, state}
 use Rattle.sqlite.specs.State.{State, HasCleanDisk, KeepsCommit, Survives}
@@ -50,5 +50,7 @@ module _ {S : Type 0} (g : Ghosts S) (old new : Held S) where
         → KeepsCommit (state g old) (state g new)
     pub inside : HasCleanDisk (state g new) → IsTrue (state g old).in_transaction
         → IsTrue (state g new).in_transaction
+    pub live : 0 < n → HasCleanDisk (state g new) → IsTrue (state g old).in_transaction
+        → IsTrue (state g old).is_open
     pub made : HasCleanDisk (state g new) → (t : Tables) → HasCopied 0 (state g old) t
         → HasCopied n (state g new) t

@@ -6,7 +6,7 @@
 ghost use Rattle.std.specs.Prelude.{◌≡◌, ◌<◌, ◌^◌, ℕ, false, None, Err, IfOk, IfErr, OnOk, OnErr};
 ghost use Rattle.sqlite.specs.Held.{state};
 ghost use Rattle.desk_sql.specs.Schema.{no_schema};
-ghost use Rattle.desk_sql.specs.Calls.{StaysInside, WasOpen, CommitsNothing, LeavesNoMore};
+ghost use Rattle.desk_sql.specs.Calls.{GoesOn, Quiet};
 ghost use Rattle.desk_sql.specs.Versions.{SawVersion};
 ghost use Rattle.sql_model.specs.Keeping.{WasClean};
 ghost use Rattle.sql_model.specs.Staying.{StaysUp};
@@ -29,6 +29,7 @@ pub struct Migrated {
 }
 
 /// Reads the numbers of tables of version 1. Other tables are refused, and nothing changes.
+#[tactic(auto, using(desk_sql::proofs::Quieting::quiet_alone))]
 fn read_old<S: Alter>(conn: &mut Connection<S>) -> Result<Meta, MigrateFault>
     requires outside { conn.old.in_transaction ≡ false }
 
@@ -41,9 +42,7 @@ fn read_old<S: Alter>(conn: &mut Connection<S>) -> Result<Meta, MigrateFault>
     ensures bare { conn.old.schema ≡ no_schema → result ≡ Err (MigrateFault.UnknownSchema 0) }
     ensures store { IfErr result (FailsToRead S.Store conn.old conn.new) }
 
-    ensures up { OnOk result (StaysUp S.Store conn.old conn.new) }
-    ensures same { IsAsBefore S.Store conn.old conn.new }
-    ensures outside { conn.new.in_transaction ≡ false }
+    ensures quiet { Quiet S.Store conn.old conn.new }
 {
     if has_no_tables(conn.schema()) {
         return Err(MigrateFault::UnknownSchema(0));
@@ -74,13 +73,9 @@ fn write_new<S: Alter>(tx: &mut Transaction<'_, S>, meta: Meta) -> Result<(), Er
     requires events { meta.events < 2 ^ 62 }
     requires journeys { meta.journeys < 2 ^ 62 }
 
-    ensures same_reference { tx.new.conn.ghost_name ≡ tx.old.conn.ghost_name }
+    ensures goes { GoesOn S.Store tx.old.conn tx.new.conn result }
     ensures made { WritesNew S.Store tx.old.conn.now tx.new.conn.now result meta }
     ensures reason { FailsOnOld S.Store tx.old.conn.now tx.new.conn.now result }
-    ensures inside { StaysInside S.Store tx.old.conn.now tx.new.conn.now result }
-    ensures live { WasOpen S.Store tx.old.conn.now tx.new.conn.now result }
-    ensures commit { CommitsNothing S.Store tx.old.conn.now tx.new.conn.now }
-    ensures survives { LeavesNoMore S.Store tx.old.conn.now tx.new.conn.now }
 {
     add_tables(tx)?;
     copy_all(tx, meta.events)?;

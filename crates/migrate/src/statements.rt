@@ -1,7 +1,7 @@
 //! The statements that only migration runs: they make the new tables beside the old ones, and copy the items.
 
-ghost use Rattle.std.specs.Prelude.{◌≡◌, ◌+◌, ◌≤◌, ◌<◌, ◌^◌};
-ghost use Rattle.desk_sql.specs.Calls.{StaysInside, WasOpen, CommitsNothing, LeavesNoMore};
+ghost use Rattle.std.specs.Prelude.{◌+◌, ◌≤◌, ◌<◌, ◌^◌};
+ghost use Rattle.desk_sql.specs.Calls.{GoesOn};
 ghost use Rattle.migrate.specs.Copying.{AddsTables, CopiesItems};
 ghost use Rattle.migrate.specs.Reasons.{FailsOnOld, FailsToCopy};
 
@@ -13,13 +13,9 @@ const RANGE: u64 = 4096;
 
 /// Makes `entry2` and `mark`, without rows, beside the tables of version 1.
 pub(crate) fn add_tables<S: Alter>(tx: &mut Transaction<'_, S>) -> Result<(), Error>
-    ensures same_reference { tx.new.conn.ghost_name ≡ tx.old.conn.ghost_name }
+    ensures goes { GoesOn S.Store tx.old.conn tx.new.conn result }
     ensures made { AddsTables S.Store tx.old.conn.now tx.new.conn.now result }
     ensures reason { FailsOnOld S.Store tx.old.conn.now tx.new.conn.now result }
-    ensures inside { StaysInside S.Store tx.old.conn.now tx.new.conn.now result }
-    ensures live { WasOpen S.Store tx.old.conn.now tx.new.conn.now result }
-    ensures commit { CommitsNothing S.Store tx.old.conn.now tx.new.conn.now }
-    ensures survives { LeavesNoMore S.Store tx.old.conn.now tx.new.conn.now }
 {
     tx.execute(
         "CREATE TABLE entry2(num INTEGER PRIMARY KEY, journey INTEGER NOT NULL REFERENCES journey(id), item INTEGER NOT NULL CHECK(item BETWEEN 0 AND 3), a INTEGER NOT NULL, b INTEGER NOT NULL) STRICT",
@@ -37,12 +33,9 @@ fn copy_items<S: Alter>(tx: &mut Transaction<'_, S>, first: u64, last: u64) -> R
     requires order { first ≤ last }
     requires last { last < 2 ^ 63 }
 
-    ensures same_reference { tx.new.conn.ghost_name ≡ tx.old.conn.ghost_name }
+    ensures goes { GoesOn S.Store tx.old.conn tx.new.conn result }
     ensures made { CopiesItems S.Store tx.old.conn.now tx.new.conn.now result first (last + 1) }
     ensures reason { FailsToCopy S.Store tx.old.conn.now tx.new.conn.now result first }
-    ensures inside { StaysInside S.Store tx.old.conn.now tx.new.conn.now result }
-    ensures commit { CommitsNothing S.Store tx.old.conn.now tx.new.conn.now }
-    ensures survives { LeavesNoMore S.Store tx.old.conn.now tx.new.conn.now }
 {
     tx.execute(
         "INSERT INTO entry2 SELECT num, journey, item, a, b FROM entry WHERE num BETWEEN ?1 AND ?2 ORDER BY num",
@@ -55,12 +48,9 @@ fn copy_items<S: Alter>(tx: &mut Transaction<'_, S>, first: u64, last: u64) -> R
 pub(crate) fn copy_all<S: Alter>(tx: &mut Transaction<'_, S>, events: u64) -> Result<(), Error>
     requires events { events < 2 ^ 62 }
 
-    ensures same_reference { tx.new.conn.ghost_name ≡ tx.old.conn.ghost_name }
+    ensures goes { GoesOn S.Store tx.old.conn tx.new.conn result }
     ensures made { CopiesItems S.Store tx.old.conn.now tx.new.conn.now result 0 (events + 1) }
     ensures reason { FailsToCopy S.Store tx.old.conn.now tx.new.conn.now result 0 }
-    ensures inside { StaysInside S.Store tx.old.conn.now tx.new.conn.now result }
-    ensures commit { CommitsNothing S.Store tx.old.conn.now tx.new.conn.now }
-    ensures survives { LeavesNoMore S.Store tx.old.conn.now tx.new.conn.now }
 {
     let mut first = 0;
     while first <= events {

@@ -1,16 +1,13 @@
 -- The rows of the journeys that are asked for. For `brief_rows`.
-use Rattle.std.proofs.Common.{◌≡◌, ℕ, suc, ◌+◌, ◌<◌, ◌≤◌, List, [], ◌∷◌, map, filter, cond, length, Bool, true, false, Some, refl, sym, ap, ◌∙◌, arith}
-use Rattle.std.specs.Prelude.{slice_get, filter_map, option_map, nat_le, ◌&&◌}
-use Rattle.std.specs.List.{cons_option}
+use Rattle.std.proofs.Common.{◌≡◌, ℕ, suc, ◌<◌, ◌≤◌, List, [], ◌∷◌, map, filter, refl, sym, ap, ◌∙◌, arith}
+use Rattle.std.specs.Prelude.{nat_le, ◌&&◌}
 use Rattle.std.specs.List.Sorted.{IsPermutation}
 use Rattle.std.proofs.lemmas.List.Sorted.{IsPermutation-refl}
 use Rattle.sqlite_trees.proofs.ListLemmas.{ascending-filter, ascending_weaker}
-use Rattle.allotment.specs.Cells.{numbers_from}
 use Rattle.commands.specs.declared.items.Phase.{Phase}
 use Rattle.commands.specs.declared.items.Phase.TheVariants.{Run, Back, Ended, Undone}
 use Rattle.ledger.specs.History.{phase}
-use Rattle.ledger.specs.Ledger.{Event, journey_at, numbers, history}
-use Rattle.saga_core.specs.Views.{brief_of_journey, brief_of}
+use Rattle.ledger.specs.Ledger.{Event, history}
 use Rattle.saga_core.specs.declared.records.Brief.{Brief}
 use Rattle.desk_sql.specs.Rows.{JourneyRow}
 use Rattle.filters.specs.CellFilters.{is_name_asked}
@@ -22,13 +19,8 @@ use Rattle.filters.specs.declared.journeys.Phases.TheVariants.{All, Unfinished, 
 use Rattle.sql_lists.specs.JourneyLists.{ListsJourneys, is_journey_listed, least_phase, most_phase}
 use Rattle.desk_sql.specs.Rows.{Tables}
 use Rattle.sql_model.specs.ExpectedRows.{counted_from, Begun, begun, phase_number, journeys_called}
-use Rattle.sql_model.proofs.Events.{length-begun}
-use Rattle.sql_model.proofs.JourneyRows.{row_in, begun_there, called_rises}
+use Rattle.sql_model.proofs.JourneyRows.{row_in, called_rises}
 use Rattle.sql_model.proofs.Orders.{Rises, one_order}
-use Rattle.desk_sql.specs.FoundRows.{journey_of}
-use Rattle.desk_sql.specs.declared.journeys.JourneyFound.{JourneyFound}
-use Rattle.sql_reads.specs.Reading.{TellsBrief}
-use Rattle.sql_reads.proofs.ReadJourneys.{brief_told}
 use Rattle.sql_model.specs.Briefs.{short_of, short_told, TellBriefs}
 use Rattle.sql_reads.proofs.HandedBriefs.{brief_in, briefs, kept_alike}
 

@@ -1,2 +1,3 @@
 pub mod RowsLeft
 pub mod HoldersLeft
+pub mod Stopping

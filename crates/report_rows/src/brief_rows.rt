@@ -1,19 +1,20 @@
 //! Briefs of journeys, in order of number, read one at a time.
 
-ghost use Rattle.std.specs.Prelude.{◌≡◌, ◌<◌, ◌+◌, ◌-◌, ◌^◌, true, false, Err, IfOk, IsErrOf, OnErr};
+ghost use Rattle.std.specs.Prelude.{◌≡◌, ◌<◌, ◌+◌, ◌-◌, ◌^◌, false, IfOk, IsErrOf};
 ghost use Rattle.std.specs.Borrow.{sem};
 ghost use Rattle.saga_core.specs.Views.{unfinished_of};
 ghost use Rattle.sqlite.specs.Held.{state};
 ghost use Rattle.sqlite.specs.State.{HasCleanDisk};
 ghost use Rattle.filters.specs.JourneyFilters.{asked_of};
+ghost use Rattle.desk_sql.specs.Calls.{Quiet};
 ghost use Rattle.desk_sql.specs.declared.versions.Version.{Version};
 ghost use Rattle.sql_reads.specs.Lending.{LeavesIfErr};
 ghost use Rattle.sql_reads.specs.RemainingRows.{RowsStay};
 ghost use Rattle.sql_lists.specs.ListedRows.{AreGoodBriefsRest, BriefsRest};
-ghost use Rattle.sql_reads.specs.RemainingRows.{BeginsKept, IsLeftAsItWas};
+ghost use Rattle.sql_reads.specs.RemainingRows.{BeginsKept};
 ghost use Rattle.saga_core.specs.RowSources.{count_of, Hands};
 ghost use Rattle.desk_sql.specs.Causes.{HasFaulted, IsUp};
-ghost use Rattle.sql_model.specs.Staying.{StaysUp};
+ghost use Rattle.report_rows.specs.Stopping.{StopsAtFault};
 
 use crate::progress::Progress;
 use commands::Fault;
@@ -39,8 +40,7 @@ pub fn start_unfinished<S: Alter>(conn: &mut Connection<S>) -> Result<Rows<'_, S
     ensures rows { IfOk result (λ it. (v : Version)
         → BeginsKept S.Store conn.old it.conn.now v (λ s briefs. briefs ≡ unfinished_of s.ledger)
         (BriefsRest S.Store it.conn.now)) }
-    ensures kept { IfOk result (λ it. IsLeftAsItWas S.Store conn.old it.conn.now) }
-    ensures up { IfOk result (λ it. StaysUp S.Store conn.old it.conn.now) }
+    ensures quiet { IfOk result (λ it. Quiet S.Store conn.old it.conn.now) }
 {
     hand_unfinished(conn, 0)
 }
@@ -55,8 +55,7 @@ pub fn start_journeys<'a, S: Alter>(
     ensures rows { IfOk result (λ it. (v : Version)
         → BeginsKept S.Store conn.old it.conn.now v (λ s briefs.
         briefs ≡ asked_of filter.now s.ledger) (BriefsRest S.Store it.conn.now)) }
-    ensures kept { IfOk result (λ it. IsLeftAsItWas S.Store conn.old it.conn.now) }
-    ensures up { IfOk result (λ it. StaysUp S.Store conn.old it.conn.now) }
+    ensures quiet { IfOk result (λ it. Quiet S.Store conn.old it.conn.now) }
 {
     hand_journeys(conn, filter)
 }
@@ -85,7 +84,6 @@ impl<S: Alter> RowSource<Brief> for JourneyRows<'_, '_, S> {
             × BriefsRest S.Store self.new.rows.now.conn.now rows)) }
         ensures counted { IfOk result (λ found.
             self.new.progress.given ≡ count_of found + self.old.progress.given) }
-        ensures uncounted { OnErr result (self.new.progress.given ≡ self.old.progress.given) }
         ensures few { self.new.progress.given < 2 ^ 64 }
 
         ensures kept { RowsStay S.Store self.old.rows self.new.rows }
@@ -99,9 +97,7 @@ impl<S: Alter> RowSource<Brief> for JourneyRows<'_, '_, S> {
             → IsUp (state S.Store self.old.rows.now.conn.now) → IsErrOf result Fault.Store
             → HasFaulted (state S.Store self.old.rows.now.conn.now)
             (state S.Store self.new.rows.now.conn.now) }
-        ensures failed { OnErr result (self.new.progress.failed ≡ true) }
-        ensures stays_failed { self.old.progress.failed ≡ true → result ≡ Err Fault.Store }
-        ensures up { StaysUp S.Store self.old.rows.now.conn.now self.new.rows.now.conn.now }
+        ensures stops { StopsAtFault self.old.progress self.new.progress result }
     {
         let given = self.progress.given;
         if self.progress.failed {

@@ -1,19 +1,20 @@
 //! Cells with their places, in order of kind, supplier, product and night, read one at a time.
 
-ghost use Rattle.std.specs.Prelude.{◌≡◌, ◌<◌, ◌+◌, ◌-◌, ◌^◌, true, false, Err, IfOk, IsErrOf, OnErr};
+ghost use Rattle.std.specs.Prelude.{◌≡◌, ◌<◌, ◌+◌, ◌-◌, ◌^◌, false, IfOk, IsErrOf};
 ghost use Rattle.std.specs.Borrow.{sem};
 ghost use Rattle.saga_core.specs.Views.{IsStock};
 ghost use Rattle.sqlite.specs.Held.{state};
 ghost use Rattle.sqlite.specs.State.{HasCleanDisk};
+ghost use Rattle.desk_sql.specs.Calls.{Quiet};
 ghost use Rattle.desk_sql.specs.declared.versions.Version.{Version};
 ghost use Rattle.sql_reads.specs.Lending.{LeavesIfErr};
 ghost use Rattle.sql_reads.specs.RemainingRows.{RowsStay};
 ghost use Rattle.report_rows.specs.RowsLeft.{AreCellsOf};
 ghost use Rattle.sql_lists.specs.ListedRows.{AreGoodCellsRest, StockRests};
-ghost use Rattle.sql_reads.specs.RemainingRows.{BeginsKept, IsLeftAsItWas};
+ghost use Rattle.sql_reads.specs.RemainingRows.{BeginsKept};
 ghost use Rattle.saga_core.specs.RowSources.{count_of, Hands};
 ghost use Rattle.desk_sql.specs.Causes.{HasFaulted, IsUp};
-ghost use Rattle.sql_model.specs.Staying.{StaysUp};
+ghost use Rattle.report_rows.specs.Stopping.{StopsAtFault};
 
 use crate::progress::Progress;
 use allotment::{Cell, Held, Kind};
@@ -40,8 +41,7 @@ pub fn start_stock<S: Alter>(conn: &mut Connection<S>) -> Result<Rows<'_, S>, Er
     ensures rows { IfOk result (λ it. (v : Version)
         → BeginsKept S.Store conn.old it.conn.now v (λ s rows. IsStock s.ledger rows)
         (StockRests S.Store it.conn.now)) }
-    ensures kept { IfOk result (λ it. IsLeftAsItWas S.Store conn.old it.conn.now) }
-    ensures up { IfOk result (λ it. StaysUp S.Store conn.old it.conn.now) }
+    ensures quiet { IfOk result (λ it. Quiet S.Store conn.old it.conn.now) }
 {
     hand_stock(conn)
 }
@@ -58,8 +58,7 @@ pub fn start_cells<'a, S: Alter>(
     ensures rows { IfOk result (λ it. (v : Version)
         → BeginsKept S.Store conn.old it.conn.now v (λ s rows.
         AreCellsOf kind filter.now s.ledger rows) (StockRests S.Store it.conn.now)) }
-    ensures kept { IfOk result (λ it. IsLeftAsItWas S.Store conn.old it.conn.now) }
-    ensures up { IfOk result (λ it. StaysUp S.Store conn.old it.conn.now) }
+    ensures quiet { IfOk result (λ it. Quiet S.Store conn.old it.conn.now) }
 {
     hand_cells(conn, kind, filter)
 }
@@ -88,7 +87,6 @@ impl<S: Alter> RowSource<(Cell, Held)> for CellRows<'_, '_, S> {
             × StockRests S.Store self.new.rows.now.conn.now rows)) }
         ensures counted { IfOk result (λ found.
             self.new.progress.given ≡ count_of found + self.old.progress.given) }
-        ensures uncounted { OnErr result (self.new.progress.given ≡ self.old.progress.given) }
         ensures few { self.new.progress.given < 2 ^ 64 }
 
         ensures kept { RowsStay S.Store self.old.rows self.new.rows }
@@ -102,9 +100,7 @@ impl<S: Alter> RowSource<(Cell, Held)> for CellRows<'_, '_, S> {
             → IsUp (state S.Store self.old.rows.now.conn.now) → IsErrOf result Fault.Store
             → HasFaulted (state S.Store self.old.rows.now.conn.now)
             (state S.Store self.new.rows.now.conn.now) }
-        ensures failed { OnErr result (self.new.progress.failed ≡ true) }
-        ensures stays_failed { self.old.progress.failed ≡ true → result ≡ Err Fault.Store }
-        ensures up { StaysUp S.Store self.old.rows.now.conn.now self.new.rows.now.conn.now }
+        ensures stops { StopsAtFault self.old.progress self.new.progress result }
     {
         let given = self.progress.given;
         if self.progress.failed {

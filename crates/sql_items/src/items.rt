@@ -2,8 +2,8 @@
 //!
 //! The store reads no further than the item that is found.
 
-ghost use Rattle.std.specs.Prelude.{◌≡◌, ◌<◌, ◌^◌, false};
-ghost use Rattle.desk_sql.specs.Calls.{Reads, ChangesNothing, LeavesNoMore};
+ghost use Rattle.std.specs.Prelude.{◌<◌, ◌^◌};
+ghost use Rattle.desk_sql.specs.Calls.{Reads, Quiet};
 ghost use Rattle.desk_sql.specs.FoundRows.{FindsNextItem};
 ghost use Rattle.desk_sql.specs.Causes.{FailsForReason};
 ghost use Rattle.desk_sql.specs.Readable.{Any};
@@ -22,10 +22,8 @@ pub fn next_item<S: Alter>(
     requires after { after < 2 ^ 63 }
 
     ensures found { Reads S.Store conn.old conn.new result (FindsNextItem journey after) }
-    ensures quiet { ChangesNothing S.Store conn.old conn.new }
     ensures reason { FailsForReason S.Store conn.old conn.new result Any }
-    ensures mode { conn.old.in_transaction ≡ false → conn.new.in_transaction ≡ false }
-    ensures survives { LeavesNoMore S.Store conn.old conn.new }
+    ensures quiet { Quiet S.Store conn.old conn.new }
 {
     match first_row(
         conn,

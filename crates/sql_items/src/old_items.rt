@@ -2,8 +2,8 @@
 //!
 //! The store reads no further than the item that is found.
 
-ghost use Rattle.std.specs.Prelude.{◌≡◌, ◌<◌, ◌^◌, false};
-ghost use Rattle.desk_sql.specs.Calls.{ReadsIn, ChangesNothing, LeavesNoMore};
+ghost use Rattle.std.specs.Prelude.{◌<◌, ◌^◌};
+ghost use Rattle.desk_sql.specs.Calls.{ReadsIn, Quiet};
 ghost use Rattle.desk_sql.specs.FoundRows.{FindsNextItem};
 ghost use Rattle.desk_sql.specs.Causes.{FailsForReasonIn};
 ghost use Rattle.desk_sql.specs.Readable.{Any};
@@ -23,10 +23,8 @@ pub fn next_old_item<S: Alter>(
 
     ensures found { ReadsIn S.Store conn.old conn.new Version.One result
         (FindsNextItem journey after) }
-    ensures quiet { ChangesNothing S.Store conn.old conn.new }
     ensures reason { FailsForReasonIn S.Store conn.old conn.new Version.One result Any }
-    ensures mode { conn.old.in_transaction ≡ false → conn.new.in_transaction ≡ false }
-    ensures survives { LeavesNoMore S.Store conn.old conn.new }
+    ensures quiet { Quiet S.Store conn.old conn.new }
 {
     match first_row(
         conn,

@@ -8,7 +8,7 @@ use Rattle.sqlite.specs.Program.{overlay}
 use Rattle.sqlite.specs.Given.{HasBegun}
 use Rattle.sqlite.specs.Store.{Ghosts}
 use Rattle.sqlite.specs.Held.{Held, state}
-use Rattle.sqlite.specs.State.{HasCleanDisk}
+use Rattle.sqlite.specs.State.{HasCleanDisk, Survives, CommitsShowing}
 use Rattle.sqlite.specs.Ops.{binary, is_true}
 use Rattle.sqlite_sql.specs.declared.ops.BinaryOp.TheVariants.{Compare}
 use Rattle.sqlite_sql.specs.declared.ops.CompareOp.TheVariants.{Ge}
@@ -26,11 +26,11 @@ use Rattle.desk_sql.specs.Lists.{IsTableOf, numbered_row}
 use Rattle.desk_sql.specs.Meanings.{find_stock_names, find_stock_query}
 use Rattle.desk_sql.specs.Rows.{whole, StockRow, stock_columns}
 use Rattle.desk_sql.specs.Stock.{IsByCell, cell_cmp}
-use Rattle.desk_sql.specs.RemainingRows.{Begins, IsOnlyOrder, stock_shown}
+use Rattle.desk_sql.specs.RemainingRows.{Begins, IsOnlyOrder, Starts, stock_shown}
 use Rattle.desk_sql.proofs.Answering.{table_answers}
 use Rattle.desk_sql.proofs.Causing.{Takes}
 use Rattle.sql_lists.proofs.HandedCells.{cell_out, number_cmp}
-use Rattle.sql_lists.proofs.HandedRows.{starts}
+use Rattle.sql_lists.proofs.HandedRows.{started, starts}
 use Rattle.desk_sql.proofs.Reading.{passes}
 use Rattle.desk_sql.proofs.Testing.{and_true, eq_text, eq_whole, ge_whole, le_whole}
 use Rattle.sql_lists.specs.CellLists.{CellsRest, IsListOf, cell_tests, cells_query, cells_text, named}
@@ -96,7 +96,7 @@ module _ (kind : ℕ) (first : Option ℕ) (last : ℕ) where
         it.rows_are ∙ ap (map stock_shown) values
 
     -- the rows of a query that has started are these cells
-    pub cells_begin : {S : Type 0} (g : Ghosts S) (old new : Held S)
+    cells_begin : {S : Type 0} (g : Ghosts S) (old new : Held S)
         → (HasCleanDisk (state g new) → HasBegun g (cells_text (is_some supplier) (is_some product)) (params supplier product) old new)
         → Begins g old new (λ t later. IsOnlyOrder IsByCell (filter (asked supplier product) t.stock) later) (CellsRest g)
     cells_begin g old new begun clean v t sees later is = (
@@ -111,7 +111,7 @@ module _ (kind : ℕ) (first : Option ℕ) (last : ℕ) where
     )
 
 -- the cells that a filter names are those of its supplier and its product
-pub as_named : {S : Type 0} (g : Ghosts S) (old new : Held S) (kind : Kind) (f : CellFilter) (supplier product : Option (List ℕ))
+as_named : {S : Type 0} (g : Ghosts S) (old new : Held S) (kind : Kind) (f : CellFilter) (supplier product : Option (List ℕ))
     → f.supplier ≡ supplier → f.product ≡ product
     → Begins g old new
     (λ t later. IsOnlyOrder IsByCell (filter (asked (kind_number kind) f.from (last_day f.to) supplier product) t.stock) later) (CellsRest g)
@@ -123,3 +123,19 @@ as_named g old new kind f supplier product one two begins =
     (subst (λ p. Begins g old new
     (λ t later. IsOnlyOrder IsByCell (filter (asked (kind_number kind) f.from (last_day f.to) supplier p) t.stock) later) (CellsRest g))
     (sym two) begins)
+
+-- a query of the cells that a filter names has started
+pub cells_started : {S : Type 0} (g : Ghosts S) (old new : Held S) (kind : Kind) (f : CellFilter) (supplier product : Option (List ℕ))
+    → f.supplier ≡ supplier → f.product ≡ product
+    → (HasCleanDisk (state g new)
+        → HasBegun g (cells_text (is_some supplier) (is_some product)) (params (kind_number kind) f.from (last_day f.to) supplier product) old new)
+    → (old.in_transaction ≡ false → new.in_transaction ≡ false)
+    → Survives (state g old) (state g new) (CommitsShowing (cells_text (is_some supplier) (is_some product))
+      (params (kind_number kind) f.from (last_day f.to) supplier product) (state g old))
+    → Starts g old new (IsListOf kind f) (CellsRest g)
+cells_started g old new kind f supplier product one two begun mode survives =
+    started g (cells_text (is_some supplier) (is_some product)) (cells_query (is_some supplier) (is_some product)) find_stock_names
+    (cells_means (is_some supplier) (is_some product)) (params (kind_number kind) f.from (last_day f.to) supplier product)
+    (IsListOf kind f) (CellsRest g) old new begun
+    (as_named g old new kind f supplier product one two (cells_begin (kind_number kind) f.from (last_day f.to) supplier product g old new begun))
+    mode survives

@@ -8,7 +8,7 @@ use Rattle.sqlite.specs.Store.{Ghosts}
 use Rattle.sqlite.specs.Held.{Held, state}
 use Rattle.sqlite.specs.Clock.{timed}
 use Rattle.sqlite.specs.Listing.{understood, reads_listing, IsSourceOf}
-use Rattle.sqlite.specs.State.{IsUnchanged, IsStatement}
+use Rattle.sqlite.specs.State.{HasCleanDisk, IsUnchanged, IsStatement, Survives, CommitsShowing}
 use Rattle.sqlite.specs.Given.{HasGiven, HasBegun, Returns, Advances, IsEnded, row_if}
 use Rattle.sqlite.proofs.Callers.{command_of, given_begin, begins_shown, EndsIn}
 use Rattle.sqlite_rules.specs.Lists.{Has}
@@ -18,9 +18,10 @@ use Rattle.desk_sql.specs.declared.versions.Version.{Version}
 use Rattle.desk_sql.specs.declared.versions.Version.TheVariants.{Two}
 use Rattle.desk_sql.specs.Schema.{schema_of}
 use Rattle.desk_sql.specs.Meanings.{select}
-use Rattle.desk_sql.specs.RemainingRows.{HandsFirst, Hands, RunsOn, Rests}
+use Rattle.desk_sql.specs.RemainingRows.{Begins, HandsFirst, Hands, RunsOn, Rests, Starts}
+use Rattle.desk_sql.specs.Rows.{Tables}
 use Rattle.desk_sql.proofs.Meaning.{MeansEach}
-use Rattle.desk_sql.proofs.Selecting.{understood_bare}
+use Rattle.desk_sql.proofs.Selecting.{leaves_no_more, understood_bare}
 use Rattle.desk_sql.proofs.Finding.{whole_answer}
 
 -- two lists with the same prefix have the same suffix
@@ -79,9 +80,21 @@ module _ {S : Type 0} (g : Ghosts S) (text : List ℕ) (q : Query) (names : List
   starts v old new later schema (inr h) one = absurd (never_returns (understood old.schema text) (understood_bare text (m Two).selects old.schema) h.0)
 
   -- the start of a query changes nothing
-  pub begun_same : (old new : Held S) → HasBegun g text params old new → IsUnchanged (state g old) (state g new)
+  begun_same : (old new : Held S) → HasBegun g text params old new → IsUnchanged (state g old) (state g new)
   begun_same old new (inl begun) = begun.1
   begun_same old new (inr h) = absurd (never_returns (understood old.schema text) (understood_bare text (m Two).selects old.schema) h.0)
+
+  -- rows that were started, of which these values remain
+  pub started : {X : Type 0} (IsList : Tables → List X → Type 0) (RestsOn : Held S → List X → Type 0) (old new : Held S)
+      → (HasCleanDisk (state g new) → HasBegun g text params old new) → Begins g old new IsList RestsOn
+      → (old.in_transaction ≡ false → new.in_transaction ≡ false)
+      → Survives (state g old) (state g new) (CommitsShowing text params (state g old)) → Starts g old new IsList RestsOn
+  started IsList RestsOn old new begun begins mode survives = record {
+    begun = begins;
+    same = λ clean. begun_same old new (begun clean);
+    mode = mode;
+    survives = leaves_no_more text (m Two).selects params (state g old) (state g new) survives;
+  }
 
   -- one more row is the first that remained
   steps : (old new : Held S) (later : List Row) (row : Row) → RunsOn g text q params old later → Advances g old new (Some row)

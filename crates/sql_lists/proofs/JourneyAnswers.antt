@@ -1,7 +1,6 @@
 -- The journeys that are asked for are the only answer of their query. For `hand_journeys`.
-use Rattle.std.proofs.Common.{◌≡◌, inl, ℕ, ◌<◌, ◌^◌, ◌&&◌, List, [], ◌∷◌, ◌++◌, map, filter, Bool, Option, None, Some, refl, sym, ap, subst, ◌∙◌, arith}
+use Rattle.std.proofs.Common.{◌≡◌, inl, ℕ, ◌<◌, ◌^◌, ◌&&◌, List, [], ◌∷◌, ◌++◌, map, filter, Bool, false, Option, None, Some, refl, sym, ap, subst, ◌∙◌, arith}
 use Rattle.std.specs.Prelude.{is_some, nat_le}
-use Rattle.sqlite.specs.declared.types.Value.TheVariants.{Text}
 use Rattle.sqlite.specs.Order.{Row}
 use Rattle.sqlite.specs.Term.{col}
 use Rattle.sqlite.specs.Query.{IsAnswer}
@@ -9,7 +8,7 @@ use Rattle.sqlite.specs.Program.{overlay}
 use Rattle.sqlite.specs.Given.{HasBegun}
 use Rattle.sqlite.specs.Store.{Ghosts}
 use Rattle.sqlite.specs.Held.{Held, state}
-use Rattle.sqlite.specs.State.{HasCleanDisk}
+use Rattle.sqlite.specs.State.{HasCleanDisk, Survives, CommitsShowing}
 use Rattle.sqlite_trees.specs.Tree.{Trees}
 use Rattle.sqlite_trees.proofs.ListLemmas.{ascending-filter, ascending_weaker}
 use Rattle.filters.specs.CellFilters.{is_name_asked}
@@ -21,11 +20,11 @@ use Rattle.filters.specs.declared.journeys.Phases.TheVariants.{All, Unfinished, 
 use Rattle.desk_sql.specs.declared.versions.Version.{Version}
 use Rattle.desk_sql.specs.Lists.{IsListed, IsNumbered}
 use Rattle.desk_sql.specs.Meanings.{journey_names, journey_project, rising}
-use Rattle.desk_sql.specs.Rows.{whole, JourneyRow, Tables, journey_row}
-use Rattle.desk_sql.specs.RemainingRows.{Begins, IsByNumber, journey_shown}
+use Rattle.desk_sql.specs.Rows.{whole, JourneyRow, journey_row}
+use Rattle.desk_sql.specs.RemainingRows.{Begins, IsByNumber, Starts, journey_shown}
 use Rattle.desk_sql.proofs.Answering.{numbered_answers}
 use Rattle.desk_sql.proofs.Causing.{Takes}
-use Rattle.sql_lists.proofs.HandedRows.{starts}
+use Rattle.sql_lists.proofs.HandedRows.{started, starts}
 use Rattle.desk_sql.proofs.OneList.{one_list}
 use Rattle.desk_sql.proofs.Ordered.{whole_last}
 use Rattle.desk_sql.proofs.Reading.{passes}
@@ -86,7 +85,7 @@ module _ (least most : ℕ) where
         shown ∙ ap (map journey_shown) (values ∙ sym listed)
 
     -- the rows of a query that has started are these journeys
-    pub journeys_begin : {S : Type 0} (g : Ghosts S) (old new : Held S)
+    journeys_begin : {S : Type 0} (g : Ghosts S) (old new : Held S)
         → (HasCleanDisk (state g new) → HasBegun g (journeys_text (is_some agent)) (params agent) old new)
         → Begins g old new (λ t later. IsListed IsByNumber (filter (asked agent) t.journey) later) (JourneysRest g)
     journeys_begin g old new begun clean v t sees later is = (
@@ -101,7 +100,7 @@ module _ (least most : ℕ) where
     )
 
 -- the journeys that a filter names are those of its agent
-pub as_named : {S : Type 0} (g : Ghosts S) (old new : Held S) (f : JourneyFilter) (agent : Option (List ℕ)) → f.agent ≡ agent
+as_named : {S : Type 0} (g : Ghosts S) (old new : Held S) (f : JourneyFilter) (agent : Option (List ℕ)) → f.agent ≡ agent
     → Begins g old new
     (λ t later. IsListed IsByNumber (filter (asked (least_phase f.phases) (most_phase f.phases) agent) t.journey) later) (JourneysRest g)
     → Begins g old new (ListsJourneys f) (JourneysRest g)
@@ -109,3 +108,16 @@ as_named g old new f agent one begins =
     subst (λ a. Begins g old new
     (λ t later. IsListed IsByNumber (filter (asked (least_phase f.phases) (most_phase f.phases) a) t.journey) later) (JourneysRest g))
     (sym one) begins
+
+-- a query of the journeys that a filter lets through has started
+pub journeys_started : {S : Type 0} (g : Ghosts S) (old new : Held S) (f : JourneyFilter) (agent : Option (List ℕ)) → f.agent ≡ agent
+    → (HasCleanDisk (state g new)
+        → HasBegun g (journeys_text (is_some agent)) (params (least_phase f.phases) (most_phase f.phases) agent) old new)
+    → (old.in_transaction ≡ false → new.in_transaction ≡ false)
+    → Survives (state g old) (state g new) (CommitsShowing (journeys_text (is_some agent))
+      (params (least_phase f.phases) (most_phase f.phases) agent) (state g old))
+    → Starts g old new (ListsJourneys f) (JourneysRest g)
+journeys_started g old new f agent one begun mode survives =
+    started g (journeys_text (is_some agent)) (journeys_query (is_some agent)) journey_names (journeys_means (is_some agent))
+    (params (least_phase f.phases) (most_phase f.phases) agent) (ListsJourneys f) (JourneysRest g) old new begun
+    (as_named g old new f agent one (journeys_begin (least_phase f.phases) (most_phase f.phases) agent g old new begun)) mode survives

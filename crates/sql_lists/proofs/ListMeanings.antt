@@ -1,6 +1,5 @@
 -- Each text means under the desk's schema what the definitions say, and takes its parameters. For the statements.
 use Rattle.std.proofs.Common.{ℕ, List, [], ◌∷◌, Bool, true, false, Option, None, Some, refl}
-use Rattle.std.specs.Prelude.{is_some}
 use Rattle.sqlite.specs.declared.types.Value.TheVariants.{Text}
 use Rattle.sqlite.specs.Listing.{understood}
 use Rattle.sqlite_tied.specs.Compute.{everything}

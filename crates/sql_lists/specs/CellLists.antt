@@ -1,5 +1,5 @@
 -- The statements that return cells: which rows they return, their texts, and what these mean.
-use Rattle.std.specs.Prelude.{ℕ, ◌==◌, ◌&&◌, Bool, true, false, List, [], ◌∷◌, ◌++◌, codes, filter, map, nat_le, Option, None, Some, is_some}
+use Rattle.std.specs.Prelude.{ℕ, ◌==◌, ◌&&◌, Bool, true, false, List, [], ◌∷◌, ◌++◌, codes, filter, map, nat_le, Option, None, Some}
 use Rattle.allotment.specs.Cells.{kind_number}
 use Rattle.allotment.specs.declared.codes.Kind.{Kind}
 use Rattle.filters.specs.CellFilters.{first_day, is_from, is_name_asked, last_day}

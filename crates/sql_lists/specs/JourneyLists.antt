@@ -1,5 +1,5 @@
 -- The statements that return journeys: which rows they return, their texts, and what these mean.
-use Rattle.std.specs.Prelude.{ℕ, pos, ◌&&◌, Bool, true, false, List, [], ◌∷◌, ◌++◌, codes, filter, map, nat_le, Option, None, Some, is_some}
+use Rattle.std.specs.Prelude.{ℕ, ◌&&◌, Bool, true, false, List, [], ◌∷◌, ◌++◌, codes, filter, map, nat_le, Option, None, Some}
 use Rattle.filters.specs.CellFilters.{is_name_asked}
 use Rattle.filters.specs.declared.journeys.JourneyFilter.{JourneyFilter}
 use Rattle.filters.specs.declared.journeys.JourneyState.{JourneyState}

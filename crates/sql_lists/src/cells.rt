@@ -1,14 +1,14 @@
 //! Cells with their places, one at a time: all, or those of a kind that a filter names.
 
-ghost use Rattle.std.specs.Prelude.{◌≡◌, false, List, IfErr, IfOk, option_map};
+ghost use Rattle.std.specs.Prelude.{◌≡◌, List, IfErr, IfOk, option_map};
 ghost use Rattle.std.specs.Borrow.{sem};
 ghost use Rattle.sqlite.specs.Held.{state};
 ghost use Rattle.sqlite.specs.State.{HasCleanDisk};
-ghost use Rattle.desk_sql.specs.Calls.{ChangesNothing, LeavesNoMore};
+ghost use Rattle.desk_sql.specs.Calls.{Quiet};
 ghost use Rattle.desk_sql.specs.Causes.{HasReason, IsUp};
 ghost use Rattle.desk_sql.specs.Lending.{LeavesIfErr};
 ghost use Rattle.desk_sql.specs.Readable.{AreCellTexts, Each};
-ghost use Rattle.desk_sql.specs.RemainingRows.{Begins, Hands, IsStockInOrder, StaysAsItIs};
+ghost use Rattle.desk_sql.specs.RemainingRows.{Hands, IsStockInOrder, Starts};
 ghost use Rattle.desk_sql.specs.Rows.{StockRow};
 ghost use Rattle.desk_sql.specs.Stock.{stock_of};
 ghost use Rattle.sql_lists.specs.CellLists.{CellsRest, IsListOf};
@@ -23,12 +23,8 @@ use sqlite::{Alter, Connection, Error, Rows};
 pub fn hand_stock<S: Alter>(conn: &mut Connection<S>) -> Result<Rows<'_, S>, Error>
     ensures* fault { sem 𝓛 (LeavesIfErr S.row S.Store conn.entry result) }
     ensures same_reference { IfOk result (λ it. it.conn.ghost_name ≡ conn.entry.ghost_name) }
-    ensures begun { IfOk result (λ it.
-        Begins S.Store conn.old it.conn.now IsStockInOrder (CellsRest S.Store)) }
-    ensures same { IfOk result (λ it. StaysAsItIs S.Store conn.old it.conn.now) }
-    ensures mode { IfOk result (λ it.
-        conn.old.in_transaction ≡ false → it.conn.now.in_transaction ≡ false) }
-    ensures survives { IfOk result (λ it. LeavesNoMore S.Store conn.old it.conn.now) }
+    ensures started { IfOk result (λ it.
+        Starts S.Store conn.old it.conn.now IsStockInOrder (CellsRest S.Store)) }
 {
     conn.query(
         "SELECT kind, supplier, product, night, allot, free FROM stock ORDER BY kind, supplier, product, night",
@@ -45,12 +41,8 @@ pub fn hand_cells<'a, S: Alter>(
 ) -> Result<Rows<'a, S>, Error>
     ensures* fault { sem 𝓛 (LeavesIfErr S.row S.Store conn.entry result) }
     ensures same_reference { IfOk result (λ it. it.conn.ghost_name ≡ conn.entry.ghost_name) }
-    ensures begun { IfOk result (λ it.
-        Begins S.Store conn.old it.conn.now (IsListOf kind filter.now) (CellsRest S.Store)) }
-    ensures same { IfOk result (λ it. StaysAsItIs S.Store conn.old it.conn.now) }
-    ensures mode { IfOk result (λ it.
-        conn.old.in_transaction ≡ false → it.conn.now.in_transaction ≡ false) }
-    ensures survives { IfOk result (λ it. LeavesNoMore S.Store conn.old it.conn.now) }
+    ensures started { IfOk result (λ it.
+        Starts S.Store conn.old it.conn.now (IsListOf kind filter.now) (CellsRest S.Store)) }
 {
     let kind = ValueRef::Int(u64::from(kind.number()) as i64);
     let first = ValueRef::Int(filter.first_day() as i64);
@@ -97,15 +89,12 @@ pub fn next_cell<S: Alter>(rows: &mut Rows<'_, S>) -> Result<Option<CellFound>, 
     ensures next { HasCleanDisk (state S.Store rows.new.conn.now) → IfOk result (λ found.
         Hands (CellsRest S.Store rows.old.conn.now)
         (CellsRest S.Store rows.new.conn.now) (option_map stock_of found)) }
-    ensures same { ChangesNothing S.Store rows.old.conn.now rows.new.conn.now }
     ensures reason { HasCleanDisk (state S.Store rows.new.conn.now) → (later : List StockRow)
         → CellsRest S.Store rows.old.conn.now later → Each AreCellTexts later
         → IsUp (state S.Store rows.old.conn.now)
         → IfErr result
         (HasReason (state S.Store rows.old.conn.now) (state S.Store rows.new.conn.now)) }
-    ensures mode { rows.old.conn.now.in_transaction ≡ false
-        → rows.new.conn.now.in_transaction ≡ false }
-    ensures survives { LeavesNoMore S.Store rows.old.conn.now rows.new.conn.now }
+    ensures quiet { Quiet S.Store rows.old.conn.now rows.new.conn.now }
 {
     rows.advance()?;
     match rows.get() {

@@ -1,14 +1,14 @@
 //! The options that hold places of a cell, one at a time.
 
-ghost use Rattle.std.specs.Prelude.{◌≡◌, ◌<◌, ◌^◌, false, List, IfErr, IfOk};
+ghost use Rattle.std.specs.Prelude.{◌≡◌, ◌<◌, ◌^◌, List, IfErr, IfOk};
 ghost use Rattle.std.specs.Borrow.{sem};
 ghost use Rattle.sqlite.specs.Held.{state};
 ghost use Rattle.sqlite.specs.State.{HasCleanDisk};
-ghost use Rattle.desk_sql.specs.Calls.{ChangesNothing, LeavesNoMore};
+ghost use Rattle.desk_sql.specs.Calls.{Quiet};
 ghost use Rattle.desk_sql.specs.Causes.{HasReason, IsMemory, IsUp};
 ghost use Rattle.desk_sql.specs.FoundRows.{four_of};
 ghost use Rattle.desk_sql.specs.Lending.{LeavesIfErr};
-ghost use Rattle.desk_sql.specs.RemainingRows.{Begins, Hands, StaysAsItIs};
+ghost use Rattle.desk_sql.specs.RemainingRows.{Hands, Starts};
 ghost use Rattle.sql_lists.specs.HolderLists.{HoldersRest, ListsHolders, holder_shown};
 ghost use Rattle.sql_lists.specs.declared.holders.HolderFound.{HolderFound};
 
@@ -45,12 +45,8 @@ pub fn hand_holders<'a, S: Alter>(
 ) -> Result<Rows<'a, S>, Error>
     ensures* fault { sem 𝓛 (LeavesIfErr S.row S.Store conn.entry result) }
     ensures same_reference { IfOk result (λ it. it.conn.ghost_name ≡ conn.entry.ghost_name) }
-    ensures begun { IfOk result (λ it.
-        Begins S.Store conn.old it.conn.now (ListsHolders cell.now) (HoldersRest S.Store)) }
-    ensures same { IfOk result (λ it. StaysAsItIs S.Store conn.old it.conn.now) }
-    ensures mode { IfOk result (λ it.
-        conn.old.in_transaction ≡ false → it.conn.now.in_transaction ≡ false) }
-    ensures survives { IfOk result (λ it. LeavesNoMore S.Store conn.old it.conn.now) }
+    ensures started { IfOk result (λ it.
+        Starts S.Store conn.old it.conn.now (ListsHolders cell.now) (HoldersRest S.Store)) }
 {
     let kind = ValueRef::Int(u64::from(cell.kind.number()) as i64);
     let night = ValueRef::Int(day_of(cell) as i64);
@@ -89,15 +85,12 @@ pub fn next_holder<S: Alter>(rows: &mut Rows<'_, S>) -> Result<Option<HolderFoun
     ensures next { HasCleanDisk (state S.Store rows.new.conn.now) → IfOk result (λ found.
         Hands (HoldersRest S.Store rows.old.conn.now)
         (HoldersRest S.Store rows.new.conn.now) found) }
-    ensures same { ChangesNothing S.Store rows.old.conn.now rows.new.conn.now }
     ensures reason { HasCleanDisk (state S.Store rows.new.conn.now) → (later : List HolderFound)
         → HoldersRest S.Store rows.old.conn.now later
         → IsUp (state S.Store rows.old.conn.now)
         → IfErr result
         (HasReason (state S.Store rows.old.conn.now) (state S.Store rows.new.conn.now)) }
-    ensures mode { rows.old.conn.now.in_transaction ≡ false
-        → rows.new.conn.now.in_transaction ≡ false }
-    ensures survives { LeavesNoMore S.Store rows.old.conn.now rows.new.conn.now }
+    ensures quiet { Quiet S.Store rows.old.conn.now rows.new.conn.now }
 {
     rows.advance()?;
     match rows.get() {

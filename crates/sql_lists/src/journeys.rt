@@ -1,15 +1,15 @@
 //! Journeys, one at a time: the unfinished ones above a number, or those that a filter lets through.
 
-ghost use Rattle.std.specs.Prelude.{◌≡◌, ◌<◌, ◌^◌, false, List, IfErr, IfOk, option_map};
+ghost use Rattle.std.specs.Prelude.{◌≡◌, ◌<◌, ◌^◌, List, IfErr, IfOk, option_map};
 ghost use Rattle.std.specs.Borrow.{sem};
 ghost use Rattle.sqlite.specs.Held.{state};
 ghost use Rattle.sqlite.specs.State.{HasCleanDisk};
-ghost use Rattle.desk_sql.specs.Calls.{ChangesNothing, LeavesNoMore};
+ghost use Rattle.desk_sql.specs.Calls.{Quiet};
 ghost use Rattle.desk_sql.specs.Causes.{HasReason, IsUp};
 ghost use Rattle.desk_sql.specs.FoundRows.{journey_of};
 ghost use Rattle.desk_sql.specs.Lending.{LeavesIfErr};
 ghost use Rattle.desk_sql.specs.Readable.{Each, IsAgentText};
-ghost use Rattle.desk_sql.specs.RemainingRows.{Begins, Hands, ListsUnfinished, StaysAsItIs};
+ghost use Rattle.desk_sql.specs.RemainingRows.{Hands, ListsUnfinished, Starts};
 ghost use Rattle.desk_sql.specs.Rows.{JourneyRow};
 ghost use Rattle.sql_lists.specs.JourneyLists.{JourneysRest, ListsJourneys, least_phase, most_phase, state_number};
 
@@ -48,12 +48,8 @@ pub fn hand_unfinished<S: Alter>(conn: &mut Connection<S>, after: u64) -> Result
 
     ensures* fault { sem 𝓛 (LeavesIfErr S.row S.Store conn.entry result) }
     ensures same_reference { IfOk result (λ it. it.conn.ghost_name ≡ conn.entry.ghost_name) }
-    ensures begun { IfOk result (λ it.
-        Begins S.Store conn.old it.conn.now (ListsUnfinished after) (JourneysRest S.Store)) }
-    ensures same { IfOk result (λ it. StaysAsItIs S.Store conn.old it.conn.now) }
-    ensures mode { IfOk result (λ it.
-        conn.old.in_transaction ≡ false → it.conn.now.in_transaction ≡ false) }
-    ensures survives { IfOk result (λ it. LeavesNoMore S.Store conn.old it.conn.now) }
+    ensures started { IfOk result (λ it.
+        Starts S.Store conn.old it.conn.now (ListsUnfinished after) (JourneysRest S.Store)) }
 {
     conn.query(
         "SELECT id, num, agent, steps, tries, pos, phase, target, used FROM journey WHERE id > ?1 AND phase <= 1 ORDER BY id",
@@ -68,12 +64,8 @@ pub fn hand_journeys<'a, S: Alter>(
 ) -> Result<Rows<'a, S>, Error>
     ensures* fault { sem 𝓛 (LeavesIfErr S.row S.Store conn.entry result) }
     ensures same_reference { IfOk result (λ it. it.conn.ghost_name ≡ conn.entry.ghost_name) }
-    ensures begun { IfOk result (λ it.
-        Begins S.Store conn.old it.conn.now (ListsJourneys filter.now) (JourneysRest S.Store)) }
-    ensures same { IfOk result (λ it. StaysAsItIs S.Store conn.old it.conn.now) }
-    ensures mode { IfOk result (λ it.
-        conn.old.in_transaction ≡ false → it.conn.now.in_transaction ≡ false) }
-    ensures survives { IfOk result (λ it. LeavesNoMore S.Store conn.old it.conn.now) }
+    ensures started { IfOk result (λ it.
+        Starts S.Store conn.old it.conn.now (ListsJourneys filter.now) (JourneysRest S.Store)) }
 {
     let (least, most) = range_of(filter.phases);
     let least = ValueRef::Int(least as i64);
@@ -96,15 +88,12 @@ pub fn next_journey<S: Alter>(rows: &mut Rows<'_, S>) -> Result<Option<JourneyFo
     ensures next { HasCleanDisk (state S.Store rows.new.conn.now) → IfOk result (λ found.
         Hands (JourneysRest S.Store rows.old.conn.now)
         (JourneysRest S.Store rows.new.conn.now) (option_map journey_of found)) }
-    ensures same { ChangesNothing S.Store rows.old.conn.now rows.new.conn.now }
     ensures reason { HasCleanDisk (state S.Store rows.new.conn.now) → (later : List JourneyRow)
         → JourneysRest S.Store rows.old.conn.now later → Each IsAgentText later
         → IsUp (state S.Store rows.old.conn.now)
         → IfErr result
         (HasReason (state S.Store rows.old.conn.now) (state S.Store rows.new.conn.now)) }
-    ensures mode { rows.old.conn.now.in_transaction ≡ false
-        → rows.new.conn.now.in_transaction ≡ false }
-    ensures survives { LeavesNoMore S.Store rows.old.conn.now rows.new.conn.now }
+    ensures quiet { Quiet S.Store rows.old.conn.now rows.new.conn.now }
 {
     rows.advance()?;
     match rows.get() {

@@ -1,6 +1,6 @@
 //! An UPDATE of the nights of a range, and INSERTs of a cell and of a week.
-ghost use Rattle.std.specs.Prelude.{◌≡◌, ◌<◌, ◌^◌, ◌+◌, ⊤};
-ghost use Rattle.desk_sql.specs.Calls.{Writes, StaysInside, WasOpen, CommitsNothing, LeavesNoMore};
+ghost use Rattle.std.specs.Prelude.{◌<◌, ◌^◌, ◌+◌, ⊤};
+ghost use Rattle.desk_sql.specs.Calls.{Writes, GoesOn};
 ghost use Rattle.desk_sql.specs.Stock.{IsSmallRange, IsSmallCell, placed};
 ghost use Rattle.desk_sql.specs.Causes.{FailsToChange, FailsToAdd};
 ghost use Rattle.desk_sql.specs.Writable.{KeepsRowids, TakesRowid};
@@ -22,7 +22,7 @@ pub fn set_nights<S: Alter>(
     requires allot { allot < 2 ^ 63 }
     requires free { free < 2 ^ 63 }
 
-    ensures same_reference { tx.new.conn.ghost_name ≡ tx.old.conn.ghost_name }
+    ensures goes { GoesOn S.Store tx.old.conn tx.new.conn result }
     ensures made { Writes S.Store tx.old.conn.now tx.new.conn.now result
         (sets_nights range.entry allot free) }
     ensures count { CountsRows S.Store tx.old.conn.now tx.new.conn.now result
@@ -30,10 +30,6 @@ pub fn set_nights<S: Alter>(
     ensures reason { FailsToChange S.Store tx.old.conn.now tx.new.conn.now result
         (MaySetNights range.entry allot free) }
     ensures rowids { KeepsRowids S.Store tx.old.conn.now tx.new.conn.now result (λ _. ⊤) }
-    ensures inside { StaysInside S.Store tx.old.conn.now tx.new.conn.now result }
-    ensures live { WasOpen S.Store tx.old.conn.now tx.new.conn.now result }
-    ensures commit { CommitsNothing S.Store tx.old.conn.now tx.new.conn.now }
-    ensures survives { LeavesNoMore S.Store tx.old.conn.now tx.new.conn.now }
 {
     tx.execute(
         "UPDATE stock SET allot = ?4, free = ?5 WHERE kind = ?1 AND supplier = ?2 AND product = ?3 AND night BETWEEN ?6 AND ?7",
@@ -56,16 +52,12 @@ pub fn insert_cell<S: Alter>(
 ) -> Result<usize, Error>
     requires { IsSmallCell cell }
 
-    ensures same_reference { tx.new.conn.ghost_name ≡ tx.old.conn.ghost_name }
+    ensures goes { GoesOn S.Store tx.old.conn tx.new.conn result }
     ensures made { Writes S.Store tx.old.conn.now tx.new.conn.now result
         (adds_cell (placed cell.entry)) }
     ensures reason { FailsToAdd S.Store tx.old.conn.now tx.new.conn.now result
         (MayAddCell (placed cell.entry)) }
     ensures rowids { TakesRowid S.Store tx.old.conn.now tx.new.conn.now result (λ _. ⊤) }
-    ensures inside { StaysInside S.Store tx.old.conn.now tx.new.conn.now result }
-    ensures live { WasOpen S.Store tx.old.conn.now tx.new.conn.now result }
-    ensures commit { CommitsNothing S.Store tx.old.conn.now tx.new.conn.now }
-    ensures survives { LeavesNoMore S.Store tx.old.conn.now tx.new.conn.now }
 {
     tx.execute(
         "INSERT INTO stock VALUES (?1, ?2, ?3, ?4, ?5, ?6)",
@@ -92,16 +84,12 @@ pub fn insert_week<S: Alter>(
     requires first { IsSmallCell first }
     requires nights { first.night + 6 < 2 ^ 63 }
 
-    ensures same_reference { tx.new.conn.ghost_name ≡ tx.old.conn.ghost_name }
+    ensures goes { GoesOn S.Store tx.old.conn tx.new.conn result }
     ensures made { Writes S.Store tx.old.conn.now tx.new.conn.now result
         (adds_cells (week_from (placed first.entry))) }
     ensures reason { FailsToAddRows S.Store tx.old.conn.now tx.new.conn.now result 7
         (MayAddWeek (placed first.entry)) }
     ensures rowids { TakesRowids S.Store tx.old.conn.now tx.new.conn.now result 7 (λ _. ⊤) }
-    ensures inside { StaysInside S.Store tx.old.conn.now tx.new.conn.now result }
-    ensures live { WasOpen S.Store tx.old.conn.now tx.new.conn.now result }
-    ensures commit { CommitsNothing S.Store tx.old.conn.now tx.new.conn.now }
-    ensures survives { LeavesNoMore S.Store tx.old.conn.now tx.new.conn.now }
 {
     tx.execute(
         "INSERT INTO stock VALUES (?1, ?2, ?3, ?6, ?4, ?5), (?1, ?2, ?3, ?7, ?4, ?5), (?1, ?2, ?3, ?8, ?4, ?5), (?1, ?2, ?3, ?9, ?4, ?5), (?1, ?2, ?3, ?10, ?4, ?5), (?1, ?2, ?3, ?11, ?4, ?5), (?1, ?2, ?3, ?12, ?4, ?5)",

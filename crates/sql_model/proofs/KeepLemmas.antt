@@ -1,8 +1,8 @@
 -- What a read keeps. For the functions that read.
-use Rattle.std.proofs.Common.{◌≡◌, ◌⊎◌, inl, inr, Bool, true, false, IsTrue, refl, sym, ap, subst, ◌∙◌}
+use Rattle.std.proofs.Common.{◌≡◌, inl, inr, Bool, true, false, IsTrue, refl, sym, ap, subst, ◌∙◌}
 use Rattle.sqlite.specs.Tree.{Trees}
 use Rattle.sqlite.specs.Effect.{Database, IsDatabase}
-use Rattle.sqlite.specs.State.{State as Connected, HasCleanDisk, IsUnchanged, IsRolledBack, Survives}
+use Rattle.sqlite.specs.State.{State as Connected, HasCleanDisk, IsUnchanged, Survives}
 use Rattle.desk_sql.specs.declared.versions.Version.{Version}
 use Rattle.sqlite_schema.specs.declared.schema.Schema.{Schema}
 use Rattle.desk_sql.specs.Calls.{SeesIn, MaySeeIn}
@@ -40,7 +40,7 @@ pub left_before : (a b : Connected) → Survives a b (λ _. ⊥) → HasCleanDis
 left_before a b less clean db may = elim (less.crash clean db may) [ inl before ↦ before | inr none ↦ absurd none ]
 
 -- a connection still sees a desk if both of its databases are as before
-same_desk : {v : Version} (a b : Connected) (s : State) → SeesOf v a s → b.now ≡ a.now → b.committed ≡ a.committed → SeesOf v b s
+pub same_desk : {v : Version} (a b : Connected) (s : State) → SeesOf v a s → b.now ≡ a.now → b.committed ≡ a.committed → SeesOf v b s
 same_desk {v} a b s saw now committed = record {
   schema = ap (λ (d : Database). d.schema) now ∙ saw.schema;
   sound = subst IsDatabase (sym now) saw.sound;
@@ -54,14 +54,5 @@ same_desk {v} a b s saw now committed = record {
 pub unchanged_keeps : {v : Version} (a b : Connected) (s : State) → IsKeptIn v a s → IsUnchanged a b → Survives a b (λ _. ⊥) → HasCleanDisk b → IsKeptIn v b s
 unchanged_keeps a b s kept same less clean = record {
   sees = λ _. same_desk a b s (kept.sees same.0.was_open) same.0.now_is same.0.committed_is;
-  leaves = λ db may. kept.leaves db (left_before a b less clean db may);
-}
-
--- a read that fails keeps the state, whether it changed nothing or was rolled back
-pub quiet_keeps : {v : Version} (a b : Connected) (s : State) → IsKeptIn v a s → IsUnchanged a b ⊎ IsRolledBack a b → Survives a b (λ _. ⊥) → HasCleanDisk b → IsKeptIn v b s
-quiet_keeps a b s kept (inl same) less clean = unchanged_keeps a b s kept same less clean
-quiet_keeps a b s kept (inr back) less clean = record {
-  sees = λ live. (let saw = kept.sees (back.was_open live) in
-      same_desk a b s saw ((back.undone live).0 ∙ sym saw.committed) (back.undone live).1);
   leaves = λ db may. kept.leaves db (left_before a b less clean db may);
 }

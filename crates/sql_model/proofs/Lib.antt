@@ -27,3 +27,4 @@ pub mod KeepLemmas
 pub mod Worlds
 pub mod OpenLemmas
 pub mod Staying
+pub mod Quieting

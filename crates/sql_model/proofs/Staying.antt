@@ -1,9 +1,9 @@
 -- A store that stays up and sees what it saw, and the fault that a failed call is. For the functions of `sql_reads`,
 -- `sql_writes` and above.
-use Rattle.std.proofs.Common.{◌≡◌, ◌≤◌, ◌⊎◌, ℕ, inl, inr, true, false, sym, subst, IsTrue, ◌∙◌, arith}
-use Rattle.std.specs.Prelude.{◌↔◌, min, ◌^◌, ◌+◌, ◌-◌}
+use Rattle.std.proofs.Common.{◌≡◌, ◌⊎◌, ℕ, inl, inr, true, false, sym, subst, IsTrue, ◌∙◌, arith}
+use Rattle.std.specs.Prelude.{◌↔◌}
 use Rattle.sqlite.specs.Store.{Ghosts}
-use Rattle.sqlite.specs.State.{State as Connected, HasCleanDisk, IsRolledBack, IsUnchanged, KeepsCommit, Survives}
+use Rattle.sqlite.specs.State.{State as Connected, HasCleanDisk, Survives}
 use Rattle.sqlite.specs.Effect.{Database}
 use Rattle.sqlite.specs.Steps.{FailsToCommit}
 use Rattle.sqlite_trees.specs.declared.error.StoreError.TheVariants.{OutOfMemory, Io, Corrupt, Full, Broken, Unstorable}
@@ -14,10 +14,11 @@ use Rattle.sqlite.specs.declared.error.ErrorCode.TheVariants.{OutOfMemory as Ran
 use Rattle.sqlite.specs.Tree.{Trees}
 use Rattle.commands.specs.declared.replies.Fault.{Fault}
 use Rattle.commands.specs.declared.replies.Fault.TheVariants.{Memory, Store}
-use Rattle.desk_sql.specs.Calls.{ChangesNothing, LeavesNoMore}
+use Rattle.desk_sql.specs.Calls.{LeavesNoMore}
 use Rattle.desk_sql.specs.Causes.{IsUp, HasFaulted, HasReason}
 use Rattle.desk_sql.specs.Writable.{HasRowids}
 use Rattle.desk_sql.specs.declared.versions.Version.{Version}
+pub use Rattle.desk_sql.proofs.Quieting.{faulted_later, faulted_earlier}
 use Rattle.ledger.specs.Answer.{State}
 use Rattle.sql_model.specs.Keeping.{KeepsIn, WasClean}
 use Rattle.sql_model.specs.Staying.{SeesAsBefore, StaysUp}
@@ -56,19 +57,6 @@ module _ {S : Type 0} (g : Ghosts S) (old new : Held S) where
 
 -- One call after another.
 
--- a fault in the later part is one in the whole, and so is one in the earlier
-later : (a b c : ℕ) → a ≤ b → min (b + 1) (2 ^ 64 - 1) ≤ c → min (a + 1) (2 ^ 64 - 1) ≤ c
-later a b c low more = omega (arith, low, more)
-
-earlier : (a b c : ℕ) → min (a + 1) (2 ^ 64 - 1) ≤ b → b ≤ c → min (a + 1) (2 ^ 64 - 1) ≤ c
-earlier a b c more low = omega (arith, low, more)
-
-pub faulted_later : (a b c : Connected) → a.faults ≤ b.faults → HasFaulted b c → HasFaulted a c
-faulted_later a b c low faulted = later a.faults b.faults c.faults low faulted
-
-pub faulted_earlier : (a b c : Connected) → HasFaulted a b → b.faults ≤ c.faults → HasFaulted a c
-faulted_earlier a b c faulted low = earlier a.faults b.faults c.faults faulted low
-
 -- a connection is as much up once a transaction has begun
 pub stays_begun : {S : Type 0} (g : Ghosts S) (old new : Held S) → StaysUp g (record old { in_transaction = true }) new → StaysUp g old new
 stays_begun g old new it = record {
@@ -81,8 +69,8 @@ module _ {S : Type 0} (g : Ghosts S) (a b c : Held S) where
   stays_twice one two less = record {
     counts = (let low = one.counts in let high = two.counts in omega (arith, low, high));
     up = λ clean up. (elim (one.up (less clean) up) [
-      | inr faulted ↦ inr (earlier _ _ _ faulted two.counts)
-      | inl mid ↦ (elim (two.up clean mid) [ inl still ↦ inl still | inr faulted ↦ inr (later _ _ _ one.counts faulted) ])
+      | inr faulted ↦ inr (faulted_earlier (state g a) (state g b) (state g c) faulted two.counts)
+      | inl mid ↦ (elim (two.up clean mid) [ inl still ↦ inl still | inr faulted ↦ inr (faulted_later (state g a) (state g b) (state g c) one.counts faulted) ])
     ]);
   }
 
@@ -90,31 +78,12 @@ module _ {S : Type 0} (g : Ghosts S) (a b c : Held S) where
   pub fails_twice : StaysUp g a b → StaysUp g b c → WasClean g b c → HasCleanDisk (state g c) → IsUp (state g a)
       → (IsUp (state g b) → HasFaulted (state g b) (state g c)) → HasFaulted (state g a) (state g c)
   fails_twice one two less clean up fails = elim (one.up (less clean) up) [
-    | inr faulted ↦ earlier _ _ _ faulted two.counts
-    | inl mid ↦ later _ _ _ one.counts (fails mid)
+    | inr faulted ↦ faulted_earlier (state g a) (state g b) (state g c) faulted two.counts
+    | inl mid ↦ faulted_later (state g a) (state g b) (state g c) one.counts (fails mid)
   ]
 
--- What a store sees after a read.
-
--- a statement that changes nothing, or whose transaction is rolled back, commits nothing
-quiet_commit : (a b : Connected) → IsUnchanged a b ⊎ IsRolledBack a b → KeepsCommit a b
-quiet_commit a b (inl same) = record { was_open = λ _. same.0.was_open; committed = λ _. same.0.committed_is }
-quiet_commit a b (inr back) = record { was_open = back.was_open; committed = λ live. (back.undone live).1 }
-
--- and sees what it saw, where all of that was committed
-quiet_sees : (a b : Connected) → IsUnchanged a b ⊎ IsRolledBack a b → IsTrue b.is_open → a.now ≡ a.committed → b.now ≡ a.now
-quiet_sees a b (inl same) live settled = same.0.now_is
-quiet_sees a b (inr back) live settled = (back.undone live).0 ∙ sym settled
-
 module _ {S : Type 0} (g : Ghosts S) (old new : Held S) where
-  -- a read of rows sees what it saw
-  pub sees_again : ChangesNothing g old new → SeesAsBefore g old new
-  sees_again quiet = record {
-    kept = λ clean. quiet_commit (state g old) (state g new) (quiet clean);
-    sees = λ clean live settled. quiet_sees (state g old) (state g new) (quiet clean) live settled;
-  }
-
-  -- so as many rowids are left as before, on a state that is kept
+  -- as many rowids are left as before, on a state that is kept
   pub rowids_stay : {v : Version} → SeesAsBefore g old new → WasClean g old new → (s : State) → KeepsIn v (state g old) s
       → HasCleanDisk (state g new) → IsTrue (state g new).is_open
       → (n : ℕ) → HasRowids n (state g old).now.trees → HasRowids n (state g new).now.trees

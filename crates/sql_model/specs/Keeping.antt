@@ -103,3 +103,17 @@ module _ {S : Type 0} (g : Ghosts S) (old new : Held S) where
   -- if the store returns what was written after the call, it did so before
   abbrev pub WasClean : Type 0
   WasClean = HasCleanDisk (state g new) → HasCleanDisk (state g old)
+
+  -- the connection keeps each state that it kept, in tables of the same version
+  abbrev pub KeepsEach : Type 0
+  KeepsEach = (v : Version) (s : State) → KeepsIn v (state g old) s → KeepsIn v (state g new) s
+
+  -- the same, in tables of the newest version
+  abbrev pub KeepsOn : Type 0
+  KeepsOn = (s : State) → Keeps (state g old) s → Keeps (state g new) s
+
+  -- a crash leaves nothing that it could not have left before
+  abbrev pub LeavesAsBefore : Type 0
+  LeavesAsBefore =
+      HasCleanDisk (state g new) → (db : Trees) → (state g new).may_leave db
+      → (state g old).may_leave db

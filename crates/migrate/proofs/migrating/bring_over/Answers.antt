@@ -20,7 +20,7 @@ returns-in-Ok-clause-done g c s numbers keeps clean =
     let at_late : HasCleanDisk (state g.S.Store late) = omega (arith, c.commit.ensures.survives.clean) in
     let wrote : Wrote g.S.Store (record old { in_transaction = true }) late c.args.meta
     = wrote_from g.S.Store old c.transaction-tx.result.conn.now late c.args.meta c.transaction-tx.ensures.begun
-    c.write_new.ensures.survives c.in_default.ensures.live c.in_default.ensures.made in
+    c.write_new.ensures.goes.survives c.in_default.ensures.goes.live c.in_default.ensures.made in
     rw (← same) (keeps_new g.S.Store old late c.args.meta s wrote numbers keeps at_late g.met.S.Store.settled end (c.in-Ok.ensures.ok at_end).1)
 
 -- a crash leaves only the new tables
@@ -34,7 +34,7 @@ returns-in-Ok-clause-left g c clean s numbers keeps =
     let at_late : HasCleanDisk (state g.S.Store late) = omega (arith, c.commit.ensures.survives.clean) in
     let wrote : Wrote g.S.Store (record old { in_transaction = true }) late c.args.meta
     = wrote_from g.S.Store old c.transaction-tx.result.conn.now late c.args.meta c.transaction-tx.ensures.begun
-    c.write_new.ensures.survives c.in_default.ensures.live c.in_default.ensures.made in
+    c.write_new.ensures.goes.survives c.in_default.ensures.goes.live c.in_default.ensures.made in
     rw (← same) (leaves_new g.S.Store old late c.args.meta s wrote numbers keeps at_late g.met.S.Store.settled end (c.in-Ok.ensures.ok at_end).1)
 
 -- the commit failed: a crash leaves the old tables or the new ones
@@ -48,7 +48,7 @@ returns-in-Err-commit-clause-stop g c clean s numbers keeps =
     let at_late : HasCleanDisk (state g.S.Store late) = omega (arith, c.commit.ensures.survives.clean) in
     let wrote : Wrote g.S.Store (record old { in_transaction = true }) late c.args.meta
     = wrote_from g.S.Store old c.transaction-tx.result.conn.now late c.args.meta c.transaction-tx.ensures.begun
-    c.write_new.ensures.survives c.in_default.ensures.live c.in_default.ensures.made in
+    c.write_new.ensures.goes.survives c.in_default.ensures.goes.live c.in_default.ensures.made in
     rw (← same) (λ db left. either_left g.S.Store old late c.args.meta s wrote numbers keeps at_late db (c.commit.ensures.survives.crash at_end db left))
 
 -- Store only for a reason.
@@ -63,7 +63,7 @@ returns-in-Err-clause-store g c clean s numbers keeps up store =
     let at_end : HasCleanDisk (state g.S.Store end) = search rules in
     let at_late : HasCleanDisk (state g.S.Store late) = omega (arith, c.rollback.ensures.survives.clean) in
     let from : c.transaction-tx.result.conn.now ≡ record old { in_transaction = true } = c.transaction-tx.ensures.begun in
-    let less : LeavesNoMore g.S.Store (record old { in_transaction = true }) late = rw from at c.write_new.ensures.survives in
+    let less : LeavesNoMore g.S.Store (record old { in_transaction = true }) late = rw from at c.write_new.ensures.goes.survives in
     let begun = state g.S.Store (record old { in_transaction = true }) in
     let fails : HasCleanDisk (state g.S.Store late) → (t : Tables) → MayAdd begun t → IsUp begun → HasReason begun (state g.S.Store late) c.in-Err.error
     = rw from at c.in-Err.ensures.reason in
@@ -80,12 +80,12 @@ returns-in-Err-commit-clause-store g c clean s numbers keeps up store =
     let at_end : HasCleanDisk (state g.S.Store end) = search rules in
     let at_late : HasCleanDisk (state g.S.Store late) = omega (arith, c.commit.ensures.survives.clean) in
     let from : c.transaction-tx.result.conn.now ≡ record old { in_transaction = true } = c.transaction-tx.ensures.begun in
-    let less : LeavesNoMore g.S.Store (record old { in_transaction = true }) late = rw from at c.write_new.ensures.survives in
+    let less : LeavesNoMore g.S.Store (record old { in_transaction = true }) late = rw from at c.write_new.ensures.goes.survives in
     let wrote : Wrote g.S.Store (record old { in_transaction = true }) late c.args.meta
     = wrote_from g.S.Store old c.transaction-tx.result.conn.now late c.args.meta c.transaction-tx.ensures.begun
-    c.write_new.ensures.survives c.in_default.ensures.live c.in_default.ensures.made in
+    c.write_new.ensures.goes.survives c.in_default.ensures.goes.live c.in_default.ensures.made in
     let begun_inside : IsTrue (state g.S.Store c.transaction-tx.result.conn.now).in_transaction = rw from refl in
-    let inside : IsTrue (state g.S.Store late).in_transaction = c.in_default.ensures.inside at_late begun_inside in
+    let inside : IsTrue (state g.S.Store late).in_transaction = c.in_default.ensures.goes.inside at_late begun_inside in
     rw (← same) (not_committed g.S.Store old late end s keeps up at_late less _ c.commit.ensures.survives c.args.meta numbers wrote inside _
     (c.in-Err-commit.ensures.err at_end))
 
@@ -98,7 +98,7 @@ returns-in-Err-clause-up g c =
     let end = c.rollback.new.self.0 in
     let same : end ≡ c.conn-1.given.0 = search rules in
     let from : c.transaction-tx.result.conn.now ≡ record old { in_transaction = true } = c.transaction-tx.ensures.begun in
-    let less : LeavesNoMore g.S.Store (record old { in_transaction = true }) late = rw from at c.write_new.ensures.survives in
+    let less : LeavesNoMore g.S.Store (record old { in_transaction = true }) late = rw from at c.write_new.ensures.goes.survives in
     rw (← same) (stays_through g.S.Store old late end (λ _. ⊥) less c.rollback.ensures.survives)
 
 pub returns-in-Err-commit-clause-up : goal.returns-in-Err-commit-clause-up
@@ -108,5 +108,5 @@ returns-in-Err-commit-clause-up g c =
     let end = c.commit.new.self.0 in
     let same : end ≡ c.conn-2-1.given.0 = search rules in
     let from : c.transaction-tx.result.conn.now ≡ record old { in_transaction = true } = c.transaction-tx.ensures.begun in
-    let less : LeavesNoMore g.S.Store (record old { in_transaction = true }) late = rw from at c.write_new.ensures.survives in
+    let less : LeavesNoMore g.S.Store (record old { in_transaction = true }) late = rw from at c.write_new.ensures.goes.survives in
     rw (← same) (stays_through g.S.Store old late end _ less c.commit.ensures.survives)

@@ -6,12 +6,10 @@ use Rattle.desk_sql.proofs.Selecting.{ok_then}
 use Rattle.desk_sql.specs.Versions.{SawVersion}
 use Rattle.desk_sql.specs.declared.meta.Meta.{Meta}
 use Rattle.desk_sql.specs.declared.versions.Version.TheVariants.{One}
-use Rattle.sql_model.specs.Staying.{StaysUp}
-use Rattle.sql_model.proofs.Staying.{stays_up}
 use Rattle.migrate.specs.Migrating.{IsAsBefore, NumbersOld, RefusesNumbers, Tells}
 use Rattle.migrate.specs.Reasons.{FailsToRead}
 use Rattle.migrate.proofs.FailLemmas.{meta_fails, not_memory, too_many_events}
-use Rattle.migrate.proofs.Quiet.{as_before, quiet_same}
+use Rattle.migrate.proofs.Quiet.{as_before}
 use Rattle.migrate.proofs.Reading.{numbers_read}
 use Rattle.migrate.proofs.Telling.{on_ok, on_errors, saw_read, tells_numbers, tells_fault}
 use Rattle.migrate.proofs.migrating.read_old.Goals as goal
@@ -23,18 +21,10 @@ returns-in-Ok-clause-numbers g c =
     let meta = c.in-Ok.meta in
     ok_then _ (NumbersOld g.S.Store old new) c.old_only.result
     (λ m is clean s stood. (
-    let at_old : HasCleanDisk (state g.S.Store old) = omega (arith, c.read_meta.ensures.survives.clean) in
+    let at_old : HasCleanDisk (state g.S.Store old) = omega (arith, c.read_meta.ensures.quiet.survives.clean) in
     let here : m ≡ meta = is.0 in
     rw here (numbers_read (state g.S.Store old) (state g.S.Store new) meta (λ v t sees. c.in-Ok.ensures.found v clean t sees) s (stood at_old))))
     c.old_only.ensures.ok
-
-pub returns-in-Ok-clause-same : goal.returns-in-Ok-clause-same
-returns-in-Ok-clause-same g c =
-    as_before g.S.Store c.args.conn.now c.read_meta.new.conn c.read_meta.ensures.survives (λ clean. quiet_same _ _ (c.read_meta.ensures.quiet clean))
-
-pub returns-in-Err-clause-same : goal.returns-in-Err-clause-same
-returns-in-Err-clause-same g c =
-    as_before g.S.Store c.args.conn.now c.read_meta.new.conn c.read_meta.ensures.survives (λ clean. quiet_same _ _ (c.read_meta.ensures.quiet clean))
 
 pub returns-in-Ok-clause-version : goal.returns-in-Ok-clause-version
 returns-in-Ok-clause-version g c =
@@ -52,8 +42,7 @@ returns-in-Ok-clause-told g c =
     let old = c.args.conn.now in
     let new = c.read_meta.new.conn in
     let meta = c.in-Ok.meta in
-    let same : IsAsBefore g.S.Store old new = as_before g.S.Store old new c.read_meta.ensures.survives
-    (λ clean. quiet_same _ _ (c.read_meta.ensures.quiet clean)) in
+    let same : IsAsBefore g.S.Store old new = as_before g.S.Store old new c.read_meta.ensures.quiet in
     on_errors (RefusesNumbers meta) (Tells g.S.Store old new) c.old_only.result
     (λ why is. tells_numbers g.S.Store old new meta why (saw_read g.S.Store old new meta c.in-Ok.ensures.found) same is)
     c.old_only.ensures.refused
@@ -62,8 +51,7 @@ pub returns-in-Err-clause-told : goal.returns-in-Err-clause-told
 returns-in-Err-clause-told g c =
     let old = c.args.conn.now in
     let new = c.read_meta.new.conn in
-    let same : IsAsBefore g.S.Store old new = as_before g.S.Store old new c.read_meta.ensures.survives
-    (λ clean. quiet_same _ _ (c.read_meta.ensures.quiet clean)) in
+    let same : IsAsBefore g.S.Store old new = as_before g.S.Store old new c.read_meta.ensures.quiet in
     tells_fault g.S.Store old new c.fault_of.result _ c.fault_of.ensures.memory c.fault_of.ensures.store same
 
 -- Store of numbers that were read says that there are too many events
@@ -74,7 +62,7 @@ returns-in-Ok-clause-store g c =
     let meta = c.in-Ok.meta in
     on_errors (RefusesNumbers meta) (FailsToRead g.S.Store old new) c.old_only.result
     (λ why is clean s stood up store. (
-    let at_old : HasCleanDisk (state g.S.Store old) = omega (arith, c.read_meta.ensures.survives.clean) in
+    let at_old : HasCleanDisk (state g.S.Store old) = omega (arith, c.read_meta.ensures.quiet.survives.clean) in
     let numbers = numbers_read (state g.S.Store old) (state g.S.Store new) meta (λ v t sees. c.in-Ok.ensures.found v clean t sees) s (stood at_old) in
     inr (too_many_events meta s numbers (subst (RefusesNumbers meta) store is))))
     c.old_only.ensures.refused
@@ -84,12 +72,6 @@ pub returns-in-Err-clause-store : goal.returns-in-Err-clause-store
 returns-in-Err-clause-store g c clean s stood up store =
     let old = state g.S.Store c.args.conn.now in
     let new = state g.S.Store c.read_meta.new.conn in
-    let at_old : HasCleanDisk old = omega (arith, c.read_meta.ensures.survives.clean) in
+    let at_old : HasCleanDisk old = omega (arith, c.read_meta.ensures.quiet.survives.clean) in
     let reason = meta_fails old new s c.in-Err.error (stood at_old) up (λ t sees has. c.in-Err.ensures.reason One clean t sees has up) in
     inl (not_memory old new c.in-Err.error c.fault_of.result c.fault_of.ensures.store reason store)
-
--- a read leaves the store up
-pub returns-in-Ok-clause-up : goal.returns-in-Ok-clause-up
-returns-in-Ok-clause-up g c =
-    on_ok (StaysUp g.S.Store c.args.conn.now c.read_meta.new.conn) _ c.old_only.result
-    (λ m is. stays_up g.S.Store c.args.conn.now c.read_meta.new.conn c.read_meta.ensures.survives) c.old_only.ensures.ok

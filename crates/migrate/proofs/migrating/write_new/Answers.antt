@@ -11,8 +11,8 @@ pub returns-clause-made : goal.returns-clause-made
 returns-clause-made g c clean t may =
     let one = state g.S.Store c.add_tables.new.tx.conn.now in
     let two = state g.S.Store c.copy_all.new.tx.conn.now in
-    let at_two : HasCleanDisk two = omega (arith, c.update_meta.ensures.survives.clean) in
-    let at_one : HasCleanDisk one = omega (arith, c.copy_all.ensures.survives.clean) in
+    let at_two : HasCleanDisk two = omega (arith, c.update_meta.ensures.goes.survives.clean) in
+    let at_one : HasCleanDisk one = omega (arith, c.copy_all.ensures.goes.survives.clean) in
     let n = c.args.meta.events + 1 in
     let added : HasCopied 0 one t = c.in_ok-add_tables.ensures.made at_one t may in
     let copied : HasCopied n two t = c.in_ok-copy_all.ensures.made at_two t added in
@@ -31,11 +31,11 @@ returns-in_err-copy_all-clause-reason g c clean t may up =
     let old = state g.S.Store c.args.tx.now.conn.now in
     let one = state g.S.Store c.add_tables.new.tx.conn.now in
     let two = state g.S.Store c.copy_all.new.tx.conn.now in
-    let at_one : HasCleanDisk one = omega (arith, c.copy_all.ensures.survives.clean) in
+    let at_one : HasCleanDisk one = omega (arith, c.copy_all.ensures.goes.survives.clean) in
     let added : HasCopied 0 one t = c.in_ok-add_tables.ensures.made at_one t may in
-    let still : IsUp one = record { is_open = added.is_open; unlimited = c.add_tables.ensures.survives.limit ∙ up.unlimited } in
+    let still : IsUp one = record { is_open = added.is_open; unlimited = c.add_tables.ensures.goes.survives.limit ∙ up.unlimited } in
     let e = c.in_err-copy_all.field-0.0 in
-    let reason : HasReason old two e = reason_since old one two e c.add_tables.ensures.survives.counts
+    let reason : HasReason old two e = reason_since old one two e c.add_tables.ensures.goes.survives.counts
     (c.in_err-copy_all.ensures.reason clean t added still) in
     search rules
 
@@ -45,14 +45,14 @@ returns-in_err-update_meta-clause-reason g c clean t may up =
     let one = state g.S.Store c.add_tables.new.tx.conn.now in
     let two = state g.S.Store c.copy_all.new.tx.conn.now in
     let last = state g.S.Store c.update_meta.new.tx.conn.now in
-    let at_two : HasCleanDisk two = omega (arith, c.update_meta.ensures.survives.clean) in
-    let at_one : HasCleanDisk one = omega (arith, c.copy_all.ensures.survives.clean) in
+    let at_two : HasCleanDisk two = omega (arith, c.update_meta.ensures.goes.survives.clean) in
+    let at_one : HasCleanDisk one = omega (arith, c.copy_all.ensures.goes.survives.clean) in
     let n = c.args.meta.events + 1 in
     let added : HasCopied 0 one t = c.in_ok-add_tables.ensures.made at_one t may in
     let copied : HasCopied n two t = c.in_ok-copy_all.ensures.made at_two t added in
-    let limit = c.copy_all.ensures.survives.limit ∙ c.add_tables.ensures.survives.limit ∙ up.unlimited in
+    let limit = c.copy_all.ensures.goes.survives.limit ∙ c.add_tables.ensures.goes.survives.limit ∙ up.unlimited in
     let still : IsUp two = record { is_open = copied.is_open; unlimited = limit } in
-    let low : old.faults ≤ two.faults = omega (arith, c.add_tables.ensures.survives.counts, c.copy_all.ensures.survives.counts) in
+    let low : old.faults ≤ two.faults = omega (arith, c.add_tables.ensures.goes.survives.counts, c.copy_all.ensures.goes.survives.counts) in
     let e = c.in_err-update_meta.field-0.0 in
     let reason : HasReason old last e = reason_since old two last e low
     (c.in_err-update_meta.ensures.reason clean (with_items_below n t) (record { inside = copied.inside; sees = λ _. copied.sees }) tt still) in

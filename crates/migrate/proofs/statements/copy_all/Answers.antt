@@ -12,7 +12,7 @@ returns-in_err-copy_items-clause-reason g c clean t has up =
     let old = state g.S.Store c.args.tx.now.conn.now in
     let mid = state g.S.Store c.loop-first.tx.conn.now in
     let new = state g.S.Store c.copy_items.new.tx.conn.now in
-    let at_mid : HasCleanDisk mid = omega (arith, c.copy_items.ensures.survives.clean) in
+    let at_mid : HasCleanDisk mid = omega (arith, c.copy_items.ensures.goes.survives.clean) in
     let so_far = c.loop-first.invariant.copied in
     let copied : HasCopied c.loop-first.first mid t = so_far.made at_mid t has in
     let still : IsUp mid = record { is_open = copied.is_open; unlimited = so_far.survives.limit ∙ up.unlimited } in

@@ -1,10 +1,10 @@
 -- The rows that will be returned are those of the unfinished journeys, and nothing changes, whether they start or not.
-use Rattle.std.proofs.Common.{inl, refl}
+use Rattle.std.proofs.Common.{refl}
+use Rattle.desk_sql.proofs.Quieting.{quiet_start}
 use Rattle.desk_sql.proofs.Selecting.{ok_then}
-use Rattle.sql_reads.proofs.HandedTold.{there_at, left_by}
+use Rattle.sql_reads.proofs.HandedTold.{there_at}
 use Rattle.sql_reads.proofs.HandedBriefs.{all_unfinished, lists_all, unfinished_told}
-use Rattle.sql_model.proofs.Staying.{stays_up}
-use Rattle.sql_reads.proofs.Starting.{not_started, ok_all}
+use Rattle.sql_reads.proofs.Starting.{not_started}
 use Rattle.report_rows.proofs.brief_rows.start_unfinished.Goals as goal
 
 pub returns : goal.returns
@@ -12,8 +12,7 @@ returns g c =
     let store = g.S.Store in
     let old = c.args.conn.now in
     let made = c.hand_unfinished.ensures in
-    let result = c.hand_unfinished.result in
-    let all = ok_all _ _ _ _ result made.begun made.same made.mode made.survives in (
+    let result = c.hand_unfinished.result in (
       (refl, c.hand_unfinished.follows.holds, not_started store old c.hand_unfinished.follows.lender-at-none result c.hand_unfinished.follows.holds-at-none),
       record {
         fault = tt;
@@ -22,8 +21,7 @@ returns g c =
             let t = there_at store old it.conn.now s keeps told.same told.survives clean in
             let rise = t.rows.journey.rise in
             let rows = all_unfinished t.tables in
-            (rows, told.begun clean v t.tables t.may rows (lists_all t.tables rise), unfinished_told s.ledger t.tables briefs t.stands.journey rise is)) all;
-        kept = ok_then _ _ result (λ it told. left_by store old it.conn.now (λ k. inl (told.same k)) told.survives told.mode) all;
-        up = ok_then _ _ result (λ it survives. stays_up store old it.conn.now survives) made.survives;
+            (rows, told.begun clean v t.tables t.may rows (lists_all t.tables rise), unfinished_told s.ledger t.tables briefs t.stands.journey rise is)) made.started;
+        quiet = ok_then _ _ result (λ it told. quiet_start store old it.conn.now _ _ told) made.started;
       },
     )

@@ -1,14 +1,14 @@
 -- The rows that will be returned are the cells that are asked for, and nothing changes, whether they start or not.
-use Rattle.std.proofs.Common.{inl, refl, map, filter, sym, subst}
+use Rattle.std.proofs.Common.{refl, map, filter, sym, subst}
+use Rattle.desk_sql.proofs.Quieting.{quiet_start}
 use Rattle.desk_sql.proofs.Selecting.{ok_then}
 use Rattle.sql_model.specs.Reading.{stock_row_of}
 use Rattle.desk_sql.specs.RemainingRows.{IsOnlyOrder}
 use Rattle.desk_sql.specs.Stock.{IsByCell}
 use Rattle.sql_lists.specs.CellLists.{is_row_asked}
-use Rattle.sql_reads.proofs.HandedTold.{there_at, left_by}
+use Rattle.sql_reads.proofs.HandedTold.{there_at}
 use Rattle.report_rows.proofs.HandedCells.{asked_in_order}
-use Rattle.sql_model.proofs.Staying.{stays_up}
-use Rattle.sql_reads.proofs.Starting.{not_started, ok_all}
+use Rattle.sql_reads.proofs.Starting.{not_started}
 use Rattle.report_rows.proofs.cell_rows.start_cells.Goals as goal
 
 pub returns : goal.returns
@@ -16,8 +16,7 @@ returns g c =
     let store = g.S.Store in
     let old = c.args.conn.now in
     let made = c.hand_cells.ensures in
-    let result = c.hand_cells.result in
-    let all = ok_all _ _ _ _ result made.begun made.same made.mode made.survives in (
+    let result = c.hand_cells.result in (
       (refl, c.hand_cells.follows.holds, not_started store old c.hand_cells.follows.lender-at-none result c.hand_cells.follows.holds-at-none),
       record {
         fault = tt;
@@ -27,8 +26,7 @@ returns g c =
             let order = asked_in_order s.ledger t.tables.stock t.stands.stock is.0 is.1 desk.legal c.args.kind c.args.filter.now in
             told.begun clean v t.tables t.may (map stock_row_of rows)
             (subst (λ cells. IsOnlyOrder IsByCell (filter (is_row_asked c.args.kind c.args.filter.now) t.tables.stock) (map stock_row_of cells))
-            (sym is.2) order)) all;
-        kept = ok_then _ _ result (λ it told. left_by store old it.conn.now (λ k. inl (told.same k)) told.survives told.mode) all;
-        up = ok_then _ _ result (λ it survives. stays_up store old it.conn.now survives) made.survives;
+            (sym is.2) order)) made.started;
+        quiet = ok_then _ _ result (λ it told. quiet_start store old it.conn.now _ _ told) made.started;
       },
     )

@@ -1,16 +1,11 @@
 -- The rows that remain of the query are its only answer, and it changes nothing, whether it starts or not.
-use Rattle.std.proofs.Common.{◌<◌, ◌^◌, map, true, false, None, Some, refl, subst}
-use Rattle.sqlite.specs.Held.{state}
+use Rattle.std.proofs.Common.{◌<◌, ◌^◌, true, false, None, Some, refl, subst}
 use Rattle.allotment.specs.Cells.{kind_number}
 use Rattle.filters.specs.CellFilters.{last_day}
-use Rattle.desk_sql.specs.declared.versions.Version.TheVariants.{Two}
-use Rattle.desk_sql.specs.Meanings.{find_stock_names}
 use Rattle.desk_sql.proofs.Beginning.{not_begun}
-use Rattle.sql_lists.proofs.HandedRows.{begun_same}
-use Rattle.desk_sql.proofs.Selecting.{leaves_no_more, ok_then}
+use Rattle.desk_sql.proofs.Selecting.{ok_each}
 use Rattle.desk_sql.proofs.Writing.{pos_is}
-use Rattle.sql_lists.specs.CellLists.{cells_query, cells_text}
-use Rattle.sql_lists.proofs.CellAnswers.{as_named, cells_begin, cells_take, kind_small, params}
+use Rattle.sql_lists.proofs.CellAnswers.{cells_started, cells_take, kind_small}
 use Rattle.sql_lists.proofs.ListMeanings.{cells_means}
 use Rattle.sql_lists.proofs.cells.hand_cells.Goals as goal
 
@@ -19,32 +14,24 @@ returns-in-None-None g c =
     let old = c.args.conn.now in
     let store = g.S.Store in
     let f = c.args.filter.now in
-    let kind = kind_number c.args.kind in
     let small = kind_small c.args.kind in
     let early = subst (λ n. n < 2 ^ 63) c.first_day.ensures.day c.first_day.ensures.small in
     let late = subst (λ n. n < 2 ^ 63) c.last_day.ensures.day c.last_day.ensures.small in
     let result = c.query.result in
-    let made = c.query.ensures in
-    let text = cells_text false false in
-    let given = params kind f.from (last_day f.to) None None in
-    let means = cells_means false false in
-    let begun = simp (c.from.ensures, c.number.ensures, pos_is, c.first_day.ensures.day, c.last_day.ensures.day) at made.begun in (
+    let made = c.query.ensures in (
       (
         refl,
         c.query.follows.holds,
-        not_begun store means (cells_take kind f.from (last_day f.to) None None) old c.query.follows.lender-at-none result
+        not_begun store (cells_means false false) (cells_take (kind_number c.args.kind) f.from (last_day f.to) None None) old
+            c.query.follows.lender-at-none result
             (simp (c.from.ensures, c.number.ensures, pos_is, c.first_day.ensures.day, c.last_day.ensures.day) at c.query.follows.holds-at-none),
       ),
       record {
         fault = tt;
         same_reference = made.same_reference;
-        begun = ok_then _ _ result (λ rows is.
-            as_named store old rows.conn.now c.args.kind f _ _ c.in-None-None.is-0 c.in-None-None.is-1 (cells_begin kind f.from (last_day f.to) None None store old rows.conn.now is)) begun;
-        same = ok_then _ _ result (λ rows is clean.
-            begun_same store text (cells_query false false) find_stock_names means given old rows.conn.now (is clean)) begun;
-        mode = made.mode;
-        survives = ok_then _ _ result (λ rows survives.
-            leaves_no_more text (means Two).selects given (state store old) (state store rows.conn.now) survives)
+        started = ok_each _ _ _ _ result
+            (λ rows. cells_started store old rows.conn.now c.args.kind f None None c.in-None-None.is-0 c.in-None-None.is-1)
+            (simp (c.from.ensures, c.number.ensures, pos_is, c.first_day.ensures.day, c.last_day.ensures.day) at made.begun) made.mode
             (simp (c.from.ensures, c.number.ensures, pos_is, c.first_day.ensures.day, c.last_day.ensures.day) at made.survives);
       },
     )
@@ -54,32 +41,24 @@ returns-in-None-Some g c =
     let old = c.args.conn.now in
     let store = g.S.Store in
     let f = c.args.filter.now in
-    let kind = kind_number c.args.kind in
     let small = kind_small c.args.kind in
     let early = subst (λ n. n < 2 ^ 63) c.first_day.ensures.day c.first_day.ensures.small in
     let late = subst (λ n. n < 2 ^ 63) c.last_day.ensures.day c.last_day.ensures.small in
     let result = c.query-in-None-Some.result in
-    let made = c.query-in-None-Some.ensures in
-    let text = cells_text false true in
-    let given = params kind f.from (last_day f.to) None (Some c.in-None-Some.product) in
-    let means = cells_means false true in
-    let begun = simp (c.from.ensures, c.number.ensures, pos_is, c.first_day.ensures.day, c.last_day.ensures.day, c.as_bytes.ensures.value, c.as_str.ensures.text) at made.begun in (
+    let made = c.query-in-None-Some.ensures in (
       (
         refl,
         c.query-in-None-Some.follows.holds,
-        not_begun store means (cells_take kind f.from (last_day f.to) None (Some c.in-None-Some.product)) old c.query-in-None-Some.follows.lender-at-none result
+        not_begun store (cells_means false true) (cells_take (kind_number c.args.kind) f.from (last_day f.to) None (Some c.in-None-Some.product)) old
+            c.query-in-None-Some.follows.lender-at-none result
             (simp (c.from.ensures, c.number.ensures, pos_is, c.first_day.ensures.day, c.last_day.ensures.day, c.as_bytes.ensures.value, c.as_str.ensures.text) at c.query-in-None-Some.follows.holds-at-none),
       ),
       record {
         fault = tt;
         same_reference = made.same_reference;
-        begun = ok_then _ _ result (λ rows is.
-            as_named store old rows.conn.now c.args.kind f _ _ c.in-None-Some.is-0 c.in-None-Some.is-1 (cells_begin kind f.from (last_day f.to) None (Some c.in-None-Some.product) store old rows.conn.now is)) begun;
-        same = ok_then _ _ result (λ rows is clean.
-            begun_same store text (cells_query false true) find_stock_names means given old rows.conn.now (is clean)) begun;
-        mode = made.mode;
-        survives = ok_then _ _ result (λ rows survives.
-            leaves_no_more text (means Two).selects given (state store old) (state store rows.conn.now) survives)
+        started = ok_each _ _ _ _ result
+            (λ rows. cells_started store old rows.conn.now c.args.kind f None (Some c.in-None-Some.product) c.in-None-Some.is-0 c.in-None-Some.is-1)
+            (simp (c.from.ensures, c.number.ensures, pos_is, c.first_day.ensures.day, c.last_day.ensures.day, c.as_bytes.ensures.value, c.as_str.ensures.text) at made.begun) made.mode
             (simp (c.from.ensures, c.number.ensures, pos_is, c.first_day.ensures.day, c.last_day.ensures.day, c.as_bytes.ensures.value, c.as_str.ensures.text) at made.survives);
       },
     )
@@ -89,32 +68,24 @@ returns-in-Some-None g c =
     let old = c.args.conn.now in
     let store = g.S.Store in
     let f = c.args.filter.now in
-    let kind = kind_number c.args.kind in
     let small = kind_small c.args.kind in
     let early = subst (λ n. n < 2 ^ 63) c.first_day.ensures.day c.first_day.ensures.small in
     let late = subst (λ n. n < 2 ^ 63) c.last_day.ensures.day c.last_day.ensures.small in
     let result = c.query-in-Some-None.result in
-    let made = c.query-in-Some-None.ensures in
-    let text = cells_text true false in
-    let given = params kind f.from (last_day f.to) (Some c.in-Some-None.supplier) None in
-    let means = cells_means true false in
-    let begun = simp (c.from.ensures, c.number.ensures, pos_is, c.first_day.ensures.day, c.last_day.ensures.day, c.as_bytes-in-Some-None.ensures.value, c.as_str-in-Some-None.ensures.text) at made.begun in (
+    let made = c.query-in-Some-None.ensures in (
       (
         refl,
         c.query-in-Some-None.follows.holds,
-        not_begun store means (cells_take kind f.from (last_day f.to) (Some c.in-Some-None.supplier) None) old c.query-in-Some-None.follows.lender-at-none result
+        not_begun store (cells_means true false) (cells_take (kind_number c.args.kind) f.from (last_day f.to) (Some c.in-Some-None.supplier) None) old
+            c.query-in-Some-None.follows.lender-at-none result
             (simp (c.from.ensures, c.number.ensures, pos_is, c.first_day.ensures.day, c.last_day.ensures.day, c.as_bytes-in-Some-None.ensures.value, c.as_str-in-Some-None.ensures.text) at c.query-in-Some-None.follows.holds-at-none),
       ),
       record {
         fault = tt;
         same_reference = made.same_reference;
-        begun = ok_then _ _ result (λ rows is.
-            as_named store old rows.conn.now c.args.kind f _ _ c.in-Some-None.is-0 c.in-Some-None.is-1 (cells_begin kind f.from (last_day f.to) (Some c.in-Some-None.supplier) None store old rows.conn.now is)) begun;
-        same = ok_then _ _ result (λ rows is clean.
-            begun_same store text (cells_query true false) find_stock_names means given old rows.conn.now (is clean)) begun;
-        mode = made.mode;
-        survives = ok_then _ _ result (λ rows survives.
-            leaves_no_more text (means Two).selects given (state store old) (state store rows.conn.now) survives)
+        started = ok_each _ _ _ _ result
+            (λ rows. cells_started store old rows.conn.now c.args.kind f (Some c.in-Some-None.supplier) None c.in-Some-None.is-0 c.in-Some-None.is-1)
+            (simp (c.from.ensures, c.number.ensures, pos_is, c.first_day.ensures.day, c.last_day.ensures.day, c.as_bytes-in-Some-None.ensures.value, c.as_str-in-Some-None.ensures.text) at made.begun) made.mode
             (simp (c.from.ensures, c.number.ensures, pos_is, c.first_day.ensures.day, c.last_day.ensures.day, c.as_bytes-in-Some-None.ensures.value, c.as_str-in-Some-None.ensures.text) at made.survives);
       },
     )
@@ -124,32 +95,24 @@ returns-in-Some-Some g c =
     let old = c.args.conn.now in
     let store = g.S.Store in
     let f = c.args.filter.now in
-    let kind = kind_number c.args.kind in
     let small = kind_small c.args.kind in
     let early = subst (λ n. n < 2 ^ 63) c.first_day.ensures.day c.first_day.ensures.small in
     let late = subst (λ n. n < 2 ^ 63) c.last_day.ensures.day c.last_day.ensures.small in
     let result = c.query-in-Some-Some.result in
-    let made = c.query-in-Some-Some.ensures in
-    let text = cells_text true true in
-    let given = params kind f.from (last_day f.to) (Some c.in-Some-Some.supplier) (Some c.in-Some-Some.product) in
-    let means = cells_means true true in
-    let begun = simp (c.from.ensures, c.number.ensures, pos_is, c.first_day.ensures.day, c.last_day.ensures.day, c.as_bytes-in-Some-Some.ensures.value, c.as_str-in-Some-Some.ensures.text, c.as_bytes-in-Some-Some-2.ensures.value, c.as_str-in-Some-Some-2.ensures.text) at made.begun in (
+    let made = c.query-in-Some-Some.ensures in (
       (
         refl,
         c.query-in-Some-Some.follows.holds,
-        not_begun store means (cells_take kind f.from (last_day f.to) (Some c.in-Some-Some.supplier) (Some c.in-Some-Some.product)) old c.query-in-Some-Some.follows.lender-at-none result
+        not_begun store (cells_means true true) (cells_take (kind_number c.args.kind) f.from (last_day f.to) (Some c.in-Some-Some.supplier) (Some c.in-Some-Some.product)) old
+            c.query-in-Some-Some.follows.lender-at-none result
             (simp (c.from.ensures, c.number.ensures, pos_is, c.first_day.ensures.day, c.last_day.ensures.day, c.as_bytes-in-Some-Some.ensures.value, c.as_str-in-Some-Some.ensures.text, c.as_bytes-in-Some-Some-2.ensures.value, c.as_str-in-Some-Some-2.ensures.text) at c.query-in-Some-Some.follows.holds-at-none),
       ),
       record {
         fault = tt;
         same_reference = made.same_reference;
-        begun = ok_then _ _ result (λ rows is.
-            as_named store old rows.conn.now c.args.kind f _ _ c.in-Some-Some.is-0 c.in-Some-Some.is-1 (cells_begin kind f.from (last_day f.to) (Some c.in-Some-Some.supplier) (Some c.in-Some-Some.product) store old rows.conn.now is)) begun;
-        same = ok_then _ _ result (λ rows is clean.
-            begun_same store text (cells_query true true) find_stock_names means given old rows.conn.now (is clean)) begun;
-        mode = made.mode;
-        survives = ok_then _ _ result (λ rows survives.
-            leaves_no_more text (means Two).selects given (state store old) (state store rows.conn.now) survives)
+        started = ok_each _ _ _ _ result
+            (λ rows. cells_started store old rows.conn.now c.args.kind f (Some c.in-Some-Some.supplier) (Some c.in-Some-Some.product) c.in-Some-Some.is-0 c.in-Some-Some.is-1)
+            (simp (c.from.ensures, c.number.ensures, pos_is, c.first_day.ensures.day, c.last_day.ensures.day, c.as_bytes-in-Some-Some.ensures.value, c.as_str-in-Some-Some.ensures.text, c.as_bytes-in-Some-Some-2.ensures.value, c.as_str-in-Some-Some-2.ensures.text) at made.begun) made.mode
             (simp (c.from.ensures, c.number.ensures, pos_is, c.first_day.ensures.day, c.last_day.ensures.day, c.as_bytes-in-Some-Some.ensures.value, c.as_str-in-Some-Some.ensures.text, c.as_bytes-in-Some-Some-2.ensures.value, c.as_str-in-Some-Some-2.ensures.text) at made.survives);
       },
     )

@@ -1,13 +1,11 @@
 -- The rows that remain of the query are its only answer, and it changes nothing, whether it starts or not.
 use Rattle.std.proofs.Common.{◌<◌, ◌^◌, refl, subst}
-use Rattle.sqlite.specs.Held.{state}
 use Rattle.allotment.specs.Cells.{kind_number}
-use Rattle.desk_sql.specs.declared.versions.Version.TheVariants.{Two}
 use Rattle.desk_sql.proofs.Beginning.{not_begun}
-use Rattle.sql_lists.proofs.HandedRows.{begun_same}
-use Rattle.desk_sql.proofs.Selecting.{leaves_no_more, ok_then}
+use Rattle.sql_lists.proofs.HandedRows.{started}
+use Rattle.desk_sql.proofs.Selecting.{ok_each}
 use Rattle.desk_sql.proofs.Writing.{pos_is}
-use Rattle.sql_lists.specs.HolderLists.{holders_names, holders_params, holders_query, holders_text}
+use Rattle.sql_lists.specs.HolderLists.{HoldersRest, ListsHolders, holders_names, holders_params, holders_query, holders_text}
 use Rattle.sql_lists.proofs.CellAnswers.{kind_small}
 use Rattle.sql_lists.proofs.HolderAnswers.{holders_begin, holders_means, holders_take}
 use Rattle.sql_lists.proofs.holders.hand_holders.Goals as goal
@@ -20,9 +18,7 @@ returns g c =
     let few = kind_small x.kind in
     let small = subst (λ n. n < 2 ^ 63) c.day_of.ensures.day c.day_of.ensures.small in
     let result = c.query.result in
-    let made = c.query.ensures in
-    let given = holders_params x in
-    let begun = simp (c.from.ensures, c.number.ensures, pos_is, c.day_of.ensures.day, c.as_bytes.ensures.value, c.as_str.ensures.text, c.as_bytes-2.ensures.value, c.as_str-2.ensures.text) at made.begun in (
+    let made = c.query.ensures in (
       (
         refl,
         c.query.follows.holds,
@@ -32,12 +28,10 @@ returns g c =
       record {
         fault = tt;
         same_reference = made.same_reference;
-        begun = ok_then _ _ result (λ rows is. holders_begin x small store old rows.conn.now is) begun;
-        same = ok_then _ _ result (λ rows is clean.
-            begun_same store holders_text holders_query holders_names holders_means given old rows.conn.now (is clean)) begun;
-        mode = made.mode;
-        survives = ok_then _ _ result (λ rows survives.
-            leaves_no_more holders_text (holders_means Two).selects given (state store old) (state store rows.conn.now) survives)
+        started = ok_each _ _ _ _ result (λ rows begun.
+            started store holders_text holders_query holders_names holders_means (holders_params x) (ListsHolders x) (HoldersRest store) old
+            rows.conn.now begun (holders_begin x small store old rows.conn.now begun))
+            (simp (c.from.ensures, c.number.ensures, pos_is, c.day_of.ensures.day, c.as_bytes.ensures.value, c.as_str.ensures.text, c.as_bytes-2.ensures.value, c.as_str-2.ensures.text) at made.begun) made.mode
             (simp (c.from.ensures, c.number.ensures, pos_is, c.day_of.ensures.day, c.as_bytes.ensures.value, c.as_str.ensures.text, c.as_bytes-2.ensures.value, c.as_str-2.ensures.text) at made.survives);
       },
     )

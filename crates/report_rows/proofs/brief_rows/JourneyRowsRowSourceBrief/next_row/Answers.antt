@@ -10,7 +10,7 @@ use Rattle.sql_reads.proofs.HandedBriefs.{brief_same}
 use Rattle.commands.specs.declared.replies.Fault.TheVariants.{Store}
 use Rattle.sqlite.specs.Held.{state}
 use Rattle.sql_reads.proofs.HandedGood.{brief_good, briefs_text}
-use Rattle.sql_model.proofs.Staying.{of_error, stays_up}
+use Rattle.sql_model.proofs.Staying.{of_error}
 use Rattle.report_rows.proofs.brief_rows.JourneyRowsRowSourceBrief.next_row.Goals as goal
 
 pub returns-in-Some-clause-next : goal.returns-in-Some-clause-next
@@ -47,15 +47,3 @@ returns-clause-store g c clean going rests few up store =
     let reason = c.in-Err.ensures.reason clean rests.1.0 rests.1.1 (briefs_text rests.1.0 rests.0 rests.1.2 rests.2) up in
     let is : c.fault_of.result ≡ Store = cc in
     of_error (state g.S.Store old) (state g.S.Store new) c.in-Err.error c.fault_of.result c.fault_of.ensures.memory reason is
-
-pub returns-in-Ok-Some-clause-up : goal.returns-in-Ok-Some-clause-up
-returns-in-Ok-Some-clause-up g c = stays_up g.S.Store c.args.self.now.rows.now.conn.now c.next_journey.new.rows.conn.now c.next_journey.ensures.survives
-
-pub returns-in-Some-clause-up : goal.returns-in-Some-clause-up
-returns-in-Some-clause-up g c = stays_up g.S.Store c.args.self.now.rows.now.conn.now c.next_journey.new.rows.conn.now c.next_journey.ensures.survives
-
-pub returns-in-Ok-None-clause-up : goal.returns-in-Ok-None-clause-up
-returns-in-Ok-None-clause-up g c = stays_up g.S.Store c.args.self.now.rows.now.conn.now c.next_journey.new.rows.conn.now c.next_journey.ensures.survives
-
-pub returns-clause-up : goal.returns-clause-up
-returns-clause-up g c = stays_up g.S.Store c.args.self.now.rows.now.conn.now c.next_journey.new.rows.conn.now c.next_journey.ensures.survives

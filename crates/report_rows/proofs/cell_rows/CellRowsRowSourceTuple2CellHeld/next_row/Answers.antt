@@ -1,16 +1,15 @@
 -- The row that is returned is that of the first remaining cell, and nothing changes.
-use Rattle.std.proofs.Common.{refl, subst, ◌≡◌, true, false, map}
+use Rattle.std.proofs.Common.{subst, ◌≡◌, true, false, map}
 use Rattle.std.specs.Prelude.{option_map}
 use Rattle.desk_sql.specs.Stock.{stock_of}
 use Rattle.desk_sql.specs.RemainingRows.{Hands}
 use Rattle.sql_lists.specs.CellLists.{CellsRest}
-use Rattle.sql_reads.proofs.HandedTold.{left_by}
 use Rattle.report_rows.proofs.HandedStock.{cell_first, cell_none}
 use Rattle.commands.specs.declared.replies.Fault.TheVariants.{Store}
 use Rattle.sqlite.specs.Held.{state}
 use Rattle.sql_model.specs.Reading.{stock_row_of}
 use Rattle.sql_reads.proofs.HandedGood.{cell_good, cells_text}
-use Rattle.sql_model.proofs.Staying.{of_error, stays_up}
+use Rattle.sql_model.proofs.Staying.{of_error}
 use Rattle.report_rows.proofs.cell_rows.CellRowsRowSourceTuple2CellHeld.next_row.Goals as goal
 
 pub returns-in-Some-clause-next : goal.returns-in-Some-clause-next
@@ -26,15 +25,6 @@ returns-in-Ok-None-clause-next g c clean =
     let after = CellsRest g.S.Store c.next_cell.new.rows.conn.now in
     cell_none before after
     (subst (λ o. Hands before after (option_map stock_of o)) c.in-Ok-None.field-0-is (c.in-Ok-None.ensures.next clean)) c.args.self.now.progress.failed
-
-pub returns-in-Ok-Some-clause-kept : goal.returns-in-Ok-Some-clause-kept
-returns-in-Ok-Some-clause-kept g c = record {
-  same_reference = refl;
-  under = record {
-    same_reference = c.next_cell.ensures.same_reference;
-    left = left_by g.S.Store c.args.self.now.rows.now.conn.now c.next_cell.new.rows.conn.now c.next_cell.ensures.same c.next_cell.ensures.survives c.next_cell.ensures.mode;
-  };
-}
 
 -- each row tells a cell with its places
 pub returns-in-Ok-Some-clause-store : goal.returns-in-Ok-Some-clause-store
@@ -53,15 +43,3 @@ returns-clause-store g c clean going rests few up store =
     let reason = c.in-Err.ensures.reason clean (map stock_row_of rests.0) rests.1 (cells_text rests.0 rests.2) up in
     let is : c.fault_of.result ≡ Store = cc in
     of_error (state g.S.Store old) (state g.S.Store new) c.in-Err.error c.fault_of.result c.fault_of.ensures.memory reason is
-
-pub returns-in-Ok-Some-clause-up : goal.returns-in-Ok-Some-clause-up
-returns-in-Ok-Some-clause-up g c = stays_up g.S.Store c.args.self.now.rows.now.conn.now c.next_cell.new.rows.conn.now c.next_cell.ensures.survives
-
-pub returns-in-Some-clause-up : goal.returns-in-Some-clause-up
-returns-in-Some-clause-up g c = stays_up g.S.Store c.args.self.now.rows.now.conn.now c.next_cell.new.rows.conn.now c.next_cell.ensures.survives
-
-pub returns-in-Ok-None-clause-up : goal.returns-in-Ok-None-clause-up
-returns-in-Ok-None-clause-up g c = stays_up g.S.Store c.args.self.now.rows.now.conn.now c.next_cell.new.rows.conn.now c.next_cell.ensures.survives
-
-pub returns-clause-up : goal.returns-clause-up
-returns-clause-up g c = stays_up g.S.Store c.args.self.now.rows.now.conn.now c.next_cell.new.rows.conn.now c.next_cell.ensures.survives

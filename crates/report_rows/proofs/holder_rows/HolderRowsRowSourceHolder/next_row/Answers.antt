@@ -4,7 +4,7 @@ use Rattle.commands.specs.declared.replies.Fault.TheVariants.{Store}
 use Rattle.sqlite.specs.Held.{state}
 use Rattle.desk_sql.specs.RemainingRows.{Hands}
 use Rattle.sql_lists.specs.HolderLists.{HoldersRest}
-use Rattle.sql_model.proofs.Staying.{of_error, stays_up}
+use Rattle.sql_model.proofs.Staying.{of_error}
 use Rattle.report_rows.specs.HoldersLeft.{found_of}
 use Rattle.report_rows.proofs.HandedHolders.{holder_first, holder_none}
 use Rattle.report_rows.proofs.holder_rows.HolderRowsRowSourceHolder.next_row.Goals as goal
@@ -30,6 +30,3 @@ returns-in-Err-clause-store g c clean going rests few up store =
     let reason = c.in-Err.ensures.reason clean (map found_of rests.0) rests.1 up in
     let is : c.fault_of.result ≡ Store = cc in
     of_error (state g.S.Store old) (state g.S.Store new) c.in-Err.error c.fault_of.result c.fault_of.ensures.memory reason is
-
-pub returns-in-Ok-None-clause-up : goal.returns-in-Ok-None-clause-up
-returns-in-Ok-None-clause-up g c = stays_up g.S.Store c.args.self.now.rows.now.conn.now c.next_holder.new.rows.conn.now c.next_holder.ensures.survives
