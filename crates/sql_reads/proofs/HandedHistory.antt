@@ -9,12 +9,11 @@ use Rattle.desk_sql.specs.FoundRows.{item_of}
 use Rattle.desk_sql.specs.declared.journeys.ItemFound.{ItemFound}
 use Rattle.saga_core.specs.RowSources.{HandsFirst}
 use Rattle.desk_sql.specs.declared.versions.Version.{Version}
-use Rattle.sql_model.specs.Keeping.{KeepsIn}
+use Rattle.sql_model.specs.Keeping.{KeepsEach, KeepsIn}
 use Rattle.sql_model.specs.Reading.{item_in}
 use Rattle.sql_model.specs.Standing.{IsDesk}
 use Rattle.sql_reads.specs.Following.{GoesOnWith, BringsTo, TellsFinished}
 use Rattle.sql_reads.specs.RemainingRows.{AreBehind, ItemsLeft}
-use Rattle.sql_reads.specs.Reading.{KeepsEach}
 use Rattle.sql_reads.specs.ItemSearch.{TellsNext, IsNextOf}
 use Rattle.sql_reads.specs.declared.item_search.Sought.{Sought}
 use Rattle.sql_reads.proofs.GoingOn.{goes_no_further}

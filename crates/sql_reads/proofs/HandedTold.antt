@@ -1,9 +1,9 @@
 -- The rows that are read are those of the desk's own values. For the sources of rows.
-use Rattle.std.proofs.Common.{◌≡◌, List, [], ◌∷◌, map, Bool, false, Some, None, refl, ap, ◌∙◌}
+use Rattle.std.proofs.Common.{◌≡◌, List, [], ◌∷◌, map, Bool, false, Some, None, refl, ap, ◌∙◌, arith}
 use Rattle.sqlite.specs.Store.{Ghosts}
 use Rattle.sqlite.specs.Held.{Held, state}
 use Rattle.sqlite.specs.State.{HasCleanDisk}
-use Rattle.desk_sql.specs.Calls.{MaySeeIn, ChangesNothing, LeavesNoMore}
+use Rattle.desk_sql.specs.Calls.{MaySeeIn, LeavesNoMore}
 use Rattle.desk_sql.specs.declared.versions.Version.{Version}
 use Rattle.desk_sql.specs.Rows.{Tables, ShowsIn}
 use Rattle.ledger.specs.Answer.{State}
@@ -11,23 +11,7 @@ use Rattle.sql_model.specs.Standing.{StandsIn}
 use Rattle.sql_model.specs.Keeping.{KeepsIn}
 use Rattle.desk_sql.specs.RemainingRows.{HandsFirst as HandsFirstRow, Hands as HandsRows, StaysAsItIs}
 use Rattle.saga_core.specs.RowSources.{HandsFirst}
-use Rattle.sql_model.proofs.KeepLemmas.{seen_by, quiet_keeps}
-use Rattle.sql_model.proofs.Staying.{sees_again}
-use Rattle.sql_reads.specs.RemainingRows.{IsLeftAsItWas}
-use Rattle.sql_reads.proofs.ReadLemmas.{was_clean, as_before}
-
--- a call that returned a row, or failed, kept what the connection kept
-pub left_by : {S : Type 0} (g : Ghosts S) (old new : Held S) → ChangesNothing g old new → LeavesNoMore g old new
-    → (old.in_transaction ≡ false → new.in_transaction ≡ false) → IsLeftAsItWas g old new
-left_by g old new same survives outside = record {
-  reads = record {
-    keeps = λ v s keeps clean. quiet_keeps (state g old) (state g new) s (keeps (was_clean g old new survives clean)) (same clean) survives clean;
-    stop = as_before g old new survives;
-    less = was_clean g old new survives;
-    sees = sees_again g old new same;
-  };
-  outside = outside;
-}
+use Rattle.sql_model.proofs.KeepLemmas.{seen_by}
 
 -- the tables of a connection that keeps a state, seen from what the connection has become
 pub record IsThere (v : Version) {S : Type 0} (g : Ghosts S) (h : Held S) (s : State) : Type 0 where
@@ -39,7 +23,7 @@ pub record IsThere (v : Version) {S : Type 0} (g : Ghosts S) (h : Held S) (s : S
 pub there_at : {v : Version} {S : Type 0} (g : Ghosts S) (old new : Held S) (s : State) → KeepsIn v (state g old) s → StaysAsItIs g old new
     → LeavesNoMore g old new → HasCleanDisk (state g new) → IsThere v g old s
 there_at g old new s keeps same survives clean =
-    let seen = seen_by (state g old) s (keeps (was_clean g old new survives clean)) in
+    let seen = seen_by (state g old) s (keeps (omega (arith, survives.clean, clean))) in
     let live = (same clean).0.was_open in
     record { tables = seen.tables; may = seen.may; rows = (seen.may live).rows; stands = seen.stands live }
 

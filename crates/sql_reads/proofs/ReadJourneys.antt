@@ -25,7 +25,7 @@ use Rattle.sql_model.specs.ExpectedRows.{cursor_row}
 use Rattle.sql_model.specs.Reading.{Tells, IsBriefOf, IsJourneyOf, cursor_in}
 use Rattle.sql_model.proofs.Cursors.{cursor_back}
 use Rattle.sql_model.specs.Standing.{StandsIn, is_mark_at}
-use Rattle.sql_reads.specs.Reading.{TellsBrief, TellsStand, TellsRecord, stand_of, IsNone, AreMarksAt}
+use Rattle.sql_reads.specs.Reading.{TellsBrief, TellsStand, TellsRecord, stand_of, AreMarksAt, AreTakenIn}
 use Rattle.sql_reads.specs.declared.reads.Stand.{Stand}
 
 made_brief : ℕ → List ℕ → Cursor → Brief
@@ -97,13 +97,9 @@ some_one {X} (x ∷ xs) (y ∷ ys) e =
     let tail : map Some xs ≡ map Some ys = cc in
     ap₂ ◌∷◌ head (some_one xs ys tail)
 
--- if no row is found, there is no record
-pub record_none : (l : List Event) (id : ℕ) → Tells (λ (r : JourneyRow) a. (r.id ≡ id) × IsJourneyOf l r a) None (journey_at l id) → None ≡ record_of l id
-record_none l id = go (journey_at l id)
-  where
-    go : (o : Option Journey) → Tells (λ (r : JourneyRow) a. (r.id ≡ id) × IsJourneyOf l r a) None o → None ≡ option_map (record_of_journey (history l id)) o
-    go None t = refl
-    go (Some a) t = absurd t
+-- a journey that does not exist has no record
+pub record_none : (l : List Event) (id : ℕ) → journey_at l id ≡ None → None ≡ record_of l id
+record_none l id absent = sym (ap (option_map (record_of_journey (history l id))) absent)
 
 -- the journey of a row
 pub record JourneyThere (l : List Event) (id : ℕ) (r : JourneyRow) : Type 0 where
@@ -153,15 +149,9 @@ stand_shown l id r b told tells =
     made : List ℕ → ℕ → ℕ → Cursor → Stand
     made agent steps tries cursor = record { agent = agent; steps = steps; tries = tries; cursor = cursor }
 
--- if no row is found, the ledger has no brief of the number
-pub brief_none : (l : List Event) (id : ℕ) → Tells (λ (r : JourneyRow) a. (r.id ≡ id) × IsJourneyOf l r a) None (journey_at l id)
-    → None ≡ brief_of l id
-brief_none l id = go (journey_at l id)
-  where
-    go : (o : Option Journey) → Tells (λ (r : JourneyRow) a. (r.id ≡ id) × IsJourneyOf l r a) None o
-        → None ≡ option_map (brief_of_journey id (history l id)) o
-    go None t = refl
-    go (Some a) t = absurd t
+-- nor a brief
+pub brief_none : (l : List Event) (id : ℕ) → journey_at l id ≡ None → None ≡ brief_of l id
+brief_none l id absent = sym (ap (option_map (brief_of_journey id (history l id))) absent)
 
 -- the number, agent and cursor in a row are those of the brief
 pub brief_shown : (l : List Event) (id : ℕ) (r : JourneyFound) (b : Brief)
@@ -210,10 +200,9 @@ stand_record l id stand plan marks has planned marked =
     made : List ℕ → Planned → Cursor → set.FinSet nat_cmp → Record
     made agent plan cursor marks = record { agent = agent; plan = plan; cursor = cursor; marks = marks }
 
--- if no row is found, there is no agent, steps or cursor
-pub stand_none : (l : List Event) (id : ℕ) → Tells (λ (r : JourneyRow) a. (r.id ≡ id) × IsJourneyOf l r a) None (journey_at l id)
-    → None ≡ option_map stand_of (record_of l id)
-stand_none l id told = ap (option_map stand_of) (record_none l id told)
+-- nor an agent, steps and a cursor
+pub stand_none : (l : List Event) (id : ℕ) → journey_at l id ≡ None → None ≡ option_map stand_of (record_of l id)
+stand_none l id absent = ap (option_map stand_of) (record_none l id absent)
 
 -- in tables of version 1 there is no save-point that was taken
 pub none_taken : {v : Version} (db : Trees) (t : Tables) (s : State) → v ≡ One → ShowsIn v db t → StandsIn v t s → (id p : ℕ)
@@ -224,8 +213,7 @@ none_taken db t s first shown stands id p =
 
 -- the save-points read of a journey are those that stand, in tables of either version
 pub marks_either : (v : Version) (db : Trees) (t : Tables) (s : State) → ShowsIn v db t → StandsIn v t s → (id : ℕ) (marks : set.FinSet nat_cmp)
-    → (v ≡ One → IsNone marks) → (v ≡ Two → AreMarksAt id s marks) → AreMarksAt id s marks
-marks_either One db t s shown stands id marks first second =
-    let none = first refl in
+    → AreTakenIn v id s marks → AreMarksAt id s marks
+marks_either One db t s shown stands id marks none =
     marks_told (history s.ledger id) marks (λ p. none.none p ∙ sym (none_taken db t s refl shown stands id p)) none.low
-marks_either Two db t s shown stands id marks first second = second refl
+marks_either Two db t s shown stands id marks taken = taken

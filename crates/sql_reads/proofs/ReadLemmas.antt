@@ -1,70 +1,27 @@
--- A read outside of a transaction keeps what the connection kept. For the functions of `sql_reads`.
-use Rattle.std.proofs.Common.{arith}
-use Rattle.std.specs.Prelude.{Result, Ok, Err, IfOk}
+-- A read of the desk is made of queries of rows, one after another. For the functions of `sql_reads` and of the crates above.
+use Rattle.std.proofs.Common.{◌≡◌, ap, subst, sym, ◌∙◌, Result, Ok, Err}
+use Rattle.std.specs.Prelude.{◌↔◌, IfOk, IfErr, IsErrOf, ⊤}
 use Rattle.sqlite.specs.Store.{Ghosts}
-use Rattle.sqlite.specs.State.{HasCleanDisk}
+use Rattle.sqlite.specs.State.{HasCleanDisk, IsUnchanged}
 use Rattle.sqlite.specs.Held.{Held, state}
-use Rattle.desk_sql.specs.Calls.{ReadsIn, ChangesNothing, LeavesNoMore}
-use Rattle.desk_sql.specs.declared.versions.Version.{Version}
-use Rattle.desk_sql.specs.declared.versions.Version.TheVariants.{Two}
+use Rattle.sqlite.specs.declared.error.Error.{Error}
+use Rattle.sqlite.specs.declared.error.Error.TheVariants.{SqliteFailure}
+use Rattle.sqlite.specs.declared.error.ErrorCode.TheVariants.{OutOfMemory}
+use Rattle.commands.specs.declared.replies.Fault.{Fault}
+use Rattle.commands.specs.declared.replies.Fault.TheVariants.{Memory, Store}
+use Rattle.desk_sql.specs.Calls.{MaySeeIn, Quiet}
+use Rattle.desk_sql.specs.Causes.{IsUp, HasReason}
 use Rattle.desk_sql.specs.Rows.{Tables, ShowsIn}
+use Rattle.desk_sql.specs.declared.versions.Version.{Version}
+use Rattle.desk_sql.proofs.Quieting.{quiet_alone, quiet_twice}
 use Rattle.ledger.specs.Answer.{State}
-use Rattle.sql_model.specs.Standing.{StandsIn}
-use Rattle.sql_model.specs.Keeping.{KeepsIn}
-use Rattle.sql_reads.specs.Reading.{KeepsOn, KeepsEach, LeavesAsBefore, WasClean, OnlyReads}
-use Rattle.sql_model.specs.Staying.{sees_twice}
-use Rattle.sql_model.proofs.KeepLemmas.{seen_by, left_before, quiet_keeps}
-use Rattle.sql_model.proofs.Staying.{sees_again}
-
-module _ {S : Type 0} (g : Ghosts S) (old new : Held S) where
-  -- a store that returns what was written after the read did so before
-  pub was_clean : LeavesNoMore g old new → WasClean g old new
-  was_clean survives clean = omega (arith, survives.clean)
-
-  -- a crash leaves nothing that it could not have left before
-  pub as_before : LeavesNoMore g old new → LeavesAsBefore g old new
-  as_before survives = left_before (state g old) (state g new) survives
-
-  -- the connection keeps each state that it kept, whether the read fails or not
-  pub keeps_each : ChangesNothing g old new → LeavesNoMore g old new → KeepsEach g old new
-  keeps_each quiet survives v s keeps clean =
-      quiet_keeps (state g old) (state g new) s (keeps (was_clean survives clean)) (quiet clean) survives clean
-
-  pub keeps_on : ChangesNothing g old new → LeavesNoMore g old new → KeepsOn g old new
-  keeps_on quiet survives = keeps_each quiet survives Two
-
-  -- all that a read leaves as it was
-  pub only_reads : ChangesNothing g old new → LeavesNoMore g old new → OnlyReads g old new
-  only_reads quiet survives =
-      record { keeps = keeps_each quiet survives; stop = as_before survives; less = was_clean survives; sees = sees_again g old new quiet }
-
-  -- what was found in tables of this version that represent the state
-  pub record HasFound (v : Version) {V : Type 0} (s : State) (Finds : Tables → V → Type 0) (it : V) : Type 0 where
-    pub tables : Tables
-    pub rows : ShowsIn v (state g old).now.trees tables
-    pub stands : StandsIn v tables s
-    pub found : Finds tables it
-
-  -- a successful read found what the tables of each kept state have
-  pub has_found : {v : Version} {V : Type 0} (found : V) (Finds : Tables → V → Type 0) → ReadsIn g old new v (Ok found) Finds
-      → LeavesNoMore g old new → HasCleanDisk (state g new) → (s : State) → KeepsIn v (state g old) s → HasFound v s Finds found
-  has_found found Finds reads survives clean s keeps =
-      let kept = keeps (was_clean survives clean) in
-      let seen = seen_by (state g old) s kept in
-      let done = reads clean seen.tables seen.may in
-      let live = done.0.0.was_open in
-      record { tables = seen.tables; rows = (seen.may live).rows; stands = seen.stands live; found = done.1 }
-
--- Two consecutive reads.
-
-module _ {S : Type 0} (g : Ghosts S) (old mid new : Held S) where
-  pub reads_then : OnlyReads g old mid → OnlyReads g mid new → OnlyReads g old new
-  reads_then one two = record {
-    keeps = λ v s keeps. two.keeps v s (one.keeps v s keeps);
-    stop = λ clean db may. one.stop (two.less clean) db (two.stop clean db may);
-    less = λ clean. one.less (two.less clean);
-    sees = sees_twice g old mid new one.sees two.sees two.less;
-  }
+use Rattle.sql_model.specs.Standing.{IsDesk, StandsIn}
+use Rattle.sql_model.specs.Spelling.{IsSpelled}
+use Rattle.sql_model.proofs.KeepLemmas.{seen_by}
+use Rattle.sql_model.proofs.Quieting.{quiet_clean, quiet_keeps, quiet_up}
+use Rattle.sql_model.proofs.Staying.{fails_twice, of_error}
+use Rattle.sql_reads.specs.GoodRows.{IsMemory}
+use Rattle.sql_reads.specs.Reads.{AnyDesk, ReadIn}
 
 -- the postcondition of a success may be replaced by a weaker one
 pub also_ok : {V E : Type 0} (r : Result V E) (P Q : V → Type 0) → ((v : V) → P v → Q v) → IfOk r P → IfOk r Q
@@ -75,3 +32,144 @@ also_ok (Err e) P Q f p = tt
 pub both_ok : {V E : Type 0} (r : Result V E) (P Q R T : V → Type 0) → ((v : V) → P v → Q v → R v → T v) → IfOk r P → IfOk r Q → IfOk r R → IfOk r T
 both_ok (Ok v) P Q R T f p q x = f v p q x
 both_ok (Err e) P Q R T f p q x = tt
+
+-- what fails only out of memory is no fault of the store
+pub not_store : {V : Type 0} (r : Result V Fault) → IfErr r IsMemory → ¬ IsErrOf r Store
+not_store (Ok v) memory store = cc
+not_store {V} (Err f) memory store =
+    let same : ◌≡◌ {A = Result V Fault} (Err f) (Err Store) = store in
+    let is : f ≡ Store = cc in
+    let bad : Memory ≡ Store = sym memory ∙ is in cc
+
+-- which fault it is, whatever was to be returned
+fault_is : {V : Type 0} (f : Fault) → IsErrOf {T = V} (Err f) Store → f ≡ Store
+fault_is {V} f store =
+    let same : ◌≡◌ {A = Result V Fault} (Err f) (Err Store) = store in cc
+
+-- what a query found in tables of this version that represent the desk
+pub record HasFound {S : Type 0} (g : Ghosts S) (old : Held S) (v : Version) (IsFound : Tables → Type 0) (s : State) : Type 0 where
+  pub tables : Tables
+  pub rows : ShowsIn v (state g old).now.trees tables
+  pub stands : StandsIn v tables s
+  pub found : IsFound tables
+
+-- without a query nothing changes
+pub no_read : {S : Type 0} {g : Ghosts S} {h : Held S} {v : Version} → ReadIn g h h v (Ok tt) AnyDesk (λ (s : State) (_ : ⊤). ⊤)
+no_read {g = g} {h = h} = record {
+  shows = λ clean s desk keeps. tt;
+  store = λ clean s desk spelled keeps fits up store. absurd (not_store (Ok tt) tt store);
+  quiet = quiet_alone g h;
+}
+
+module _ {S : Type 0} {g : Ghosts S} {old new : Held S} {v : Version} where
+  -- a query that succeeds
+  pub found_rows : {IsFound : Tables → Type 0}
+      → (HasCleanDisk (state g new) → (t : Tables) → MaySeeIn v (state g old) t → IsUnchanged (state g old) (state g new) × IsFound t)
+      → Quiet g old new → ReadIn g old new v (Ok tt) AnyDesk (λ (s : State) (_ : ⊤). HasFound g old v IsFound s)
+  found_rows reads quiet = record {
+    shows = λ clean s desk keeps. (
+        let seen = seen_by (state g old) s (keeps (quiet_clean g old new quiet clean)) in
+        let done = reads clean seen.tables seen.may in
+        let live = done.0.0.was_open in
+        record { tables = seen.tables; rows = (seen.may live).rows; stands = seen.stands live; found = done.1 });
+    store = λ clean s desk spelled keeps fits up store. absurd (not_store (Ok tt) tt store);
+    quiet = quiet;
+  }
+
+  -- a query that fails
+  pub query_fails : {V : Type 0} {e : Error} {f : Fault} {Fits : Tables → Type 0} {IsGood : State → Type 0} {IsShown : State → V → Type 0}
+      → (HasCleanDisk (state g new) → (t : Tables) → MaySeeIn v (state g old) t → Fits t → IsUp (state g old)
+      → HasReason (state g old) (state g new) e)
+      → Quiet g old new → (f ≡ Memory ↔ e ≡ SqliteFailure OutOfMemory)
+      → ((t : Tables) (s : State) → StandsIn v t s → IsDesk s → IsSpelled s.ledger → IsGood s → Fits t)
+      → ReadIn g old new v (Err f) IsGood IsShown
+  query_fails {e = e} {f = f} fails quiet memory fits = record {
+    shows = λ clean s desk keeps. tt;
+    store = λ clean s desk spelled keeps good up store. (
+        let seen = seen_by (state g old) s (keeps (quiet_clean g old new quiet clean)) in
+        let reason = fails clean seen.tables seen.may (fits seen.tables s (seen.stands up.is_open) desk spelled good) up in
+        of_error (state g old) (state g new) e f memory reason (fault_is f store));
+    quiet = quiet;
+  }
+
+  -- what was read is turned into the result
+  pub read_so : {V W : Type 0} {x : V} {Fits IsGood : State → Type 0} {IsRead : State → V → Type 0} {IsShown : State → W → Type 0}
+      (result : Result W Fault) → ReadIn g old new v (Ok x) Fits IsRead
+      → ((s : State) → IsDesk s → IsRead s x → IfOk result (IsShown s))
+      → ((s : State) → IsDesk s → IsSpelled s.ledger → IsGood s → IsRead s x → IfErr result IsMemory)
+      → ReadIn g old new v result IsGood IsShown
+  read_so result it shown memory = record {
+    shows = λ clean s desk keeps. shown s desk (it.shows clean s desk keeps);
+    store = λ clean s desk spelled keeps good up store.
+        absurd (not_store result (memory s desk spelled good (it.shows clean s desk keeps)) store);
+    quiet = it.quiet;
+  }
+
+  -- the same, into a success, or into a fault that no desk gives
+  pub read_ok : {V W : Type 0} {x : V} {y : W} {Fits IsGood : State → Type 0} {IsRead : State → V → Type 0} {IsShown : State → W → Type 0}
+      → ReadIn g old new v (Ok x) Fits IsRead → ((s : State) → IsDesk s → IsRead s x → IsShown s y)
+      → ReadIn g old new v (Ok y) IsGood IsShown
+  read_ok {y = y} it shown = read_so (Ok y) it shown (λ s desk spelled good read. tt)
+
+  pub read_never : {V W : Type 0} {x : V} {f : Fault} {Fits IsGood : State → Type 0} {IsRead : State → V → Type 0} {IsShown : State → W → Type 0}
+      → ReadIn g old new v (Ok x) Fits IsRead → ((s : State) → IsDesk s → IsSpelled s.ledger → IsGood s → IsRead s x → ⊥)
+      → ReadIn g old new v (Err f) IsGood IsShown
+  read_never {f = f} it never =
+      read_so (Err f) it (λ s desk read. tt) (λ s desk spelled good read. absurd (never s desk spelled good read))
+
+  -- a read that failed has failed, whatever was to be returned
+  pub read_err : {V W : Type 0} {f : Fault} {result : Result W Fault} {Fits IsGood : State → Type 0} {IsRead : State → V → Type 0}
+      {IsShown : State → W → Type 0}
+      → result ≡ Err f → ReadIn g old new v (Err f) Fits IsRead → ((s : State) → IsDesk s → IsGood s → Fits s)
+      → ReadIn g old new v result IsGood IsShown
+  read_err {V = V} {W = W} {f = f} {IsGood = IsGood} {IsShown = IsShown} is it fits =
+      subst (λ (r : Result W Fault). ReadIn g old new v r IsGood IsShown) (sym is) (record {
+        shows = λ clean s desk keeps. tt;
+        store = λ clean s desk spelled keeps good up store.
+            it.store clean s desk spelled keeps (fits s desk good) up (ap {B = Result V Fault} Err (fault_is f store));
+        quiet = it.quiet;
+      })
+
+-- One read after another.
+
+module _ {S : Type 0} {g : Ghosts S} {a b c : Held S} {v : Version} where
+  -- both succeed
+  pub read_both : {V W : Type 0} {x : V} {y : W} {Fits Good : State → Type 0} {IsRead : State → V → Type 0} {IsShown : State → W → Type 0}
+      → ReadIn g a b v (Ok x) Fits IsRead → ReadIn g b c v (Ok y) Good IsShown
+      → ReadIn g a c v (Ok y) AnyDesk (λ s z. IsRead s x × IsShown s z)
+  read_both {y = y} one two = record {
+    shows = λ clean s desk keeps. (
+      one.shows (quiet_clean g b c two.quiet clean) s desk keeps,
+      two.shows clean s desk (quiet_keeps g a b one.quiet v s keeps),
+    );
+    store = λ clean s desk spelled keeps good up store. absurd (not_store (Ok y) tt store);
+    quiet = quiet_twice g a b c one.quiet two.quiet;
+  }
+
+  -- the result is that of the second
+  pub read_then : {V W : Type 0} {x : V} {result : Result W Fault} {Fits Good IsGood : State → Type 0} {IsRead : State → V → Type 0}
+      {IsFound IsShown : State → W → Type 0}
+      → ReadIn g a b v (Ok x) Fits IsRead → ReadIn g b c v result Good IsFound
+      → ((s : State) → IsDesk s → IsGood s → IsRead s x → Good s)
+      → ((s : State) → IsDesk s → IsRead s x → (y : W) → IsFound s y → IsShown s y)
+      → ReadIn g a c v result IsGood IsShown
+  read_then {result = result} {IsFound = IsFound} {IsShown = IsShown} one two good shown = record {
+    shows = λ clean s desk keeps.
+        also_ok result (IsFound s) (IsShown s) (shown s desk (one.shows (quiet_clean g b c two.quiet clean) s desk keeps))
+        (two.shows clean s desk (quiet_keeps g a b one.quiet v s keeps));
+    store = λ clean s desk spelled keeps fits up store.
+        fails_twice g a b c (quiet_up g a b one.quiet) (quiet_up g b c two.quiet) (quiet_clean g b c two.quiet) clean up
+        (λ still.
+        two.store clean s desk spelled (quiet_keeps g a b one.quiet v s keeps)
+        (good s desk fits (one.shows (quiet_clean g b c two.quiet clean) s desk keeps)) still store);
+    quiet = quiet_twice g a b c one.quiet two.quiet;
+  }
+
+  -- the second fails, whatever was to be returned
+  pub then_err : {V W U : Type 0} {x : V} {f : Fault} {result : Result U Fault} {Fits Good IsGood : State → Type 0}
+      {IsRead : State → V → Type 0} {IsFound : State → W → Type 0} {IsShown : State → U → Type 0}
+      → result ≡ Err f → ReadIn g a b v (Ok x) Fits IsRead → ReadIn g b c v (Err f) Good IsFound
+      → ((s : State) → IsDesk s → IsGood s → IsRead s x → Good s) → ReadIn g a c v result IsGood IsShown
+  then_err {W = W} {IsGood = IsGood} is one two good =
+      read_err is (read_then {IsGood = IsGood} {IsShown = λ (s : State) (y : W). ⊤} one two good (λ s desk read y found. tt))
+      (λ s desk fits. fits)

@@ -1,24 +1,16 @@
--- Why a read of the desk fails. For the functions of `sql_reads`.
-use Rattle.std.proofs.Common.{◌≡◌, ◌≤◌, ◌<◌, inl, inr, ℕ, zero, suc, List, [], ◌∷◌, Option, Some, None, Ok, Err, Result, IsTrue, true, false, length, filter, map, refl, sym, ap, subst, ◌∙◌, arith}
-use Rattle.std.specs.Prelude.{bytes_eq, IsUtf8, IsSome, IfSome, IfErr, IsErrOf, ◌+◌, slice_get, filter_map, nat_le, nat_lt}
+-- The rows of a desk that fits can be read. For the functions of `sql_reads`.
+use Rattle.std.proofs.Common.{◌≡◌, ◌≤◌, ◌<◌, inl, inr, ℕ, zero, suc, List, [], ◌∷◌, Option, Some, None, IsTrue, true, false, length, filter, map, refl, sym, ap, subst, ◌∙◌, arith}
+use Rattle.std.specs.Prelude.{bytes_eq, IsUtf8, IsSome, IfSome, ◌+◌, slice_get, filter_map, nat_le, nat_lt}
 use Rattle.std.specs.List.{AllByRecursion}
 use Rattle.std.proofs.lemmas.Bool.{and_parts, ltb-true}
-use Rattle.sqlite.specs.Store.{Ghosts}
-use Rattle.sqlite.specs.State.{HasCleanDisk}
-use Rattle.sqlite.specs.Held.{Held, state}
-use Rattle.sqlite.specs.declared.error.Error.{Error}
 use Rattle.sqlite_rules.specs.Lists.{Has}
 use Rattle.sqlite_rules.proofs.ListLemmas.{all_has, has_filtered}
 use Rattle.allotment.proofs.ShortLemmas.{is_utf8}
-use Rattle.commands.specs.declared.replies.Fault.{Fault}
-use Rattle.commands.specs.declared.replies.Fault.TheVariants.{Memory, Store}
 use Rattle.commands.specs.declared.items.Item.{Item}
 use Rattle.commands.specs.declared.items.Item.TheVariants.{Transaction, Compensation, Turn, Save}
 use Rattle.commands.specs.Names.{is_agent}
 use Rattle.commands.proofs.NameLemmas.{agent_is_short}
 use Rattle.plan.specs.PlanModel.{numbered}
-use Rattle.desk_sql.specs.Calls.{LeavesNoMore, MaySeeIn}
-use Rattle.desk_sql.specs.Causes.{IsUp, HasReason}
 use Rattle.desk_sql.specs.FoundRows.{is_numbered, is_owned_after, is_unfinished_after, FindsJourney, FindsNextItem, FindsOwned, FindsUnfinished, is_item_after, item_of, journey_of}
 use Rattle.desk_sql.specs.Readable.{HasAgentText, HasMeta, HaveAgentTexts, HaveOwnedTexts}
 use Rattle.desk_sql.specs.Rows.{Tables, EntryRow, JourneyRow}
@@ -33,25 +25,13 @@ use Rattle.sql_model.specs.ExpectedRows.{Begun, begun, begun_of, counted_from, e
 use Rattle.sql_model.specs.Reading.{cursor_in}
 use Rattle.sql_model.specs.Standing.{StandsIn}
 use Rattle.sql_model.specs.Spelling.{IsSpelled}
-use Rattle.sql_model.specs.Keeping.{KeepsIn}
 use Rattle.sql_model.proofs.Cursors.{cursor_back}
 use Rattle.sql_model.proofs.JourneyRows.{journey_begins, journey_told, next_above}
-use Rattle.sql_model.proofs.KeepLemmas.{seen_by}
-use Rattle.sql_reads.specs.GoodRows.{IsMemory}
 use Rattle.sql_reads.specs.Reading.{row_of}
-use Rattle.sql_reads.proofs.ReadLemmas.{was_clean}
 
 -- the two truths differ
 pub false_is_not_true : false ≡ true → ⊥
 false_is_not_true is = cc
-
--- what fails only out of memory is no fault of the store
-pub not_store : {V : Type 0} (r : Result V Fault) → IfErr r IsMemory → ¬ IsErrOf r Store
-not_store (Ok v) memory store = cc
-not_store {V} (Err f) memory store =
-    let same : ◌≡◌ {A = Result V Fault} (Err f) (Err Store) = store in
-    let is : f ≡ Store = cc in
-    let bad : Memory ≡ Store = sym memory ∙ is in cc
 
 -- what is told of each row is something
 pub all_some : {X Y : Type 0} (f : X → Option Y) (xs : List X) (ys : List Y) → map f xs ≡ map Some ys
@@ -144,6 +124,11 @@ module _ {v : Version} (t : Tables) (s : State) (st : StandsIn v t s) (spelled :
       let is : cursor_in (row_of r.cursor) ≡ Some at = ap cursor_in told.2.cursor ∙ cursor_back at in
       rw is refl
 
+  -- so the row is that of a journey
+  pub row_told : (r : JourneyFound) → Has t.journey (journey_of r)
+      → (IsTrue (is_agent (journey_of r).agent) → IsSome (cursor_in (row_of r.cursor)) → false ≡ true) → ⊥
+  row_told r has there = false_is_not_true (there (row_agent r has) (row_cursor r has))
+
   pub rows_tell : (after : ℕ) (j : JourneyRow) → Has (filter (is_unfinished_after after) t.journey) j → IsTrue (is_agent j.agent)
   rows_tell after j has =
       let there = (has_filtered (is_unfinished_after after) t.journey j has).0 in
@@ -190,15 +175,3 @@ module _ {v : Version} (t : Tables) (s : State) (st : StandsIn v t s) (spelled :
       let has = (has_filtered (is_item_after journey after) t.entries (item_of journey i) finds.0).0 in
       let low = entry_low 1 s.ledger (item_of journey i) (permutation_from _ t.entries (item_of journey i) st.entries has) in
       omega (arith, low, spelled.few)
-
-module _ {S : Type 0} (g : Ghosts S) (old new : Held S) where
-  -- a read of rows fails for a reason on a desk that is kept
-  pub sql_reason : {v : Version} (Fits : Tables → Type 0) (e : Error)
-      → (HasCleanDisk (state g new) → (t : Tables) → MaySeeIn v (state g old) t → Fits t → IsUp (state g old)
-      → HasReason (state g old) (state g new) e)
-      → LeavesNoMore g old new → HasCleanDisk (state g new) → (s : State) → KeepsIn v (state g old) s
-      → ((t : Tables) → StandsIn v t s → Fits t) → IsUp (state g old) → HasReason (state g old) (state g new) e
-  sql_reason Fits e fails survives clean s keeps fits up =
-      let kept = keeps (was_clean g old new survives clean) in
-      let seen = seen_by (state g old) s kept in
-      fails clean seen.tables seen.may (fits seen.tables (seen.stands up.is_open)) up

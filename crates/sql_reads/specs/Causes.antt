@@ -1,5 +1,5 @@
 -- Why a read of the desk fails.
-use Rattle.std.specs.Prelude.{Result, IfOk, IsErrOf}
+use Rattle.std.specs.Prelude.{Result, IsErrOf}
 use Rattle.sqlite.specs.Store.{Ghosts}
 use Rattle.sqlite.specs.Held.{Held, state}
 use Rattle.sqlite.specs.State.{HasCleanDisk}
@@ -21,10 +21,6 @@ module _ {S : Type 0} (g : Ghosts S) (old new : Held S) where
       HasCleanDisk (state g new) → (s : State) → IsDesk s → IsSpelled s.ledger → KeepsIn v (state g old) s
       → Fits s → IsUp (state g old) → IsErrOf result Store → HasFaulted (state g old) (state g new)
 
-  -- the same, in tables of each version
-  abbrev pub FailsWhereEach : {V : Type 0} → Result V Fault → (State → Type 0) → Type 0
-  FailsWhereEach result Fits = (v : Version) → FailsWhere v result Fits
-
   -- the same, of each desk
   abbrev pub FailsForReasonIn : Version → {V : Type 0} → Result V Fault → Type 0
   FailsForReasonIn v result =
@@ -38,9 +34,3 @@ module _ {S : Type 0} (g : Ghosts S) (old new : Held S) where
   -- in tables of each version
   abbrev pub FailsForReasonEach : {V : Type 0} → Result V Fault → Type 0
   FailsForReasonEach result = (v : Version) → FailsForReasonIn v result
-
-  -- what is answered is so of each such desk
-  abbrev pub ShowsSpelled : Version → {V : Type 0} → Result V Fault → (V → Type 0) → Type 0
-  ShowsSpelled v result IsShown =
-      HasCleanDisk (state g new) → (s : State) → IsDesk s → IsSpelled s.ledger → KeepsIn v (state g old) s
-      → IfOk result IsShown

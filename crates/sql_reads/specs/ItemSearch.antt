@@ -1,12 +1,15 @@
 -- Where the items of a journey are in a store.
-use Rattle.std.specs.Prelude.{◌≡◌, ◌<◌, ◌^◌, ℕ, List, [], ◌∷◌, take, drop, Option, Some, None}
+use Rattle.std.specs.Prelude.{◌≡◌, ◌<◌, ◌≤◌, ◌^◌, ℕ, List, [], ◌∷◌, take, drop, Option, Some, None, IfSome, option_map}
 use Rattle.commands.specs.declared.items.Item.{Item}
 use Rattle.desk_sql.specs.FoundRows.{item_of}
 use Rattle.desk_sql.specs.declared.journeys.ItemFound.{ItemFound}
 use Rattle.sql_model.specs.Reading.{item_in}
 use Rattle.plan.specs.PlanModel.{step_count}
-use Rattle.ledger.specs.Answer.{State}
+use Rattle.ledger.specs.Answer.{State, most_events}
 use Rattle.ledger.specs.Ledger.{Event, Journey, journey_at, history}
+use Rattle.saga_core.specs.Views.{brief_of}
+use Rattle.saga_core.specs.declared.records.Brief.{Brief}
+use Rattle.sql_model.specs.Spelling.{IsSpelled}
 use Rattle.sql_reads.specs.declared.item_search.Sought.{Sought}
 
 -- the journey of this number has no item in the first so many events
@@ -38,3 +41,13 @@ pub record TellsNext (w : Sought) (l : List Event) (i : ItemFound) : Type 0 wher
 abbrev pub IsNextOf : Sought → State → Option ItemFound → Type 0
 IsNextOf w s None = history (drop w.after s.ledger) w.journey ≡ []
 IsNextOf w s (Some i) = TellsNext w s.ledger i
+
+-- the same, and the event of the row is one of those that a ledger may have
+pub record IsNextRow (w : Sought) (s : State) (found : Option ItemFound) : Type 0 where
+  pub next : IsNextOf w s found
+  pub early : IsSpelled s.ledger → IfSome found (λ (i : ItemFound). i.num ≤ most_events)
+
+-- the brief of the journey of this number, if there is one, with an event after which all of its items come
+pub record IsBriefAt (id : ℕ) (s : State) (found : Option (Brief × ℕ)) : Type 0 where
+  pub brief : option_map (λ (f : Brief × ℕ). f.0) found ≡ brief_of s.ledger id
+  pub begun : IfSome found (λ (f : Brief × ℕ). HasNoItemTo id f.1 s)

@@ -7,12 +7,11 @@ use Rattle.sqlite.specs.State.{HasCleanDisk}
 use Rattle.sqlite.specs.declared.error.Error.{Error}
 use Rattle.sqlite.specs.declared.rows.stream.Rows.{Rows}
 use Rattle.sqlite.specs.contracts.connection.Connection as connection
+use Rattle.desk_sql.specs.Calls.{Quiet}
 use Rattle.desk_sql.specs.declared.versions.Version.{Version}
 use Rattle.desk_sql.specs.Causes.{IsUp, HasReason}
 use Rattle.ledger.specs.Answer.{State}
 use Rattle.sql_model.specs.Keeping.{KeepsIn}
-use Rattle.sql_model.specs.Staying.{StaysUp}
-use Rattle.sql_reads.specs.RemainingRows.{IsLeftAsItWas}
 
 module _ {S : Type 0} (g : Ghosts S) {V : Type 0} (result : Result V Error) (old new : Held S) where
   -- on a desk that is kept, a store that was up fails only out of memory, or where its disk failed or refused
@@ -21,11 +20,10 @@ module _ {S : Type 0} (g : Ghosts S) {V : Type 0} (result : Result V Error) (old
       HasCleanDisk (state g new) → (v : Version) (s : State) → KeepsIn v (state g old) s → IsUp (state g old)
       → IfErr result (HasReason (state g old) (state g new))
 
-  -- the rows could not be started: the connection is left as it was, for a reason
+  -- the rows could not be started, for a reason, and nothing changes
   pub record IsNotStarted : Type 0 where
-    pub left : IsLeftAsItWas g old new
     pub reason : FailsToStart
-    pub up : StaysUp g old new
+    pub quiet : Quiet g old new
 
 module _ (S : RattleType) (g : Ghosts S.Denot) where
   -- if the rows could not be started, the connection is left so; else the rows borrow it

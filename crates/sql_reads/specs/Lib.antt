@@ -7,4 +7,5 @@ pub mod NightsRead
 pub mod OptionChoice
 pub mod PlanRows
 pub mod Reading
+pub mod Reads
 pub mod ItemSearch

@@ -1,9 +1,8 @@
--- What a read of a connection returns of the desk that it keeps, and what it leaves of the desk.
+-- What a read of a connection returns of the desk that it keeps.
 use Rattle.std.specs.Prelude.{◌≡◌, ℕ, false, List, map, Option, None, Some, option_map, Result, IfOk, filter, filter_map}
 use Rattle.allotment.specs.declared.places.Held.{Held as HeldPlaces}
-use Rattle.saga_core.specs.Views.{night_said, brief_of, first_owned, first_unfinished, is_unfinished_above, record_of, marks_of}
+use Rattle.saga_core.specs.Views.{night_said, brief_of, first_owned, first_unfinished, is_unfinished_above, record_of, marks_of, TracesBrief, TracesItems}
 use Rattle.desk_sql.specs.declared.stock.NightFound.{NightFound}
-use Rattle.sqlite.specs.Tree.{Trees}
 use Rattle.sqlite.specs.Store.{Ghosts}
 use Rattle.sqlite.specs.Held.{Held, state}
 use Rattle.sqlite.specs.State.{HasCleanDisk}
@@ -16,6 +15,7 @@ use Rattle.ledger.specs.Answer.{State}
 use Rattle.ledger.specs.Ledger.{Journey, journey_at, history, numbers}
 use Rattle.saga_core.specs.declared.records.Brief.{Brief}
 use Rattle.saga_core.specs.declared.records.Record.{Record}
+use Rattle.saga_core.specs.declared.records.Trace.{Trace}
 use Rattle.plan.specs.PlanModel.{Planned, step_count}
 use Rattle.savepoints.specs.Marks.{is_taken_in, AreInRange}
 use Rattle.std.specs.FinSet as set
@@ -27,10 +27,8 @@ use Rattle.sql_model.specs.Standing.{IsDesk}
 use Rattle.sql_reads.specs.declared.reads.Stand.{Stand}
 use Rattle.sql_model.specs.Reading.{cursor_in, item_in, night_seen}
 use Rattle.desk_sql.specs.declared.versions.Version.{Version}
-use Rattle.desk_sql.specs.declared.versions.Version.TheVariants.{Two}
-use Rattle.sql_model.specs.Keeping.{Keeps, KeepsIn}
-pub use Rattle.sql_model.specs.Keeping.{WasClean}
-use Rattle.sql_model.specs.Staying.{SeesAsBefore}
+use Rattle.desk_sql.specs.declared.versions.Version.TheVariants.{One, Two}
+use Rattle.sql_model.specs.Keeping.{KeepsIn}
 
 module _ {S : Type 0} (g : Ghosts S) (old new : Held S) where
   -- while the store returns what was written, the result is true of each desk that the connection kept
@@ -43,31 +41,6 @@ module _ {S : Type 0} (g : Ghosts S) (old new : Held S) where
   -- the same, in tables of the newest version
   abbrev pub ShowsKept : {V : Type 0} → Result V Fault → (State → V → Type 0) → Type 0
   ShowsKept result IsShown = ShowsKeptIn Two result IsShown
-
-  -- the same, in tables of each version
-  abbrev pub ShowsEach : {V : Type 0} → Result V Fault → (State → V → Type 0) → Type 0
-  ShowsEach result IsShown = (v : Version) → ShowsKeptIn v result IsShown
-
-  -- the connection keeps each state that it kept, in tables of the newest version
-  abbrev pub KeepsOn : Type 0
-  KeepsOn = (s : State) → Keeps (state g old) s → Keeps (state g new) s
-
-  -- the connection keeps each state that it kept, in tables of the same version
-  abbrev pub KeepsEach : Type 0
-  KeepsEach = (v : Version) (s : State) → KeepsIn v (state g old) s → KeepsIn v (state g new) s
-
-  -- a crash leaves nothing that it could not have left before
-  abbrev pub LeavesAsBefore : Type 0
-  LeavesAsBefore =
-      HasCleanDisk (state g new) → (db : Trees) → (state g new).may_leave db
-      → (state g old).may_leave db
-
-  -- all that a read leaves as it was
-  pub record OnlyReads : Type 0 where
-    pub keeps : KeepsEach
-    pub stop : LeavesAsBefore
-    pub less : WasClean g old new
-    pub sees : SeesAsBefore g old new
 
 -- a cursor that was found, as a row
 abbrev pub row_of : CursorFound → CursorRow
@@ -160,3 +133,13 @@ pub record IsNone (marks : set.FinSet nat_cmp) : Type 0 where
 -- the save-points that the journey of this number took and that stand
 abbrev pub AreMarksAt : ℕ → State → set.FinSet nat_cmp → Type 0
 AreMarksAt id s marks = marks ≡ marks_of (history s.ledger id)
+
+-- the save-points of the journey of this number, in tables of this version; those of version 1 have none
+abbrev pub AreTakenIn : Version → ℕ → State → set.FinSet nat_cmp → Type 0
+AreTakenIn One id = λ s marks. IsNone marks
+AreTakenIn Two id = AreMarksAt id
+
+-- the journey of this number with its items, if there is one
+pub record IsTraceAt (id : ℕ) (s : State) (found : Option Trace) : Type 0 where
+  pub brief : TracesBrief id s found
+  pub items : TracesItems id s found

@@ -10,11 +10,11 @@ use Rattle.sqlite.specs.Store.{Ghosts}
 use Rattle.sqlite.specs.Held.{Held, state}
 use Rattle.sqlite.specs.declared.rows.stream.Rows.{Rows}
 use Rattle.sqlite.specs.State.{HasCleanDisk}
+use Rattle.desk_sql.specs.Calls.{Quiet}
 use Rattle.desk_sql.specs.declared.versions.Version.{Version}
+use Rattle.desk_sql.proofs.Quieting.{quiet_alone, quiet_twice}
 use Rattle.sql_model.specs.Keeping.{KeepsIn}
 use Rattle.sql_model.specs.Standing.{IsDesk}
-use Rattle.sql_model.specs.Staying.{sees_alone, sees_twice}
-use Rattle.sql_reads.specs.Reading.{OnlyReads}
 use Rattle.sql_reads.specs.ItemSearch.{HasSteps}
 use Rattle.sql_reads.specs.declared.history_rows.ItemCursor.{ItemCursor}
 use Rattle.sql_reads.specs.declared.item_search.Sought.{Sought}
@@ -42,11 +42,6 @@ module _ {S : Type 0} (g : Ghosts S) where
   ItemsRest h c items = (c.failed ≡ false) × ItemsLeft c.version h c.sought c.pos c.finished items
 
   module _ (old new : Held S) where
-    -- the connection keeps what it kept, and stays out of a transaction
-    pub record IsLeftAsItWas : Type 0 where
-      pub reads : OnlyReads g old new
-      pub outside : old.in_transaction ≡ false → new.in_transaction ≡ false
-
     -- while the store returns what was written, such a list of each desk that the connection kept in
     -- tables of this version remains to be read
     abbrev pub BeginsKept : Version → {X : Type 0} → (State → List X → Type 0) → (List X → Type 0)
@@ -55,45 +50,25 @@ module _ {S : Type 0} (g : Ghosts S) where
         HasCleanDisk (state g new) → (s : State) → IsDesk s → KeepsIn v (state g old) s
         → (rows : List X) → IsList s rows → Rests rows
 
-  -- the reference is the same, and its connection is left as it was
+  -- the reference is the same, and nothing changes on its connection
   pub record StaysUnder (a b : MutBor (Held S)) : Type 0 where
     pub same_reference : b.ghost_name ≡ a.ghost_name
-    pub left : IsLeftAsItWas a.now b.now
+    pub quiet : Quiet g a.now b.now
 
--- the reference to the rows is the same, they borrow the same connection, and it is left as it was
+-- the reference to the rows is the same, they borrow the same connection, and nothing changes on it
 pub record RowsStay {S : Type 0} (g : Ghosts S) (a b : MutBor (Rows S g)) : Type 0 where
   pub same_reference : b.ghost_name ≡ a.ghost_name
   pub under : StaysUnder g a.now.conn b.now.conn
 
--- a connection is left as it was if no call is made, and by two calls if by each of them
-pub left_alone : {S : Type 0} (g : Ghosts S) (h : Held S) → IsLeftAsItWas g h h
-left_alone g h = record {
-  reads = record { keeps = λ v s keeps. keeps; stop = λ clean db may. may; less = λ clean. clean; sees = sees_alone g h };
-  outside = λ outside. outside;
-}
-
-pub left_twice : {S : Type 0} (g : Ghosts S) (a b c : Held S) → IsLeftAsItWas g a b → IsLeftAsItWas g b c
-    → IsLeftAsItWas g a c
-left_twice g a b c one two = record {
-  reads = record {
-    keeps = λ v s keeps. two.reads.keeps v s (one.reads.keeps v s keeps);
-    stop = λ clean db may.
-        one.reads.stop (two.reads.less clean) db (two.reads.stop clean db may);
-    less = λ clean. one.reads.less (two.reads.less clean);
-    sees = sees_twice g a b c one.reads.sees two.reads.sees two.reads.less;
-  };
-  outside = λ outside. two.outside (one.outside outside);
-}
-
--- the same, for the connection of a source of rows
+-- nothing changes on the connection of a source of rows if no call is made, or by two calls if by each of them
 pub stays_alone : {S : Type 0} {g : Ghosts S} (a : MutBor (Held S)) → StaysUnder g a a
-stays_alone {S} {g} a = record { same_reference = refl; left = left_alone g a.now }
+stays_alone {S} {g} a = record { same_reference = refl; quiet = quiet_alone g a.now }
 
 pub stays_twice : {S : Type 0} {g : Ghosts S} (a b c : MutBor (Held S))
     → StaysUnder g a b → StaysUnder g b c → StaysUnder g a c
 stays_twice {S} {g} a b c one two = record {
   same_reference = two.same_reference ∙ one.same_reference;
-  left = left_twice g a.now b.now c.now one.left two.left;
+  quiet = quiet_twice g a.now b.now c.now one.quiet two.quiet;
 }
 
 -- the same, for the rows that a source borrows

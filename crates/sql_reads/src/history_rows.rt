@@ -7,12 +7,12 @@
 ghost use Rattle.std.specs.Prelude.{◌≡◌, ◌+◌, ◌-◌, ◌<◌, ◌^◌, true, false, Err, IfOk, OnErr};
 ghost use Rattle.sqlite.specs.Held.{state};
 ghost use Rattle.sqlite.specs.State.{HasCleanDisk};
+ghost use Rattle.desk_sql.specs.Calls.{Quiet};
 ghost use Rattle.ledger.specs.Ledger.{history};
 ghost use Rattle.saga_core.specs.RowSources.{count_of, Hands};
 ghost use Rattle.sql_reads.specs.ItemSearch.{IsLow};
 ghost use Rattle.sql_reads.specs.Causes.{FailsForReasonEach, FailsForReasonIn};
-ghost use Rattle.sql_model.specs.Staying.{StaysUp};
-ghost use Rattle.sql_reads.specs.RemainingRows.{ItemsRest, IsLeftAsItWas, BeginsKept};
+ghost use Rattle.sql_reads.specs.RemainingRows.{ItemsRest, BeginsKept};
 
 use crate::following::{is_finished_with, position_after};
 use crate::item_search::Sought;
@@ -44,18 +44,15 @@ pub fn item_cursor<S: Alter>(
     version: Version,
     id: u64,
 ) -> Result<ItemCursor, Fault>
-    requires { conn.old.in_transaction ≡ false }
-
     ensures rows { IfOk result (λ it. BeginsKept S.Store conn.old conn.new version
         (λ s items. items ≡ history s.ledger id) (ItemsRest S.Store conn.new it)) }
     ensures none { IfOk result (λ it. it.given ≡ 0) }
     ensures going { IfOk result (λ it. it.failed ≡ false) }
     ensures low { IfOk result (λ it. IsLow it.sought) }
     ensures version { IfOk result (λ it. it.version ≡ version) }
-    ensures kept { IsLeftAsItWas S.Store conn.old conn.new }
 
     ensures store { FailsForReasonEach S.Store conn.old conn.new result }
-    ensures up { StaysUp S.Store conn.old conn.new }
+    ensures quiet { Quiet S.Store conn.old conn.new }
 {
     match find_sought(conn, id) {
         Ok(sought) => Ok(ItemCursor {
@@ -78,7 +75,6 @@ impl ItemCursor {
         ensures counted { IfOk result (λ found. self.new.given ≡ count_of found + self.old.given) }
         ensures uncounted { OnErr result (self.new.given ≡ self.old.given) }
         ensures few { self.new.given < 2 ^ 64 }
-        ensures kept { IsLeftAsItWas S.Store conn.old conn.new }
         ensures no_query { self.old.finished ≡ true → conn.new ≡ conn.old }
 
         ensures low { IsLow self.old.sought → IsLow self.new.sought }
@@ -88,7 +84,7 @@ impl ItemCursor {
             → FailsForReasonIn S.Store conn.old conn.new self.old.version result }
         ensures failed { OnErr result (self.new.failed ≡ true) }
         ensures stays_failed { self.old.failed ≡ true → result ≡ Err Fault.Store }
-        ensures up { StaysUp S.Store conn.old conn.new }
+        ensures quiet { Quiet S.Store conn.old conn.new }
     {
         let given = self.given;
         if self.failed {

@@ -1,9 +1,7 @@
 //! Nights of a product that are read together: the cells of consecutive rows of a batch are often such nights.
-ghost use Rattle.std.specs.Prelude.{◌≡◌, ◌≤◌, false, true, IfOk, IfSome};
-ghost use Rattle.sql_model.specs.Staying.{SeesAsBefore, StaysUp};
-ghost use Rattle.sql_reads.specs.Causes.{FailsForReason};
+ghost use Rattle.std.specs.Prelude.{◌≡◌, ◌≤◌, true, IfOk, IfSome};
 ghost use Rattle.sql_reads.specs.NightsRead.{AreFew, AreRead, IsAmong, IsLater, held_at};
-ghost use Rattle.sql_reads.specs.Reading.{KeepsEach, LeavesAsBefore, ShowsKept, WasClean};
+ghost use Rattle.sql_reads.specs.Reads.{Read};
 
 use crate::telling::nights_told;
 use allotment::{Cell, Held, Night, Row};
@@ -67,20 +65,11 @@ fn read_nights<S: Alter>(
     first: Cell,
     count: u32,
 ) -> Result<NightsRead, Fault>
-    requires outside { conn.old.in_transaction ≡ false }
-    requires some { 1 ≤ count }
+    requires { 1 ≤ count }
 
-    ensures outside { conn.new.in_transaction ≡ false }
     ensures first { IfOk result (λ read. read.first ≡ first) }
     ensures count { IfOk result (λ read. read.count ≡ count) }
-    ensures places { ShowsKept S.Store conn.old conn.new result AreRead }
-    ensures same { KeepsEach S.Store conn.old conn.new }
-    ensures stop { LeavesAsBefore S.Store conn.old conn.new }
-    ensures less { WasClean S.Store conn.old conn.new }
-
-    ensures store { FailsForReason S.Store conn.old conn.new result }
-    ensures up { StaysUp S.Store conn.old conn.new }
-    ensures sees { SeesAsBefore S.Store conn.old conn.new }
+    ensures read { Read S.Store conn.old conn.new result AreRead }
 {
     let supplier = first.supplier();
     let product = first.product();
@@ -114,20 +103,10 @@ pub fn nights_with<S: Alter>(
     cell: &Cell,
     later: &[Row],
 ) -> Result<NightsRead, Fault>
-    requires outside { conn.old.in_transaction ≡ false }
-
-    ensures outside { conn.new.in_transaction ≡ false }
     ensures among { IfOk result (λ nights. IsAmong nights cell.now) }
     ensures few { IfOk result (λ nights. IfSome read AreFew → AreFew nights) }
-    ensures places { ShowsKept S.Store conn.old conn.new result
+    ensures read { Read S.Store conn.old conn.new result
         (λ s nights. IfSome read (AreRead s) → AreRead s nights) }
-    ensures same { KeepsEach S.Store conn.old conn.new }
-    ensures stop { LeavesAsBefore S.Store conn.old conn.new }
-    ensures less { WasClean S.Store conn.old conn.new }
-
-    ensures store { FailsForReason S.Store conn.old conn.new result }
-    ensures up { StaysUp S.Store conn.old conn.new }
-    ensures sees { SeesAsBefore S.Store conn.old conn.new }
 {
     match read {
         Some(nights) if nights.has(cell) => Ok(nights),

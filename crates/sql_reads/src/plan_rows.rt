@@ -1,6 +1,6 @@
 //! The rows of a plan and of its save-points, and the choice of an option of a step by the rows of that step alone.
 
-ghost use Rattle.std.specs.Prelude.{◌≡◌, ◌≤◌, ◌+◌, ◌∷◌, ℕ, [], true, length, map, IfErr, IfOk, IfSome, IsSome, IsTrue, ◌<◌, ◌^◌, false, find, min, Some};
+ghost use Rattle.std.specs.Prelude.{◌≡◌, ◌≤◌, ◌+◌, ◌∷◌, ℕ, [], true, length, map, IfErr, IfOk, IfSome, IsSome, IsTrue, ◌<◌, ◌^◌, find, min, Some};
 ghost use Rattle.allotment.specs.Limits.{is_want};
 ghost use Rattle.allotment.specs.Want.{Wanted};
 ghost use Rattle.plan.specs.PlanModel.{Planned, step_count, step_said, option_count, is_plan};
@@ -10,10 +10,8 @@ ghost use Rattle.sql_reads.specs.GoodRows.{IsMemory};
 ghost use Rattle.sql_reads.specs.PlanRows.{first_rows, AreRowsOf, BeginWithStep, IsOfPlace, TellsWant, TellsOption, TellStep, TellPlan};
 ghost use Rattle.desk_sql.specs.declared.versions.Version.TheVariants.{Two};
 ghost use Rattle.plan.specs.Limits.{most_options};
-ghost use Rattle.sql_model.specs.Staying.{SeesAsBefore, StaysUp};
-ghost use Rattle.sql_reads.specs.Causes.{FailsWhere};
 ghost use Rattle.sql_reads.specs.OptionChoice.{IsLastChoice, IsNextChoice, IsOfRow, IsRowChosen, IsTakenChosen, is_taken_row, AreOfStep, HasStep, HasTaken, IsOfOption, TakesLast};
-ghost use Rattle.sql_reads.specs.Reading.{KeepsOn, LeavesAsBefore, ShowsKept, WasClean};
+ghost use Rattle.sql_reads.specs.Reads.{ReadIn};
 ghost use Rattle.std.specs.Option.{option_copied};
 
 use allotment::{Kind, Night, Want};
@@ -249,20 +247,12 @@ pub fn next_choice<S: Alter>(
     step: usize,
     used: usize,
 ) -> Result<Choice, Fault>
-    requires outside { conn.old.in_transaction ≡ false }
     requires id { id < 2 ^ 63 }
     requires step { step < 2 ^ 63 }
 
-    ensures outside { conn.new.in_transaction ≡ false }
-    ensures next { ShowsKept S.Store conn.old conn.new result (IsNextChoice id step used) }
     ensures few { IfOk result (λ choice. choice.option ≤ most_options) }
-    ensures same { KeepsOn S.Store conn.old conn.new }
-    ensures stop { LeavesAsBefore S.Store conn.old conn.new }
-    ensures less { WasClean S.Store conn.old conn.new }
-
-    ensures store { FailsWhere S.Store conn.old conn.new Two result (HasStep id step) }
-    ensures up { StaysUp S.Store conn.old conn.new }
-    ensures sees { SeesAsBefore S.Store conn.old conn.new }
+    ensures read { ReadIn S.Store conn.old conn.new Two result (HasStep id step)
+        (IsNextChoice id step used) }
 {
     match find_options(alloc, conn, id, step as u64) {
         Ok(rows) => choose_next(alloc, rows.as_slice(), used),
@@ -277,20 +267,12 @@ pub fn last_choice<S: Alter>(
     id: u64,
     step: usize,
 ) -> Result<Choice, Fault>
-    requires outside { conn.old.in_transaction ≡ false }
     requires id { id < 2 ^ 63 }
     requires step { step < 2 ^ 63 }
 
-    ensures outside { conn.new.in_transaction ≡ false }
-    ensures last { ShowsKept S.Store conn.old conn.new result (IsLastChoice id step) }
     ensures few { IfOk result (λ choice. choice.option ≤ most_options) }
-    ensures same { KeepsOn S.Store conn.old conn.new }
-    ensures stop { LeavesAsBefore S.Store conn.old conn.new }
-    ensures less { WasClean S.Store conn.old conn.new }
-
-    ensures store { FailsWhere S.Store conn.old conn.new Two result (TakesLast id step) }
-    ensures up { StaysUp S.Store conn.old conn.new }
-    ensures sees { SeesAsBefore S.Store conn.old conn.new }
+    ensures read { ReadIn S.Store conn.old conn.new Two result (TakesLast id step)
+        (IsLastChoice id step) }
 {
     match find_options(alloc, conn, id, step as u64) {
         Ok(rows) => choose_taken(alloc, rows.as_slice()),

@@ -1,19 +1,16 @@
 //! Reads of the tables, in the desk's types. A read changes nothing, whether it succeeds or not.
-ghost use Rattle.std.specs.Prelude.{◌≡◌, ◌<◌, ◌≤◌, ◌^◌, false, IfOk, IfSome};
+ghost use Rattle.std.specs.Prelude.{◌≡◌, ◌<◌, ◌≤◌, ◌^◌, IfOk};
 ghost use Rattle.ledger.specs.Ledger.{history};
 ghost use Rattle.saga_core.specs.Views.{ShowsCells};
-ghost use Rattle.sql_reads.specs.Reading.{ShowsKept, ShowsKeptIn, ShowsEach, KeepsOn, KeepsEach, LeavesAsBefore, WasClean};
-ghost use Rattle.sql_reads.specs.Reading.{IsFirstAbove, HasNone, IsRecordAt, IsRecordOf, IsStandAt, HasStand, AreMarksAt, IsNone, IsPlanOf, HasTries};
-ghost use Rattle.sql_reads.specs.Causes.{FailsForReason, FailsForReasonEach, FailsForReasonIn, FailsWhere, FailsWhereEach, ShowsSpelled};
+ghost use Rattle.sql_reads.specs.Reads.{AnyDesk, Read, ReadEach, ReadIn};
+ghost use Rattle.sql_reads.specs.Reading.{AreMarksAt, AreTakenIn, HasNone, HasStand, HasTries, IsFirstAbove, IsPlanOf, IsRecordAt, IsRecordOf, IsStandAt};
 ghost use Rattle.desk_sql.specs.declared.versions.Version.TheVariants.{Two};
 ghost use Rattle.plan.specs.PlanModel.{step_count};
-ghost use Rattle.sql_model.specs.Staying.{SeesAsBefore, StaysUp};
-ghost use Rattle.ledger.specs.Answer.{most_events};
 ghost use Rattle.desk_sql.specs.Causes.{FailsForReasonIn as SqlFailsIn};
 ghost use Rattle.desk_sql.specs.Readable.{Any};
-ghost use Rattle.desk_sql.specs.Calls.{ReadsIn, ChangesNothing, LeavesNoMore};
+ghost use Rattle.desk_sql.specs.Calls.{Quiet, ReadsIn};
 ghost use Rattle.desk_sql.specs.FoundRows.{FindsNextItem};
-ghost use Rattle.sql_reads.specs.ItemSearch.{AreSoughtAt, IsLow, IsNextOf};
+ghost use Rattle.sql_reads.specs.ItemSearch.{AreSoughtAt, IsLow, IsNextRow};
 
 use crate::item_search::Sought;
 use crate::plan_rows::plan_told;
@@ -41,17 +38,7 @@ pub fn read_first_unfinished<S: Alter>(
     conn: &mut Connection<S>,
     after: u64,
 ) -> Result<Option<Brief>, Fault>
-    requires { conn.old.in_transaction ≡ false }
-
-    ensures outside { conn.new.in_transaction ≡ false }
-    ensures first { ShowsKept S.Store conn.old conn.new result (IsFirstAbove after) }
-    ensures same { KeepsOn S.Store conn.old conn.new }
-    ensures stop { LeavesAsBefore S.Store conn.old conn.new }
-    ensures less { WasClean S.Store conn.old conn.new }
-
-    ensures store { FailsForReason S.Store conn.old conn.new result }
-    ensures up { StaysUp S.Store conn.old conn.new }
-    ensures sees { SeesAsBefore S.Store conn.old conn.new }
+    ensures { Read S.Store conn.old conn.new result (IsFirstAbove after) }
 {
     match first_unfinished(conn, after.min(LARGEST)) {
         Ok(None) => Ok(None),
@@ -70,17 +57,7 @@ pub fn read_first_unfinished<S: Alter>(
 
 /// Checks that no journey has a number that is greater than any that a query may have.
 pub(crate) fn check_absent<S: Alter>(conn: &mut Connection<S>, id: u64) -> Result<(), Fault>
-    requires { conn.old.in_transaction ≡ false }
-
-    ensures outside { conn.new.in_transaction ≡ false }
-    ensures absent { ShowsEach S.Store conn.old conn.new result (HasNone id) }
-    ensures same { KeepsEach S.Store conn.old conn.new }
-    ensures stop { LeavesAsBefore S.Store conn.old conn.new }
-    ensures less { WasClean S.Store conn.old conn.new }
-
-    ensures store { 2 ^ 63 ≤ id → FailsForReasonEach S.Store conn.old conn.new result }
-    ensures up { StaysUp S.Store conn.old conn.new }
-    ensures sees { SeesAsBefore S.Store conn.old conn.new }
+    ensures { ReadEach S.Store conn.old conn.new result (λ _. 2 ^ 63 ≤ id) (HasNone id) }
 {
     match read_meta(conn) {
         Ok(meta) if meta.journeys < id => Ok(()),
@@ -91,19 +68,8 @@ pub(crate) fn check_absent<S: Alter>(conn: &mut Connection<S>, id: u64) -> Resul
 
 /// Finds where the items of the journey of that number are in the store.
 pub(crate) fn find_sought<S: Alter>(conn: &mut Connection<S>, id: u64) -> Result<Sought, Fault>
-    requires { conn.old.in_transaction ≡ false }
-
-    ensures outside { conn.new.in_transaction ≡ false }
-    ensures journey { IfOk result (λ w. w.journey < 2 ^ 63) }
-    ensures after { IfOk result (λ w. w.after < 2 ^ 63) }
-    ensures sought { ShowsEach S.Store conn.old conn.new result (AreSoughtAt id) }
-    ensures same { KeepsEach S.Store conn.old conn.new }
-    ensures stop { LeavesAsBefore S.Store conn.old conn.new }
-    ensures less { WasClean S.Store conn.old conn.new }
-
-    ensures store { FailsForReasonEach S.Store conn.old conn.new result }
-    ensures up { StaysUp S.Store conn.old conn.new }
-    ensures sees { SeesAsBefore S.Store conn.old conn.new }
+    ensures low { IfOk result IsLow }
+    ensures read { ReadEach S.Store conn.old conn.new result AnyDesk (AreSoughtAt id) }
 {
     if id > LARGEST {
         check_absent(conn, id)?;
@@ -132,10 +98,8 @@ fn next_in<S: Alter>(
     requires after { after < 2 ^ 63 }
 
     ensures found { ReadsIn S.Store conn.old conn.new version result (FindsNextItem journey after) }
-    ensures quiet { ChangesNothing S.Store conn.old conn.new }
     ensures reason { SqlFailsIn S.Store conn.old conn.new version result Any }
-    ensures mode { conn.old.in_transaction ≡ false → conn.new.in_transaction ≡ false }
-    ensures survives { LeavesNoMore S.Store conn.old conn.new }
+    ensures quiet { Quiet S.Store conn.old conn.new }
 {
     match version {
         Version::One => next_old_item(conn, journey, after),
@@ -149,17 +113,8 @@ pub(crate) fn find_next<S: Alter>(
     version: Version,
     sought: &Sought,
 ) -> Result<Option<ItemFound>, Fault>
-    ensures outside { conn.old.in_transaction ≡ false → conn.new.in_transaction ≡ false }
-    ensures next { ShowsKeptIn S.Store conn.old conn.new version result (IsNextOf sought.now) }
-    ensures early { ShowsSpelled S.Store conn.old conn.new version result
-        (λ found. IfSome found (λ i. i.num ≤ most_events)) }
-    ensures same { KeepsEach S.Store conn.old conn.new }
-    ensures stop { LeavesAsBefore S.Store conn.old conn.new }
-    ensures less { WasClean S.Store conn.old conn.new }
-
-    ensures store { IsLow sought.now → FailsForReasonIn S.Store conn.old conn.new version result }
-    ensures up { StaysUp S.Store conn.old conn.new }
-    ensures sees { SeesAsBefore S.Store conn.old conn.new }
+    ensures { ReadIn S.Store conn.old conn.new version result (λ _. IsLow sought.now)
+        (IsNextRow sought.now) }
 {
     if sought.journey > LARGEST || sought.after > LARGEST {
         return Err(Fault::Store);
@@ -176,18 +131,7 @@ pub fn read_history<S: Alter>(
     conn: &mut Connection<S>,
     id: u64,
 ) -> Result<Vec<Item>, Fault>
-    requires { conn.old.in_transaction ≡ false }
-
-    ensures outside { conn.new.in_transaction ≡ false }
-    ensures items { ShowsKept S.Store conn.old conn.new result
-        (λ s items. items.items ≡ history s.ledger id) }
-    ensures same { KeepsOn S.Store conn.old conn.new }
-    ensures stop { LeavesAsBefore S.Store conn.old conn.new }
-    ensures less { WasClean S.Store conn.old conn.new }
-
-    ensures store { FailsForReason S.Store conn.old conn.new result }
-    ensures up { StaysUp S.Store conn.old conn.new }
-    ensures sees { SeesAsBefore S.Store conn.old conn.new }
+    ensures { Read S.Store conn.old conn.new result (λ s items. items.items ≡ history s.ledger id) }
 {
     let sought = find_sought(conn, id)?;
     read_items(alloc, conn, sought.journey, sought.after)
@@ -200,18 +144,9 @@ fn read_plan<S: Alter>(
     id: u64,
     tries: u64,
 ) -> Result<Plan, Fault>
-    requires outside { conn.old.in_transaction ≡ false }
-    requires small { id < 2 ^ 63 }
+    requires { id < 2 ^ 63 }
 
-    ensures outside { conn.new.in_transaction ≡ false }
-    ensures plan { ShowsEach S.Store conn.old conn.new result (IsPlanOf id tries) }
-    ensures same { KeepsEach S.Store conn.old conn.new }
-    ensures stop { LeavesAsBefore S.Store conn.old conn.new }
-    ensures less { WasClean S.Store conn.old conn.new }
-
-    ensures store { FailsWhereEach S.Store conn.old conn.new result (HasTries id tries) }
-    ensures up { StaysUp S.Store conn.old conn.new }
-    ensures sees { SeesAsBefore S.Store conn.old conn.new }
+    ensures { ReadEach S.Store conn.old conn.new result (HasTries id tries) (IsPlanOf id tries) }
 {
     match find_steps(alloc, conn, id) {
         Ok(found) => plan_told(alloc, found.as_slice(), tries),
@@ -221,18 +156,9 @@ fn read_plan<S: Alter>(
 
 /// Returns the save-points that the journey of that number took and that stand.
 fn read_marks<S: Alter>(alloc: Global, conn: &mut Connection<S>, id: u64) -> Result<Marks, Fault>
-    requires outside { conn.old.in_transaction ≡ false }
-    requires small { id < 2 ^ 63 }
+    requires { id < 2 ^ 63 }
 
-    ensures outside { conn.new.in_transaction ≡ false }
-    ensures marks { ShowsKept S.Store conn.old conn.new result (AreMarksAt id) }
-    ensures same { KeepsEach S.Store conn.old conn.new }
-    ensures stop { LeavesAsBefore S.Store conn.old conn.new }
-    ensures less { WasClean S.Store conn.old conn.new }
-
-    ensures store { FailsForReason S.Store conn.old conn.new result }
-    ensures up { StaysUp S.Store conn.old conn.new }
-    ensures sees { SeesAsBefore S.Store conn.old conn.new }
+    ensures { Read S.Store conn.old conn.new result (AreMarksAt id) }
 {
     match find_marks(alloc, conn, id) {
         Ok(found) => match marks_told(found.as_slice()) {
@@ -250,20 +176,9 @@ fn read_taken<S: Alter>(
     version: Version,
     id: u64,
 ) -> Result<Marks, Fault>
-    requires outside { conn.old.in_transaction ≡ false }
-    requires small { id < 2 ^ 63 }
+    requires { id < 2 ^ 63 }
 
-    ensures outside { conn.new.in_transaction ≡ false }
-    ensures first { version ≡ Version.One → IfOk result IsNone }
-    ensures marks { version ≡ Version.Two
-        → ShowsKept S.Store conn.old conn.new result (AreMarksAt id) }
-    ensures same { KeepsEach S.Store conn.old conn.new }
-    ensures stop { LeavesAsBefore S.Store conn.old conn.new }
-    ensures less { WasClean S.Store conn.old conn.new }
-
-    ensures store { FailsForReasonIn S.Store conn.old conn.new version result }
-    ensures up { StaysUp S.Store conn.old conn.new }
-    ensures sees { SeesAsBefore S.Store conn.old conn.new }
+    ensures { ReadIn S.Store conn.old conn.new version result AnyDesk (AreTakenIn version id) }
 {
     match version {
         Version::One => {
@@ -290,17 +205,7 @@ pub struct Stand {
 
 /// Returns the agent, the number of steps, the tries and the cursor of the journey of that number, if there is one.
 pub fn read_stand<S: Alter>(conn: &mut Connection<S>, id: u64) -> Result<Option<Stand>, Fault>
-    requires { conn.old.in_transaction ≡ false }
-
-    ensures outside { conn.new.in_transaction ≡ false }
-    ensures stand { ShowsKept S.Store conn.old conn.new result (IsStandAt id) }
-    ensures same { KeepsOn S.Store conn.old conn.new }
-    ensures stop { LeavesAsBefore S.Store conn.old conn.new }
-    ensures less { WasClean S.Store conn.old conn.new }
-
-    ensures store { FailsForReason S.Store conn.old conn.new result }
-    ensures up { StaysUp S.Store conn.old conn.new }
-    ensures sees { SeesAsBefore S.Store conn.old conn.new }
+    ensures { Read S.Store conn.old conn.new result (IsStandAt id) }
 {
     if id > LARGEST {
         check_absent(conn, id)?;
@@ -323,20 +228,12 @@ pub fn read_record<S: Alter>(
     id: u64,
     stand: &Stand,
 ) -> Result<Record, Fault>
-    requires outside { conn.old.in_transaction ≡ false }
-    requires small { id < 2 ^ 63 }
+    requires { id < 2 ^ 63 }
 
-    ensures outside { conn.new.in_transaction ≡ false }
-    ensures journey { ShowsKept S.Store conn.old conn.new result (IsRecordOf id stand.now) }
     ensures steps { IfOk result (λ r. step_count r.plan ≡ stand.now.steps) }
     ensures cursor { IfOk result (λ r. r.cursor ≡ stand.now.cursor) }
-    ensures same { KeepsOn S.Store conn.old conn.new }
-    ensures stop { LeavesAsBefore S.Store conn.old conn.new }
-    ensures less { WasClean S.Store conn.old conn.new }
-
-    ensures store { FailsWhere S.Store conn.old conn.new Two result (HasStand id stand.now) }
-    ensures up { StaysUp S.Store conn.old conn.new }
-    ensures sees { SeesAsBefore S.Store conn.old conn.new }
+    ensures read { ReadIn S.Store conn.old conn.new Two result (HasStand id stand.now)
+        (IsRecordOf id stand.now) }
 {
     let plan = read_plan(alloc, conn, id, stand.tries)?;
     let marks = read_marks(alloc, conn, id)?;
@@ -358,17 +255,7 @@ pub fn read_journey<S: Alter>(
     version: Version,
     id: u64,
 ) -> Result<Option<Record>, Fault>
-    requires { conn.old.in_transaction ≡ false }
-
-    ensures outside { conn.new.in_transaction ≡ false }
-    ensures journey { ShowsKeptIn S.Store conn.old conn.new version result (IsRecordAt id) }
-    ensures same { KeepsEach S.Store conn.old conn.new }
-    ensures stop { LeavesAsBefore S.Store conn.old conn.new }
-    ensures less { WasClean S.Store conn.old conn.new }
-
-    ensures store { FailsForReasonIn S.Store conn.old conn.new version result }
-    ensures up { StaysUp S.Store conn.old conn.new }
-    ensures sees { SeesAsBefore S.Store conn.old conn.new }
+    ensures { ReadIn S.Store conn.old conn.new version result AnyDesk (IsRecordAt id) }
 {
     if id > LARGEST {
         check_absent(conn, id)?;
@@ -394,18 +281,7 @@ pub fn read_cells<S: Alter>(
     conn: &mut Connection<S>,
     want: &Want,
 ) -> Result<Vec<(Night, Held)>, Fault>
-    requires { conn.old.in_transaction ≡ false }
-
-    ensures outside { conn.new.in_transaction ≡ false }
-    ensures cells { ShowsKept S.Store conn.old conn.new result
-        (λ s cells. ShowsCells want.now s cells.items) }
-    ensures same { KeepsOn S.Store conn.old conn.new }
-    ensures stop { LeavesAsBefore S.Store conn.old conn.new }
-    ensures less { WasClean S.Store conn.old conn.new }
-
-    ensures store { FailsForReason S.Store conn.old conn.new result }
-    ensures up { StaysUp S.Store conn.old conn.new }
-    ensures sees { SeesAsBefore S.Store conn.old conn.new }
+    ensures { Read S.Store conn.old conn.new result (λ s cells. ShowsCells want.now s cells.items) }
 {
     let supplier = want.supplier();
     let product = want.product();

@@ -15,7 +15,6 @@ use Rattle.saga_core.specs.RowSources.{HandsFirst}
 use Rattle.saga_core.specs.Views.{brief_of, is_unfinished_above}
 use Rattle.saga_core.specs.declared.records.Brief.{Brief}
 use Rattle.desk_sql.specs.FoundRows.{is_unfinished_after, journey_of}
-use Rattle.desk_sql.specs.Calls.{ChangesNothing, LeavesNoMore}
 use Rattle.desk_sql.specs.Causes.{HasFaulted, IsUp}
 use Rattle.desk_sql.specs.Readable.{Each, IsAgentText}
 use Rattle.desk_sql.specs.RemainingRows.{Hands as HandsRows, ListsUnfinished}
@@ -25,18 +24,18 @@ use Rattle.sql_model.specs.ExpectedRows.{counted_from, Begun, begun, journeys_ca
 use Rattle.sql_lists.specs.JourneyLists.{JourneysRest}
 use Rattle.sql_model.specs.Reading.{cursor_in}
 use Rattle.sql_model.specs.Briefs.{Short, short_of, short_told, TellBriefs}
-use Rattle.sql_model.specs.Staying.{StaysUp}
+use Rattle.sql_model.specs.Keeping.{WasClean}
 use Rattle.sql_model.proofs.JourneyRows.{row_in, called_rises}
 use Rattle.sql_model.proofs.Orders.{Rises, one_order}
-use Rattle.sql_model.proofs.Staying.{fails_twice, stays_twice as up_twice, stays_up}
+use Rattle.sql_model.proofs.Quieting.{quiet_clean, quiet_up}
+use Rattle.sql_model.proofs.Staying.{fails_twice}
 use Rattle.sql_reads.specs.Reading.{TellsBrief, row_of}
 use Rattle.sql_reads.specs.RemainingRows.{StaysUnder, stays_alone, stays_twice}
 use Rattle.sql_lists.specs.ListedRows.{AreGoodBriefsRest, BriefsRest}
 use Rattle.sql_reads.proofs.HandedBriefs.{brief_in, brief_same, briefs, kept_alike, unfinished_phase}
 use Rattle.sql_reads.proofs.HandedGood.{brief_good, briefs_text}
-use Rattle.sql_reads.proofs.HandedTold.{Told, left_by, told_first, told_none}
-use Rattle.sql_reads.proofs.ReadLemmas.{was_clean}
-use Rattle.sql_views.proofs.Taken.{Remain, up_alone}
+use Rattle.sql_reads.proofs.HandedTold.{Told, told_first, told_none}
+use Rattle.sql_views.proofs.Taken.{Remain}
 
 -- The rows above a number.
 
@@ -126,40 +125,25 @@ module _ (Before After : List JourneyRow → Type 0) where
 -- The connection, while briefs are taken.
 
 module _ {S : Type 0} (g : Ghosts S) where
-  -- what a look at the next row leaves of the connection
-  pub record Looks (old new : MutBor (Held S)) : Type 0 where
-    pub same_reference : new.ghost_name ≡ old.ghost_name
-    pub same : ChangesNothing g old.now new.now
-    pub mode : old.now.in_transaction ≡ false → new.now.in_transaction ≡ false
-    pub survives : LeavesNoMore g old.now new.now
-
   -- these were taken since the first look
   pub record AreSoFar (first now : MutBor (Held S)) (taken : List Brief) : Type 0 where
     pub kept : StaysUnder g first now
-    pub up : StaysUp g first.now now.now
     pub so_far : HasCleanDisk (state g now.now) → (all : List Brief) → BriefsRest g first.now all → Remain (BriefsRest g now.now) taken all
     pub good : HasCleanDisk (state g now.now) → AreGoodBriefsRest g first.now → AreGoodBriefsRest g now.now
-
-  no_stay : (old new : MutBor (Held S)) → Looks old new → StaysUnder g old new
-  no_stay old new look = record {
-    same_reference = look.same_reference;
-    left = left_by g old.now new.now look.same look.survives look.mode;
-  }
 
   pub none_so_far : (first : MutBor (Held S)) (taken : List Brief) → taken ≡ [] → AreSoFar first first taken
   none_so_far first taken none = record {
     kept = stays_alone first;
-    up = up_alone g first.now;
     so_far = λ clean all rests. (all, rests, sym (ap (λ bs. bs ++ all) none));
     good = λ clean good. good;
   }
 
-  module _ (first old new : MutBor (Held S)) (taken : List Brief) (so : AreSoFar first old taken) (look : Looks old new) where
+  module _ (first old new : MutBor (Held S)) (taken : List Brief) (so : AreSoFar first old taken) (look : StaysUnder g old new) where
     pub look_kept : StaysUnder g first new
-    look_kept = stays_twice first old new so.kept (no_stay old new look)
+    look_kept = stays_twice first old new so.kept look
 
-    pub look_up : StaysUp g first.now new.now
-    look_up = up_twice g first.now old.now new.now so.up (stays_up g old.now new.now look.survives) (was_clean g old.now new.now look.survives)
+    less : WasClean g old.now new.now
+    less = quiet_clean g old.now new.now look.quiet
 
     -- one more was taken
     pub one_more : (r : JourneyFound) (b : Brief) (now : List Brief)
@@ -167,13 +151,12 @@ module _ {S : Type 0} (g : Ghosts S) where
         → TellsBrief r b → now ≡ taken ++ b ∷ [] → AreSoFar first new now
     one_more r b now hands tells more = record {
       kept = look_kept;
-      up = look_up;
       so_far = λ clean all rests.
           one_taken (JourneysRest g old.now) (JourneysRest g new.now) r b (hands clean) tells taken now all more
-          (so.so_far (was_clean g old.now new.now look.survives clean) all rests);
+          (so.so_far (less clean) all rests);
       good = λ clean rests.
           good_left (JourneysRest g old.now) (JourneysRest g new.now) r b (hands clean) tells
-          (so.good (was_clean g old.now new.now look.survives clean) rests);
+          (so.good (less clean) rests);
     }
 
     -- no row was left
@@ -181,14 +164,14 @@ module _ {S : Type 0} (g : Ghosts S) where
         → (all : List Brief) → BriefsRest g first.now all → taken ≡ all
     last_taken clean hands all rests =
         all_taken (JourneysRest g old.now) (JourneysRest g new.now) hands taken all
-        (so.so_far (was_clean g old.now new.now look.survives clean) all rests)
+        (so.so_far (less clean) all rests)
 
     -- a row that tells no brief is none of those that keep their limits
     pub each_tells : HasCleanDisk (state g new.now) → (r : JourneyFound)
         → HandsRows (JourneysRest g old.now) (JourneysRest g new.now) (Some (journey_of r)) → AreGoodBriefsRest g first.now
         → IsTrue (is_agent (journey_of r).agent) × IsSome (cursor_in (row_of r.cursor))
     each_tells clean r hands good =
-        let rests = so.good (was_clean g old.now new.now look.survives clean) good in
+        let rests = so.good (less clean) good in
         brief_good (JourneysRest g old.now) (JourneysRest g new.now) (journey_of r) hands rests.1.0 rests.0 rests.1.1 rests.1.2 rests.2
 
     -- an error has a reason, where the rows that remain keep their limits
@@ -197,7 +180,6 @@ module _ {S : Type 0} (g : Ghosts S) where
         → HasFaulted (state g old.now) (state g new.now))
         → AreGoodBriefsRest g first.now → IsUp (state g first.now) → HasFaulted (state g first.now) (state g new.now)
     look_fails clean fails good up =
-        let less = was_clean g old.now new.now look.survives in
         let rests = so.good (less clean) good in
-        fails_twice g first.now old.now new.now so.up (stays_up g old.now new.now look.survives) less clean up
+        fails_twice g first.now old.now new.now (quiet_up g first.now old.now so.kept.quiet) (quiet_up g old.now new.now look.quiet) less clean up
         (fails rests.1.0 rests.1.1 (briefs_text rests.1.0 rests.0 rests.1.2 rests.2))

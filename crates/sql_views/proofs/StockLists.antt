@@ -15,12 +15,13 @@ use Rattle.desk_sql.specs.RemainingRows.{Hands, HandsFirst}
 use Rattle.desk_sql.specs.Rows.{StockRow}
 use Rattle.sql_lists.specs.CellLists.{CellsRest}
 use Rattle.sql_model.specs.Reading.{stock_row_of}
-use Rattle.sql_model.specs.Staying.{StaysUp}
-use Rattle.sql_model.proofs.Staying.{fails_twice, stays_twice as up_twice}
+use Rattle.sql_model.specs.Keeping.{WasClean}
+use Rattle.sql_model.proofs.Quieting.{quiet_clean, quiet_up}
+use Rattle.sql_model.proofs.Staying.{fails_twice}
 use Rattle.sql_reads.specs.GoodRows.{IsGoodStock}
 use Rattle.sql_reads.specs.RemainingRows.{StaysUnder, stays_alone, stays_twice}
 use Rattle.sql_reads.proofs.GoodStock.{code_text}
-use Rattle.sql_views.proofs.Taken.{Remain, up_alone}
+use Rattle.sql_views.proofs.Taken.{Remain}
 
 -- the texts of rows that tell cells can be read
 pub cell_texts : (rows : List StockRow) → AllByRecursion IsGoodStock rows → Each AreCellTexts rows
@@ -72,24 +73,22 @@ module _ {S : Type 0} (g : Ghosts S) where
   -- the rows of these cells were taken since the first look
   pub record AreTaken (first now : MutBor (Held S)) (cells : List (Cell × HeldPlaces)) : Type 0 where
     pub kept : StaysUnder g first now
-    pub up : StaysUp g first.now now.now
     pub so_far : HasCleanDisk (state g now.now) → (all : List StockRow) → CellsRest g first.now all
         → Remain (CellsRest g now.now) (map stock_row_of cells) all
 
   pub none_taken : (first : MutBor (Held S)) (cells : List (Cell × HeldPlaces)) → cells ≡ [] → AreTaken first first cells
   none_taken first cells none = record {
     kept = stays_alone first;
-    up = up_alone g first.now;
     so_far = λ clean all rests. (all, rests, sym (ap (λ (cs : List (Cell × HeldPlaces)). map stock_row_of cs ++ all) none));
   }
 
   module _ (first old new : MutBor (Held S)) (cells : List (Cell × HeldPlaces)) (so : AreTaken first old cells)
-      (kept : StaysUnder g old new) (up : StaysUp g old.now new.now) where
+      (kept : StaysUnder g old new) where
     pub still_kept : StaysUnder g first new
     still_kept = stays_twice first old new so.kept kept
 
-    pub still_up : StaysUp g first.now new.now
-    still_up = up_twice g first.now old.now new.now so.up up kept.left.reads.less
+    less : WasClean g old.now new.now
+    less = quiet_clean g old.now new.now kept.quiet
 
     -- one more was taken
     pub one_more : (c : Cell × HeldPlaces) (now : List (Cell × HeldPlaces))
@@ -100,11 +99,10 @@ module _ {S : Type 0} (g : Ghosts S) where
         = ap (map stock_row_of) more ∙ map-append stock_row_of cells (c ∷ []) in
         record {
           kept = still_kept;
-          up = still_up;
           so_far = λ clean all rests.
               subst (λ taken. Remain (CellsRest g new.now) taken all) (sym rows)
               (one_taken (CellsRest g old.now) (CellsRest g new.now) (stock_row_of c) (hands clean) (map stock_row_of cells) all
-              (so.so_far (kept.left.reads.less clean) all rests));
+              (so.so_far (less clean) all rests));
         }
 
     -- no row was left
@@ -112,7 +110,7 @@ module _ {S : Type 0} (g : Ghosts S) where
         → (all : List StockRow) → CellsRest g first.now all → map stock_row_of cells ≡ all
     last_taken clean hands all rests =
         all_taken (CellsRest g old.now) (CellsRest g new.now) hands (map stock_row_of cells) all
-        (so.so_far (kept.left.reads.less clean) all rests)
+        (so.so_far (less clean) all rests)
 
     -- a look fails for a reason, where each of the rows tells a cell
     pub look_fails : HasCleanDisk (state g new.now) → (all : List StockRow) → CellsRest g first.now all → AllByRecursion IsGoodStock all
@@ -121,6 +119,6 @@ module _ {S : Type 0} (g : Ghosts S) where
         → HasFaulted (state g old.now) (state g new.now))
         → HasFaulted (state g first.now) (state g new.now)
     look_fails clean all rests good is_up fails =
-        let left = so.so_far (kept.left.reads.less clean) all rests in
-        fails_twice g first.now old.now new.now so.up up kept.left.reads.less clean is_up
+        let left = so.so_far (less clean) all rests in
+        fails_twice g first.now old.now new.now (quiet_up g first.now old.now so.kept.quiet) (quiet_up g old.now new.now kept.quiet) less clean is_up
         (fails left.0 left.1 (good_left (map stock_row_of cells) left.0 (subst (AllByRecursion IsGoodStock) left.2 good)))

@@ -1,17 +1,16 @@
 //! The unfinished journeys above a number, read by one statement.
-ghost use Rattle.std.specs.Prelude.{◌≡◌, ◌<◌, ◌^◌, false, List, IfOk, IsErrOf};
+ghost use Rattle.std.specs.Prelude.{◌≡◌, ◌<◌, ◌^◌, List, IfOk, IsErrOf};
 ghost use Rattle.std.specs.Borrow.{sem};
 ghost use Rattle.sqlite.specs.Held.{state};
 ghost use Rattle.sqlite.specs.State.{HasCleanDisk};
+ghost use Rattle.desk_sql.specs.Calls.{Quiet};
 ghost use Rattle.desk_sql.specs.Causes.{HasFaulted, IsUp};
 ghost use Rattle.desk_sql.specs.declared.versions.Version.{Version};
 ghost use Rattle.saga_core.specs.declared.records.Brief.{Brief};
-ghost use Rattle.sql_model.specs.Staying.{SeesAsBefore, StaysUp};
-ghost use Rattle.sql_model.specs.Spelling.{IsSpelled};
-ghost use Rattle.sql_reads.specs.Causes.{FailsForReason};
 ghost use Rattle.sql_reads.specs.Lending.{LeavesIfErr};
-ghost use Rattle.sql_reads.specs.Reading.{AreUnfinishedAbove, KeepsOn, LeavesAsBefore, ShowsKept, WasClean};
-ghost use Rattle.sql_reads.specs.RemainingRows.{BeginsKept, IsLeftAsItWas, StaysUnder};
+ghost use Rattle.sql_reads.specs.Reading.{AreUnfinishedAbove};
+ghost use Rattle.sql_reads.specs.Reads.{Read};
+ghost use Rattle.sql_reads.specs.RemainingRows.{BeginsKept, StaysUnder};
 ghost use Rattle.sql_lists.specs.ListedRows.{AreGoodBriefsRest, BeginsGood, BriefsRest};
 
 use commands::Fault;
@@ -32,8 +31,7 @@ fn start_above<S: Alter>(conn: &mut Connection<S>, after: u64) -> Result<Rows<'_
         → BeginsKept S.Store conn.old it.conn.now v (AreUnfinishedAbove after)
         (BriefsRest S.Store it.conn.now)) }
     ensures good { IfOk result (λ it. (v : Version) → BeginsGood S.Store conn.old it.conn.now v) }
-    ensures kept { IfOk result (λ it. IsLeftAsItWas S.Store conn.old it.conn.now) }
-    ensures up { IfOk result (λ it. StaysUp S.Store conn.old it.conn.now) }
+    ensures quiet { IfOk result (λ it. Quiet S.Store conn.old it.conn.now) }
 {
     hand_unfinished(conn, after)
 }
@@ -42,13 +40,11 @@ fn start_above<S: Alter>(conn: &mut Connection<S>, after: u64) -> Result<Rows<'_
 fn take_briefs<S: Alter>(alloc: Global, rows: &mut Rows<'_, S>) -> Result<Vec<Brief>, Fault>
     ensures briefs { HasCleanDisk (state S.Store rows.new.conn.now) → (all : List Brief) →
         BriefsRest S.Store rows.old.conn.now all → IfOk result (λ briefs. briefs.items ≡ all) }
-    ensures kept { StaysUnder S.Store rows.old.conn rows.new.conn }
-
     ensures store { HasCleanDisk (state S.Store rows.new.conn.now)
         → AreGoodBriefsRest S.Store rows.old.conn.now
         → IsUp (state S.Store rows.old.conn.now) → IsErrOf result Fault.Store
         → HasFaulted (state S.Store rows.old.conn.now) (state S.Store rows.new.conn.now) }
-    ensures up { StaysUp S.Store rows.old.conn.now rows.new.conn.now }
+    ensures kept { StaysUnder S.Store rows.old.conn rows.new.conn }
 {
     let mut briefs = Vec::new(alloc);
     for _round in 0..u64::MAX {
@@ -74,19 +70,10 @@ pub fn read_unfinished<S: Alter>(
     conn: &mut Connection<S>,
     after: u64,
 ) -> Result<Vec<Brief>, Fault>
-    requires outside { conn.old.in_transaction ≡ false }
-    requires small { after < 2 ^ 63 }
+    requires { after < 2 ^ 63 }
 
-    ensures outside { conn.new.in_transaction ≡ false }
-    ensures briefs { ShowsKept S.Store conn.old conn.new result
+    ensures { Read S.Store conn.old conn.new result
         (λ s briefs. AreUnfinishedAbove after s briefs.items) }
-    ensures same { KeepsOn S.Store conn.old conn.new }
-    ensures stop { LeavesAsBefore S.Store conn.old conn.new }
-    ensures less { WasClean S.Store conn.old conn.new }
-
-    ensures store { FailsForReason S.Store conn.old conn.new result }
-    ensures up { StaysUp S.Store conn.old conn.new }
-    ensures sees { SeesAsBefore S.Store conn.old conn.new }
 {
     let mut rows = match start_above(conn, after) {
         Ok(rows) => rows,

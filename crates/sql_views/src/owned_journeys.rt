@@ -1,8 +1,6 @@
 //! The journeys of one agent.
-ghost use Rattle.std.specs.Prelude.{◌≡◌, false};
-ghost use Rattle.sql_reads.specs.Reading.{IsFirstOwned, KeepsOn, LeavesAsBefore, ShowsKept, WasClean};
-ghost use Rattle.sql_model.specs.Staying.{SeesAsBefore, StaysUp};
-ghost use Rattle.sql_reads.specs.Causes.{FailsForReason};
+ghost use Rattle.sql_reads.specs.Reading.{IsFirstOwned};
+ghost use Rattle.sql_reads.specs.Reads.{Read};
 
 use commands::{Agent, Fault};
 use desk_sql::first_owned;
@@ -18,17 +16,7 @@ pub fn read_first_owned<S: Alter>(
     agent: &Agent,
     after: u64,
 ) -> Result<Option<Brief>, Fault>
-    requires { conn.old.in_transaction ≡ false }
-
-    ensures outside { conn.new.in_transaction ≡ false }
-    ensures first { ShowsKept S.Store conn.old conn.new result (IsFirstOwned agent.now after) }
-    ensures same { KeepsOn S.Store conn.old conn.new }
-    ensures stop { LeavesAsBefore S.Store conn.old conn.new }
-    ensures less { WasClean S.Store conn.old conn.new }
-
-    ensures store { FailsForReason S.Store conn.old conn.new result }
-    ensures up { StaysUp S.Store conn.old conn.new }
-    ensures sees { SeesAsBefore S.Store conn.old conn.new }
+    ensures { Read S.Store conn.old conn.new result (IsFirstOwned agent.now after) }
 {
     match first_owned(conn, agent.as_str(), after.min(LARGEST)) {
         Ok(None) => Ok(None),

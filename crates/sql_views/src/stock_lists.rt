@@ -1,21 +1,20 @@
 //! The places of every cell that has an allotment, read by one statement.
-ghost use Rattle.std.specs.Prelude.{◌≡◌, false, List, map, option_map, IfOk, IsErrOf};
+ghost use Rattle.std.specs.Prelude.{◌≡◌, List, map, option_map, IfOk, IsErrOf};
 ghost use Rattle.std.specs.Borrow.{sem};
 ghost use Rattle.std.specs.List.{AllByRecursion};
 ghost use Rattle.sqlite.specs.Held.{state};
 ghost use Rattle.sqlite.specs.State.{HasCleanDisk};
+ghost use Rattle.desk_sql.specs.Calls.{Quiet};
 ghost use Rattle.desk_sql.specs.Causes.{HasFaulted, IsUp};
 ghost use Rattle.desk_sql.specs.RemainingRows.{Hands};
 ghost use Rattle.desk_sql.specs.Rows.{StockRow};
 ghost use Rattle.saga_core.specs.Views.{IsStock};
 ghost use Rattle.sql_lists.specs.CellLists.{CellsRest};
 ghost use Rattle.sql_model.specs.Reading.{stock_row_of};
-ghost use Rattle.sql_model.specs.Staying.{SeesAsBefore, StaysUp};
-ghost use Rattle.sql_reads.specs.Causes.{FailsForReason};
 ghost use Rattle.sql_reads.specs.GoodRows.{IsGoodStock};
 ghost use Rattle.sql_reads.specs.Lending.{LeavesIfErr};
-ghost use Rattle.sql_reads.specs.Reading.{KeepsOn, LeavesAsBefore, ShowsKept, WasClean};
-ghost use Rattle.sql_reads.specs.RemainingRows.{IsLeftAsItWas, StaysUnder};
+ghost use Rattle.sql_reads.specs.Reads.{Read};
+ghost use Rattle.sql_reads.specs.RemainingRows.{StaysUnder};
 ghost use Rattle.sql_views.specs.StockLeft.{StockRemains};
 
 use allotment::{Cell, Held};
@@ -31,8 +30,7 @@ fn start_stock<S: Alter>(conn: &mut Connection<S>) -> Result<Rows<'_, S>, Error>
     ensures* fault { sem 𝓛 (LeavesIfErr S.row S.Store conn.entry result) }
     ensures same_reference { IfOk result (λ it. it.conn.ghost_name ≡ conn.entry.ghost_name) }
     ensures rows { IfOk result (λ it. StockRemains S.Store conn.old it.conn.now) }
-    ensures kept { IfOk result (λ it. IsLeftAsItWas S.Store conn.old it.conn.now) }
-    ensures up { IfOk result (λ it. StaysUp S.Store conn.old it.conn.now) }
+    ensures quiet { IfOk result (λ it. Quiet S.Store conn.old it.conn.now) }
 {
     hand_stock(conn)
 }
@@ -42,13 +40,11 @@ fn next_told<S: Alter>(rows: &mut Rows<'_, S>) -> Result<Option<(Cell, Held)>, F
     ensures next { HasCleanDisk (state S.Store rows.new.conn.now) → IfOk result (λ found.
         Hands (CellsRest S.Store rows.old.conn.now)
         (CellsRest S.Store rows.new.conn.now) (option_map stock_row_of found)) }
-    ensures kept { StaysUnder S.Store rows.old.conn rows.new.conn }
-
     ensures store { HasCleanDisk (state S.Store rows.new.conn.now) → (later : List StockRow)
         → CellsRest S.Store rows.old.conn.now later → AllByRecursion IsGoodStock later
         → IsUp (state S.Store rows.old.conn.now) → IsErrOf result Fault.Store
         → HasFaulted (state S.Store rows.old.conn.now) (state S.Store rows.new.conn.now) }
-    ensures up { StaysUp S.Store rows.old.conn.now rows.new.conn.now }
+    ensures kept { StaysUnder S.Store rows.old.conn rows.new.conn }
 {
     match next_cell(rows) {
         Ok(Some(found)) => match cell_told(&found) {
@@ -65,13 +61,11 @@ fn take_cells<S: Alter>(alloc: Global, rows: &mut Rows<'_, S>) -> Result<Vec<(Ce
     ensures cells { HasCleanDisk (state S.Store rows.new.conn.now) → (all : List StockRow) →
         CellsRest S.Store rows.old.conn.now all
         → IfOk result (λ cells. map stock_row_of cells.items ≡ all) }
-    ensures kept { StaysUnder S.Store rows.old.conn rows.new.conn }
-
     ensures store { HasCleanDisk (state S.Store rows.new.conn.now) → (all : List StockRow)
         → CellsRest S.Store rows.old.conn.now all → AllByRecursion IsGoodStock all
         → IsUp (state S.Store rows.old.conn.now) → IsErrOf result Fault.Store
         → HasFaulted (state S.Store rows.old.conn.now) (state S.Store rows.new.conn.now) }
-    ensures up { StaysUp S.Store rows.old.conn.now rows.new.conn.now }
+    ensures kept { StaysUnder S.Store rows.old.conn rows.new.conn }
 {
     let mut cells = Vec::new(alloc);
     for _round in 0..u64::MAX {
@@ -90,18 +84,7 @@ pub fn read_stock<S: Alter>(
     alloc: Global,
     conn: &mut Connection<S>,
 ) -> Result<Vec<(Cell, Held)>, Fault>
-    requires { conn.old.in_transaction ≡ false }
-
-    ensures outside { conn.new.in_transaction ≡ false }
-    ensures stock { ShowsKept S.Store conn.old conn.new result
-        (λ s rows. IsStock s.ledger rows.items) }
-    ensures same { KeepsOn S.Store conn.old conn.new }
-    ensures stop { LeavesAsBefore S.Store conn.old conn.new }
-    ensures less { WasClean S.Store conn.old conn.new }
-
-    ensures store { FailsForReason S.Store conn.old conn.new result }
-    ensures up { StaysUp S.Store conn.old conn.new }
-    ensures sees { SeesAsBefore S.Store conn.old conn.new }
+    ensures { Read S.Store conn.old conn.new result (λ s rows. IsStock s.ledger rows.items) }
 {
     let mut rows = match start_stock(conn) {
         Ok(rows) => rows,

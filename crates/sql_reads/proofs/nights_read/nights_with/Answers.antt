@@ -1,9 +1,9 @@
 -- The cell is the first of the nights that are read from it on.
-use Rattle.std.proofs.Common.{◌≡◌, ◌<◌, ◌≤◌, refl, sym, subst, arith}
+use Rattle.std.proofs.Common.{◌≡◌, ◌<◌, ◌≤◌, refl, sym, subst, arith, rules}
 use Rattle.std.specs.Prelude.{IfSome}
-use Rattle.sql_reads.specs.NightsRead.{AreFew, IsAmong, IsLater}
+use Rattle.sql_reads.specs.NightsRead.{AreFew, AreRead, IsAmong, IsLater}
 use Rattle.sql_reads.specs.declared.nights_read.NightsRead.{NightsRead}
-use Rattle.sql_reads.proofs.ReadLemmas.{also_ok, both_ok}
+use Rattle.sql_reads.proofs.ReadLemmas.{also_ok, both_ok, no_read, read_ok}
 use Rattle.sql_reads.proofs.nights_read.nights_with.Goals as goal
 
 pub returns-in_default-clause-among : goal.returns-in_default-clause-among
@@ -30,3 +30,17 @@ returns-in_default-clause-few g c =
     let high : read.count ≤ 64 = omega arith in
     (low, high))
     c.read_nights.ensures.count
+
+pub returns-in-Some-clause-read : goal.returns-in-Some-clause-read
+returns-in-Some-clause-read g c = read_ok no_read (λ s desk _ were. search rules)
+
+pub returns-in_default-clause-read : goal.returns-in_default-clause-read
+returns-in_default-clause-read g c =
+    let it = c.read_nights.ensures.read in
+    record {
+      shows = λ clean s desk keeps.
+          also_ok c.read_nights.result (AreRead s) (λ nights. IfSome c.args.read (AreRead s) → AreRead s nights) (λ read are _. are)
+          (it.shows clean s desk keeps);
+      store = it.store;
+      quiet = it.quiet;
+    }

@@ -1,24 +1,19 @@
 -- The nights in the rows are those of the cell's product.
-use Rattle.std.proofs.Common.{◌≡◌, ◌+◌, ◌-◌, ◌∙◌, rules}
-use Rattle.std.specs.Prelude.{Err}
-use Rattle.desk_sql.specs.Stock.{FindsNights}
+use Rattle.std.proofs.Common.{◌≡◌, ◌+◌, ◌-◌, ◌∙◌, Err, rules}
 use Rattle.desk_sql.specs.declared.stock.NightRange.{NightRange}
 use Rattle.sql_model.specs.Reading.{IsRangeOf}
 use Rattle.sql_model.proofs.Readings.{nights_read}
 use Rattle.sql_reads.specs.NightsRead.{nights_from}
-use Rattle.sql_reads.proofs.ReadLemmas.{has_found}
-use Rattle.commands.specs.declared.replies.Fault.TheVariants.{Store}
-use Rattle.sql_reads.proofs.ReadReasons.{not_store}
+use Rattle.sql_reads.proofs.ReadLemmas.{found_rows, query_fails, read_ok, read_so}
 use Rattle.sql_reads.proofs.GoodStock.{good_nights}
 use Rattle.sql_reads.proofs.nights_read.read_nights.Goals as goal
 
-pub returns-in_ok-places-in-Ok-clause-places : goal.returns-in_ok-places-in-Ok-clause-places
-returns-in_ok-places-in-Ok-clause-places g c clean s desk keeps =
-    let rows = c.in-Ok.found in
+pub returns-in_ok-places-in-Ok-clause-read : goal.returns-in_ok-places-in-Ok-clause-read
+returns-in_ok-places-in-Ok-clause-read g c =
+    let rows = c.in-Ok.found.items in
     let want = nights_from c.args.first c.args.count in
     let last = c.from-from.result + c.from-2.result - 1 in
     let range : NightRange = record { kind = c.from.result; supplier = c.as_str.result; product = c.as_str-2.result; first = c.from-from.result; last = last } in
-    let found = has_found g.S.Store c.args.conn.now c.find_nights.new.conn rows (λ t all. FindsNights range t all.items) c.in-Ok.ensures.found c.find_nights.ensures.survives clean s keeps in
     let is : IsRangeOf range want = record {
       kind = search rules;
       supplier = search rules;
@@ -26,18 +21,17 @@ returns-in_ok-places-in-Ok-clause-places g c clean s desk keeps =
       first = search rules;
       last = search rules;
     } in
-    let told = nights_read found.tables s found.stands desk range want rows.items is c.requires.some found.found in
-    let tell = (simp c.as_slice.ensures.value at c.in_ok-places-in-Ok.ensures.told) in
-    tell ∙ told
+    read_ok (found_rows c.in-Ok.ensures.found c.find_nights.ensures.quiet) (λ s desk at.
+    (simp c.as_slice.ensures.value at c.in_ok-places-in-Ok.ensures.told)
+    ∙ nights_read at.tables s at.stands desk range want rows is c.requires at.found)
 
 -- each row tells a night, with its places
-pub returns-in_err-places-in-Ok-clause-store : goal.returns-in_err-places-in-Ok-clause-store
-returns-in_err-places-in-Ok-clause-store g c clean s desk spelled keeps up store =
-    let rows = c.in-Ok.found in
+pub returns-in_err-places-in-Ok-clause-read : goal.returns-in_err-places-in-Ok-clause-read
+returns-in_err-places-in-Ok-clause-read g c =
+    let rows = c.in-Ok.found.items in
     let want = nights_from c.args.first c.args.count in
     let last = c.from-from.result + c.from-2.result - 1 in
     let range : NightRange = record { kind = c.from.result; supplier = c.as_str.result; product = c.as_str-2.result; first = c.from-from.result; last = last } in
-    let found = has_found g.S.Store c.args.conn.now c.find_nights.new.conn rows (λ t all. FindsNights range t all.items) c.in-Ok.ensures.found c.find_nights.ensures.survives clean s keeps in
     let is : IsRangeOf range want = record {
       kind = search rules;
       supplier = search rules;
@@ -45,7 +39,11 @@ returns-in_err-places-in-Ok-clause-store g c clean s desk spelled keeps up store
       first = search rules;
       last = search rules;
     } in
-    let told = nights_read found.tables s found.stands desk range want rows.items is c.requires.some found.found in
-    let memory = (simp c.as_slice.ensures.value at c.nights_told.ensures.there) (good_nights s.ledger desk.legal want rows.items told) in
-    let failed : c.nights_told.result ≡ Err Store = search rules in
-    absurd (not_store c.nights_told.result memory failed)
+    let failed : c.from_residual.result ≡ Err c.in_err-places-in-Ok.field-0.0 = search rules in
+    read_so c.from_residual.result (found_rows c.in-Ok.ensures.found c.find_nights.ensures.quiet) (λ s desk at. rw failed tt) (λ s desk spelled _ at.
+    rw failed ((simp c.as_slice.ensures.value at c.in_err-places-in-Ok.ensures.there)
+    (good_nights s.ledger desk.legal want rows (nights_read at.tables s at.stands desk range want rows is c.requires at.found))))
+
+pub returns-in-Err-clause-read : goal.returns-in-Err-clause-read
+returns-in-Err-clause-read g c =
+    query_fails c.in-Err.ensures.reason c.find_nights.ensures.quiet c.fault_of.ensures.memory (λ t s st desk spelled _. tt)

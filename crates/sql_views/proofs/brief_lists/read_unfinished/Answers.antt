@@ -1,13 +1,12 @@
 -- The briefs that are taken are those of the state that is kept.
 use Rattle.std.proofs.Common.{refl, rules}
-use Rattle.sqlite.specs.Held.{state}
-use Rattle.sqlite.specs.State.{HasCleanDisk}
 use Rattle.desk_sql.specs.declared.versions.Version.TheVariants.{Two}
+use Rattle.sql_views.proofs.Taken.{list_read}
 use Rattle.sql_views.proofs.brief_lists.read_unfinished.Goals as goal
 
-pub returns-clause-briefs : goal.returns-clause-briefs
-returns-clause-briefs g c clean s desk keeps =
-    let stayed = c.take_briefs.ensures.kept in
-    -- the connection is the one that the rows give back when they are let go
-    let read : HasCleanDisk (state g.S.Store c.take_briefs.new.rows.conn.now) = search rules in
-    c.take_briefs.ensures.briefs read _ (c.in-Ok.ensures.rows Two (stayed.left.reads.less read) s desk keeps _ refl)
+pub returns : goal.returns
+returns g c =
+    let taken = c.take_briefs.ensures in
+    list_read (search rules) c.in-Ok.ensures.quiet taken.kept.quiet
+    (λ clean began s desk keeps. taken.briefs clean _ (c.in-Ok.ensures.rows Two began s desk keeps _ refl))
+    (λ clean began s desk spelled keeps up store. taken.store clean (c.in-Ok.ensures.good Two began s desk spelled keeps) up store)

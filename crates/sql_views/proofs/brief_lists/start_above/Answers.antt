@@ -1,12 +1,12 @@
 -- The rows that will be returned are those of the unfinished journeys above the number, and nothing changes, whether they start
 -- or not.
-use Rattle.std.proofs.Common.{inl, refl}
+use Rattle.std.proofs.Common.{refl}
+use Rattle.desk_sql.proofs.Quieting.{quiet_start}
 use Rattle.desk_sql.proofs.Selecting.{ok_then}
-use Rattle.sql_model.proofs.Staying.{stays_up}
 use Rattle.sql_views.proofs.BriefLists.{above_told, good_told, lists_above, unfinished_after}
-use Rattle.sql_reads.proofs.HandedTold.{there_at, left_by}
+use Rattle.sql_reads.proofs.HandedTold.{there_at}
 use Rattle.sql_reads.proofs.ReadReasons.{rows_tell}
-use Rattle.sql_reads.proofs.Starting.{not_started, ok_all}
+use Rattle.sql_reads.proofs.Starting.{not_started}
 use Rattle.sql_views.proofs.brief_lists.start_above.Goals as goal
 
 pub returns : goal.returns
@@ -15,8 +15,7 @@ returns g c =
     let old = c.args.conn.now in
     let after = c.args.after in
     let made = c.hand_unfinished.ensures in
-    let result = c.hand_unfinished.result in
-    let all = ok_all _ _ _ _ result made.begun made.same made.mode made.survives in (
+    let result = c.hand_unfinished.result in (
       (refl, c.hand_unfinished.follows.holds, not_started store old c.hand_unfinished.follows.lender-at-none result c.hand_unfinished.follows.holds-at-none),
       record {
         fault = tt;
@@ -25,7 +24,7 @@ returns g c =
             let t = there_at store old it.conn.now s keeps told.same told.survives clean in
             let rise = t.rows.journey.rise in
             let rows = unfinished_after after t.tables in
-            (rows, told.begun clean v t.tables t.may rows (lists_above after t.tables rise), above_told s.ledger after t.tables briefs t.stands.journey rise is)) all;
+            (rows, told.begun clean v t.tables t.may rows (lists_above after t.tables rise), above_told s.ledger after t.tables briefs t.stands.journey rise is)) made.started;
         good = ok_then _ _ result (λ it told v clean s desk spelled keeps.
             let t = there_at store old it.conn.now s keeps told.same told.survives clean in
             let rise = t.rows.journey.rise in
@@ -34,8 +33,7 @@ returns g c =
               _,
               (rows, told.begun clean v t.tables t.may rows (lists_above after t.tables rise), shown),
               good_told rows _ shown (rows_tell t.tables s t.stands spelled after),
-            )) all;
-        kept = ok_then _ _ result (λ it told. left_by store old it.conn.now (λ k. inl (told.same k)) told.survives told.mode) all;
-        up = ok_then _ _ result (λ it survives. stays_up store old it.conn.now survives) made.survives;
+            )) made.started;
+        quiet = ok_then _ _ result (λ it told. quiet_start store old it.conn.now _ _ told) made.started;
       },
     )

@@ -7,7 +7,8 @@ use Rattle.desk_sql.specs.FoundRows.{journey_of}
 use Rattle.desk_sql.specs.RemainingRows.{Hands}
 use Rattle.sql_lists.specs.JourneyLists.{JourneysRest}
 use Rattle.sql_model.proofs.Staying.{of_error}
-use Rattle.sql_views.proofs.BriefLists.{Looks, each_tells, last_taken, look_fails, look_kept, one_more}
+use Rattle.sql_reads.specs.RemainingRows.{StaysUnder}
+use Rattle.sql_views.proofs.BriefLists.{each_tells, last_taken, look_fails, look_kept, one_more}
 use Rattle.sql_views.proofs.brief_lists.take_briefs.Goals as goal
 
 -- one more was taken
@@ -16,8 +17,7 @@ loop-round-preserved g c =
     let at = c.loop-round in
     let made = c.next_journey.ensures in
     let new = c.next_journey.new.rows.conn in
-    let look : Looks g.S.Store at.rows.conn new =
-    record { same_reference = made.same_reference; same = made.same; mode = made.mode; survives = made.survives } in
+    let look : StaysUnder g.S.Store at.rows.conn new = record { same_reference = made.same_reference; quiet = made.quiet } in
     one_more g.S.Store c.args.rows.now.conn at.rows.conn new at.briefs.items at.invariant look c.in-Ok-Some.found c.in-Some.brief _
     (λ clean.
     subst (λ o. Hands (JourneysRest g.S.Store at.rows.conn.now) (JourneysRest g.S.Store new.now) (option_map journey_of o)) c.in-Ok-Some.field-0-is
@@ -30,8 +30,7 @@ returns-in-Ok-None-clause-briefs g c clean all rests =
     let at = c.loop-round in
     let made = c.next_journey.ensures in
     let new = c.next_journey.new.rows.conn in
-    let look : Looks g.S.Store at.rows.conn new =
-    record { same_reference = made.same_reference; same = made.same; mode = made.mode; survives = made.survives } in
+    let look : StaysUnder g.S.Store at.rows.conn new = record { same_reference = made.same_reference; quiet = made.quiet } in
     last_taken g.S.Store c.args.rows.now.conn at.rows.conn new at.briefs.items at.invariant look clean
     (subst (λ o. Hands (JourneysRest g.S.Store at.rows.conn.now) (JourneysRest g.S.Store new.now) (option_map journey_of o)) c.in-Ok-None.field-0-is
     (c.in-Ok-None.ensures.next clean)) all rests
@@ -42,8 +41,7 @@ returns-then-is_err-clause-kept g c =
     let at = c.loop-round in
     let made = c.next_journey.ensures in
     let new = c.next_journey.new.rows.conn in
-    let look : Looks g.S.Store at.rows.conn new =
-    record { same_reference = made.same_reference; same = made.same; mode = made.mode; survives = made.survives } in
+    let look : StaysUnder g.S.Store at.rows.conn new = record { same_reference = made.same_reference; quiet = made.quiet } in
     look_kept g.S.Store c.args.rows.now.conn at.rows.conn new at.briefs.items at.invariant look
 
 -- each row tells a journey in short
@@ -52,8 +50,7 @@ returns-in_default-clause-store g c clean good up store =
     let at = c.loop-round in
     let made = c.next_journey.ensures in
     let new = c.next_journey.new.rows.conn in
-    let look : Looks g.S.Store at.rows.conn new =
-    record { same_reference = made.same_reference; same = made.same; mode = made.mode; survives = made.survives } in
+    let look : StaysUnder g.S.Store at.rows.conn new = record { same_reference = made.same_reference; quiet = made.quiet } in
     let all = each_tells g.S.Store c.args.rows.now.conn at.rows.conn new at.briefs.items at.invariant look clean c.in-Ok-Some.found
     (subst (λ o. Hands (JourneysRest g.S.Store at.rows.conn.now) (JourneysRest g.S.Store new.now) (option_map journey_of o)) c.in-Ok-Some.field-0-is
     (c.in-Ok-Some.ensures.next clean)) good in
@@ -66,8 +63,7 @@ returns-in-Err-clause-store g c clean good up store =
     let at = c.loop-round in
     let made = c.next_journey.ensures in
     let new = c.next_journey.new.rows.conn in
-    let look : Looks g.S.Store at.rows.conn new =
-    record { same_reference = made.same_reference; same = made.same; mode = made.mode; survives = made.survives } in
+    let look : StaysUnder g.S.Store at.rows.conn new = record { same_reference = made.same_reference; quiet = made.quiet } in
     let is : c.fault_of.result ≡ Store = cc in
     look_fails g.S.Store c.args.rows.now.conn at.rows.conn new at.briefs.items at.invariant look clean
     (λ later rests texts still.
