@@ -1,7 +1,6 @@
--- Two consecutive writes. For the functions that write an event.
-use Rattle.std.proofs.Common.{IsTrue, ◌∙◌, inl, inr}
+-- Two consecutive writes, state by state. For `Doing`.
+use Rattle.std.proofs.Common.{◌∙◌, inl, inr}
 use Rattle.std.specs.Prelude.{Result, Ok, Err, OnOk, IfErr}
-use Rattle.sqlite.proofs.StateLemmas.{survives_then}
 use Rattle.sqlite.specs.State.{State, KeepsCommit, Survives}
 use Rattle.sqlite.specs.declared.error.Error.{Error}
 use Rattle.desk_sql.specs.Calls.{MayRun, Makes}
@@ -58,7 +57,3 @@ pub reason_last : {V : Type 0} (a b c : State) (r : Result V Error) → Survives
     → IfErr r (HasReason b c) → IfErr r (HasReason a c)
 reason_last a b c (Ok v) survives reason = tt
 reason_last a b c (Err e) survives reason = reason_later a b c e survives reason
-
--- of two calls that commit nothing a crash leaves no more than before
-pub less_then : (a b c : State) → Survives a b (λ _. ⊥) → Survives b c (λ _. ⊥) → Survives a c (λ _. ⊥)
-less_then a b c one two = survives_then a b c (λ _. ⊥) (λ _. ⊥) (λ _. ⊥) (λ _ db none. none) (λ _ db none. none) one two

@@ -1,8 +1,9 @@
 -- Why an event is not committed, and what is left of the rowids. For the functions of `committing`.
-use Rattle.std.proofs.Common.{◌≡◌, ◌⊎◌, ◌+◌, inl, inr, ℕ, true, false, IsTrue, refl, sym, subst, ◌∙◌, arith}
+use Rattle.std.proofs.Common.{◌≡◌, ◌⊎◌, ◌+◌, inl, inr, ℕ, Option, true, false, IsTrue, refl, sym, subst, ◌∙◌, arith}
 use Rattle.sqlite.specs.Store.{Ghosts}
 use Rattle.sqlite.specs.Effect.{Database}
-use Rattle.sqlite.specs.State.{State as Connected, HasCleanDisk, IsRolledBack, KeepsCommit, Survives}
+use Rattle.sqlite.specs.Tree.{Trees}
+use Rattle.sqlite.specs.State.{State as Connected, HasCleanDisk, IsRolledBack, Survives}
 use Rattle.sqlite.specs.Steps.{FailsToCommit}
 use Rattle.sqlite.specs.Held.{Held, state}
 use Rattle.sqlite.specs.declared.error.Error.{Error}
@@ -10,18 +11,20 @@ use Rattle.desk_sql.specs.Calls.{MayRun}
 use Rattle.desk_sql.specs.Causes.{IsUp, HasFaulted}
 use Rattle.desk_sql.specs.Rows.{Tables}
 use Rattle.desk_sql.specs.Writable.{HasRowids}
+use Rattle.desk_sql.proofs.Quieting.{survives_twice}
 use Rattle.desk_sql.proofs.Rowids.{rowids_fewer}
 use Rattle.ledger.specs.Answer.{State}
-use Rattle.sql_model.specs.Keeping.{Keeps, SeesDesk}
+use Rattle.sql_model.specs.Keeping.{Keeps, MayLeave, SeesDesk}
 use Rattle.sql_model.specs.Standing.{StandsFor}
-use Rattle.sql_model.proofs.Staying.{commit_why, faulted_later}
-use Rattle.sql_writes.specs.Commits.{RanOut}
-use Rattle.sql_writes.proofs.CommitLemmas.{Wrote}
-
--- a transaction that began here took so many rowids
-pub record Took {S : Type 0} (g : Ghosts S) (start late : Held S) (taken : ℕ) (Fits : Tables → Type 0) : Type 0 where
-  pub left : HasCleanDisk (state g late) → (t : Tables) → MayRun (state g start) t → IsTrue (state g start).is_open
-      → Fits t → (n : ℕ) → HasRowids (taken + n) (state g start).now.trees → HasRowids n (state g late).now.trees
+use Rattle.sql_model.proofs.KeepLemmas.{left_before}
+use Rattle.sql_model.proofs.Staying.{commit_why, faulted_later, stays_begun, stays_committing, stays_twice, stays_up}
+use Rattle.sql_writes.specs.declared.events.Numbers.{Numbers}
+use Rattle.sql_writes.specs.declared.events.Keeping.{Keeping}
+use Rattle.sql_writes.specs.declared.events.Event.{Event}
+use Rattle.sql_writes.specs.Commits.{RanOut, LeavesEvent, LeavesRowids}
+use Rattle.sql_writes.specs.Kinds.{Fits, LeadsTo, event_rows}
+use Rattle.sql_writes.specs.Permits.{event_rowids}
+use Rattle.sql_writes.proofs.CommitLemmas.{Left, Wrote, either_left}
 
 -- a commit that failed in a transaction was rolled back
 back_of : (late end : Connected) (e : Error) → IsTrue late.in_transaction → FailsToCommit late end e → IsRolledBack late end
@@ -29,58 +32,91 @@ back_of late end e inside (inl (cause, is, why, back, told)) = back
 back_of late end e inside (inr (is, out, same)) = absurd (let no : true ≡ false = sym inside ∙ out in cc)
 
 -- A connection keeps a state, and a transaction begins.
-module _ {S : Type 0} (g : Ghosts S) (old late end : Held S) (s : State) (keeps : Keeps (state g old) s) where
-  start : Held S
-  start = record old { in_transaction = true }
-
+module _ {S : Type 0} (g : Ghosts S) (old late end : Held S) where
   -- the rows that it sees
-  run_of : (saw : SeesDesk (state g old) s) → MayRun (state g (record old { in_transaction = true })) saw.tables
-  run_of saw = record { inside = refl; sees = λ _. record { schema = saw.schema; rows = saw.shown; sound = saw.sound } }
+  run_of : (s : State) → (saw : SeesDesk (state g old) s) → MayRun (state g (record old { in_transaction = true })) saw.tables
+  run_of s saw = record { inside = refl; sees = λ _. record { schema = saw.schema; rows = saw.shown; sound = saw.sound } }
 
-  module _ (less : Survives (state g (record old { in_transaction = true })) (state g late) (λ _. ⊥)) where
-    saw_of : HasCleanDisk (state g late) → IsTrue (state g old).is_open → SeesDesk (state g old) s
-    saw_of clean live = (keeps (omega (arith, less.clean))).sees live
+  saw_of : Left g (record old { in_transaction = true }) late → (s : State) → Keeps (state g old) s
+      → HasCleanDisk (state g late) → IsTrue (state g old).is_open → SeesDesk (state g old) s
+  saw_of left s keeps clean live = (keeps (omega (arith, left.less.clean))).sees live
 
-    -- an event that was not committed is `Store` only where the disk failed or refused, or where the commit ran out of memory
-    pub commit_store : (Fits : Tables → Type 0) (after : Tables → Tables) → Wrote g (record old { in_transaction = true }) late Fits after
-        → HasCleanDisk (state g late) → ((t : Tables) → StandsFor t s → Fits t) → IsUp (state g old) → (e : Error)
-        → FailsToCommit (state g late) (state g end) e → HasFaulted (state g old) (state g end) ⊎ RanOut g old end s after
-    commit_store Fits after wrote at_late fits up e failed =
-        let saw = saw_of at_late up.is_open in
-        let made = wrote.made at_late saw.tables (run_of saw) (fits saw.tables saw.stands) in
-        let begun = state g (record old { in_transaction = true }) in
-        elim (commit_why (state g late) (state g end) e made.is_open made.inside failed) [
-          | inl faulted ↦ inl (faulted_later begun (state g late) (state g end) less.counts faulted)
-          | inr is ↦ inr (record {
-            tables = saw.tables;
-            stands = saw.stands;
-            late = late;
-            wrote = made;
-            failed = subst (λ x. FailsToCommit (state g late) (state g end) x) is failed;
-          })
-        ]
+  -- an event that was not committed is `Store` only where the disk failed or refused, or where the commit ran out of memory
+  pub commit_store : (Fits : Tables → Type 0) (taken : ℕ) (after : Tables → Tables) → Wrote g (record old { in_transaction = true }) late Fits taken after
+      → (s : State) → Keeps (state g old) s → HasCleanDisk (state g late) → ((t : Tables) → StandsFor t s → Fits t) → IsUp (state g old) → (e : Error)
+      → FailsToCommit (state g late) (state g end) e → HasFaulted (state g old) (state g end) ⊎ RanOut g old end s after
+  commit_store Fits taken after wrote s keeps at_late fits up e failed =
+      let saw = saw_of wrote.left s keeps at_late up.is_open in
+      let made = wrote.made at_late saw.tables (run_of s saw) (fits saw.tables saw.stands) in
+      let begun = state g (record old { in_transaction = true }) in
+      elim (commit_why (state g late) (state g end) e made.is_open made.inside failed) [
+        | inl faulted ↦ inl (faulted_later begun (state g late) (state g end) wrote.left.less.counts faulted)
+        | inr is ↦ inr (record {
+          tables = saw.tables;
+          stands = saw.stands;
+          late = late;
+          wrote = made;
+          failed = subst (λ x. FailsToCommit (state g late) (state g end) x) is failed;
+        })
+      ]
 
-    -- an event that was committed took its rowids
-    pub commit_rowids : (taken : ℕ) (Fits : Tables → Type 0) → Took g (record old { in_transaction = true }) late taken Fits → HasCleanDisk (state g late)
-        → IsTrue (state g old).is_open → ((t : Tables) → StandsFor t s → Fits t) → (m : ℕ) → HasRowids (taken + m) (state g old).now.trees
-        → (state g end).now ≡ (state g late).now → HasRowids m (state g end).now.trees
-    commit_rowids taken Fits took at_late live fits m has now_is =
-        let saw = saw_of at_late live in
-        subst (λ (d : Database). HasRowids m d.trees) (sym now_is) (took.left at_late saw.tables (run_of saw) live (fits saw.tables saw.stands) m has)
+  -- an event that was committed took its rowids
+  commit_rowids : (n : Numbers) (e : Event) (k : Option Keeping)
+      → Wrote g (record old { in_transaction = true }) late (Fits n e) (event_rowids n e k) (event_rows n e k)
+      → (HasCleanDisk (state g end) → HasCleanDisk (state g late)) → (HasCleanDisk (state g end) → (state g end).now ≡ (state g late).now)
+      → LeavesRowids g old end n e k
+  commit_rowids n e k wrote less now_is clean s keeps fits m has live =
+      let saw = saw_of wrote.left s keeps (less clean) (wrote.live (less clean) refl) in
+      subst (λ (d : Database). HasRowids m d.trees) (sym (now_is clean))
+      (wrote.rowids (less clean) saw.tables (run_of s saw) (wrote.live (less clean) refl) (fits saw.tables saw.stands) m has)
 
-    -- one that was rolled back took none
-    pub back_rowids : (taken : ℕ) → HasCleanDisk (state g late) → KeepsCommit (state g (record old { in_transaction = true })) (state g late)
-        → IsRolledBack (state g late) (state g end) → (m : ℕ) → HasRowids (taken + m) (state g old).now.trees
-        → IsTrue (state g end).is_open → HasRowids m (state g end).now.trees
-    back_rowids taken at_late kept back m has live =
-        let late_live = back.was_open live in
-        let saw = saw_of at_late (kept.was_open late_live) in
-        let now_is : (state g end).now ≡ (state g old).now = (back.undone live).0 ∙ kept.committed late_live ∙ sym saw.committed in
-        subst (λ (d : Database). HasRowids m d.trees) (sym now_is) (rowids_fewer m (taken + m) (state g old).now.trees (omega arith) has)
+  -- one that was rolled back took none
+  back_rowids : (n : Numbers) (e : Event) (k : Option Keeping) → Left g (record old { in_transaction = true }) late
+      → (HasCleanDisk (state g end) → HasCleanDisk (state g late)) → (HasCleanDisk (state g end) → IsRolledBack (state g late) (state g end))
+      → LeavesRowids g old end n e k
+  back_rowids n e k left less undone clean s keeps fits m has live =
+      let back = undone clean in
+      let kept = left.commit (less clean) refl in
+      let late_live = back.was_open live in
+      let saw = saw_of left s keeps (less clean) (kept.was_open late_live) in
+      let now_is : (state g end).now ≡ (state g old).now = (back.undone live).0 ∙ kept.committed late_live ∙ sym saw.committed in
+      subst (λ (d : Database). HasRowids m d.trees) (sym now_is) (rowids_fewer m (event_rowids n e k + m) (state g old).now.trees (omega arith) has)
 
-    -- the same of a commit that failed
-    pub failed_rowids : (taken : ℕ) (e : Error) → HasCleanDisk (state g late) → KeepsCommit (state g (record old { in_transaction = true })) (state g late)
-        → IsTrue (state g late).in_transaction → FailsToCommit (state g late) (state g end) e → (m : ℕ)
-        → HasRowids (taken + m) (state g old).now.trees → IsTrue (state g end).is_open → HasRowids m (state g end).now.trees
-    failed_rowids taken e at_late kept inside failed m has live =
-        back_rowids taken at_late kept (back_of (state g late) (state g end) e inside failed) m has live
+  -- What is left after an event.
+  module _ (outside : end.in_transaction ≡ false) (n : Numbers) (e : Event) (k : Option Keeping) where
+    leaves_of : Left g (record old { in_transaction = true }) late → (Commits : Trees → Type 0) → Survives (state g late) (state g end) Commits
+        → LeavesRowids g old end n e k
+        → ((s next : State) → LeadsTo n e k s next → Keeps (state g old) s → MayLeave (state g end) s next) → LeavesEvent g old end n e k
+    leaves_of left Commits survives rowids either = record {
+      outside = outside;
+      either = either;
+      rowids = rowids;
+      up = stays_begun g old end (stays_twice g (record old { in_transaction = true }) late end (stays_up g (record old { in_transaction = true }) late left.less)
+          (stays_committing g late end Commits survives) (λ clean. omega (arith, survives.clean, clean)));
+      less = λ clean. omega (arith, left.less.clean, survives.clean, clean);
+    }
+
+    module _ (wrote : Wrote g (record old { in_transaction = true }) late (Fits n e) (event_rowids n e k) (event_rows n e k))
+        (survives : Survives (state g late) (state g end) (λ db. db ≡ (state g late).now.trees)) where
+      by_commit : LeavesRowids g old end n e k → LeavesEvent g old end n e k
+      by_commit rowids = leaves_of wrote.left (λ db. db ≡ (state g late).now.trees) survives rowids
+          (λ s next leads keeps clean db left. either_left g old late (Fits n e) (event_rowids n e k) (event_rows n e k) s next wrote leads.fits leads.stands keeps
+          (omega (arith, survives.clean, clean)) db (survives.crash clean db left))
+
+      -- it was committed
+      pub leaves_committed : (HasCleanDisk (state g end) → (state g end).now ≡ (state g late).now) → LeavesEvent g old end n e k
+      leaves_committed now_is = by_commit (commit_rowids n e k wrote (λ clean. omega (arith, survives.clean, clean)) now_is)
+
+      -- its commit failed
+      pub leaves_uncommitted : (error : Error) → (HasCleanDisk (state g end) → FailsToCommit (state g late) (state g end) error) → LeavesEvent g old end n e k
+      leaves_uncommitted error failed = by_commit (back_rowids n e k wrote.left (λ clean. omega (arith, survives.clean, clean))
+          (λ clean. back_of (state g late) (state g end) error (wrote.inside (omega (arith, survives.clean, clean)) refl) (failed clean)))
+
+    -- a write failed, and the transaction was rolled back
+    pub leaves_undone : Left g (record old { in_transaction = true }) late → Survives (state g late) (state g end) (λ _. ⊥)
+        → (HasCleanDisk (state g end) → IsRolledBack (state g late) (state g end)) → LeavesEvent g old end n e k
+    leaves_undone left survives undone = leaves_of left (λ _. ⊥) survives
+        (back_rowids n e k left (λ clean. omega (arith, survives.clean, clean)) undone)
+        (λ s next leads keeps clean db may. inl ((keeps (omega (arith, left.less.clean, survives.clean, clean))).leaves db
+        (left_before (state g (record old { in_transaction = true })) (state g end)
+        (survives_twice (state g (record old { in_transaction = true })) (state g late) (state g end) left.less survives) clean db may)))

@@ -1,5 +1,6 @@
 pub mod BeginLemmas
 pub mod Chaining
+pub mod Doing
 pub mod Permitting
 pub mod EventLemmas
 pub mod OptionLemmas

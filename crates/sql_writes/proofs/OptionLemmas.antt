@@ -1,7 +1,6 @@
 -- The options of a new plan: each row is one more, of a step or an option that has none yet. For the functions of `begins`.
-use Rattle.std.proofs.Common.{◌≡◌, ◌≤◌, ◌<◌, ◌+◌, ◌==◌, ◌&&◌, ℕ, zero, suc, List, [], ◌∷◌, ◌++◌, map, length, take, Bool, true, false, inl, inr, refl, sym, ap, subst, ◌∙◌, arith, length-append}
-use Rattle.std.specs.Prelude.{Option, Some, None, option_map, unwrap_or, flat_map, slice_get, ◌⊎◌}
-use Rattle.std.specs.List.{AllByRecursion}
+use Rattle.std.proofs.Common.{◌≡◌, ◌≤◌, ◌<◌, ◌+◌, ◌==◌, ◌&&◌, ℕ, zero, suc, List, [], ◌∷◌, ◌++◌, map, length, take, Bool, true, false, inl, inr, refl, ap, ◌∙◌, arith, length-append}
+use Rattle.std.specs.Prelude.{Option, Some, None, option_map, unwrap_or, flat_map}
 use Rattle.std.proofs.lemmas.Bool.{ne_eqb}
 use Rattle.std.proofs.lemmas.List.{length-take}
 use Rattle.sqlite_rules.specs.Lists.{Has}
@@ -11,10 +10,10 @@ use Rattle.allotment.specs.Want.{Wanted}
 use Rattle.plan.specs.PlanModel.{Planned, StepPlan, numbered, option_count, step_count, want_at}
 use Rattle.desk_sql.specs.Rows.{Tables, StepRow}
 use Rattle.desk_sql.specs.Changes.{is_option}
-use Rattle.sql_model.specs.ExpectedRows.{counted_from, option_row, option_rows, step_rows, step_rows_of, none_taken}
+use Rattle.sql_model.specs.ExpectedRows.{counted_from, option_row, option_rows, step_rows_of, none_taken}
 use Rattle.sql_model.specs.Beginning.{adds_steps, first_options, first_steps, first_rows_of_step, rows_of_step, rows_of_option}
 use Rattle.sql_model.proofs.PlanParts.{first_rows_of_step-more, step_rows_of-more}
-use Rattle.sql_writes.specs.Permits.{HasNoOptions, MayAddOption, MayAddOptions, MayAddSteps}
+use Rattle.sql_writes.specs.Permits.{MayAddOption, MayAddOptions, MayAddSteps}
 
 -- Their number.
 

@@ -1,10 +1,14 @@
 -- What an event asks of the rows is what each of its writes asks of the rows before that write. For the functions that write.
-use Rattle.std.proofs.Common.{◌≡◌, ◌<◌, ◌≤◌, ◌+◌, ◌==◌, ◌&&◌, ◌^◌, ℕ, zero, suc, List, [], ◌∷◌, ◌++◌, map, length, Bool, true, false, if◌then◌else◌, inl, inr, nat_le, leb-true, IsTrue, refl, sym, ap, subst, ◌∙◌, arith}
+use Rattle.std.proofs.Common.{◌≡◌, ◌<◌, ◌≤◌, ◌+◌, ◌^◌, ℕ, List, [], ◌∷◌, ◌++◌, length, Bool, true, false, if◌then◌else◌, inl, nat_le, leb-true, IsTrue, refl, ◌∙◌, arith}
 use Rattle.std.specs.List.{AllByRecursion, list_all, list_any}
-use Rattle.sqlite_rules.specs.Lists.{Has}
-use Rattle.sqlite_rules.proofs.ListLemmas.{all_has, all_from, has_right, has_left, has_either}
-use Rattle.sqlite_rules.proofs.ProbeLemmas.{has_mapped, mapped_has}
+use Rattle.sqlite_rules.proofs.ListLemmas.{has_right}
+use Rattle.sqlite_rules.proofs.ProbeLemmas.{mapped_has}
+use Rattle.allotment.specs.Cells.{kind_number}
 use Rattle.allotment.specs.Limits.{is_between, is_code}
+use Rattle.allotment.specs.declared.cells.Cell.{Cell}
+use Rattle.allotment.specs.declared.codes.Kind.{Kind}
+use Rattle.allotment.specs.declared.codes.Kind.TheVariants.{Flight, Room, Transfer, Cover}
+use Rattle.allotment.specs.declared.places.Held.{Held}
 use Rattle.allotment.specs.Want.{Wanted}
 use Rattle.allotment.proofs.CodeLemmas.{is_code_byte}
 use Rattle.allotment.proofs.TestLemmas.{and_both}
@@ -16,17 +20,20 @@ use Rattle.commands.specs.declared.items.Cursor.{Cursor}
 use Rattle.desk_sql.specs.Lists.{changed}
 use Rattle.desk_sql.specs.Rows.{Tables, JourneyRow, StepRow, StockRow}
 use Rattle.desk_sql.specs.FoundRows.{is_numbered}
-use Rattle.desk_sql.specs.Stock.{is_within, is_cell, put, puts_cell, with_places, HaveRoom}
+use Rattle.desk_sql.specs.Stock.{is_within, is_cell, put, with_places}
 use Rattle.desk_sql.specs.Changes.{adds_journey, is_option, moves_journey, with_cursor}
-use Rattle.desk_sql.specs.Writable.{HasJourney, IsShort, MayAddItem, MayMove, MayMarkStep, MayTakeNights, MayGiveNights}
+use Rattle.desk_sql.specs.Writable.{HasJourney, IsShort, MayAddItem, MayMove, MayMarkStep, MayPut, MayTakeNights, MayGiveNights}
 use Rattle.desk_sql.specs.declared.journeys.Cursor.{Cursor as CursorRow}
 use Rattle.desk_sql.specs.declared.stock.NightRange.{NightRange}
 use Rattle.sql_model.specs.ExpectedRows.{phase_number}
-use Rattle.sql_model.specs.Reading.{IsRangeOf}
+use Rattle.sql_loads.specs.Loads.{LacksCell, MayAddCell}
+use Rattle.sql_loads.specs.Weeks.{MayAddWeek}
+use Rattle.sql_model.specs.Reading.{IsRangeOf, stock_row_of}
 use Rattle.sql_transitions.specs.Moving.{cursor_written, item_written}
 use Rattle.sql_writes.specs.declared.events.Numbers.{Numbers}
 use Rattle.sql_writes.specs.Writing.{HaveRoomFor}
-use Rattle.sql_writes.specs.Permits.{HaveHeldFor, HaveShortAgents, HaveShortCells, HaveShortOptions, MayAdd, MayMoveOn, MayTakeWant, MayGiveWant}
+use Rattle.sql_writes.specs.Runs.{HasShortTexts, LacksWeek}
+use Rattle.sql_writes.specs.Permits.{HaveHeldFor, HaveShortCells, HaveShortOptions, MayAdd, MayMoveOn, MayTakeWant, MayGiveWant}
 
 -- what each element is, each of some elements is
 all_some : {X : Type 0} (P : X → Type 0) (p : X → Bool) (xs : List X) → AllByRecursion P xs → AllByRecursion (λ x. p x ≡ true → P x) xs
@@ -147,6 +154,22 @@ short_put s rows own short = by_cases (list_any (is_cell s) rows)
         last : (xs : List StockRow) → AllByRecursion P xs → AllByRecursion P (xs ++ s ∷ [])
         last [] all = (own, tt)
         last (x ∷ xs) all = (all.0, last xs all.1)
+
+-- the places of a cell may be written, and its row or those of its week may be added
+cell_kind_low : (kind : Kind) → kind_number kind ≤ 3
+cell_kind_low Flight = omega arith
+cell_kind_low Room = omega arith
+cell_kind_low Transfer = omega arith
+cell_kind_low Cover = omega arith
+
+pub may_put : (c : Cell × Held) (t : Tables) → HasShortTexts c → HaveShortCells t → MayPut (stock_row_of c) t
+may_put c t short others = record { kind = cell_kind_low c.0.kind; free = c.1.within; short = short; others = others }
+
+pub may_add_cell : (c : Cell × Held) (t : Tables) → HasShortTexts c → LacksCell (stock_row_of c) t → MayAddCell (stock_row_of c) t
+may_add_cell c t short lacks = record { lacks = lacks; kind = cell_kind_low c.0.kind; free = c.1.within; short = short }
+
+pub may_add_week : (c : Cell × Held) (t : Tables) → HasShortTexts c → LacksWeek (stock_row_of c) t → MayAddWeek (stock_row_of c) t
+may_add_week c t short lacks = record { lacks = lacks; kind = cell_kind_low c.0.kind; free = c.1.within; short = short }
 
 -- Names.
 

@@ -25,10 +25,6 @@ pub put_each_rows : (cells : List (Cell × Held)) (rows : List StockRow) → put
 put_each_rows [] rows = refl
 put_each_rows (c ∷ cells) rows = put_each_rows cells (put (stock_row_of c) rows)
 
-pub put_each-append : (xs ys : List (Cell × Held)) (rows : List StockRow) → put_each (xs ++ ys) rows ≡ put_each ys (put_each xs rows)
-put_each-append [] ys rows = refl
-put_each-append (x ∷ xs) ys rows = put_each-append xs ys (put (stock_row_of x) rows)
-
 pub map-append : (xs ys : List (Cell × Held)) → map stock_row_of (xs ++ ys) ≡ map stock_row_of xs ++ map stock_row_of ys
 map-append [] ys = refl
 map-append (x ∷ xs) ys = ap (λ rows. stock_row_of x ∷ rows) (map-append xs ys)
@@ -104,15 +100,16 @@ short_run (c ∷ cells) first is run short =
 
 -- A run whose cells were given the places in the rows that there are.
 module _ (run : List (Cell × Held)) (first last : Cell × Held) (is_first : slice_get run 0 ≡ Some first)
-    (is_last : slice_get run (length run - 1) ≡ Some last) (is_run : IsRun run) (t : Tables) (apart : MayLoad t) where
+    (is_last : slice_get run (length run - 1) ≡ Some last) (is_run : IsRun run) (night : ℕ) (is_night : night ≡ last.0.night)
+    (t : Tables) (apart : MayLoad t) where
   abbrev pub given : Tables
-  given = sets_until (stock_row_of first) last.0.night t
+  given = sets_until (stock_row_of first) night t
 
   record Shape : Type 0 where
     pub n : ℕ
     pub size : length run ≡ suc n
     pub rows : map stock_row_of run ≡ nights_from (stock_row_of first) (suc n)
-    pub night : last.0.night ≡ (stock_row_of first).night + n
+    pub at : night ≡ (stock_row_of first).night + n
 
   shape : Shape
   shape = go run refl
@@ -128,50 +125,50 @@ module _ (run : List (Cell × Held)) (first last : Cell × Held) (is_first : sli
           let before : length (c ∷ cells) - 1 ≡ length cells = omega arith in
           let end : slice_get (c ∷ cells) (length cells) ≡ Some last =
           subst (λ n. slice_get (c ∷ cells) n ≡ Some last) before (subst (λ xs. slice_get xs (length xs - 1) ≡ Some last) is is_last) in
-          let night : last.0.night ≡ (stock_row_of c).night + length cells = last_night cells (stock_row_of c) last rest c refl end in
+          let far : last.0.night ≡ (stock_row_of c).night + length cells = last_night cells (stock_row_of c) last rest c refl end in
           record {
             n = length cells;
             size = ap length is;
             rows = ap (map stock_row_of) is ∙ all ∙ ap (λ (x : Cell × Held). nights_from (stock_row_of x) (suc (length cells))) same;
-            night = night ∙ ap (λ (x : Cell × Held). (stock_row_of x).night + length cells) same;
+            at = is_night ∙ far ∙ ap (λ (x : Cell × Held). (stock_row_of x).night + length cells) same;
           }
 
   abbrev s : StockRow
   s = stock_row_of first
 
-  at_last : (P : ℕ → Type 0) → P (s.night + shape.n) → P last.0.night
-  at_last P it = subst P (sym shape.night) it
+  at_last : (P : ℕ → Type 0) → P (s.night + shape.n) → P night
+  at_last P it = subst P (sym shape.at) it
 
-  back_last : (P : ℕ → Type 0) → P last.0.night → P (s.night + shape.n)
-  back_last P it = subst P shape.night it
+  back_last : (P : ℕ → Type 0) → P night → P (s.night + shape.n)
+  back_last P it = subst P shape.at it
 
   each : (cells : List StockRow) → put_each run cells ≡ put_rows (nights_from s (suc shape.n)) cells
   each cells = put_each_rows run cells ∙ ap (λ rows. put_rows rows cells) shape.rows
 
   -- each cell has a row: all have their places
-  pub all_known : known_until s last.0.night t ≡ length run → given ≡ puts_each run t
+  pub all_known : known_until s night t ≡ length run → given ≡ puts_each run t
   all_known full =
-      at_last (λ night. sets_until s night t ≡ puts_each run t)
+      at_last (λ x. sets_until s x t ≡ puts_each run t)
       (ap (λ rows. record t { stock = rows })
-      (run_known s shape.n t.stock (cells_apart t apart) (back_last (λ night. known_until s night t ≡ length run) full ∙ shape.size)
+      (run_known s shape.n t.stock (cells_apart t apart) (back_last (λ x. known_until s x t ≡ length run) full ∙ shape.size)
       ∙ sym (each t.stock)))
 
   -- none has a row: each is new
-  pub none_known : known_until s last.0.night t ≡ 0 → AreNew (map stock_row_of run) given.stock
+  pub none_known : known_until s night t ≡ 0 → AreNew (map stock_row_of run) given.stock
   none_known none =
       subst (λ rows. AreNew rows given.stock) (sym shape.rows)
-      (at_last (λ night. AreNew (nights_from s (suc shape.n)) (sets_until s night t).stock)
-      (run_new s shape.n t.stock (cells_apart t apart) (back_last (λ night. known_until s night t ≡ 0) none)))
+      (at_last (λ x. AreNew (nights_from s (suc shape.n)) (sets_until s x t).stock)
+      (run_new s shape.n t.stock (cells_apart t apart) (back_last (λ x. known_until s x t ≡ 0) none)))
 
   -- cells that are put now have the places that they would have without
   pub put_given : puts_each run given ≡ puts_each run t
   put_given =
-      at_last (λ night. puts_each run (sets_until s night t) ≡ puts_each run t)
+      at_last (λ x. puts_each run (sets_until s x t) ≡ puts_each run t)
       (ap (λ rows. record t { stock = rows })
       (each (sets_until s (s.night + shape.n) t).stock ∙ run_some s shape.n t.stock (cells_apart t apart) ∙ sym (each t.stock)))
 
   -- and so have cells that are added
-  pub added_given : known_until s last.0.night t ≡ 0 → adds_each run given ≡ puts_each run t
+  pub added_given : known_until s night t ≡ 0 → adds_each run given ≡ puts_each run t
   added_given none =
       ap (λ rows. record t { stock = rows })
       (sym (put_new (map stock_row_of run) given.stock (none_known none)) ∙ sym (put_each_rows run given.stock))
@@ -179,7 +176,7 @@ module _ (run : List (Cell × Held)) (first last : Cell × Held) (is_first : sli
 
   -- the rows are apart, and their texts fit, as before
   pub apart_given : MayLoad given
-  apart_given = once-changed (is_until s last.0.night) (with_places s) (λ q r. refl) (λ q r. refl) t.stock apart
+  apart_given = once-changed (is_until s night) (with_places s) (λ q r. refl) (λ q r. refl) t.stock apart
 
   pub short_given : HaveShortCells t → HaveShortCells given
   short_given short = go t.stock short
@@ -191,6 +188,6 @@ module _ (run : List (Cell × Held)) (first last : Cell × Held) (is_first : sli
       one true x fits = fits
       one false x fits = fits
 
-      go : (cells : List StockRow) → AllByRecursion Short cells → AllByRecursion Short (changed (is_until s last.0.night) (with_places s) cells)
+      go : (cells : List StockRow) → AllByRecursion Short cells → AllByRecursion Short (changed (is_until s night) (with_places s) cells)
       go [] all = tt
-      go (x ∷ cells) all = (one (is_until s last.0.night x) x all.0, go cells all.1)
+      go (x ∷ cells) all = (one (is_until s night x) x all.0, go cells all.1)

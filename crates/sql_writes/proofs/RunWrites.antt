@@ -1,61 +1,22 @@
 -- Writes of cells, one after another and run by run. For the functions of `runs`.
-use Rattle.std.proofs.Common.{◌≡◌, ℕ, zero, suc, ◌+◌, ◌<◌, ◌≤◌, List, [], ◌∷◌, ◌++◌, map, length, take, get_or, IsTrue, true, false, refl, sym, ap, subst, ◌∙◌, arith, length-append, append_assoc, inl}
-use Rattle.std.specs.Prelude.{⊤}
+use Rattle.std.proofs.Common.{◌≡◌, ℕ, zero, suc, ◌+◌, ◌<◌, ◌≤◌, List, [], ◌∷◌, ◌++◌, map, length, take, get_or, Ok, true, false, refl, sym, ap, ◌∙◌, arith, length-append, append_assoc, append-nil}
+use Rattle.std.specs.Borrow.{MutBor}
 use Rattle.std.specs.List.{AllByRecursion, list_any}
-use Rattle.sqlite.proofs.StateLemmas.{survives_then}
 use Rattle.sqlite.specs.Store.{Ghosts}
-use Rattle.sqlite.specs.Held.{Held as Connection, state}
-use Rattle.sqlite.specs.State.{State, HasCleanDisk, KeepsCommit, Survives}
+use Rattle.sqlite.specs.Held.{Held as Connection}
 use Rattle.allotment.specs.Cells.{kind_number}
 use Rattle.allotment.specs.declared.cells.Cell.{Cell}
 use Rattle.allotment.specs.declared.places.Held.{Held}
-use Rattle.desk_sql.specs.Calls.{MayRun, Makes}
 use Rattle.desk_sql.specs.Rows.{Tables, StockRow}
-use Rattle.sql_loads.specs.Loads.{LacksCell, adds_cell, nights_in, sets_nights}
-use Rattle.desk_sql.specs.Stock.{is_cell, is_within, put}
-use Rattle.desk_sql.specs.Writable.{HasRowids, IsShort, AreShortNights}
+use Rattle.sql_loads.specs.Loads.{LacksCell, nights_in, sets_nights}
+use Rattle.desk_sql.specs.Stock.{is_cell, is_within}
+use Rattle.desk_sql.specs.Writable.{IsShort, AreShortNights}
 use Rattle.desk_sql.specs.declared.stock.NightRange.{NightRange}
 use Rattle.sql_model.specs.Reading.{stock_row_of}
-use Rattle.sql_writes.specs.Loads.{HasPut, MayLoad, puts_each}
+use Rattle.sql_writes.specs.Did.{DidIfOpen}
 use Rattle.sql_writes.specs.Permits.{HaveShortCells}
-use Rattle.sql_writes.specs.Runs.{HasShortTexts, HasPutTo, sets_until, known_until, AreNew, adds_each, HasAdded}
-use Rattle.sql_writes.proofs.Chaining.{makes_then, keeps_then, runs_after}
-use Rattle.sql_writes.proofs.LoadLemmas.{apart-each}
-use Rattle.sql_writes.proofs.RunLemmas.{adds-more, put_each-append}
-
--- Rows that are added.
-
-pub HasAdded-more : {S : Type 0} (g : Ghosts S) (old mid new : Connection S) (cells : List (Cell × Held)) (c : Cell × Held)
-    → HasAdded g old mid cells
-    → Survives (state g mid) (state g new) (λ _. ⊥)
-    → (HasCleanDisk (state g new) → IsTrue (state g mid).in_transaction → KeepsCommit (state g mid) (state g new))
-    → (HasCleanDisk (state g new) → IsTrue (state g mid).in_transaction → IsTrue (state g new).in_transaction)
-    → (HasCleanDisk (state g new) → (t : Tables) → MayRun (state g mid) t → ⊤
-    → Makes (state g mid) (state g new) (adds_cell (stock_row_of c) t))
-    → (HasCleanDisk (state g new) → (t : Tables) → MayRun (state g mid) t → IsTrue (state g mid).is_open → ⊤ → (n : ℕ)
-    → HasRowids (1 + n) (state g mid).now.trees → HasRowids n (state g new).now.trees)
-    → HasAdded g old new (cells ++ c ∷ [])
-HasAdded-more g old mid new cells c has survives commit inside made rowids =
-    let early : HasCleanDisk (state g new) → HasCleanDisk (state g mid) = λ clean. omega (arith, survives.clean) in
-    record {
-      survives =
-          survives_then (state g old) (state g mid) (state g new) (λ _. ⊥) (λ _. ⊥) (λ _. ⊥) (λ _ db none. none)
-          (λ _ db none. none) has.survives survives;
-      commit =
-          λ clean in_tx. keeps_then (state g old) (state g mid) (state g new) (has.commit (early clean) in_tx)
-          (commit clean (has.inside (early clean) in_tx));
-      inside = λ clean in_tx. inside clean (has.inside (early clean) in_tx);
-      made = λ clean t may live.
-          subst (λ (u : Tables). Makes (state g old) (state g new) u) (adds-more cells c t)
-          (makes_then (state g old) (state g mid) (state g new) t (adds_each cells) (adds_cell (stock_row_of c))
-          (has.made (early clean) t may live) (λ m. made clean (adds_each cells t) m tt));
-      rowids = λ clean t may live n enough. (
-          let first = has.made (early clean) t may live in
-          let size = length-append cells (c ∷ []) in
-          let sum : length (cells ++ c ∷ []) + n ≡ length cells + (1 + n) = omega (arith, size) in
-          rowids clean (adds_each cells t) (runs_after (state g old) (state g mid) (adds_each cells t) first) first.is_open tt n
-          (has.rowids (early clean) t may live (1 + n) (subst (λ k. HasRowids k (state g old).now.trees) sum enough)));
-    }
+use Rattle.sql_writes.specs.Runs.{HasShortTexts, HasWrittenUpTo, sets_until, known_until, AreNew, adds_each}
+use Rattle.sql_writes.proofs.Doing.{open_as, open_both, open_none}
 
 -- the next of cells that are new has no row yet
 pub next_new : (cells : List (Cell × Held)) (i : ℕ) (c : Cell × Held) (t : Tables) → i < length cells → c ≡ get_or cells i c
@@ -79,42 +40,6 @@ next_new cells i c t within is new = go cells i t.stock within is new
         regroup [] = refl
         regroup (r ∷ rs) = ap (λ more. r ∷ more) (regroup rs)
 
--- A run after others.
-
-pub HasPut-run : {S : Type 0} (g : Ghosts S) (old mid new : Connection S) (cells run : List (Cell × Held))
-    → HasPut g old mid cells
-    → Survives (state g mid) (state g new) (λ _. ⊥)
-    → (HasCleanDisk (state g new) → IsTrue (state g mid).in_transaction → KeepsCommit (state g mid) (state g new))
-    → (HasCleanDisk (state g new) → IsTrue (state g mid).in_transaction → IsTrue (state g new).in_transaction)
-    → (HasCleanDisk (state g new) → (t : Tables) → MayRun (state g mid) t → IsTrue (state g mid).is_open → MayLoad t
-    → Makes (state g mid) (state g new) (puts_each run t))
-    → (HasCleanDisk (state g new) → (t : Tables) → MayRun (state g mid) t → IsTrue (state g mid).is_open → MayLoad t → (n : ℕ)
-    → HasRowids (length run + n) (state g mid).now.trees → HasRowids n (state g new).now.trees)
-    → HasPut g old new (cells ++ run)
-HasPut-run g old mid new cells run has survives commit inside made rowids =
-    let early : HasCleanDisk (state g new) → HasCleanDisk (state g mid) = λ clean. omega (arith, survives.clean) in
-    record {
-      survives =
-          survives_then (state g old) (state g mid) (state g new) (λ _. ⊥) (λ _. ⊥) (λ _. ⊥) (λ _ db none. none)
-          (λ _ db none. none) has.survives survives;
-      commit =
-          λ clean in_tx. keeps_then (state g old) (state g mid) (state g new) (has.commit (early clean) in_tx)
-          (commit clean (has.inside (early clean) in_tx));
-      inside = λ clean in_tx. inside clean (has.inside (early clean) in_tx);
-      made = λ clean t may live apart.
-          let first = has.made (early clean) t may live apart in
-          subst (λ rows. Makes (state g old) (state g new) (record t { stock = rows })) (sym (put_each-append cells run t.stock))
-          (makes_then (state g old) (state g mid) (state g new) t (puts_each cells) (puts_each run) first
-          (λ m. made clean (puts_each cells t) m first.is_open (apart-each cells t.stock apart)));
-      rowids = λ clean t may live apart n enough. (
-          let first = has.made (early clean) t may live apart in
-          let size = length-append cells run in
-          let sum : length (cells ++ run) + n ≡ length cells + (length run + n) = omega (arith, size) in
-          rowids clean (puts_each cells t) (runs_after (state g old) (state g mid) (puts_each cells t) first) first.is_open
-          (apart-each cells t.stock apart) n
-          (has.rowids (early clean) t may live apart (length run + n) (subst (λ k. HasRowids k (state g old).now.trees) sum enough)));
-    }
-
 pub short-append : (xs ys : List (Cell × Held)) → AllByRecursion HasShortTexts xs → AllByRecursion HasShortTexts ys
     → AllByRecursion HasShortTexts (xs ++ ys)
 short-append [] ys one two = two
@@ -129,44 +54,33 @@ short_nights r t short = go t.stock short
     go [] all = tt
     go (s ∷ cells) all = (λ _. all.0, go cells all.1)
 
--- Before the first run.
+-- Cells that are left.
 
-pub survives_same : (a : State) → Survives a a (λ _. ⊥)
-survives_same a = record {
-  clean = omega arith;
-  shield = λ s. s;
-  counts = omega arith;
-  limit = refl;
-  closes = λ clean open_now. inl open_now;
-  crash = λ clean db may. inl may;
+-- none is written yet
+abbrev pub HasWrittenUpTo-none : {S : Type 0} {g : Ghosts S} {a : MutBor (Connection S)} {Fits : Tables → Type 0} {after : List (Cell × Held) → Tables → Tables}
+    (cells : List (Cell × Held)) → ((t : Tables) → t ≡ after [] t) → HasWrittenUpTo g a a Fits after cells cells
+HasWrittenUpTo-none cells same = record { done = []; is = refl; did = open_none (λ t _. same t) }
+
+-- some more are written
+abbrev pub HasWrittenUpTo-some : {S : Type 0} {g : Ghosts S} {a b c : MutBor (Connection S)} {V : Type 0} {v : V} {Fits G Q : Tables → Type 0}
+    {after : List (Cell × Held) → Tables → Tables} (cells left some later : List (Cell × Held)) → (has : HasWrittenUpTo g a b Fits after cells left)
+    → left ≡ some ++ later → DidIfOpen g b c (Ok v) G Q (length some) (after some)
+    → ((t : Tables) → Fits t → G (after has.done t) × (after some (after has.done t) ≡ after (has.done ++ some) t))
+    → HasWrittenUpTo g a c Fits after cells later
+HasWrittenUpTo-some cells left some later has cut did fits = record {
+  done = has.done ++ some;
+  is = has.is ∙ ap (λ rest. has.done ++ rest) cut ∙ sym (append_assoc has.done some later);
+  did = let size = length-append has.done some in open_both has.did did (λ t fit. (fit, fits t fit)) (omega (arith, size));
 }
 
-pub HasPutTo-none : {S : Type 0} (g : Ghosts S) (h : Connection S) (cells : List (Cell × Held)) → HasPutTo g h h cells cells
-HasPutTo-none g h cells = record {
-  done = [];
-  is = refl;
-  short = tt;
-  put = record {
-    survives = survives_same (state g h);
-    commit = λ clean in_tx. record { was_open = λ o. o; committed = λ o. refl };
-    inside = λ clean in_tx. in_tx;
-    made = λ clean t may live apart.
-        record { was_open = live; is_open = live; inside = may.inside; sees = may.sees live; committed = refl };
-    rowids = λ clean t may live apart n enough.
-        let sum : length {A = Cell × Held} [] + n ≡ n = omega arith in subst (λ k. HasRowids k (state g h).now.trees) sum enough;
-  };
-}
-
--- one more run
-pub HasPutTo-run : {S : Type 0} (g : Ghosts S) (old mid new : Connection S) (cells left run later : List (Cell × Held))
-    → (has : HasPutTo g old mid cells left) → left ≡ run ++ later → AllByRecursion HasShortTexts run → HasPut g old new (has.done ++ run)
-    → HasPutTo g old new cells later
-HasPutTo-run g old mid new cells left run later has is short put = record {
-  done = has.done ++ run;
-  is = has.is ∙ ap (λ rest. has.done ++ rest) is ∙ sym (append_assoc has.done run later);
-  short = short-append has.done run has.short short;
-  put = put;
-}
+-- none is left
+pub HasWrittenUpTo-all : {S : Type 0} {g : Ghosts S} {a b : MutBor (Connection S)} {V : Type 0} {v : V} {Fits All : Tables → Type 0}
+    {after : List (Cell × Held) → Tables → Tables} (cells left : List (Cell × Held)) → HasWrittenUpTo g a b Fits after cells left → left ≡ []
+    → DidIfOpen g a b (Ok v) Fits All (length cells) (after cells)
+HasWrittenUpTo-all {after} cells left has none =
+    let all : has.done ≡ cells = sym (append-nil has.done) ∙ ap (λ rest. has.done ++ rest) (sym none) ∙ sym has.is in
+    let size = ap length all in
+    open_as has.did (λ _ t _ fit. (fit, ap (λ xs. after xs t) all)) (omega (arith, size))
 
 -- the cells that are put and a run are no more than all
 pub run_fits : (cells left run later done : List (Cell × Held)) → cells ≡ done ++ left → left ≡ run ++ later

@@ -1,5 +1,5 @@
 -- Why an event is not committed, and what is left of the rowids that the store may choose.
-use Rattle.std.specs.Prelude.{◌⊎◌, ◌+◌, ℕ, true, Option, Result, IsErrOf, IsTrue}
+use Rattle.std.specs.Prelude.{◌≡◌, ◌⊎◌, ◌+◌, ℕ, true, false, Option, Result, IsErrOf, IsTrue}
 use Rattle.sqlite.specs.Store.{Ghosts}
 use Rattle.sqlite.specs.Held.{Held, state}
 use Rattle.sqlite.specs.State.{HasCleanDisk}
@@ -13,12 +13,13 @@ use Rattle.desk_sql.specs.Causes.{IsUp, HasFaulted}
 use Rattle.desk_sql.specs.Rows.{Tables}
 use Rattle.desk_sql.specs.Writable.{HasRowids}
 use Rattle.ledger.specs.Answer.{State}
-use Rattle.sql_model.specs.Keeping.{Keeps}
+use Rattle.sql_model.specs.Keeping.{Keeps, MayLeave, WasClean}
 use Rattle.sql_model.specs.Standing.{StandsFor}
+use Rattle.sql_model.specs.Staying.{StaysUp}
 use Rattle.sql_writes.specs.declared.events.Numbers.{Numbers}
 use Rattle.sql_writes.specs.declared.events.Keeping.{Keeping}
 use Rattle.sql_writes.specs.declared.events.Event.{Event}
-use Rattle.sql_writes.specs.Kinds.{Fits, event_rows}
+use Rattle.sql_writes.specs.Kinds.{Fits, LeadsTo, event_rows}
 use Rattle.sql_writes.specs.Permits.{PermitsEvent, event_rowids}
 
 module _ {S : Type 0} (g : Ghosts S) (old new : Held S) where
@@ -46,3 +47,12 @@ module _ {S : Type 0} (g : Ghosts S) (old new : Held S) where
       → ((t : Tables) → StandsFor t s → Fits n e t)
       → (m : ℕ) → HasRowids (event_rowids n e k + m) (state g old).now.trees
       → IsTrue (state g new).is_open → HasRowids m (state g new).now.trees
+
+  -- What is left after an event, whether it is committed or not: no transaction is begun, a crash leaves the old state or the
+  -- next one, the rowids are enough, and the store stays up.
+  pub record LeavesEvent (n : Numbers) (e : Event) (k : Option Keeping) : Type 0 where
+    pub outside : new.in_transaction ≡ false
+    pub either : (s next : State) → LeadsTo n e k s next → Keeps (state g old) s → MayLeave (state g new) s next
+    pub rowids : LeavesRowids n e k
+    pub up : StaysUp g old new
+    pub less : WasClean g old new

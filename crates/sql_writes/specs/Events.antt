@@ -1,6 +1,5 @@
 -- The rows that an event writes, and its preconditions on the rows before it.
-use Rattle.std.specs.Prelude.{ℕ, ◌<◌, ◌^◌}
-use Rattle.commands.specs.declared.items.Cursor.{Cursor}
+use Rattle.std.specs.Prelude.{◌<◌, ◌^◌}
 use Rattle.desk_sql.specs.Rows.{Tables}
 use Rattle.desk_sql.specs.Changes.{AreItemsBelow, IsSmallCursor}
 use Rattle.sql_transitions.specs.Moving.{cursor_written, with_transaction, with_compensation, with_turn, with_save}

@@ -5,5 +5,6 @@ pub mod Kinds
 pub mod Loads
 pub mod Permits
 pub mod Reasons
+pub mod Did
 pub mod Commits
 pub mod Runs

@@ -1,9 +1,9 @@
 -- What the writes of an event ask of the rows before it, so that no rule of the tables refuses one, and how many rowids the
 -- store chooses for it.
-use Rattle.std.specs.Prelude.{◌≡◌, ◌<◌, ◌≤◌, ◌+◌, ◌^◌, ◌==◌, ◌&&◌, ℕ, suc, true, false, List, length, Option, Some, None}
+use Rattle.std.specs.Prelude.{◌≡◌, ◌<◌, ◌≤◌, ◌+◌, ◌^◌, ◌==◌, ◌&&◌, ℕ, suc, true, false, length, Option, Some, None}
 use Rattle.std.specs.List.{AllByRecursion}
 use Rattle.allotment.specs.Want.{Wanted}
-use Rattle.plan.specs.PlanModel.{Planned, step_count}
+use Rattle.plan.specs.PlanModel.{step_count}
 use Rattle.desk_sql.specs.Rows.{Tables, StockRow, JourneyRow, StepRow}
 use Rattle.desk_sql.specs.Stock.{is_within}
 use Rattle.desk_sql.specs.Changes.{AreItemsBelow, begun, is_option, kept}

@@ -1,21 +1,20 @@
 -- Runs of cells: consecutive nights of one product that get the same places.
-use Rattle.std.specs.Prelude.{◌≡◌, ◌+◌, ◌==◌, ◌&&◌, ℕ, ⊤, Bool, false, List, [], ◌∷◌, ◌++◌, map, filter, length, bytes_eq, nat_le, IsTrue}
+use Rattle.std.specs.Prelude.{◌≡◌, ◌+◌, ◌==◌, ◌&&◌, ℕ, ⊤, Bool, false, List, [], ◌∷◌, ◌++◌, map, filter, length, bytes_eq, nat_le}
+use Rattle.std.specs.Borrow.{MutBor}
 use Rattle.std.specs.List.{AllByRecursion, list_any}
 use Rattle.sqlite.specs.Store.{Ghosts}
-use Rattle.sqlite.specs.Held.{Held as Connection, state}
-use Rattle.sqlite.specs.State.{HasCleanDisk, KeepsCommit, Survives}
+use Rattle.sqlite.specs.Held.{Held as Connection}
 use Rattle.allotment.specs.Cells.{kind_number}
 use Rattle.allotment.specs.declared.cells.Cell.{Cell}
 use Rattle.allotment.specs.declared.places.Held.{Held}
-use Rattle.desk_sql.specs.Calls.{MayRun, Makes}
 use Rattle.desk_sql.specs.Lists.{changed}
 use Rattle.desk_sql.specs.Rows.{Tables, StockRow}
 use Rattle.desk_sql.specs.Stock.{is_cell, with_places, put}
-use Rattle.desk_sql.specs.Writable.{HasRowids, IsShort}
+use Rattle.desk_sql.specs.Writable.{IsShort}
 use Rattle.sql_loads.specs.Loads.{LacksCell}
 use Rattle.sql_loads.specs.Weeks.{nights_from, week_from}
 use Rattle.sql_model.specs.Reading.{stock_row_of}
-use Rattle.sql_writes.specs.Loads.{HasPut}
+use Rattle.sql_writes.specs.Did.{DidSoFar}
 
 -- the row of the same product so many nights later, with the same places
 abbrev pub nights_later : ℕ → StockRow → StockRow
@@ -71,29 +70,9 @@ adds_each cells t = record t { stock = t.stock ++ map stock_row_of cells }
 abbrev pub HasShortTexts : Cell × Held → Type 0
 HasShortTexts c = IsShort (length c.0.supplier + length c.0.product)
 
--- the rows of these cells are added so far, in one open transaction, and nothing is committed
-module _ {S : Type 0} (g : Ghosts S) (old new : Connection S) where
-  pub record HasAdded (cells : List (Cell × Held)) : Type 0 where
-    pub survives : Survives (state g old) (state g new) (λ _. ⊥)
-    pub commit : HasCleanDisk (state g new) → IsTrue (state g old).in_transaction
-        → KeepsCommit (state g old) (state g new)
-    pub inside : HasCleanDisk (state g new) → IsTrue (state g old).in_transaction
-        → IsTrue (state g new).in_transaction
-    pub made : HasCleanDisk (state g new) → (t : Tables) → MayRun (state g old) t
-        → IsTrue (state g old).is_open → Makes (state g old) (state g new) (adds_each cells t)
-    pub rowids : HasCleanDisk (state g new) → (t : Tables) → MayRun (state g old) t
-        → IsTrue (state g old).is_open → (n : ℕ)
-        → HasRowids (length cells + n) (state g old).now.trees → HasRowids n (state g new).now.trees
-
-  -- the rows of a run are added up to these cells, which are left
-  pub record HasAddedTo (run left : List (Cell × Held)) : Type 0 where
-    pub done : List (Cell × Held)
-    pub is : run ≡ done ++ left
-    pub added : HasAdded done
-
-  -- the cells got their places up to these, which are left, and the texts of the cells that did fit
-  pub record HasPutTo (cells left : List (Cell × Held)) : Type 0 where
-    pub done : List (Cell × Held)
-    pub is : cells ≡ done ++ left
-    pub short : AllByRecursion HasShortTexts done
-    pub put : HasPut g old new done
+-- The cells of a list are written up to these, which are left: so far the tables changed by `after`, at most a rowid each.
+pub record HasWrittenUpTo {S : Type 0} (g : Ghosts S) (old now : MutBor (Connection S)) (Fits : Tables → Type 0)
+    (after : List (Cell × Held) → Tables → Tables) (cells left : List (Cell × Held)) : Type 0 where
+  pub done : List (Cell × Held)
+  pub is : cells ≡ done ++ left
+  pub did : DidSoFar g old now Fits (length done) (after done)

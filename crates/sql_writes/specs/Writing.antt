@@ -1,5 +1,5 @@
 -- The change of the rows by one write, and its precondition.
-use Rattle.std.specs.Prelude.{ℕ, Result, OnOk}
+use Rattle.std.specs.Prelude.{Result, OnOk, IsTrue}
 use Rattle.sqlite.specs.Store.{Ghosts}
 use Rattle.sqlite.specs.Held.{Held, state}
 use Rattle.sqlite.specs.State.{HasCleanDisk}
@@ -16,6 +16,12 @@ module _ {S : Type 0} (g : Ghosts S) (old new : Held S) where
   abbrev pub WritesRows : {V : Type 0} → (Tables → Type 0) → Result V Error → (Tables → Tables) → Type 0
   WritesRows Fits result after =
       HasCleanDisk (state g new) → (t : Tables) → MayRun (state g old) t → Fits t
+      → OnOk result (Makes (state g old) (state g new) (after t))
+
+  -- the same, if the transaction is open
+  abbrev pub WritesOpen : {V : Type 0} → (Tables → Type 0) → Result V Error → (Tables → Tables) → Type 0
+  WritesOpen Fits result after =
+      HasCleanDisk (state g new) → (t : Tables) → MayRun (state g old) t → IsTrue (state g old).is_open → Fits t
       → OnOk result (Makes (state g old) (state g new) (after t))
 
 -- each night of the want has its count of free places

@@ -1,14 +1,12 @@
 //! The rows of a new journey: its own, and one for each option of each step of its plan.
-ghost use Rattle.std.specs.Prelude.{◌≡◌, ◌<◌, ◌≤◌, ◌^◌, length, ⊤};
+ghost use Rattle.std.specs.Prelude.{◌<◌, ◌≤◌, ◌^◌, length, ⊤};
 ghost use Rattle.plan.specs.PlanModel.{step_count, option_count};
-ghost use Rattle.desk_sql.specs.Calls.{StaysInside, WasOpen, CommitsNothing, LeavesNoMore};
 ghost use Rattle.desk_sql.specs.Changes.{AreJourneysBelow};
-ghost use Rattle.sql_writes.specs.Writing.{WritesRows};
-ghost use Rattle.sql_writes.specs.Begins.{WritesOption, WritesStep, WritesSteps, begin_rows};
-ghost use Rattle.sql_model.specs.Beginning.{rows_of_option, rows_of_step};
+ghost use Rattle.sql_writes.specs.Begins.{begin_rows};
+ghost use Rattle.sql_writes.specs.Did.{Did, DidIfOpen};
+ghost use Rattle.sql_model.specs.Beginning.{adds_steps, rows_of_option, rows_of_step};
 ghost use Rattle.sql_model.specs.ExpectedRows.{step_rows_of};
 ghost use Rattle.sql_writes.specs.Permits.{MayAddOption, MayAddOptions, MayAddSteps, MayBegin};
-ghost use Rattle.sql_writes.specs.Reasons.{FailsOn, TakesRowids};
 
 use crate::events::{JourneyBegun, Numbers};
 use desk_sql::{StepOption, insert_journey, insert_step, update_meta};
@@ -31,16 +29,10 @@ fn write_option<S: Alter>(
     requires steps { step_count plan.now < 2 ^ 63 }
     requires options { option_count plan.now step < 2 ^ 63 }
 
-    ensures same_reference { tx.new.conn.ghost_name ≡ tx.old.conn.ghost_name }
-    ensures made { WritesOption S.Store tx.old.conn.now tx.new.conn.now result
-        id plan.now step option }
-    ensures reason { FailsOn S.Store tx.old.conn.now tx.new.conn.now result
-        (length (rows_of_option id plan.now step option)) (MayAddOption id step option) }
-    ensures rowids { TakesRowids S.Store tx.old.conn.now tx.new.conn.now result
-        (length (rows_of_option id plan.now step option)) (λ _. ⊤) }
-    ensures inside { StaysInside S.Store tx.old.conn.now tx.new.conn.now result }
-    ensures commit { CommitsNothing S.Store tx.old.conn.now tx.new.conn.now }
-    ensures survives { LeavesNoMore S.Store tx.old.conn.now tx.new.conn.now }
+    ensures did { Did S.Store tx.old.conn tx.new.conn result
+        (λ _. ⊤) (MayAddOption id step option)
+        (length (rows_of_option id plan.now step option))
+        (adds_steps (rows_of_option id plan.now step option)) }
 {
     let want = plan.want(step, option);
     insert_step(
@@ -72,15 +64,9 @@ fn write_options<S: Alter>(
     requires from_one { 1 ≤ step }
     requires in_plan { step ≤ step_count plan.now }
 
-    ensures same_reference { tx.new.conn.ghost_name ≡ tx.old.conn.ghost_name }
-    ensures made { WritesStep S.Store tx.old.conn.now tx.new.conn.now result id plan.now step }
-    ensures reason { FailsOn S.Store tx.old.conn.now tx.new.conn.now result
-        (length (rows_of_step id plan.now step)) (MayAddOptions id step) }
-    ensures rowids { TakesRowids S.Store tx.old.conn.now tx.new.conn.now result
-        (length (rows_of_step id plan.now step)) (λ _. ⊤) }
-    ensures inside { StaysInside S.Store tx.old.conn.now tx.new.conn.now result }
-    ensures commit { CommitsNothing S.Store tx.old.conn.now tx.new.conn.now }
-    ensures survives { LeavesNoMore S.Store tx.old.conn.now tx.new.conn.now }
+    ensures did { DidIfOpen S.Store tx.old.conn tx.new.conn result
+        (λ _. ⊤) (MayAddOptions id step)
+        (length (rows_of_step id plan.now step)) (adds_steps (rows_of_step id plan.now step)) }
 {
     let _steps = plan.steps();
     for option in 0..plan.options(step) {
@@ -93,15 +79,8 @@ fn write_options<S: Alter>(
 fn write_steps<S: Alter>(tx: &mut Transaction<'_, S>, id: u64, plan: &Plan) -> Result<(), Error>
     requires id { id < 2 ^ 63 }
 
-    ensures same_reference { tx.new.conn.ghost_name ≡ tx.old.conn.ghost_name }
-    ensures made { WritesSteps S.Store tx.old.conn.now tx.new.conn.now result id plan.now }
-    ensures reason { FailsOn S.Store tx.old.conn.now tx.new.conn.now result
-        (length (step_rows_of id plan.now)) (MayAddSteps id) }
-    ensures rowids { TakesRowids S.Store tx.old.conn.now tx.new.conn.now result
-        (length (step_rows_of id plan.now)) (λ _. ⊤) }
-    ensures inside { StaysInside S.Store tx.old.conn.now tx.new.conn.now result }
-    ensures commit { CommitsNothing S.Store tx.old.conn.now tx.new.conn.now }
-    ensures survives { LeavesNoMore S.Store tx.old.conn.now tx.new.conn.now }
+    ensures did { DidIfOpen S.Store tx.old.conn tx.new.conn result (λ _. ⊤) (MayAddSteps id)
+        (length (step_rows_of id plan.now)) (adds_steps (step_rows_of id plan.now)) }
 {
     for step in 0..plan.steps() {
         write_options(tx, id, plan, step + 1)?;
@@ -115,19 +94,10 @@ pub fn write_begin<S: Alter>(
     numbers: Numbers,
     begun: JourneyBegun<'_>,
 ) -> Result<(), Error>
-    ensures same_reference { tx.new.conn.ghost_name ≡ tx.old.conn.ghost_name }
-    ensures made { WritesRows S.Store tx.old.conn.now tx.new.conn.now
-        (AreJourneysBelow numbers.journeys) result (begin_rows numbers begun.entry) }
-    ensures reason { FailsOn S.Store tx.old.conn.now tx.new.conn.now result
+    ensures did { Did S.Store tx.old.conn tx.new.conn result
+        (AreJourneysBelow numbers.journeys) (MayBegin numbers begun.entry)
         (length (step_rows_of numbers.journeys begun.entry.plan.now))
-        (MayBegin numbers begun.entry) }
-    ensures rowids { TakesRowids S.Store tx.old.conn.now tx.new.conn.now result
-        (length (step_rows_of numbers.journeys begun.entry.plan.now))
-        (AreJourneysBelow numbers.journeys) }
-    ensures live { WasOpen S.Store tx.old.conn.now tx.new.conn.now result }
-    ensures inside { StaysInside S.Store tx.old.conn.now tx.new.conn.now result }
-    ensures commit { CommitsNothing S.Store tx.old.conn.now tx.new.conn.now }
-    ensures survives { LeavesNoMore S.Store tx.old.conn.now tx.new.conn.now }
+        (begin_rows numbers begun.entry) }
 {
     let JourneyBegun { agent, plan } = begun;
     insert_journey(

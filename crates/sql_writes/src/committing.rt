@@ -1,13 +1,10 @@
 //! The transaction of one event, with one commit.
-ghost use Rattle.desk_sql.specs.Calls.{StaysInside, WasOpen, CommitsNothing, LeavesNoMore};
 ghost use Rattle.ledger.specs.Answer.{State};
-ghost use Rattle.sql_model.specs.Keeping.{Keeps, MayLeave, WasClean};
-ghost use Rattle.sql_model.specs.Staying.{StaysUp};
-ghost use Rattle.sql_writes.specs.Commits.{FailsToCommitFor, LeavesRowids};
+ghost use Rattle.sql_model.specs.Keeping.{Keeps};
+ghost use Rattle.sql_writes.specs.Commits.{FailsToCommitFor, LeavesEvent};
+ghost use Rattle.sql_writes.specs.Did.{Did};
 ghost use Rattle.sql_writes.specs.Kinds.{IsSmall, LeadsTo, Fits, rows_after, with_kept, event_rows};
 ghost use Rattle.sql_writes.specs.Permits.{Permits, PermitsEvent, event_rowids, rowids_of};
-ghost use Rattle.sql_writes.specs.Reasons.{FailsOn, TakesRowids};
-ghost use Rattle.sql_writes.specs.Writing.{WritesRows};
 ghost use Rattle.sqlite.specs.Held.{state};
 ghost use Rattle.std.specs.Prelude.{◌≡◌, false, Err, OnOk, suc, Some};
 
@@ -30,18 +27,13 @@ pub fn commit_event<S: Alter>(
     requires outside { conn.old.in_transaction ≡ false }
     requires small { IsSmall event.now }
 
-    ensures outside { conn.new.in_transaction ≡ false }
     ensures done { (s next : State) → LeadsTo numbers event.now keeping.entry s next
         → Keeps (state S.Store conn.old) s → OnOk result (Keeps (state S.Store conn.new) next) }
     ensures memory { (s : State) → Keeps (state S.Store conn.old) s → result ≡ Err Fault.Memory
         → Keeps (state S.Store conn.new) s }
     ensures store { FailsToCommitFor S.Store conn.old conn.new numbers event.now
         keeping.entry result }
-    ensures rowids { LeavesRowids S.Store conn.old conn.new numbers event.now keeping.entry }
-    ensures up { StaysUp S.Store conn.old conn.new }
-    ensures either { (s next : State) → LeadsTo numbers event.now keeping.entry s next
-        → Keeps (state S.Store conn.old) s → MayLeave (state S.Store conn.new) s next }
-    ensures less { WasClean S.Store conn.old conn.new }
+    ensures leaves { LeavesEvent S.Store conn.old conn.new numbers event.now keeping.entry }
 {
     let mut tx = conn.transaction();
     if let Err(error) = write_event(&mut tx, numbers, event, keeping) {
@@ -62,17 +54,9 @@ fn write_rows<S: Alter>(
 ) -> Result<(), Error>
     requires { IsSmall event.now }
 
-    ensures same_reference { tx.new.conn.ghost_name ≡ tx.old.conn.ghost_name }
-    ensures made { WritesRows S.Store tx.old.conn.now tx.new.conn.now
-        (Fits numbers event.now) result (rows_after numbers event.now) }
-    ensures reason { FailsOn S.Store tx.old.conn.now tx.new.conn.now result
-        (rowids_of numbers event.now) (Permits numbers event.now) }
-    ensures rowids { TakesRowids S.Store tx.old.conn.now tx.new.conn.now result
-        (rowids_of numbers event.now) (Fits numbers event.now) }
-    ensures live { WasOpen S.Store tx.old.conn.now tx.new.conn.now result }
-    ensures inside { StaysInside S.Store tx.old.conn.now tx.new.conn.now result }
-    ensures commit { CommitsNothing S.Store tx.old.conn.now tx.new.conn.now }
-    ensures survives { LeavesNoMore S.Store tx.old.conn.now tx.new.conn.now }
+    ensures did { Did S.Store tx.old.conn tx.new.conn result
+        (Fits numbers event.now) (Permits numbers event.now)
+        (rowids_of numbers event.now) (rows_after numbers event.now) }
 {
     match *event {
         Event::Begin(begun) => write_begin(tx, numbers, begun),
@@ -93,17 +77,9 @@ fn write_kept<S: Alter>(
 ) -> Result<(), Error>
     requires { IsSmall event.now }
 
-    ensures same_reference { tx.new.conn.ghost_name ≡ tx.old.conn.ghost_name }
-    ensures made { WritesRows S.Store tx.old.conn.now tx.new.conn.now
-        (Fits numbers event.now) result (with_kept numbers event.now keeping.entry) }
-    ensures reason { FailsOn S.Store tx.old.conn.now tx.new.conn.now result
-        (suc (rowids_of numbers event.now)) (PermitsEvent numbers event.now (Some keeping.entry)) }
-    ensures rowids { TakesRowids S.Store tx.old.conn.now tx.new.conn.now result
-        (suc (rowids_of numbers event.now)) (Fits numbers event.now) }
-    ensures live { WasOpen S.Store tx.old.conn.now tx.new.conn.now result }
-    ensures inside { StaysInside S.Store tx.old.conn.now tx.new.conn.now result }
-    ensures commit { CommitsNothing S.Store tx.old.conn.now tx.new.conn.now }
-    ensures survives { LeavesNoMore S.Store tx.old.conn.now tx.new.conn.now }
+    ensures did { Did S.Store tx.old.conn tx.new.conn result
+        (Fits numbers event.now) (PermitsEvent numbers event.now (Some keeping.entry))
+        (suc (rowids_of numbers event.now)) (with_kept numbers event.now keeping.entry) }
 {
     write_rows(tx, numbers, event)?;
     insert_answer(tx, keeping.agent, keeping.key, keeping.text, keeping.line)?;
@@ -119,18 +95,10 @@ pub fn write_event<S: Alter>(
 ) -> Result<(), Error>
     requires { IsSmall event.now }
 
-    ensures same_reference { tx.new.conn.ghost_name ≡ tx.old.conn.ghost_name }
-    ensures made { WritesRows S.Store tx.old.conn.now tx.new.conn.now
-        (Fits numbers event.now) result (event_rows numbers event.now keeping.entry) }
-    ensures reason { FailsOn S.Store tx.old.conn.now tx.new.conn.now result
+    ensures did { Did S.Store tx.old.conn tx.new.conn result
+        (Fits numbers event.now) (PermitsEvent numbers event.now keeping.entry)
         (event_rowids numbers event.now keeping.entry)
-        (PermitsEvent numbers event.now keeping.entry) }
-    ensures rowids { TakesRowids S.Store tx.old.conn.now tx.new.conn.now result
-        (event_rowids numbers event.now keeping.entry) (Fits numbers event.now) }
-    ensures live { WasOpen S.Store tx.old.conn.now tx.new.conn.now result }
-    ensures inside { StaysInside S.Store tx.old.conn.now tx.new.conn.now result }
-    ensures commit { CommitsNothing S.Store tx.old.conn.now tx.new.conn.now }
-    ensures survives { LeavesNoMore S.Store tx.old.conn.now tx.new.conn.now }
+        (event_rows numbers event.now keeping.entry) }
 {
     match keeping {
         None => write_rows(tx, numbers, event),

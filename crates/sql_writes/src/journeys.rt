@@ -1,12 +1,11 @@
 //! The rows of an event of a journey: its item, the journey's cursor, the numbers of `meta`, and the places of its want.
 
 ghost use Rattle.std.specs.Prelude.{◌≡◌, ◌<◌, ◌^◌};
-ghost use Rattle.desk_sql.specs.Calls.{StaysInside, WasOpen, CommitsNothing, LeavesNoMore};
 ghost use Rattle.desk_sql.specs.Changes.{AreItemsBelow, IsSmallCursor, IsSmallItem};
-ghost use Rattle.sql_writes.specs.Writing.{WritesRows, HaveFreeFor, HaveRoomFor};
+ghost use Rattle.sql_writes.specs.Did.{Did};
+ghost use Rattle.sql_writes.specs.Writing.{HaveFreeFor, HaveRoomFor};
 ghost use Rattle.sql_writes.specs.Events.{IsSmallStep, IsSmallTurn, IsSmallSave, MayTake, MayGive, transaction_rows, compensation_rows, turn_rows, save_rows};
 ghost use Rattle.sql_writes.specs.Permits.{MayDo, MayMoveOn, MaySave, MayUndo, MayAdd, MayGiveWant, MayTakeWant};
-ghost use Rattle.sql_writes.specs.Reasons.{FailsOn, TakesRowids};
 ghost use Rattle.desk_sql.specs.Stock.{IsSmallRange};
 ghost use Rattle.sql_model.specs.Reading.{IsRangeOf};
 ghost use Rattle.sql_transitions.specs.Moving.{cursor_written, item_written, with_item, with_move, takes_want, gives_want};
@@ -28,16 +27,8 @@ pub fn write_transaction<S: Alter>(
 ) -> Result<(), Error>
     requires { IsSmallStep made }
 
-    ensures same_reference { tx.new.conn.ghost_name ≡ tx.old.conn.ghost_name }
-    ensures made { WritesRows S.Store tx.old.conn.now tx.new.conn.now (MayTake numbers made) result
-        (transaction_rows numbers made) }
-    ensures reason { FailsOn S.Store tx.old.conn.now tx.new.conn.now result 0 (MayDo numbers made) }
-    ensures rowids { TakesRowids S.Store tx.old.conn.now tx.new.conn.now result
-        0 (MayTake numbers made) }
-    ensures live { WasOpen S.Store tx.old.conn.now tx.new.conn.now result }
-    ensures inside { StaysInside S.Store tx.old.conn.now tx.new.conn.now result }
-    ensures commit { CommitsNothing S.Store tx.old.conn.now tx.new.conn.now }
-    ensures survives { LeavesNoMore S.Store tx.old.conn.now tx.new.conn.now }
+    ensures did { Did S.Store tx.old.conn tx.new.conn result
+        (MayTake numbers made) (MayDo numbers made) 0 (transaction_rows numbers made) }
 {
     let StepMade {
         journey,
@@ -66,17 +57,8 @@ pub fn write_compensation<S: Alter>(
 ) -> Result<(), Error>
     requires { IsSmallStep made }
 
-    ensures same_reference { tx.new.conn.ghost_name ≡ tx.old.conn.ghost_name }
-    ensures made { WritesRows S.Store tx.old.conn.now tx.new.conn.now (MayGive numbers made) result
-        (compensation_rows numbers made) }
-    ensures reason { FailsOn S.Store tx.old.conn.now tx.new.conn.now result
-        0 (MayUndo numbers made) }
-    ensures rowids { TakesRowids S.Store tx.old.conn.now tx.new.conn.now result
-        0 (MayGive numbers made) }
-    ensures live { WasOpen S.Store tx.old.conn.now tx.new.conn.now result }
-    ensures inside { StaysInside S.Store tx.old.conn.now tx.new.conn.now result }
-    ensures commit { CommitsNothing S.Store tx.old.conn.now tx.new.conn.now }
-    ensures survives { LeavesNoMore S.Store tx.old.conn.now tx.new.conn.now }
+    ensures did { Did S.Store tx.old.conn tx.new.conn result
+        (MayGive numbers made) (MayUndo numbers made) 0 (compensation_rows numbers made) }
 {
     let StepMade {
         journey,
@@ -105,17 +87,8 @@ pub fn write_turn<S: Alter>(
 ) -> Result<(), Error>
     requires { IsSmallTurn made }
 
-    ensures same_reference { tx.new.conn.ghost_name ≡ tx.old.conn.ghost_name }
-    ensures made { WritesRows S.Store tx.old.conn.now tx.new.conn.now (AreItemsBelow numbers.num)
-        result (turn_rows numbers made) }
-    ensures reason { FailsOn S.Store tx.old.conn.now tx.new.conn.now result
-        0 (MayMoveOn numbers made.journey) }
-    ensures rowids { TakesRowids S.Store tx.old.conn.now tx.new.conn.now result
-        0 (AreItemsBelow numbers.num) }
-    ensures live { WasOpen S.Store tx.old.conn.now tx.new.conn.now result }
-    ensures inside { StaysInside S.Store tx.old.conn.now tx.new.conn.now result }
-    ensures commit { CommitsNothing S.Store tx.old.conn.now tx.new.conn.now }
-    ensures survives { LeavesNoMore S.Store tx.old.conn.now tx.new.conn.now }
+    ensures did { Did S.Store tx.old.conn tx.new.conn result
+        (AreItemsBelow numbers.num) (MayMoveOn numbers made.journey) 0 (turn_rows numbers made) }
 {
     let TurnMade {
         journey,
@@ -134,17 +107,8 @@ pub fn write_save<S: Alter>(
 ) -> Result<(), Error>
     requires { IsSmallSave made }
 
-    ensures same_reference { tx.new.conn.ghost_name ≡ tx.old.conn.ghost_name }
-    ensures made { WritesRows S.Store tx.old.conn.now tx.new.conn.now (AreItemsBelow numbers.num)
-        result (save_rows numbers made) }
-    ensures reason { FailsOn S.Store tx.old.conn.now tx.new.conn.now result
-        1 (MaySave numbers made) }
-    ensures rowids { TakesRowids S.Store tx.old.conn.now tx.new.conn.now result
-        1 (AreItemsBelow numbers.num) }
-    ensures live { WasOpen S.Store tx.old.conn.now tx.new.conn.now result }
-    ensures inside { StaysInside S.Store tx.old.conn.now tx.new.conn.now result }
-    ensures commit { CommitsNothing S.Store tx.old.conn.now tx.new.conn.now }
-    ensures survives { LeavesNoMore S.Store tx.old.conn.now tx.new.conn.now }
+    ensures did { Did S.Store tx.old.conn tx.new.conn result
+        (AreItemsBelow numbers.num) (MaySave numbers made) 1 (save_rows numbers made) }
 {
     let SaveMade { journey, position } = made;
     insert_mark(tx, journey, position as u64)?;
@@ -209,17 +173,9 @@ pub(crate) fn write_item<S: Alter>(
     requires journey { journey < 2 ^ 63 }
     requires item { IsSmallItem (item_written numbers.num item) }
 
-    ensures same_reference { tx.new.conn.ghost_name ≡ tx.old.conn.ghost_name }
-    ensures made { WritesRows S.Store tx.old.conn.now tx.new.conn.now (AreItemsBelow numbers.num)
-        result (with_item numbers.num numbers.journeys journey item) }
-    ensures reason { FailsOn S.Store tx.old.conn.now tx.new.conn.now result
-        0 (MayAdd numbers journey) }
-    ensures rowids { TakesRowids S.Store tx.old.conn.now tx.new.conn.now result
-        0 (AreItemsBelow numbers.num) }
-    ensures live { WasOpen S.Store tx.old.conn.now tx.new.conn.now result }
-    ensures inside { StaysInside S.Store tx.old.conn.now tx.new.conn.now result }
-    ensures commit { CommitsNothing S.Store tx.old.conn.now tx.new.conn.now }
-    ensures survives { LeavesNoMore S.Store tx.old.conn.now tx.new.conn.now }
+    ensures did { Did S.Store tx.old.conn tx.new.conn result
+        (AreItemsBelow numbers.num) (MayAdd numbers journey) 0
+        (with_item numbers.num numbers.journeys journey item) }
 {
     let row = item_row(numbers.num, item);
     insert_item(tx, journey, row)?;
@@ -239,22 +195,13 @@ pub(crate) fn write_move<S: Alter>(
     requires item { IsSmallItem (item_written numbers.num item) }
     requires cursor { IsSmallCursor (cursor_written cursor) }
 
-    ensures same_reference { tx.new.conn.ghost_name ≡ tx.old.conn.ghost_name }
-    ensures made { WritesRows S.Store tx.old.conn.now tx.new.conn.now (AreItemsBelow numbers.num)
-        result (with_move numbers.num numbers.journeys journey item cursor) }
-    ensures reason { FailsOn S.Store tx.old.conn.now tx.new.conn.now result
-        0 (MayMoveOn numbers journey) }
-    ensures rowids { TakesRowids S.Store tx.old.conn.now tx.new.conn.now result
-        0 (AreItemsBelow numbers.num) }
-    ensures live { WasOpen S.Store tx.old.conn.now tx.new.conn.now result }
-    ensures inside { StaysInside S.Store tx.old.conn.now tx.new.conn.now result }
-    ensures commit { CommitsNothing S.Store tx.old.conn.now tx.new.conn.now }
-    ensures survives { LeavesNoMore S.Store tx.old.conn.now tx.new.conn.now }
+    ensures did { Did S.Store tx.old.conn tx.new.conn result
+        (AreItemsBelow numbers.num) (MayMoveOn numbers journey) 0
+        (with_move numbers.num numbers.journeys journey item cursor) }
 {
     let row = cursor_row(cursor);
     move_journey(tx, journey, row)?;
-    write_item(tx, numbers, journey, item)?;
-    Ok(())
+    write_item(tx, numbers, journey, item)
 }
 
 /// The range of a want's nights, of its supplier and its product.
@@ -277,16 +224,8 @@ fn range_of<'x>(want: Want, supplier: &'x Code, product: &'x Code) -> NightRange
 
 /// Takes the places of a want.
 pub(crate) fn take_want<S: Alter>(tx: &mut Transaction<'_, S>, want: Want) -> Result<(), Error>
-    ensures same_reference { tx.new.conn.ghost_name ≡ tx.old.conn.ghost_name }
-    ensures made { WritesRows S.Store tx.old.conn.now tx.new.conn.now (HaveFreeFor want)
-        result (takes_want want) }
-    ensures reason { FailsOn S.Store tx.old.conn.now tx.new.conn.now result 0 (MayTakeWant want) }
-    ensures rowids { TakesRowids S.Store tx.old.conn.now tx.new.conn.now result
-        0 (HaveFreeFor want) }
-    ensures live { WasOpen S.Store tx.old.conn.now tx.new.conn.now result }
-    ensures inside { StaysInside S.Store tx.old.conn.now tx.new.conn.now result }
-    ensures commit { CommitsNothing S.Store tx.old.conn.now tx.new.conn.now }
-    ensures survives { LeavesNoMore S.Store tx.old.conn.now tx.new.conn.now }
+    ensures did { Did S.Store tx.old.conn tx.new.conn result
+        (HaveFreeFor want) (MayTakeWant want) 0 (takes_want want) }
 {
     let supplier = want.supplier();
     let product = want.product();
@@ -297,16 +236,8 @@ pub(crate) fn take_want<S: Alter>(tx: &mut Transaction<'_, S>, want: Want) -> Re
 
 /// Gives back the places of a want.
 pub(crate) fn give_want<S: Alter>(tx: &mut Transaction<'_, S>, want: Want) -> Result<(), Error>
-    ensures same_reference { tx.new.conn.ghost_name ≡ tx.old.conn.ghost_name }
-    ensures made { WritesRows S.Store tx.old.conn.now tx.new.conn.now (HaveRoomFor want)
-        result (gives_want want) }
-    ensures reason { FailsOn S.Store tx.old.conn.now tx.new.conn.now result 0 (MayGiveWant want) }
-    ensures rowids { TakesRowids S.Store tx.old.conn.now tx.new.conn.now result
-        0 (HaveRoomFor want) }
-    ensures live { WasOpen S.Store tx.old.conn.now tx.new.conn.now result }
-    ensures inside { StaysInside S.Store tx.old.conn.now tx.new.conn.now result }
-    ensures commit { CommitsNothing S.Store tx.old.conn.now tx.new.conn.now }
-    ensures survives { LeavesNoMore S.Store tx.old.conn.now tx.new.conn.now }
+    ensures did { Did S.Store tx.old.conn tx.new.conn result
+        (HaveRoomFor want) (MayGiveWant want) 0 (gives_want want) }
 {
     let supplier = want.supplier();
     let product = want.product();

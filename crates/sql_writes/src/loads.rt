@@ -1,43 +1,52 @@
 //! The rows of a loaded batch.
-ghost use Rattle.std.specs.Prelude.{◌≡◌, ◌<◌, ◌^◌, ◌+◌, length, suc, ⊤};
-ghost use Rattle.desk_sql.specs.Calls.{StaysInside, WasOpen, CommitsNothing, LeavesNoMore};
-ghost use Rattle.desk_sql.specs.Stock.{AreApart, puts_cell};
+ghost use Rattle.std.specs.Prelude.{◌≡◌, ◌<◌, ◌^◌, ◌+◌, length, suc};
+ghost use Rattle.desk_sql.specs.Stock.{AreApart, IsSmallCell, placed, puts_cell};
 ghost use Rattle.desk_sql.specs.Writable.{IsShort};
 ghost use Rattle.sql_model.specs.Reading.{stock_row_of};
-ghost use Rattle.sql_writes.specs.Writing.{WritesRows};
-ghost use Rattle.sql_writes.specs.Loads.{MayLoad, WritesCells, load_rows};
+ghost use Rattle.sql_writes.specs.Did.{Did, DidIfOpen};
+ghost use Rattle.sql_writes.specs.Loads.{MayLoad, load_rows, puts_each};
 ghost use Rattle.sql_writes.specs.Permits.{HaveShortCells, MayLoadBatch, MayPutAll};
-ghost use Rattle.sql_writes.specs.Reasons.{FailsOn, TakesRowids};
 
 use crate::events::{BatchLoaded, Numbers};
 use crate::runs::put_runs;
-use allotment::{Cell, Held};
+use allotment::{Cell, Code, Held};
 use desk_sql::{CellPlaces, insert_batch, put_cell, update_meta};
 use sqlite::{Alter, Error, Transaction};
 
-/// Writes the places of one cell.
-fn put_places<S: Alter>(tx: &mut Transaction<'_, S>, cell: Cell, held: Held) -> Result<(), Error>
-    ensures same_reference { tx.new.conn.ghost_name ≡ tx.old.conn.ghost_name }
-    ensures made { WritesRows S.Store tx.old.conn.now tx.new.conn.now AreApart result
-        (puts_cell (stock_row_of (cell, held))) }
+/// The places of a cell, of its supplier and its product.
+pub(crate) fn places_of<'x>(
+    cell: Cell,
+    held: Held,
+    supplier: &'x Code,
+    product: &'x Code,
+) -> CellPlaces<'x>
+    requires supplier { supplier.now ≡ cell.supplier }
+    requires product { product.now ≡ cell.product }
+
+    ensures row { placed result ≡ stock_row_of (cell, held) }
+    ensures small { IsSmallCell result }
+    ensures night { result.night < 2 ^ 32 }
     ensures short { IsShort (length cell.supplier + length cell.product) }
-    ensures reason { FailsOn S.Store tx.old.conn.now tx.new.conn.now result 1 HaveShortCells }
-    ensures rowids { TakesRowids S.Store tx.old.conn.now tx.new.conn.now result 1 (λ _. ⊤) }
-    ensures live { WasOpen S.Store tx.old.conn.now tx.new.conn.now result }
-    ensures inside { StaysInside S.Store tx.old.conn.now tx.new.conn.now result }
-    ensures commit { CommitsNothing S.Store tx.old.conn.now tx.new.conn.now }
-    ensures survives { LeavesNoMore S.Store tx.old.conn.now tx.new.conn.now }
 {
-    let supplier = cell.supplier();
-    let product = cell.product();
-    let places = CellPlaces {
+    CellPlaces {
         kind: u64::from(cell.kind().number()),
         supplier: supplier.as_str(),
         product: product.as_str(),
         night: u64::from(cell.night().day()),
         allot: u64::from(held.allot),
         free: u64::from(held.free),
-    };
+    }
+}
+
+/// Writes the places of one cell.
+fn put_places<S: Alter>(tx: &mut Transaction<'_, S>, cell: Cell, held: Held) -> Result<(), Error>
+    ensures did { Did S.Store tx.old.conn tx.new.conn result AreApart HaveShortCells 1
+        (puts_cell (stock_row_of (cell, held))) }
+    ensures short { IsShort (length cell.supplier + length cell.product) }
+{
+    let supplier = cell.supplier();
+    let product = cell.product();
+    let places = places_of(cell, held, &supplier, &product);
     put_cell(tx, places)?;
     Ok(())
 }
@@ -47,15 +56,8 @@ pub(crate) fn put_all<S: Alter>(
     tx: &mut Transaction<'_, S>,
     cells: &[(Cell, Held)],
 ) -> Result<(), Error>
-    ensures same_reference { tx.new.conn.ghost_name ≡ tx.old.conn.ghost_name }
-    ensures made { WritesCells S.Store tx.old.conn.now tx.new.conn.now result cells.now }
-    ensures reason { FailsOn S.Store tx.old.conn.now tx.new.conn.now result
-        (length cells.now) MayPutAll }
-    ensures rowids { TakesRowids S.Store tx.old.conn.now tx.new.conn.now result
-        (length cells.now) MayLoad }
-    ensures inside { StaysInside S.Store tx.old.conn.now tx.new.conn.now result }
-    ensures commit { CommitsNothing S.Store tx.old.conn.now tx.new.conn.now }
-    ensures survives { LeavesNoMore S.Store tx.old.conn.now tx.new.conn.now }
+    ensures did { DidIfOpen S.Store tx.old.conn tx.new.conn result MayLoad MayPutAll
+        (length cells.now) (puts_each cells.now) }
 {
     for (cell, held) in cells {
         put_places(tx, *cell, *held)?;
@@ -69,17 +71,9 @@ pub fn write_load<S: Alter>(
     numbers: Numbers,
     batch: BatchLoaded<'_>,
 ) -> Result<(), Error>
-    ensures same_reference { tx.new.conn.ghost_name ≡ tx.old.conn.ghost_name }
-    ensures made { WritesRows S.Store tx.old.conn.now tx.new.conn.now MayLoad result
-        (load_rows numbers batch.entry) }
-    ensures reason { FailsOn S.Store tx.old.conn.now tx.new.conn.now result
-        (suc (length batch.entry.cells.now)) (MayLoadBatch numbers batch.entry) }
-    ensures rowids { TakesRowids S.Store tx.old.conn.now tx.new.conn.now result
-        (suc (length batch.entry.cells.now)) MayLoad }
-    ensures live { WasOpen S.Store tx.old.conn.now tx.new.conn.now result }
-    ensures inside { StaysInside S.Store tx.old.conn.now tx.new.conn.now result }
-    ensures commit { CommitsNothing S.Store tx.old.conn.now tx.new.conn.now }
-    ensures survives { LeavesNoMore S.Store tx.old.conn.now tx.new.conn.now }
+    ensures did { Did S.Store tx.old.conn tx.new.conn result
+        MayLoad (MayLoadBatch numbers batch.entry)
+        (suc (length batch.entry.cells.now)) (load_rows numbers batch.entry) }
 {
     insert_batch(tx, batch.name, numbers.num, batch.content.as_bytes())?;
     put_runs(tx, batch.cells)?;

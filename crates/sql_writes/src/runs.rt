@@ -7,20 +7,17 @@
 //! Words: a *run* is consecutive nights of one product that get the same places.
 ghost use Rattle.std.specs.Prelude.{◌≡◌, ◌<◌, ◌≤◌, ◌-◌, length, map, take, slice_get, Some, true, ⊤};
 ghost use Rattle.std.specs.List.{AllByRecursion};
-ghost use Rattle.desk_sql.specs.Calls.{StaysInside, CommitsNothing, LeavesNoMore};
 ghost use Rattle.sql_loads.specs.Loads.{CountsRows, LacksCell, adds_cell};
 ghost use Rattle.sql_loads.specs.Weeks.{adds_cells, week_from};
 ghost use Rattle.sql_model.specs.Reading.{stock_row_of};
-ghost use Rattle.sql_writes.specs.Begins.{WritesOn};
-ghost use Rattle.sql_writes.specs.Loads.{MayLoad, WritesCells};
+ghost use Rattle.sql_writes.specs.Did.{Did, DidIfOpen};
+ghost use Rattle.sql_writes.specs.Loads.{MayLoad, puts_each};
 ghost use Rattle.sql_writes.specs.Permits.{HaveShortCells, MayPutAll};
-ghost use Rattle.sql_writes.specs.Reasons.{FailsOn, TakesRowids};
 ghost use Rattle.sql_writes.specs.Runs.{HasShortTexts, IsLater, IsRun, sets_until, known_until, AreNew, LacksWeek, adds_each};
-ghost use Rattle.sql_writes.specs.Writing.{WritesRows};
 
-use crate::loads::put_all;
+use crate::loads::{places_of, put_all};
 use allotment::{Cell, Held, Night};
-use desk_sql::{CellPlaces, NightRange};
+use desk_sql::NightRange;
 use sql_loads::{WEEK, insert_cell, insert_week, set_nights};
 use sqlite::{Alter, Error, Transaction};
 
@@ -65,17 +62,11 @@ fn set_places<S: Alter>(
     first: &(Cell, Held),
     last: Night,
 ) -> Result<usize, Error>
-    ensures same_reference { tx.new.conn.ghost_name ≡ tx.old.conn.ghost_name }
-    ensures made { WritesRows S.Store tx.old.conn.now tx.new.conn.now (λ _. ⊤) result
+    ensures did { Did S.Store tx.old.conn tx.new.conn result (λ _. ⊤) HaveShortCells 0
         (sets_until (stock_row_of first.now) last) }
     ensures known { CountsRows S.Store tx.old.conn.now tx.new.conn.now result
         (known_until (stock_row_of first.now) last) }
     ensures short { HasShortTexts first.now }
-    ensures reason { FailsOn S.Store tx.old.conn.now tx.new.conn.now result 0 HaveShortCells }
-    ensures rowids { TakesRowids S.Store tx.old.conn.now tx.new.conn.now result 0 (λ _. ⊤) }
-    ensures inside { StaysInside S.Store tx.old.conn.now tx.new.conn.now result }
-    ensures commit { CommitsNothing S.Store tx.old.conn.now tx.new.conn.now }
-    ensures survives { LeavesNoMore S.Store tx.old.conn.now tx.new.conn.now }
 {
     let (cell, held) = *first;
     let supplier = cell.supplier();
@@ -92,41 +83,21 @@ fn set_places<S: Alter>(
 
 /// Adds the row of a cell that has none.
 fn add_places<S: Alter>(tx: &mut Transaction<'_, S>, cell: Cell, held: Held) -> Result<(), Error>
-    ensures same_reference { tx.new.conn.ghost_name ≡ tx.old.conn.ghost_name }
-    ensures made { WritesRows S.Store tx.old.conn.now tx.new.conn.now (λ _. ⊤) result
-        (adds_cell (stock_row_of (cell, held))) }
-    ensures reason { FailsOn S.Store tx.old.conn.now tx.new.conn.now result
-        1 (LacksCell (stock_row_of (cell, held))) }
-    ensures rowids { TakesRowids S.Store tx.old.conn.now tx.new.conn.now result 1 (λ _. ⊤) }
-    ensures inside { StaysInside S.Store tx.old.conn.now tx.new.conn.now result }
-    ensures commit { CommitsNothing S.Store tx.old.conn.now tx.new.conn.now }
-    ensures survives { LeavesNoMore S.Store tx.old.conn.now tx.new.conn.now }
+    ensures did { Did S.Store tx.old.conn tx.new.conn result
+        (λ _. ⊤) (LacksCell (stock_row_of (cell, held))) 1 (adds_cell (stock_row_of (cell, held))) }
 {
     let supplier = cell.supplier();
     let product = cell.product();
-    let places = CellPlaces {
-        kind: u64::from(cell.kind().number()),
-        supplier: supplier.as_str(),
-        product: product.as_str(),
-        night: u64::from(cell.night().day()),
-        allot: u64::from(held.allot),
-        free: u64::from(held.free),
-    };
+    let places = places_of(cell, held, &supplier, &product);
     insert_cell(tx, places)?;
     Ok(())
 }
 
 /// Adds the rows of cells that have none, in order.
 fn add_all<S: Alter>(tx: &mut Transaction<'_, S>, cells: &[(Cell, Held)]) -> Result<(), Error>
-    ensures same_reference { tx.new.conn.ghost_name ≡ tx.old.conn.ghost_name }
-    ensures made { WritesOn S.Store tx.old.conn.now tx.new.conn.now result (adds_each cells.now) }
-    ensures reason { FailsOn S.Store tx.old.conn.now tx.new.conn.now result
-        (length cells.now) (λ t. AreNew (map stock_row_of cells.now) t.stock) }
-    ensures rowids { TakesRowids S.Store tx.old.conn.now tx.new.conn.now result
-        (length cells.now) (λ _. ⊤) }
-    ensures inside { StaysInside S.Store tx.old.conn.now tx.new.conn.now result }
-    ensures commit { CommitsNothing S.Store tx.old.conn.now tx.new.conn.now }
-    ensures survives { LeavesNoMore S.Store tx.old.conn.now tx.new.conn.now }
+    ensures did { DidIfOpen S.Store tx.old.conn tx.new.conn result
+        (λ _. ⊤) (λ t. AreNew (map stock_row_of cells.now) t.stock)
+        (length cells.now) (adds_each cells.now) }
 {
     for (cell, held) in cells {
         add_places(tx, *cell, *held)?;
@@ -136,26 +107,13 @@ fn add_all<S: Alter>(tx: &mut Transaction<'_, S>, cells: &[(Cell, Held)]) -> Res
 
 /// Adds the rows of a week that has none, whose first night is that of this cell.
 fn add_week<S: Alter>(tx: &mut Transaction<'_, S>, cell: Cell, held: Held) -> Result<(), Error>
-    ensures same_reference { tx.new.conn.ghost_name ≡ tx.old.conn.ghost_name }
-    ensures made { WritesRows S.Store tx.old.conn.now tx.new.conn.now (λ _. ⊤) result
+    ensures did { Did S.Store tx.old.conn tx.new.conn result
+        (λ _. ⊤) (LacksWeek (stock_row_of (cell, held))) 7
         (adds_cells (week_from (stock_row_of (cell, held)))) }
-    ensures reason { FailsOn S.Store tx.old.conn.now tx.new.conn.now result
-        7 (LacksWeek (stock_row_of (cell, held))) }
-    ensures rowids { TakesRowids S.Store tx.old.conn.now tx.new.conn.now result 7 (λ _. ⊤) }
-    ensures inside { StaysInside S.Store tx.old.conn.now tx.new.conn.now result }
-    ensures commit { CommitsNothing S.Store tx.old.conn.now tx.new.conn.now }
-    ensures survives { LeavesNoMore S.Store tx.old.conn.now tx.new.conn.now }
 {
     let supplier = cell.supplier();
     let product = cell.product();
-    let places = CellPlaces {
-        kind: u64::from(cell.kind().number()),
-        supplier: supplier.as_str(),
-        product: product.as_str(),
-        night: u64::from(cell.night().day()),
-        allot: u64::from(held.allot),
-        free: u64::from(held.free),
-    };
+    let places = places_of(cell, held, &supplier, &product);
     insert_week(tx, places)?;
     Ok(())
 }
@@ -164,15 +122,9 @@ fn add_week<S: Alter>(tx: &mut Transaction<'_, S>, cell: Cell, held: Held) -> Re
 fn add_some<S: Alter>(tx: &mut Transaction<'_, S>, cells: &[(Cell, Held)]) -> Result<(), Error>
     requires run { IsRun cells.now }
 
-    ensures same_reference { tx.new.conn.ghost_name ≡ tx.old.conn.ghost_name }
-    ensures made { WritesOn S.Store tx.old.conn.now tx.new.conn.now result (adds_each cells.now) }
-    ensures reason { FailsOn S.Store tx.old.conn.now tx.new.conn.now result
-        (length cells.now) (λ t. AreNew (map stock_row_of cells.now) t.stock) }
-    ensures rowids { TakesRowids S.Store tx.old.conn.now tx.new.conn.now result
-        (length cells.now) (λ _. ⊤) }
-    ensures inside { StaysInside S.Store tx.old.conn.now tx.new.conn.now result }
-    ensures commit { CommitsNothing S.Store tx.old.conn.now tx.new.conn.now }
-    ensures survives { LeavesNoMore S.Store tx.old.conn.now tx.new.conn.now }
+    ensures did { DidIfOpen S.Store tx.old.conn tx.new.conn result
+        (λ _. ⊤) (λ t. AreNew (map stock_row_of cells.now) t.stock)
+        (length cells.now) (adds_each cells.now) }
 {
     let is_week = cells.len() == WEEK;
     if is_week {
@@ -187,15 +139,9 @@ fn add_some<S: Alter>(tx: &mut Transaction<'_, S>, cells: &[(Cell, Held)]) -> Re
 fn add_run<S: Alter>(tx: &mut Transaction<'_, S>, run: &[(Cell, Held)]) -> Result<(), Error>
     requires run { IsRun run.now }
 
-    ensures same_reference { tx.new.conn.ghost_name ≡ tx.old.conn.ghost_name }
-    ensures made { WritesOn S.Store tx.old.conn.now tx.new.conn.now result (adds_each run.now) }
-    ensures reason { FailsOn S.Store tx.old.conn.now tx.new.conn.now result
-        (length run.now) (λ t. AreNew (map stock_row_of run.now) t.stock) }
-    ensures rowids { TakesRowids S.Store tx.old.conn.now tx.new.conn.now result
-        (length run.now) (λ _. ⊤) }
-    ensures inside { StaysInside S.Store tx.old.conn.now tx.new.conn.now result }
-    ensures commit { CommitsNothing S.Store tx.old.conn.now tx.new.conn.now }
-    ensures survives { LeavesNoMore S.Store tx.old.conn.now tx.new.conn.now }
+    ensures did { DidIfOpen S.Store tx.old.conn tx.new.conn result
+        (λ _. ⊤) (λ t. AreNew (map stock_row_of run.now) t.stock)
+        (length run.now) (adds_each run.now) }
 {
     let mut rest = run;
     while !rest.is_empty() {
@@ -207,6 +153,7 @@ fn add_run<S: Alter>(tx: &mut Transaction<'_, S>, run: &[(Cell, Held)]) -> Resul
 }
 
 /// Writes the places of the cells of a run, from its first to its last.
+#[tactic(auto, using(crate::proofs::RunLemmas::short_run))]
 fn put_between<S: Alter>(
     tx: &mut Transaction<'_, S>,
     run: &[(Cell, Held)],
@@ -217,16 +164,9 @@ fn put_between<S: Alter>(
     requires first { slice_get run.now 0 ≡ Some first.now }
     requires last { slice_get run.now (length run.now - 1) ≡ Some last.now }
 
-    ensures same_reference { tx.new.conn.ghost_name ≡ tx.old.conn.ghost_name }
-    ensures made { WritesCells S.Store tx.old.conn.now tx.new.conn.now result run.now }
+    ensures did { Did S.Store tx.old.conn tx.new.conn result MayLoad MayPutAll
+        (length run.now) (puts_each run.now) }
     ensures short { AllByRecursion HasShortTexts run.now }
-    ensures reason { FailsOn S.Store tx.old.conn.now tx.new.conn.now result
-        (length run.now) MayPutAll }
-    ensures rowids { TakesRowids S.Store tx.old.conn.now tx.new.conn.now result
-        (length run.now) MayLoad }
-    ensures inside { StaysInside S.Store tx.old.conn.now tx.new.conn.now result }
-    ensures commit { CommitsNothing S.Store tx.old.conn.now tx.new.conn.now }
-    ensures survives { LeavesNoMore S.Store tx.old.conn.now tx.new.conn.now }
 {
     let known = set_places(tx, first, last.0.night())?;
     let are_known = known == run.len();
@@ -244,16 +184,9 @@ fn put_between<S: Alter>(
 fn put_run<S: Alter>(tx: &mut Transaction<'_, S>, run: &[(Cell, Held)]) -> Result<(), Error>
     requires run { IsRun run.now }
 
-    ensures same_reference { tx.new.conn.ghost_name ≡ tx.old.conn.ghost_name }
-    ensures made { WritesCells S.Store tx.old.conn.now tx.new.conn.now result run.now }
+    ensures did { DidIfOpen S.Store tx.old.conn tx.new.conn result MayLoad MayPutAll
+        (length run.now) (puts_each run.now) }
     ensures short { AllByRecursion HasShortTexts run.now }
-    ensures reason { FailsOn S.Store tx.old.conn.now tx.new.conn.now result
-        (length run.now) MayPutAll }
-    ensures rowids { TakesRowids S.Store tx.old.conn.now tx.new.conn.now result
-        (length run.now) MayLoad }
-    ensures inside { StaysInside S.Store tx.old.conn.now tx.new.conn.now result }
-    ensures commit { CommitsNothing S.Store tx.old.conn.now tx.new.conn.now }
-    ensures survives { LeavesNoMore S.Store tx.old.conn.now tx.new.conn.now }
 {
     match (run.first(), run.last()) {
         (Some(first), Some(last)) => put_between(tx, run, first, last),
@@ -266,15 +199,8 @@ pub(crate) fn put_runs<S: Alter>(
     tx: &mut Transaction<'_, S>,
     cells: &[(Cell, Held)],
 ) -> Result<(), Error>
-    ensures same_reference { tx.new.conn.ghost_name ≡ tx.old.conn.ghost_name }
-    ensures made { WritesCells S.Store tx.old.conn.now tx.new.conn.now result cells.now }
-    ensures reason { FailsOn S.Store tx.old.conn.now tx.new.conn.now result
-        (length cells.now) MayPutAll }
-    ensures rowids { TakesRowids S.Store tx.old.conn.now tx.new.conn.now result
-        (length cells.now) MayLoad }
-    ensures inside { StaysInside S.Store tx.old.conn.now tx.new.conn.now result }
-    ensures commit { CommitsNothing S.Store tx.old.conn.now tx.new.conn.now }
-    ensures survives { LeavesNoMore S.Store tx.old.conn.now tx.new.conn.now }
+    ensures did { DidIfOpen S.Store tx.old.conn tx.new.conn result MayLoad MayPutAll
+        (length cells.now) (puts_each cells.now) }
 {
     let mut rest = cells;
     while !rest.is_empty() {

@@ -1,14 +1,9 @@
-use Rattle.std.proofs.Common.{IsTrue, ◌<◌, ◌+◌, ℕ, suc, Bool, true, false, arith, lit<}
 use mir.Val.{bool_byte}
-use Rattle.std.proofs.Common.{◌≡◌, ◌≤◌, length, rules, subst, sym}
-use Rattle.sqlite.specs.Held.{state}
+use Rattle.std.proofs.Common.{IsTrue, ◌<◌, ◌≤◌, Bool, true, false, arith, lit<, rules, subst, sym}
 use Rattle.allotment.specs.Limits.{is_code}
-use Rattle.desk_sql.specs.Causes.{HasReason}
-use Rattle.desk_sql.specs.Writable.{HasRowids}
-use Rattle.sql_model.specs.Beginning.{rows_of_option}
+use Rattle.sql_writes.proofs.Doing.{did_as, did_fail, statement_adds, statement_fails}
 use Rattle.sql_writes.proofs.OptionLemmas.{one_row}
 use Rattle.sql_writes.proofs.Permitting.{codes_short}
-use Rattle.desk_sql.proofs.Rowids.{rowids_fewer}
 use Rattle.sql_writes.proofs.begins.write_option.Goals as goal
 
 -- a flag is a small number
@@ -27,27 +22,25 @@ flag_low true = omega arith
 flag_low false = omega arith
 
 -- the row fails for a reason
-pub returns-in_err-insert_step-clause-reason : goal.returns-in_err-insert_step-clause-reason
-returns-in_err-insert_step-clause-reason g c clean t may permits has up =
-    let old = state g.S.Store c.args.tx.now.conn.now in
-    let new = state g.S.Store c.insert_step.new.tx.conn.now in
+pub returns-in_err-insert_step : goal.returns-in_err-insert_step
+returns-in_err-insert_step g c =
+    let add = c.in_err-insert_step.ensures in
     let one = one_row c.args.id c.args.plan.now c.args.step c.args.option c.want-want.result c.want-want.ensures.want in
-    let enough : HasRowids 1 old.now.trees = subst (λ k. HasRowids k old.now.trees) one has in
-    let reason : HasReason old new c.in_err-insert_step.field-0.0 = c.in_err-insert_step.ensures.reason enough clean t may
-    (record {
-      journey = permits.journey;
-      unplaced = permits.unplaced;
-      save = (let low = flag_low c.marked.result in omega (arith, low, c.from.ensures));
-      short = codes_short c.as_str.result.now c.as_str-2.result.now
-          (subst (λ text. IsTrue (is_code text)) (sym c.as_str.ensures.text) c.as_str.ensures.limits)
-          (subst (λ text. IsTrue (is_code text)) (sym c.as_str-2.ensures.text) c.as_str-2.ensures.limits);
-    }) up in
-    search rules
+    let low = flag_low c.marked.result in
+    record {
+      did = did_fail (statement_fails add.goes add.reason) (λ t permits. record {
+        journey = permits.journey;
+        unplaced = permits.unplaced;
+        save = omega (arith, low, c.from.ensures);
+        short = codes_short c.as_str.result.now c.as_str-2.result.now
+            (subst (λ text. IsTrue (is_code text)) (sym c.as_str.ensures.text) c.as_str.ensures.limits)
+            (subst (λ text. IsTrue (is_code text)) (sym c.as_str-2.ensures.text) c.as_str-2.ensures.limits);
+      }) (omega (arith, one)) (search rules);
+    }
 
 -- it takes one rowid
-pub returns-clause-rowids : goal.returns-clause-rowids
-returns-clause-rowids g c clean t may live fits m has =
+pub returns : goal.returns
+returns g c =
+    let add = c.in_ok-insert_step.ensures in
     let one = one_row c.args.id c.args.plan.now c.args.step c.args.option c.want-want.result c.want-want.ensures.want in
-    let db = (state g.S.Store c.args.tx.now.conn.now).now.trees in
-    c.in_ok-insert_step.ensures.rowids clean t may tt m
-    (rowids_fewer (suc m) (length (rows_of_option c.args.id c.args.plan.now c.args.step c.args.option) + m) db (omega (arith, one)) has)
+    record { did = did_as (statement_adds add.goes add.made add.reason add.rowids (λ _ _. tt)) (λ _ t _ _. (tt, search rules)) (omega (arith, one)) }

@@ -1,44 +1,30 @@
-use Rattle.std.proofs.Common.{◌+◌, ◌≡◌, sym, subst, ◌∙◌, rules, arith}
-use Rattle.sqlite.specs.Held.{state}
-use Rattle.desk_sql.specs.Calls.{Makes}
-use Rattle.desk_sql.specs.Rows.{Tables}
+-- The nights of the range are those of the want.
+use Rattle.std.proofs.Common.{sym, ap, subst, ◌∙◌, rules, arith}
 use Rattle.desk_sql.specs.Stock.{HaveFree, takes_nights}
-use Rattle.sql_transitions.proofs.Ranges.{takes_range}
-use Rattle.desk_sql.specs.Causes.{HasReason}
 use Rattle.desk_sql.specs.Writable.{MayTakeNights}
+use Rattle.sql_transitions.proofs.Ranges.{takes_range}
+use Rattle.sql_writes.proofs.Doing.{did_as, did_fail, statement_changes, statement_fails}
 use Rattle.sql_writes.proofs.Permitting.{may_take}
-use Rattle.desk_sql.proofs.Rowids.{rowids_fewer}
 use Rattle.sql_writes.proofs.journeys.take_want.Goals as goal
 
--- the nights of the range are those of the want
-pub returns-clause-made : goal.returns-clause-made
-returns-clause-made g c clean t may fits =
-    let old = state g.S.Store c.args.tx.now.conn.now in
-    let new = state g.S.Store c.take_nights.new.tx.conn.now in
+pub returns-in_err-take_nights : goal.returns-in_err-take_nights
+returns-in_err-take_nights g c =
+    let nights = c.in_err-take_nights.ensures in
+    let range = c.range_of-range in
+    let same = c.from.ensures ∙ c.count.ensures in
+    record {
+      did = did_fail (statement_fails nights.goes nights.reason)
+          (λ t it. subst (λ n. MayTakeNights range.result n t) (sym same) (may_take c.args.want range.result t range.ensures.range it)) (omega arith) (search rules);
+    }
+
+pub returns : goal.returns
+returns g c =
+    let nights = c.in_ok-take_nights.ensures in
     let w = c.args.want in
     let range = c.range_of-range.result in
-    let same = c.from.ensures ∙ c.count.ensures in
     let is = c.range_of-range.ensures.range in
-    let have : HaveFree range c.from.result t = subst (λ n. HaveFree range n t) (sym same) (fits range is) in
-    subst (λ (u : Tables). Makes old new u) (takes_range range w t is)
-    (subst (λ n. Makes old new (takes_nights range n t)) same (c.in_ok-take_nights.ensures.made clean t may have))
-
--- the update of the nights fails for a reason
-pub returns-in_err-take_nights-clause-reason : goal.returns-in_err-take_nights-clause-reason
-returns-in_err-take_nights-clause-reason g c clean t may permits has up =
-    let old = state g.S.Store c.args.tx.now.conn.now in
-    let new = state g.S.Store c.take_nights.new.tx.conn.now in
-    let w = c.args.want in
-    let range = c.range_of-range.result in
     let same = c.from.ensures ∙ c.count.ensures in
-    let fits : MayTakeNights range c.from.result t = subst (λ n. MayTakeNights range n t) (sym same) (may_take w range t c.range_of-range.ensures.range permits) in
-    let reason : HasReason old new c.in_err-take_nights.field-0.0 = c.in_err-take_nights.ensures.reason has clean t may fits up in
-    search rules
-
--- it takes no rowid
-pub returns-clause-rowids : goal.returns-clause-rowids
-returns-clause-rowids g c clean t may live fits n has =
-    let range = c.range_of-range.result in
-    let same = c.from.ensures ∙ c.count.ensures in
-    let have : HaveFree range c.from.result t = subst (λ n. HaveFree range n t) (sym same) (fits range c.range_of-range.ensures.range) in
-    c.in_ok-take_nights.ensures.rowids clean t may have n (rowids_fewer n (0 + n) (state g.S.Store c.args.tx.now.conn.now).now.trees (omega arith) has)
+    record {
+      did = did_as (statement_changes nights.goes nights.made nights.reason nights.rowids (λ _ it. it))
+          (λ _ t _ fit. (subst (λ n. HaveFree range n t) (sym same) (fit range is), ap (λ n. takes_nights range n t) same ∙ takes_range range w t is)) (omega arith);
+    }

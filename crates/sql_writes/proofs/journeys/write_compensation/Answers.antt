@@ -1,130 +1,49 @@
-use Rattle.std.proofs.Common.{◌+◌, ◌≡◌, ℕ, arith, rules}
-use Rattle.sqlite.specs.State.{HasCleanDisk}
-use Rattle.sqlite.specs.Held.{state}
-use Rattle.commands.specs.declared.items.Item.TheVariants.{Compensation}
-use Rattle.desk_sql.specs.Rows.{Tables}
-use Rattle.desk_sql.specs.Changes.{marks_step, drops_mark}
-use Rattle.sql_transitions.specs.Moving.{gives_want, with_move}
-use Rattle.sql_writes.proofs.Chaining.{less_then, makes_then, makes_last, reason_last, reason_later, runs_after, up_after}
-use Rattle.desk_sql.specs.Calls.{Makes}
-use Rattle.desk_sql.specs.Causes.{HasReason}
+-- First the want's nights, then the option, the save-point and the move.
+use Rattle.std.proofs.Common.{refl, arith, rules}
+use Rattle.sql_transitions.specs.Moving.{gives_want}
+use Rattle.sql_writes.proofs.Doing.{did_and, did_fail, did_then, did_then_fail, open_of, statement_changes, statement_fails}
 use Rattle.sql_writes.proofs.Permitting.{have_room, may_mark}
-use Rattle.desk_sql.proofs.Rowids.{rowids_fewer}
 use Rattle.sql_writes.proofs.journeys.write_compensation.Goals as goal
 
--- first the want's nights, then the option, the save-point and the move
-pub returns-clause-made : goal.returns-clause-made
-returns-clause-made g c clean t may fits =
-    let old = state g.S.Store c.args.tx.now.conn.now in
-    let one = state g.S.Store c.give_want.new.tx.conn.now in
-    let two = state g.S.Store c.mark_step.new.tx.conn.now in
-    let three = state g.S.Store c.delete_mark.new.tx.conn.now in
-    let last = state g.S.Store c.write_move.new.tx.conn.now in
-    let at_three : HasCleanDisk three = omega (arith, c.write_move.ensures.survives.clean) in
-    let at_two : HasCleanDisk two = omega (arith, c.delete_mark.ensures.survives.clean) in
-    let at_one : HasCleanDisk one = omega (arith, c.mark_step.ensures.survives.clean) in
-    let n = c.args.numbers in
-    let m = c.args.made in
-    let nights : Tables → Tables = gives_want m.want in
-    let option : Tables → Tables = marks_step m.journey m.step m.option 0 in
-    let mark : Tables → Tables = drops_mark m.journey m.step in
-    makes_last old three last t (λ (u : Tables). mark (option (nights u))) (with_move n.num n.journeys m.journey (Compensation m.step m.option) m.cursor) c.write_move.result
-    (makes_then old two three t (λ (u : Tables). option (nights u)) mark
-    (makes_then old one two t nights option (c.in_ok-give_want.ensures.made at_one t may fits.room)
-    (λ run. c.in_ok-mark_step.ensures.made at_two (nights t) run tt))
-    (λ run. c.in_ok-delete_mark.ensures.made at_three (option (nights t)) run tt))
-    (λ run. c.write_move.ensures.made clean (mark (option (nights t))) run fits.below)
+pub returns-in_err-give_want : goal.returns-in_err-give_want
+returns-in_err-give_want g c = record {
+  did = did_fail c.in_err-give_want.ensures.did (λ t permits. record { held = permits.held; cells = permits.cells }) (omega arith) (search rules);
+}
 
--- each of the four fails for a reason
-pub returns-in_err-give_want-clause-reason : goal.returns-in_err-give_want-clause-reason
-returns-in_err-give_want-clause-reason g c clean t may permits has up =
-    let old = state g.S.Store c.args.tx.now.conn.now in
-    let one = state g.S.Store c.give_want.new.tx.conn.now in
-    let reason : HasReason old one c.in_err-give_want.field-0.0 =
-    c.in_err-give_want.ensures.reason clean t may (record { held = permits.held; cells = permits.cells }) has up in
-    search rules
-
-pub returns-in_err-mark_step-clause-reason : goal.returns-in_err-mark_step-clause-reason
-returns-in_err-mark_step-clause-reason g c clean t may permits has up =
-    let old = state g.S.Store c.args.tx.now.conn.now in
-    let one = state g.S.Store c.give_want.new.tx.conn.now in
-    let two = state g.S.Store c.mark_step.new.tx.conn.now in
-    let at_one : HasCleanDisk one = omega (arith, c.mark_step.ensures.survives.clean) in
+pub returns-in_err-mark_step : goal.returns-in_err-mark_step
+returns-in_err-mark_step g c =
+    let mark = c.in_err-mark_step.ensures in
     let m = c.args.made in
-    let room = have_room m.want t permits.held in
-    let rows : Tables = gives_want m.want t in
-    let made : Makes old one rows = c.in_ok-give_want.ensures.made at_one t may room in
-    let left = c.in_ok-give_want.ensures.rowids at_one t may up.is_open room 0 has in
-    let reason : HasReason old two c.in_err-mark_step.field-0.0 = reason_later old one two c.in_err-mark_step.field-0.0 c.give_want.ensures.survives
-    (c.in_err-mark_step.ensures.reason left clean rows (runs_after old one rows made) (may_mark m.journey m.step m.option 0 rows (omega arith) permits.options)
-    (up_after old one rows c.give_want.ensures.survives made up)) in
-    search rules
+    record {
+      did = did_then_fail c.in_ok-give_want.ensures.did (open_of (statement_fails mark.goes mark.reason))
+          (λ t permits. (have_room m.want t permits.held, may_mark m.journey m.step m.option 0 (gives_want m.want t) (omega arith) permits.options))
+          (omega arith) (search rules);
+    }
 
-pub returns-in_err-delete_mark-clause-reason : goal.returns-in_err-delete_mark-clause-reason
-returns-in_err-delete_mark-clause-reason g c clean t may permits has up =
-    let old = state g.S.Store c.args.tx.now.conn.now in
-    let one = state g.S.Store c.give_want.new.tx.conn.now in
-    let two = state g.S.Store c.mark_step.new.tx.conn.now in
-    let three = state g.S.Store c.delete_mark.new.tx.conn.now in
-    let at_two : HasCleanDisk two = omega (arith, c.delete_mark.ensures.survives.clean) in
-    let at_one : HasCleanDisk one = omega (arith, c.mark_step.ensures.survives.clean) in
-    let m = c.args.made in
-    let first : Tables = gives_want m.want t in
-    let made : Makes old one first = c.in_ok-give_want.ensures.made at_one t may (have_room m.want t permits.held) in
-    let rows : Tables = marks_step m.journey m.step m.option 0 first in
-    let marked : Makes one two rows = c.in_ok-mark_step.ensures.made at_two first (runs_after old one first made) tt in
-    let still = up_after one two rows c.mark_step.ensures.survives marked (up_after old one first c.give_want.ensures.survives made up) in
-    let reason : HasReason old three c.in_err-delete_mark.field-0.0 = reason_later old two three c.in_err-delete_mark.field-0.0
-    (less_then old one two c.give_want.ensures.survives c.mark_step.ensures.survives)
-    (c.in_err-delete_mark.ensures.reason clean rows (runs_after one two rows marked) tt still) in
-    search rules
+pub returns-in_err-delete_mark : goal.returns-in_err-delete_mark
+returns-in_err-delete_mark g c =
+    let mark = c.in_ok-mark_step.ensures in
+    let drop = c.in_err-delete_mark.ensures in
+    record {
+      did = did_then_fail (did_and c.in_ok-give_want.ensures.did (open_of (statement_changes mark.goes mark.made mark.reason mark.rowids (λ _ _. tt))))
+          (open_of (statement_fails {n = 0} drop.goes (λ _. drop.reason)))
+          (λ t permits. ((have_room c.args.made.want t permits.held, tt), tt)) (omega arith) (search rules);
+    }
 
-pub returns-clause-reason : goal.returns-clause-reason
-returns-clause-reason g c clean t may permits has up =
-    let old = state g.S.Store c.args.tx.now.conn.now in
-    let one = state g.S.Store c.give_want.new.tx.conn.now in
-    let two = state g.S.Store c.mark_step.new.tx.conn.now in
-    let three = state g.S.Store c.delete_mark.new.tx.conn.now in
-    let last = state g.S.Store c.write_move.new.tx.conn.now in
-    let at_three : HasCleanDisk three = omega (arith, c.write_move.ensures.survives.clean) in
-    let at_two : HasCleanDisk two = omega (arith, c.delete_mark.ensures.survives.clean) in
-    let at_one : HasCleanDisk one = omega (arith, c.mark_step.ensures.survives.clean) in
-    let m = c.args.made in
-    let room = have_room m.want t permits.held in
-    let first : Tables = gives_want m.want t in
-    let made : Makes old one first = c.in_ok-give_want.ensures.made at_one t may room in
-    let second : Tables = marks_step m.journey m.step m.option 0 first in
-    let marked : Makes one two second = c.in_ok-mark_step.ensures.made at_two first (runs_after old one first made) tt in
-    let rows : Tables = drops_mark m.journey m.step second in
-    let dropped : Makes two three rows = c.in_ok-delete_mark.ensures.made at_three second (runs_after one two second marked) tt in
-    let still = up_after two three rows c.delete_mark.ensures.survives dropped
-    (up_after one two second c.mark_step.ensures.survives marked (up_after old one first c.give_want.ensures.survives made up)) in
-    let left = c.in_ok-delete_mark.ensures.rowids at_three second (runs_after one two second marked) tt 0
-    (c.in_ok-mark_step.ensures.rowids at_two first (runs_after old one first made) tt 0 (c.in_ok-give_want.ensures.rowids at_one t may up.is_open room 0 has)) in
-    let move = permits.move in
-    reason_last old three last c.write_move.result
-    (less_then old two three (less_then old one two c.give_want.ensures.survives c.mark_step.ensures.survives) c.delete_mark.ensures.survives)
-    (c.write_move.ensures.reason clean rows (runs_after two three rows dropped)
-    (record { item = record { journey_is = move.item.journey_is; below = move.item.below }; short = move.short }) left still)
-
--- none takes a rowid
-pub returns-clause-rowids : goal.returns-clause-rowids
-returns-clause-rowids g c clean t may live fits n has =
-    let old = state g.S.Store c.args.tx.now.conn.now in
-    let one = state g.S.Store c.give_want.new.tx.conn.now in
-    let two = state g.S.Store c.mark_step.new.tx.conn.now in
-    let three = state g.S.Store c.delete_mark.new.tx.conn.now in
-    let at_three : HasCleanDisk three = omega (arith, c.write_move.ensures.survives.clean) in
-    let at_two : HasCleanDisk two = omega (arith, c.delete_mark.ensures.survives.clean) in
-    let at_one : HasCleanDisk one = omega (arith, c.mark_step.ensures.survives.clean) in
-    let m = c.args.made in
-    let first : Tables = gives_want m.want t in
-    let made : Makes old one first = c.in_ok-give_want.ensures.made at_one t may fits.room in
-    let second : Tables = marks_step m.journey m.step m.option 0 first in
-    let marked : Makes one two second = c.in_ok-mark_step.ensures.made at_two first (runs_after old one first made) tt in
-    let rows : Tables = drops_mark m.journey m.step second in
-    let dropped : Makes two three rows = c.in_ok-delete_mark.ensures.made at_three second (runs_after one two second marked) tt in
-    c.write_move.ensures.rowids clean rows (runs_after two three rows dropped) dropped.is_open fits.below n
-    (rowids_fewer (0 + n) n three.now.trees (omega arith)
-    (c.in_ok-delete_mark.ensures.rowids at_three second (runs_after one two second marked) tt n
-    (c.in_ok-mark_step.ensures.rowids at_two first (runs_after old one first made) tt n (c.in_ok-give_want.ensures.rowids at_one t may live fits.room n has))))
+pub returns : goal.returns
+returns g c =
+    let mark = c.in_ok-mark_step.ensures in
+    let drop = c.in_ok-delete_mark.ensures in
+    record {
+      did = did_then
+          (did_and (did_and c.in_ok-give_want.ensures.did (open_of (statement_changes mark.goes mark.made mark.reason mark.rowids (λ _ _. tt))))
+          (open_of (statement_changes drop.goes drop.made (λ _. drop.reason) drop.rowids (λ _ _. tt))))
+          (open_of c.write_move.ensures.did) (λ _ t _ fit. (((fit.room, tt), tt), (fit.below, refl)))
+          (λ _ t _ permits. (
+            ((have_room c.args.made.want t permits.held, tt), tt),
+            record {
+              item = record { journey_is = permits.move.item.journey_is; below = permits.move.item.below };
+              short = permits.move.short;
+            },
+          )) (omega arith);
+    }

@@ -1,40 +1,25 @@
--- The row of a cell is that of its places, and its texts are short.
-use Rattle.std.proofs.Common.{IsTrue, subst, sym, ◌≤◌, ◌+◌, suc, rules, arith}
-use Rattle.sqlite.specs.Held.{state}
-use Rattle.allotment.specs.Limits.{is_code}
-use Rattle.allotment.specs.Cells.{kind_number}
-use Rattle.allotment.specs.declared.codes.Kind.{Kind}
-use Rattle.allotment.specs.declared.codes.Kind.TheVariants.{Flight, Room, Transfer, Cover}
-use Rattle.desk_sql.specs.Causes.{HasReason}
-use Rattle.sql_writes.proofs.Permitting.{codes_short}
-use Rattle.desk_sql.proofs.Rowids.{rowids_fewer}
+-- The row of a cell is that of its places.
+use Rattle.std.proofs.Common.{sym, ap, subst, arith, rules}
+use Rattle.desk_sql.specs.Rows.{StockRow}
+use Rattle.sql_loads.specs.Loads.{MayAddCell, adds_cell}
+use Rattle.sql_writes.proofs.Doing.{did_as, did_fail, statement_adds, statement_fails}
+use Rattle.sql_writes.proofs.Permitting.{may_add_cell}
 use Rattle.sql_writes.proofs.runs.add_places.Goals as goal
 
-kind_low : (kind : Kind) → kind_number kind ≤ 3
-kind_low Flight = omega arith
-kind_low Room = omega arith
-kind_low Transfer = omega arith
-kind_low Cover = omega arith
+pub returns-in_err-insert_cell : goal.returns-in_err-insert_cell
+returns-in_err-insert_cell g c =
+    let add = c.in_err-insert_cell.ensures in
+    let places = c.places_of-places.ensures in
+    record {
+      did = did_fail (statement_fails add.goes add.reason)
+          (λ t lacks. subst (λ (s : StockRow). MayAddCell s t) (sym places.row) (may_add_cell (c.args.cell, c.args.held) t places.short lacks))
+          (omega arith) (search rules);
+    }
 
--- the row is not added for a reason
-pub returns-in_err-insert_cell-clause-reason : goal.returns-in_err-insert_cell-clause-reason
-returns-in_err-insert_cell-clause-reason g c clean t may lacks has up =
-    let kind = kind_low c.kind.result in
-    let within = c.args.held.within in
-    let reason : HasReason (state g.S.Store c.args.tx.now.conn.now) (state g.S.Store c.insert_cell.new.tx.conn.now) c.in_err-insert_cell.field-0.0 =
-    c.in_err-insert_cell.ensures.reason has clean t may
-    (record {
-      lacks = search (rules, lacks);
-      kind = omega (arith, kind, c.from.ensures, c.number.ensures);
-      free = omega (arith, within, c.from-3.ensures, c.from-4.ensures);
-      short = codes_short c.as_str.result.now c.as_str-2.result.now
-          (subst (λ text. IsTrue (is_code text)) (sym c.as_str.ensures.text) c.as_str.ensures.limits)
-          (subst (λ text. IsTrue (is_code text)) (sym c.as_str-2.ensures.text) c.as_str-2.ensures.limits);
-    }) up in
-    search rules
-
--- it takes one rowid
-pub returns-clause-rowids : goal.returns-clause-rowids
-returns-clause-rowids g c clean t may live fits n has =
-    let db = (state g.S.Store c.args.tx.now.conn.now).now.trees in
-    c.in_ok-insert_cell.ensures.rowids clean t may tt n (rowids_fewer (suc n) (1 + n) db (omega arith) has)
+pub returns : goal.returns
+returns g c =
+    let add = c.in_ok-insert_cell.ensures in
+    record {
+      did = did_as (statement_adds add.goes add.made add.reason add.rowids (λ _ _. tt))
+          (λ _ t _ _. (tt, ap (λ (s : StockRow). adds_cell s t) c.places_of-places.ensures.row)) (omega arith);
+    }

@@ -1,13 +1,15 @@
--- The cells before those that are left got their places so far. Each run leaves fewer.
-use Rattle.std.proofs.Common.{◌≡◌, length}
-use Rattle.sql_writes.specs.Runs.{HasPutTo}
+-- The cells before those that are left got their places so far, and their texts fit. Each run leaves fewer.
+use Rattle.std.proofs.Common.{length}
+use Rattle.std.specs.List.{AllByRecursion}
+use Rattle.sql_writes.specs.Loads.{MayLoad, puts_each}
+use Rattle.sql_writes.specs.Runs.{HasWrittenUpTo, HasShortTexts}
 use Rattle.sql_writes.proofs.runs.put_runs.Given as goal
 
 abbrev pub invariant-loop-rest : goal.invariant-loop-rest
 invariant-loop-rest g l =
     record {
-      same : l.tx.conn.ghost_name ≡ l.fn.tx.conn.ghost_name;
-      put : HasPutTo g.S.Store l.fn.tx.conn.now l.tx.conn.now l.cells l.rest;
+      put : HasWrittenUpTo g.S.Store l.fn.tx.conn l.tx.conn MayLoad puts_each l.cells l.rest;
+      short : AllByRecursion HasShortTexts put.done;
     }
 
 abbrev pub decreases-loop-rest : goal.decreases-loop-rest
