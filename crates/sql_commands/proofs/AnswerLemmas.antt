@@ -1,18 +1,19 @@
 -- The outcome of a begin, and the rows that represent it. For the functions that answer.
-use Rattle.std.specs.Prelude.{not, is_some, IfOk, IsUtf8, Ok, Err, Result}
-use Rattle.std.proofs.Common.{◌≡◌, ◌+◌, ◌<◌, ℕ, List, length, Option, Some, None, IsTrue, sym, ap, subst, ◌∙◌}
+use Rattle.std.specs.Prelude.{is_some, IsUtf8}
+use Rattle.std.proofs.Common.{◌≡◌, ◌+◌, ◌<◌, ◌≤◌, ℕ, List, length, Option, Some, None, IsTrue, refl, sym, ap, subst, ◌∙◌}
 use Rattle.commands.specs.Asks.{Asked}
 use Rattle.commands.specs.Request as request
-use Rattle.commands.specs.declared.replies.Fault.{Fault}
+use Rattle.commands.specs.declared.replies.Refusal.TheVariants.{Limit}
 use Rattle.commands.specs.declared.replies.Reply.{Reply}
-use Rattle.commands.specs.declared.replies.Reply.TheVariants.{Begun as Begins}
+use Rattle.commands.specs.declared.replies.Reply.TheVariants.{Begun as Begins, Refused}
 use Rattle.desk_sql.specs.Rows.{Tables}
 use Rattle.desk_sql.specs.FoundRows.{FindsAnswer, answer_of}
 use Rattle.desk_sql.specs.Readable.{HasReplyText}
 use Rattle.desk_sql.specs.declared.answers.KeptAnswer.{KeptAnswer}
 use Rattle.desk_sql.specs.declared.meta.Meta.{Meta}
-use Rattle.plan.specs.PlanModel.{is_plan}
-use Rattle.ledger.specs.Answer.{State, KeptReply, Outcome, most_events, kept_for, outcome}
+use Rattle.plan.specs.PlanModel.{Planned, is_plan}
+use Rattle.ledger.specs.Answer.{State, Outcome, most_events, kept_for, outcome}
+use Rattle.ledger.specs.Ledger.{Began, journeys}
 use Rattle.sql_model.specs.Standing.{StandsFor, IsDesk}
 use Rattle.sql_model.specs.Reading.{IsAnswerOf}
 use Rattle.sql_model.proofs.Beginning.{beginner, begin_stands}
@@ -21,9 +22,10 @@ use Rattle.sql_model.proofs.Answered.{answer_found, tells-some, tells-none, outc
 use Rattle.sql_writes.specs.declared.events.Numbers.{Numbers}
 use Rattle.sql_writes.specs.declared.events.JourneyBegun.{JourneyBegun}
 use Rattle.sql_writes.specs.declared.events.Event.TheVariants.{Begin}
-use Rattle.sql_commands.specs.declared.answering.Answered.{Answered}
 use Rattle.sql_commands.specs.Answering.{AnswersAgain, Counts, Finds, IsKeptLine}
 use Rattle.sql_commands.specs.Moving.{LeadsTo}
+use Rattle.sql_transitions.proofs.Keeping.{outcome-room, outcome-full}
+use Rattle.sql_commands.proofs.Executing.{IsUnmoved}
 use Rattle.sql_commands.proofs.LineTexts.{line_text}
 
 -- with the next numbers, the rows of a new journey lead to the outcome of its begin
@@ -39,9 +41,20 @@ begin_leads s ask counts n b desk new good counted room num_is journeys_are agen
       stands = λ t st. rw (agent, journey, num) (begin_stands t s ask b.plan.now st desk.legal good room new);
     }
 
+-- if the ledger has room, the reply is the number of the new journey; if it is full, nothing changes
+pub begin_replied : (s : State) (ask : Option Asked) (plan : Planned) → kept_for s ask ≡ None → length s.ledger < most_events
+    → Begins (length (journeys s.ledger) + 1) ≡ (outcome s ask (request.Begin plan)).reply
+begin_replied s ask plan new room = sym (ap (λ (o : Outcome). o.reply) (outcome-room s ask (request.Begin plan) new room))
+
+pub begin_full : (s : State) (ask : Option Asked) (plan : Planned) → kept_for s ask ≡ None → most_events ≤ length s.ledger
+    → IsUnmoved s ask (request.Begin plan) (Refused Limit)
+begin_full s ask plan new full =
+    let comes = outcome-full s ask (request.Begin plan) new (Began (beginner ask) plan) refl full in
+    record { replied = sym (ap (λ (o : Outcome). o.reply) comes); same = ap (λ (o : Outcome). o.state) comes }
+
 -- if a row was found, its key is known, and this is the reply
 pub known_reply : (t : Tables) (s : State) (ask : Asked) (found : KeptAnswer) (r : Reply) → StandsFor t s → IsDesk s
-    → FindsAnswer ask.agent ask.key t (Some found) → AnswersAgain found ask r → Finds s ask (Some r)
+    → FindsAnswer ask.agent ask.key t (Some found) → AnswersAgain found ask r → Finds s (Some ask) (Some r)
 known_reply t s ask found r st desk finds again =
     let told = tells-some IsAnswerOf (answer_of ask.agent ask.key found) (s.kept ask.agent ask.key) (answer_read t s st desk ask.agent ask.key (Some found) finds) in (
       ap is_some told.1,
@@ -67,9 +80,3 @@ reply_texts t s st desk agent key a has =
 -- if no row was found, the key is new
 pub new_key : (t : Tables) (s : State) (ask : Asked) → StandsFor t s → IsDesk s → FindsAnswer ask.agent ask.key t None → kept_for s (Some ask) ≡ None
 new_key t s ask st desk finds = tells-none IsAnswerOf (s.kept ask.agent ask.key) (answer_read t s st desk ask.agent ask.key None finds)
-
--- a reply is new if no reply was kept
-pub is_new_if_first : (result : Result Answered Fault) (kept : Option KeptReply) → kept ≡ None
-    → IfOk result (λ (r : Answered). IsTrue r.is_new) → IfOk result (λ (r : Answered). r.is_new ≡ not (is_some kept))
-is_new_if_first (Ok answered) kept none new = new ∙ sym (ap (λ k. not (is_some k)) none)
-is_new_if_first (Err fault) kept none new = tt

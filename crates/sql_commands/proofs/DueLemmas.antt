@@ -20,6 +20,7 @@ use Rattle.sql_commands.specs.Moving.{asked_for, IsDue, IsEventOf, LeadsTo}
 use Rattle.sql_commands.specs.Placing.{begun_as}
 use Rattle.sql_commands.specs.declared.moves.Motion.{Motion}
 use Rattle.sql_commands.specs.declared.moves.Motion.TheVariants as motion
+use Rattle.sql_commands.proofs.Executing.{IsUnmoved}
 use Rattle.sql_commands.proofs.LeadLemmas.{item_leads}
 
 -- each request for a move keeps the limits
@@ -29,18 +30,9 @@ move_request id (motion.Abort p) = refl
 move_request id motion.Stop = refl
 move_request id motion.Save = refl
 
--- a refusal of the rules is the reply, and nothing changes
-refused_comes : (s : State) (ask : Option Asked) (id : ℕ) (why : Motion) (refusal : Refusal) → kept_for s ask ≡ None
-    → answer_within s.ledger (asker ask) (asked_for id why) ≡ refused refusal
-    → outcome s ask (asked_for id why) ≡ carried_out s ask (refused refusal)
-refused_comes s ask id why refusal new answered =
-    outcome-no_event s ask (asked_for id why) new (ap (λ (a : Answer). a.event) answered)
-    ∙ ap (carried_out s ask) answered
-
 -- the outcome of a refused request: its reply, and that nothing changes
-pub record IsRefused (s : State) (ask : Option Asked) (id : ℕ) (why : Motion) (refusal : Refusal) : Type 0 where
-  pub replied : reply.Refused refusal ≡ (outcome s ask (asked_for id why)).reply
-  pub same : (outcome s ask (asked_for id why)).state ≡ s
+abbrev pub IsRefused : State → Option Asked → ℕ → Motion → Refusal → Type 0
+IsRefused s ask id why refusal = IsUnmoved s ask (asked_for id why) (reply.Refused refusal)
 
 by_outcome : (s : State) (ask : Option Asked) (id : ℕ) (why : Motion) (refusal : Refusal)
     → outcome s ask (asked_for id why) ≡ carried_out s ask (refused refusal) → IsRefused s ask id why refusal
@@ -48,6 +40,13 @@ by_outcome s ask id why refusal e = record {
   replied = sym (ap (λ (o : Outcome). o.reply) e);
   same = ap (λ (o : Outcome). o.state) e;
 }
+
+-- a refusal of the rules is the reply, and nothing changes
+pub answered_refused : (s : State) (ask : Option Asked) (id : ℕ) (why : Motion) (refusal : Refusal) → kept_for s ask ≡ None
+    → answer_within s.ledger (asker ask) (asked_for id why) ≡ refused refusal → IsRefused s ask id why refusal
+answered_refused s ask id why refusal new answered =
+    by_outcome s ask id why refusal (outcome-no_event s ask (asked_for id why) new (ap (λ (a : Answer). a.event) answered)
+    ∙ ap (carried_out s ask) answered)
 
 -- a move of a journey that the caller does not see is refused
 unseen_answer : (s : State) (ask : Option Asked) (id : ℕ) (why : Motion) → seen_journey s.ledger (asker ask) id ≡ None
@@ -60,14 +59,14 @@ unseen_answer s ask id motion.Save e = ap (λ o. answer_move s.ledger id save_ch
 pub unseen_refused : (s : State) (ask : Option Asked) (id : ℕ) (why : Motion) → kept_for s ask ≡ None
     → seen_journey s.ledger (asker ask) id ≡ None → IsRefused s ask id why NoJourney
 unseen_refused s ask id why new e =
-    by_outcome s ask id why NoJourney (refused_comes s ask id why NoJourney new (unseen_answer s ask id why e))
+    answered_refused s ask id why NoJourney new (unseen_answer s ask id why e)
 
 module _ (s : State) (ask : Option Asked) (why : Motion) (counts : Meta) (id : ℕ) (r : Record) where
   -- a refusal of the rules
   pub due_refused : (refusal : Refusal) → IsDue s ask (asked_for id why) counts id r (Err refusal)
       → IsRefused s ask id why refusal
   due_refused refusal due =
-      by_outcome s ask id why refusal (refused_comes s ask id why refusal due.new due.answered)
+      answered_refused s ask id why refusal due.new due.answered
 
   -- an item for which the ledger has no room
   pub due_full : (x : Item) → IsDue s ask (asked_for id why) counts id r (Ok x) → most_events ≤ length s.ledger

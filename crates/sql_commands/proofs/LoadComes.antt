@@ -35,6 +35,7 @@ use Rattle.sql_writes.specs.declared.events.BatchLoaded.{BatchLoaded}
 use Rattle.sql_writes.specs.declared.events.Event.TheVariants as event
 use Rattle.sql_commands.specs.Loading.{IsTextOf, TellsName, AnswersKnown, HavePlaces, TellsBelow, IsNewName, IsLoadDue}
 use Rattle.sql_commands.specs.Moving.{LeadsTo}
+use Rattle.sql_commands.proofs.Executing.{IsUnmoved}
 use Rattle.sql_commands.proofs.LoadRows.{put_told, none_below}
 
 -- the rows of a batch keep the limits
@@ -78,11 +79,6 @@ known_answer name rows known content b batch good text same =
     go false false e = refl
     go true false e = cc
     go false true e = cc
-
--- the outcome of a request that changes nothing: its reply, and the same state
-pub record IsUnmoved (s : State) (ask : Option Asked) (asked : Request) (r : Reply) : Type 0 where
-  pub replied : r ≡ (outcome s ask asked).reply
-  pub same : (outcome s ask asked).state ≡ s
 
 -- if the rules name no event, nothing changes
 unmoved : (s : State) (ask : Option Asked) (asked : Request) (a : Answer) → kept_for s ask ≡ None → a.event ≡ None
@@ -185,15 +181,3 @@ due_load_leads s ask counts n b name rows answered due batch room num journeys_a
       content = content;
       places = due.places;
     }) comes.0 due.new_name.new)
-
--- Successes.
-
--- a fact about a success that needs a clean disk may be shown under that premise
-pub where_clean : {V E : Type 0} (Clean Kept : Type 0) (r : Result V E) → (Clean → OnOk r (Clean → Kept)) → OnOk r (Clean → Kept)
-where_clean Clean Kept (Ok v) f = λ clean. f clean clean
-where_clean Clean Kept (Err e) f = tt
-
--- the postcondition of a success may be replaced by a weaker one
-pub on_ok : {V E : Type 0} (r : Result V E) (P : V → Type 0) (Kept : Type 0) → ((v : V) → P v → Kept) → IfOk r P → OnOk r Kept
-on_ok (Ok v) P Kept f p = f v p
-on_ok (Err e) P Kept f p = tt

@@ -7,9 +7,6 @@ use Rattle.std.proofs.lemmas.Bool.Decides.{nat_tests}
 use Rattle.std.proofs.lemmas.List.{map-append}
 use Rattle.std.proofs.lemmas.Grind.{flat_map-append}
 use Rattle.std.proofs.lemmas.List.Folds.{list_all-append}
-use Rattle.sqlite.specs.Store.{Ghosts}
-use Rattle.sqlite.specs.State.{HasCleanDisk}
-use Rattle.sqlite.specs.Held.{Held, state}
 use Rattle.sqlite_rules.specs.Lists.{Has}
 use Rattle.sqlite_rules.proofs.ListLemmas.{has_found}
 use Rattle.sqlite_rules.proofs.ProbeLemmas.{has_mapped, mapped_has}
@@ -37,13 +34,9 @@ use Rattle.sql_transitions.specs.Loading.{put_rows}
 use Rattle.sql_transitions.proofs.Fitting.{held_told, held_untold}
 use Rattle.sql_writes.specs.Loads.{put_each}
 use Rattle.sql_writes.proofs.LoadLemmas.{take-more}
-use Rattle.sql_model.specs.Keeping.{Keeps}
-use Rattle.sql_commands.specs.Loading.{GetsPlaces, HavePlaces, HasLooked, row_loaded}
-use Rattle.sql_model.specs.Staying.{sees_alone}
+use Rattle.sql_commands.specs.Loading.{GetsPlaces, HavePlaces, row_loaded}
 use Rattle.sql_reads.specs.NightsRead.{AreRead, IsAmong, IsLater, held_at, nights_from}
-use Rattle.sql_reads.specs.Reading.{OnlyReads}
 use Rattle.sql_reads.specs.declared.nights_read.NightsRead.{NightsRead}
-use Rattle.sql_reads.proofs.ReadLemmas.{reads_then}
 
 -- Places.
 
@@ -112,7 +105,7 @@ places_told r s p gets =
     gets.1 gets.2
 
 -- one more row has its places
-have_more : (rows : List Row) (s : State) (cells : List (Cell × HeldPlaces)) (r : Row) (p : HeldPlaces)
+pub have_more : (rows : List Row) (s : State) (cells : List (Cell × HeldPlaces)) (r : Row) (p : HeldPlaces)
     → HavePlaces rows s cells → GetsPlaces r s (Some p)
     → HavePlaces (rows ++ r ∷ []) s (cells ++ (r.cell, p) ∷ [])
 have_more rows s cells r p have gets = record {
@@ -177,28 +170,6 @@ first_below above rows i r within is all fails =
         let both = and_parts (above q) (list_all above (take j rs)) before in
         ap (λ (b : Bool). cond (not (not b)) (1 + position_or_len (λ x. not (above x)) rs) 0) both.0
         ∙ one_more (position_or_len (λ x. not (above x)) rs) j (place rs j (omega arith) e both.1)
-
--- Rows, in order.
-
-module _ {S : Type 0} (g : Ghosts S) where
-  -- at first no row was examined
-  pub none_looked : (h : Held S) → HasLooked g h h [] []
-  none_looked h = record {
-    reads = record { keeps = λ v s keeps. keeps; stop = λ clean db may. may; less = λ clean. clean; sees = sees_alone g h };
-    shown = λ clean s desk keeps. record { above = refl; told = refl };
-  }
-
-  module _ (old mid new : Held S) (rows : List Row) (cells : List (Cell × HeldPlaces)) (has : HasLooked g old mid rows cells)
-      (reads : OnlyReads g mid new) (r : Row) where
-    -- one more row has its places
-    pub looked_more : (p : HeldPlaces)
-        → (HasCleanDisk (state g new) → (s : State) → IsDesk s → Keeps (state g old) s → GetsPlaces r s (Some p))
-        → HasLooked g old new (rows ++ r ∷ []) (cells ++ (r.cell, p) ∷ [])
-    looked_more p gets = record {
-      reads = reads_then g old mid new has.reads reads;
-      shown = λ clean s desk keeps.
-          have_more rows s cells r p (has.shown (reads.less clean) s desk keeps) (gets clean s desk keeps);
-    }
 
 -- Texts.
 

@@ -18,8 +18,9 @@ use Rattle.sql_model.specs.Keeping.{Keeps, MayLeave}
 use Rattle.sql_reads.specs.Reading.{ShowsKept}
 use Rattle.sql_commands.specs.declared.answering.Answered.{Answered}
 
--- the row of meta counts the events and the journeys
+-- the row of meta has the newest version, and counts the events and the journeys
 pub record Counts (s : State) (m : Meta) : Type 0 where
+  pub version : m.version ≡ 2
   pub events : m.events ≡ length s.ledger
   pub journeys_are : m.journeys ≡ length (journeys s.ledger)
 
@@ -30,12 +31,12 @@ pub record IsCounted (m : Meta) : Type 0 where
 
 -- the reply found for an ask: none if its key is new, else the reply that each request gets; it changes
 -- nothing
-abbrev pub Finds : State → Asked → Option Reply → Type 0
-Finds s ask None = kept_for s (Some ask) ≡ None
+abbrev pub Finds : State → Option Asked → Option Reply → Type 0
+Finds s ask None = kept_for s ask ≡ None
 Finds s ask (Some r) =
-    (is_some (kept_for s (Some ask)) ≡ true)
+    (is_some (kept_for s ask) ≡ true)
     × ((asked : Request)
-    → (r ≡ (outcome s (Some ask) asked).reply) × ((outcome s (Some ask) asked).state ≡ s))
+    → (r ≡ (outcome s ask asked).reply) × ((outcome s ask asked).state ≡ s))
 
 -- the reply under a known key: the kept one, or the refusal of another text
 abbrev pub AnswersAgain : KeptAnswer → Asked → Reply → Type 0
@@ -50,52 +51,12 @@ pub record IsKeptLine (found : KeptAnswer) : Type 0 where
   pub line : string_bytes found.reply ≡ reply_line reply
 
 module _ {S : Type 0} (g : Ghosts S) (old new : Held S) where
-  -- after a success the connection keeps what it kept
-  abbrev pub KeepsOn : {V : Type 0} → Result V Fault → Type 0
-  KeepsOn result = (s : State) → Keeps (state g old) s → OnOk result (Keeps (state g new) s)
-
   -- out of memory, the connection keeps what it kept
   abbrev pub KeepsAtMemory : {V : Type 0} → Result V Fault → Type 0
   KeepsAtMemory result =
       (s : State) → Keeps (state g old) s → result ≡ Err Memory → Keeps (state g new) s
 
-  -- the reply is that of the request's outcome
-  abbrev pub Answers : Option Asked → Request → Result Answered Fault → Type 0
-  Answers ask asked result =
-      ShowsKept g old new result (λ s (r : Answered). r.reply ≡ (outcome s ask asked).reply)
-
   -- the reply is new if none was kept for the ask
   abbrev pub TellsNew : Option Asked → Result Answered Fault → Type 0
   TellsNew ask result =
       ShowsKept g old new result (λ s (r : Answered). r.is_new ≡ not (is_some (kept_for s ask)))
-
-  -- after a success the connection keeps the state of the request's outcome
-  abbrev pub KeepsNext : Option Asked → Request → Result Answered Fault → Type 0
-  KeepsNext ask asked result =
-      (s : State) → IsDesk s → Keeps (state g old) s
-      → OnOk result (Keeps (state g new) (outcome s ask asked).state)
-
-  -- in every case a crash leaves the old state, or the state of the request's outcome
-  abbrev pub LeavesOld : Option Asked → Request → Type 0
-  LeavesOld ask asked =
-      (s : State) → IsDesk s → Keeps (state g old) s
-      → MayLeave (state g new) s (outcome s ask asked).state
-
-  -- the same three, if no reply is kept for the ask
-  abbrev pub AnswersNew : Option Asked → Request → Result Reply Fault → Type 0
-  AnswersNew ask asked result =
-      HasCleanDisk (state g new) → (s : State) → IsDesk s → Keeps (state g old) s
-      → kept_for s ask ≡ None → IfOk result (λ r. r ≡ (outcome s ask asked).reply)
-
-  abbrev pub AnswersFirst : Option Asked → Request → Result Answered Fault → Type 0
-  AnswersFirst ask asked result =
-      HasCleanDisk (state g new) → (s : State) → IsDesk s → Keeps (state g old) s
-      → kept_for s ask ≡ None → IfOk result (λ (r : Answered). r.reply ≡ (outcome s ask asked).reply)
-
-  abbrev pub KeepsNew : {V : Type 0} → Option Asked → Request → Result V Fault → Type 0
-  KeepsNew ask asked result = (s : State) → IsDesk s → Keeps (state g old) s
-      → kept_for s ask ≡ None → OnOk result (Keeps (state g new) (outcome s ask asked).state)
-
-  abbrev pub LeavesNew : Option Asked → Request → Type 0
-  LeavesNew ask asked = (s : State) → IsDesk s → Keeps (state g old) s
-      → kept_for s ask ≡ None → MayLeave (state g new) s (outcome s ask asked).state

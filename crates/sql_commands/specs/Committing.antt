@@ -1,5 +1,5 @@
 -- Why an event is not committed with its reply, and what it leaves of the rowids that the store may choose.
-use Rattle.std.specs.Prelude.{◌≡◌, ◌⊎◌, ◌+◌, ◌*◌, ◌^◌, ◌≤◌, ⊤, ℕ, suc, false, length, Option, Some, None, Result, IsErrOf, IsTrue}
+use Rattle.std.specs.Prelude.{◌≡◌, ◌⊎◌, ◌+◌, ◌*◌, ◌^◌, ◌≤◌, ⊤, ℕ, suc, false, length, Option, Some, None, Result, IsErrOf, IsTrue, OnOk}
 use Rattle.std.specs.List.{AllByRecursion}
 use Rattle.sqlite.specs.Store.{Ghosts}
 use Rattle.sqlite.specs.Held.{Held, state}
@@ -15,13 +15,16 @@ use Rattle.desk_sql.specs.Rows.{Tables, AnswerRow}
 use Rattle.desk_sql.specs.Writable.{HasRowids}
 use Rattle.ledger.specs.Answer.{State}
 use Rattle.sql_model.specs.Beginning.{with_answer}
-use Rattle.sql_model.specs.Keeping.{Keeps}
+use Rattle.sql_model.specs.Keeping.{Keeps, MayLeave, WasClean}
 use Rattle.sql_model.specs.Standing.{StandsFor}
+use Rattle.sql_model.specs.Staying.{StaysUp}
 use Rattle.sql_writes.specs.Commits.{RanOut}
 use Rattle.sql_writes.specs.Kinds.{Fits, rows_after}
 use Rattle.sql_writes.specs.Permits.{Permits, rowids_of}
 use Rattle.sql_writes.specs.declared.events.Numbers.{Numbers}
 use Rattle.sql_writes.specs.declared.events.Event.{Event}
+use Rattle.sql_commands.specs.Answering.{KeepsAtMemory}
+use Rattle.sql_commands.specs.Moving.{LeadsTo}
 
 -- the text of an ask, if there is one, has at most ten million bytes
 abbrev pub HasShortText : Option Asked → Type 0
@@ -64,3 +67,16 @@ module _ {S : Type 0} (g : Ghosts S) (old new : Held S) where
       → ((t : Tables) → StandsFor t s → Fits n e t)
       → (m : ℕ) → HasRowids (answer_rowids n e ask + m) (state g old).now.trees
       → IsTrue (state g new).is_open → HasRowids m (state g new).now.trees
+
+  -- an event with its reply is committed, or not: a success leads to the next state, and in every case a crash leaves the old
+  -- state or the next one
+  pub record CommitsReply (n : Numbers) (e : Event) (ask : Option Asked) (reply : Reply) {V : Type 0} (result : Result V Fault)
+      : Type 0 where
+    pub outside : new.in_transaction ≡ false
+    pub done : (s next : State) → LeadsTo n e ask reply s next → Keeps (state g old) s → OnOk result (Keeps (state g new) next)
+    pub left : (s next : State) → LeadsTo n e ask reply s next → Keeps (state g old) s → MayLeave (state g new) s next
+    pub memory : KeepsAtMemory g old new result
+    pub sound : WasClean g old new
+    pub store : FailsToCommit n e ask reply result
+    pub rowids : LeavesRowids n e ask
+    pub up : StaysUp g old new

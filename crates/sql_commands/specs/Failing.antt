@@ -78,12 +78,6 @@ module _ {S : Type 0} (g : Ghosts S) (old new : Held S) (ask : Option Asked) (as
       → (m : ℕ) → HasRowids (asked_rowids ask asked + m) (state g old).now.trees → IsUp (state g old)
       → HasRowids m (state g new).now.trees ⊎ HasFaulted (state g old) (state g new)
 
-  -- the call fails for a reason, takes at most its rowids, and leaves a store up that was so
-  pub record UsesStore (IsDueIn : State → Type 0) {V : Type 0} (result : Result V Fault) : Type 0 where
-    pub store : FailsFor IsDueIn result
-    pub rowids : LeavesRowidsFor IsDueIn
-    pub up : StaysUp g old new
-
 -- a desk on which no reply is kept for the ask
 pub record IsNewTo (ask : Option Asked) (s : State) : Type 0 where
   pub desk : IsDesk s
@@ -94,29 +88,3 @@ pub record IsNewMove (ask : Option Asked) (id : ℕ) (why : Motion) (s : State) 
   pub here : IsNewTo ask s
   pub unfit : IsUnfit id why s
   pub runs : Runs id why s
-
--- The same, by what each call is given.
-
-module _ {S : Type 0} (g : Ghosts S) (old new : Held S) (ask : Option Asked) where
-  -- a request for which no reply is kept
-  abbrev pub UsesForNew : Request → {V : Type 0} → Result V Fault → Type 0
-  UsesForNew asked result = UsesStore g old new ask asked (IsNewTo ask) result
-
-  -- an item with its event
-  abbrev pub UsesForMade : Meta → Made → {V : Type 0} → Result V Fault → Type 0
-  UsesForMade counts m result =
-      (why : Motion) → UsesStore g old new ask (asked_for m.id why) (λ s. IsMade s ask counts why m) result
-
-  -- the answer of the rules to a motion
-  abbrev pub UsesForDue : Meta → ℕ → Record → Result Item Refusal → {V : Type 0} → Result V Fault → Type 0
-  UsesForDue counts id r next result =
-      (why : Motion) → UsesStore g old new ask (asked_for id why) (λ s. IsDue s ask (asked_for id why) counts id r next) result
-
-  -- a motion for which no reply is kept
-  abbrev pub UsesForMove : ℕ → Motion → {V : Type 0} → Result V Fault → Type 0
-  UsesForMove id why result = UsesStore g old new ask (asked_for id why) (IsNewMove ask id why) result
-
-  -- a motion for which no reply is kept, after the numbers of `meta` and the row of the journey were read
-  abbrev pub UsesForRead : Meta → ℕ → Stand → Motion → {V : Type 0} → Result V Fault → Type 0
-  UsesForRead counts id stand why result =
-      UsesStore g old new ask (asked_for id why) (λ s. IsRead s ask counts id stand why) result

@@ -1,6 +1,7 @@
 pub mod Answering
 pub mod Committing
 pub mod Failing
+pub mod Executing
 pub mod Loading
 pub mod Moving
 pub mod Placing

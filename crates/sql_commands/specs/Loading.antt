@@ -18,6 +18,7 @@ use Rattle.commands.specs.declared.replies.Reply.{Reply}
 use Rattle.ledger.specs.Answer.{State, kept_for, outcome}
 use Rattle.ledger.specs.Ledger.{batches_named, held, is_not_below_held}
 use Rattle.ledger.specs.Replies as rules
+use Rattle.desk_sql.specs.Calls.{Quiet}
 use Rattle.desk_sql.specs.Rows.{StockRow}
 use Rattle.desk_sql.specs.declared.batches.BatchFound.{BatchFound}
 use Rattle.desk_sql.specs.declared.meta.Meta.{Meta}
@@ -27,7 +28,6 @@ use Rattle.sql_model.specs.Standing.{IsDesk}
 use Rattle.sql_transitions.specs.Loading.{loaded_row}
 use Rattle.sql_commands.specs.Answering.{Counts}
 use Rattle.sql_model.specs.Keeping.{Keeps, MayLeave}
-use Rattle.sql_reads.specs.Reading.{OnlyReads}
 
 -- Known batches.
 
@@ -76,13 +76,6 @@ TellsBelow rows s why =
     (i : ℕ) × (why ≡ BelowHeld (i + 1))
     × (position (λ (r : Row). not (is_not_below_held s.ledger r)) rows ≡ Some i)
 
-module _ {S : Type 0} (g : Ghosts S) (old now : Held S) where
-  -- these rows are examined so far, and nothing changed
-  pub record HasLooked (rows : List Row) (cells : List (Cell × HeldPlaces)) : Type 0 where
-    pub reads : OnlyReads g old now
-    pub shown : HasCleanDisk (state g now) → (s : State) → IsDesk s → Keeps (state g old) s
-        → HavePlaces rows s cells
-
 -- A load for which nothing is kept, of a name that no batch has. The numbers of `meta` are those of the
 -- ledger.
 pub record IsNewName (ask : Option Asked) (counts : Meta) (name : List ℕ) (s : State) : Type 0 where
@@ -96,24 +89,3 @@ pub record IsLoadDue (ask : Option Asked) (counts : Meta) (name : List ℕ) (row
     (cells : List (Cell × HeldPlaces)) (s : State) : Type 0 where
   pub new_name : IsNewName ask counts name s
   pub places : HavePlaces rows s cells
-
--- The outcome of a request, in each state that meets its precondition.
-module _ {S : Type 0} (g : Ghosts S) (old new : Held S) (ask : Option Asked) (asked : Request)
-    (IsDueIn : State → Type 0) where
-  -- the reply is that of the request's outcome
-  abbrev pub AnswersWhere : Result Reply Fault → Type 0
-  AnswersWhere result =
-      HasCleanDisk (state g new) → (s : State) → Keeps (state g old) s → IsDueIn s
-      → IfOk result (λ reply. reply ≡ (outcome s ask asked).reply)
-
-  -- after a success the connection keeps the state of the outcome
-  abbrev pub KeepsWhere : Result Reply Fault → Type 0
-  KeepsWhere result =
-      (s : State) → Keeps (state g old) s → IsDueIn s
-      → OnOk result (Keeps (state g new) (outcome s ask asked).state)
-
-  -- in every case a crash leaves the old state, or the state of the outcome
-  abbrev pub LeavesWhere : Type 0
-  LeavesWhere =
-      (s : State) → Keeps (state g old) s → IsDueIn s
-      → MayLeave (state g new) s (outcome s ask asked).state

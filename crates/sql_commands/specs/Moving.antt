@@ -199,49 +199,6 @@ pub record IsMade (s : State) (ask : Option Asked) (counts : Meta) (why : Motion
   pub says : IsEventOf m.id journey.plan journey.cursor m.item m.event
   pub cursor : m.cursor ≡ cursor_after journey.plan journey.cursor m.item
 
-module _ {S : Type 0} (g : Ghosts S) (old new : Held S) (ask : Option Asked) (counts : Meta) (m : Made) where
-  -- the reply is that of the outcome
-  abbrev pub AnswersMade : Result Reply Fault → Type 0
-  AnswersMade result =
-      HasCleanDisk (state g new) → (s : State) (why : Motion) → Keeps (state g old) s
-      → IsMade s ask counts why m
-      → IfOk result (λ reply. reply ≡ (outcome s ask (asked_for m.id why)).reply)
-
-  -- after a success the connection keeps the state of the outcome
-  abbrev pub KeepsMade : Result Reply Fault → Type 0
-  KeepsMade result =
-      (s : State) (why : Motion) → Keeps (state g old) s → IsMade s ask counts why m
-      → OnOk result (Keeps (state g new) (outcome s ask (asked_for m.id why)).state)
-
-  -- in every case a crash leaves the old state, or the state of the outcome
-  abbrev pub LeavesMade : Type 0
-  LeavesMade =
-      (s : State) (why : Motion) → Keeps (state g old) s → IsMade s ask counts why m
-      → MayLeave (state g new) s (outcome s ask (asked_for m.id why)).state
-
-module _ {S : Type 0} (g : Ghosts S) (old new : Held S) (ask : Option Asked) (counts : Meta) (id : ℕ)
-    (r : Record) (next : Result Item Refusal) where
-  -- the reply is that of the outcome
-  abbrev pub AnswersDue : Result Reply Fault → Type 0
-  AnswersDue result =
-      HasCleanDisk (state g new) → (s : State) (why : Motion) → Keeps (state g old) s
-      → IsDue s ask (asked_for id why) counts id r next
-      → IfOk result (λ reply. reply ≡ (outcome s ask (asked_for id why)).reply)
-
-  -- after a success the connection keeps the state of the outcome
-  abbrev pub KeepsDue : Result Reply Fault → Type 0
-  KeepsDue result =
-      (s : State) (why : Motion) → Keeps (state g old) s
-      → IsDue s ask (asked_for id why) counts id r next
-      → OnOk result (Keeps (state g new) (outcome s ask (asked_for id why)).state)
-
-  -- in every case a crash leaves the old state, or the state of the outcome
-  abbrev pub LeavesDue : Type 0
-  LeavesDue =
-      (s : State) (why : Motion) → Keeps (state g old) s
-      → IsDue s ask (asked_for id why) counts id r next
-      → MayLeave (state g new) s (outcome s ask (asked_for id why)).state
-
 -- if the move is that of a refused step, the journey runs
 abbrev pub Runs : ℕ → Motion → State → Type 0
 Runs id motion.Refused s = (who : Option (List ℕ)) (r : Record) → IsSeen s who id r → r.cursor.phase ≡ Run
@@ -258,43 +215,3 @@ pub record IsRead (s : State) (ask : Option Asked) (counts : Meta) (id : ℕ) (s
   pub here : SeesStand (asker ask) id s (Some stand)
   pub unfit : IsUnfit id why s
   pub runs : Runs id why s
-
-module _ {S : Type 0} (g : Ghosts S) (old new : Held S) (ask : Option Asked) (counts : Meta) (id : ℕ)
-    (stand : Stand) (why : Motion) where
-  -- the reply is that of the outcome
-  abbrev pub AnswersRead : Result Reply Fault → Type 0
-  AnswersRead result =
-      HasCleanDisk (state g new) → (s : State) → Keeps (state g old) s → IsRead s ask counts id stand why
-      → IfOk result (λ reply. reply ≡ (outcome s ask (asked_for id why)).reply)
-
-  -- after a success the connection keeps the state of the outcome
-  abbrev pub KeepsRead : Result Reply Fault → Type 0
-  KeepsRead result =
-      (s : State) → Keeps (state g old) s → IsRead s ask counts id stand why
-      → OnOk result (Keeps (state g new) (outcome s ask (asked_for id why)).state)
-
-  -- in every case a crash leaves the old state, or the state of the outcome
-  abbrev pub LeavesRead : Type 0
-  LeavesRead =
-      (s : State) → Keeps (state g old) s → IsRead s ask counts id stand why
-      → MayLeave (state g new) s (outcome s ask (asked_for id why)).state
-
-module _ {S : Type 0} (g : Ghosts S) (old new : Held S) (ask : Option Asked) (id : ℕ) (why : Motion) where
-  -- if no reply is kept for the ask, the reply is that of the outcome
-  abbrev pub AnswersMove : Result Reply Fault → Type 0
-  AnswersMove result =
-      HasCleanDisk (state g new) → (s : State) → IsDesk s → Keeps (state g old) s
-      → kept_for s ask ≡ None → IsUnfit id why s → Runs id why s
-      → IfOk result (λ reply. reply ≡ (outcome s ask (asked_for id why)).reply)
-
-  -- after a success the connection keeps the state of the outcome
-  abbrev pub KeepsMove : Result Reply Fault → Type 0
-  KeepsMove result =
-      (s : State) → IsDesk s → Keeps (state g old) s → kept_for s ask ≡ None → IsUnfit id why s → Runs id why s
-      → OnOk result (Keeps (state g new) (outcome s ask (asked_for id why)).state)
-
-  -- in every case a crash leaves the old state, or the state of the outcome
-  abbrev pub LeavesMove : Type 0
-  LeavesMove =
-      (s : State) → IsDesk s → Keeps (state g old) s → kept_for s ask ≡ None → IsUnfit id why s → Runs id why s
-      → MayLeave (state g new) s (outcome s ask (asked_for id why)).state

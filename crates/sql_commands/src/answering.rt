@@ -1,21 +1,17 @@
 //! The reply to a command, and the transaction of its event, with one commit.
 
-ghost use Rattle.std.specs.Prelude.{◌≡◌, false, IfErr, IfOk, IsTrue, Some, OnOk};
-ghost use Rattle.std.specs.Option.{option_copied as asker, option_copied as asked_by};
+ghost use Rattle.std.specs.Prelude.{◌≡◌, false, IfErr, IfOk, IsTrue, Some};
+ghost use Rattle.std.specs.Option.{option_copied as asker};
 ghost use Rattle.commands.specs.Orders.{request_of};
-ghost use Rattle.ledger.specs.Answer.{is_request, State};
-ghost use Rattle.sql_commands.specs.Answering.{AnswersAgain, IsKeptLine, AnswersFirst, Finds, KeepsOn, KeepsAtMemory, TellsNew, Answers, KeepsNext, LeavesOld, AnswersNew, KeepsNew, LeavesNew, Counts, IsCounted};
-ghost use Rattle.sql_commands.specs.Failing.{FailsFor, LeavesRowidsFor, UsesForNew, UsesStore};
+ghost use Rattle.ledger.specs.Answer.{is_request};
+ghost use Rattle.sql_commands.specs.Answering.{AnswersAgain, IsKeptLine, Finds, TellsNew, Counts, IsCounted};
+ghost use Rattle.sql_commands.specs.Committing.{CommitsReply};
+ghost use Rattle.sql_commands.specs.Executing.{Executes, Replies};
+ghost use Rattle.sql_commands.specs.Failing.{IsNewTo};
 ghost use Rattle.sql_model.specs.Standing.{IsDesk};
-ghost use Rattle.sql_model.specs.Staying.{SeesAsBefore, StaysUp};
-ghost use Rattle.sql_reads.specs.Causes.{FailsForReason};
 ghost use Rattle.sql_reads.specs.GoodRows.{IsMemory};
-ghost use Rattle.sql_reads.specs.Reading.{LeavesAsBefore, ShowsKept, WasClean};
-ghost use Rattle.sql_commands.specs.Committing.{FailsToCommit, LeavesRowids};
-ghost use Rattle.sql_commands.specs.Moving.{LeadsTo};
-ghost use Rattle.sql_model.specs.Keeping.{Keeps, MayLeave};
+ghost use Rattle.sql_reads.specs.Reads.{Read};
 ghost use Rattle.sql_writes.specs.Kinds.{IsSmall};
-ghost use Rattle.sqlite.specs.Held.{state};
 
 use crate::begins::answer_begin;
 use crate::loading::answer_load;
@@ -52,32 +48,24 @@ fn again(alloc: Global, kept: &KeptAnswer, ask: &Ask) -> Result<Reply, Fault>
     }
 }
 
-/// Returns the reply to an ask whose key is known; `None` if the key is new.
+/// Returns the reply to an ask whose key is known; `None` if the key is new, or if there is no ask.
 fn find_reply<S: Alter>(
     alloc: Global,
     conn: &mut Connection<S>,
-    ask: &Ask,
+    ask: Option<&Ask>,
 ) -> Result<Option<Reply>, Fault>
-    requires outside { conn.old.in_transaction ≡ false }
-
-    ensures outside { conn.new.in_transaction ≡ false }
-    ensures found { ShowsKept S.Store conn.old conn.new result (λ s found. Finds s ask.now found) }
-    ensures same { KeepsOn S.Store conn.old conn.new result }
-    ensures memory { KeepsAtMemory S.Store conn.old conn.new result }
-    ensures left { LeavesAsBefore S.Store conn.old conn.new }
-    ensures sound { WasClean S.Store conn.old conn.new }
-
-    ensures store { FailsForReason S.Store conn.old conn.new result }
-    ensures up { StaysUp S.Store conn.old conn.new }
-    ensures sees { SeesAsBefore S.Store conn.old conn.new }
+    ensures { Read S.Store conn.old conn.new result (λ s found. Finds s (asker ask.entry) found) }
 {
-    match find_answer(conn, ask.agent().as_str(), ask.key().as_str()) {
-        Ok(None) => Ok(None),
-        Ok(Some(kept)) => match again(alloc, &kept, ask) {
-            Ok(reply) => Ok(Some(reply)),
-            Err(fault) => Err(fault),
+    match ask {
+        None => Ok(None),
+        Some(ask) => match find_answer(conn, ask.agent().as_str(), ask.key().as_str()) {
+            Ok(None) => Ok(None),
+            Ok(Some(kept)) => match again(alloc, &kept, ask) {
+                Ok(reply) => Ok(Some(reply)),
+                Err(fault) => Err(fault),
+            },
+            Err(error) => Err(fault_of(&error)),
         },
-        Err(error) => Err(fault_of(&error)),
     }
 }
 
@@ -90,17 +78,8 @@ fn answer_new<S: Alter>(
 ) -> Result<Reply, Fault>
     requires outside { conn.old.in_transaction ≡ false }
 
-    ensures outside { conn.new.in_transaction ≡ false }
-    ensures reply { AnswersNew S.Store conn.old conn.new (asker ask.entry) (request_of command.now)
-        result }
-    ensures after { KeepsNew S.Store conn.old conn.new (asker ask.entry) (request_of command.now)
-        result }
-    ensures memory { KeepsAtMemory S.Store conn.old conn.new result }
-    ensures left { LeavesNew S.Store conn.old conn.new (asker ask.entry) (request_of command.now) }
-    ensures sound { WasClean S.Store conn.old conn.new }
-
-    ensures store { UsesForNew S.Store conn.old conn.new (asker ask.entry)
-        (request_of command.now) result }
+    ensures { Replies S.Store conn.old conn.new (asker ask.entry) (request_of command.now)
+        (IsNewTo (asker ask.entry)) result }
 {
     match command {
         Command::Load(batch) => answer_load(alloc, conn, batch, ask),
@@ -114,70 +93,8 @@ fn answer_new<S: Alter>(
     }
 }
 
-/// Executes a command for whose ask no reply is kept, and says that its reply is new.
-fn answer_first<S: Alter>(
-    alloc: Global,
-    conn: &mut Connection<S>,
-    command: &Command,
-    ask: Option<&Ask>,
-) -> Result<Answered, Fault>
-    requires outside { conn.old.in_transaction ≡ false }
-
-    ensures outside { conn.new.in_transaction ≡ false }
-    ensures reply { AnswersFirst S.Store conn.old conn.new (asker ask.entry)
-        (request_of command.now) result }
-    ensures new { IfOk result (λ answered. IsTrue answered.is_new) }
-    ensures after { KeepsNew S.Store conn.old conn.new (asker ask.entry) (request_of command.now)
-        result }
-    ensures memory { KeepsAtMemory S.Store conn.old conn.new result }
-    ensures left { LeavesNew S.Store conn.old conn.new (asker ask.entry) (request_of command.now) }
-    ensures sound { WasClean S.Store conn.old conn.new }
-
-    ensures store { UsesForNew S.Store conn.old conn.new (asker ask.entry)
-        (request_of command.now) result }
-{
-    match answer_new(alloc, conn, command, ask) {
-        Ok(reply) => Ok(Answered {
-            reply,
-            is_new: true,
-        }),
-        Err(fault) => Err(fault),
-    }
-}
-
-/// Executes a command of an agent. A retry under its key gets the kept reply, or a refusal if its text differs.
-fn answer_for<S: Alter>(
-    alloc: Global,
-    conn: &mut Connection<S>,
-    command: &Command,
-    ask: &Ask,
-) -> Result<Answered, Fault>
-    requires outside { conn.old.in_transaction ≡ false }
-
-    ensures outside { conn.new.in_transaction ≡ false }
-    ensures reply { Answers S.Store conn.old conn.new (Some ask.now) (request_of command.now)
-        result }
-    ensures new { TellsNew S.Store conn.old conn.new (Some ask.now) result }
-    ensures after { KeepsNext S.Store conn.old conn.new (Some ask.now) (request_of command.now)
-        result }
-    ensures memory { KeepsAtMemory S.Store conn.old conn.new result }
-    ensures left { LeavesOld S.Store conn.old conn.new (Some ask.now) (request_of command.now) }
-    ensures sound { WasClean S.Store conn.old conn.new }
-
-    ensures store { UsesStore S.Store conn.old conn.new (Some ask.now)
-        (request_of command.now) IsDesk result }
-{
-    match find_reply(alloc, conn, ask) {
-        Ok(Some(reply)) => Ok(Answered {
-            reply,
-            is_new: false,
-        }),
-        Ok(None) => answer_first(alloc, conn, command, Some(ask)),
-        Err(fault) => Err(fault),
-    }
-}
-
-/// Executes a command of the agent who asks, or of the house if there is no ask. Returns its reply, and whether it is new.
+/// Executes a command of the agent who asks, or of the house if there is no ask. A retry under the agent's key gets the kept
+/// reply, or a refusal if its text differs.
 pub fn answer<S: Alter>(
     alloc: Global,
     conn: &mut Connection<S>,
@@ -186,26 +103,22 @@ pub fn answer<S: Alter>(
 ) -> Result<Answered, Fault>
     requires outside { conn.old.in_transaction ≡ false }
 
-    ensures outside { conn.new.in_transaction ≡ false }
-    ensures reply { Answers S.Store conn.old conn.new (asker ask.entry) (request_of command.now)
-        result }
+    ensures executes { Executes S.Store conn.old conn.new (asker ask.entry) (request_of command.now)
+        IsDesk (λ answered. answered.reply) result }
     ensures new { TellsNew S.Store conn.old conn.new (asker ask.entry) result }
-    ensures after { KeepsNext S.Store conn.old conn.new (asker ask.entry) (request_of command.now)
-        result }
-    ensures memory { KeepsAtMemory S.Store conn.old conn.new result }
-    ensures left { LeavesOld S.Store conn.old conn.new (asker ask.entry) (request_of command.now) }
-    ensures sound { WasClean S.Store conn.old conn.new }
-
-    ensures store { FailsFor S.Store conn.old conn.new (asker ask.entry)
-        (request_of command.now) IsDesk result }
-    ensures rowids { LeavesRowidsFor S.Store conn.old conn.new (asker ask.entry)
-        (request_of command.now) IsDesk }
-    ensures up { StaysUp S.Store conn.old conn.new }
 {
-    match ask {
-        None => answer_first(alloc, conn, command, None),
-        Some(ask) => answer_for(alloc, conn, command, ask),
+    let known = find_reply(alloc, conn, ask)?;
+    if let Some(reply) = known {
+        return Ok(Answered {
+            reply,
+            is_new: false,
+        });
     }
+    let reply = answer_new(alloc, conn, command, ask)?;
+    Ok(Answered {
+        reply,
+        is_new: true,
+    })
 }
 
 /// The request of a command keeps the limits, as each value of its type does. A call does nothing at run time.
@@ -235,18 +148,8 @@ fn commit_kept<S: Alter>(
     requires outside { conn.old.in_transaction ≡ false }
     requires small { IsSmall event.now }
 
-    ensures outside { conn.new.in_transaction ≡ false }
-    ensures done { (s next : State) → LeadsTo numbers event.now (Some ask.now) reply.now s next
-        → Keeps (state S.Store conn.old) s → OnOk result (Keeps (state S.Store conn.new) next) }
-    ensures memory { KeepsAtMemory S.Store conn.old conn.new result }
-    ensures left { (s next : State) → LeadsTo numbers event.now (Some ask.now) reply.now s next
-        → Keeps (state S.Store conn.old) s → MayLeave (state S.Store conn.new) s next }
-    ensures sound { WasClean S.Store conn.old conn.new }
-
-    ensures store { FailsToCommit S.Store conn.old conn.new numbers event.now
+    ensures { CommitsReply S.Store conn.old conn.new numbers event.now
         (Some ask.now) reply.now result }
-    ensures rowids { LeavesRowids S.Store conn.old conn.new numbers event.now (Some ask.now) }
-    ensures up { StaysUp S.Store conn.old conn.new }
 {
     let line = match reply.line(alloc) {
         Ok(line) => line,
@@ -275,20 +178,8 @@ pub(crate) fn commit_answered<S: Alter>(
     requires outside { conn.old.in_transaction ≡ false }
     requires small { IsSmall event.now }
 
-    ensures outside { conn.new.in_transaction ≡ false }
-    ensures done { (s next : State) →
-        LeadsTo numbers event.now (asked_by ask.entry) reply.now s next
-        → Keeps (state S.Store conn.old) s → OnOk result (Keeps (state S.Store conn.new) next) }
-    ensures memory { KeepsAtMemory S.Store conn.old conn.new result }
-    ensures left { (s next : State) →
-        LeadsTo numbers event.now (asked_by ask.entry) reply.now s next
-        → Keeps (state S.Store conn.old) s → MayLeave (state S.Store conn.new) s next }
-    ensures sound { WasClean S.Store conn.old conn.new }
-
-    ensures store { FailsToCommit S.Store conn.old conn.new numbers event.now
-        (asked_by ask.entry) reply.now result }
-    ensures rowids { LeavesRowids S.Store conn.old conn.new numbers event.now (asked_by ask.entry) }
-    ensures up { StaysUp S.Store conn.old conn.new }
+    ensures { CommitsReply S.Store conn.old conn.new numbers event.now
+        (asker ask.entry) reply.now result }
 {
     match ask {
         None => commit_event(conn, numbers, event, None),
@@ -298,20 +189,8 @@ pub(crate) fn commit_answered<S: Alter>(
 
 /// Reads the numbers of `meta`. Numbers greater than those of any ledger are a fault of the store.
 pub fn read_counts<S: Alter>(conn: &mut Connection<S>) -> Result<Meta, Fault>
-    requires outside { conn.old.in_transaction ≡ false }
-
-    ensures outside { conn.new.in_transaction ≡ false }
-    ensures counts { ShowsKept S.Store conn.old conn.new result Counts }
-    ensures version { ShowsKept S.Store conn.old conn.new result (λ _ meta. meta.version ≡ 2) }
+    ensures read { Read S.Store conn.old conn.new result Counts }
     ensures small { IfOk result IsCounted }
-    ensures same { KeepsOn S.Store conn.old conn.new result }
-    ensures memory { KeepsAtMemory S.Store conn.old conn.new result }
-    ensures left { LeavesAsBefore S.Store conn.old conn.new }
-    ensures sound { WasClean S.Store conn.old conn.new }
-
-    ensures store { FailsForReason S.Store conn.old conn.new result }
-    ensures up { StaysUp S.Store conn.old conn.new }
-    ensures sees { SeesAsBefore S.Store conn.old conn.new }
 {
     match read_meta(conn) {
         Ok(meta) if meta.events <= MOST_EVENTS && meta.journeys <= MOST_EVENTS => Ok(meta),

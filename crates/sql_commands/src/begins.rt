@@ -4,9 +4,8 @@ ghost use Rattle.std.specs.Option.{option_copied as asked_by};
 ghost use Rattle.commands.specs.Names.{house};
 ghost use Rattle.commands.specs.Request.{Begin};
 ghost use Rattle.ledger.specs.Answer.{asker};
-ghost use Rattle.sql_commands.specs.Answering.{AnswersNew, KeepsNew, LeavesNew, KeepsAtMemory};
-ghost use Rattle.sql_commands.specs.Failing.{UsesForNew};
-ghost use Rattle.sql_reads.specs.Reading.{WasClean};
+ghost use Rattle.sql_commands.specs.Executing.{Replies};
+ghost use Rattle.sql_commands.specs.Failing.{IsNewTo};
 
 use crate::answering::{commit_answered, read_counts};
 use commands::{Agent, Ask, Fault, MOST_EVENTS, Refusal, Reply};
@@ -34,17 +33,8 @@ pub(crate) fn answer_begin<S: Alter>(
 ) -> Result<Reply, Fault>
     requires outside { conn.old.in_transaction ≡ false }
 
-    ensures outside { conn.new.in_transaction ≡ false }
-    ensures reply { AnswersNew S.Store conn.old conn.new (asked_by ask.entry)
-        (Begin plan.now) result }
-    ensures after { KeepsNew S.Store conn.old conn.new (asked_by ask.entry)
-        (Begin plan.now) result }
-    ensures memory { KeepsAtMemory S.Store conn.old conn.new result }
-    ensures left { LeavesNew S.Store conn.old conn.new (asked_by ask.entry) (Begin plan.now) }
-    ensures sound { WasClean S.Store conn.old conn.new }
-
-    ensures store { UsesForNew S.Store conn.old conn.new (asked_by ask.entry)
-        (Begin plan.now) result }
+    ensures { Replies S.Store conn.old conn.new (asked_by ask.entry) (Begin plan.now)
+        (IsNewTo (asked_by ask.entry)) result }
 {
     let _steps = plan.steps();
     let counts = read_counts(conn)?;

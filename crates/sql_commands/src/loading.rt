@@ -8,15 +8,13 @@ ghost use Rattle.std.specs.Option.{option_copied as asked_by};
 ghost use Rattle.commands.specs.Request.{Load};
 ghost use Rattle.ledger.specs.Replies.{loaded as reply_to};
 ghost use Rattle.sql_model.specs.ExpectedRows.{batch_text};
-ghost use Rattle.sql_commands.specs.Answering.{AnswersNew, KeepsNew, LeavesNew, KeepsAtMemory, IsCounted};
+ghost use Rattle.sql_commands.specs.Answering.{IsCounted};
 ghost use Rattle.sql_commands.specs.Loading.{TellsName, AnswersKnown, LeavesPlaces};
 ghost use Rattle.sql_commands.specs.Loading.{HavePlaces, TellsBelow, IsNewName, IsLoadDue};
-ghost use Rattle.sql_commands.specs.Loading.{AnswersWhere, KeepsWhere, LeavesWhere};
-ghost use Rattle.sql_commands.specs.Failing.{UsesForNew, UsesStore};
-ghost use Rattle.sql_model.specs.Staying.{SeesAsBefore, StaysUp};
-ghost use Rattle.sql_reads.specs.Causes.{FailsForReason};
+ghost use Rattle.sql_commands.specs.Executing.{Replies};
+ghost use Rattle.sql_commands.specs.Failing.{IsNewTo};
 ghost use Rattle.sql_reads.specs.GoodRows.{IsMemory};
-ghost use Rattle.sql_reads.specs.Reading.{KeepsOn, KeepsEach, LeavesAsBefore, ShowsKept, WasClean};
+ghost use Rattle.sql_reads.specs.Reads.{Read};
 
 use crate::answering::{commit_answered, read_counts};
 use allotment::{Cell, Held, Row};
@@ -53,17 +51,7 @@ fn loaded(batch: &Batch) -> Reply
 
 /// Returns the batch with a name, if there is one.
 fn find_known<S: Alter>(conn: &mut Connection<S>, name: &str) -> Result<Option<BatchFound>, Fault>
-    requires outside { conn.old.in_transaction ≡ false }
-
-    ensures outside { conn.new.in_transaction ≡ false }
-    ensures known { ShowsKept S.Store conn.old conn.new result (TellsName name.now) }
-    ensures same { KeepsOn S.Store conn.old conn.new }
-    ensures stop { LeavesAsBefore S.Store conn.old conn.new }
-    ensures less { WasClean S.Store conn.old conn.new }
-
-    ensures store { FailsForReason S.Store conn.old conn.new result }
-    ensures up { StaysUp S.Store conn.old conn.new }
-    ensures sees { SeesAsBefore S.Store conn.old conn.new }
+    ensures { Read S.Store conn.old conn.new result (TellsName name.now) }
 {
     match find_batch(conn, name) {
         Ok(found) => Ok(found),
@@ -91,19 +79,9 @@ fn cells_of<S: Alter>(
     conn: &mut Connection<S>,
     rows: &[Row],
 ) -> Result<Result<Vec<(Cell, Held)>, Refusal>, Fault>
-    requires outside { conn.old.in_transaction ≡ false }
-
-    ensures outside { conn.new.in_transaction ≡ false }
-    ensures cells { ShowsKept S.Store conn.old conn.new result
+    ensures { Read S.Store conn.old conn.new result
         (λ s r. MatchResult r
         (λ cells. HavePlaces rows.now s cells.items) (TellsBelow rows.now s)) }
-    ensures same { KeepsEach S.Store conn.old conn.new }
-    ensures stop { LeavesAsBefore S.Store conn.old conn.new }
-    ensures less { WasClean S.Store conn.old conn.new }
-
-    ensures store { FailsForReason S.Store conn.old conn.new result }
-    ensures up { StaysUp S.Store conn.old conn.new }
-    ensures sees { SeesAsBefore S.Store conn.old conn.new }
 {
     let mut cells = Vec::new(alloc);
     let mut read = None;
@@ -149,20 +127,7 @@ fn load_cells<S: Alter>(
     requires outside { conn.old.in_transaction ≡ false }
     requires counted { IsCounted counts }
 
-    ensures outside { conn.new.in_transaction ≡ false }
-    ensures reply { AnswersWhere S.Store conn.old conn.new (asked_by ask.entry)
-        (Load batch.now.name batch.now.rows)
-        (IsLoadDue (asked_by ask.entry) counts batch.now.name batch.now.rows cells.now) result }
-    ensures after { KeepsWhere S.Store conn.old conn.new (asked_by ask.entry)
-        (Load batch.now.name batch.now.rows)
-        (IsLoadDue (asked_by ask.entry) counts batch.now.name batch.now.rows cells.now) result }
-    ensures memory { KeepsAtMemory S.Store conn.old conn.new result }
-    ensures left { LeavesWhere S.Store conn.old conn.new (asked_by ask.entry)
-        (Load batch.now.name batch.now.rows)
-        (IsLoadDue (asked_by ask.entry) counts batch.now.name batch.now.rows cells.now) }
-    ensures sound { WasClean S.Store conn.old conn.new }
-
-    ensures store { UsesStore S.Store conn.old conn.new (asked_by ask.entry)
+    ensures { Replies S.Store conn.old conn.new (asked_by ask.entry)
         (Load batch.now.name batch.now.rows)
         (IsLoadDue (asked_by ask.entry) counts batch.now.name batch.now.rows cells.now) result }
 {
@@ -198,20 +163,7 @@ fn load_new<S: Alter>(
     requires outside { conn.old.in_transaction ≡ false }
     requires counted { IsCounted counts }
 
-    ensures outside { conn.new.in_transaction ≡ false }
-    ensures reply { AnswersWhere S.Store conn.old conn.new (asked_by ask.entry)
-        (Load batch.now.name batch.now.rows)
-        (IsNewName (asked_by ask.entry) counts batch.now.name) result }
-    ensures after { KeepsWhere S.Store conn.old conn.new (asked_by ask.entry)
-        (Load batch.now.name batch.now.rows)
-        (IsNewName (asked_by ask.entry) counts batch.now.name) result }
-    ensures memory { KeepsAtMemory S.Store conn.old conn.new result }
-    ensures left { LeavesWhere S.Store conn.old conn.new (asked_by ask.entry)
-        (Load batch.now.name batch.now.rows)
-        (IsNewName (asked_by ask.entry) counts batch.now.name) }
-    ensures sound { WasClean S.Store conn.old conn.new }
-
-    ensures store { UsesStore S.Store conn.old conn.new (asked_by ask.entry)
+    ensures { Replies S.Store conn.old conn.new (asked_by ask.entry)
         (Load batch.now.name batch.now.rows)
         (IsNewName (asked_by ask.entry) counts batch.now.name) result }
 {
@@ -231,18 +183,8 @@ pub(crate) fn answer_load<S: Alter>(
 ) -> Result<Reply, Fault>
     requires outside { conn.old.in_transaction ≡ false }
 
-    ensures outside { conn.new.in_transaction ≡ false }
-    ensures reply { AnswersNew S.Store conn.old conn.new (asked_by ask.entry)
-        (Load batch.now.name batch.now.rows) result }
-    ensures after { KeepsNew S.Store conn.old conn.new (asked_by ask.entry)
-        (Load batch.now.name batch.now.rows) result }
-    ensures memory { KeepsAtMemory S.Store conn.old conn.new result }
-    ensures left { LeavesNew S.Store conn.old conn.new (asked_by ask.entry)
-        (Load batch.now.name batch.now.rows) }
-    ensures sound { WasClean S.Store conn.old conn.new }
-
-    ensures store { UsesForNew S.Store conn.old conn.new (asked_by ask.entry)
-        (Load batch.now.name batch.now.rows) result }
+    ensures { Replies S.Store conn.old conn.new (asked_by ask.entry)
+        (Load batch.now.name batch.now.rows) (IsNewTo (asked_by ask.entry)) result }
 {
     let counts = read_counts(conn)?;
     let name = batch.name();

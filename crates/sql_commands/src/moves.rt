@@ -10,19 +10,17 @@ ghost use Rattle.ledger.specs.Replies.{sees};
 ghost use Rattle.sql_writes.specs.Kinds.{IsSmall};
 ghost use Rattle.ledger.specs.Answer.{State};
 ghost use Rattle.sql_model.specs.Standing.{IsDesk};
-ghost use Rattle.sql_commands.specs.Answering.{KeepsAtMemory, IsCounted};
+ghost use Rattle.sql_commands.specs.Answering.{IsCounted};
 ghost use Rattle.sql_commands.specs.declared.moves.Motion.TheVariants as motion;
 ghost use Rattle.plan.specs.Limits.{most_steps};
 ghost use Rattle.plan.specs.PlanModel.{Planned};
-ghost use Rattle.sql_commands.specs.Moving.{AnswersDue, KeepsDue, LeavesDue, IsEventOf, IsNext, asked_for};
-ghost use Rattle.sql_commands.specs.Moving.{AnswersMade, KeepsMade, LeavesMade, AnswersMove, KeepsMove, LeavesMove};
-ghost use Rattle.sql_commands.specs.Moving.{AnswersRead, KeepsRead, LeavesRead, IsTurnedToStart, LeadsToStart};
+ghost use Rattle.sql_commands.specs.Executing.{Replies};
+ghost use Rattle.sql_commands.specs.Moving.{IsDue, IsEventOf, IsMade, IsNext, IsRead, asked_for};
+ghost use Rattle.sql_commands.specs.Moving.{IsTurnedToStart, LeadsToStart};
 ghost use Rattle.sql_commands.specs.Placing.{IsPlaced, IsPlacedIn, MayBeMade, SeesStand};
-ghost use Rattle.sql_commands.specs.Failing.{UsesForDue, UsesForMade, UsesForMove, UsesForRead};
+ghost use Rattle.sql_commands.specs.Failing.{IsNewMove};
 ghost use Rattle.commands.specs.declared.items.Phase.TheVariants.{Run};
-ghost use Rattle.sql_model.specs.Staying.{SeesAsBefore, StaysUp};
-ghost use Rattle.sql_reads.specs.Causes.{FailsForReason};
-ghost use Rattle.sql_reads.specs.Reading.{KeepsOn, LeavesAsBefore, ShowsKept, WasClean};
+ghost use Rattle.sql_reads.specs.Reads.{Read};
 
 use crate::answering::{commit_answered, read_counts};
 use crate::cursors::{cursor_after, cursor_to_start, is_placed, may_be_made};
@@ -63,21 +61,11 @@ pub(crate) fn find_stand<S: Alter>(
     id: u64,
     ask: Option<&Ask>,
 ) -> Result<Option<Stand>, Fault>
-    requires outside { conn.old.in_transaction ≡ false }
-
-    ensures outside { conn.new.in_transaction ≡ false }
-    ensures seen { ShowsKept S.Store conn.old conn.new result
+    ensures read { Read S.Store conn.old conn.new result
         (SeesStand (asker (asked_by ask.entry)) id) }
     ensures placed { IfOk result (λ found. IfSome found (λ it. IsPlacedIn it.steps it.cursor)) }
     ensures few { IfOk result (λ found. IfSome found (λ it. it.steps ≤ most_steps)) }
     ensures small { IfOk result (λ found. IfSome found (λ it. id < 2 ^ 63)) }
-    ensures same { KeepsOn S.Store conn.old conn.new }
-    ensures stop { LeavesAsBefore S.Store conn.old conn.new }
-    ensures less { WasClean S.Store conn.old conn.new }
-
-    ensures store { FailsForReason S.Store conn.old conn.new result }
-    ensures up { StaysUp S.Store conn.old conn.new }
-    ensures sees { SeesAsBefore S.Store conn.old conn.new }
 {
     match read_stand(conn, id) {
         Ok(None) => Ok(None),
@@ -146,17 +134,9 @@ pub(crate) fn make_event<S: Alter>(
     requires counted { IsCounted counts }
     requires small { IsSmall made.now.event }
 
-    ensures outside { conn.new.in_transaction ≡ false }
-    ensures reply { AnswersMade S.Store conn.old conn.new
-        (asked_by ask.entry) counts made.now result }
-    ensures after { KeepsMade S.Store conn.old conn.new
-        (asked_by ask.entry) counts made.now result }
-    ensures memory { KeepsAtMemory S.Store conn.old conn.new result }
-    ensures left { LeavesMade S.Store conn.old conn.new (asked_by ask.entry) counts made.now }
-    ensures sound { WasClean S.Store conn.old conn.new }
-
-    ensures store { UsesForMade S.Store conn.old conn.new
-        (asked_by ask.entry) counts made.now result }
+    ensures { (why : Motion) → Replies S.Store conn.old conn.new (asked_by ask.entry)
+        (asked_for made.now.id why)
+        (λ s. IsMade s (asked_by ask.entry) counts why made.now) result }
 {
     if counts.events >= MOST_EVENTS {
         return Ok(Reply::Refused(Refusal::Limit));
@@ -191,18 +171,10 @@ fn make<S: Alter>(
     requires id { id < 2 ^ 63 }
     requires placed { IsPlaced journey.now.plan journey.now.cursor }
 
-    ensures outside { conn.new.in_transaction ≡ false }
-    ensures reply { AnswersDue S.Store conn.old conn.new (asked_by ask.entry) counts id journey.now
-        (Ok item) result }
-    ensures after { KeepsDue S.Store conn.old conn.new (asked_by ask.entry) counts id journey.now
-        (Ok item) result }
-    ensures memory { KeepsAtMemory S.Store conn.old conn.new result }
-    ensures left { LeavesDue S.Store conn.old conn.new (asked_by ask.entry) counts id journey.now
-        (Ok item) }
-    ensures sound { WasClean S.Store conn.old conn.new }
-
-    ensures store { UsesForDue S.Store conn.old conn.new (asked_by ask.entry) counts id journey.now
-        (Ok item) result }
+    ensures { (why : Motion) → Replies S.Store conn.old conn.new (asked_by ask.entry)
+        (asked_for id why)
+        (λ s. IsDue s (asked_by ask.entry) (asked_for id why) counts id journey.now (Ok item))
+        result }
 {
     if !may_be_made(&journey.plan, journey.cursor, item) {
         return Err(Fault::Store);
@@ -231,18 +203,10 @@ fn carry_out<S: Alter>(
     requires id { id < 2 ^ 63 }
     requires placed { IsPlaced journey.now.plan journey.now.cursor }
 
-    ensures outside { conn.new.in_transaction ≡ false }
-    ensures reply { AnswersDue S.Store conn.old conn.new (asked_by ask.entry) counts id journey.now
-        next result }
-    ensures after { KeepsDue S.Store conn.old conn.new (asked_by ask.entry) counts id journey.now
-        next result }
-    ensures memory { KeepsAtMemory S.Store conn.old conn.new result }
-    ensures left { LeavesDue S.Store conn.old conn.new (asked_by ask.entry) counts id journey.now
-        next }
-    ensures sound { WasClean S.Store conn.old conn.new }
-
-    ensures store { UsesForDue S.Store conn.old conn.new (asked_by ask.entry) counts id journey.now
-        next result }
+    ensures { (why : Motion) → Replies S.Store conn.old conn.new (asked_by ask.entry)
+        (asked_for id why)
+        (λ s. IsDue s (asked_by ask.entry) (asked_for id why) counts id journey.now next)
+        result }
 {
     match next {
         Err(refusal) => Ok(Reply::Refused(refusal)),
@@ -354,18 +318,8 @@ pub(crate) fn answer_motion<S: Alter>(
     requires placed { IsPlacedIn stand.now.steps stand.now.cursor }
     requires few { stand.now.steps ≤ most_steps }
 
-    ensures outside { conn.new.in_transaction ≡ false }
-    ensures reply { AnswersRead S.Store conn.old conn.new
-        (asked_by ask.entry) counts id stand.now why result }
-    ensures after { KeepsRead S.Store conn.old conn.new
-        (asked_by ask.entry) counts id stand.now why result }
-    ensures memory { KeepsAtMemory S.Store conn.old conn.new result }
-    ensures left { LeavesRead S.Store conn.old conn.new
-        (asked_by ask.entry) counts id stand.now why }
-    ensures sound { WasClean S.Store conn.old conn.new }
-
-    ensures store { UsesForRead S.Store conn.old conn.new
-        (asked_by ask.entry) counts id stand.now why result }
+    ensures { Replies S.Store conn.old conn.new (asked_by ask.entry) (asked_for id why)
+        (λ s. IsRead s (asked_by ask.entry) counts id stand.now why) result }
 {
     if let Some(cause) = start_cause(stand, why) {
         let made = turn_to_start(id, stand, cause);
@@ -386,14 +340,8 @@ pub(crate) fn answer_move<S: Alter>(
 ) -> Result<Reply, Fault>
     requires outside { conn.old.in_transaction ≡ false }
 
-    ensures outside { conn.new.in_transaction ≡ false }
-    ensures reply { AnswersMove S.Store conn.old conn.new (asked_by ask.entry) id why result }
-    ensures after { KeepsMove S.Store conn.old conn.new (asked_by ask.entry) id why result }
-    ensures memory { KeepsAtMemory S.Store conn.old conn.new result }
-    ensures left { LeavesMove S.Store conn.old conn.new (asked_by ask.entry) id why }
-    ensures sound { WasClean S.Store conn.old conn.new }
-
-    ensures store { UsesForMove S.Store conn.old conn.new (asked_by ask.entry) id why result }
+    ensures { Replies S.Store conn.old conn.new (asked_by ask.entry) (asked_for id why)
+        (IsNewMove (asked_by ask.entry) id why) result }
 {
     let counts = read_counts(conn)?;
     match find_stand(conn, id, ask) {

@@ -6,11 +6,9 @@ ghost use Rattle.std.specs.Prelude.{◌≡◌, ◌≤◌, ◌<◌, ◌^◌, fals
 ghost use Rattle.std.specs.Option.{option_copied as asked_by};
 ghost use Rattle.plan.specs.Limits.{most_options, most_steps};
 ghost use Rattle.desk_sql.specs.declared.versions.Version.TheVariants.{Two};
-ghost use Rattle.sql_model.specs.Staying.{SeesAsBefore, StaysUp};
-ghost use Rattle.sql_reads.specs.Causes.{FailsForReason, FailsWhere};
-ghost use Rattle.sql_reads.specs.Reading.{KeepsOn, LeavesAsBefore, ShowsKept, WasClean};
-ghost use Rattle.sql_commands.specs.Answering.{AnswersNew, KeepsNew, LeavesNew, KeepsAtMemory};
-ghost use Rattle.sql_commands.specs.Failing.{UsesForNew};
+ghost use Rattle.sql_reads.specs.Reads.{Read, ReadIn};
+ghost use Rattle.sql_commands.specs.Executing.{Replies};
+ghost use Rattle.sql_commands.specs.Failing.{IsNewTo};
 ghost use Rattle.sql_commands.specs.Moving.{Comes, FitsIn, MayCome, IsStepUp, IsStepDown};
 ghost use Rattle.sql_commands.specs.Placing.{IsPlacedIn, StandsAt};
 ghost use Rattle.commands.specs.Request.{Step};
@@ -103,17 +101,7 @@ fn fits_nights<S: Alter>(
     conn: &mut Connection<S>,
     want: &Want,
 ) -> Result<bool, Fault>
-    requires outside { conn.old.in_transaction ≡ false }
-
-    ensures outside { conn.new.in_transaction ≡ false }
-    ensures fits { ShowsKept S.Store conn.old conn.new result (FitsIn want.now) }
-    ensures same { KeepsOn S.Store conn.old conn.new }
-    ensures stop { LeavesAsBefore S.Store conn.old conn.new }
-    ensures less { WasClean S.Store conn.old conn.new }
-
-    ensures store { FailsForReason S.Store conn.old conn.new result }
-    ensures up { StaysUp S.Store conn.old conn.new }
-    ensures sees { SeesAsBefore S.Store conn.old conn.new }
+    ensures { Read S.Store conn.old conn.new result (FitsIn want.now) }
 {
     match read_cells(alloc, conn, want) {
         Ok(cells) => Ok(fits(cells.as_slice(), want)),
@@ -128,21 +116,13 @@ fn find_coming<S: Alter>(
     id: u64,
     stand: &Stand,
 ) -> Result<Coming, Fault>
-    requires outside { conn.old.in_transaction ≡ false }
     requires id { id < 2 ^ 63 }
     requires placed { IsPlacedIn stand.now.steps stand.now.cursor }
     requires few { stand.now.steps ≤ most_steps }
 
-    ensures outside { conn.new.in_transaction ≡ false }
-    ensures comes { ShowsKept S.Store conn.old conn.new result (Comes id stand.now) }
+    ensures read { ReadIn S.Store conn.old conn.new Two result (StandsAt id stand.now)
+        (Comes id stand.now) }
     ensures may { IfOk result (MayCome stand.now) }
-    ensures same { KeepsOn S.Store conn.old conn.new }
-    ensures stop { LeavesAsBefore S.Store conn.old conn.new }
-    ensures less { WasClean S.Store conn.old conn.new }
-
-    ensures store { FailsWhere S.Store conn.old conn.new Two result (StandsAt id stand.now) }
-    ensures up { StaysUp S.Store conn.old conn.new }
-    ensures sees { SeesAsBefore S.Store conn.old conn.new }
 {
     match stand.cursor.phase {
         Phase::Run => {
@@ -171,14 +151,8 @@ pub(crate) fn answer_step<S: Alter>(
 ) -> Result<Reply, Fault>
     requires outside { conn.old.in_transaction ≡ false }
 
-    ensures outside { conn.new.in_transaction ≡ false }
-    ensures reply { AnswersNew S.Store conn.old conn.new (asked_by ask.entry) (Step id) result }
-    ensures after { KeepsNew S.Store conn.old conn.new (asked_by ask.entry) (Step id) result }
-    ensures memory { KeepsAtMemory S.Store conn.old conn.new result }
-    ensures left { LeavesNew S.Store conn.old conn.new (asked_by ask.entry) (Step id) }
-    ensures sound { WasClean S.Store conn.old conn.new }
-
-    ensures store { UsesForNew S.Store conn.old conn.new (asked_by ask.entry) (Step id) result }
+    ensures { Replies S.Store conn.old conn.new (asked_by ask.entry) (Step id)
+        (IsNewTo (asked_by ask.entry)) result }
 {
     let counts = read_counts(conn)?;
     match find_stand(conn, id, ask) {

@@ -1,53 +1,43 @@
-use Rattle.std.proofs.Common.{refl, sym, subst}
-use Rattle.std.specs.Prelude.{OnOk}
-use Rattle.std.specs.Option.{option_copied}
-use Rattle.sqlite.specs.Held.{state}
+-- A known key gets its reply, and a new one that of the request's outcome.
+use Rattle.std.proofs.Common.{◌≡◌, None, ap, refl, rules, sym}
+use Rattle.std.specs.Prelude.{is_some, not}
 use Rattle.commands.specs.Orders.{request_of}
-use Rattle.ledger.specs.Answer.{outcome}
-use Rattle.sql_model.specs.Keeping.{Keeps, MayLeave}
-use Rattle.std.specs.Prelude.{None}
-use Rattle.sql_model.specs.Standing.{IsDesk}
-use Rattle.sql_commands.specs.Failing.{FailsFor, IsNewTo, LeavesRowidsFor}
-use Rattle.sql_commands.proofs.StoreReasons.{uses_where}
+use Rattle.sql_commands.proofs.Executing.{fails_as, reads_alone, reads_fail, reads_then, says_as}
 use Rattle.sql_commands.proofs.answering.answer.Goals as goal
 
--- nothing is kept for the house
-pub returns-in-None-clause-left : goal.returns-in-None-clause-left
-returns-in-None-clause-left g c s desk keeps =
-    subst (λ o. MayLeave (state g.S.Store c.answer_first.new.conn) s (outcome s (option_copied o) (request_of c.args.command.now)).state)
-    (sym c.in-None.is) (c.answer_first.ensures.left s desk keeps refl)
+-- the key is known: its reply is returned, and nothing changes
+pub returns-in-Some : goal.returns-in-Some
+returns-in-Some g c =
+    let asked = request_of c.args.command.now in
+    let read = (rw c.in-Some.is at c.in_ok-known.ensures) in
+    record {
+      executes = reads_alone (λ s desk. desk) c.requires.outside read
+          (λ s desk found. (let it = found.1 asked in record { replied = it.0; same = it.1 }));
+      new = λ clean s desk keeps. sym (ap not (read.shows clean s desk keeps).0);
+    }
 
-pub returns-in-None-clause-after : goal.returns-in-None-clause-after
-returns-in-None-clause-after g c s desk keeps =
-    subst (λ o. OnOk c.answer_first.result (Keeps (state g.S.Store c.answer_first.new.conn) (outcome s (option_copied o) (request_of c.args.command.now)).state))
-    (sym c.in-None.is) (c.answer_first.ensures.after s desk keeps refl)
+-- the key cannot be looked up
+pub returns-in_err-known : goal.returns-in_err-known
+returns-in_err-known g c = record {
+  executes = reads_fail (λ s desk. desk) (search rules) c.requires.outside c.in_err-known.ensures (λ s desk. tt);
+  new = search rules;
+}
 
--- Store only for a reason.
+-- the key is new: the request is executed
+pub returns : goal.returns
+returns g c =
+    let none : c.in_ok-known.known ≡ None = search rules in
+    let read = (rw none at c.in_ok-known.ensures) in
+    record {
+      executes = reads_then (λ s desk. desk) read (says_as c.in_ok-reply.ensures refl) (λ s desk new. record { desk = desk; new = new });
+      new = λ clean s desk keeps. sym (ap (λ k. not (is_some k)) (read.shows (c.in_ok-reply.ensures.sound clean) s desk keeps));
+    }
 
-pub returns-in-None-clause-store : goal.returns-in-None-clause-store
-returns-in-None-clause-store g c =
-    subst (λ o. FailsFor g.S.Store c.args.conn.now c.answer_first.new.conn (option_copied o) (request_of c.args.command.now) IsDesk c.answer_first.result) (sym c.in-None.is)
-    (uses_where g.S.Store None (request_of c.args.command.now) IsDesk c.answer_first.result c.args.conn.now c.answer_first.new.conn (IsNewTo None)
-    (λ clean s keeps desk. record { desk = desk; new = refl }) c.answer_first.ensures.store).store
-
-pub returns-in-None-clause-rowids : goal.returns-in-None-clause-rowids
-returns-in-None-clause-rowids g c =
-    subst (λ o. LeavesRowidsFor g.S.Store c.args.conn.now c.answer_first.new.conn (option_copied o) (request_of c.args.command.now) IsDesk) (sym c.in-None.is)
-    (uses_where g.S.Store None (request_of c.args.command.now) IsDesk c.answer_first.result c.args.conn.now c.answer_first.new.conn (IsNewTo None)
-    (λ clean s keeps desk. record { desk = desk; new = refl }) c.answer_first.ensures.store).rowids
-
-pub returns-in-Some-clause-store : goal.returns-in-Some-clause-store
-returns-in-Some-clause-store g c =
-    subst (λ o. FailsFor g.S.Store c.args.conn.now c.answer_for.new.conn (option_copied o) (request_of c.args.command.now) IsDesk c.answer_for.result) (sym c.in-Some.is)
-    c.answer_for.ensures.store.store
-
-pub returns-in-Some-clause-rowids : goal.returns-in-Some-clause-rowids
-returns-in-Some-clause-rowids g c =
-    subst (λ o. LeavesRowidsFor g.S.Store c.args.conn.now c.answer_for.new.conn (option_copied o) (request_of c.args.command.now) IsDesk) (sym c.in-Some.is)
-    c.answer_for.ensures.store.rowids
-
-pub returns-in-None-clause-up : goal.returns-in-None-clause-up
-returns-in-None-clause-up g c = c.answer_first.ensures.store.up
-
-pub returns-in-Some-clause-up : goal.returns-in-Some-clause-up
-returns-in-Some-clause-up g c = c.answer_for.ensures.store.up
+pub returns-in_err-reply : goal.returns-in_err-reply
+returns-in_err-reply g c =
+    let none : c.in_ok-known.known ≡ None = search rules in
+    let read = (rw none at c.in_ok-known.ensures) in
+    record {
+      executes = reads_then (λ s desk. desk) read (fails_as (search rules) c.in_err-reply.ensures) (λ s desk new. record { desk = desk; new = new });
+      new = search rules;
+    }

@@ -1,60 +1,25 @@
-use Rattle.std.proofs.Common.{◌≡◌, ◌<◌, length, refl, arith, rules}
+-- The rows of an item lead to the outcome of its request, unless the ledger is full.
+use Rattle.std.proofs.Common.{◌<◌, ◌≤◌, length, refl, arith, rules}
 use Rattle.std.specs.Option.{option_copied}
-use Rattle.ledger.specs.Answer.{outcome, most_events}
-use Rattle.sql_commands.specs.Moving.{asked_for}
-use Rattle.sql_commands.proofs.DueLemmas.{due_leads_at}
-use Rattle.std.specs.Prelude.{Err}
-use Rattle.commands.specs.declared.replies.Fault.TheVariants.{Store}
-use Rattle.sql_commands.specs.Moving.{IsMade}
-use Rattle.sql_commands.proofs.EventCommits.{made_commits}
-use Rattle.sql_commands.proofs.StoreReasons.{unused}
+use Rattle.ledger.specs.Answer.{most_events}
+use Rattle.sql_commands.proofs.DueLemmas.{due_full}
+use Rattle.sql_commands.proofs.EventCommits.{made_leads}
+use Rattle.sql_commands.proofs.Executing.{answers_alone, commit_fails, commits}
 use Rattle.sql_commands.proofs.moves.make_event.Goals as goal
 
--- the commit succeeded: it leads to the state of the item's outcome
-pub returns-clause-after : goal.returns-clause-after
-returns-clause-after g c s why keeps made =
-    let ask = option_copied c.args.ask in
+pub returns-then-counts-ge-MOST_EVENTS : goal.returns-then-counts-ge-MOST_EVENTS
+returns-then-counts-ge-MOST_EVENTS g c why =
     let m = c.args.made.now in
-    let room : length s.ledger < most_events = omega (arith, made.due.counted.events) in
-    c.in_ok-commit_answered.ensures.done s (outcome s ask (asked_for m.id why)).state
-    (due_leads_at s ask why c.args.counts m.id made.journey m.item _ m.event m.cursor made.cursor made.due room refl refl made.says) keeps
+    answers_alone c.requires.outside (λ s made.
+    let full : most_events ≤ length s.ledger = omega (arith, made.due.counted.events, c.if-counts-ge-MOST_EVENTS.true) in
+    due_full s (option_copied c.args.ask) why c.args.counts m.id made.journey m.item made.due full)
 
--- the commit succeeded: a crash leaves that state
-pub returns-clause-left : goal.returns-clause-left
-returns-clause-left g c s why keeps made =
-    let ask = option_copied c.args.ask in
-    let m = c.args.made.now in
-    let room : length s.ledger < most_events = omega (arith, made.due.counted.events) in
-    c.commit_answered.ensures.left s (outcome s ask (asked_for m.id why)).state
-    (due_leads_at s ask why c.args.counts m.id made.journey m.item _ m.event m.cursor made.cursor made.due room refl refl made.says) keeps
-
--- the commit failed: a crash leaves that state or the old one
-pub returns-in_err-commit_answered-clause-left : goal.returns-in_err-commit_answered-clause-left
-returns-in_err-commit_answered-clause-left g c s why keeps made =
-    let ask = option_copied c.args.ask in
-    let m = c.args.made.now in
-    let room : length s.ledger < most_events = omega (arith, made.due.counted.events) in
-    c.commit_answered.ensures.left s (outcome s ask (asked_for m.id why)).state
-    (due_leads_at s ask why c.args.counts m.id made.journey m.item _ m.event m.cursor made.cursor made.due room refl refl made.says) keeps
-
--- Store only for a reason.
-
-pub returns-then-counts-ge-MOST_EVENTS-clause-store : goal.returns-then-counts-ge-MOST_EVENTS-clause-store
-returns-then-counts-ge-MOST_EVENTS-clause-store g c why =
-    let ask = option_copied c.args.ask in
-    let m = c.args.made.now in
-    unused g.S.Store ask (asked_for m.id why) (λ s. IsMade s ask c.args.counts why m) _ c.args.conn.now (λ s spelled due failed. cc)
-
-pub returns-clause-store : goal.returns-clause-store
-returns-clause-store g c why =
+pub returns : goal.returns
+returns g c why =
     let few : c.args.counts.events < most_events = omega (arith, c.if-counts-ge-MOST_EVENTS.false) in
-    made_commits g.S.Store c.args.conn.now c.commit_answered.new.conn (option_copied c.args.ask) c.args.counts _ few refl _ c.commit_answered.result
-    (λ failed. cc) c.commit_answered.ensures.up c.commit_answered.ensures.sound c.args.made.now why refl c.commit_answered.ensures.store
-    c.commit_answered.ensures.rowids
+    commits (made_leads (option_copied c.args.ask) c.args.counts _ few refl c.args.made.now why refl) c.in_ok-commit_answered.ensures refl
 
-pub returns-in_err-commit_answered-clause-store : goal.returns-in_err-commit_answered-clause-store
-returns-in_err-commit_answered-clause-store g c why =
+pub returns-in_err-commit_answered : goal.returns-in_err-commit_answered
+returns-in_err-commit_answered g c why =
     let few : c.args.counts.events < most_events = omega (arith, c.if-counts-ge-MOST_EVENTS.false) in
-    made_commits g.S.Store c.args.conn.now c.commit_answered.new.conn (option_copied c.args.ask) c.args.counts _ few refl _ c.commit_answered.result
-    (λ failed. (let too : c.commit_answered.result ≡ Err Store = search rules in too)) c.commit_answered.ensures.up c.commit_answered.ensures.sound
-    c.args.made.now why refl c.commit_answered.ensures.store c.commit_answered.ensures.rowids
+    commit_fails (made_leads (option_copied c.args.ask) c.args.counts _ few refl c.args.made.now why refl) (search rules) c.in_err-commit_answered.ensures
