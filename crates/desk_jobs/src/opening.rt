@@ -6,7 +6,7 @@ ghost use Rattle.ledger.specs.Answer.{State};
 ghost use Rattle.recovery.specs.Recovers.{Recovers};
 ghost use Rattle.saga_core.specs.Runs.{Asks};
 ghost use Rattle.sql_model.specs.Staying.{StaysUp};
-ghost use Rattle.sql_reads.specs.Reading.{WasClean};
+ghost use Rattle.sql_model.specs.Keeping.{WasClean};
 ghost use Rattle.tables.specs.BookTerms.{StandsBook};
 ghost use Rattle.tables.specs.Opening.{FailsToOpen, FailsToFound};
 ghost use Rattle.program_ends.specs.Ends.{EndsBadly, IfFault, IfRefused};

@@ -5,7 +5,7 @@ ghost use Rattle.sqlite.specs.Held.{state};
 ghost use Rattle.sqlite.specs.State.{HasCleanDisk};
 ghost use Rattle.streams.specs.Written.{WroteFront};
 ghost use Rattle.recovery.specs.Recovers.{Recovers};
-ghost use Rattle.sql_reads.specs.Reading.{WasClean};
+ghost use Rattle.sql_model.specs.Keeping.{WasClean};
 ghost use Rattle.program_ends.specs.Ends.{EndsBadly, EndsJob, IfDone, IfFault, IfRefused};
 ghost use Rattle.openings.specs.Connections.{RefusesOtherTables, Represents};
 ghost use Rattle.desk_jobs.specs.Ends.{EndsWriting, IsFaultOfRecovery, IsOfWriting, recovered_line};

@@ -4,7 +4,7 @@ ghost use Rattle.std.specs.Io.KnownBytes.{IsAtEnd};
 ghost use Rattle.sqlite.specs.Held.{state};
 ghost use Rattle.sqlite.specs.State.{HasCleanDisk};
 ghost use Rattle.ledger.specs.Answer.{State};
-ghost use Rattle.sql_reads.specs.Reading.{WasClean};
+ghost use Rattle.sql_model.specs.Keeping.{WasClean};
 ghost use Rattle.tables.specs.BookTerms.{StandsBook};
 ghost use Rattle.program_ends.specs.Ends.{EndsJob, IfDone, IfFault, IfRefused, IsNotRefused};
 ghost use Rattle.openings.specs.Connections.{RefusesOtherTables, Represents};

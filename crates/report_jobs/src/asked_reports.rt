@@ -3,13 +3,13 @@ ghost use Rattle.std.specs.Prelude.{◌≡◌, false, List, OnOk};
 ghost use Rattle.std.specs.Io.KnownBytes.{Appends};
 ghost use Rattle.sqlite.specs.Held.{state};
 ghost use Rattle.sqlite.specs.State.{HasCleanDisk};
+ghost use Rattle.desk_sql.specs.Calls.{Quiet};
 ghost use Rattle.desk_sql.specs.declared.versions.Version.{Version};
 ghost use Rattle.ledger.specs.Answer.{State};
 ghost use Rattle.reports.specs.Formats.{journeys_in, stock_in};
 ghost use Rattle.streams.specs.Written.{WroteFront};
 ghost use Rattle.saga_core.specs.Views.{IsStock};
 ghost use Rattle.sql_model.specs.Standing.{IsDesk};
-ghost use Rattle.sql_reads.specs.RemainingRows.{IsLeftAsItWas};
 ghost use Rattle.sql_reads.specs.RemainingRows.{StaysUnder};
 ghost use Rattle.report_rows.specs.RowsLeft.{AreCellsOf};
 ghost use Rattle.sql_lists.specs.ListedRows.{BriefsRest, StockRests};
@@ -31,6 +31,7 @@ use std::io::Write;
 
 /// Writes the stock report of the cells of the desk of a connection that are asked for, kind after kind, and flushes it: the
 /// key of the cells leads to those of a kind.
+#[tactic(auto, using(desk_sql::proofs::Quieting::quiet_twice, desk_sql::proofs::Quieting::quiet_alone))]
 pub(crate) fn write_kinds<S: Alter, O: Write>(
     alloc: Global,
     filter: &CellFilter,
@@ -48,7 +49,7 @@ pub(crate) fn write_kinds<S: Alter, O: Write>(
         WroteFront (O.contents out.old) (O.contents out.new)
         (stock_in format (asked_cells filter.now rows)) }
 
-    ensures kept { IsLeftAsItWas S.Store conn.old conn.new }
+    ensures quiet { Quiet S.Store conn.old conn.new }
 {
     begin_stock(format, out)?;
     let none = Progress::new();
@@ -61,6 +62,7 @@ pub(crate) fn write_kinds<S: Alter, O: Write>(
 }
 
 /// Writes the lines of the cells of a kind that are asked for, and counts them after those that were written before.
+#[tactic(auto, using(desk_sql::proofs::Quieting::quiet_alone))]
 fn write_kind<S: Alter, O: Write>(
     alloc: Global,
     filter: &CellFilter,
@@ -75,7 +77,7 @@ fn write_kind<S: Alter, O: Write>(
         (all : List (Cell × Held)) → IsStock s.ledger all →
         WritesCells (O.contents out.old) (O.contents out.new)
         format (cells_of_kind kind filter.now all) before result }
-    ensures kept { IsLeftAsItWas S.Store conn.old conn.new }
+    ensures quiet { Quiet S.Store conn.old conn.new }
 {
     if !filter.lets_kind(kind) {
         return Ok(before);
@@ -84,6 +86,7 @@ fn write_kind<S: Alter, O: Write>(
 }
 
 /// Writes the lines of the cells of a kind that the statement finds, and counts them so.
+#[tactic(auto, using(desk_sql::proofs::Quieting::quiet_twice))]
 fn write_found<S: Alter, O: Write>(
     alloc: Global,
     filter: &CellFilter,
@@ -97,7 +100,7 @@ fn write_found<S: Alter, O: Write>(
         KeepsIn v (state S.Store conn.old) s → before.failed ≡ false →
         (rows : List (Cell × Held)) → AreCellsOf kind filter.now s.ledger rows →
         WritesCells (O.contents out.old) (O.contents out.new) format rows before result }
-    ensures kept { IsLeftAsItWas S.Store conn.old conn.new }
+    ensures quiet { Quiet S.Store conn.old conn.new }
 {
     let mut rows = match start_cells(conn, kind, filter) {
         Ok(rows) => rows,
@@ -130,6 +133,7 @@ fn write_cells<S: Alter, O: Write>(
 }
 
 /// Writes the report of the journeys of the desk of a connection that are asked for, and flushes it.
+#[tactic(auto, using(desk_sql::proofs::Quieting::quiet_twice))]
 pub(crate) fn write_asked<S: Alter, O: Write>(
     alloc: Global,
     name: JourneyReport,
@@ -141,7 +145,7 @@ pub(crate) fn write_asked<S: Alter, O: Write>(
     ensures told { HasCleanDisk (state S.Store conn.new) → (v : Version) (s : State) → IsDesk s →
         KeepsIn v (state S.Store conn.old) s →
         WritesJourneys (O.contents out.old) (O.contents out.new) name format filter.now result s }
-    ensures kept { IsLeftAsItWas S.Store conn.old conn.new }
+    ensures quiet { Quiet S.Store conn.old conn.new }
 {
     let mut rows = match start_journeys(conn, filter) {
         Ok(rows) => rows,

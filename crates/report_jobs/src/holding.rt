@@ -2,14 +2,14 @@
 ghost use Rattle.std.specs.Prelude.{◌≡◌, false, None, List};
 ghost use Rattle.sqlite.specs.Held.{state};
 ghost use Rattle.sqlite.specs.State.{HasCleanDisk};
+ghost use Rattle.desk_sql.specs.Calls.{Quiet};
 ghost use Rattle.desk_sql.specs.declared.versions.Version.{Version};
 ghost use Rattle.holder_reports.specs.Holders.{holders_of};
 ghost use Rattle.holder_reports.specs.Layouts.{holders_in};
 ghost use Rattle.holder_reports.specs.declared.holders.Holder.{Holder};
 ghost use Rattle.ledger.specs.Answer.{State};
 ghost use Rattle.sql_model.specs.Standing.{IsDesk};
-ghost use Rattle.sql_reads.specs.Reading.{WasClean};
-ghost use Rattle.sql_reads.specs.RemainingRows.{IsLeftAsItWas};
+ghost use Rattle.sql_model.specs.Keeping.{WasClean};
 ghost use Rattle.sql_reads.specs.RemainingRows.{StaysUnder};
 ghost use Rattle.report_rows.specs.HoldersLeft.{HoldersLeft};
 ghost use Rattle.tables.specs.Keeping.{KeepsIn};
@@ -34,6 +34,7 @@ use tables::{Opened, open_from};
 
 /// Writes the report of the holders of a cell, of the desk of a connection, in a format, and flushes it. Returns the
 /// connection, and the end.
+#[tactic(auto, using(sql_model::proofs::Quieting::quiet_clean, sql_model::proofs::Quieting::quiet_keeps))]
 pub fn holders_over<S: Alter + Drop, O: Write>(
     alloc: Global,
     conn: Connection<S>,
@@ -86,6 +87,7 @@ fn tell_holders<S: Alter, O: Write>(
 }
 
 /// Writes the report of the holders of a cell, of the desk of a connection, and flushes it.
+#[tactic(auto, using(desk_sql::proofs::Quieting::quiet_twice))]
 fn write_holders<S: Alter, O: Write>(
     alloc: Global,
     cell: &Cell,
@@ -97,7 +99,7 @@ fn write_holders<S: Alter, O: Write>(
         KeepsIn v (state S.Store conn.old) s →
         WritesText (O.contents out.old) (O.contents out.new)
         (holders_in format (holders_of s.ledger cell.now)) result }
-    ensures kept { IsLeftAsItWas S.Store conn.old conn.new }
+    ensures quiet { Quiet S.Store conn.old conn.new }
 {
     let mut rows = match start_holders(conn, cell) {
         Ok(rows) => rows,

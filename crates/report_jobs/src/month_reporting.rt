@@ -3,13 +3,13 @@
 ghost use Rattle.std.specs.Prelude.{◌≡◌, false, None, List};
 ghost use Rattle.sqlite.specs.Held.{state};
 ghost use Rattle.sqlite.specs.State.{HasCleanDisk};
+ghost use Rattle.desk_sql.specs.Calls.{Quiet};
 ghost use Rattle.desk_sql.specs.declared.versions.Version.{Version};
 ghost use Rattle.ledger.specs.Answer.{State};
 ghost use Rattle.month_reports.specs.MonthReports.{asked_months, months_in};
 ghost use Rattle.saga_core.specs.Views.{IsStock};
 ghost use Rattle.sql_model.specs.Standing.{IsDesk};
-ghost use Rattle.sql_reads.specs.Reading.{WasClean};
-ghost use Rattle.sql_reads.specs.RemainingRows.{IsLeftAsItWas};
+ghost use Rattle.sql_model.specs.Keeping.{WasClean};
 ghost use Rattle.sql_reads.specs.RemainingRows.{StaysUnder};
 ghost use Rattle.sql_lists.specs.ListedRows.{StockRests};
 ghost use Rattle.tables.specs.Keeping.{KeepsIn};
@@ -35,6 +35,7 @@ use tables::{Opened, open_from};
 
 /// Writes a report by month of the cells that a filter lets through, of the desk of a connection, and flushes it. Returns
 /// the connection, and the end.
+#[tactic(auto, using(sql_model::proofs::Quieting::quiet_clean, sql_model::proofs::Quieting::quiet_keeps))]
 pub fn months_over<S: Alter + Drop, O: Write>(
     alloc: Global,
     conn: Connection<S>,
@@ -87,6 +88,7 @@ fn tell_months<S: Alter, O: Write>(
 }
 
 /// Writes the report by month of the desk of a connection, and flushes it.
+#[tactic(auto, using(desk_sql::proofs::Quieting::quiet_twice))]
 fn write_months<S: Alter, O: Write>(
     alloc: Global,
     report: MonthReport,
@@ -98,7 +100,7 @@ fn write_months<S: Alter, O: Write>(
         KeepsIn v (state S.Store conn.old) s → (rows : List (Cell × Held)) → IsStock s.ledger rows →
         WritesText (O.contents out.old) (O.contents out.new)
         (months_in report (asked_months filter.now rows)) result }
-    ensures kept { IsLeftAsItWas S.Store conn.old conn.new }
+    ensures quiet { Quiet S.Store conn.old conn.new }
 {
     let mut rows = match start_stock(conn) {
         Ok(rows) => rows,

@@ -2,12 +2,12 @@
 ghost use Rattle.std.specs.Prelude.{List};
 ghost use Rattle.sqlite.specs.Held.{state};
 ghost use Rattle.sqlite.specs.State.{HasCleanDisk};
+ghost use Rattle.desk_sql.specs.Calls.{Quiet};
 ghost use Rattle.desk_sql.specs.declared.versions.Version.{Version};
 ghost use Rattle.ledger.specs.Answer.{State};
 ghost use Rattle.reports.specs.Formats.{stock_in, unfinished_in};
 ghost use Rattle.saga_core.specs.Views.{IsStock, unfinished_of};
 ghost use Rattle.sql_model.specs.Standing.{IsDesk};
-ghost use Rattle.sql_reads.specs.RemainingRows.{IsLeftAsItWas};
 ghost use Rattle.sql_reads.specs.RemainingRows.{StaysUnder};
 ghost use Rattle.sql_lists.specs.ListedRows.{BriefsRest, StockRests};
 ghost use Rattle.tables.specs.Keeping.{KeepsIn};
@@ -24,6 +24,7 @@ use std::alloc::Global;
 use std::io::Write;
 
 /// Writes the stock report of the desk of a connection, and flushes it.
+#[tactic(auto, using(desk_sql::proofs::Quieting::quiet_twice))]
 pub(crate) fn write_whole_stock<S: Alter, O: Write>(
     alloc: Global,
     format: Format,
@@ -33,7 +34,7 @@ pub(crate) fn write_whole_stock<S: Alter, O: Write>(
     ensures told { HasCleanDisk (state S.Store conn.new) → (v : Version) (s : State) → IsDesk s →
         KeepsIn v (state S.Store conn.old) s → (rows : List (Cell × Held)) → IsStock s.ledger rows →
         WritesText (O.contents out.old) (O.contents out.new) (stock_in format rows) result }
-    ensures kept { IsLeftAsItWas S.Store conn.old conn.new }
+    ensures quiet { Quiet S.Store conn.old conn.new }
 {
     let mut rows = match start_stock(conn) {
         Ok(rows) => rows,
@@ -63,6 +64,7 @@ fn write_cells<S: Alter, O: Write>(
 }
 
 /// Writes the report of the unfinished journeys of the desk of a connection, and flushes it.
+#[tactic(auto, using(desk_sql::proofs::Quieting::quiet_twice))]
 pub(crate) fn write_unfinished<S: Alter, O: Write>(
     alloc: Global,
     format: Format,
@@ -73,7 +75,7 @@ pub(crate) fn write_unfinished<S: Alter, O: Write>(
         KeepsIn v (state S.Store conn.old) s →
         WritesText (O.contents out.old) (O.contents out.new)
         (unfinished_in format (unfinished_of s.ledger)) result }
-    ensures kept { IsLeftAsItWas S.Store conn.old conn.new }
+    ensures quiet { Quiet S.Store conn.old conn.new }
 {
     let mut rows = match start_unfinished(conn) {
         Ok(rows) => rows,

@@ -3,14 +3,14 @@ ghost use Rattle.std.specs.Prelude.{◌≡◌, true, false, None, List, IsTrue};
 ghost use Rattle.std.specs.Io.KnownBytes.{Keeps};
 ghost use Rattle.sqlite.specs.Held.{state};
 ghost use Rattle.sqlite.specs.State.{HasCleanDisk};
+ghost use Rattle.desk_sql.specs.Calls.{Quiet};
 ghost use Rattle.desk_sql.specs.declared.versions.Version.{Version};
 ghost use Rattle.ledger.specs.Answer.{State};
 ghost use Rattle.ledger.specs.Ledger.{history};
 ghost use Rattle.reports.specs.Formats.{history_in, stock_in};
 ghost use Rattle.saga_core.specs.Views.{IsStock};
 ghost use Rattle.sql_model.specs.Standing.{IsDesk};
-ghost use Rattle.sql_reads.specs.Reading.{WasClean};
-ghost use Rattle.sql_reads.specs.RemainingRows.{IsLeftAsItWas};
+ghost use Rattle.sql_model.specs.Keeping.{WasClean};
 ghost use Rattle.tables.specs.Keeping.{KeepsIn};
 ghost use Rattle.tables.specs.Lending.{IsOnlyRead};
 ghost use Rattle.program_ends.specs.Ends.{EndsJob, IfFault, IfRefused, IsNotRefused};
@@ -39,6 +39,7 @@ use tables::{Opened, open_from};
 
 /// Writes the stock report of the cells that a filter lets through, of the desk of a connection, in a format, and flushes
 /// it. Returns the connection, and the end.
+#[tactic(auto, using(sql_model::proofs::Quieting::quiet_clean, sql_model::proofs::Quieting::quiet_keeps))]
 pub fn stock_over<S: Alter + Drop, O: Write>(
     alloc: Global,
     conn: Connection<S>,
@@ -72,6 +73,7 @@ pub fn stock_over<S: Alter + Drop, O: Write>(
 
 /// Writes the report of the journeys that a filter lets through, of the desk of a connection, in a format, and flushes it.
 /// Returns the connection, and the end.
+#[tactic(auto, using(sql_model::proofs::Quieting::quiet_clean, sql_model::proofs::Quieting::quiet_keeps))]
 pub fn journeys_over<S: Alter + Drop, O: Write>(
     alloc: Global,
     conn: Connection<S>,
@@ -107,6 +109,7 @@ pub fn journeys_over<S: Alter + Drop, O: Write>(
 
 /// Writes the history of the journey of this number in the desk of a connection in a format, and flushes it. A journey
 /// that is absent is refused. Returns the connection, and the end.
+#[tactic(auto, using(sql_model::proofs::Quieting::quiet_clean, sql_model::proofs::Quieting::quiet_keeps))]
 pub fn history_over<S: Alter + Drop, O: Write>(
     alloc: Global,
     conn: Connection<S>,
@@ -208,7 +211,7 @@ fn write_stock<S: Alter, O: Write>(
         KeepsIn v (state S.Store conn.old) s → (rows : List (Cell × Held)) → IsStock s.ledger rows →
         WritesText (O.contents out.old) (O.contents out.new)
         (stock_in format (asked_cells filter.now rows)) result }
-    ensures kept { IsLeftAsItWas S.Store conn.old conn.new }
+    ensures quiet { Quiet S.Store conn.old conn.new }
 {
     if names_nothing(filter) {
         return write_whole_stock(alloc, format, conn, out);
@@ -246,7 +249,7 @@ fn write_journeys<S: Alter, O: Write>(
     ensures told { HasCleanDisk (state S.Store conn.new) → (v : Version) (s : State) → IsDesk s →
         KeepsIn v (state S.Store conn.old) s →
         WritesJourneys (O.contents out.old) (O.contents out.new) name format filter.now result s }
-    ensures kept { IsLeftAsItWas S.Store conn.old conn.new }
+    ensures quiet { Quiet S.Store conn.old conn.new }
 {
     if is_plain(name, filter) {
         return write_unfinished(alloc, format, conn, out);
@@ -255,6 +258,7 @@ fn write_journeys<S: Alter, O: Write>(
 }
 
 /// Writes the history of the journey of this number in what was opened, or refuses one that is absent.
+#[tactic(auto, using(desk_sql::proofs::Quieting::quiet_twice, sql_model::proofs::Quieting::quiet_clean, sql_model::proofs::Quieting::quiet_keeps))]
 fn tell_history<S: Alter, O: Write>(
     alloc: Global,
     format: Format,
@@ -279,6 +283,7 @@ fn tell_history<S: Alter, O: Write>(
 }
 
 /// Writes the history of a journey in what was opened, and flushes it.
+#[tactic(auto, using(desk_sql::proofs::Quieting::quiet_twice))]
 fn write_history<S: Alter, O: Write>(
     alloc: Global,
     format: Format,

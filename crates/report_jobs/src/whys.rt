@@ -2,13 +2,13 @@
 ghost use Rattle.std.specs.Prelude.{◌≡◌, false, None, Some, List, IfOk};
 ghost use Rattle.sqlite.specs.Held.{state};
 ghost use Rattle.sqlite.specs.State.{HasCleanDisk};
+ghost use Rattle.desk_sql.specs.Calls.{Quiet};
 ghost use Rattle.desk_sql.specs.declared.versions.Version.{Version};
 ghost use Rattle.ledger.specs.Answer.{State};
 ghost use Rattle.ledger.specs.Ledger.{history};
 ghost use Rattle.saga_core.specs.Views.{record_of, IsStock};
 ghost use Rattle.sql_model.specs.Standing.{IsDesk};
-ghost use Rattle.sql_reads.specs.Reading.{WasClean};
-ghost use Rattle.sql_reads.specs.RemainingRows.{IsLeftAsItWas};
+ghost use Rattle.sql_model.specs.Keeping.{WasClean};
 ghost use Rattle.sql_reads.specs.RemainingRows.{StaysUnder};
 ghost use Rattle.sql_lists.specs.ListedRows.{StockRests};
 ghost use Rattle.tables.specs.Keeping.{KeepsIn};
@@ -51,6 +51,7 @@ struct Seen {
 /// Writes why the journey of this number in the desk of a connection goes on or does not, in a format, and flushes it:
 /// where it is, its next want, what is free of each night of it, and what a step of the house would make. A journey that
 /// is absent is refused. Returns the connection, and the end.
+#[tactic(auto, using(sql_model::proofs::Quieting::quiet_clean, sql_model::proofs::Quieting::quiet_keeps))]
 pub fn why_over<S: Alter + Drop, O: Write>(
     alloc: Global,
     conn: Connection<S>,
@@ -83,6 +84,7 @@ pub fn why_over<S: Alter + Drop, O: Write>(
 }
 
 /// Writes the report of the journey of this number in what was opened, or refuses one that is absent.
+#[tactic(auto, using(desk_sql::proofs::Quieting::quiet_twice))]
 fn tell_why<S: Alter, O: Write>(
     alloc: Global,
     format: Format,
@@ -146,6 +148,7 @@ fn send_why<O: Write>(
 }
 
 /// Reads the outlook of a journey in what was opened.
+#[tactic(auto, using(desk_sql::proofs::Quieting::quiet_twice))]
 fn read_outlook<S: Alter>(
     alloc: Global,
     id: u64,
@@ -167,6 +170,7 @@ fn read_outlook<S: Alter>(
 }
 
 /// Reads the option with which the step at the position of a journey was done last, if the journey goes back.
+#[tactic(auto, using(desk_sql::proofs::Quieting::quiet_alone))]
 fn read_taken<S: Alter>(
     id: u64,
     journey: &Record,
@@ -184,6 +188,7 @@ fn read_taken<S: Alter>(
 }
 
 /// Reads the option with which a step of the journey of this number was done last.
+#[tactic(auto, using(desk_sql::proofs::Quieting::quiet_twice))]
 fn read_latest<S: Alter>(
     id: u64,
     step: usize,
@@ -203,6 +208,7 @@ fn read_latest<S: Alter>(
 }
 
 /// Reads what is free of each night of the want of a next step, in the desk of a connection.
+#[tactic(auto, using(desk_sql::proofs::Quieting::quiet_alone))]
 fn nights_ahead<S: Alter>(
     alloc: Global,
     next: &Option<NextStep>,
@@ -211,7 +217,7 @@ fn nights_ahead<S: Alter>(
     ensures nights { HasCleanDisk (state S.Store conn.new) → (v : Version) (s : State) → IsDesk s →
         KeepsIn v (state S.Store conn.old) s → (rows : List (Cell × Held)) → IsStock s.ledger rows →
         IfOk result (λ nights. nights.items ≡ nights_ahead s.ledger next.now) }
-    ensures kept { IsLeftAsItWas S.Store conn.old conn.new }
+    ensures quiet { Quiet S.Store conn.old conn.new }
 {
     match next {
         Some(next) => nights_of(alloc, &next.want, conn),
@@ -234,6 +240,7 @@ fn filter_of(want: &Want) -> CellFilter
 }
 
 /// Reads what is free of each night of a want, in the desk of a connection.
+#[tactic(auto, using(desk_sql::proofs::Quieting::quiet_twice))]
 fn nights_of<S: Alter>(
     alloc: Global,
     want: &Want,
@@ -242,7 +249,7 @@ fn nights_of<S: Alter>(
     ensures nights { HasCleanDisk (state S.Store conn.new) → (v : Version) (s : State) → IsDesk s →
         KeepsIn v (state S.Store conn.old) s → (rows : List (Cell × Held)) → IsStock s.ledger rows →
         IfOk result (λ nights. nights.items ≡ nights_of s.ledger want.now) }
-    ensures kept { IsLeftAsItWas S.Store conn.old conn.new }
+    ensures quiet { Quiet S.Store conn.old conn.new }
 {
     let filter = filter_of(want);
     let mut rows = match start_cells(conn, want.kind(), &filter) {

@@ -2,6 +2,7 @@ pub mod ClosingLemmas
 pub mod FinishedLemmas
 pub mod ListedLemmas
 pub mod LookLemmas
+pub mod ReadingLemmas
 pub mod OpenKept
 pub mod FoundingReasons
 pub mod NumberLemmas

@@ -1,4 +1,4 @@
--- A search for unfinished journeys that could not read the counts. For `TableBook::look_on`.
+-- What reads of its connection leave of a book. For its looks.
 use Rattle.std.proofs.Common.{◌≡◌, ℕ, Bool, inl, refl, sym, subst, arith}
 use Rattle.std.specs.Prelude.{Option, Result, Ok, Err}
 use Rattle.sqlite.specs.Held.{Held}

@@ -12,7 +12,7 @@ use Rattle.sqlite.specs.State.{State as Connected, HasCleanDisk, IsUnchanged, Is
 use Rattle.desk_sql.specs.declared.versions.Version.{Version}
 use Rattle.desk_sql.specs.declared.versions.Version.TheVariants.{One, Two}
 use Rattle.desk_sql.specs.Versions.{number_of, AreOfVersion}
-use Rattle.desk_sql.specs.Calls.{Sees, MaySeeIn, MayBuild, Founds, WasOpen, LeavesNoMore}
+use Rattle.desk_sql.specs.Calls.{Sees, MaySeeIn, MayBuild, Founds, WasOpen, LeavesNoMore, Quiet}
 use Rattle.desk_sql.specs.Changes.{founded}
 use Rattle.desk_sql.specs.FoundRows.{IsMeta, meta_of}
 use Rattle.desk_sql.specs.Rows.{Tables, MetaRow, Shows, ShowsIn}
@@ -25,7 +25,8 @@ use Rattle.sql_model.specs.ExpectedRows.{meta_in}
 use Rattle.sql_model.specs.Keeping.{Sees as SeesFound, SeesNew}
 use Rattle.sql_model.specs.Standing.{StandsFor}
 use Rattle.sql_model.proofs.Founding.{founded_stands}
-use Rattle.sql_model.proofs.KeepLemmas.{is_database, quiet_keeps}
+use Rattle.sql_model.proofs.KeepLemmas.{is_database}
+use Rattle.sql_model.proofs.Quieting.{quiet_keeps, quiet_leaves, quiet_sees}
 use Rattle.tables.specs.declared.faults.OpenFault.{OpenFault}
 use Rattle.tables.specs.declared.faults.OpenFault.TheVariants.{Store, Memory}
 use Rattle.sql_model.specs.Keeping.{MeansIn}
@@ -95,29 +96,28 @@ still_bare Two a b s found bare back = elim (found.sees back.was_open) [
   | inr fresh ↦ inr (still_new a b s back fresh)
 ]
 
--- A read that fails changes nothing, or was rolled back.
-module _ (a b : Connected) (s : State) (quiet : IsUnchanged a b ⊎ IsRolledBack a b) (less : Survives a b (λ _. ⊥))
-    (clean : HasCleanDisk b) where
-  was_live : IsTrue b.is_open → IsTrue a.is_open
-  was_live live = elim quiet [ inl same ↦ same.0.was_open | inr back ↦ back.was_open live ]
+-- A quiet call changes nothing, or is rolled back.
+module _ {S : Type 0} (g : Ghosts S) (old new : Held S) (s : State) (it : Quiet g old new) (clean : HasCleanDisk (state g new)) where
+  same_or_back : IsTrue (state g new).is_open → (state g old).now ≡ (state g old).committed → HasGoneBack (state g old) (state g new)
+  same_or_back live settled =
+      let saw = quiet_sees g old new it in
+      record {
+        was_open = (saw.kept clean).was_open live;
+        now = saw.sees clean live settled ∙ settled;
+        committed = (saw.kept clean).committed live;
+      }
 
-  same_or_back : IsTrue b.is_open → a.now ≡ a.committed → HasGoneBack a b
-  same_or_back live settled = elim quiet [
-    | inl same ↦ record { was_open = same.0.was_open; now = same.0.now_is ∙ settled; committed = same.0.committed_is }
-    | inr back ↦ record { was_open = back.was_open live; now = (back.undone live).0; committed = (back.undone live).1 }
-  ]
-
-  -- the connection represents what it represented before the read
-  pub still_found : (v : Version) → IsFound v a s → IsFound v b s
+  -- the connection represents what it represented before the call
+  pub still_found : (v : Version) → IsFound v (state g old) s → IsFound v (state g new) s
   still_found One found =
-      let kept = quiet_keeps a b s (record { sees = found.sees; leaves = found.leaves }) quiet less clean in
+      let kept = quiet_keeps g old new it One s (λ _. record { sees = found.sees; leaves = found.leaves }) clean in
       record { sees = kept.sees; leaves = kept.leaves }
   still_found Two found = record {
-    sees = λ live. elim (found.sees (was_live live)) [
-      | inl desk ↦ inl ((quiet_keeps a b s (record { sees = λ _. desk; leaves = found.leaves }) quiet less clean).sees live)
-      | inr fresh ↦ inr (still_new a b s (same_or_back live fresh.committed) fresh)
+    sees = λ live. elim (found.sees (((quiet_sees g old new it).kept clean).was_open live)) [
+      | inl desk ↦ inl ((quiet_keeps g old new it Two s (λ _. record { sees = λ _. desk; leaves = found.leaves }) clean).sees live)
+      | inr fresh ↦ inr (still_new (state g old) (state g new) s (same_or_back live fresh.committed) fresh)
     ];
-    leaves = λ db may. elim (less.crash clean db may) [ inl before ↦ found.leaves db before | inr none ↦ absurd none ];
+    leaves = λ db may. found.leaves db (quiet_leaves g old new it clean db may);
   }
 
 module _ {S : Type 0} (g : Ghosts S) (old late : Held S) where

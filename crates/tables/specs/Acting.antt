@@ -126,9 +126,3 @@ module _ {S : Type 0} (g : Ghosts S) (old new : TableBook S g) where
   ActsSince ask asked result =
       HasCleanDisk (state g new.conn) → (first : TableBook S g)
       → reasons.ActsOn (MayActSince g first old) (MayActSince g first new) (HasReasonSince g first new) (option_copied ask) asked result
-
-  -- a read leaves the book so that it may act for the same asks, or fails for a reason
-  abbrev pub ReadsSince : {V : Type 0} → Result V Fault → Type 0
-  ReadsSince result =
-      HasCleanDisk (state g new.conn) → (first : TableBook S g)
-      → reasons.ReadsOn (MayActSince g first old) (MayActSince g first new) (HasReasonSince g first new) result

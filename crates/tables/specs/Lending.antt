@@ -1,15 +1,15 @@
 -- What was opened, what it keeps, and how the sources of its rows leave it.
-use Rattle.std.specs.Prelude.{◌≡◌, false, Result, refl}
+use Rattle.std.specs.Prelude.{◌≡◌, Result, refl}
 use Rattle.std.specs.Borrow.{Fml, GName, Lends, MutBor, RattleType, RestsIfErr}
 use Rattle.std.proofs.Common.{◌∙◌}
 use Rattle.sqlite.specs.Store.{Ghosts}
 use Rattle.sqlite.specs.Held.{Held, state}
 use Rattle.sqlite.specs.contracts.connection.Connection as connection
 use Rattle.commands.specs.declared.replies.Fault.{Fault}
+use Rattle.desk_sql.specs.Calls.{Quiet}
+use Rattle.desk_sql.proofs.Quieting.{quiet_alone, quiet_twice}
 use Rattle.ledger.specs.Answer.{State}
 use Rattle.sql_reads.specs.Causes.{FailsForReasonIn}
-use Rattle.sql_model.specs.Staying.{StaysUp}
-use Rattle.sql_reads.specs.RemainingRows.{IsLeftAsItWas, left_alone, left_twice}
 use Rattle.tables.specs.Keeping.{KeepsIn}
 use Rattle.tables.specs.declared.opening.Opened.{Opened}
 use Rattle.tables.specs.contracts.opening.Opened as opened
@@ -22,13 +22,12 @@ module _ {S : Type 0} (g : Ghosts S) where
   -- what was opened was only read
   pub record IsOnlyRead (old new : Opened S) : Type 0 where
     pub version : new.version ≡ old.version
-    pub left : IsLeftAsItWas g old.conn new.conn
+    pub quiet : Quiet g old.conn new.conn
 
   -- the items could not be started: what was opened was only read, and Store has a reason
   pub record IsNotStarted {V : Type 0} (result : Result V Fault) (old new : Opened S) : Type 0 where
     pub read : IsOnlyRead old new
-    pub store : old.conn.in_transaction ≡ false → FailsForReasonIn g old.conn new.conn old.version result
-    pub up : StaysUp g old.conn new.conn
+    pub store : FailsForReasonIn g old.conn new.conn old.version result
 
   -- the reference is the same, and what was opened was only read
   pub record StaysUnder (a b : MutBor (Opened S)) : Type 0 where
@@ -48,7 +47,7 @@ module _ (S : RattleType) (g : Ghosts S.Denot) where
 pub stays_alone : {S : Type 0} {g : Ghosts S} (a : MutBor (Opened S)) → StaysUnder g a a
 stays_alone {S} {g} a = record {
   same_reference = refl;
-  read = record { version = refl; left = left_alone g a.now.conn };
+  read = record { version = refl; quiet = quiet_alone g a.now.conn };
 }
 
 pub stays_twice : {S : Type 0} {g : Ghosts S} (a b c : MutBor (Opened S))
@@ -57,6 +56,6 @@ stays_twice {S} {g} a b c one two = record {
   same_reference = two.same_reference ∙ one.same_reference;
   read = record {
     version = two.read.version ∙ one.read.version;
-    left = left_twice g a.now.conn b.now.conn c.now.conn one.read.left two.read.left;
+    quiet = quiet_twice g a.now.conn b.now.conn c.now.conn one.read.quiet two.read.quiet;
   };
 }

@@ -5,4 +5,5 @@ pub mod FinishedJourneys
 pub mod Keeping
 pub mod Lending
 pub mod Opening
+pub mod Reading
 pub mod UnfinishedCount

@@ -26,7 +26,7 @@ pub struct TableBook<S: Alter> {
 impl<S: Alter> TableBook<S> {
     ghost use Rattle.sqlite.specs.Held.{state};
     ghost use Rattle.ledger.specs.Answer.{State};
-    ghost use Rattle.sql_reads.specs.Reading.{WasClean};
+    ghost use Rattle.sql_model.specs.Keeping.{WasClean};
     ghost use Rattle.tables.specs.BookTerms.{StandsBook, LeavesBook};
     ghost use Rattle.tables.specs.Keeping.{MayLeave, StoodFor};
 

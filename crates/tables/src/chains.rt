@@ -5,7 +5,7 @@ ghost use Rattle.sqlite.specs.State.{HasCleanDisk};
 ghost use Rattle.ledger.specs.Answer.{start};
 ghost use Rattle.saga_core.specs.Runs.{AreReplies, MovesOnBy, Stops, asks_of, replies_to};
 ghost use Rattle.sql_model.specs.Staying.{StaysUp};
-ghost use Rattle.sql_reads.specs.Reading.{WasClean};
+ghost use Rattle.sql_model.specs.Keeping.{WasClean};
 ghost use Rattle.tables.specs.Acting.{ActsOnAfter, CameFromNew, FailsAmong, FailsFromNew, NewDeskMayAct};
 ghost use Rattle.tables.specs.BookTerms.{LeavesBook, StandsBook};
 ghost use Rattle.tables.specs.Opening.{FailsToFound, FailsToOpen, StandsOn, TellsUnmade};

@@ -1,8 +1,6 @@
 //! How many journeys are unfinished: counted once, and from then on by what each new reply tells.
-ghost use Rattle.std.specs.Prelude.{◌≡◌, false, IfSome};
-ghost use Rattle.sql_model.specs.Staying.{SeesAsBefore, StaysUp};
-ghost use Rattle.sql_reads.specs.Causes.{FailsForReason};
-ghost use Rattle.sql_reads.specs.Reading.{KeepsOn, LeavesAsBefore, ShowsKept, WasClean};
+ghost use Rattle.std.specs.Prelude.{◌≡◌, IfSome};
+ghost use Rattle.sql_reads.specs.Reads.{Read};
 ghost use Rattle.tables.specs.UnfinishedCount.{CountsOn, FollowsCount, unfinished_above};
 
 use commands::{Fault, MOST_EVENTS, Reply};
@@ -46,18 +44,7 @@ pub(crate) fn counted_after(before: Option<u64>, answered: &Answered) -> Option<
 
 /// Counts the unfinished journeys above `after`, one after another.
 pub(crate) fn count_unfinished<S: Alter>(conn: &mut Connection<S>, after: u64) -> Result<u64, Fault>
-    requires { conn.old.in_transaction ≡ false }
-
-    ensures outside { conn.new.in_transaction ≡ false }
-    ensures number { ShowsKept S.Store conn.old conn.new result
-        (λ s n. n ≡ unfinished_above s.ledger after) }
-    ensures same { KeepsOn S.Store conn.old conn.new }
-    ensures stop { LeavesAsBefore S.Store conn.old conn.new }
-    ensures less { WasClean S.Store conn.old conn.new }
-
-    ensures store { FailsForReason S.Store conn.old conn.new result }
-    ensures up { StaysUp S.Store conn.old conn.new }
-    ensures sees { SeesAsBefore S.Store conn.old conn.new }
+    ensures { Read S.Store conn.old conn.new result (λ s n. n ≡ unfinished_above s.ledger after) }
 {
     let mut last = after;
     for count in 0..MOST_EVENTS + 1 {

@@ -40,16 +40,11 @@ impl<S: Alter> Opened<S> {
         ensures none { IfOk result (λ it. it.given ≡ 0) }
         ensures kept { IsOnlyRead S.Store self.old self.new }
 
-        ensures store { self.old.conn.in_transaction ≡ false
-            → FailsForReasonIn S.Store self.old.conn self.new.conn self.old.version result }
-        ensures up { StaysUp S.Store self.old.conn self.new.conn }
+        ensures store { FailsForReasonIn S.Store self.old.conn self.new.conn self.old.version result }
         ensures going { IfOk result (λ it. it.failed ≡ false) }
         ensures low { IfOk result (λ it. IsLow it.sought) }
         ensures version { IfOk result (λ it. it.version ≡ self.old.version) }
     {
-        if !self.is_outside() {
-            return Err(Fault::Store);
-        }
         item_cursor(&mut self.conn, self.version, id)
     }
 

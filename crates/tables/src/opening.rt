@@ -14,7 +14,7 @@ ghost use Rattle.desk_sql.specs.declared.versions.Version.{Version};
 ghost use Rattle.ledger.specs.Answer.{State};
 ghost use Rattle.tables.specs.Opening.{FailsToOpen, KeepsIt, StandsOn, StoodOnlyIn, Tells, FailsToFound};
 ghost use Rattle.sql_model.specs.Staying.{SeesAsBefore, StaysUp};
-ghost use Rattle.sql_reads.specs.Reading.{WasClean};
+ghost use Rattle.sql_model.specs.Keeping.{WasClean};
 
 use crate::faults::OpenFault;
 use commands::Fault;
@@ -75,30 +75,18 @@ impl<S: Alter> Opened<S> {
 
 impl<S: Alter> Opened<S> {
     ghost use Rattle.std.specs.Borrow.{sem};
-    ghost use Rattle.sql_model.specs.Staying.{SeesAsBefore, StaysUp};
     ghost use Rattle.sql_reads.specs.Causes.{FailsForReasonIn};
-    ghost use Rattle.sql_reads.specs.Reading.{IsRecordAt, KeepsEach, LeavesAsBefore, ShowsKeptIn};
-    ghost use Rattle.tables.specs.Lending.{LendsConnection};
+    ghost use Rattle.sql_reads.specs.Reading.{IsRecordAt, ShowsKeptIn};
+    ghost use Rattle.tables.specs.Lending.{IsOnlyRead, LendsConnection};
 
     /// Returns the journey of that number, if there is one. A fault changes nothing, and the call may be retried.
     pub fn journey_of(&mut self, alloc: Global, id: u64) -> Result<Option<Record>, Fault>
         ensures journey { ShowsKeptIn S.Store self.old.conn self.new.conn self.old.version result
             (IsRecordAt id) }
-        ensures same { KeepsEach S.Store self.old.conn self.new.conn }
-        ensures version { self.new.version ≡ self.old.version }
-        ensures outside { self.old.conn.in_transaction ≡ false
-            → self.new.conn.in_transaction ≡ false }
-        ensures stop { LeavesAsBefore S.Store self.old.conn self.new.conn }
-        ensures sound { WasClean S.Store self.old.conn self.new.conn }
-
-        ensures store { self.old.conn.in_transaction ≡ false
-            → FailsForReasonIn S.Store self.old.conn self.new.conn self.old.version result }
-        ensures up { StaysUp S.Store self.old.conn self.new.conn }
-        ensures sees { SeesAsBefore S.Store self.old.conn self.new.conn }
+        ensures store { FailsForReasonIn S.Store self.old.conn self.new.conn self.old.version
+            result }
+        ensures kept { IsOnlyRead S.Store self.old self.new }
     {
-        if !self.is_outside() {
-            return Err(Fault::Store);
-        }
         read_journey(alloc, &mut self.conn, self.version, id)
     }
 

@@ -3,6 +3,9 @@ ghost use Rattle.std.specs.Prelude.{◌≡◌, ◌↔◌, IsErrOf, IsTrue};
 ghost use Rattle.std.specs.Option.{option_copied};
 ghost use Rattle.commands.specs.Orders.{request_of};
 ghost use Rattle.tables.specs.Asking.{HasAgent};
+ghost use Rattle.ledger.specs.Ledger.{history};
+ghost use Rattle.saga_core.specs.Views.{ShowsCells, IsStock, counts_of, first_owned, first_unfinished, record_of};
+ghost use Rattle.saga_core.specs.Views.{TracesBrief, TracesItems, unfinished_of};
 
 use crate::books::TableBook;
 use crate::counting::counted_after;
@@ -25,11 +28,187 @@ fn know_agent(ask: Option<&Ask>)
     }
 }
 
+/// A look at the tables of a book. What it shows is so of each state that the book represents.
+trait Look<S: Alter>: Drop {
+    ghost use Rattle.ledger.specs.Answer.{State};
+    ghost use Rattle.tables.specs.BookTerms.{ShowsKept};
+    ghost use Rattle.tables.specs.Reading.{Looks};
+
+    /// What the look returns.
+    type Shown;
+
+    /// The look shows this of a state.
+    ghost shows: { Self → State → Self.Shown → Type 0 };
+
+    /// Looks at the tables of a book that has not failed. At `Store` the book does not remember yet that it failed.
+    fn look(self, book: &mut TableBook<S>) -> Result<Self::Shown, Fault>
+        ensures shown { ShowsKept S.Store book.old book.new (shows self) result }
+        ensures looks { Looks S.Store book.old book.new result };
+}
+
+/// The journey of that number, if there is one.
+#[derive(Drop)]
+struct JourneyOf {
+    id: u64,
+}
+
+impl<S: Alter> Look<S> for JourneyOf {
+    type Shown = Option<Record>;
+
+    ghost shows = { λ look s found. found ≡ record_of s.ledger look.id };
+
+    fn look(self, book: &mut TableBook<S>) -> Result<Option<Record>, Fault> {
+        read_journey(book.alloc, &mut book.conn, Version::Two, self.id)
+    }
+}
+
+/// The items of the journey of that number, in order.
+#[derive(Drop)]
+struct HistoryOf {
+    id: u64,
+}
+
+impl<S: Alter> Look<S> for HistoryOf {
+    type Shown = Vec<Item>;
+
+    ghost shows = { λ look s items. items.items ≡ history s.ledger look.id };
+
+    fn look(self, book: &mut TableBook<S>) -> Result<Vec<Item>, Fault> {
+        read_history(book.alloc, &mut book.conn, self.id)
+    }
+}
+
+/// The unfinished journey with the least number above `after`.
+#[derive(Drop)]
+struct FirstUnfinished {
+    after: u64,
+}
+
+impl<S: Alter> Look<S> for FirstUnfinished {
+    type Shown = Option<Brief>;
+
+    ghost shows = { λ look s found. found ≡ first_unfinished s.ledger look.after };
+
+    fn look(self, book: &mut TableBook<S>) -> Result<Option<Brief>, Fault> {
+        book.look(self.after)
+    }
+}
+
+/// The journey of this agent with the least number above `after`, a finished one too.
+#[derive(Drop)]
+struct FirstOwned<'a> {
+    agent: &'a Agent,
+    after: u64,
+}
+
+impl<'a, S: Alter> Look<S> for FirstOwned<'a> {
+    type Shown = Option<Brief>;
+
+    ghost shows = { λ look s found. found ≡ first_owned s.ledger look.agent.now look.after };
+
+    fn look(self, book: &mut TableBook<S>) -> Result<Option<Brief>, Fault> {
+        read_first_owned(&mut book.conn, self.agent, self.after)
+    }
+}
+
+/// How many events, journeys and unfinished journeys there are.
+#[derive(Drop)]
+struct CountsOfAll;
+
+impl<S: Alter> Look<S> for CountsOfAll {
+    type Shown = Counts;
+
+    ghost shows = { λ _ s counts. counts ≡ counts_of s.ledger };
+
+    fn look(self, book: &mut TableBook<S>) -> Result<Counts, Fault> {
+        book.tally()
+    }
+}
+
+/// The places of a want's nights.
+#[derive(Drop)]
+struct CellsOf<'a> {
+    want: &'a Want,
+}
+
+impl<'a, S: Alter> Look<S> for CellsOf<'a> {
+    type Shown = Vec<(Night, Held)>;
+
+    ghost shows = { λ look s cells. ShowsCells look.want.now s cells.items };
+
+    fn look(self, book: &mut TableBook<S>) -> Result<Vec<(Night, Held)>, Fault> {
+        read_cells(book.alloc, &mut book.conn, self.want)
+    }
+}
+
+/// The places of every cell that has an allotment.
+#[derive(Drop)]
+struct StockOfAll;
+
+impl<S: Alter> Look<S> for StockOfAll {
+    type Shown = Vec<(Cell, Held)>;
+
+    ghost shows = { λ _ s rows. IsStock s.ledger rows.items };
+
+    fn look(self, book: &mut TableBook<S>) -> Result<Vec<(Cell, Held)>, Fault> {
+        read_stock(book.alloc, &mut book.conn)
+    }
+}
+
+/// What a page shows of the journey of that number.
+#[derive(Drop)]
+struct TraceOf {
+    id: u64,
+}
+
+impl<S: Alter> Look<S> for TraceOf {
+    type Shown = Option<Trace>;
+
+    ghost shows = { λ look s found. TracesBrief look.id s found × TracesItems look.id s found };
+
+    fn look(self, book: &mut TableBook<S>) -> Result<Option<Trace>, Fault> {
+        read_trace(book.alloc, &mut book.conn, self.id)
+    }
+}
+
+/// The unfinished journeys, in order of number.
+#[derive(Drop)]
+struct AllUnfinished;
+
+impl<S: Alter> Look<S> for AllUnfinished {
+    type Shown = Vec<Brief>;
+
+    ghost shows = { λ _ s briefs. briefs.items ≡ unfinished_of s.ledger };
+
+    fn look(self, book: &mut TableBook<S>) -> Result<Vec<Brief>, Fault> {
+        book.look_at_all()
+    }
+}
+
 impl<S: Alter> TableBook<S> {
     ghost use Rattle.sql_model.specs.Staying.{StaysUp};
-    ghost use Rattle.sql_reads.specs.Reading.{WasClean};
+    ghost use Rattle.sql_model.specs.Keeping.{WasClean};
     ghost use Rattle.tables.specs.Acting.{ActsOn};
-    ghost use Rattle.tables.specs.BookTerms.{Answers, FailsToAct, KeepsAtMemory, LeavesAtStore, LeavesNoMore, LeavesRowids, MovesOn};
+    ghost use Rattle.tables.specs.BookTerms.{Answers, FailsToAct, KeepsAtMemory, LeavesAtStore, LeavesNoMore, LeavesRowids, MovesOn, ShowsKept};
+    ghost use Rattle.tables.specs.Reading.{Reads};
+
+    /// Looks at the tables, unless the store has failed. Where it fails now, the book remembers that.
+    fn read<L: Look<S>>(&mut self, look: L) -> Result<L::Shown, Fault>
+        ensures shown { ShowsKept S.Store self.old self.new (L.shows look) result }
+        ensures reads { Reads S.Store self.old self.new result }
+    {
+        if self.failed {
+            return Err(Fault::Store);
+        }
+        match look.look(self) {
+            Ok(shown) => Ok(shown),
+            Err(Fault::Memory) => Err(Fault::Memory),
+            Err(Fault::Store) => {
+                self.failed = true;
+                Err(Fault::Store)
+            }
+        }
+    }
 
     /// Executes a command. After the store has failed, no call reaches it.
     fn carry_out(&mut self, command: &Command, ask: Option<&Ask>) -> Result<Reply, Fault>
@@ -71,15 +250,9 @@ impl<S: Alter> TableBook<S> {
 }
 
 impl<S: Alter> Book for TableBook<S> {
-    ghost use Rattle.ledger.specs.Ledger.{history};
-    ghost use Rattle.saga_core.specs.Views.{ShowsCells, IsStock, counts_of, first_owned, first_unfinished, record_of};
-    ghost use Rattle.saga_core.specs.Views.{TracesBrief, TracesItems, unfinished_of};
-    ghost use Rattle.sql_model.specs.Staying.{SeesAsBefore};
-    ghost use Rattle.sql_reads.specs.Reading.{WasClean};
-    ghost use Rattle.tables.specs.Acting.{ActsOn, ActsSince, HasReasonSince, MayActSince, ReadsSince};
-    ghost use Rattle.tables.specs.BookTerms.{FailsForReason, KeepsKnowing, LeavesNoMore, ShowsKept};
-    ghost use Rattle.tables.specs.BookTerms.{Answers, FailsToAct, KeepsAtMemory, LeavesAtStore, LeavesRowids, MovesOn};
-    ghost use Rattle.sql_model.specs.Staying.{StaysUp};
+    ghost use Rattle.tables.specs.Acting.{HasReasonSince, MayActSince};
+    ghost use Rattle.tables.specs.BookTerms.{ShowsKept};
+    ghost use Rattle.tables.specs.Reading.{Executes, Reads};
     ghost use Rattle.sqlite.specs.State.{HasCleanDisk};
     ghost use Rattle.sqlite.specs.Held.{state};
     ghost use Rattle.tables.specs.Keeping.{MayLeave, Stands, settles};
@@ -101,282 +274,81 @@ impl<S: Alter> Book for TableBook<S> {
     ghost settled = { λ b s h. settles h };
 
     fn act(&mut self, command: &Command, ask: Option<&Ask>) -> Result<Reply, Fault>
-        ensures reply { Answers S.Store self.old self.new ask.entry
-            (request_of command.now) result }
-        ensures after { MovesOn S.Store self.old self.new ask.entry
-            (request_of command.now) result }
-        ensures memory { KeepsAtMemory S.Store self.old self.new result }
-        ensures store { LeavesAtStore S.Store self.old self.new ask.entry (request_of command.now)
+        ensures executes { Executes S.Store self.old self.new ask.entry (request_of command.now)
             result }
-        ensures fails { IsErrOf result Fault.Store ↔ IsTrue self.new.failed }
-        ensures stays_failed { IsTrue self.old.failed → IsTrue self.new.failed }
-        ensures stays_left { IsTrue self.old.failed → LeavesNoMore S.Store self.old self.new }
-        ensures sound { WasClean S.Store self.old.conn self.new.conn }
-
-        ensures reason { FailsToAct S.Store self.old self.new ask.entry
-            (request_of command.now) result }
-        ensures rowids { LeavesRowids S.Store self.old self.new ask.entry (request_of command.now) }
-        ensures up { StaysUp S.Store self.old.conn self.new.conn }
-        ensures acts { ActsOn S.Store self.old self.new ask.entry (request_of command.now) result }
-        ensures may_act { ActsSince S.Store self.old self.new ask.entry
-            (request_of command.now) result }
     {
-        match self.carry_out(command, ask) {
-            Ok(reply) => Ok(reply),
-            Err(Fault::Memory) => Err(Fault::Memory),
-            Err(Fault::Store) => Err(Fault::Store),
-        }
+        self.carry_out(command, ask)
     }
 
     fn journey(&mut self, id: u64) -> Result<Option<Record>, Fault>
         ensures journey { ShowsKept S.Store self.old self.new
             (λ s found. found ≡ record_of s.ledger id) result }
-        ensures same { KeepsKnowing S.Store self.old self.new result }
-        ensures stop { HasCleanDisk (state S.Store self.new.conn) →
-            LeavesNoMore S.Store self.old self.new }
-        ensures fails { IsErrOf result Fault.Store ↔ IsTrue self.new.failed }
-        ensures stays_failed { IsTrue self.old.failed → IsTrue self.new.failed }
-        ensures stays_left { IsTrue self.old.failed → LeavesNoMore S.Store self.old self.new }
-        ensures sound { WasClean S.Store self.old.conn self.new.conn }
-
-        ensures store { FailsForReason S.Store self.old self.new result }
-        ensures may_act { ReadsSince S.Store self.old self.new result }
-        ensures sees { SeesAsBefore S.Store self.old.conn self.new.conn }
+        ensures reads { Reads S.Store self.old self.new result }
     {
-        if self.failed {
-            return Err(Fault::Store);
-        }
-        match read_journey(self.alloc, &mut self.conn, Version::Two, id) {
-            Ok(shown) => Ok(shown),
-            Err(Fault::Memory) => Err(Fault::Memory),
-            Err(Fault::Store) => {
-                self.failed = true;
-                Err(Fault::Store)
-            }
-        }
+        self.read(JourneyOf { id })
     }
 
     fn history(&mut self, id: u64) -> Result<Vec<Item>, Fault>
         ensures items { ShowsKept S.Store self.old self.new
             (λ s items. items.items ≡ history s.ledger id) result }
-        ensures same { KeepsKnowing S.Store self.old self.new result }
-        ensures stop { HasCleanDisk (state S.Store self.new.conn) →
-            LeavesNoMore S.Store self.old self.new }
-        ensures fails { IsErrOf result Fault.Store ↔ IsTrue self.new.failed }
-        ensures stays_failed { IsTrue self.old.failed → IsTrue self.new.failed }
-        ensures stays_left { IsTrue self.old.failed → LeavesNoMore S.Store self.old self.new }
-        ensures sound { WasClean S.Store self.old.conn self.new.conn }
-
-        ensures store { FailsForReason S.Store self.old self.new result }
-        ensures may_act { ReadsSince S.Store self.old self.new result }
-        ensures sees { SeesAsBefore S.Store self.old.conn self.new.conn }
+        ensures reads { Reads S.Store self.old self.new result }
     {
-        if self.failed {
-            return Err(Fault::Store);
-        }
-        match read_history(self.alloc, &mut self.conn, id) {
-            Ok(shown) => Ok(shown),
-            Err(Fault::Memory) => Err(Fault::Memory),
-            Err(Fault::Store) => {
-                self.failed = true;
-                Err(Fault::Store)
-            }
-        }
+        self.read(HistoryOf { id })
     }
 
     fn first_unfinished(&mut self, after: u64) -> Result<Option<Brief>, Fault>
         ensures first { ShowsKept S.Store self.old self.new
             (λ s found. found ≡ first_unfinished s.ledger after) result }
-        ensures same { KeepsKnowing S.Store self.old self.new result }
-        ensures stop { HasCleanDisk (state S.Store self.new.conn) →
-            LeavesNoMore S.Store self.old self.new }
-        ensures fails { IsErrOf result Fault.Store ↔ IsTrue self.new.failed }
-        ensures stays_failed { IsTrue self.old.failed → IsTrue self.new.failed }
-        ensures stays_left { IsTrue self.old.failed → LeavesNoMore S.Store self.old self.new }
-        ensures sound { WasClean S.Store self.old.conn self.new.conn }
-
-        ensures store { FailsForReason S.Store self.old self.new result }
-        ensures may_act { ReadsSince S.Store self.old self.new result }
-        ensures sees { SeesAsBefore S.Store self.old.conn self.new.conn }
+        ensures reads { Reads S.Store self.old self.new result }
     {
-        if self.failed {
-            return Err(Fault::Store);
-        }
-        match self.look(after) {
-            Ok(shown) => Ok(shown),
-            Err(Fault::Memory) => Err(Fault::Memory),
-            Err(Fault::Store) => {
-                self.failed = true;
-                Err(Fault::Store)
-            }
-        }
+        self.read(FirstUnfinished { after })
     }
 
     fn first_owned(&mut self, agent: &Agent, after: u64) -> Result<Option<Brief>, Fault>
         ensures first { ShowsKept S.Store self.old self.new
             (λ s found. found ≡ first_owned s.ledger agent.now after) result }
-        ensures same { KeepsKnowing S.Store self.old self.new result }
-        ensures stop { HasCleanDisk (state S.Store self.new.conn) →
-            LeavesNoMore S.Store self.old self.new }
-        ensures fails { IsErrOf result Fault.Store ↔ IsTrue self.new.failed }
-        ensures stays_failed { IsTrue self.old.failed → IsTrue self.new.failed }
-        ensures stays_left { IsTrue self.old.failed → LeavesNoMore S.Store self.old self.new }
-        ensures sound { WasClean S.Store self.old.conn self.new.conn }
-
-        ensures store { FailsForReason S.Store self.old self.new result }
-        ensures may_act { ReadsSince S.Store self.old self.new result }
-        ensures sees { SeesAsBefore S.Store self.old.conn self.new.conn }
+        ensures reads { Reads S.Store self.old self.new result }
     {
-        if self.failed {
-            return Err(Fault::Store);
-        }
-        match read_first_owned(&mut self.conn, agent, after) {
-            Ok(shown) => Ok(shown),
-            Err(Fault::Memory) => Err(Fault::Memory),
-            Err(Fault::Store) => {
-                self.failed = true;
-                Err(Fault::Store)
-            }
-        }
+        self.read(FirstOwned { agent, after })
     }
 
     fn counts(&mut self) -> Result<Counts, Fault>
         ensures counts { ShowsKept S.Store self.old self.new
             (λ s counts. counts ≡ counts_of s.ledger) result }
-        ensures same { KeepsKnowing S.Store self.old self.new result }
-        ensures stop { HasCleanDisk (state S.Store self.new.conn) →
-            LeavesNoMore S.Store self.old self.new }
-        ensures fails { IsErrOf result Fault.Store ↔ IsTrue self.new.failed }
-        ensures stays_failed { IsTrue self.old.failed → IsTrue self.new.failed }
-        ensures stays_left { IsTrue self.old.failed → LeavesNoMore S.Store self.old self.new }
-        ensures sound { WasClean S.Store self.old.conn self.new.conn }
-
-        ensures store { FailsForReason S.Store self.old self.new result }
-        ensures may_act { ReadsSince S.Store self.old self.new result }
-        ensures sees { SeesAsBefore S.Store self.old.conn self.new.conn }
+        ensures reads { Reads S.Store self.old self.new result }
     {
-        if self.failed {
-            return Err(Fault::Store);
-        }
-        match self.tally() {
-            Ok(counts) => Ok(counts),
-            Err(Fault::Memory) => Err(Fault::Memory),
-            Err(Fault::Store) => {
-                self.failed = true;
-                Err(Fault::Store)
-            }
-        }
+        self.read(CountsOfAll)
     }
 
     fn cells(&mut self, want: &Want) -> Result<Vec<(Night, Held)>, Fault>
         ensures cells { ShowsKept S.Store self.old self.new
             (λ s cells. ShowsCells want.now s cells.items) result }
-        ensures same { KeepsKnowing S.Store self.old self.new result }
-        ensures stop { HasCleanDisk (state S.Store self.new.conn) →
-            LeavesNoMore S.Store self.old self.new }
-        ensures fails { IsErrOf result Fault.Store ↔ IsTrue self.new.failed }
-        ensures stays_failed { IsTrue self.old.failed → IsTrue self.new.failed }
-        ensures stays_left { IsTrue self.old.failed → LeavesNoMore S.Store self.old self.new }
-        ensures sound { WasClean S.Store self.old.conn self.new.conn }
-
-        ensures store { FailsForReason S.Store self.old self.new result }
-        ensures may_act { ReadsSince S.Store self.old self.new result }
-        ensures sees { SeesAsBefore S.Store self.old.conn self.new.conn }
+        ensures reads { Reads S.Store self.old self.new result }
     {
-        if self.failed {
-            return Err(Fault::Store);
-        }
-        match read_cells(self.alloc, &mut self.conn, want) {
-            Ok(shown) => Ok(shown),
-            Err(Fault::Memory) => Err(Fault::Memory),
-            Err(Fault::Store) => {
-                self.failed = true;
-                Err(Fault::Store)
-            }
-        }
+        self.read(CellsOf { want })
     }
 
     fn stock(&mut self) -> Result<Vec<(Cell, Held)>, Fault>
         ensures stock { ShowsKept S.Store self.old self.new
             (λ s rows. IsStock s.ledger rows.items) result }
-        ensures same { KeepsKnowing S.Store self.old self.new result }
-        ensures stop { HasCleanDisk (state S.Store self.new.conn) →
-            LeavesNoMore S.Store self.old self.new }
-        ensures fails { IsErrOf result Fault.Store ↔ IsTrue self.new.failed }
-        ensures stays_failed { IsTrue self.old.failed → IsTrue self.new.failed }
-        ensures stays_left { IsTrue self.old.failed → LeavesNoMore S.Store self.old self.new }
-        ensures sound { WasClean S.Store self.old.conn self.new.conn }
-
-        ensures store { FailsForReason S.Store self.old self.new result }
-        ensures may_act { ReadsSince S.Store self.old self.new result }
-        ensures sees { SeesAsBefore S.Store self.old.conn self.new.conn }
+        ensures reads { Reads S.Store self.old self.new result }
     {
-        if self.failed {
-            return Err(Fault::Store);
-        }
-        match read_stock(self.alloc, &mut self.conn) {
-            Ok(shown) => Ok(shown),
-            Err(Fault::Memory) => Err(Fault::Memory),
-            Err(Fault::Store) => {
-                self.failed = true;
-                Err(Fault::Store)
-            }
-        }
+        self.read(StockOfAll)
     }
 
     fn trace(&mut self, id: u64) -> Result<Option<Trace>, Fault>
         ensures brief { ShowsKept S.Store self.old self.new (TracesBrief id) result }
         ensures items { ShowsKept S.Store self.old self.new (TracesItems id) result }
-        ensures same { KeepsKnowing S.Store self.old self.new result }
-        ensures stop { HasCleanDisk (state S.Store self.new.conn) →
-            LeavesNoMore S.Store self.old self.new }
-        ensures fails { IsErrOf result Fault.Store ↔ IsTrue self.new.failed }
-        ensures stays_failed { IsTrue self.old.failed → IsTrue self.new.failed }
-        ensures stays_left { IsTrue self.old.failed → LeavesNoMore S.Store self.old self.new }
-        ensures sound { WasClean S.Store self.old.conn self.new.conn }
-
-        ensures store { FailsForReason S.Store self.old self.new result }
-        ensures may_act { ReadsSince S.Store self.old self.new result }
-        ensures sees { SeesAsBefore S.Store self.old.conn self.new.conn }
+        ensures reads { Reads S.Store self.old self.new result }
     {
-        if self.failed {
-            return Err(Fault::Store);
-        }
-        match read_trace(self.alloc, &mut self.conn, id) {
-            Ok(shown) => Ok(shown),
-            Err(Fault::Memory) => Err(Fault::Memory),
-            Err(Fault::Store) => {
-                self.failed = true;
-                Err(Fault::Store)
-            }
-        }
+        self.read(TraceOf { id })
     }
 
     fn unfinished(&mut self) -> Result<Vec<Brief>, Fault>
         ensures briefs { ShowsKept S.Store self.old self.new
             (λ s briefs. briefs.items ≡ unfinished_of s.ledger) result }
-        ensures same { KeepsKnowing S.Store self.old self.new result }
-        ensures stop { HasCleanDisk (state S.Store self.new.conn) →
-            LeavesNoMore S.Store self.old self.new }
-        ensures fails { IsErrOf result Fault.Store ↔ IsTrue self.new.failed }
-        ensures stays_failed { IsTrue self.old.failed → IsTrue self.new.failed }
-        ensures stays_left { IsTrue self.old.failed → LeavesNoMore S.Store self.old self.new }
-        ensures sound { WasClean S.Store self.old.conn self.new.conn }
-
-        ensures store { FailsForReason S.Store self.old self.new result }
-        ensures may_act { ReadsSince S.Store self.old self.new result }
-        ensures sees { SeesAsBefore S.Store self.old.conn self.new.conn }
+        ensures reads { Reads S.Store self.old self.new result }
     {
-        if self.failed {
-            return Err(Fault::Store);
-        }
-        match self.look_at_all() {
-            Ok(shown) => Ok(shown),
-            Err(Fault::Memory) => Err(Fault::Memory),
-            Err(Fault::Store) => {
-                self.failed = true;
-                Err(Fault::Store)
-            }
-        }
+        self.read(AllUnfinished)
     }
 }

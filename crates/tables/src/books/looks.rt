@@ -12,21 +12,13 @@ use sqlite::Alter;
 
 impl<S: Alter> TableBook<S> {
     ghost use Rattle.saga_core.specs.Views.{counts_of, unfinished_of};
-    ghost use Rattle.sql_model.specs.Staying.{SeesAsBefore, StaysUp};
-    ghost use Rattle.sql_reads.specs.Reading.{LeavesAsBefore, WasClean};
-    ghost use Rattle.tables.specs.BookTerms.{FailsForReason, KeepsKnowing, ShowsFirst, ShowsKept};
+    ghost use Rattle.tables.specs.BookTerms.{ShowsFirst, ShowsKept};
+    ghost use Rattle.tables.specs.Reading.{Looks};
 
     /// Returns the first unfinished journey. The book remembers that the journeys before it have finished.
     fn look_on(&mut self) -> Result<Option<Brief>, Fault>
         ensures first { ShowsFirst S.Store self.old self.new self.old.finished result }
-        ensures same { KeepsKnowing S.Store self.old self.new result }
-        ensures stop { LeavesAsBefore S.Store self.old.conn self.new.conn }
-        ensures failed { self.new.failed ≡ self.old.failed }
-        ensures sound { WasClean S.Store self.old.conn self.new.conn }
-
-        ensures store { FailsForReason S.Store self.old self.new result }
-        ensures up { StaysUp S.Store self.old.conn self.new.conn }
-        ensures sees { SeesAsBefore S.Store self.old.conn self.new.conn }
+        ensures looks { Looks S.Store self.old self.new result }
     {
         let found = read_first_unfinished(&mut self.conn, self.finished)?;
         self.finished = match &found {
@@ -40,14 +32,7 @@ impl<S: Alter> TableBook<S> {
     /// not read again.
     pub(super) fn look(&mut self, after: u64) -> Result<Option<Brief>, Fault>
         ensures first { ShowsFirst S.Store self.old self.new after result }
-        ensures same { KeepsKnowing S.Store self.old self.new result }
-        ensures stop { LeavesAsBefore S.Store self.old.conn self.new.conn }
-        ensures failed { self.new.failed ≡ self.old.failed }
-        ensures sound { WasClean S.Store self.old.conn self.new.conn }
-
-        ensures store { FailsForReason S.Store self.old self.new result }
-        ensures up { StaysUp S.Store self.old.conn self.new.conn }
-        ensures sees { SeesAsBefore S.Store self.old.conn self.new.conn }
+        ensures looks { Looks S.Store self.old self.new result }
     {
         if after <= self.finished {
             self.look_on()
@@ -61,14 +46,7 @@ impl<S: Alter> TableBook<S> {
     pub(super) fn look_at_all(&mut self) -> Result<Vec<Brief>, Fault>
         ensures briefs { ShowsKept S.Store self.old self.new
             (λ s briefs. briefs.items ≡ unfinished_of s.ledger) result }
-        ensures same { KeepsKnowing S.Store self.old self.new result }
-        ensures stop { LeavesAsBefore S.Store self.old.conn self.new.conn }
-        ensures failed { self.new.failed ≡ self.old.failed }
-        ensures sound { WasClean S.Store self.old.conn self.new.conn }
-
-        ensures store { FailsForReason S.Store self.old self.new result }
-        ensures up { StaysUp S.Store self.old.conn self.new.conn }
-        ensures sees { SeesAsBefore S.Store self.old.conn self.new.conn }
+        ensures looks { Looks S.Store self.old self.new result }
     {
         let known = self.finished.min(LARGEST);
         let briefs = read_unfinished(self.alloc, &mut self.conn, known)?;
@@ -85,14 +63,7 @@ impl<S: Alter> TableBook<S> {
     fn count(&mut self) -> Result<u64, Fault>
         ensures number { ShowsKept S.Store self.old self.new
             (λ s n. n ≡ length (unfinished_of s.ledger)) result }
-        ensures same { KeepsKnowing S.Store self.old self.new result }
-        ensures stop { LeavesAsBefore S.Store self.old.conn self.new.conn }
-        ensures failed { self.new.failed ≡ self.old.failed }
-        ensures sound { WasClean S.Store self.old.conn self.new.conn }
-
-        ensures store { FailsForReason S.Store self.old self.new result }
-        ensures up { StaysUp S.Store self.old.conn self.new.conn }
-        ensures sees { SeesAsBefore S.Store self.old.conn self.new.conn }
+        ensures looks { Looks S.Store self.old self.new result }
     {
         if let Some(count) = self.unfinished {
             return Ok(count);
@@ -106,14 +77,7 @@ impl<S: Alter> TableBook<S> {
     pub(super) fn tally(&mut self) -> Result<Counts, Fault>
         ensures counts { ShowsKept S.Store self.old self.new
             (λ s counts. counts ≡ counts_of s.ledger) result }
-        ensures same { KeepsKnowing S.Store self.old self.new result }
-        ensures stop { LeavesAsBefore S.Store self.old.conn self.new.conn }
-        ensures failed { self.new.failed ≡ self.old.failed }
-        ensures sound { WasClean S.Store self.old.conn self.new.conn }
-
-        ensures store { FailsForReason S.Store self.old self.new result }
-        ensures up { StaysUp S.Store self.old.conn self.new.conn }
-        ensures sees { SeesAsBefore S.Store self.old.conn self.new.conn }
+        ensures looks { Looks S.Store self.old self.new result }
     {
         let unfinished = self.count()?;
         let meta = read_counts(&mut self.conn)?;

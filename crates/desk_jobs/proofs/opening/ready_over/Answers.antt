@@ -10,7 +10,7 @@ returns-in-Ok-recover-clause-may_act g c sound later s may =
     let first = record c.in-Ok.book { conn = c.args.conn; outside = c.requires.outside } in
     acts_from store first c.in-Ok-recover.recovered.0 later s _ (c.in-Ok-recover.ensures.may_act sound first later s
     (may_recover store first c.in-Ok.book c.in-Ok.ensures.up later s may
-    (c.in-Ok.ensures.may_act (c.in-Ok-recover.ensures.sound sound) later s may) (c.in-Ok.ensures.stands s may.represents)))
+    (c.in-Ok.ensures.may_act (c.in-Ok-recover.ensures.stays.sound sound) later s may) (c.in-Ok.ensures.stands s may.represents)))
 
 -- recovery failed for a reason
 pub returns-in-Err-recover-clause-reason : goal.returns-in-Err-recover-clause-reason
@@ -19,7 +19,7 @@ returns-in-Err-recover-clause-reason g c clean is =
     let left = c.in-Err-recover.book in
     let first = record c.in-Ok.book { conn = c.args.conn; outside = c.requires.outside } in
     let sound = c.into_store.ensures.sound clean in
-    let was = c.in-Err-recover.ensures.sound_at_fault sound in
+    let was = c.in-Err-recover.ensures.stays_at_fault.sound sound in
     fails_as store c.args.conn c.into_store.result
     (λ s may. may_recover store first c.in-Ok.book c.in-Ok.ensures.up [] s may (c.in-Ok.ensures.may_act was [] s may)
     (c.in-Ok.ensures.stands s may.represents))

@@ -3,6 +3,7 @@ use Rattle.std.proofs.Common.{refl, rules}
 use Rattle.sqlite.specs.Held.{state}
 use Rattle.sqlite.specs.State.{HasCleanDisk}
 use Rattle.reports.proofs.FrontLemmas.{front_none}
+use Rattle.sql_model.proofs.Quieting.{quiet_clean}
 use Rattle.report_jobs.proofs.ReportLemmas.{wrote_front}
 use Rattle.report_jobs.proofs.plain_reports.write_unfinished.Goals as goal
 
@@ -11,7 +12,7 @@ returns-clause-told g c clean v s desk keeps =
     let stayed = c.write_briefs.ensures.kept in
     -- the connection is the one that the rows give back when they are let go
     let read : HasCleanDisk (state g.S.Store c.write_briefs.new.rows.conn.now) = search rules in
-    c.write_briefs.ensures.told read _ (c.in-Ok.ensures.rows v (stayed.left.reads.less read) s desk keeps _ refl)
+    c.write_briefs.ensures.told read _ (c.in-Ok.ensures.rows v (quiet_clean _ _ _ stayed.quiet read) s desk keeps _ refl)
 
 -- nothing was written
 pub returns-in-Err-clause-told : goal.returns-in-Err-clause-told

@@ -6,6 +6,7 @@ use Rattle.sqlite.specs.State.{HasCleanDisk}
 use Rattle.allotment.specs.declared.cells.Cell.{Cell}
 use Rattle.allotment.specs.declared.places.Held.{Held as Places}
 use Rattle.filters.specs.CellFilters.{is_cell_of}
+use Rattle.sql_model.proofs.Quieting.{quiet_clean}
 use Rattle.report_jobs.proofs.WhyLemmas.{nights-asked}
 use Rattle.report_jobs.proofs.whys.nights_of.Goals as goal
 
@@ -17,7 +18,7 @@ returns-clause-nights g c clean v s desk keeps rows stock =
     let w = c.args.want.now in
     let f = c.filter_of-filter.result in
     let asked = filter (λ (r : Cell × Places). is_cell_of w.kind f r.0) rows in
-    let rest = c.in-Ok.ensures.rows v (stayed.left.reads.less read) s desk keeps asked
+    let rest = c.in-Ok.ensures.rows v (quiet_clean _ _ _ stayed.quiet read) s desk keeps asked
     (rows, stock, ap (λ k. filter (λ (r : Cell × Places). is_cell_of k f r.0) rows) (sym c.kind.ensures.kind)) in
     subst (λ ns. IfOk c.nights_left.result (λ nights. nights.items ≡ ns))
     (nights-asked s.ledger w f rows stock c.filter_of-filter.ensures.lets)

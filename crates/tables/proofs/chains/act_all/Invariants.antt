@@ -7,7 +7,7 @@ use Rattle.desk_sql.specs.Causes.{HasFaulted}
 use Rattle.ledger.specs.Answer.{State}
 use Rattle.saga_core.specs.Runs.{asks_of, replies_to, state_after}
 use Rattle.sql_model.specs.Staying.{StaysUp}
-use Rattle.sql_reads.specs.Reading.{WasClean}
+use Rattle.sql_model.specs.Keeping.{WasClean}
 use Rattle.tables.specs.Acting.{AreShort, MayAct, rowids_for}
 use Rattle.tables.specs.BookTerms.{StandsBook}
 use Rattle.tables.proofs.chains.act_all.Given as goal

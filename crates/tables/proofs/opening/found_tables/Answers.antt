@@ -23,11 +23,11 @@ returns-in-Ok-clause-finds g c clean v s stood =
     let same : end ≡ c.conn-2-1.given.0 = search rules in
     let at_end : HasCleanDisk (state g.S.Store end) = search rules in
     let at_late : HasCleanDisk (state g.S.Store late) = omega (arith, c.commit.ensures.survives.clean) in
-    let at_begun : HasCleanDisk (state g.S.Store begun) = omega (arith, c.make_tables.ensures.survives.clean) in
+    let at_begun : HasCleanDisk (state g.S.Store begun) = omega (arith, c.make_tables.ensures.goes.survives.clean) in
     let from : begun ≡ record old { in_transaction = true } = c.transaction-tx.ensures.begun in
     let at_old : HasCleanDisk (state g.S.Store old) = rw from at at_begun in
     let found : IsFound v (state g.S.Store old) s = stood at_old in
-    let has = has_founded g.S.Store old late c.requires.bare at_late (rw from at c.in_default.ensures.made) (rw from at c.in_default.ensures.live) in
+    let has = has_founded g.S.Store old late c.requires.bare at_late (rw from at c.in_default.ensures.made) (rw from at c.in_default.ensures.goes.live) in
     let new = was_new v (state g.S.Store old) s found c.requires.bare has.0 in
     let kept = keeps_founded g.S.Store old late g.met.S.Store.settled end has.1 (c.in-Ok.ensures.ok at_end).1 in
     rw (← same) (subst (λ (x : State). IsKept (state g.S.Store end) x) (sym new.1) kept)
@@ -42,11 +42,11 @@ returns-in-Ok-clause-only g c clean v s stood =
     let same : end ≡ c.conn-2-1.given.0 = search rules in
     let at_end : HasCleanDisk (state g.S.Store end) = search rules in
     let at_late : HasCleanDisk (state g.S.Store late) = omega (arith, c.commit.ensures.survives.clean) in
-    let at_begun : HasCleanDisk (state g.S.Store begun) = omega (arith, c.make_tables.ensures.survives.clean) in
+    let at_begun : HasCleanDisk (state g.S.Store begun) = omega (arith, c.make_tables.ensures.goes.survives.clean) in
     let from : begun ≡ record old { in_transaction = true } = c.transaction-tx.ensures.begun in
     let at_old : HasCleanDisk (state g.S.Store old) = rw from at at_begun in
     let found : IsFound v (state g.S.Store old) s = stood at_old in
-    let has = has_founded g.S.Store old late c.requires.bare at_late (rw from at c.in_default.ensures.made) (rw from at c.in_default.ensures.live) in
+    let has = has_founded g.S.Store old late c.requires.bare at_late (rw from at c.in_default.ensures.made) (rw from at c.in_default.ensures.goes.live) in
     (was_new v (state g.S.Store old) s found c.requires.bare has.0).0
 
 pub returns-in-Err-clause-told : goal.returns-in-Err-clause-told
@@ -54,7 +54,7 @@ returns-in-Err-clause-told g c =
     let end = c.rollback.new.self.0 in
     let same : end ≡ c.conn-1.given.0 = search rules in
     let from : c.transaction-tx.result.conn.now ≡ record c.args.conn.now { in_transaction = true } = c.transaction-tx.ensures.begun in
-    let made : LeavesNoMore g.S.Store (record c.args.conn.now { in_transaction = true }) c.make_tables.new.tx.conn.now = rw from at c.in-Err.ensures.survives in
+    let made : LeavesNoMore g.S.Store (record c.args.conn.now { in_transaction = true }) c.make_tables.new.tx.conn.now = rw from at c.in-Err.ensures.goes.survives in
     let less : LeavesNoMore g.S.Store c.args.conn.now end = survives_begin g.S.Store c.args.conn.now (state g.S.Store end) (λ _. ⊥) (survives_then _ _ _ (λ _. ⊥) (λ _. ⊥) (λ _. ⊥) (λ _ db h. h) (λ _ db h. h) made c.rollback.ensures.survives) in
     rw (← same) (tells_fault g.S.Store c.args.conn.now end c.fault_of.result c.opening_fault.result c.opening_fault.ensures.memory c.opening_fault.ensures.store less)
 
@@ -68,15 +68,15 @@ returns-in-Err-clause-stands g c v s stood clean =
     let same : end ≡ c.conn-1.given.0 = search rules in
     let at_end : HasCleanDisk (state g.S.Store end) = search rules in
     let at_late : HasCleanDisk (state g.S.Store late) = omega (arith, c.rollback.ensures.survives.clean) in
-    let at_begun : HasCleanDisk (state g.S.Store begun) = omega (arith, c.in-Err.ensures.survives.clean) in
+    let at_begun : HasCleanDisk (state g.S.Store begun) = omega (arith, c.in-Err.ensures.goes.survives.clean) in
     let from : begun ≡ record old { in_transaction = true } = c.transaction-tx.ensures.begun in
     let inside : IsTrue (state g.S.Store begun).in_transaction = rw from refl in
     let at_old : HasCleanDisk (state g.S.Store old) = rw from at at_begun in
     let found : IsFound v (state g.S.Store old) s = stood at_old in
-    let kept : KeepsCommit (state g.S.Store (record old { in_transaction = true })) (state g.S.Store late) = rw from at (c.in-Err.ensures.commit at_late inside) in
+    let kept : KeepsCommit (state g.S.Store (record old { in_transaction = true })) (state g.S.Store late) = rw from at (c.in-Err.ensures.goes.commit at_late inside) in
     let back : IsTrue (state g.S.Store end).is_open → HasGoneBack (state g.S.Store (record old { in_transaction = true })) (state g.S.Store end)
     = gone_back _ (state g.S.Store late) (state g.S.Store end) kept (c.rollback.ensures.undone at_end) in
-    let made : LeavesNoMore g.S.Store (record old { in_transaction = true }) late = rw from at c.in-Err.ensures.survives in
+    let made : LeavesNoMore g.S.Store (record old { in_transaction = true }) late = rw from at c.in-Err.ensures.goes.survives in
     let less : LeavesNoMore g.S.Store old end = survives_begin g.S.Store old (state g.S.Store end) (λ _. ⊥) (survives_then _ _ _ (λ _. ⊥) (λ _. ⊥) (λ _. ⊥) (λ _ db h. h) (λ _ db h. h) made c.rollback.ensures.survives) in
     rw (← same) (record {
       sees = λ live. (let gone = back live in still_bare v (state g.S.Store old) (state g.S.Store end) s found c.requires.bare
@@ -94,15 +94,15 @@ returns-in-Err-commit-clause-stands g c v s stood clean =
     let same : end ≡ c.conn-2-1.given.0 = search rules in
     let at_end : HasCleanDisk (state g.S.Store end) = search rules in
     let at_late : HasCleanDisk (state g.S.Store late) = omega (arith, c.commit.ensures.survives.clean) in
-    let at_begun : HasCleanDisk (state g.S.Store begun) = omega (arith, c.make_tables.ensures.survives.clean) in
+    let at_begun : HasCleanDisk (state g.S.Store begun) = omega (arith, c.make_tables.ensures.goes.survives.clean) in
     let from : begun ≡ record old { in_transaction = true } = c.transaction-tx.ensures.begun in
     let inside : IsTrue (state g.S.Store begun).in_transaction = rw from refl in
     let at_old : HasCleanDisk (state g.S.Store old) = rw from at at_begun in
     let found : IsFound v (state g.S.Store old) s = stood at_old in
-    let has = has_founded g.S.Store old late c.requires.bare at_late (rw from at c.in_default.ensures.made) (rw from at c.in_default.ensures.live) in
+    let has = has_founded g.S.Store old late c.requires.bare at_late (rw from at c.in_default.ensures.made) (rw from at c.in_default.ensures.goes.live) in
     let new = was_new v (state g.S.Store old) s found c.requires.bare has.0 in
-    let kept : KeepsCommit (state g.S.Store (record old { in_transaction = true })) (state g.S.Store late) = rw from at (c.in_default.ensures.commit at_late inside) in
-    let goes_on : IsTrue (state g.S.Store late).in_transaction = c.in_default.ensures.inside at_late inside in
+    let kept : KeepsCommit (state g.S.Store (record old { in_transaction = true })) (state g.S.Store late) = rw from at (c.in_default.ensures.goes.commit at_late inside) in
+    let goes_on : IsTrue (state g.S.Store late).in_transaction = c.in_default.ensures.goes.inside at_late inside in
     let undone : IsRolledBack (state g.S.Store late) (state g.S.Store end) = rolled_back (state g.S.Store late) (state g.S.Store end) _ goes_on (c.in-Err-commit.ensures.err at_end) in
     let back : IsTrue (state g.S.Store end).is_open → HasGoneBack (state g.S.Store (record old { in_transaction = true })) (state g.S.Store end)
     = gone_back _ (state g.S.Store late) (state g.S.Store end) kept undone in
@@ -110,7 +110,7 @@ returns-in-Err-commit-clause-stands g c v s stood clean =
       sees = λ live. (let gone = back live in still_bare v (state g.S.Store old) (state g.S.Store end) s found c.requires.bare
           (record { was_open = gone.was_open; now = gone.now; committed = gone.committed }));
       leaves = λ db left. (let came : g.S.Store.recovers old.store db ⊎ (db ≡ (g.S.Store.view late.store).trees) = elim (c.commit.ensures.survives.crash at_end db left) [
-        | inl before ↦ elim (c.make_tables.ensures.survives.crash at_late db before) [ inl first ↦ inl (rw from at first) | inr none ↦ absurd none ]
+        | inl before ↦ elim (c.make_tables.ensures.goes.survives.crash at_late db before) [ inl first ↦ inl (rw from at first) | inr none ↦ absurd none ]
         | inr is ↦ inr is
       ] in
           either_means g.S.Store old late v s found new has.1 db came);
@@ -124,7 +124,7 @@ returns-in-Ok-clause-up g c =
     let late = c.make_tables.new.tx.conn.now in
     let end = c.commit.new.self.0 in
     let same : end ≡ c.conn-2-1.given.0 = search rules in
-    let less = subst (λ (h : Held g.row.S.Denot). Survives (state g.S.Store h) (state g.S.Store late) (λ _. ⊥)) c.transaction-tx.ensures.begun c.make_tables.ensures.survives in
+    let less = subst (λ (h : Held g.row.S.Denot). Survives (state g.S.Store h) (state g.S.Store late) (λ _. ⊥)) c.transaction-tx.ensures.begun c.make_tables.ensures.goes.survives in
     rw (← same) (stays_begun g.S.Store old end (stays_twice g.S.Store start late end (stays_up g.S.Store start late less)
     (stays_committing g.S.Store late end _ c.commit.ensures.survives) (λ clean. omega (arith, c.commit.ensures.survives.clean))))
 
@@ -154,5 +154,5 @@ returns-in-Err-commit-clause-founds g c clean bare up store =
     let at_end : HasCleanDisk (state g.S.Store end) = search rules in
     let at_late : HasCleanDisk (state g.S.Store late) = omega (arith, c.commit.ensures.survives.clean) in
     let from : c.transaction-tx.result.conn.now ≡ record old { in_transaction = true } = c.transaction-tx.ensures.begun in
-    let less : LeavesNoMore g.S.Store (record old { in_transaction = true }) late = rw from at c.make_tables.ensures.survives in
+    let less : LeavesNoMore g.S.Store (record old { in_transaction = true }) late = rw from at c.make_tables.ensures.goes.survives in
     rw (← same) (not_committed g.S.Store old late end bare up at_late less (rw from at c.in_default.ensures.made) _ (c.in-Err-commit.ensures.err at_end))

@@ -1,8 +1,7 @@
 use Rattle.std.proofs.Common.{◌≡◌, subst}
 use Rattle.std.specs.Prelude.{IfOk}
-use Rattle.sqlite.specs.Held.{state}
 use Rattle.tables.proofs.FinishedLemmas.{first-from}
-use Rattle.tables.proofs.LookLemmas.{still_stands}
+use Rattle.tables.proofs.ReadingLemmas.{looks_at}
 use Rattle.tables.proofs.books.TableBook.look.Goals as goal
 
 -- if all journeys up to a number have finished, a search above it finds the same
@@ -12,8 +11,9 @@ returns-then-after-self-clause-first g c clean s here =
     (first-from s.ledger c.args.self.now.finished c.args.after here.known c.if-after-self.true)
     (c.look_on.ensures.first clean s here)
 
--- the look changed nothing
-pub returns-else-after-self-clause-same : goal.returns-else-after-self-clause-same
-returns-else-after-self-clause-same g c clean =
-    still_stands c.args.self.now.failed c.args.self.now.finished c.args.self.now.unfinished (state g.S.Store c.args.self.now.conn)
-    (state g.S.Store c.read_first_unfinished.new.conn) c.read_first_unfinished.ensures.same c.read_first_unfinished.result
+-- the book shows what the read shows, and is left as it leaves its connection
+pub returns-else-after-self : goal.returns-else-after-self
+returns-else-after-self g c = record {
+  first = λ clean s here. c.read_first_unfinished.ensures.shows clean s here.desk here.keeps;
+  looks = looks_at c.read_first_unfinished.ensures;
+}

@@ -1,55 +1,61 @@
--- The unfinished journeys were counted, and the other numbers could not be read.
+-- The unfinished journeys were counted, and the other numbers were read, or could not be.
 use Rattle.std.proofs.Common.{◌≡◌, ap, rules}
 use Rattle.std.specs.Prelude.{Err}
 use Rattle.sqlite.specs.Held.{state}
-use Rattle.sqlite.specs.State.{HasCleanDisk}
+use Rattle.commands.specs.declared.replies.Fault.TheVariants.{Store}
+use Rattle.desk_sql.specs.declared.versions.Version.TheVariants.{Two}
+use Rattle.desk_sql.proofs.Quieting.{quiet_twice}
+use Rattle.sql_model.proofs.Quieting.{quiet_clean, quiet_keeps, quiet_up}
+use Rattle.sql_model.proofs.Staying.{fails_twice}
 use Rattle.tables.specs.BookTerms.{StandsBook}
 use Rattle.tables.proofs.LookLemmas.{untold}
-use Rattle.commands.specs.declared.replies.Fault.TheVariants.{Store}
-use Rattle.sql_model.specs.Staying.{sees_twice}
-use Rattle.sql_model.proofs.Staying.{fails_twice, stays_twice}
 use Rattle.tables.proofs.books.TableBook.tally.Goals as goal
 
-pub returns-in_err-meta-clause-same : goal.returns-in_err-meta-clause-same
-returns-in_err-meta-clause-same g c clean =
-    let book = c.count.new.self in
-    let mid = state g.S.Store book.conn in
-    let end = state g.S.Store c.read_counts.new.conn in
-    let at_mid : HasCleanDisk mid = c.read_counts.ensures.sound clean in
-    untold (StandsBook g.S.Store c.args.self.now) book.failed book.finished book.unfinished mid end c.in_err-meta.field-0.0
-    (λ s here. c.in_ok-unfinished.ensures.same at_mid s here)
-    (λ s keeps is. c.in_err-meta.ensures.memory s keeps (ap Err is))
-    _ (search rules)
+pub returns-clause-counts : goal.returns-clause-counts
+returns-clause-counts g c clean s here =
+    let early = quiet_clean g.S.Store _ _ c.in_ok-meta.ensures.read.quiet clean in
+    let now = c.in_ok-unfinished.ensures.looks.same early s here in
+    let counts = c.in_ok-meta.ensures.read.shows clean s now.desk now.keeps in
+    let number = c.in_ok-unfinished.ensures.number early s here in
+    search rules
+
+-- neither changed what the book represents
+pub returns-clause-looks : goal.returns-clause-looks
+returns-clause-looks g c =
+    let known = c.in_ok-unfinished.ensures.looks in
+    let counted = c.in_ok-meta.ensures.read in
+    record {
+      same = λ clean s here. (
+        let now = known.same (quiet_clean g.S.Store _ _ counted.quiet clean) s here in
+        record {
+          working = now.working;
+          known = now.known;
+          counted = now.counted;
+          desk = now.desk;
+          keeps = quiet_keeps g.S.Store _ _ counted.quiet Two s now.keeps;
+        });
+      failed = known.failed;
+      store = search rules;
+      quiet = quiet_twice g.S.Store _ _ _ known.quiet counted.quiet;
+    }
 
 -- the counts could not be read after the unfinished journeys were counted
-pub returns-in_err-meta-clause-store : goal.returns-in_err-meta-clause-store
-returns-in_err-meta-clause-store g c clean s here spelled up store =
-    let old = c.args.self.now.conn in
-    let mid = c.count.new.self.conn in
-    let at_mid : HasCleanDisk (state g.S.Store mid) = c.read_counts.ensures.sound clean in
-    let now = c.in_ok-unfinished.ensures.same at_mid s here in
-    let failed : c.read_counts.result ≡ Err Store = search rules in
-    fails_twice g.S.Store old mid c.read_counts.new.conn c.count.ensures.up c.read_counts.ensures.up c.read_counts.ensures.sound clean up
-    (λ still. c.read_counts.ensures.store clean s now.desk spelled now.keeps still failed)
-
-pub returns-in_err-meta-clause-up : goal.returns-in_err-meta-clause-up
-returns-in_err-meta-clause-up g c =
-    stays_twice g.S.Store c.args.self.now.conn c.count.new.self.conn c.read_counts.new.conn
-    c.count.ensures.up c.read_counts.ensures.up c.read_counts.ensures.sound
-
-pub returns-clause-up : goal.returns-clause-up
-returns-clause-up g c =
-    stays_twice g.S.Store c.args.self.now.conn c.count.new.self.conn c.read_counts.new.conn
-    c.count.ensures.up c.read_counts.ensures.up c.read_counts.ensures.sound
-
--- The store sees what it saw.
-
-pub returns-in_err-meta-clause-sees : goal.returns-in_err-meta-clause-sees
-returns-in_err-meta-clause-sees g c =
-    sees_twice g.S.Store c.args.self.now.conn c.count.new.self.conn c.read_counts.new.conn
-    c.count.ensures.sees c.read_counts.ensures.sees c.read_counts.ensures.sound
-
-pub returns-clause-sees : goal.returns-clause-sees
-returns-clause-sees g c =
-    sees_twice g.S.Store c.args.self.now.conn c.count.new.self.conn c.read_counts.new.conn
-    c.count.ensures.sees c.read_counts.ensures.sees c.read_counts.ensures.sound
+pub returns-in_err-meta-clause-looks : goal.returns-in_err-meta-clause-looks
+returns-in_err-meta-clause-looks g c =
+    let book = c.count.new.self in
+    let known = c.in_ok-unfinished.ensures.looks in
+    let counted = c.in_err-meta.ensures.read in
+    record {
+      same = λ clean. untold (StandsBook g.S.Store c.args.self.now) book.failed book.finished book.unfinished (state g.S.Store book.conn)
+          (state g.S.Store c.read_counts.new.conn) c.in_err-meta.field-0.0
+          (λ s here. known.same (quiet_clean g.S.Store _ _ counted.quiet clean) s here)
+          (λ s keeps is. quiet_keeps g.S.Store _ _ counted.quiet Two s keeps)
+          _ (search rules);
+      failed = known.failed;
+      store = λ clean s here spelled up store. (
+          let now = known.same (quiet_clean g.S.Store _ _ counted.quiet clean) s here in
+          let failed : c.read_counts.result ≡ Err Store = search rules in
+          fails_twice g.S.Store _ _ _ (quiet_up g.S.Store _ _ known.quiet) (quiet_up g.S.Store _ _ counted.quiet) (quiet_clean g.S.Store _ _ counted.quiet)
+          clean up (λ still. c.read_counts.ensures.read.store clean s now.desk spelled now.keeps tt still failed));
+      quiet = quiet_twice g.S.Store _ _ _ known.quiet counted.quiet;
+    }

@@ -1,0 +1,91 @@
+-- A read leaves a book as a look does, which may then act as before, or has failed for a reason.
+use Rattle.std.proofs.Common.{◌≡◌, ◌∙◌, true, false, rules, subst, sym}
+use Rattle.std.specs.Prelude.{Err}
+use Rattle.commands.specs.declared.replies.Fault.TheVariants.{Memory, Store}
+use Rattle.sql_model.specs.Staying.{sees_alone}
+use Rattle.sql_model.proofs.Quieting.{quiet_clean, quiet_leaves, quiet_sees, quiet_up}
+use Rattle.tables.specs.BookTerms.{KeepsKnowing}
+use Rattle.tables.proofs.SinceLemmas.{failed_since, had_failed, may_still}
+use Rattle.tables.proofs.books.TableBook.read.Goals as goal
+
+-- the store had failed
+pub returns-then-self-clause-reads : goal.returns-then-self-clause-reads
+returns-then-self-clause-reads g c = record {
+  book = record {
+    same = λ clean. tt;
+    stop = λ clean s t left. left;
+    fails = search rules;
+    stays_failed = λ failed. failed;
+    stays_left = λ failed s t left. left;
+    may_act = λ clean first s asks since. had_failed g.S.Store c.args.self.now first s asks c.if-self.true since;
+    sound = λ clean. clean;
+  };
+  sound = λ clean. clean;
+  store = λ clean s here spelled up failed. absurd (let both : true ≡ false = sym c.if-self.true ∙ here.working in cc);
+  sees = sees_alone g.S.Store c.args.self.now.conn;
+}
+
+-- the look shows what it found
+pub returns-in-Ok-clause-reads : goal.returns-in-Ok-clause-reads
+returns-in-Ok-clause-reads g c =
+    let look = c.look.ensures.looks in
+    record {
+      book = record {
+        same = c.in-Ok.ensures.looks.same;
+        stop = λ clean s t left after db may. left (quiet_clean g.S.Store _ _ look.quiet after) db (quiet_leaves g.S.Store _ _ look.quiet after db may);
+        fails = search rules;
+        stays_failed = search rules;
+        stays_left = λ failed s t left after db may. left (quiet_clean g.S.Store _ _ look.quiet after) db (quiet_leaves g.S.Store _ _ look.quiet after db may);
+        may_act = λ clean first s asks since.
+            may_still g.S.Store c.args.self.now _ (quiet_up g.S.Store _ _ look.quiet) clean first s asks since (quiet_sees g.S.Store _ _ look.quiet) (quiet_clean g.S.Store _ _ look.quiet)
+            (λ here. c.in-Ok.ensures.looks.same clean s here);
+        sound = quiet_clean g.S.Store _ _ look.quiet;
+      };
+      sound = quiet_clean g.S.Store _ _ look.quiet;
+      store = search rules;
+      sees = quiet_sees g.S.Store _ _ look.quiet;
+    }
+
+-- out of memory, the book is as it was
+pub returns-in-Err-Memory-clause-reads : goal.returns-in-Err-Memory-clause-reads
+returns-in-Err-Memory-clause-reads g c =
+    let look = c.look.ensures.looks in
+    let ran_out : c.look.result ≡ Err Memory = search rules in
+    let kept = subst (λ r. KeepsKnowing g.S.Store c.args.self.now c.look.new.book r) ran_out look.same in
+    record {
+      book = record {
+        same = λ clean s here. kept clean s here;
+        stop = λ clean s t left after db may. left (quiet_clean g.S.Store _ _ look.quiet after) db (quiet_leaves g.S.Store _ _ look.quiet after db may);
+        fails = search rules;
+        stays_failed = search rules;
+        stays_left = λ failed s t left after db may. left (quiet_clean g.S.Store _ _ look.quiet after) db (quiet_leaves g.S.Store _ _ look.quiet after db may);
+        may_act = λ clean first s asks since.
+            may_still g.S.Store c.args.self.now _ (quiet_up g.S.Store _ _ look.quiet) clean first s asks since (quiet_sees g.S.Store _ _ look.quiet) (quiet_clean g.S.Store _ _ look.quiet) (λ here. kept clean s here);
+        sound = quiet_clean g.S.Store _ _ look.quiet;
+      };
+      sound = quiet_clean g.S.Store _ _ look.quiet;
+      store = search rules;
+      sees = quiet_sees g.S.Store _ _ look.quiet;
+    }
+
+-- the store failed at the look
+pub returns-in-Err-Store-clause-reads : goal.returns-in-Err-Store-clause-reads
+returns-in-Err-Store-clause-reads g c =
+    let look = c.look.ensures.looks in
+    let failed : c.look.result ≡ Err Store = search rules in
+    record {
+      book = record {
+        same = λ clean. tt;
+        stop = λ clean s t left after db may. left (quiet_clean g.S.Store _ _ look.quiet after) db (quiet_leaves g.S.Store _ _ look.quiet after db may);
+        fails = search rules;
+        stays_failed = search rules;
+        stays_left = λ failed s t left after db may. left (quiet_clean g.S.Store _ _ look.quiet after) db (quiet_leaves g.S.Store _ _ look.quiet after db may);
+        may_act = λ clean first s asks since.
+            failed_since g.S.Store first c.args.self.now c.look.new.book.conn (quiet_up g.S.Store _ _ look.quiet) s asks since
+            (λ here spelled up. look.store clean s here spelled up failed);
+        sound = quiet_clean g.S.Store _ _ look.quiet;
+      };
+      sound = quiet_clean g.S.Store _ _ look.quiet;
+      store = λ clean s here spelled up store. look.store clean s here spelled up failed;
+      sees = quiet_sees g.S.Store _ _ look.quiet;
+    }
